@@ -1,0 +1,10 @@
+pub mod Bytes
+pub mod Table
+pub mod Call
+pub mod Characters
+pub mod Arguments
+pub mod Items
+pub mod Calls
+pub mod Machine
+pub mod Decoder
+pub mod Stands

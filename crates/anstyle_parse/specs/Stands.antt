@@ -1,0 +1,39 @@
+-- When a parser stands after a list of bytes: what of it counts is as a new parser's that
+-- took them.
+use Rattle.std.specs.Prelude.{◌≡◌, ℕ, List, []}
+use Rattle.anstyle_parse.specs.declared.state.definitions.State.{State}
+use Rattle.anstyle_parse.specs.declared.state.definitions.State.TheVariants.{Anywhere, CsiEntry, CsiIgnore, CsiIntermediate, CsiParam, DcsEntry, DcsIgnore, DcsIntermediate, DcsParam, DcsPassthrough, Escape, EscapeIntermediate, Ground, OscString, SosPmApcString, Utf8}
+use Rattle.anstyle_parse.specs.Decoder.{decoded}
+use Rattle.anstyle_parse.specs.Machine.{Machine, new_machine, machine_after}
+
+-- the state and the accumulator, all else as it begins
+abbrev pub bare : {A : Type 0} → Machine A → Machine A
+bare m = record (new_machine m.accumulator) { state = m.state }
+
+-- these, and what a sequence's header has said so far
+abbrev pub with_header : {A : Type 0} → Machine A → Machine A
+with_header m = record (bare m) { collected = m.collected; ignoring = m.ignoring; closed_groups = m.closed_groups; open_group = m.open_group; number = m.number }
+
+-- these, and the text of an operating system command so far
+abbrev pub with_text : {A : Type 0} → Machine A → Machine A
+with_text m = record (bare m) { closed_parts = m.closed_parts; open_part = m.open_part }
+
+-- What counts of a machine's values in a state; all else is left over from before.
+abbrev pub counted_in : {A : Type 0} → State → Machine A → Machine A
+counted_in Escape m = with_header m
+counted_in EscapeIntermediate m = with_header m
+counted_in CsiEntry m = with_header m
+counted_in CsiParam m = with_header m
+counted_in CsiIntermediate m = with_header m
+counted_in DcsEntry m = with_header m
+counted_in DcsParam m = with_header m
+counted_in DcsIntermediate m = with_header m
+counted_in OscString m = with_text m
+counted_in _ m = bare m
+
+abbrev pub counted : {A : Type 0} → Machine A → Machine A
+counted m = counted_in m.state m
+
+-- The machine, whose accumulator is seen as the front that it holds, stands after the bytes.
+abbrev pub StandsAfter : Machine (List ℕ) → List ℕ → Type 0
+StandsAfter m bytes = counted m ≡ counted (machine_after decoded bytes (new_machine []))

@@ -1,0 +1,5 @@
+//! A parser of ANSI escape sequences: it cuts the bytes of a terminal stream into
+//! characters, controls, escape, CSI, OSC and device control sequences.
+#![tactic(auto)]
+
+pub mod state;

@@ -47,7 +47,7 @@ field digits = min max_field (digits_value 10 digits)
 abbrev pub grouped_fields : List ℕ → List (List ℕ)
 grouped_fields header =
     map (λ group. map field (slice_split (λ b. b == colon) group))
-        (slice_split (λ b. b == semicolon) (filter is_parameter header))
+    (slice_split (λ b. b == semicolon) (filter is_parameter header))
 
 -- the groups of the first n fields
 abbrev pub first_fields : ℕ → List (List ℕ) → List (List ℕ)

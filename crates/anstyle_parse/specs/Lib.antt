@@ -1,10 +1,13 @@
 pub mod Bytes
+pub mod State
 pub mod Table
 pub mod Call
 pub mod Characters
 pub mod Arguments
 pub mod Items
 pub mod Calls
+pub mod Groups
+pub mod Params
 pub mod Machine
 pub mod Decoder
 pub mod Stands

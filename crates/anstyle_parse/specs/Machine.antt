@@ -10,6 +10,7 @@ use Rattle.anstyle_parse.specs.Bytes.{colon, semicolon, bell}
 use Rattle.anstyle_parse.specs.Arguments.{max_fields, max_field, max_collected, max_osc_bytes, max_osc_parts}
 use Rattle.anstyle_parse.specs.Call.{Call, print, execute, hook, put, unhook, osc_dispatch, csi_dispatch, esc_dispatch}
 use Rattle.anstyle_parse.specs.Table.{Change, change_at}
+use Rattle.anstyle_parse.specs.Groups.{shown_groups}
 
 -- What the parser keeps. A is what its accumulator of characters holds.
 pub record Machine (A : Type 0) : Type 0 where
@@ -28,13 +29,16 @@ pub record Machine (A : Type 0) : Type 0 where
 -- a machine as it begins
 abbrev pub new_machine : {A : Type 0} → A → Machine A
 new_machine empty = record {
-    state = Ground; collected = []; ignoring = false; closed_groups = []; open_group = []; number = 0;
-    closed_parts = []; open_part = []; accumulator = empty }
-
--- all groups, the open one last
-abbrev pub shown_groups : List (List ℕ) → List ℕ → List (List ℕ)
-shown_groups groups [] = groups
-shown_groups groups (number ∷ numbers) = groups ++ (number ∷ numbers) ∷ []
+  state = Ground;
+  collected = [];
+  ignoring = false;
+  closed_groups = [];
+  open_group = [];
+  number = 0;
+  closed_parts = [];
+  open_part = [];
+  accumulator = empty;
+}
 
 abbrev pub field_count : {A : Type 0} → Machine A → ℕ
 field_count m = length (concat m.closed_groups) + length m.open_group

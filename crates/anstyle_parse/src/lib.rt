@@ -2,4 +2,7 @@
 //! characters, controls, escape, CSI, OSC and device control sequences.
 #![tactic(auto)]
 
+mod params;
 pub mod state;
+
+pub use params::{Params, ParamsIter};

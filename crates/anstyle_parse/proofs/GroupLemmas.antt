@@ -1,0 +1,126 @@
+-- Groups that are cut from fields by their lengths.
+use Rattle.std.proofs.Common.{◌≡◌, ℕ, suc, zero, ◌+◌, ◌-◌, ◌<◌, ◌≤◌, List, [], ◌∷◌, ◌++◌, length, take, drop, set, get_or, min, refl, sym, ap, ◌∙◌, arith, append_assoc, length-append, length-take, length-drop, add_assoc, zero-add}
+use Rattle.std.specs.List.{concat}
+use Rattle.std.proofs.Math.Seq.{take-add}
+use Rattle.std.proofs.lemmas.List.{append-nil, take_more, take_more_set, take-set, drop-set-add, length-take-le, take-take, drop-drop, drop-take, take-set-le}
+use Rattle.anstyle_parse.specs.Groups.{total, cut, shown_groups}
+
+pub total-append : (xs ys : List ℕ) → total (xs ++ ys) ≡ total xs + total ys
+total-append [] ys = sym (zero-add (total ys))
+total-append (x ∷ xs) ys = ap (λ n. x + n) (total-append xs ys) ∙ sym (add_assoc x (total xs) (total ys))
+
+-- the groups of the lengths before and then after
+pub cut-append : (before after ns : List ℕ) → cut (before ++ after) ns ≡ cut before ns ++ cut after (drop (total before) ns)
+cut-append [] after ns = refl
+cut-append (l ∷ ls) after ns =
+    ap (λ gs. take l ns ∷ gs) (cut-append ls after (drop l ns) ∙ ap (λ xs. cut ls (drop l ns) ++ cut after xs) (drop-drop (total ls) l ns))
+
+-- only the fields that are counted matter
+pub cut_same : (ls ns ms : List ℕ) → take (total ls) ns ≡ take (total ls) ms → cut ls ns ≡ cut ls ms
+cut_same [] ns ms h = refl
+cut_same (l ∷ ls) ns ms h =
+    let front : take l ns ≡ take l ms = sym (take-take l (l + total ls) ns (omega arith)) ∙ ap (take l) h ∙ take-take l (l + total ls) ms (omega arith) in
+    let rest : take (total ls) (drop l ns) ≡ take (total ls) (drop l ms) = sym (drop-take l (total ls) ns) ∙ ap (drop l) h ∙ drop-take l (total ls) ms in
+    ap (λ g. g ∷ cut ls (drop l ns)) front ∙ ap (λ gs. take l ms ∷ gs) (cut_same ls (drop l ns) (drop l ms) rest)
+
+-- all fields are in the groups, in order
+pub concat-cut : (ls ns : List ℕ) → concat (cut ls ns) ≡ take (total ls) ns
+concat-cut [] ns = refl
+concat-cut (l ∷ ls) ns = ap (λ xs. take l ns ++ xs) (concat-cut ls (drop l ns)) ∙ sym (take-add l (total ls) ns)
+
+-- how many fields the groups have
+pub length-concat-cut : (ls ns : List ℕ) → total ls ≤ length ns → length (concat (cut ls ns)) ≡ total ls
+length-concat-cut ls ns h = ap length (concat-cut ls ns) ∙ length-take-le (total ls) ns h
+
+-- an open group that has a field stands last
+pub shown_groups-open : (gs : List (List ℕ)) (xs : List ℕ) → 0 < length xs → shown_groups gs xs ≡ gs ++ xs ∷ []
+shown_groups-open gs [] h = absurd (omega arith)
+shown_groups-open gs (x ∷ xs) h = refl
+
+pub concat-append : (xss yss : List (List ℕ)) → concat (xss ++ yss) ≡ concat xss ++ concat yss
+concat-append [] yss = refl
+concat-append (xs ∷ xss) yss = ap (λ zs. xs ++ zs) (concat-append xss yss) ∙ sym (append_assoc xs (concat xss) (concat yss))
+
+-- the fields of all groups are those of the closed ones and of the open one
+pub concat-shown_groups : (gs : List (List ℕ)) (xs : List ℕ) → concat (shown_groups gs xs) ≡ concat gs ++ xs
+concat-shown_groups gs [] = sym (append-nil (concat gs))
+concat-shown_groups gs (x ∷ xs) = concat-append gs ((x ∷ xs) ∷ []) ∙ ap (λ ys. concat gs ++ ys) (append-nil (x ∷ xs))
+
+module _ (numbers lengths : List ℕ) (closed fields len : ℕ)
+    (summed : total (take closed lengths) + fields ≡ len) (within : len ≤ length numbers) where
+  -- the closed groups have so many fields, and the open one the others
+  pub closed_count : length (concat (cut (take closed lengths) numbers)) ≡ total (take closed lengths)
+  closed_count = length-concat-cut (take closed lengths) numbers (omega arith)
+
+  pub open_count : length (take fields (drop (total (take closed lengths)) numbers)) ≡ fields
+  open_count = length-take-le fields (drop (total (take closed lengths)) numbers) (omega (arith, length-drop (total (take closed lengths)) numbers))
+
+  pub field_total : length (concat (cut (take closed lengths) numbers)) + length (take fields (drop (total (take closed lengths)) numbers)) ≡ len
+  field_total = omega (arith, closed_count, open_count)
+
+  pub shown_total : length (concat (shown_groups (cut (take closed lengths) numbers) (take fields (drop (total (take closed lengths)) numbers)))) ≡ len
+  shown_total =
+      ap length (concat-shown_groups (cut (take closed lengths) numbers) (take fields (drop (total (take closed lengths)) numbers)))
+      ∙ length-append (concat (cut (take closed lengths) numbers)) (take fields (drop (total (take closed lengths)) numbers)) ∙ field_total
+
+  -- the lengths at the arrays' front count the fields at their front
+  pub sum_front : fields ≡ 0 → total (take closed lengths) ≡ length (take len numbers)
+  sum_front none = omega (arith, length-take-le len numbers within)
+
+  pub sum_front_open : closed < length lengths → get_or lengths closed 0 ≡ fields → total (take (closed + 1) lengths) ≡ length (take len numbers)
+  sum_front_open lt is =
+      ap total (take_more lengths closed 0 lt ∙ ap (λ n. take closed lengths ++ n ∷ []) is)
+      ∙ omega (arith, total-append (take closed lengths) (fields ∷ []), length-take-le len numbers within)
+
+  -- the groups from the arrays' front
+  pub cut_front : cut (take closed lengths) (take len numbers) ≡ cut (take closed lengths) numbers
+  cut_front = cut_same (take closed lengths) (take len numbers) numbers (take-take (total (take closed lengths)) len numbers (omega arith))
+
+  pub cut_front_open : closed < length lengths → 0 < fields → get_or lengths closed 0 ≡ fields
+      → cut (take (closed + 1) lengths) (take len numbers) ≡ shown_groups (cut (take closed lengths) numbers) (take fields (drop (total (take closed lengths)) numbers))
+  cut_front_open lt some is =
+      let some_open : 0 < length (take fields (drop (total (take closed lengths)) numbers)) = omega (arith, open_count) in
+      let split : take (closed + 1) lengths ≡ take closed lengths ++ fields ∷ [] = take_more lengths closed 0 lt ∙ ap (λ n. take closed lengths ++ n ∷ []) is in
+      let last : take fields (drop (total (take closed lengths)) (take len numbers)) ≡ take fields (drop (total (take closed lengths)) numbers)
+      = ap (λ n. take fields (drop (total (take closed lengths)) (take n numbers))) (sym summed)
+      ∙ ap (take fields) (drop-take (total (take closed lengths)) fields numbers) ∙ take-take fields fields _ (omega arith) in
+      ap (λ ls. cut ls (take len numbers)) split
+      ∙ cut-append (take closed lengths) (fields ∷ []) (take len numbers)
+      ∙ ap (λ gs. gs ++ take fields (drop (total (take closed lengths)) (take len numbers)) ∷ []) cut_front
+      ∙ ap (λ xs. cut (take closed lengths) numbers ++ xs ∷ []) last
+      ∙ sym (shown_groups-open (cut (take closed lengths) numbers) (take fields (drop (total (take closed lengths)) numbers)) some_open)
+
+  module _ (item : ℕ) (room : len < length numbers) (lt : closed < length lengths) where
+    -- the length of the open group with one more field, written behind the closed ones
+    take_longer : take (closed + 1) (set lengths closed (fields + 1)) ≡ take closed lengths ++ (fields + 1) ∷ []
+    take_longer = take_more_set lengths closed (fields + 1) lt
+
+    open_longer : take (fields + 1) (drop (total (take closed lengths)) (set numbers len item)) ≡ take fields (drop (total (take closed lengths)) numbers) ++ item ∷ []
+    open_longer =
+        ap (λ n. take (fields + 1) (drop (total (take closed lengths)) (set numbers n item))) (sym summed)
+        ∙ ap (take (fields + 1)) (drop-set-add (total (take closed lengths)) numbers fields item)
+        ∙ take_more_set (drop (total (take closed lengths)) numbers) fields item (omega (arith, length-drop (total (take closed lengths)) numbers))
+
+    closed_same : cut (take closed lengths) (set numbers len item) ≡ cut (take closed lengths) numbers
+    closed_same = cut_same (take closed lengths) (set numbers len item) numbers (take-set-le (total (take closed lengths)) numbers len item (omega arith))
+
+    pub sum_pushed : total (take (closed + 1) (set lengths closed (fields + 1))) ≡ len + 1
+    sum_pushed = ap total take_longer ∙ omega (arith, total-append (take closed lengths) ((fields + 1) ∷ []))
+
+    pub cut_pushed : cut (take (closed + 1) (set lengths closed (fields + 1))) (set numbers len item)
+        ≡ cut (take closed lengths) numbers ++ (take fields (drop (total (take closed lengths)) numbers) ++ item ∷ []) ∷ []
+    cut_pushed =
+        ap (λ ls. cut ls (set numbers len item)) take_longer
+        ∙ cut-append (take closed lengths) ((fields + 1) ∷ []) (set numbers len item)
+        ∙ ap (λ gs. gs ++ take (fields + 1) (drop (total (take closed lengths)) (set numbers len item)) ∷ []) closed_same
+        ∙ ap (λ xs. cut (take closed lengths) numbers ++ xs ∷ []) open_longer
+
+    pub sum_extended : total (take closed (set lengths closed (fields + 1))) ≡ total (take closed lengths)
+    sum_extended = ap total (take-set lengths closed (fields + 1))
+
+    pub cut_extended : cut (take closed (set lengths closed (fields + 1))) (set numbers len item) ≡ cut (take closed lengths) numbers
+    cut_extended = ap (λ ls. cut ls (set numbers len item)) (take-set lengths closed (fields + 1)) ∙ closed_same
+
+    pub open_extended : take (fields + 1) (drop (total (take closed (set lengths closed (fields + 1)))) (set numbers len item))
+        ≡ take fields (drop (total (take closed lengths)) numbers) ++ item ∷ []
+    open_extended = ap (λ n. take (fields + 1) (drop n (set numbers len item))) sum_extended ∙ open_longer

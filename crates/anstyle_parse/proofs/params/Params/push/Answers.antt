@@ -1,0 +1,33 @@
+-- there is room for one more field: the fields of all groups are as many as the array holds
+use Rattle.std.proofs.Common.{◌≡◌, ◌<◌, ◌+◌, length, arith}
+use Rattle.std.proofs.lemmas.List.{get_or-set_same}
+use Rattle.anstyle_parse.proofs.GroupLemmas.{field_total, sum_pushed, cut_pushed, sum_extended, cut_extended, open_extended}
+use Rattle.anstyle_parse.proofs.params.Params.push.Goals as goal
+
+pub bounds-self-self : goal.bounds-self-self
+bounds-self-self c =
+    let p = c.args.self.now in
+    omega (arith, field_total p.numbers p.lengths p.closed_groups p.open_fields p.len p.summed (omega arith), p.each_has_a_field)
+
+pub bounds-self-self-2 : goal.bounds-self-self-2
+bounds-self-self-2 c =
+    let p = c.args.self.now in
+    omega (arith, field_total p.numbers p.lengths p.closed_groups p.open_fields p.len p.summed (omega arith))
+
+pub invariant_of-self : goal.invariant_of-self
+invariant_of-self c =
+    let p = c.args.self.now in
+    let total = field_total p.numbers p.lengths p.closed_groups p.open_fields p.len p.summed (omega arith) in
+    let sum = sum_pushed p.numbers p.lengths p.closed_groups p.open_fields p.len p.summed (omega arith) c.args.field (omega (arith, total)) (omega (arith, total)) in
+    record {
+      summed = omega (arith, sum);
+      in_range = omega (arith, total);
+      each_has_a_field = omega (arith, p.each_has_a_field);
+      open_length = λ h. absurd (omega arith);
+    }
+
+pub returns-clause-closed : goal.returns-clause-closed
+returns-clause-closed c =
+    let p = c.args.self.now in
+    let total = field_total p.numbers p.lengths p.closed_groups p.open_fields p.len p.summed (omega arith) in
+    cut_pushed p.numbers p.lengths p.closed_groups p.open_fields p.len p.summed (omega arith) c.args.field (omega (arith, total)) (omega (arith, total, p.each_has_a_field))

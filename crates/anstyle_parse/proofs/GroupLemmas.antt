@@ -2,7 +2,7 @@
 use Rattle.std.proofs.Common.{◌≡◌, ℕ, suc, zero, ◌+◌, ◌-◌, ◌<◌, ◌≤◌, List, [], ◌∷◌, ◌++◌, length, take, drop, set, get_or, min, refl, sym, ap, ◌∙◌, arith, append_assoc, length-append, length-take, length-drop, add_assoc, zero-add}
 use Rattle.std.specs.List.{concat}
 use Rattle.std.proofs.Math.Seq.{take-add}
-use Rattle.std.proofs.lemmas.List.{append-nil, take_more, take_more_set, take-set, drop-set-add, length-take-le, take-take, drop-drop, drop-take, take-set-le}
+use Rattle.std.proofs.lemmas.List.{append-nil, take_more, take_more_set, take-set, drop-set-add, length-take-le, take-take, drop-drop, drop-take, take-set-le, take-append-le, drop-append-le, take_rest}
 use Rattle.anstyle_parse.specs.Groups.{total, cut, shown_groups}
 
 pub total-append : (xs ys : List ℕ) → total (xs ++ ys) ≡ total xs + total ys
@@ -14,6 +14,11 @@ pub cut-append : (before after ns : List ℕ) → cut (before ++ after) ns ≡ c
 cut-append [] after ns = refl
 cut-append (l ∷ ls) after ns =
     ap (λ gs. take l ns ∷ gs) (cut-append ls after (drop l ns) ∙ ap (λ xs. cut ls (drop l ns) ++ cut after xs) (drop-drop (total ls) l ns))
+
+-- as many groups as lengths
+pub length-cut : (ls ns : List ℕ) → length (cut ls ns) ≡ length ls
+length-cut [] ns = refl
+length-cut (l ∷ ls) ns = ap suc (length-cut ls (drop l ns))
 
 -- only the fields that are counted matter
 pub cut_same : (ls ns ms : List ℕ) → take (total ls) ns ≡ take (total ls) ms → cut ls ns ≡ cut ls ms
@@ -124,3 +129,39 @@ module _ (numbers lengths : List ℕ) (closed fields len : ℕ)
     pub open_extended : take (fields + 1) (drop (total (take closed (set lengths closed (fields + 1)))) (set numbers len item))
         ≡ take fields (drop (total (take closed lengths)) numbers) ++ item ∷ []
     open_extended = ap (λ n. take (fields + 1) (drop n (set numbers len item))) sum_extended ∙ open_longer
+
+-- A text that is cut into closed parts, and the part behind them.
+module _ (text lengths : List ℕ) (parts closed : ℕ) (summed : total (take parts lengths) ≡ closed) (within : closed ≤ length text) where
+
+  stored_closed : length (concat (cut (take parts lengths) text)) ≡ closed
+  stored_closed = length-concat-cut (take parts lengths) text (omega arith) ∙ summed
+
+  -- all of the text is in the parts and behind them
+  pub stored_total : length (concat (cut (take parts lengths) text)) + length (drop closed text) ≡ length text
+  stored_total = omega (arith, stored_closed, length-drop closed text)
+
+  -- as many parts as are counted
+  pub parts_count : parts ≤ length lengths → length (cut (take parts lengths) text) ≡ parts
+  parts_count h = length-cut (take parts lengths) text ∙ length-take-le parts lengths h
+
+  -- one more byte leaves the closed parts as they are
+  pub cut_stored : (b : ℕ) → cut (take parts lengths) (text ++ b ∷ []) ≡ cut (take parts lengths) text
+  cut_stored b = cut_same (take parts lengths) (text ++ b ∷ []) text (take-append-le (total (take parts lengths)) text (b ∷ []) (omega arith))
+
+  pub drop_stored : (b : ℕ) → drop closed (text ++ b ∷ []) ≡ drop closed text ++ b ∷ []
+  drop_stored b = drop-append-le closed text (b ∷ []) within
+
+  module _ (lt : parts < length lengths) where
+
+    take_closed : take (parts + 1) (set lengths parts (length text - closed)) ≡ take parts lengths ++ (length text - closed) ∷ []
+    take_closed = take_more_set lengths parts (length text - closed) lt
+
+    pub total_closed : total (take (parts + 1) (set lengths parts (length text - closed))) ≡ length text
+    total_closed = ap total take_closed ∙ omega (arith, total-append (take parts lengths) ((length text - closed) ∷ []))
+
+    pub cut_closed : cut (take (parts + 1) (set lengths parts (length text - closed))) text ≡ cut (take parts lengths) text ++ drop closed text ∷ []
+    cut_closed =
+        ap (λ ls. cut ls text) take_closed
+        ∙ cut-append (take parts lengths) ((length text - closed) ∷ []) text
+        ∙ ap (λ n. cut (take parts lengths) text ++ take (length text - closed) (drop n text) ∷ []) summed
+        ∙ ap (λ xs. cut (take parts lengths) text ++ xs ∷ []) (take_rest text closed)

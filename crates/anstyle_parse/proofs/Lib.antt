@@ -1,3 +1,4 @@
 pub mod Classes
 pub mod Divide
 pub mod GroupLemmas
+pub mod MachineLemmas

@@ -11,3 +11,4 @@ pub mod Params
 pub mod Machine
 pub mod Decoder
 pub mod Stands
+pub mod Parser

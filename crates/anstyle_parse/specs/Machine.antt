@@ -67,8 +67,16 @@ with_parameter b m =
 abbrev pub with_last_field : {A : Type 0} → Machine A → Machine A
 with_last_field m = if field_count m == max_fields then record m { ignoring = true } else pushed m
 
+-- a dispatch, of all that the header said
+abbrev pub dispatched : {A : Type 0} → (List (List ℕ) → List ℕ → Bool → ℕ → Call) → ℕ → Machine A → Call
+dispatched call final m = call (shown_groups m.closed_groups m.open_group) m.collected m.ignoring final
+
 abbrev pub stored_count : {A : Type 0} → Machine A → ℕ
 stored_count m = length (concat m.closed_parts) + length m.open_part
+
+-- no text, no parts
+abbrev pub text_begun : {A : Type 0} → Machine A → Machine A
+text_begun m = record m { closed_parts = []; open_part = [] }
 
 -- the text so far becomes a part, unless there are sixteen
 abbrev pub with_part : {A : Type 0} → Machine A → Machine A
@@ -95,7 +103,7 @@ after_action add Collect b m = collecting b m
 after_action add Param b m = with_parameter b m
 after_action add Hook b m = with_last_field m
 after_action add CsiDispatch b m = with_last_field m
-after_action add OscStart b m = record m { closed_parts = []; open_part = [] }
+after_action add OscStart b m = text_begun m
 after_action add OscPut b m = storing b m
 after_action add OscEnd b m = with_part m
 after_action add BeginUtf8 b m = record m { accumulator = (add m.accumulator b).0 }
@@ -113,8 +121,8 @@ action_calls add Print b m = print b ∷ []
 action_calls add Execute b m = execute b ∷ []
 action_calls add Put b m = put b ∷ []
 action_calls add Unhook b m = unhook ∷ []
-action_calls add Hook b m = hook (shown_groups (with_last_field m).closed_groups (with_last_field m).open_group) m.collected (with_last_field m).ignoring b ∷ []
-action_calls add CsiDispatch b m = csi_dispatch (shown_groups (with_last_field m).closed_groups (with_last_field m).open_group) m.collected (with_last_field m).ignoring b ∷ []
+action_calls add Hook b m = dispatched hook b (with_last_field m) ∷ []
+action_calls add CsiDispatch b m = dispatched csi_dispatch b (with_last_field m) ∷ []
 action_calls add EscDispatch b m = esc_dispatch m.collected m.ignoring b ∷ []
 action_calls add OscEnd b m = osc_dispatch (with_part m).closed_parts (b == bell) ∷ []
 action_calls add BeginUtf8 b m = print_answer (add m.accumulator b).1

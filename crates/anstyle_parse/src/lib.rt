@@ -2,7 +2,13 @@
 //! characters, controls, escape, CSI, OSC and device control sequences.
 #![tactic(auto)]
 
+mod accumulator;
 mod params;
+mod parser;
+mod perform;
 pub mod state;
 
+pub use accumulator::CharAccumulator;
 pub use params::{Params, ParamsIter};
+pub use parser::Parser;
+pub use perform::Perform;

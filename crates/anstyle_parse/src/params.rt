@@ -1,6 +1,7 @@
 //! The parameters of a control sequence or of a device control string: groups of fields.
 //! A list of fixed size, so that no byte of a stream takes memory.
 ghost use Rattle.std.specs.Prelude.{◌≡◌, ◌≢◌, ◌<◌, ◌≤◌, ◌+◌, ◌++◌, ◌∷◌, [], ◌↔◌, ℕ, IsTrue, length, take, slice_index};
+ghost use Rattle.std.specs.Bool.{OnFalse};
 ghost use Rattle.std.specs.List.{concat};
 ghost use Rattle.anstyle_parse.specs.Groups.{total};
 ghost use Rattle.std.specs.Iterator.{YieldsFirstBy, item_count};
@@ -63,7 +64,8 @@ impl Params {
 
     /// Whether there is no room for another field.
     pub(crate) fn is_full(&self) -> bool
-        ensures { IsTrue result ↔ (length (concat (closed_groups_of self.now)) + length (open_group_of self.now) ≡ 32) }
+        ensures full { IsTrue result ↔ (length (concat (closed_groups_of self.now)) + length (open_group_of self.now) ≡ 32) }
+        ensures room { OnFalse result (length (concat (closed_groups_of self.now)) + length (open_group_of self.now) < 32) }
     {
         self.len == MAX_PARAMS
     }

@@ -1,0 +1,31 @@
+-- The bytes behind the closed parts become a part, where there are fewer than sixteen.
+use Rattle.std.proofs.Common.{◌≡◌, ◌<◌, ◌+◌, ◌-◌, length, take, drop, set, arith, ap, sym, ◌∙◌}
+use Rattle.std.proofs.lemmas.List.{drop_all}
+use Rattle.anstyle_parse.specs.Groups.{cut, total}
+use Rattle.anstyle_parse.specs.Parser.{machine_of}
+use Rattle.anstyle_parse.proofs.GroupLemmas.{total_closed, cut_closed, parts_count}
+use Rattle.anstyle_parse.proofs.MachineLemmas.{same_parts, with_part-room}
+use Rattle.anstyle_parse.proofs.parser.Parser.close_part.Goals as goal
+
+pub invariant_of-self : goal.invariant_of-self
+invariant_of-self g c =
+    let p = c.args.self.now in
+    record {
+      few_intermediates = p.few_intermediates;
+      few_parts = omega arith;
+      closed_parts = ap (λ n. total (take (p.osc_parts + 1) (set p.osc_lengths p.osc_parts (n - p.osc_closed)))) c.len-end.ensures.value
+          ∙ total_closed p.osc_text.items p.osc_lengths p.osc_parts p.osc_closed p.closed_parts p.parts_in_text (omega arith) ∙ sym c.len-end.ensures.value;
+      parts_in_text = omega arith;
+    }
+
+pub returns-then-self-lt-MAX_OSC_PARTS : goal.returns-then-self-lt-MAX_OSC_PARTS
+returns-then-self-lt-MAX_OSC_PARTS g c =
+    let p = c.args.self.now in
+    let m = machine_of p in
+    let count : length (cut (take p.osc_parts p.osc_lengths) p.osc_text.items) ≡ p.osc_parts
+          = parts_count p.osc_text.items p.osc_lengths p.osc_parts p.osc_closed p.closed_parts p.parts_in_text (omega arith) in
+    same_parts m
+      (ap (λ n. cut (take (p.osc_parts + 1) (set p.osc_lengths p.osc_parts (n - p.osc_closed))) p.osc_text.items) c.len-end.ensures.value
+        ∙ cut_closed p.osc_text.items p.osc_lengths p.osc_parts p.osc_closed p.closed_parts p.parts_in_text (omega arith))
+      (drop_all c.len-end.result p.osc_text.items (omega (arith, c.len-end.ensures.value)))
+    ∙ sym (with_part-room m (λ h. omega (arith, count, h)))

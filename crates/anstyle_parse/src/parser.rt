@@ -1,0 +1,250 @@
+//! The parser: a state, what a sequence has said so far, and an accumulator of characters.
+ghost use Rattle.std.specs.Prelude.{◌≡◌, ◌≤◌, ◌<◌, ℕ, length, take, map};
+ghost use Rattle.anstyle_parse.specs.Groups.{total, cut};
+ghost use Rattle.anstyle_parse.specs.Call.{Goes};
+ghost use Rattle.arrayvec.specs.ArrayVec.{array_vec_len};
+
+use arrayvec::ArrayVec;
+
+use crate::accumulator::CharAccumulator;
+use crate::params::Params;
+use crate::perform::Perform;
+use crate::state::{Action, State, state_change};
+
+/// The intermediates and markers that are kept at most.
+const MAX_INTERMEDIATES: usize = 2;
+/// The bytes of an operating system command that are stored at most.
+const MAX_OSC_RAW: usize = 1024;
+/// The parts of an operating system command at most.
+const MAX_OSC_PARTS: usize = 16;
+
+/// BEL, which ends an operating system command.
+const BELL: u8 = 0x07;
+
+/// Cuts a stream of bytes into calls of a [`Perform`].
+#[derive(PartialEq, Eq, Drop)]
+pub struct Parser<C> {
+    state: State,
+    /// The markers and intermediates of the sequence.
+    intermediates: [u8; MAX_INTERMEDIATES],
+    intermediate_count: usize,
+    /// More fields or intermediates came than are kept.
+    ignoring: bool,
+    params: Params,
+    /// The field so far.
+    param: u16,
+    /// The text of an operating system command, without its separators.
+    osc_text: ArrayVec<u8, MAX_OSC_RAW>,
+    /// How long each closed part of it is.
+    osc_lengths: [usize; MAX_OSC_PARTS],
+    /// How many parts are closed, and how many bytes those have.
+    osc_parts: usize,
+    osc_closed: usize,
+    accumulator: C,
+    ghost few_intermediates: { intermediate_count ≤ 2 },
+    ghost few_parts: { osc_parts ≤ 16 },
+    ghost closed_parts: { total (take osc_parts osc_lengths) ≡ osc_closed },
+    ghost parts_in_text: { osc_closed ≤ array_vec_len osc_text },
+}
+
+impl<C: CharAccumulator> Default for Parser<C> {
+    ghost use Rattle.anstyle_parse.specs.Parser.{machine_of};
+
+    fn default() -> Parser<C> {
+        Parser {
+            state: State::default(),
+            intermediates: [0; MAX_INTERMEDIATES],
+            intermediate_count: 0,
+            ignoring: false,
+            params: Params::default(),
+            param: 0,
+            osc_text: ArrayVec::new(),
+            osc_lengths: [0; MAX_OSC_PARTS],
+            osc_parts: 0,
+            osc_closed: 0,
+            accumulator: C::default(),
+        }
+    }
+}
+
+/// The actions of a sequence's header.
+impl<C: CharAccumulator> Parser<C> {
+    ghost use Rattle.anstyle_parse.specs.Parser.{machine_of};
+    ghost use Rattle.anstyle_parse.specs.Machine.{cleared, collecting, with_parameter, with_last_field};
+
+    /// Forgets the header of the sequence before.
+    fn clear(&mut self)
+        ensures { machine_of self.new ≡ cleared (machine_of self.old) }
+    {
+        self.intermediate_count = 0;
+        self.ignoring = false;
+        self.param = 0;
+        self.params.clear();
+    }
+
+    /// Keeps a marker or an intermediate, up to two.
+    fn collect(&mut self, byte: u8)
+        ensures { machine_of self.new ≡ collecting byte (machine_of self.old) }
+    {
+        if self.intermediate_count == MAX_INTERMEDIATES {
+            self.ignoring = true;
+        } else {
+            self.intermediates[self.intermediate_count] = byte;
+            self.intermediate_count += 1;
+        }
+    }
+
+    /// A digit of a field, or the separator behind it.
+    fn parameter(&mut self, byte: u8)
+        ensures { machine_of self.new ≡ with_parameter byte (machine_of self.old) }
+    {
+        if self.params.is_full() {
+            self.ignoring = true;
+        } else if byte == b';' {
+            self.params.push(self.param);
+            self.param = 0;
+        } else if byte == b':' {
+            self.params.extend(self.param);
+            self.param = 0;
+        } else {
+            let digit = u16::from(byte.saturating_sub(b'0'));
+            self.param = self.param.saturating_mul(10).saturating_add(digit);
+        }
+    }
+
+    /// The last field, before a dispatch.
+    fn end_fields(&mut self)
+        ensures { machine_of self.new ≡ with_last_field (machine_of self.old) }
+    {
+        if self.params.is_full() {
+            self.ignoring = true;
+        } else {
+            self.params.push(self.param);
+        }
+    }
+
+    /// The markers and intermediates that are kept.
+    fn collected(&self) -> &[u8]
+        ensures { result.now ≡ (machine_of self.now).collected }
+    {
+        let all = &self.intermediates[..];
+        &all[..self.intermediate_count]
+    }
+}
+
+/// The actions of an operating system command.
+impl<C: CharAccumulator> Parser<C> {
+    ghost use Rattle.anstyle_parse.specs.Parser.{machine_of};
+    ghost use Rattle.anstyle_parse.specs.Machine.{with_part, storing, text_begun};
+
+    /// No text, no parts.
+    fn osc_start(&mut self)
+        ensures { machine_of self.new ≡ text_begun (machine_of self.old) }
+    {
+        self.osc_text.clear();
+        self.osc_parts = 0;
+        self.osc_closed = 0;
+    }
+
+    /// Stores a byte of the text, or closes a part.
+    fn osc_put(&mut self, byte: u8)
+        ensures { machine_of self.new ≡ storing byte (machine_of self.old) }
+    {
+        if self.osc_text.is_full() {
+            return;
+        }
+        if byte == b';' {
+            self.close_part();
+        } else {
+            self.osc_text.push(byte);
+        }
+    }
+
+    /// The text behind the last closed part becomes a part, unless there are sixteen.
+    fn close_part(&mut self)
+        ensures { machine_of self.new ≡ with_part (machine_of self.old) }
+    {
+        if self.osc_parts < MAX_OSC_PARTS {
+            let end = self.osc_text.len();
+            self.osc_lengths[self.osc_parts] = end - self.osc_closed;
+            self.osc_parts += 1;
+            self.osc_closed = end;
+        }
+    }
+}
+
+/// The parts of an operating system command, as slices of its text: as many as there are
+/// lengths, and empty ones behind them.
+fn parts_of<'a>(text: &'a [u8], lengths: &[usize]) -> [&'a [u8]; MAX_OSC_PARTS]
+    requires few { length lengths.now ≤ 16 }
+    requires within { total lengths.now ≤ length text.now }
+    ensures { map (λ part. part.now) (take (length lengths.now) result) ≡ cut lengths.now text.now }
+{
+    let mut parts: [&[u8]; MAX_OSC_PARTS] = [&[]; MAX_OSC_PARTS];
+    let mut rest = text;
+    for (i, part_length) in lengths.iter().enumerate() {
+        let (part, behind) = rest.split_at(*part_length);
+        parts[i] = part;
+        rest = behind;
+    }
+    parts
+}
+
+/// One byte.
+impl<C: CharAccumulator> Parser<C> {
+    ghost use Rattle.anstyle_parse.specs.Parser.{machine_of};
+    ghost use Rattle.anstyle_parse.specs.Machine.{after_action, action_calls};
+
+    /// The command's last part is closed, and all of them are dispatched.
+    fn osc_end<P: Perform>(&mut self, performer: &mut P, byte: u8)
+        ensures machine { machine_of self.new ≡ after_action C.adds Action.OscEnd byte (machine_of self.old) }
+        ensures calls { Goes P.means performer.old (action_calls C.adds Action.OscEnd byte (machine_of self.old)) performer.new }
+    {
+        self.close_part();
+        let lengths = &self.osc_lengths[..];
+        let parts = parts_of(self.osc_text.as_slice(), &lengths[..self.osc_parts]);
+        performer.osc_dispatch(&parts[..self.osc_parts], byte == BELL);
+    }
+
+    /// A byte of a character.
+    fn accumulate<P: Perform>(&mut self, performer: &mut P, byte: u8)
+        requires { C.takes self.old.accumulator byte }
+        ensures machine { machine_of self.new ≡ after_action C.adds Action.BeginUtf8 byte (machine_of self.old) }
+        ensures calls { Goes P.means performer.old (action_calls C.adds Action.BeginUtf8 byte (machine_of self.old)) performer.new }
+    {
+        if let Some(c) = self.accumulator.add(byte) {
+            performer.print(c);
+        }
+    }
+
+    #[inline(always)]
+    fn perform_action<P: Perform>(&mut self, performer: &mut P, action: Action, byte: u8)
+        requires { action ≡ Action.BeginUtf8 → C.takes self.old.accumulator byte }
+        ensures machine { machine_of self.new ≡ after_action C.adds action byte (machine_of self.old) }
+        ensures calls { Goes P.means performer.old (action_calls C.adds action byte (machine_of self.old)) performer.new }
+    {
+        match action {
+            Action::Print => performer.print(char::from(byte)),
+            Action::Execute => performer.execute(byte),
+            Action::Hook => {
+                self.end_fields();
+                performer.hook(&self.params, self.collected(), self.ignoring, byte);
+            }
+            Action::Put => performer.put(byte),
+            Action::Unhook => performer.unhook(),
+            Action::OscStart => self.osc_start(),
+            Action::OscPut => self.osc_put(byte),
+            Action::OscEnd => self.osc_end(performer, byte),
+            Action::CsiDispatch => {
+                self.end_fields();
+                performer.csi_dispatch(&self.params, self.collected(), self.ignoring, byte);
+            }
+            Action::EscDispatch => performer.esc_dispatch(self.collected(), self.ignoring, byte),
+            Action::Collect => self.collect(byte),
+            Action::Param => self.parameter(byte),
+            Action::Clear => self.clear(),
+            Action::BeginUtf8 => self.accumulate(performer, byte),
+            Action::Ignore | Action::Nop => {}
+        }
+    }
+}

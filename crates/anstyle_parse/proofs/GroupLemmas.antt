@@ -132,7 +132,6 @@ module _ (numbers lengths : List ℕ) (closed fields len : ℕ)
 
 -- A text that is cut into closed parts, and the part behind them.
 module _ (text lengths : List ℕ) (parts closed : ℕ) (summed : total (take parts lengths) ≡ closed) (within : closed ≤ length text) where
-
   stored_closed : length (concat (cut (take parts lengths) text)) ≡ closed
   stored_closed = length-concat-cut (take parts lengths) text (omega arith) ∙ summed
 
@@ -152,7 +151,6 @@ module _ (text lengths : List ℕ) (parts closed : ℕ) (summed : total (take pa
   drop_stored b = drop-append-le closed text (b ∷ []) within
 
   module _ (lt : parts < length lengths) where
-
     take_closed : take (parts + 1) (set lengths parts (length text - closed)) ≡ take parts lengths ++ (length text - closed) ∷ []
     take_closed = take_more_set lengths parts (length text - closed) lt
 

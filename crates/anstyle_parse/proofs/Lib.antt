@@ -2,3 +2,17 @@ pub mod Classes
 pub mod Divide
 pub mod GroupLemmas
 pub mod MachineLemmas
+pub mod Splits
+pub mod TextFold
+pub mod HeaderBytes
+pub mod HeaderGroups
+pub mod HeaderShown
+pub mod HeaderFold
+pub mod CharacterLemmas
+pub mod DivisionSplit
+pub mod DivisionHeaders
+pub mod DivisionExists
+pub mod DivisionRuns
+pub mod DivisionOnly
+pub mod StandTable
+pub mod Reaches

@@ -10,15 +10,16 @@ use Rattle.anstyle_parse.specs.Machine.{Machine}
 
 abbrev pub machine_of : {C : Type 0} → Parser C → Machine C
 machine_of parser = record {
-    state = parser.state;
-    collected = take parser.intermediate_count parser.intermediates;
-    ignoring = parser.ignoring;
-    closed_groups = closed_groups_of parser.params;
-    open_group = open_group_of parser.params;
-    number = parser.param;
-    closed_parts = cut (take parser.osc_parts parser.osc_lengths) parser.osc_text.items;
-    open_part = drop parser.osc_closed parser.osc_text.items;
-    accumulator = parser.accumulator }
+  state = parser.state;
+  collected = take parser.intermediate_count parser.intermediates;
+  ignoring = parser.ignoring;
+  closed_groups = closed_groups_of parser.params;
+  open_group = open_group_of parser.params;
+  number = parser.param;
+  closed_parts = cut (take parser.osc_parts parser.osc_lengths) parser.osc_text.items;
+  open_part = drop parser.osc_closed parser.osc_text.items;
+  accumulator = parser.accumulator;
+}
 
 -- the byte goes to the accumulator
 abbrev pub ReachesAccumulator : State → ℕ → Type 0

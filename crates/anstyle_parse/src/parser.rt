@@ -2,14 +2,14 @@
 ghost use Rattle.std.specs.Prelude.{◌≡◌, ◌≤◌, ◌<◌, ℕ, length, take, map};
 ghost use Rattle.anstyle_parse.specs.Groups.{total, cut};
 ghost use Rattle.anstyle_parse.specs.Call.{Goes};
+ghost use Rattle.anstyle_parse.specs.Machine.{exit_action as exit_of, entry_action as entry_of};
 ghost use Rattle.arrayvec.specs.ArrayVec.{array_vec_len};
-
-use arrayvec::ArrayVec;
 
 use crate::accumulator::CharAccumulator;
 use crate::params::Params;
 use crate::perform::Perform;
 use crate::state::{Action, State, state_change};
+use arrayvec::ArrayVec;
 
 /// The intermediates and markers that are kept at most.
 const MAX_INTERMEDIATES: usize = 2;
@@ -193,7 +193,8 @@ fn parts_of<'a>(text: &'a [u8], lengths: &[usize]) -> [&'a [u8]; MAX_OSC_PARTS]
 /// One byte.
 impl<C: CharAccumulator> Parser<C> {
     ghost use Rattle.anstyle_parse.specs.Parser.{machine_of};
-    ghost use Rattle.anstyle_parse.specs.Machine.{after_action, action_calls};
+    ghost use Rattle.anstyle_parse.specs.Parser.{ReachesAccumulator};
+    ghost use Rattle.anstyle_parse.specs.Machine.{after_action, action_calls, after_change, change_calls, after_continuation, print_answer, step, step_calls};
 
     /// The command's last part is closed, and all of them are dispatched.
     fn osc_end<P: Perform>(&mut self, performer: &mut P, byte: u8)
@@ -246,5 +247,83 @@ impl<C: CharAccumulator> Parser<C> {
             Action::BeginUtf8 => self.accumulate(performer, byte),
             Action::Ignore | Action::Nop => {}
         }
+    }
+
+    /// A change of state: the exit action of the old state, the action, the entry action of
+    /// the new one. Anywhere keeps the state, with no exit and no entry.
+    #[inline(always)]
+    fn change_state<P: Perform>(
+        &mut self,
+        performer: &mut P,
+        state: State,
+        action: Action,
+        byte: u8,
+    )
+        requires { action ≡ Action.BeginUtf8 → C.takes self.old.accumulator byte }
+        ensures machine { machine_of self.new ≡ after_change C.adds state action byte (machine_of self.old) }
+        ensures calls { Goes P.means performer.old (change_calls C.adds state action byte (machine_of self.old)) performer.new }
+    {
+        match state {
+            State::Anywhere => self.perform_action(performer, action, byte),
+            state => {
+                self.perform_action(performer, exit_action(self.state), byte);
+                self.perform_action(performer, action, byte);
+                self.perform_action(performer, entry_action(state), byte);
+                self.state = state;
+            }
+        }
+    }
+
+    /// A byte inside a character: an answer of the accumulator is printed, and leads back
+    /// to the ground state.
+    fn continue_character<P: Perform>(&mut self, performer: &mut P, byte: u8)
+        requires inside { self.old.state ≡ State.Utf8 }
+        requires takes { C.takes self.old.accumulator byte }
+        ensures machine { machine_of self.new ≡ after_continuation C.adds byte (machine_of self.old) }
+        ensures calls { Goes P.means performer.old (print_answer (C.adds self.old.accumulator byte).1) performer.new }
+    {
+        if let Some(c) = self.accumulator.add(byte) {
+            performer.print(c);
+            self.state = State::Ground;
+        }
+    }
+
+    /// One byte, as the machine takes it.
+    #[inline(always)]
+    fn take_byte<P: Perform>(&mut self, performer: &mut P, byte: u8)
+        requires { ReachesAccumulator self.old.state byte → C.takes self.old.accumulator byte }
+        ensures machine { machine_of self.new ≡ step C.adds byte (machine_of self.old) }
+        ensures calls { Goes P.means performer.old (step_calls C.adds byte (machine_of self.old)) performer.new }
+    {
+        match self.state {
+            State::Utf8 => self.continue_character(performer, byte),
+            state => {
+                let (state, action) = state_change(state, byte);
+                self.change_state(performer, state, action, byte);
+            }
+        }
+    }
+}
+
+/// What is done on the way out of a state.
+fn exit_action(state: State) -> Action
+    ensures { result ≡ exit_of state }
+{
+    match state {
+        State::DcsPassthrough => Action::Unhook,
+        State::OscString => Action::OscEnd,
+        _ => Action::Nop,
+    }
+}
+
+/// What is done on the way into a state.
+fn entry_action(state: State) -> Action
+    ensures { result ≡ entry_of state }
+{
+    match state {
+        State::Escape | State::CsiEntry | State::DcsEntry => Action::Clear,
+        State::DcsPassthrough => Action::Hook,
+        State::OscString => Action::OscStart,
+        _ => Action::Nop,
     }
 }

@@ -14,11 +14,11 @@ loop-i-preserved c =
       room = length-set c.loop-i.parts i c.split_at.result.0 ∙ c.loop-i.invariant.room;
       within = omega (arith, sum, c.loop-i.invariant.within, c.split_at.ensures.back_len, c.split_at.ensures.front_len);
       joined =
-        ap (λ ps. map (λ part. part.now) ps ++ cut (drop (i + 1) lengths) c.split_at.result.1.now) (take_more_set c.loop-i.parts i c.split_at.result.0 (omega (arith, c.loop-i.invariant.room, c.requires.few)))
-        ∙ ap (λ ps. ps ++ cut (drop (i + 1) lengths) c.split_at.result.1.now) (map_push (λ part. part.now) (take i c.loop-i.parts) c.split_at.result.0)
-        ∙ append_assoc (map (λ part. part.now) (take i c.loop-i.parts)) (c.split_at.result.0.now ∷ []) (cut (drop (i + 1) lengths) c.split_at.result.1.now)
-        ∙ ap (λ part. map (λ part. part.now) (take i c.loop-i.parts) ++ part ∷ cut (drop (i + 1) lengths) c.split_at.result.1.now) c.split_at.ensures.front
-        ∙ ap (λ behind. map (λ part. part.now) (take i c.loop-i.parts) ++ take (get_or lengths i 0) rest ∷ cut (drop (i + 1) lengths) behind) c.split_at.ensures.back
-        ∙ ap (λ ps. map (λ part. part.now) (take i c.loop-i.parts) ++ ps) (sym split)
-        ∙ c.loop-i.invariant.joined;
+          ap (λ ps. map (λ part. part.now) ps ++ cut (drop (i + 1) lengths) c.split_at.result.1.now) (take_more_set c.loop-i.parts i c.split_at.result.0 (omega (arith, c.loop-i.invariant.room, c.requires.few)))
+          ∙ ap (λ ps. ps ++ cut (drop (i + 1) lengths) c.split_at.result.1.now) (map_push (λ part. part.now) (take i c.loop-i.parts) c.split_at.result.0)
+          ∙ append_assoc (map (λ part. part.now) (take i c.loop-i.parts)) (c.split_at.result.0.now ∷ []) (cut (drop (i + 1) lengths) c.split_at.result.1.now)
+          ∙ ap (λ part. map (λ part. part.now) (take i c.loop-i.parts) ++ part ∷ cut (drop (i + 1) lengths) c.split_at.result.1.now) c.split_at.ensures.front
+          ∙ ap (λ behind. map (λ part. part.now) (take i c.loop-i.parts) ++ take (get_or lengths i 0) rest ∷ cut (drop (i + 1) lengths) behind) c.split_at.ensures.back
+          ∙ ap (λ ps. map (λ part. part.now) (take i c.loop-i.parts) ++ ps) (sym split)
+          ∙ c.loop-i.invariant.joined;
     }

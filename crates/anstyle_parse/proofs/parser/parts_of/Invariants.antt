@@ -5,7 +5,7 @@ use Rattle.anstyle_parse.proofs.parser.parts_of.Given as goal
 
 abbrev pub invariant-loop-i : goal.invariant-loop-i
 invariant-loop-i l = record {
-    room : length l.parts ≡ 16;
-    within : total (drop l.i l.lengths) ≤ length l.rest;
-    joined : map (λ part. part.now) (take l.i l.parts) ++ cut (drop l.i l.lengths) l.rest ≡ cut l.lengths l.text;
-  }
+  room : length l.parts ≡ 16;
+  within : total (drop l.i l.lengths) ≤ length l.rest;
+  joined : map (λ part. part.now) (take l.i l.parts) ++ cut (drop l.i l.lengths) l.rest ≡ cut l.lengths l.text;
+}

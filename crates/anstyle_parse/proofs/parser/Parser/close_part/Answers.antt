@@ -23,9 +23,9 @@ returns-then-self-lt-MAX_OSC_PARTS g c =
     let p = c.args.self.now in
     let m = machine_of p in
     let count : length (cut (take p.osc_parts p.osc_lengths) p.osc_text.items) ≡ p.osc_parts
-          = parts_count p.osc_text.items p.osc_lengths p.osc_parts p.osc_closed p.closed_parts p.parts_in_text (omega arith) in
+    = parts_count p.osc_text.items p.osc_lengths p.osc_parts p.osc_closed p.closed_parts p.parts_in_text (omega arith) in
     same_parts m
-      (ap (λ n. cut (take (p.osc_parts + 1) (set p.osc_lengths p.osc_parts (n - p.osc_closed))) p.osc_text.items) c.len-end.ensures.value
-        ∙ cut_closed p.osc_text.items p.osc_lengths p.osc_parts p.osc_closed p.closed_parts p.parts_in_text (omega arith))
-      (drop_all c.len-end.result p.osc_text.items (omega (arith, c.len-end.ensures.value)))
+    (ap (λ n. cut (take (p.osc_parts + 1) (set p.osc_lengths p.osc_parts (n - p.osc_closed))) p.osc_text.items) c.len-end.ensures.value
+    ∙ cut_closed p.osc_text.items p.osc_lengths p.osc_parts p.osc_closed p.closed_parts p.parts_in_text (omega arith))
+    (drop_all c.len-end.result p.osc_text.items (omega (arith, c.len-end.ensures.value)))
     ∙ sym (with_part-room m (λ h. omega (arith, count, h)))

@@ -27,6 +27,6 @@ returns-else-byte-eq59 g c =
     let total = stored_total p.osc_text.items p.osc_lengths p.osc_parts p.osc_closed p.closed_parts p.parts_in_text in
     let room : length p.osc_text.items ≡ 1024 → ⊥ = eqb-false (length p.osc_text.items) 1024 (sym (c.is_full.ensures.value) ∙ c.if-is_full.false) in
     same_parts (machine_of p)
-      (ap (λ t. cut (take p.osc_parts p.osc_lengths) t) c.push.ensures.items ∙ cut_stored p.osc_text.items p.osc_lengths p.osc_parts p.osc_closed p.closed_parts p.parts_in_text c.args.byte)
-      (ap (λ t. drop p.osc_closed t) c.push.ensures.items ∙ drop_stored p.osc_text.items p.osc_lengths p.osc_parts p.osc_closed p.closed_parts p.parts_in_text c.args.byte)
+    (ap (λ t. cut (take p.osc_parts p.osc_lengths) t) c.push.ensures.items ∙ cut_stored p.osc_text.items p.osc_lengths p.osc_parts p.osc_closed p.closed_parts p.parts_in_text c.args.byte)
+    (ap (λ t. drop p.osc_closed t) c.push.ensures.items ∙ drop_stored p.osc_text.items p.osc_lengths p.osc_parts p.osc_closed p.closed_parts p.parts_in_text c.args.byte)
     ∙ sym (storing-other (machine_of p) c.args.byte (λ h. room (sym total ∙ h)) c.if-byte-eq59.false)

@@ -16,3 +16,11 @@ pub mod DivisionRuns
 pub mod DivisionOnly
 pub mod StandTable
 pub mod Reaches
+pub mod StandActions
+pub mod StandCounted
+pub mod StandValues
+pub mod StandEscape
+pub mod StandHeaders
+pub mod StandStrings
+pub mod Stands
+pub mod Fronts

@@ -12,3 +12,6 @@ pub mod Machine
 pub mod Decoder
 pub mod Stands
 pub mod Parser
+pub mod Front
+pub mod Accumulator
+pub mod Decoding

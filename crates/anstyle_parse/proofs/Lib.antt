@@ -24,3 +24,5 @@ pub mod StandHeaders
 pub mod StandStrings
 pub mod Stands
 pub mod Fronts
+pub mod Seen
+pub mod Streams

@@ -147,7 +147,7 @@ impl<C: CharAccumulator> Parser<C> {
             → (IsTrue result ↔ EndsInCharacter before) }
         ensures ascii { (before : List ℕ) → IsAfterAscii self.now before → result ≡ false }
     {
-        self.state == State::Utf8
+        matches!(self.state, State::Utf8)
     }
 }
 

@@ -12,7 +12,8 @@ use Rattle.anstyle_parse.specs.Machine.{Machine, Adds, step, machine_after, mach
 use Rattle.anstyle_parse.specs.Stands.{StandsAfter, seen, unseen, Decodes}
 use Rattle.anstyle_parse.specs.Parser.{machine_of, CanTake, CanTakeAll, AreBelow, IsAfter, IsAfterAscii}
 use Rattle.anstyle_parse.proofs.Stands.{StandsAfter-machine, Continues-machine}
-use Rattle.anstyle_parse.proofs.Seen.{Seen-machine, Unseen-step, Unseen-machine, StandsAfter-outside, takes-outside}
+use Rattle.anstyle_parse.proofs.Seen.{Seen-machine}
+use Rattle.anstyle_parse.proofs.Unseen.{Unseen-step, Unseen-machine, StandsAfter-outside, takes-outside}
 
 -- the bytes of a slice are below 256
 pub bytes_below : (bytes : List ℕ) → ((i : ℕ) → get_or bytes i 0 < 256) → AreBelow 256 bytes

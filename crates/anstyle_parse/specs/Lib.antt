@@ -15,3 +15,5 @@ pub mod Parser
 pub mod Front
 pub mod Accumulator
 pub mod Decoding
+pub mod Canon
+pub mod Lawful

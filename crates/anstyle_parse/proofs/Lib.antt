@@ -26,7 +26,8 @@ pub mod Stands
 pub mod Fronts
 pub mod Seen
 pub mod Unseen
-pub mod InCharacter
+pub mod CallCounts
+pub mod CharacterEnds
 pub mod Streams
 pub mod CanonLists
 pub mod CanonCharacters

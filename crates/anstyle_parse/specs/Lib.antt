@@ -12,3 +12,5 @@ pub mod Machine
 pub mod Decoder
 pub mod Stands
 pub mod Parser
+pub mod Devices
+pub mod Output

@@ -16,3 +16,4 @@ pub mod DivisionRuns
 pub mod DivisionOnly
 pub mod StandTable
 pub mod Reaches
+pub mod OutputLemmas

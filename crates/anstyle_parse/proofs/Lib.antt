@@ -17,3 +17,4 @@ pub mod DivisionOnly
 pub mod StandTable
 pub mod Reaches
 pub mod OutputLemmas
+pub mod PieceLemmas

@@ -14,3 +14,4 @@ pub mod Stands
 pub mod Parser
 pub mod Devices
 pub mod Output
+pub mod Piece

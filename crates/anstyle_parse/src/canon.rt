@@ -2,9 +2,11 @@
 //! performers that write have in common.
 mod devices;
 mod output;
+mod piece;
 
 pub use devices::{FromRead, FromWrite, Sink, Source};
 pub use output::Output;
+pub use piece::Piece;
 
 /// What went wrong with a reader or a writer.
 #[derive(Debug, Clone, Copy, PartialEq, Eq)]

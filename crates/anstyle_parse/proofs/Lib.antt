@@ -47,3 +47,5 @@ pub mod CanonLength
 pub mod LawfulCalls
 pub mod CanonTwice
 pub mod CanonBytes
+pub mod OutputLemmas
+pub mod PieceLemmas

@@ -17,3 +17,6 @@ pub mod Accumulator
 pub mod Decoding
 pub mod Canon
 pub mod Lawful
+pub mod Devices
+pub mod Output
+pub mod Piece

@@ -1,8 +1,10 @@
 //! Bytes that belong together are written together.
-ghost use Rattle.std.specs.Prelude.{◌≡◌, ℕ, [], ◌∷◌, decimal};
+ghost use Rattle.std.specs.Prelude.{◌≡◌, ℕ, [], ◌∷◌, decimal, if◌then◌else◌};
+ghost use Rattle.anstyle_parse.specs.Groups.{fields_text, groups_text};
 ghost use Rattle.anstyle_parse.specs.Output.{Adds};
 
 use super::{Output, Sink};
+use crate::params::Params;
 use arrayvec::ArrayVec;
 
 /// The bytes that a piece holds at most.
@@ -17,6 +19,7 @@ pub struct Piece {
 }
 
 impl Piece {
+    ghost use Rattle.anstyle_parse.specs.Params.{groups_shown};
     ghost use Rattle.anstyle_parse.specs.Piece.{held_in, HandsOn};
 
     /// A piece that holds nothing.
@@ -59,6 +62,40 @@ impl Piece {
             self.push_decimal(output, number / 10);
         }
         self.push(output, &[b'0' + (number % 10) as u8]);
+    }
+
+    /// Adds the byte that stands before each but the first.
+    fn push_separator<W: Sink>(&mut self, output: &mut Output<W>, is_first: bool, separator: u8)
+        ensures { HandsOn W.contents W.has_failed (if is_first then [] else separator ∷ []) (held_in self.old) (held_in self.new) output.old output.new }
+    {
+        if !is_first {
+            self.push(output, &[separator]);
+        }
+    }
+
+    /// Adds fields in decimal, with `:` between them.
+    fn push_fields<W: Sink>(&mut self, output: &mut Output<W>, fields: &[u16])
+        ensures { HandsOn W.contents W.has_failed (fields_text fields.now) (held_in self.old) (held_in self.new) output.old output.new }
+    {
+        let mut is_first = true;
+        for field in fields {
+            self.push_separator(output, is_first, b':');
+            is_first = false;
+            self.push_decimal(output, *field);
+        }
+    }
+
+    /// Adds the groups of a sequence's parameters: the fields in decimal, with `:` between
+    /// the fields of a group and `;` between groups.
+    pub fn push_groups<W: Sink>(&mut self, output: &mut Output<W>, params: &Params)
+        ensures { HandsOn W.contents W.has_failed (groups_text (groups_shown params.now)) (held_in self.old) (held_in self.new) output.old output.new }
+    {
+        let mut is_first = true;
+        for group in params.iter() {
+            self.push_separator(output, is_first, b';');
+            is_first = false;
+            self.push_fields(output, group);
+        }
     }
 
     /// Hands on what is held.

@@ -14,6 +14,7 @@ calls_last OscString = true
 calls_last DcsPassthrough = true
 calls_last state = false
 
+-- there are two of them
 calls_last-cases : (state : State) → calls_last state ≡ true → (state ≡ OscString) ⊎ (state ≡ DcsPassthrough)
 unfolding calls_last
 calls_last-cases OscString e = inl refl
@@ -29,7 +30,7 @@ length-print_answer : (answer : Option ℕ) → length (print_answer answer) ≤
 length-print_answer None = lit≤ tt
 length-print_answer (Some c) = lit≤ tt
 
--- the calls of each class in each state. A line for each state, so that they compute.
+-- The calls of each class in each state: the lines match on both, so that they compute.
 step_calls_at-most : {A : Type 0} (add : Adds A) (class : Class) (state : State) (b : ℕ) (m : Machine A)
     → length (step_calls_at add state class b (record m { state = state })) ≤ most_calls state class
 unfolding most_calls calls_last
@@ -50,7 +51,8 @@ most_calls-few state class = cond_both (calls_last state && is_cancel_at class) 
 -- two only for 18 and 1A in such a state
 most_calls-two : (state : State) (class : Class) → 2 ≤ most_calls state class → (calls_last state && is_cancel_at class) ≡ true
 unfolding most_calls
-most_calls-two state class = cond_both (calls_last state && is_cancel_at class) 2 1 (λ n. 2 ≤ n → (calls_last state && is_cancel_at class) ≡ true) (λ both _. both) (λ _ more. absurd (omega arith))
+most_calls-two state class =
+    cond_both (calls_last state && is_cancel_at class) 2 1 (λ n. 2 ≤ n → (calls_last state && is_cancel_at class) ≡ true) (λ both _. both) (λ _ more. absurd (omega arith))
 
 module _ {A : Type 0} (adds : Adds A) (b : ℕ) (m : Machine A) where
   -- one byte makes no more than two calls

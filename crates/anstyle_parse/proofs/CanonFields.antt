@@ -6,7 +6,7 @@ use Rattle.std.proofs.lemmas.Fmt.{decimal_by_steps, decimal_is_IsNumeral}
 use Rattle.anstyle_parse.specs.Bytes.{is_within, is_parameter, colon, semicolon}
 use Rattle.anstyle_parse.specs.Arguments.{field, max_field, first_fields}
 use Rattle.anstyle_parse.specs.Items.{EachIs}
-use Rattle.anstyle_parse.specs.Canon.{groups_text}
+use Rattle.anstyle_parse.specs.Groups.{groups_text}
 use Rattle.anstyle_parse.specs.Lawful.{IsGroup}
 use Rattle.anstyle_parse.proofs.DivisionHeaders.{EachIs-append, EachIs-weaker}
 use Rattle.anstyle_parse.proofs.CanonLists.{implied, EachIs-join_with_byte, AllByRecursion-map, AllByRecursion-weaker, slice_split-join_with_byte, join_with_byte-push_empty, EachLacks}

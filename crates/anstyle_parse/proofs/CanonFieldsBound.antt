@@ -11,7 +11,7 @@ use Rattle.std.proofs.lemmas.Int.Digits.{digits_value-lt}
 use Rattle.anstyle_parse.specs.Bytes.{is_within, is_parameter, colon, semicolon}
 use Rattle.anstyle_parse.specs.Arguments.{field, max_field, max_fields, grouped_fields, groups_of}
 use Rattle.anstyle_parse.specs.Items.{EachIs}
-use Rattle.anstyle_parse.specs.Canon.{groups_text}
+use Rattle.anstyle_parse.specs.Groups.{groups_text}
 use Rattle.anstyle_parse.specs.Lawful.{IsGroup}
 use Rattle.anstyle_parse.proofs.CanonLists.{implied, EachIs-filter}
 use Rattle.anstyle_parse.proofs.CanonCharacters.{within_parts}

@@ -36,3 +36,4 @@ returns-clause-few g c = step_calls-few g.C.CharAccumulator.adds c.args.byte (ma
 
 pub returns-clause-two : goal.returns-clause-two
 returns-clause-two g c = step_calls-two g.C.CharAccumulator.adds c.args.byte (machine_of c.args.self.now)
+

@@ -24,3 +24,4 @@ pub mod StandHeaders
 pub mod StandStrings
 pub mod Stands
 pub mod Fronts
+pub mod Forgotten

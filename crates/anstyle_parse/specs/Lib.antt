@@ -11,6 +11,7 @@ pub mod Params
 pub mod Machine
 pub mod Decoder
 pub mod Stands
+pub mod Checkpoint
 pub mod Parser
 pub mod Front
 pub mod Accumulator

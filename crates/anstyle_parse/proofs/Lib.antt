@@ -25,3 +25,5 @@ pub mod StandStrings
 pub mod Stands
 pub mod Fronts
 pub mod Forgotten
+pub mod CheckpointHeld
+pub mod CheckpointFields

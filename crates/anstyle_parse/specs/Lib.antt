@@ -16,3 +16,8 @@ pub mod Parser
 pub mod Front
 pub mod Accumulator
 pub mod Decoding
+pub mod Canon
+pub mod Lawful
+pub mod Devices
+pub mod Output
+pub mod Piece

@@ -1,5 +1,5 @@
 //! Accumulators of characters: what puts the bytes of one character together.
-ghost use Rattle.std.specs.Prelude.{◌≡◌, ℕ, List, [], Option, None, Bool, true, false, IsTrue, refl, ⊤};
+ghost use Rattle.std.specs.Prelude.{◌≡◌, ◌<◌, ℕ, List, [], Option, Some, Bool, true, false, IsTrue, refl, ⊤};
 ghost use Rattle.std.proofs.Common.{ap};
 ghost use Rattle.std.proofs.lemmas.Bool.{false≢true};
 ghost use Rattle.anstyle_parse.specs.Stands.{Decodes};
@@ -40,18 +40,20 @@ pub trait CharAccumulator: Default {
 /// The accumulator of a parser for which none is named.
 pub type DefaultCharAccumulator = Utf8Parser;
 
-/// For streams of ASCII alone: it takes no byte, and a caller proves that none comes.
+/// For streams of ASCII alone: it takes the bytes below 80, and a caller proves that no
+/// other comes to it.
 ///
-/// Its `add` can never be called: the lead byte of a character, C2..F4, is not ASCII.
+/// A parser gives its accumulator no ASCII outside a character, and the lead byte of a
+/// character, C2..F4, is not ASCII: so a parser with this one never calls it.
 #[derive(Default, Clone, Debug, PartialEq, Eq, Drop)]
 pub struct AsciiParser;
 
 impl CharAccumulator for AsciiParser {
     ghost front = { λ _. [] };
 
-    ghost takes = { λ _ _. ⊥ };
+    ghost takes = { λ _ b. b < 0x80 };
 
-    ghost adds = { λ value _. (value, None) };
+    ghost adds = { λ value b. (value, Some b) };
 
     ghost decodes = { false };
 
@@ -59,9 +61,10 @@ impl CharAccumulator for AsciiParser {
 
     ghost follows = { λ h. absurd (false≢true h) };
 
-    /// Cannot be called.
-    fn add(&mut self, _byte: u8) -> Option<char> {
-        unreachable!()
+    /// Answers the byte's character, U+0000 to U+007F.
+    #[inline]
+    fn add(&mut self, byte: u8) -> Option<char> {
+        Some(char::from(byte))
     }
 }
 

@@ -72,7 +72,8 @@ impl<C: CharAccumulator> Default for Parser<C> {
 
 impl<C: CharAccumulator> Parser<C> {
     ghost use Rattle.std.specs.Prelude.{◌++◌, ◌∷◌, [], IsTrue, ◌↔◌};
-    ghost use Rattle.anstyle_parse.specs.Parser.{machine_of, IsNew, IsInCharacter, CanTake, CanTakeAll, IsAfter, IsAfterAscii, AreBelow};
+    ghost use Rattle.anstyle_parse.specs.Bytes.{is_cancel};
+    ghost use Rattle.anstyle_parse.specs.Parser.{machine_of, IsNew, IsInCharacter, HasOpenString, CanTake, CanTakeAll, IsAfter, IsAfterAscii, AreBelow};
     ghost use Rattle.anstyle_parse.specs.Machine.{step, step_calls, machine_after, machine_calls};
     ghost use Rattle.anstyle_parse.specs.Calls.{Continues};
     ghost use Rattle.anstyle_parse.specs.Stands.{EndsInCharacter};
@@ -99,6 +100,11 @@ impl<C: CharAccumulator> Parser<C> {
         // One byte does what the machine does with it.
         ensures machine { machine_of self.new ≡ step C.adds byte (machine_of self.old) }
         ensures calls { Goes P.means performer.old (step_calls C.adds byte (machine_of self.old)) performer.new }
+
+        // Two calls are made only where a cancel ends a command or a hooked string.
+        ensures few { length (step_calls C.adds byte (machine_of self.old)) ≤ 2 }
+        ensures two { length (step_calls C.adds byte (machine_of self.old)) ≡ 2
+            → IsTrue (is_cancel byte) × HasOpenString self.old }
 
         // These calls continue those of the bytes before, for an accumulator that decodes
         // UTF-8 and for any accumulator over ASCII.
@@ -147,7 +153,7 @@ impl<C: CharAccumulator> Parser<C> {
             → (IsTrue result ↔ EndsInCharacter before) }
         ensures ascii { (before : List ℕ) → IsAfterAscii self.now before → result ≡ false }
     {
-        self.state == State::Utf8
+        matches!(self.state, State::Utf8)
     }
 }
 

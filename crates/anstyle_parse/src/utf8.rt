@@ -2,8 +2,6 @@
 //!
 //! What it holds of a character is the bytes that have come, and nothing beside them: at
 //! each further byte it looks at these again, so that the answer is right whatever it holds.
-#![tactic(auto)]
-
 ghost use Rattle.std.specs.Prelude.{◌≡◌, ◌∷◌, [], Some, IsTrue};
 ghost use Rattle.anstyle_parse.specs.Bytes.{is_within};
 ghost use Rattle.anstyle_parse.specs.Characters.{character_of};
@@ -42,6 +40,7 @@ impl Front {
 /// The answer to a byte that breaks a character. The byte is used up.
 const BROKEN: (Front, Option<char>) = (Front::Empty, Some(char::REPLACEMENT_CHARACTER));
 
+/// The front after the first byte of a character, and the answer.
 #[inline(always)]
 #[tactic(auto, unfolding(crate::specs::Bytes::is_within, crate::specs::Characters::is_lead))]
 fn first(a: u8) -> (Front, Option<char>)
@@ -54,6 +53,7 @@ fn first(a: u8) -> (Front, Option<char>)
     }
 }
 
+/// The same after the second byte, behind the first.
 #[inline(always)]
 #[tactic(auto, using(crate::proofs::Fronts::second_byte))]
 fn second(a: u8, b: u8) -> (Front, Option<char>)
@@ -68,6 +68,7 @@ fn second(a: u8, b: u8) -> (Front, Option<char>)
     }
 }
 
+/// After the third byte, behind two.
 #[inline(always)]
 #[tactic(auto, using(crate::proofs::Fronts::third_byte))]
 fn third(a: u8, b: u8, c: u8) -> (Front, Option<char>)
@@ -84,6 +85,7 @@ fn third(a: u8, b: u8, c: u8) -> (Front, Option<char>)
     }
 }
 
+/// After the fourth byte, behind three: the last.
 #[inline(always)]
 #[tactic(auto, using(crate::proofs::Fronts::fourth_byte))]
 fn fourth(a: u8, b: u8, c: u8, d: u8) -> (Front, Option<char>)
@@ -142,7 +144,7 @@ fn begins_four(a: u8, b: u8) -> bool
     }
 }
 
-/// The character of two bytes.
+/// The character of two bytes, by their low five and six bits; never nothing.
 #[inline(always)]
 #[tactic(auto, using(crate::proofs::Fronts::scalar_values))]
 fn character_of_two(a: u8, b: u8) -> Option<char>
@@ -151,7 +153,7 @@ fn character_of_two(a: u8, b: u8) -> Option<char>
     char::from_u32(a as u32 % 32 * 64 + b as u32 % 64)
 }
 
-/// The character of three bytes.
+/// The character of three bytes, by their low four, six and six bits; never nothing.
 #[inline(always)]
 #[tactic(auto, using(crate::proofs::Fronts::scalar_values))]
 fn character_of_three(a: u8, b: u8, c: u8) -> Option<char>
@@ -161,7 +163,7 @@ fn character_of_three(a: u8, b: u8, c: u8) -> Option<char>
     char::from_u32((a as u32 % 16 * 64 + b as u32 % 64) * 64 + c as u32 % 64)
 }
 
-/// The character of four bytes.
+/// The character of four bytes, by their low three and three times six bits; never nothing.
 #[inline(always)]
 #[tactic(auto, using(crate::proofs::Fronts::scalar_values))]
 fn character_of_four(a: u8, b: u8, c: u8, d: u8) -> Option<char>

@@ -1,4 +1,4 @@
-use crate::{CharAccumulator, Utf8Parser};
+use crate::{AsciiParser, CharAccumulator, DefaultCharAccumulator};
 
 // The last byte of each row answers the character, and the bytes before it nothing. After
 // it the next byte is at the start of a character.
@@ -19,7 +19,7 @@ fn answers_at_the_last_byte(rt: HostRuntime) {
         (b"\xC3\xC3", '\u{FFFD}'),
     ];
     for (bytes, want) in rows {
-        let mut parser = Utf8Parser::default();
+        let mut parser = DefaultCharAccumulator::default();
         for (i, byte) in bytes.iter().enumerate() {
             let is_last = i + 1 == bytes.len();
             let wanted = if is_last { Some(want) } else { None };
@@ -27,4 +27,10 @@ fn answers_at_the_last_byte(rt: HostRuntime) {
         }
         assert_eq!(rt; parser.add(b'A'), Some('A'), "after {bytes:?}");
     }
+}
+
+#[test]
+fn ascii_is_answered_at_once(rt: HostRuntime) {
+    assert_eq!(rt; AsciiParser.add(b'\0'), Some('\0'));
+    assert_eq!(rt; AsciiParser.add(b'\x7F'), Some('\x7F'));
 }

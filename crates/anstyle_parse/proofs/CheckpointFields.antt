@@ -4,17 +4,22 @@ use Rattle.std.specs.Prelude.{◌==◌, IsTrue}
 use Rattle.std.specs.List.{AllByRecursion, concat, flat_map, join_with_byte}
 use Rattle.std.specs.Fmt.{decimal}
 use Rattle.std.proofs.lemmas.Bool.{cond-true, cond-false, ne_eqb, and_from, le-leb}
+use Rattle.std.proofs.lemmas.List.{map_push}
+use Rattle.std.proofs.lemmas.List.Folds.{flat_map-map}
 use Rattle.std.proofs.lemmas.Fmt.{decimal_by_steps, length-decimal-le}
 use Rattle.anstyle_parse.specs.Bytes.{is_within, is_parameter, colon, semicolon}
 use Rattle.anstyle_parse.specs.Arguments.{max_fields, max_field}
 use Rattle.anstyle_parse.specs.Items.{EachIs}
+use Rattle.anstyle_parse.specs.Groups.{fields_text, groups_text, shown_groups}
+use Rattle.anstyle_parse.specs.Lawful.{IsGroup}
 use Rattle.anstyle_parse.specs.Machine.{Machine, new_machine, field_count, with_parameter, collecting}
-use Rattle.anstyle_parse.specs.Checkpoint.{group_so_far, field_so_far}
+use Rattle.anstyle_parse.specs.Checkpoint.{last_separator, fields_so_far}
 use Rattle.anstyle_parse.proofs.Splits.{length-concat_push}
 use Rattle.anstyle_parse.proofs.DivisionHeaders.{EachIs-append}
+use Rattle.anstyle_parse.proofs.CanonFields.{semicolon_is}
 use Rattle.anstyle_parse.proofs.HeaderBytes.{next_number}
 use Rattle.anstyle_parse.proofs.HeaderFold.{header_step, header_after, header_after-append}
-use Rattle.anstyle_parse.proofs.CheckpointHeld.{AreFields, IsClosedGroup}
+use Rattle.anstyle_parse.proofs.CheckpointHeld.{AreFields, HoldsFields}
 
 -- a new machine with these registers of a header
 abbrev pub filled : List ℕ → Bool → List (List ℕ) → List ℕ → ℕ → Machine (List ℕ)
@@ -44,10 +49,6 @@ digit_is d small = and_from _ _ (le-leb 0x30 (48 + d) (omega arith)) (le-leb (48
 colon_is : is_parameter colon ≡ true
 unfolding is_parameter is_within
 colon_is = refl
-
-pub semicolon_is : is_parameter semicolon ≡ true
-unfolding is_parameter is_within
-semicolon_is = refl
 
 -- a field is below all that `decimal` writes
 below : (n : ℕ) → n ≤ max_field → n < 2 ^ 64
@@ -106,6 +107,14 @@ Stores-append first second m n next a b = record {
   size = omega (arith, a.size, b.size, length-append first second);
 }
 
+-- a closed group, with what stored its last field
+abbrev pub group_so_far : List ℕ → List ℕ
+group_so_far group = fields_text group ++ semicolon ∷ []
+
+-- a field of the open group, with what stored it
+abbrev pub field_so_far : ℕ → List ℕ
+field_so_far field = decimal field ++ colon ∷ []
+
 -- From here on the flag and the collected bytes stay as they are.
 module _ (collected : List ℕ) (ignoring : Bool) where
   -- the fields that are stored so far
@@ -145,13 +154,13 @@ module _ (collected : List ℕ) (ignoring : Bool) where
       (Stores-rest groups (group ++ n ∷ []) k rest (omega (arith, length-append group (n ∷ []))) small.1)))
 
   -- a closed group
-  Stores-group : (groups : List (List ℕ)) (group : List ℕ) → length (concat groups) + length group ≤ max_fields → IsClosedGroup group
+  Stores-group : (groups : List (List ℕ)) (group : List ℕ) → length (concat groups) + length group ≤ max_fields → IsGroup group
       → Stores (group_so_far group) (holding groups []) (holding (groups ++ group ∷ []) [])
   Stores-group groups [] few is = absurd (omega (arith, is.0))
   Stores-group groups (n ∷ rest) few is = Stores-rest groups [] n rest (omega arith) is.1
 
   -- closed groups
-  Stores-groups : (groups more : List (List ℕ)) → length (concat groups) + length (concat more) ≤ max_fields → AllByRecursion IsClosedGroup more
+  Stores-groups : (groups more : List (List ℕ)) → length (concat groups) + length (concat more) ≤ max_fields → AllByRecursion IsGroup more
       → Stores (flat_map group_so_far more) (holding groups []) (holding (groups ++ more) [])
   Stores-groups groups [] few each = Stores-none (holding groups []) (holding (groups ++ []) []) (ap (λ list. holding list []) (sym (append-nil groups)))
   Stores-groups groups (group ∷ more) few each =
@@ -171,8 +180,46 @@ module _ (collected : List ℕ) (ignoring : Bool) where
       (Stores-open groups (group ++ n ∷ []) more (omega (arith, length-append group (n ∷ []))) small.1))
 
   -- all of them
-  pub Stores-fields : (groups : List (List ℕ)) (group : List ℕ) → length (concat groups) + length group ≤ max_fields → AllByRecursion IsClosedGroup groups → AreFields group
+  Stores-fields : (groups : List (List ℕ)) (group : List ℕ) → length (concat groups) + length group ≤ max_fields → AllByRecursion IsGroup groups → AreFields group
       → Stores (flat_map group_so_far groups ++ flat_map field_so_far group) (holding [] []) (holding groups group)
   Stores-fields groups group few closed opened =
       Stores-append (flat_map group_so_far groups) (flat_map field_so_far group) (holding [] []) (holding groups []) (holding groups group)
       (Stores-groups [] groups (omega arith) closed) (Stores-open groups [] group (omega arith) opened)
+
+-- lists that are joined, and the byte behind the last
+join_with_byte-each : (c : ℕ) (x : List ℕ) (xs : List (List ℕ)) → join_with_byte c (x ∷ xs) ++ c ∷ [] ≡ flat_map (λ list. list ++ c ∷ []) (x ∷ xs)
+join_with_byte-each c x [] = sym (append-nil (x ++ c ∷ []))
+join_with_byte-each c x (y ∷ xs) =
+    append_assoc x (c ∷ join_with_byte c (y ∷ xs)) (c ∷ [])
+    ∙ (ap (λ list. x ++ c ∷ list) (join_with_byte-each c y xs) ∙ sym (append_assoc x (c ∷ []) (flat_map (λ list. list ++ c ∷ []) (y ∷ xs))))
+
+join_with_byte-last : (c : ℕ) (xs : List (List ℕ)) (y : List ℕ) → join_with_byte c (xs ++ y ∷ []) ≡ flat_map (λ list. list ++ c ∷ []) xs ++ y
+join_with_byte-last c [] y = refl
+join_with_byte-last c (x ∷ []) y = sym (ap (λ list. list ++ y) (append-nil (x ++ c ∷ [])) ∙ append_assoc x (c ∷ []) y)
+join_with_byte-last c (x ∷ z ∷ xs) y =
+    ap (λ list. x ++ c ∷ list) (join_with_byte-last c (z ∷ xs) y)
+    ∙ sym (append_assoc (x ++ c ∷ []) (flat_map (λ list. list ++ c ∷ []) (z ∷ xs)) y ∙ append_assoc x (c ∷ []) (flat_map (λ list. list ++ c ∷ []) (z ∷ xs) ++ y))
+
+-- the stored fields as the closed groups, one after another, and then the fields of the open one
+fields-each : (groups : List (List ℕ)) (group : List ℕ)
+    → groups_text (shown_groups groups group) ++ last_separator groups group ≡ flat_map group_so_far groups ++ flat_map field_so_far group
+fields-each [] [] = refl
+fields-each (first ∷ groups) [] =
+    join_with_byte-each semicolon (fields_text first) (map fields_text groups)
+    ∙ (flat_map-map (λ list. list ++ semicolon ∷ []) fields_text (first ∷ groups) ∙ sym (append-nil (flat_map group_so_far (first ∷ groups))))
+fields-each groups (field ∷ group) =
+    let closed : List ℕ = flat_map (λ list. list ++ semicolon ∷ []) (map fields_text groups) in
+    let opened : List ℕ = fields_text (field ∷ group) in
+    ap (λ texts. join_with_byte semicolon texts ++ colon ∷ []) (map_push fields_text groups (field ∷ group))
+    ∙ (ap (λ list. list ++ colon ∷ []) (join_with_byte-last semicolon (map fields_text groups) opened)
+    ∙ (append_assoc closed opened (colon ∷ [])
+    ∙ (ap (λ list. list ++ (opened ++ colon ∷ [])) (flat_map-map (λ list. list ++ semicolon ∷ []) fields_text groups)
+    ∙ ap (λ list. flat_map group_so_far groups ++ list)
+    (join_with_byte-each colon (decimal field) (map decimal group) ∙ flat_map-map (λ list. list ++ colon ∷ []) decimal (field ∷ group)))))
+
+-- The stored fields are stored again.
+pub Stores-fields_so_far : (collected : List ℕ) (ignoring : Bool) (m : Machine (List ℕ)) → HoldsFields m.closed_groups m.open_group m.number
+    → Stores (fields_so_far m) (filled collected ignoring [] [] 0) (filled collected ignoring m.closed_groups m.open_group 0)
+Stores-fields_so_far collected ignoring m h =
+    subst (λ text. Stores text (filled collected ignoring [] [] 0) (filled collected ignoring m.closed_groups m.open_group 0)) (sym (fields-each m.closed_groups m.open_group))
+    (Stores-fields collected ignoring m.closed_groups m.open_group h.few h.closed h.opened)

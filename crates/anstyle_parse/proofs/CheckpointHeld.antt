@@ -6,31 +6,24 @@ use Rattle.std.proofs.lemmas.Bool.{eqb-true, eqb-false, both_ways}
 use Rattle.anstyle_parse.specs.Bytes.{is_intermediate, is_parameter, is_marker, colon, semicolon}
 use Rattle.anstyle_parse.specs.Arguments.{max_fields, max_field, max_collected}
 use Rattle.anstyle_parse.specs.Items.{EachIs}
+use Rattle.anstyle_parse.specs.Lawful.{IsGroup}
 use Rattle.anstyle_parse.specs.Machine.{Machine, new_machine, field_count, with_parameter, collecting}
 use Rattle.anstyle_parse.proofs.Splits.{length-concat_push}
 use Rattle.anstyle_parse.proofs.DivisionHeaders.{EachIs-push}
+use Rattle.anstyle_parse.proofs.CanonFields.{AllByRecursion-push}
 use Rattle.anstyle_parse.proofs.HeaderBytes.{is_parameter-intermediate}
 use Rattle.anstyle_parse.proofs.HeaderFold.{header_step, header_after}
 use Rattle.anstyle_parse.proofs.StandActions.{collecting_by, with_parameter_by}
 use Rattle.anstyle_parse.proofs.StandValues.{Phase, at_entry, in_parameters, in_intermediates, misfit, phase_by, phase_from, phase_of, registers}
 
--- one more element of which it holds
-pub AllByRecursion-push : {X : Type 0} (P : X → Type 0) (xs : List X) (x : X) → AllByRecursion P xs → P x → AllByRecursion P (xs ++ x ∷ [])
-AllByRecursion-push P [] x h k = (k, tt)
-AllByRecursion-push P (y ∷ xs) x h k = (h.0, AllByRecursion-push P xs x h.1 k)
-
 -- no field is above the greatest
 abbrev pub AreFields : List ℕ → Type 0
 AreFields fields = AllByRecursion (λ n. n ≤ max_field) fields
 
--- and a closed group is not empty
-abbrev pub IsClosedGroup : List ℕ → Type 0
-IsClosedGroup group = (0 < length group) × AreFields group
-
 -- The stored fields and the number: where all 32 are stored the number is 0.
 pub record HoldsFields (groups : List (List ℕ)) (group : List ℕ) (number : ℕ) : Type 0 where
   pub few : length (concat groups) + length group ≤ max_fields
-  pub closed : AllByRecursion IsClosedGroup groups
+  pub closed : AllByRecursion IsGroup groups
   pub opened : AreFields group
   pub number_fits : number ≤ max_field
   pub last : length (concat groups) + length group ≡ max_fields → number ≡ 0
@@ -45,20 +38,28 @@ pub record HoldsCollected (bytes : List ℕ) : Type 0 where
   pub others_are : EachIs is_intermediate others
   pub fit : length bytes ≤ max_collected
 
--- whether there are intermediates, by the phase
-abbrev pub Comes : Phase → List ℕ → Type 0
-Comes in_intermediates others = 0 < length others
-Comes phase others = others ≡ []
+-- intermediates behind intermediates
+phase_from-in_intermediates : (others : List ℕ) → EachIs is_intermediate others → phase_from in_intermediates others ≡ in_intermediates
+phase_from-in_intermediates [] each = refl
+phase_from-in_intermediates (b ∷ others) each =
+    ap (λ t. phase_from (cond t in_intermediates misfit) others) each.0 ∙ phase_from-in_intermediates others each.1
+
+-- and behind parameter bytes
+pub phase_from-intermediates : (others : List ℕ) → EachIs is_intermediate others → 0 < length others → phase_from in_parameters others ≡ in_intermediates
+phase_from-intermediates [] each some = absurd (omega arith)
+phase_from-intermediates (b ∷ others) each some =
+    ap (λ t. phase_from (cond t in_parameters (cond (is_intermediate b) in_intermediates misfit)) others) (is_parameter-intermediate b each.0)
+    ∙ (ap (λ t. phase_from (cond t in_intermediates misfit) others) each.0 ∙ phase_from-in_intermediates others each.1)
 
 -- Both, and a flag that is set only where one of them is full.
 pub record HoldsHeader (phase : Phase) (m : Machine (List ℕ)) : Type 0 where
   pub fields : HoldsFields m.closed_groups m.open_group m.number
   pub collected : HoldsCollected m.collected
-  pub comes : Comes phase collected.others
+  pub comes : phase_from in_parameters collected.others ≡ phase
   pub ignores : m.ignoring ≡ true → (field_count m ≡ max_fields) ⊎ (length m.collected ≡ max_collected)
 
 -- a group that is closed: its last field is the number
-closed_group : (group : List ℕ) (number : ℕ) → AreFields group → number ≤ max_field → IsClosedGroup (group ++ number ∷ [])
+closed_group : (group : List ℕ) (number : ℕ) → AreFields group → number ≤ max_field → IsGroup (group ++ number ∷ [])
 closed_group group number h k = (omega (arith, length-append group (number ∷ [])), AllByRecursion-push (λ n. n ≤ max_field) group number h k)
 
 -- the number becomes a field: the last of a closed group, or of the open one
@@ -66,7 +67,7 @@ HoldsFields-pushed : (groups : List (List ℕ)) (group : List ℕ) (number : ℕ
     → HoldsFields (groups ++ (group ++ number ∷ []) ∷ []) [] 0
 HoldsFields-pushed groups group number h room = record {
   few = omega (arith, h.few, room, length-concat_push groups (group ++ number ∷ []), length-append group (number ∷ []));
-  closed = AllByRecursion-push IsClosedGroup groups (group ++ number ∷ []) h.closed (closed_group group number h.opened h.number_fits);
+  closed = AllByRecursion-push IsGroup groups (group ++ number ∷ []) h.closed (closed_group group number h.opened h.number_fits);
   opened = tt;
   number_fits = omega arith;
   last = λ e. refl;
@@ -136,23 +137,24 @@ module _ (phase : Phase) (b : ℕ) (m : Machine (List ℕ)) (h : HoldsHeader pha
       record {
         fields = h.fields;
         collected = h.collected;
-        comes = omega (arith, length-append h.collected.marker h.collected.others, h.collected.one);
+        comes = phase_from-intermediates h.collected.others h.collected.others_are (omega (arith, length-append h.collected.marker h.collected.others, h.collected.one));
         ignores = λ i. inr long;
       }
-  collecting_by-holds false e is = record {
-    fields = h.fields;
-    collected = record {
-      marker = h.collected.marker;
-      others = h.collected.others ++ b ∷ [];
-      whole = ap (λ bytes. bytes ++ b ∷ []) h.collected.whole ∙ append_assoc h.collected.marker h.collected.others (b ∷ []);
-      one = h.collected.one;
-      marker_is = h.collected.marker_is;
-      others_are = EachIs-push is_intermediate h.collected.others b h.collected.others_are is;
-      fit = omega (arith, h.collected.fit, eqb-false (length m.collected) max_collected e, length-append m.collected (b ∷ []));
-    };
-    comes = omega (arith, length-append h.collected.others (b ∷ []));
-    ignores = λ i. ⊎_elim (λ full. inl full) (λ long. absurd (eqb-false (length m.collected) max_collected e long)) (h.ignores i);
-  }
+  collecting_by-holds false e is =
+      let more = EachIs-push is_intermediate h.collected.others b h.collected.others_are is in record {
+        fields = h.fields;
+        collected = record {
+          marker = h.collected.marker;
+          others = h.collected.others ++ b ∷ [];
+          whole = ap (λ bytes. bytes ++ b ∷ []) h.collected.whole ∙ append_assoc h.collected.marker h.collected.others (b ∷ []);
+          one = h.collected.one;
+          marker_is = h.collected.marker_is;
+          others_are = more;
+          fit = omega (arith, h.collected.fit, eqb-false (length m.collected) max_collected e, length-append m.collected (b ∷ []));
+        };
+        comes = phase_from-intermediates (h.collected.others ++ b ∷ []) more (omega (arith, length-append h.collected.others (b ∷ [])));
+        ignores = λ i. ⊎_elim (λ full. inl full) (λ long. absurd (eqb-false (length m.collected) max_collected e long)) (h.ignores i);
+      }
 
   collecting-holds : IsTrue (is_intermediate b) → HoldsHeader in_intermediates (collecting b m)
   collecting-holds is = collecting_by-holds (length m.collected == max_collected) refl is

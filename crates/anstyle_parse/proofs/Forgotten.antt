@@ -8,18 +8,19 @@ use Rattle.anstyle_parse.specs.Bytes.{is_within, is_cancel, escape_byte}
 use Rattle.anstyle_parse.specs.Characters.{is_front, is_proper_front}
 use Rattle.anstyle_parse.specs.Call.{Call}
 use Rattle.anstyle_parse.specs.Calls.{AreCalls, Continues}
-use Rattle.anstyle_parse.specs.Items.{Body, escape, begun, IsDivision, EachIs}
+use Rattle.anstyle_parse.specs.Items.{Body, escape, EachIs}
 use Rattle.anstyle_parse.specs.Decoder.{decoded}
 use Rattle.anstyle_parse.specs.Machine.{Machine, new_machine, machine_after, machine_calls}
 use Rattle.anstyle_parse.specs.Stands.{counted, StandsAfter, EndsInCharacter}
 use Rattle.anstyle_parse.proofs.Classes.{Class, cancel_byte, class_below, class_of, is_cancel_at, is_cancel-class}
-use Rattle.anstyle_parse.proofs.Divide.{Open, nothing, front, inside, start, grow, grow_body, divide, done_items, last_items, open_after}
-use Rattle.anstyle_parse.proofs.DivisionSplit.{open_after-append, divide-split}
+use Rattle.anstyle_parse.proofs.Divide.{Open, nothing, front, inside, start, grow, grow_body, open_after}
+use Rattle.anstyle_parse.proofs.DivisionSplit.{open_after-append}
 use Rattle.anstyle_parse.proofs.CharacterLemmas.{EachIs-front, is_proper_front-nil}
-use Rattle.anstyle_parse.proofs.DivisionExists.{IsOpen, IsOpen-open_after, IsDivision-divide}
+use Rattle.anstyle_parse.proofs.DivisionExists.{IsOpen, IsOpen-open_after}
 use Rattle.anstyle_parse.proofs.DivisionOnly.{AreCalls-only, grow-broken}
 use Rattle.anstyle_parse.proofs.StandCounted.{counted-machine}
 use Rattle.anstyle_parse.proofs.StandValues.{value_at}
+use Rattle.anstyle_parse.proofs.CharacterEnds.{EndsInCharacter-state}
 use Rattle.anstyle_parse.proofs.Stands.{machine-division, StandsAfter-value, StandsAfter-state, AreCalls-machine, Continues-machine}
 
 -- a machine of which what counts is what an open item leaves stands after the bytes that leave it
@@ -94,17 +95,6 @@ cancel_ends (inside body) b is outside = cancel_body_next body b (class_of b) (s
 front_state : (h : List ℕ) → ((machine_after decoded h (new_machine [])).state ≡ Utf8 → ⊥) → (bytes : List ℕ) → open_after nothing h ≡ front bytes → ⊥
 front_state h outside bytes e = outside ((StandsAfter-state (machine_after decoded h (new_machine [])) h refl).1 (bytes, e))
 
--- and the list ends in a character
-pub EndsInCharacter-open : (h bytes : List ℕ) → open_after nothing h ≡ front bytes → EndsInCharacter h
-EndsInCharacter-open h bytes e =
-    let same : divide nothing h ≡ done_items nothing h ++ begun bytes ∷ [] = divide-split nothing h ∙ ap (λ o. done_items nothing h ++ last_items o) e in
-    (done_items nothing h, bytes, subst (λ items. IsDivision items h) same (IsDivision-divide h))
-
-pub EndsInCharacter-Utf8 : (h : List ℕ) → (machine_after decoded h (new_machine [])).state ≡ Utf8 → EndsInCharacter h
-EndsInCharacter-Utf8 h e =
-    let inner = (StandsAfter-state (machine_after decoded h (new_machine [])) h refl).0 e in
-    EndsInCharacter-open h inner.0 inner.1
-
 -- Outside a character one ESC is enough.
 pub forgotten_once : (m : Machine (List ℕ)) (h : List ℕ) → ((machine_after decoded h (new_machine [])).state ≡ Utf8 → ⊥)
     → StandsAfter m (h ++ escape_byte ∷ []) → StandsAfter m (escape_byte ∷ [])
@@ -120,10 +110,10 @@ cancelled_is_new m h b is outside stands =
 
 -- both of lists that do not end in a character
 pub forgotten_once-outside : (m : Machine (List ℕ)) (h : List ℕ) → (EndsInCharacter h → ⊥) → StandsAfter m (h ++ escape_byte ∷ []) → StandsAfter m (escape_byte ∷ [])
-forgotten_once-outside m h outside = forgotten_once m h (λ e. outside (EndsInCharacter-Utf8 h e))
+forgotten_once-outside m h outside = forgotten_once m h (λ e. outside ((EndsInCharacter-state (machine_after decoded h (new_machine [])) h refl).0 e))
 
 pub cancelled_is_new-outside : (m : Machine (List ℕ)) (h : List ℕ) (b : ℕ) → IsTrue (is_cancel b) → (EndsInCharacter h → ⊥) → StandsAfter m (h ++ b ∷ []) → StandsAfter m []
-cancelled_is_new-outside m h b is outside = cancelled_is_new m h b is (λ e. outside (EndsInCharacter-Utf8 h e))
+cancelled_is_new-outside m h b is outside = cancelled_is_new m h b is (λ e. outside ((EndsInCharacter-state (machine_after decoded h (new_machine [])) h refl).0 e))
 
 -- machines of which the same counts make the same calls for all bytes
 pub same_calls : (m n : Machine (List ℕ)) → counted m ≡ counted n → (bytes : List ℕ) → machine_calls decoded bytes m ≡ machine_calls decoded bytes n

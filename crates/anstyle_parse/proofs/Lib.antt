@@ -24,9 +24,6 @@ pub mod StandHeaders
 pub mod StandStrings
 pub mod Stands
 pub mod Fronts
-pub mod Forgotten
-pub mod CheckpointHeld
-pub mod CheckpointFields
 pub mod Seen
 pub mod Unseen
 pub mod CallCounts
@@ -52,3 +49,7 @@ pub mod CanonTwice
 pub mod CanonBytes
 pub mod OutputLemmas
 pub mod PieceLemmas
+pub mod Forgotten
+pub mod CheckpointHeld
+pub mod CheckpointFields
+pub mod CheckpointHeader

@@ -1,41 +1,40 @@
 -- A text after which a new parser stands as a given one: what counts of its values, in bytes.
-use Rattle.std.specs.Prelude.{ℕ, ◌==◌, List, [], ◌∷◌, ◌++◌, map, filter, if◌then◌else◌}
-use Rattle.std.specs.List.{flat_map, join_with_byte}
-use Rattle.std.specs.Fmt.{decimal}
+use Rattle.std.specs.Prelude.{ℕ, ◌==◌, List, [], ◌∷◌, ◌++◌, decimal, if◌then◌else◌}
+use Rattle.std.specs.List.{flat_map}
 use Rattle.anstyle_parse.specs.declared.state.definitions.State.{State}
 use Rattle.anstyle_parse.specs.declared.state.definitions.State.TheVariants.{Anywhere, CsiEntry, CsiIgnore, CsiIntermediate, CsiParam, DcsEntry, DcsIgnore, DcsIntermediate, DcsParam, DcsPassthrough, Escape, EscapeIntermediate, Ground, OscString, SosPmApcString, Utf8}
-use Rattle.anstyle_parse.specs.Bytes.{is_marker, is_intermediate, colon, semicolon, escape_byte}
-use Rattle.anstyle_parse.specs.Arguments.{max_fields}
+use Rattle.anstyle_parse.specs.Bytes.{colon, semicolon, escape_byte}
+use Rattle.anstyle_parse.specs.Arguments.{max_fields, after_marker}
+use Rattle.anstyle_parse.specs.Groups.{groups_text, shown_groups}
 use Rattle.anstyle_parse.specs.Machine.{Machine, field_count}
+use Rattle.anstyle_parse.specs.Canon.{leading_marker, escape_text}
 
 -- the byte, where the parser is ignoring: there it sets `ignoring` again, and does nothing else
 abbrev pub ignored_byte : ℕ → Machine (List ℕ) → List ℕ
 ignored_byte b m = if m.ignoring then b ∷ [] else []
 
--- a closed group: 3A stored each field but the last, and 3B the last
-abbrev pub group_so_far : List ℕ → List ℕ
-group_so_far group = join_with_byte colon (map decimal group) ++ semicolon ∷ []
-
--- a field of the group that is open: 3A stored it
-abbrev pub field_so_far : ℕ → List ℕ
-field_so_far field = decimal field ++ colon ∷ []
+-- what stored the last field: 3A, where its group is open, or 3B, where it is closed
+abbrev pub last_separator : List (List ℕ) → List ℕ → List ℕ
+last_separator closed (field ∷ fields) = colon ∷ []
+last_separator (group ∷ groups) [] = semicolon ∷ []
+last_separator [] [] = []
 
 -- the stored fields, each with the separator that stored it
 abbrev pub fields_so_far : Machine (List ℕ) → List ℕ
-fields_so_far m = flat_map group_so_far m.closed_groups ++ flat_map field_so_far m.open_group
+fields_so_far m = groups_text (shown_groups m.closed_groups m.open_group) ++ last_separator m.closed_groups m.open_group
 
 -- The number and the intermediates. With 32 fields stored the number is 0, and a parameter
--- byte, like 3B, only sets `ignoring`. With fewer the number has always a digit, so that the
--- state behind it is not that of an empty header, and `ignoring` comes of a third byte to
--- collect, like 20.
+-- byte, like 3B, only sets `ignoring`. With fewer, the number has at least one digit, so that
+-- the state is not that of an empty header, and a third byte to collect, like 20, only sets
+-- `ignoring`.
 abbrev pub number_so_far : Machine (List ℕ) → List ℕ
 number_so_far m =
-    if field_count m == max_fields then ignored_byte semicolon m ++ filter is_intermediate m.collected
-    else decimal m.number ++ (filter is_intermediate m.collected ++ ignored_byte 0x20 m)
+    if field_count m == max_fields then ignored_byte semicolon m ++ after_marker m.collected
+    else decimal m.number ++ (after_marker m.collected ++ ignored_byte 0x20 m)
 
 -- a header: the marker, if there is one, the fields, the number and the intermediates
 abbrev pub header_so_far : Machine (List ℕ) → List ℕ
-header_so_far m = filter is_marker m.collected ++ (fields_so_far m ++ number_so_far m)
+header_so_far m = leading_marker m.collected ++ (fields_so_far m ++ number_so_far m)
 
 -- the text of an operating system command: 3B closed each part
 abbrev pub text_so_far : Machine (List ℕ) → List ℕ
@@ -47,9 +46,9 @@ abbrev pub checkpoint_in : State → Machine (List ℕ) → List ℕ
 checkpoint_in Ground m = []
 -- the bytes of the character that is begun
 checkpoint_in Utf8 m = m.accumulator
--- ESC, and for a third intermediate 20
+-- ESC, and 20 for a third intermediate
 checkpoint_in Escape m = escape_byte ∷ []
-checkpoint_in EscapeIntermediate m = escape_byte ∷ (m.collected ++ ignored_byte 0x20 m)
+checkpoint_in EscapeIntermediate m = escape_byte ∷ escape_text m.collected m.ignoring
 -- ESC [, and a marker behind a parameter byte has not the shape of a header
 checkpoint_in CsiEntry m = escape_byte ∷ 0x5B ∷ []
 checkpoint_in CsiParam m = escape_byte ∷ 0x5B ∷ header_so_far m

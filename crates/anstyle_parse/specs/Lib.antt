@@ -11,12 +11,12 @@ pub mod Params
 pub mod Machine
 pub mod Decoder
 pub mod Stands
-pub mod Checkpoint
 pub mod Parser
 pub mod Front
 pub mod Accumulator
 pub mod Decoding
 pub mod Canon
+pub mod Checkpoint
 pub mod Lawful
 pub mod Devices
 pub mod Output

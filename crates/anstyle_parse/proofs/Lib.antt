@@ -53,3 +53,5 @@ pub mod Forgotten
 pub mod CheckpointHeld
 pub mod CheckpointFields
 pub mod CheckpointHeader
+pub mod CheckpointText
+pub mod Checkpoint

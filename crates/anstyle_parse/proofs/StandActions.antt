@@ -44,7 +44,7 @@ abbrev with_part_by : {A : Type 0} → Bool → Machine A → Machine A
 with_part_by full m = if full then m else record m { closed_parts = m.closed_parts ++ m.open_part ∷ []; open_part = [] }
 
 -- full: 1024 bytes; then whether the byte separates parts, and whether there are sixteen
-abbrev storing_by : {A : Type 0} → Bool → Bool → Bool → ℕ → Machine A → Machine A
+abbrev pub storing_by : {A : Type 0} → Bool → Bool → Bool → ℕ → Machine A → Machine A
 storing_by full separates parts_full b m =
     if full then m else if separates then with_part_by parts_full m else record m { open_part = m.open_part ++ b ∷ [] }
 

@@ -1,17 +1,16 @@
 -- A new machine that takes the checkpoint of a machine stands as that one does.
-use Rattle.std.proofs.Common.{◌≡◌, ℕ, ◌<◌, ◌≤◌, Bool, true, false, ◌||◌, List, [], ◌∷◌, ◌++◌, length, take, refl, sym, ap, ap₂, ◌∙◌, subst, cond, length-append, arith, IsTrue}
+use Rattle.std.proofs.Common.{◌≡◌, ℕ, ◌≤◌, Bool, true, false, ◌||◌, List, [], ◌∷◌, length, take, refl, sym, ap, ap₂, ◌∙◌, subst, cond, arith, IsTrue}
 use Rattle.std.specs.Prelude.{nat_lt, filter}
 use Rattle.std.specs.List.{list_any}
 use Rattle.std.proofs.lemmas.Bool.{or_parts, or_left, or_right, cond-false, both_ways, lt-ltb}
 use Rattle.anstyle_parse.specs.declared.state.definitions.State.{State}
-use Rattle.anstyle_parse.specs.declared.state.definitions.State.TheVariants.{Anywhere, CsiEntry, CsiIgnore, CsiIntermediate, CsiParam, DcsEntry, DcsIgnore, DcsIntermediate, DcsParam, DcsPassthrough, Escape, EscapeIntermediate, Ground, OscString, SosPmApcString, Utf8}
+use Rattle.anstyle_parse.specs.declared.state.definitions.State.TheVariants.{CsiIgnore, DcsIgnore, DcsPassthrough, Escape, EscapeIntermediate, Ground, OscString, SosPmApcString}
 use Rattle.anstyle_parse.specs.Bytes.{is_within, is_intermediate, is_parameter, is_marker, is_significant, is_noise, escape_byte}
-use Rattle.anstyle_parse.specs.Characters.{is_proper_front}
 use Rattle.anstyle_parse.specs.Arguments.{significant, has_shape, max_collected}
 use Rattle.anstyle_parse.specs.Items.{Body, escape, control, device, hooked, dropped, command, ignored, EachIs, IsBody, body_text}
 use Rattle.anstyle_parse.specs.Decoder.{decoded}
 use Rattle.anstyle_parse.specs.Decoding.{length-proper_front-lt}
-use Rattle.anstyle_parse.specs.Machine.{Machine, new_machine, machine_after}
+use Rattle.anstyle_parse.specs.Machine.{Machine, new_machine, machine_after, machine_calls}
 use Rattle.anstyle_parse.specs.Stands.{counted, counted_in, StandsAfter}
 use Rattle.anstyle_parse.specs.Canon.{escape_text}
 use Rattle.anstyle_parse.specs.Checkpoint.{header_so_far, text_so_far, checkpoint_in, checkpoint_text}
@@ -20,7 +19,7 @@ use Rattle.anstyle_parse.proofs.Divide.{Open, nothing, front, inside, grow, open
 use Rattle.anstyle_parse.proofs.DivisionExists.{IsOpen, IsOpen-open_after}
 use Rattle.anstyle_parse.proofs.DivisionRuns.{Runs-body, Runs-front}
 use Rattle.anstyle_parse.proofs.DivisionHeaders.{EachIs-weaker}
-use Rattle.anstyle_parse.proofs.HeaderFold.{without_collected, header_after-intermediates, escape_collected, escape_ignoring}
+use Rattle.anstyle_parse.proofs.HeaderFold.{header_after-intermediates, escape_collected, escape_ignoring}
 use Rattle.anstyle_parse.proofs.TextFold.{text_after}
 use Rattle.anstyle_parse.proofs.CanonLists.{EachIs-filter, filter_all}
 use Rattle.anstyle_parse.proofs.LawfulLists.{AllByRecursion-take}
@@ -29,8 +28,8 @@ use Rattle.anstyle_parse.proofs.StandActions.{plain, headed, texted}
 use Rattle.anstyle_parse.proofs.StandCounted.{counted_in-state}
 use Rattle.anstyle_parse.proofs.StandValues.{Phase, at_entry, in_parameters, in_intermediates, misfit, phase_of, fits, fits-phase_of, control_value, device_value, registers, escape_state, body_value, value_at}
 use Rattle.anstyle_parse.proofs.Stands.{StandsAfter-value}
-use Rattle.anstyle_parse.proofs.Forgotten.{StandsAfter-from_value}
-use Rattle.anstyle_parse.proofs.CheckpointHeld.{Held, HoldsHeader, Held-registers}
+use Rattle.anstyle_parse.proofs.Forgotten.{StandsAfter-from_value, same_calls}
+use Rattle.anstyle_parse.proofs.CheckpointHeld.{Held, Held-registers}
 use Rattle.anstyle_parse.proofs.CheckpointFields.{filled}
 use Rattle.anstyle_parse.proofs.CheckpointHeader.{Replays, Replays-header}
 use Rattle.anstyle_parse.proofs.CheckpointText.{HoldsText-registers, text_after-text_so_far, EachIs-text_so_far, length-text_so_far}
@@ -40,6 +39,7 @@ checkpoint_in-counted : (state : State) (m : Machine (List ℕ)) → checkpoint_
 checkpoint_in-counted Ground m = refl
 checkpoint_in-counted state m = refl
 
+-- so machines of which the same counts have the same checkpoint
 checkpoint_text-counted : (m : Machine (List ℕ)) → checkpoint_text m ≡ checkpoint_text (counted m)
 checkpoint_text-counted m = checkpoint_in-counted m.state m ∙ ap (λ state. checkpoint_in state (counted m)) (sym (counted_in-state m.state m))
 
@@ -70,6 +70,7 @@ registers-intermediates bytes each =
 abbrev first_intermediates : List ℕ → List ℕ
 first_intermediates bytes = escape_text (take max_collected bytes) (nat_lt max_collected (length bytes))
 
+-- of these the same are collected as of all, and the flag is the same
 first-same : (bytes : List ℕ) → (take max_collected (first_intermediates bytes) ≡ take max_collected bytes) × (nat_lt max_collected (length (first_intermediates bytes)) ≡ nat_lt max_collected (length bytes))
 unfolding escape_text
 first-same [] = (refl, refl)
@@ -92,6 +93,7 @@ first-some [] first some = absurd (some refl)
 first-some (a ∷ []) first some = or_left (is_intermediate a) false first.0
 first-some (a ∷ b ∷ bytes) first some = or_left (is_intermediate a) _ first.0
 
+-- and they are at most three
 length-first : (bytes : List ℕ) → length (first_intermediates bytes) ≤ 3
 unfolding escape_text
 length-first [] = omega arith
@@ -108,6 +110,7 @@ list_any-by : (test : ℕ → Bool) (b : ℕ) (bytes : List ℕ) (answer : Bool)
 list_any-by test b bytes true rest e = cc
 list_any-by test b bytes false rest e = rest e
 
+-- for the whole list
 list_any-filter : (test : ℕ → Bool) (bytes : List ℕ) → filter test bytes ≡ [] → list_any test bytes ≡ false
 list_any-filter test [] e = refl
 list_any-filter test (b ∷ bytes) e = list_any-by test b bytes (test b) (list_any-filter test bytes) e
@@ -152,6 +155,7 @@ saves_misfit : Saves (escape_byte ∷ 0x5B ∷ 0x30 ∷ 0x3C ∷ []) (plain CsiI
 unfolding grow class_of class_below is_marker is_parameter is_intermediate is_significant is_within
 saves_misfit = record { reaches = refl; short = omega arith }
 
+-- a control sequence, by the phase of its header
 saves_control : (phase : Phase) (m : Machine (List ℕ)) → Held phase m → Saves (checkpoint_text (control_value phase m)) (control_value phase m)
 saves_control at_entry m h = Saves-body (control [] []) (control_value at_entry m) (tt, tt) (ap (λ r. control_value at_entry r) (sym h)) (omega arith)
 saves_control in_parameters m h = Saves-control in_parameters (header_so_far m) m (Replays-header in_parameters m h)
@@ -171,6 +175,7 @@ saves_dropped : Saves (escape_byte ∷ 0x50 ∷ 0x30 ∷ 0x3C ∷ []) (plain Dcs
 unfolding grow class_of class_below is_marker is_parameter is_intermediate is_significant is_within
 saves_dropped = record { reaches = refl; short = omega arith }
 
+-- a device control string, by the phase of its header
 saves_device : (phase : Phase) (m : Machine (List ℕ)) → Held phase m → Saves (checkpoint_text (device_value phase m)) (device_value phase m)
 saves_device at_entry m h = Saves-body (device [] []) (device_value at_entry m) (tt, tt, refl) (ap (λ r. device_value at_entry r) (sym h)) (omega arith)
 saves_device in_parameters m h = Saves-device in_parameters (header_so_far m) m refl (Replays-header in_parameters m h)
@@ -182,6 +187,7 @@ saves_hooked : Saves (escape_byte ∷ 0x50 ∷ 0x40 ∷ []) (plain DcsPassthroug
 unfolding grow class_of class_below
 saves_hooked = record { reaches = refl; short = omega arith }
 
+-- a string of another kind
 saves_ignored : Saves (escape_byte ∷ 0x58 ∷ []) (plain SosPmApcString [])
 unfolding grow class_of class_below
 saves_ignored = record { reaches = refl; short = omega arith }
@@ -204,6 +210,7 @@ saves_inside (dropped lead header byte text) = saves_dropped
 saves_inside (command lead text) = saves_command text
 saves_inside (ignored lead kind text) = saves_ignored
 
+-- nothing, a character that is begun, a sequence
 saves_open : (o : Open) → IsOpen o → Saves (checkpoint_text (value_at o)) (value_at o)
 saves_open nothing is = record { reaches = refl; short = omega arith }
 saves_open (front bytes) is = record { reaches = ap value_at (Runs-front bytes is).reaches; short = omega (arith, length-proper_front-lt bytes is) }
@@ -224,3 +231,8 @@ checkpoint_stands h m stands = StandsAfter-from_value m (checkpoint_text m) (sym
 -- The checkpoint has at most 1042 bytes.
 pub length-checkpoint : (h : List ℕ) (m : Machine (List ℕ)) → StandsAfter m h → length (checkpoint_text m) ≤ 1042
 length-checkpoint h m stands = (saves_machine h m stands).short
+
+-- So a new machine that takes the checkpoint goes on exactly as the given one.
+pub checkpoint_calls : (h : List ℕ) (m : Machine (List ℕ)) → StandsAfter m h → (bytes : List ℕ)
+    → machine_calls decoded bytes (machine_after decoded (checkpoint_text m) (new_machine [])) ≡ machine_calls decoded bytes m
+checkpoint_calls h m stands = same_calls (machine_after decoded (checkpoint_text m) (new_machine [])) m (sym (checkpoint_stands h m stands))

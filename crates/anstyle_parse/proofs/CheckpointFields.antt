@@ -1,5 +1,5 @@
 -- Fields in decimal, with the separators that store them, are stored again.
-use Rattle.std.proofs.Common.{◌≡◌, ℕ, ◌+◌, ◌-◌, ◌*◌, ◌/◌, ◌%◌, ◌^◌, ◌<◌, ◌≤◌, Bool, true, false, List, [], ◌∷◌, ◌++◌, length, map, min, eqb, refl, sym, ap, ◌∙◌, subst, cond, append_assoc, append-nil, length-append, lt_of_le_of_lt, lit<, arith}
+use Rattle.std.proofs.Common.{◌≡◌, ℕ, ◌+◌, ◌-◌, ◌*◌, ◌/◌, ◌%◌, ◌^◌, ◌<◌, ◌≤◌, Bool, true, List, [], ◌∷◌, ◌++◌, length, map, eqb, refl, sym, ap, ◌∙◌, subst, cond, append_assoc, append-nil, length-append, lt_of_le_of_lt, lit<, arith}
 use Rattle.std.specs.Prelude.{◌==◌, IsTrue}
 use Rattle.std.specs.List.{AllByRecursion, concat, flat_map, join_with_byte}
 use Rattle.std.specs.Fmt.{decimal}
@@ -18,7 +18,7 @@ use Rattle.anstyle_parse.proofs.Splits.{length-concat_push}
 use Rattle.anstyle_parse.proofs.DivisionHeaders.{EachIs-append}
 use Rattle.anstyle_parse.proofs.CanonFields.{semicolon_is}
 use Rattle.anstyle_parse.proofs.HeaderBytes.{next_number}
-use Rattle.anstyle_parse.proofs.HeaderFold.{header_step, header_after, header_after-append}
+use Rattle.anstyle_parse.proofs.HeaderFold.{header_after, header_after-append}
 use Rattle.anstyle_parse.proofs.CheckpointHeld.{AreFields, HoldsFields}
 
 -- a new machine with these registers of a header
@@ -31,6 +31,7 @@ pub record Writes (text : List ℕ) (m next : Machine (List ℕ)) : Type 0 where
   pub each : EachIs is_parameter text
   pub after : header_after text m ≡ next
 
+-- some parameter bytes after others
 pub Writes-append : (first second : List ℕ) (m n next : Machine (List ℕ)) → Writes first m n → Writes second n next → Writes (first ++ second) m next
 Writes-append first second m n next a b = record {
   each = EachIs-append is_parameter first second a.each b.each;
@@ -41,19 +42,21 @@ Writes-append first second m n next a b = record {
 pub Writes-one : (b : ℕ) (m next : Machine (List ℕ)) → IsTrue (is_parameter b) → with_parameter b m ≡ next → Writes (b ∷ []) m next
 Writes-one b m next is e = record { each = (is, tt); after = cond-true (is_parameter b) (with_parameter b m) (collecting b m) is ∙ e }
 
--- the digits, and the separators
+-- a digit is a parameter byte
 digit_is : (d : ℕ) → d ≤ 9 → is_parameter (48 + d) ≡ true
 unfolding is_parameter is_within
 digit_is d small = and_from _ _ (le-leb 0x30 (48 + d) (omega arith)) (le-leb (48 + d) 0x3B (omega arith))
 
+-- 3A is a parameter byte
 colon_is : is_parameter colon ≡ true
 unfolding is_parameter is_within
 colon_is = refl
 
--- a field is below all that `decimal` writes
+-- a field is within what `decimal` writes
 below : (n : ℕ) → n ≤ max_field → n < 2 ^ 64
 below n small = lt_of_le_of_lt small (lit< tt)
 
+-- and has at most five digits
 pub length-field : (n : ℕ) → n ≤ max_field → length (decimal n) ≤ 5
 length-field n small = length-decimal-le 5 n (omega arith) (omega arith) (below n small)
 
@@ -69,6 +72,7 @@ module _ (collected : List ℕ) (ignoring : Bool) (groups : List (List ℕ)) (gr
       (cond (b == colon) (filled collected ignoring groups (group ++ number ∷ []) 0) (at_number (next_number number b)))
   with_parameter-room b number = cond-false (eqb (length (concat groups) + length group) max_fields) _ _ (ne_eqb (length (concat groups) + length group) max_fields room)
 
+  -- one more digit
   Writes-digit : (d number next : ℕ) → d ≤ 9 → next_number number (48 + d) ≡ next → Writes ((48 + d) ∷ []) (at_number number) (at_number next)
   Writes-digit d number next small e =
       Writes-one (48 + d) (at_number number) (at_number next) (digit_is d small)
@@ -86,10 +90,11 @@ module _ (collected : List ℕ) (ignoring : Bool) (groups : List (List ℕ)) (gr
       (Writes-digit (k % 10) (k / 10) k (omega arith) (omega arith)))
       n (below n small) small
 
-  -- a separator behind it
+  -- 3A behind it, which stores it in the open group
   Writes-colon : (n : ℕ) → Writes (colon ∷ []) (at_number n) (filled collected ignoring groups (group ++ n ∷ []) 0)
   Writes-colon n = Writes-one colon (at_number n) (filled collected ignoring groups (group ++ n ∷ []) 0) colon_is (with_parameter-room colon n)
 
+  -- and 3B, which closes the group
   Writes-semicolon : (n : ℕ) → Writes (semicolon ∷ []) (at_number n) (filled collected ignoring (groups ++ (group ++ n ∷ []) ∷ []) [] 0)
   Writes-semicolon n = Writes-one semicolon (at_number n) (filled collected ignoring (groups ++ (group ++ n ∷ []) ∷ []) [] 0) semicolon_is (with_parameter-room semicolon n)
 
@@ -98,9 +103,11 @@ pub record Stores (text : List ℕ) (m next : Machine (List ℕ)) : Type 0 where
   pub writes : Writes text m next
   pub size : length text + 6 * field_count m ≤ 6 * field_count next
 
+-- no byte, where both machines are the same
 Stores-none : (m next : Machine (List ℕ)) → m ≡ next → Stores [] m next
 Stores-none m next e = record { writes = record { each = tt; after = e }; size = omega (arith, ap (λ (r : Machine (List ℕ)). field_count r) e) }
 
+-- some fields after others
 pub Stores-append : (first second : List ℕ) (m n next : Machine (List ℕ)) → Stores first m n → Stores second n next → Stores (first ++ second) m next
 Stores-append first second m n next a b = record {
   writes = Writes-append first second m n next a.writes b.writes;
@@ -131,6 +138,7 @@ module _ (collected : List ℕ) (ignoring : Bool) where
         size = omega (arith, length-append (decimal n) (colon ∷ []), length-field n small, length-append group (n ∷ []));
       }
 
+  -- the last field of a group that is closed
   Stores-last : (groups : List (List ℕ)) (group : List ℕ) (n : ℕ) → length (concat groups) + length group < max_fields → n ≤ max_field
       → Stores (decimal n ++ semicolon ∷ []) (holding groups group) (holding (groups ++ (group ++ n ∷ []) ∷ []) [])
   Stores-last groups group n few small =
@@ -193,6 +201,7 @@ join_with_byte-each c x (y ∷ xs) =
     append_assoc x (c ∷ join_with_byte c (y ∷ xs)) (c ∷ [])
     ∙ (ap (λ list. x ++ c ∷ list) (join_with_byte-each c y xs) ∙ sym (append_assoc x (c ∷ []) (flat_map (λ list. list ++ c ∷ []) (y ∷ xs))))
 
+-- the lists before the last, each with the byte behind it
 join_with_byte-last : (c : ℕ) (xs : List (List ℕ)) (y : List ℕ) → join_with_byte c (xs ++ y ∷ []) ≡ flat_map (λ list. list ++ c ∷ []) xs ++ y
 join_with_byte-last c [] y = refl
 join_with_byte-last c (x ∷ []) y = sym (ap (λ list. list ++ y) (append-nil (x ++ c ∷ [])) ∙ append_assoc x (c ∷ []) y)

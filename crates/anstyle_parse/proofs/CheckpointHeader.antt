@@ -1,24 +1,24 @@
 -- The text of a header so far leads a new machine to the same registers and the same phase.
-use Rattle.std.proofs.Common.{◌≡◌, ℕ, ◌+◌, ◌*◌, ◌<◌, ◌≤◌, ⊎_elim, Bool, true, false, not, List, [], ◌∷◌, ◌++◌, length, eqb, refl, sym, ap, ap₂, ◌∙◌, subst, cond, append_assoc, append-nil, length-append, lt_of_le_of_lt, lit<, ◌^◌, arith}
-use Rattle.std.specs.Prelude.{◌==◌, IsTrue, decimal}
+use Rattle.std.proofs.Common.{◌≡◌, ℕ, ◌+◌, ◌*◌, ◌<◌, ◌≤◌, ⊎_elim, Bool, true, false, not, List, [], ◌∷◌, ◌++◌, length, eqb, refl, sym, ap, ap₂, ◌∙◌, subst, cond, append_assoc, append-nil, length-append, lt_of_le_of_lt, lit<, arith}
+use Rattle.std.specs.Prelude.{◌==◌, decimal}
 use Rattle.std.specs.List.{concat}
-use Rattle.std.proofs.lemmas.Bool.{cond-true, cond-false, eq-eqb, ne_eqb, eqb-true, eqb-false, not-true, both_ways}
+use Rattle.std.proofs.lemmas.Bool.{cond-true, cond-false, eq-eqb, ne_eqb, eqb-true, eqb-false, not-true}
 use Rattle.std.proofs.lemmas.List.{append_cancel_right}
 use Rattle.std.proofs.lemmas.Fmt.{decimal_nonempty}
 use Rattle.anstyle_parse.specs.Bytes.{is_intermediate, is_parameter, is_marker, semicolon}
-use Rattle.anstyle_parse.specs.Arguments.{max_fields, max_field, max_collected, after_marker, significant, has_shape}
+use Rattle.anstyle_parse.specs.Arguments.{max_fields, max_collected, after_marker, significant}
 use Rattle.anstyle_parse.specs.Items.{EachIs, is_header_byte}
 use Rattle.anstyle_parse.specs.Machine.{Machine, new_machine, field_count, with_parameter, collecting}
 use Rattle.anstyle_parse.specs.Canon.{leading_marker}
-use Rattle.anstyle_parse.specs.Checkpoint.{ignored_byte, fields_so_far, number_so_far, header_so_far}
+use Rattle.anstyle_parse.specs.Checkpoint.{ignored_byte, fields_so_far, header_so_far}
 use Rattle.anstyle_parse.proofs.DivisionHeaders.{EachIs-append, EachIs-weaker}
 use Rattle.anstyle_parse.proofs.HeaderBytes.{is_parameter-intermediate}
-use Rattle.anstyle_parse.proofs.HeaderFold.{header_step, header_after, header_after-append}
+use Rattle.anstyle_parse.proofs.HeaderFold.{header_after, header_after-append}
 use Rattle.anstyle_parse.proofs.CanonHeaders.{IsInOrder, in_order, space_is, marker-not_parameter, intermediate-not_marker, after_marker-in_order, header_bytes, significant-in_order}
 use Rattle.anstyle_parse.proofs.CanonFields.{semicolon_is}
 use Rattle.anstyle_parse.proofs.CanonShown.{leading_marker-after_marker}
 use Rattle.anstyle_parse.proofs.StandValues.{Phase, at_entry, in_parameters, in_intermediates, misfit, phase_by, phase_from, phase_of, registers}
-use Rattle.anstyle_parse.proofs.CheckpointHeld.{HoldsFields, HoldsCollected, HoldsHeader, phase_from-intermediates}
+use Rattle.anstyle_parse.proofs.CheckpointHeld.{HoldsHeader, phase_from-intermediates}
 use Rattle.anstyle_parse.proofs.CheckpointFields.{filled, Writes, Writes-append, Writes-one, Writes-decimal, Stores-fields_so_far, length-field}
 
 -- A header that leads a new machine to these registers, and to this phase.
@@ -34,12 +34,13 @@ phase_from-append : (phase : Phase) (first second : List ℕ) → phase_from pha
 phase_from-append phase [] second = refl
 phase_from-append phase (b ∷ first) second = phase_from-append (phase_by phase (is_marker b) (is_parameter b) (is_intermediate b)) first second
 
--- parameter bytes behind parameter bytes, or at the beginning
+-- parameter bytes behind parameter bytes
 phase_from-parameters : (bytes : List ℕ) → EachIs is_parameter bytes → phase_from in_parameters bytes ≡ in_parameters
 phase_from-parameters [] each = refl
 phase_from-parameters (b ∷ bytes) each =
     ap (λ t. phase_from (cond t in_parameters (cond (is_intermediate b) in_intermediates misfit)) bytes) each.0 ∙ phase_from-parameters bytes each.1
 
+-- parameter bytes at the beginning
 phase_of-parameters : (bytes : List ℕ) → EachIs is_parameter bytes → 0 < length bytes → phase_of bytes ≡ in_parameters
 phase_of-parameters [] each some = absurd (omega arith)
 phase_of-parameters (b ∷ bytes) each some =
@@ -108,24 +109,27 @@ length-ignored : (b : ℕ) (ignoring : Bool) → length (cond ignoring (b ∷ []
 length-ignored b true = omega arith
 length-ignored b false = omega arith
 
+-- which is an intermediate, where it is 20
 EachIs-ignored : (ignoring : Bool) → EachIs is_intermediate (cond ignoring (0x20 ∷ []) [])
 EachIs-ignored true = (space_is, tt)
 EachIs-ignored false = tt
 
 -- From here on m holds what a header of the phase leaves.
 module _ (phase : Phase) (m : Machine (List ℕ)) (h : HoldsHeader phase m) where
-  -- the marker, and the other collected bytes
+  -- the intermediates stand behind the marker
   behind_marker : after_marker m.collected ≡ h.collected.others
   behind_marker =
       ap after_marker h.collected.whole
       ∙ after_marker-in_order h.collected.marker h.collected.others h.collected.one h.collected.marker_is
       (EachIs-weaker is_intermediate (λ b. not (is_marker b)) intermediate-not_marker h.collected.others h.collected.others_are)
 
+  -- the marker stands at the head
   at_marker : leading_marker m.collected ≡ h.collected.marker
   at_marker =
       append_cancel_right (leading_marker m.collected) h.collected.marker h.collected.others
       (ap (λ bytes. leading_marker m.collected ++ bytes) (sym behind_marker) ∙ (leading_marker-after_marker m.collected ∙ h.collected.whole))
 
+  -- no more are collected than can be
   both_fit : length h.collected.marker + length h.collected.others ≤ max_collected
   both_fit = omega (arith, h.collected.fit, ap length h.collected.whole, length-append h.collected.marker h.collected.others)
 

@@ -62,7 +62,7 @@ pub record HoldsHeader (phase : Phase) (m : Machine (List ℕ)) : Type 0 where
 closed_group : (group : List ℕ) (number : ℕ) → AreFields group → number ≤ max_field → IsGroup (group ++ number ∷ [])
 closed_group group number h k = (omega (arith, length-append group (number ∷ [])), AllByRecursion-push (λ n. n ≤ max_field) group number h k)
 
--- the number becomes a field: the last of a closed group, or of the open one
+-- the number becomes a field: the last of a group that is closed
 HoldsFields-pushed : (groups : List (List ℕ)) (group : List ℕ) (number : ℕ) → HoldsFields groups group number → (length (concat groups) + length group ≡ max_fields → ⊥)
     → HoldsFields (groups ++ (group ++ number ∷ []) ∷ []) [] 0
 HoldsFields-pushed groups group number h room = record {
@@ -73,6 +73,7 @@ HoldsFields-pushed groups group number h room = record {
   last = λ e. refl;
 }
 
+-- or of the open group
 HoldsFields-extended : (groups : List (List ℕ)) (group : List ℕ) (number : ℕ) → HoldsFields groups group number → (length (concat groups) + length group ≡ max_fields → ⊥)
     → HoldsFields groups (group ++ number ∷ []) 0
 HoldsFields-extended groups group number h room = record {
@@ -126,6 +127,7 @@ module _ (phase : Phase) (b : ℕ) (m : Machine (List ℕ)) (h : HoldsHeader pha
         ignores = λ i. inr (ignores_collected room i);
       }
 
+  -- by what its tests answer
   with_parameter-holds : HoldsHeader phase (with_parameter b m)
   with_parameter-holds = parameter_by-holds (field_count m == max_fields) (b == semicolon) (b == colon) refl
 
@@ -156,6 +158,7 @@ module _ (phase : Phase) (b : ℕ) (m : Machine (List ℕ)) (h : HoldsHeader pha
         ignores = λ i. ⊎_elim (λ full. inl full) (λ long. absurd (eqb-false (length m.collected) max_collected e long)) (h.ignores i);
       }
 
+  -- by what its test answers
   collecting-holds : IsTrue (is_intermediate b) → HoldsHeader in_intermediates (collecting b m)
   collecting-holds is = collecting_by-holds (length m.collected == max_collected) refl is
 
@@ -163,6 +166,7 @@ module _ (phase : Phase) (b : ℕ) (m : Machine (List ℕ)) (h : HoldsHeader pha
 new_fields : HoldsFields [] [] 0
 new_fields = record { few = omega arith; closed = tt; opened = tt; number_fits = omega arith; last = λ e. refl }
 
+-- the registers of a new machine
 new-holds : HoldsHeader in_parameters (new_machine [])
 new-holds = record {
   fields = new_fields;

@@ -2,12 +2,12 @@
 use Rattle.std.proofs.Common.{◌≡◌, ℕ, ◌+◌, ◌<◌, ◌≤◌, Bool, true, false, not, List, [], ◌∷◌, ◌++◌, length, eqb, refl, sym, ap, ◌∙◌, subst, cond, append_assoc, append-nil, length-append, arith}
 use Rattle.std.specs.Prelude.{◌==◌, IsTrue}
 use Rattle.std.specs.List.{AllByRecursion, concat, flat_map}
-use Rattle.std.proofs.lemmas.Bool.{cond-true, eqb-true, eqb-false, not-true, not_from_false, and_from}
+use Rattle.std.proofs.lemmas.Bool.{cond-true, eqb-false, not-true, not_from_false, and_from}
 use Rattle.anstyle_parse.specs.Bytes.{semicolon, bell}
 use Rattle.anstyle_parse.specs.Arguments.{max_osc_bytes, max_osc_parts, is_kept}
 use Rattle.anstyle_parse.specs.Items.{EachIs, is_text_byte}
 use Rattle.anstyle_parse.specs.Lawful.{is_stored}
-use Rattle.anstyle_parse.specs.Machine.{Machine, new_machine, stored_count, with_part, storing}
+use Rattle.anstyle_parse.specs.Machine.{Machine, new_machine, stored_count, storing}
 use Rattle.anstyle_parse.specs.Checkpoint.{text_so_far}
 use Rattle.anstyle_parse.proofs.Splits.{length-concat_push}
 use Rattle.anstyle_parse.proofs.DivisionHeaders.{EachIs-append, EachIs-push, EachIs-weaker}
@@ -60,6 +60,7 @@ text_step-holds : (kept : Bool) (b : ℕ) (m : Machine (List ℕ)) → is_kept b
 text_step-holds true b m e h = storing_by-holds (stored_count m == max_osc_bytes) (b == semicolon) (length m.closed_parts == max_osc_parts) b m refl refl refl e h
 text_step-holds false b m e h = h
 
+-- and byte after byte
 text_after-holds : (text : List ℕ) (m : Machine (List ℕ)) → HoldsText m → HoldsText (text_after text m)
 text_after-holds [] m h = h
 text_after-holds (b ∷ text) m h = text_after-holds text (text_step b m) (text_step-holds (is_kept b) b m refl h)
@@ -79,6 +80,7 @@ record Tells (text : List ℕ) (m next : Machine (List ℕ)) : Type 0 where
   after : text_after text m ≡ next
   size : length text + (stored_count m + length m.closed_parts) ≡ stored_count next + length next.closed_parts
 
+-- some bytes after others
 Tells-append : (first second : List ℕ) (m n next : Machine (List ℕ)) → Tells first m n → Tells second n next → Tells (first ++ second) m next
 Tells-append first second m n next a b = record {
   each = EachIs-append is_kept first second a.each b.each;
@@ -86,6 +88,7 @@ Tells-append first second m n next a b = record {
   size = omega (arith, a.size, b.size, length-append first second);
 }
 
+-- no byte, where both machines are the same
 Tells-none : (m next : Machine (List ℕ)) → m ≡ next → Tells [] m next
 Tells-none m next e = record { each = tt; after = e; size = omega (arith, ap (λ (r : Machine (List ℕ)). stored_count r + length r.closed_parts) e) }
 

@@ -1,13 +1,13 @@
 -- After ESC ESC nothing that came before counts; outside a character one ESC is enough, and
 -- after 18 or 1A a parser stands as a new one.
-use Rattle.std.proofs.Common.{◌≡◌, ℕ, Bool, true, false, not, List, [], ◌∷◌, ◌++◌, IsTrue, refl, sym, ap, ◌∙◌, subst, ◌↔◌}
+use Rattle.std.proofs.Common.{◌≡◌, ℕ, Bool, true, false, List, [], ◌∷◌, ◌++◌, IsTrue, refl, sym, ap, ◌∙◌, subst, ◌↔◌}
 use Rattle.std.proofs.lemmas.Bool.{both_ways, not_from_false, false_from_ne_true}
 use Rattle.std.proofs.lemmas.List.{append_cancel_left}
 use Rattle.anstyle_parse.specs.declared.state.definitions.State.TheVariants.{Utf8}
 use Rattle.anstyle_parse.specs.Bytes.{is_within, is_cancel, escape_byte}
 use Rattle.anstyle_parse.specs.Characters.{is_front, is_proper_front}
 use Rattle.anstyle_parse.specs.Call.{Call}
-use Rattle.anstyle_parse.specs.Calls.{AreCalls, Continues}
+use Rattle.anstyle_parse.specs.Calls.{Continues}
 use Rattle.anstyle_parse.specs.Items.{Body, escape, EachIs}
 use Rattle.anstyle_parse.specs.Decoder.{decoded}
 use Rattle.anstyle_parse.specs.Machine.{Machine, new_machine, machine_after, machine_calls}
@@ -85,6 +85,7 @@ cancel_start_next : (b : ℕ) (class : Class) → is_cancel_at class ≡ true �
 cancel_start_next b cancel_byte t = refl
 cancel_start_next b class t = cc
 
+-- so outside a character nothing is open behind them
 cancel_ends : (o : Open) (b : ℕ) → IsTrue (is_cancel b) → ((bytes : List ℕ) → o ≡ front bytes → ⊥) → open_after o (b ∷ []) ≡ nothing
 unfolding grow
 cancel_ends nothing b is outside = cancel_start_next b (class_of b) (sym (is_cancel-class b) ∙ is)
@@ -112,6 +113,7 @@ cancelled_is_new m h b is outside stands =
 pub forgotten_once-outside : (m : Machine (List ℕ)) (h : List ℕ) → (EndsInCharacter h → ⊥) → StandsAfter m (h ++ escape_byte ∷ []) → StandsAfter m (escape_byte ∷ [])
 forgotten_once-outside m h outside = forgotten_once m h (λ e. outside ((EndsInCharacter-state (machine_after decoded h (new_machine [])) h refl).0 e))
 
+-- the same of 18 and 1A
 pub cancelled_is_new-outside : (m : Machine (List ℕ)) (h : List ℕ) (b : ℕ) → IsTrue (is_cancel b) → (EndsInCharacter h → ⊥) → StandsAfter m (h ++ b ∷ []) → StandsAfter m []
 cancelled_is_new-outside m h b is outside = cancelled_is_new m h b is (λ e. outside ((EndsInCharacter-state (machine_after decoded h (new_machine [])) h refl).0 e))
 

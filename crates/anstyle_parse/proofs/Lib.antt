@@ -49,3 +49,9 @@ pub mod CanonTwice
 pub mod CanonBytes
 pub mod OutputLemmas
 pub mod PieceLemmas
+pub mod Forgotten
+pub mod CheckpointHeld
+pub mod CheckpointFields
+pub mod CheckpointHeader
+pub mod CheckpointText
+pub mod Checkpoint

@@ -1,0 +1,6 @@
+//! Shows which calls a parser of ANSI escape sequences makes of standard input.
+#![tactic(auto)]
+
+mod log;
+
+fn main() {}

@@ -1,6 +1,6 @@
 -- A header, byte by byte: the groups, the collected bytes and the flag that the machine keeps
 -- are those of the whole header.
-use Rattle.std.proofs.Common.{◌≡◌, ℕ, suc, ◌+◌, ◌<◌, ◌≤◌, Bool, true, false, ◌||◌, not, List, [], ◌∷◌, ◌++◌, length, take, filter, refl, sym, ap, ap₂, ◌∙◌, append_assoc, append-nil, length-append, zero-add, arith, if◌then◌else◌, ◌==◌, IsTrue}
+use Rattle.std.proofs.Common.{◌≡◌, ℕ, suc, ◌+◌, ◌<◌, ◌≤◌, Bool, true, false, ◌||◌, not, List, [], ◌∷◌, ◌++◌, length, take, filter, refl, sym, ap, ap₂, ◌∙◌, append_assoc, append-nil, length-append, zero-add, arith, if◌then◌else◌, ◌==◌, IsTrue, cond}
 use Rattle.std.specs.Prelude.{nat_lt}
 use Rattle.std.specs.List.{concat, list_all}
 use Rattle.std.proofs.lemmas.List.{take_at, take_all}
@@ -8,7 +8,7 @@ use Rattle.std.proofs.lemmas.Bool.{eqb-true, eqb-false, lt-ltb, le-ltb, or_left,
 use Rattle.anstyle_parse.specs.Bytes.{is_parameter, is_intermediate, colon, semicolon}
 use Rattle.anstyle_parse.specs.Arguments.{max_fields, max_collected, has_shape, groups_of, collected_of, ignore_of, first_fields}
 use Rattle.anstyle_parse.specs.Groups.{shown_groups}
-use Rattle.anstyle_parse.specs.Machine.{Machine, field_count, cleared, collecting, with_parameter, with_last_field}
+use Rattle.anstyle_parse.specs.Machine.{Machine, field_count, pushed, cleared, collecting, with_parameter, with_last_field}
 use Rattle.anstyle_parse.specs.Items.{EachIs}
 use Rattle.anstyle_parse.proofs.Splits.{length-concat_push}
 use Rattle.anstyle_parse.proofs.HeaderBytes.{next_number, collectable, collectable-shaped, is_parameter-intermediate, collectable-intermediates, parameters-intermediates}
@@ -288,3 +288,8 @@ escape_ignoring {A} bytes m each =
     ∙ (ignores_each A bytes (cleared m) (omega arith) (omega arith)
     ∙ (ap₂ (λ parameters others. false || overflow_from (cleared m) parameters others) (parameters-intermediates bytes all) (collectable-intermediates bytes all)
     ∙ ap (nat_lt max_collected) (zero-add (length bytes))))
+
+-- the last field leaves what is collected
+pub with_last_field-collected : {A : Type 0} (m : Machine A) → (with_last_field m).collected ≡ m.collected
+with_last_field-collected m =
+    elim (field_count m == max_fields) as (λ t. (cond t (record m { ignoring = true }) (pushed m)).collected ≡ m.collected) [ true ↦ refl | false ↦ refl ]

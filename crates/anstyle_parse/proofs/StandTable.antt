@@ -1,6 +1,6 @@
 -- The table by the classes of bytes: for each state and class one answer.
-use Rattle.std.proofs.Common.{◌≡◌, ℕ, suc, ◌+◌, ◌<◌, ◌≤◌, Bool, true, false, cond, List, [], ◌∷◌, map, get_or, refl, sym, ap, ◌∙◌, ⊎_elim, arith, zero-add}
-use Rattle.std.specs.Prelude.{nat_lt, nat_le, ◌&&◌, ◌||◌}
+use Rattle.std.proofs.Common.{◌≡◌, ℕ, ◌<◌, ◌≤◌, Bool, true, false, List, [], ◌∷◌, map, get_or, refl, sym, ap, ◌∙◌, ⊎_elim, arith, zero-add}
+use Rattle.std.specs.Prelude.{nat_lt, nat_le}
 use Rattle.std.specs.List.{list_any, list_all, range_with_len}
 use Rattle.std.proofs.lemmas.Bool.{cases_lt, le-ltb, lt-leb, and_parts, and_right, or_from, ltb-true}
 use Rattle.std.proofs.lemmas.List.FromFn.{get_or-map-range_with_len}
@@ -25,6 +25,7 @@ row_within control esc_byte = Escape by Nop
 row_within control delete_byte = Anywhere by Ignore
 row_within control class = kept
 
+-- outside all sequences
 abbrev pub row_ground : Class → Change
 row_ground control_byte = Anywhere by Execute
 row_ground bell_byte = Anywhere by Execute
@@ -38,6 +39,7 @@ row_ground above_byte = kept
 row_ground beyond_byte = kept
 row_ground class = Anywhere by Print
 
+-- directly behind ESC
 abbrev pub row_escape : Class → Change
 row_escape intermediate_byte = EscapeIntermediate by Collect
 row_escape digit_byte = Ground by EscDispatch
@@ -70,6 +72,7 @@ abbrev pub row_string : Action → Action → Class → Change
 row_string control text terminator_byte = Ground by Nop
 row_string control text class = row_header control (Anywhere by text) (Anywhere by text) (Anywhere by text) (Anywhere by text) class
 
+-- an operating system command
 abbrev pub row_command : Class → Change
 row_command control_byte = Anywhere by Ignore
 row_command bell_byte = Ground by Nop
@@ -78,6 +81,7 @@ row_command esc_byte = Escape by Nop
 row_command beyond_byte = kept
 row_command class = Anywhere by OscPut
 
+-- where only 18, 1A and 1B have a line
 abbrev pub row_none : Class → Change
 row_none cancel_byte = Ground by Execute
 row_none esc_byte = Escape by Nop
@@ -130,17 +134,20 @@ list_any-beyond (span ∷ spans) b low high =
     let last_low : span.last < 0x100 = ltb-true span.last 0x100 parts.0 in
     or_from _ _ (and_right (nat_le span.first b) (nat_le b span.last) (lt-leb b span.last (omega arith))) (list_any-beyond spans b parts.1 high)
 
+-- no line is for a byte from 100 on
 looked_up-beyond : (entries : List Entry) (b : ℕ) (other : Change) → ends_below entries ≡ true → 0x100 ≤ b → looked_up entries b other ≡ other
 looked_up-beyond [] b other low high = refl
 looked_up-beyond (entry ∷ entries) b other low high =
     let parts = and_parts (list_all (λ (s : Span). nat_lt s.last 0x100) entry.bytes) (ends_below entries) low in
     rw (list_any-beyond entry.bytes b parts.0 high) (looked_up-beyond entries b other parts.1 high)
 
+-- from 100 on each state is kept
 change_at-beyond : (state : State) (b : ℕ) → ends_below (row state) ≡ true → 0x100 ≤ b → change_at state b ≡ kept
 unfolding change_at
 change_at-beyond state b low high =
     looked_up-beyond (row Anywhere) b (looked_up (row state) b kept) refl high ∙ looked_up-beyond (row state) b kept low high
 
+-- the class of what is no byte
 class_of-beyond : (b : ℕ) → 0x100 ≤ b → class_of b ≡ beyond_byte
 unfolding class_of
 class_of-beyond b high = rw (le-ltb b 0x100 high)
@@ -151,10 +158,12 @@ unfolding change_at class_of class_below is_within
 answers-same Anywhere = refl
 answers-same state = refl
 
+-- the lines of each state end below 100
 all_end_below : (state : State) → ends_below (row state) ≡ true
 all_end_below Anywhere = refl
 all_end_below state = refl
 
+-- at what is no byte each state is kept
 change_of-beyond : (state : State) → change_of state beyond_byte ≡ kept
 change_of-beyond Anywhere = refl
 change_of-beyond state = refl

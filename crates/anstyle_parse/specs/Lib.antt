@@ -12,6 +12,11 @@ pub mod Machine
 pub mod Decoder
 pub mod Stands
 pub mod Parser
+pub mod Front
+pub mod Accumulator
+pub mod Decoding
+pub mod Canon
+pub mod Lawful
 pub mod Devices
 pub mod Output
 pub mod Piece

@@ -40,6 +40,20 @@ new_machine empty = record {
   accumulator = empty;
 }
 
+-- the same with another accumulator
+abbrev pub with_accumulator : {A B : Type 0} → B → Machine A → Machine B
+with_accumulator other m = record {
+  state = m.state;
+  collected = m.collected;
+  ignoring = m.ignoring;
+  closed_groups = m.closed_groups;
+  open_group = m.open_group;
+  number = m.number;
+  closed_parts = m.closed_parts;
+  open_part = m.open_part;
+  accumulator = other;
+}
+
 abbrev pub field_count : {A : Type 0} → Machine A → ℕ
 field_count m = length (concat m.closed_groups) + length m.open_group
 

@@ -1,12 +1,14 @@
 -- The parser's fields, as the machine that they stand for.
-use Rattle.std.specs.Prelude.{ℕ, List, take, drop, ⊤, IsTrue}
+use Rattle.std.specs.Prelude.{◌≡◌, ◌≢◌, ◌<◌, ◌⊎◌, ℕ, List, take, drop, ⊤, IsTrue}
+use Rattle.std.specs.List.{AllByRecursion}
 use Rattle.anstyle_parse.specs.declared.state.definitions.State.{State}
-use Rattle.anstyle_parse.specs.declared.state.definitions.State.TheVariants.{Ground, Utf8}
+use Rattle.anstyle_parse.specs.declared.state.definitions.State.TheVariants.{DcsPassthrough, Ground, OscString, Utf8}
 use Rattle.anstyle_parse.specs.declared.parser.Parser.{Parser}
 use Rattle.anstyle_parse.specs.Characters.{is_lead}
 use Rattle.anstyle_parse.specs.Groups.{cut}
 use Rattle.anstyle_parse.specs.Params.{closed_groups_of, open_group_of}
-use Rattle.anstyle_parse.specs.Machine.{Machine}
+use Rattle.anstyle_parse.specs.Machine.{Machine, new_machine}
+use Rattle.anstyle_parse.specs.Stands.{StandsAfter, seen, unseen}
 
 abbrev pub machine_of : {C : Type 0} → Parser C → Machine C
 machine_of parser = record {
@@ -26,3 +28,37 @@ abbrev pub ReachesAccumulator : State → ℕ → Type 0
 ReachesAccumulator Utf8 b = ⊤
 ReachesAccumulator Ground b = IsTrue (is_lead b)
 ReachesAccumulator _ b = ⊥
+
+-- the parser is as it begins, with an accumulator of which this holds
+abbrev pub IsNew : {C : Type 0} → (C → Type 0) → Parser C → Type 0
+IsNew {C} is_default parser = (machine_of parser ≡ new_machine parser.accumulator) × is_default parser.accumulator
+
+-- the parser is inside a character of several bytes
+abbrev pub IsInCharacter : {C : Type 0} → Parser C → Type 0
+IsInCharacter parser = parser.state ≡ Utf8
+
+-- an operating system command or a hooked device control string is open
+abbrev pub HasOpenString : {C : Type 0} → Parser C → Type 0
+HasOpenString parser = (parser.state ≡ OscString) ⊎ (parser.state ≡ DcsPassthrough)
+
+-- each byte is below the limit
+abbrev pub AreBelow : ℕ → List ℕ → Type 0
+AreBelow limit bytes = AllByRecursion (λ b. b < limit) bytes
+
+-- The accumulator takes the byte, if the byte reaches it.
+abbrev pub CanTake : {C : Type 0} → (C → ℕ → Type 0) → Parser C → ℕ → Type 0
+CanTake takes parser b = ReachesAccumulator parser.state b → takes parser.accumulator b
+
+-- The accumulator takes every byte whatever it holds, or none of the bytes reaches it:
+-- the parser is outside a character, and all of them are ASCII.
+abbrev pub CanTakeAll : {C : Type 0} → (C → ℕ → Type 0) → Parser C → List ℕ → Type 0
+CanTakeAll {C} takes parser bytes =
+    ((value : C) (b : ℕ) → b < 0x100 → takes value b) ⊎ ((parser.state ≢ Utf8) × AreBelow 0x80 bytes)
+
+-- The parser, whose accumulator holds a front, stands after the bytes.
+abbrev pub IsAfter : {C : Type 0} → (C → List ℕ) → Parser C → List ℕ → Type 0
+IsAfter front parser bytes = StandsAfter (seen front (machine_of parser)) bytes
+
+-- The parser stands after the bytes, all of which are ASCII, whatever its accumulator is.
+abbrev pub IsAfterAscii : {C : Type 0} → Parser C → List ℕ → Type 0
+IsAfterAscii parser bytes = AreBelow 0x80 bytes × StandsAfter (unseen (machine_of parser)) bytes

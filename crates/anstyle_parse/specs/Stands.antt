@@ -1,10 +1,11 @@
 -- When a parser stands after a list of bytes: what of it counts is as a new parser's that
 -- took them.
-use Rattle.std.specs.Prelude.{◌≡◌, ℕ, List, []}
+use Rattle.std.specs.Prelude.{◌≡◌, ◌<◌, ℕ, List, [], ◌∷◌, ◌++◌}
 use Rattle.anstyle_parse.specs.declared.state.definitions.State.{State}
 use Rattle.anstyle_parse.specs.declared.state.definitions.State.TheVariants.{Anywhere, CsiEntry, CsiIgnore, CsiIntermediate, CsiParam, DcsEntry, DcsIgnore, DcsIntermediate, DcsParam, DcsPassthrough, Escape, EscapeIntermediate, Ground, OscString, SosPmApcString, Utf8}
 use Rattle.anstyle_parse.specs.Decoder.{decoded}
-use Rattle.anstyle_parse.specs.Machine.{Machine, new_machine, machine_after}
+use Rattle.anstyle_parse.specs.Machine.{Machine, Adds, new_machine, with_accumulator, machine_after}
+use Rattle.anstyle_parse.specs.Items.{Item, begun, IsDivision}
 
 -- the state and the accumulator, all else as it begins
 abbrev pub bare : {A : Type 0} → Machine A → Machine A
@@ -34,6 +35,24 @@ counted_in _ m = bare m
 abbrev pub counted : {A : Type 0} → Machine A → Machine A
 counted m = counted_in m.state m
 
--- The machine, whose accumulator is seen as the front that it holds, stands after the bytes.
+-- The machine stands after the bytes, its accumulator seen as the front that it holds.
 abbrev pub StandsAfter : Machine (List ℕ) → List ℕ → Type 0
 StandsAfter m bytes = counted m ≡ counted (machine_after decoded bytes (new_machine []))
+
+-- a machine with its accumulator so seen
+abbrev pub seen : {A : Type 0} → (A → List ℕ) → Machine A → Machine (List ℕ)
+seen front m = with_accumulator (front m.accumulator) m
+
+-- a machine that leaves its accumulator aside, where no byte reaches it
+abbrev pub unseen : {A : Type 0} → Machine A → Machine (List ℕ)
+unseen m = with_accumulator [] m
+
+-- The accumulator is the decoder of UTF-8: it takes every byte, and its steps go over the
+-- fronts that it holds, and answer, as the decoder's do.
+pub record Decodes (A : Type 0) (front : A → List ℕ) (takes : A → ℕ → Type 0) (adds : Adds A) : Type 0 where
+  pub takes_bytes : (value : A) (b : ℕ) → b < 256 → takes value b
+  pub steps : (value : A) (b : ℕ) → b < 256 → decoded (front value) b ≡ (front (adds value b).0, (adds value b).1)
+
+-- the list ends inside a character: its last item is one that is begun
+abbrev pub EndsInCharacter : List ℕ → Type 0
+EndsInCharacter bytes = (items : List Item) × (front : List ℕ) × IsDivision (items ++ begun front ∷ []) bytes

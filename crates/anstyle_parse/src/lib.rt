@@ -8,8 +8,9 @@ mod params;
 mod parser;
 mod perform;
 pub mod state;
+mod utf8;
 
-pub use accumulator::CharAccumulator;
+pub use accumulator::{AsciiParser, CharAccumulator, DefaultCharAccumulator, Utf8Parser};
 pub use params::{Params, ParamsIter};
 pub use parser::Parser;
 pub use perform::Perform;

@@ -1,11 +1,11 @@
 //! The parser: a state, what a sequence has said so far, and an accumulator of characters.
-ghost use Rattle.std.specs.Prelude.{◌≡◌, ◌≤◌, ◌<◌, ℕ, length, take, map};
+ghost use Rattle.std.specs.Prelude.{◌≡◌, ◌≤◌, ◌<◌, ℕ, List, false, length, take, map};
 ghost use Rattle.anstyle_parse.specs.Groups.{total, cut};
 ghost use Rattle.anstyle_parse.specs.Call.{Goes};
 ghost use Rattle.anstyle_parse.specs.Machine.{exit_action as exit_of, entry_action as entry_of};
 ghost use Rattle.arrayvec.specs.ArrayVec.{array_vec_len};
 
-use crate::accumulator::CharAccumulator;
+use crate::accumulator::{CharAccumulator, DefaultCharAccumulator, Utf8Parser};
 use crate::params::Params;
 use crate::perform::Perform;
 use crate::state::{Action, State, state_change};
@@ -23,7 +23,7 @@ const BELL: u8 = 0x07;
 
 /// Cuts a stream of bytes into calls of a [`Perform`].
 #[derive(PartialEq, Eq, Drop)]
-pub struct Parser<C> {
+pub struct Parser<C = DefaultCharAccumulator> {
     state: State,
     /// The markers and intermediates of the sequence.
     intermediates: [u8; MAX_INTERMEDIATES],
@@ -48,8 +48,11 @@ pub struct Parser<C> {
 }
 
 impl<C: CharAccumulator> Default for Parser<C> {
-    ghost use Rattle.anstyle_parse.specs.Parser.{machine_of};
+    ghost use Rattle.anstyle_parse.specs.Parser.{IsNew};
 
+    ghost is_default = { IsNew C.Default.is_default };
+
+    /// A new parser: in the ground state, outside a character, its accumulator at its default.
     fn default() -> Parser<C> {
         Parser {
             state: State::default(),
@@ -64,6 +67,93 @@ impl<C: CharAccumulator> Default for Parser<C> {
             osc_closed: 0,
             accumulator: C::default(),
         }
+    }
+}
+
+impl<C: CharAccumulator> Parser<C> {
+    ghost use Rattle.std.specs.Prelude.{◌++◌, ◌∷◌, [], IsTrue, ◌↔◌};
+    ghost use Rattle.anstyle_parse.specs.Bytes.{is_cancel};
+    ghost use Rattle.anstyle_parse.specs.Parser.{machine_of, IsNew, IsInCharacter, HasOpenString, CanTake, CanTakeAll, IsAfter, IsAfterAscii, AreBelow};
+    ghost use Rattle.anstyle_parse.specs.Machine.{step, step_calls, machine_after, machine_calls};
+    ghost use Rattle.anstyle_parse.specs.Calls.{Continues};
+    ghost use Rattle.anstyle_parse.specs.Stands.{EndsInCharacter};
+    ghost use Rattle.anstyle_parse.specs.Accumulator.{IsEmpty, front_of};
+
+    /// A new parser of UTF-8, whatever `C` is.
+    pub fn new() -> Parser<Utf8Parser>
+        ensures fresh { IsNew IsEmpty result }
+        ensures stands { IsAfter front_of result [] }
+    {
+        Parser::default()
+    }
+
+    /// Takes one byte, and makes its calls.
+    ///
+    /// The condition is that the accumulator takes the byte if it reaches it: inside a
+    /// character, or in the ground state where the byte is C2..F4. `Utf8Parser` takes every
+    /// byte. At most two calls are made, and two only where 18 or 1A ends an operating
+    /// system command or a hooked device control string.
+    #[inline]
+    pub fn advance<P: Perform>(&mut self, performer: &mut P, byte: u8)
+        requires { CanTake C.takes self.old byte }
+
+        // One byte does what the machine does with it.
+        ensures machine { machine_of self.new ≡ step C.adds byte (machine_of self.old) }
+        ensures calls { Goes P.means performer.old (step_calls C.adds byte (machine_of self.old)) performer.new }
+
+        // Two calls are made only where a cancel ends a command or a hooked string.
+        ensures few { length (step_calls C.adds byte (machine_of self.old)) ≤ 2 }
+        ensures two { length (step_calls C.adds byte (machine_of self.old)) ≡ 2
+            → IsTrue (is_cancel byte) × HasOpenString self.old }
+
+        // These calls continue those of the bytes before, for an accumulator that decodes
+        // UTF-8 and for any accumulator over ASCII.
+        ensures stands { (before : List ℕ) → IsTrue C.decodes → IsAfter C.front self.old before
+            → IsAfter C.front self.new (before ++ byte ∷ []) }
+        ensures stream { (before : List ℕ) → IsTrue C.decodes → IsAfter C.front self.old before
+            → Continues before (byte ∷ []) (step_calls C.adds byte (machine_of self.old)) }
+        ensures ascii_stands { (before : List ℕ) → byte < 0x80 → IsAfterAscii self.old before
+            → IsAfterAscii self.new (before ++ byte ∷ []) }
+        ensures ascii_stream { (before : List ℕ) → byte < 0x80 → IsAfterAscii self.old before
+            → Continues before (byte ∷ []) (step_calls C.adds byte (machine_of self.old)) }
+    {
+        self.take_byte(performer, byte);
+    }
+
+    /// Takes bytes, one after another, as `advance` does.
+    ///
+    /// The condition is that the accumulator takes every byte, as `Utf8Parser` does, or that
+    /// the parser is outside a character and every byte is below 80.
+    #[inline]
+    pub fn advance_all<P: Perform>(&mut self, performer: &mut P, bytes: &[u8])
+        requires { CanTakeAll C.takes self.old bytes.now }
+
+        // The bytes do what the machine does with each in turn.
+        ensures machine { machine_of self.new ≡ machine_after C.adds bytes.now (machine_of self.old) }
+        ensures calls { Goes P.means performer.old (machine_calls C.adds bytes.now (machine_of self.old)) performer.new }
+
+        // These calls continue those of the bytes before, for an accumulator that decodes
+        // UTF-8 and for any accumulator over ASCII.
+        ensures stands { (before : List ℕ) → IsTrue C.decodes → IsAfter C.front self.old before
+            → IsAfter C.front self.new (before ++ bytes.now) }
+        ensures stream { (before : List ℕ) → IsTrue C.decodes → IsAfter C.front self.old before
+            → Continues before bytes.now (machine_calls C.adds bytes.now (machine_of self.old)) }
+        ensures ascii_stands { (before : List ℕ) → AreBelow 0x80 bytes.now → IsAfterAscii self.old before
+            → IsAfterAscii self.new (before ++ bytes.now) }
+        ensures ascii_stream { (before : List ℕ) → AreBelow 0x80 bytes.now → IsAfterAscii self.old before
+            → Continues before bytes.now (machine_calls C.adds bytes.now (machine_of self.old)) }
+    {
+        self.take_bytes(performer, bytes);
+    }
+
+    /// Whether a character has begun that is not whole yet.
+    pub fn is_in_char(&self) -> bool
+        ensures state { IsTrue result ↔ IsInCharacter self.now }
+        ensures stream { (before : List ℕ) → IsTrue C.decodes → IsAfter C.front self.now before
+            → (IsTrue result ↔ EndsInCharacter before) }
+        ensures ascii { (before : List ℕ) → IsAfterAscii self.now before → result ≡ false }
+    {
+        matches!(self.state, State::Utf8)
     }
 }
 
@@ -193,8 +283,8 @@ fn parts_of<'a>(text: &'a [u8], lengths: &[usize]) -> [&'a [u8]; MAX_OSC_PARTS]
 /// One byte.
 impl<C: CharAccumulator> Parser<C> {
     ghost use Rattle.anstyle_parse.specs.Parser.{machine_of};
-    ghost use Rattle.anstyle_parse.specs.Parser.{ReachesAccumulator};
-    ghost use Rattle.anstyle_parse.specs.Machine.{after_action, action_calls, after_change, change_calls, after_continuation, print_answer, step, step_calls};
+    ghost use Rattle.anstyle_parse.specs.Parser.{CanTake, CanTakeAll};
+    ghost use Rattle.anstyle_parse.specs.Machine.{after_action, action_calls, after_change, change_calls, after_continuation, print_answer, step, step_calls, machine_after, machine_calls};
 
     /// The command's last part is closed, and all of them are dispatched.
     fn osc_end<P: Perform>(&mut self, performer: &mut P, byte: u8)
@@ -291,7 +381,7 @@ impl<C: CharAccumulator> Parser<C> {
     /// One byte, as the machine takes it.
     #[inline(always)]
     fn take_byte<P: Perform>(&mut self, performer: &mut P, byte: u8)
-        requires { ReachesAccumulator self.old.state byte → C.takes self.old.accumulator byte }
+        requires { CanTake C.takes self.old byte }
         ensures machine { machine_of self.new ≡ step C.adds byte (machine_of self.old) }
         ensures calls { Goes P.means performer.old (step_calls C.adds byte (machine_of self.old)) performer.new }
     {
@@ -301,6 +391,17 @@ impl<C: CharAccumulator> Parser<C> {
                 let (state, action) = state_change(state, byte);
                 self.change_state(performer, state, action, byte);
             }
+        }
+    }
+
+    /// Bytes, as the machine takes them one after another.
+    fn take_bytes<P: Perform>(&mut self, performer: &mut P, bytes: &[u8])
+        requires { CanTakeAll C.takes self.old bytes.now }
+        ensures machine { machine_of self.new ≡ machine_after C.adds bytes.now (machine_of self.old) }
+        ensures calls { Goes P.means performer.old (machine_calls C.adds bytes.now (machine_of self.old)) performer.new }
+    {
+        for byte in bytes {
+            self.take_byte(performer, *byte);
         }
     }
 }

@@ -1,6 +1,8 @@
 //! The states and actions of the parser, and its transition table.
 mod definitions;
 mod table;
+#[cfg(test)]
+mod tests;
 
 ghost use Rattle.std.specs.Prelude.{◌≡◌};
 ghost use Rattle.anstyle_parse.specs.Table.{change_at};

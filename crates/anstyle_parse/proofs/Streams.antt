@@ -1,0 +1,75 @@
+-- What the public calls say of streams, from what they say of the machine.
+use Rattle.std.proofs.Common.{◌≡◌, ◌<◌, ◌^◌, ℕ, List, [], ◌∷◌, ◌++◌, ◌⊎◌, ⊎_elim, inl, inr, sym, ap, ◌∙◌, subst, arith, length, get_or, Fits}
+use Rattle.std.specs.List.{AllByRecursion}
+use Rattle.std.proofs.lemmas.List.{get_or_default}
+use Rattle.std.proofs.lemmas.List.Elements.{recursion_from_All}
+use Rattle.anstyle_parse.specs.declared.state.definitions.State.TheVariants.{Utf8}
+use Rattle.anstyle_parse.specs.declared.parser.Parser.{Parser}
+use Rattle.anstyle_parse.specs.Call.{Call}
+use Rattle.anstyle_parse.specs.Calls.{Continues}
+use Rattle.anstyle_parse.specs.Decoder.{decoded}
+use Rattle.anstyle_parse.specs.Machine.{Machine, Adds, step, machine_after, machine_calls}
+use Rattle.anstyle_parse.specs.Stands.{StandsAfter, seen, unseen, Decodes}
+use Rattle.anstyle_parse.specs.Parser.{machine_of, CanTake, CanTakeAll, AreBelow, IsAfter, IsAfterAscii}
+use Rattle.anstyle_parse.proofs.Stands.{StandsAfter-machine, Continues-machine}
+use Rattle.anstyle_parse.proofs.Seen.{Seen-machine}
+use Rattle.anstyle_parse.proofs.Unseen.{Unseen-step, Unseen-machine, StandsAfter-outside, takes-outside}
+
+-- the bytes of a slice are below 256
+pub bytes_below : (bytes : List ℕ) → ((i : ℕ) → get_or bytes i 0 < 256) → AreBelow 256 bytes
+bytes_below bytes fits = recursion_from_All (λ b. b < 256) bytes (λ k d lt. omega (arith, fits k, get_or_default bytes k d 0 lt))
+
+pub AreBelow-append : (limit : ℕ) (xs ys : List ℕ) → AreBelow limit xs → AreBelow limit ys → AreBelow limit (xs ++ ys)
+AreBelow-append limit [] ys first second = second
+AreBelow-append limit (x ∷ xs) ys first second = (first.0, AreBelow-append limit xs ys first.1 second)
+
+module _ {C : Type 0} (takes : C → ℕ → Type 0) where
+  -- the first of some bytes can be taken
+  pub CanTake-first : (parser : Parser C) (b : ℕ) (bytes : List ℕ) → b < 256 → CanTakeAll takes parser (b ∷ bytes) → CanTake takes parser b
+  CanTake-first parser b bytes small can =
+      ⊎_elim
+      (λ all _. all parser.accumulator b small)
+      (λ ascii reaches. absurd (takes-outside parser.state b ascii.1.0 ascii.0 reaches))
+      can
+
+  -- and then the others
+  pub CanTakeAll-rest : (adds : Adds C) (old new : Parser C) (b : ℕ) (bytes : List ℕ) → machine_of new ≡ step adds b (machine_of old)
+      → CanTakeAll takes old (b ∷ bytes) → CanTakeAll takes new bytes
+  CanTakeAll-rest adds old new b bytes stepped can =
+      ⊎_elim
+      (λ all. inl all)
+      (λ ascii. inr ((λ inside. (Unseen-step adds b ascii.1.0 (machine_of old) ascii.0).2 (sym (ap (λ (m : Machine C). m.state) stepped) ∙ inside)), ascii.1.1))
+      can
+
+module _ {C : Type 0} (front : C → List ℕ) (takes : C → ℕ → Type 0) (adds : Adds C) (decodes : Decodes C front takes adds)
+    (old new : Parser C) (bytes : List ℕ) (below : AreBelow 256 bytes) (taken : machine_of new ≡ machine_after adds bytes (machine_of old))
+    (before : List ℕ) (stands : IsAfter front old before) where
+  pub IsAfter-taken : IsAfter front new (before ++ bytes)
+  IsAfter-taken =
+      let Q : Machine (List ℕ) → Type 0 = λ m. StandsAfter m (before ++ bytes) in
+      subst Q (sym (ap (seen front) taken ∙ (Seen-machine front takes adds decodes bytes below (machine_of old)).0))
+      (StandsAfter-machine (seen front (machine_of old)) before bytes stands)
+
+  pub Continues-taken : Continues before bytes (machine_calls adds bytes (machine_of old))
+  Continues-taken =
+      let Q : List Call → Type 0 = λ calls. Continues before bytes calls in
+      subst Q (sym (Seen-machine front takes adds decodes bytes below (machine_of old)).1) (Continues-machine (seen front (machine_of old)) before bytes stands)
+
+module _ {C : Type 0} (adds : Adds C)
+    (old new : Parser C) (bytes : List ℕ) (below : AreBelow 0x80 bytes) (taken : machine_of new ≡ machine_after adds bytes (machine_of old))
+    (before : List ℕ) (stands : IsAfterAscii old before) where
+  outside : old.state ≡ Utf8 → ⊥
+  outside = StandsAfter-outside (unseen (machine_of old)) before stands.0 stands.1
+
+  pub IsAfterAscii-taken : IsAfterAscii new (before ++ bytes)
+  IsAfterAscii-taken =
+      let Q : Machine (List ℕ) → Type 0 = λ m. StandsAfter m (before ++ bytes) in (
+        AreBelow-append 0x80 before bytes stands.0 below,
+        subst Q (sym (ap unseen taken ∙ (Unseen-machine adds bytes below (machine_of old) outside).0))
+            (StandsAfter-machine (unseen (machine_of old)) before bytes stands.1),
+      )
+
+  pub Continues-ascii : Continues before bytes (machine_calls adds bytes (machine_of old))
+  Continues-ascii =
+      let Q : List Call → Type 0 = λ calls. Continues before bytes calls in
+      subst Q (sym (Unseen-machine adds bytes below (machine_of old) outside).1) (Continues-machine (unseen (machine_of old)) before bytes stands.1)

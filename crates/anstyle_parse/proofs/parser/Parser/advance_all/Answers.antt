@@ -1,0 +1,23 @@
+use Rattle.std.proofs.Common.{arith}
+use Rattle.anstyle_parse.proofs.Streams.{bytes_below, IsAfter-taken, Continues-taken, IsAfterAscii-taken, Continues-ascii}
+use Rattle.anstyle_parse.proofs.parser.Parser.advance_all.Goals as goal
+
+pub returns-clause-stands : goal.returns-clause-stands
+returns-clause-stands g c = λ before decodes stands.
+    let n = g.C.CharAccumulator in
+    let below = bytes_below c.args.bytes.now (λ i. omega (arith, c.type_inv.bytes i)) in
+    IsAfter-taken n.front n.takes n.adds (g.met.C.CharAccumulator.follows decodes) c.args.self.now c.take_bytes.new.self c.args.bytes.now below c.take_bytes.ensures.machine before stands
+
+pub returns-clause-stream : goal.returns-clause-stream
+returns-clause-stream g c = λ before decodes stands.
+    let n = g.C.CharAccumulator in
+    let below = bytes_below c.args.bytes.now (λ i. omega (arith, c.type_inv.bytes i)) in
+    Continues-taken n.front n.takes n.adds (g.met.C.CharAccumulator.follows decodes) c.args.self.now c.take_bytes.new.self c.args.bytes.now below c.take_bytes.ensures.machine before stands
+
+pub returns-clause-ascii_stands : goal.returns-clause-ascii_stands
+returns-clause-ascii_stands g c = λ before below stands.
+    IsAfterAscii-taken g.C.CharAccumulator.adds c.args.self.now c.take_bytes.new.self c.args.bytes.now below c.take_bytes.ensures.machine before stands
+
+pub returns-clause-ascii_stream : goal.returns-clause-ascii_stream
+returns-clause-ascii_stream g c = λ before below stands.
+    Continues-ascii g.C.CharAccumulator.adds c.args.self.now c.take_bytes.new.self c.args.bytes.now below c.take_bytes.ensures.machine before stands

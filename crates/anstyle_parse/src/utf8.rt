@@ -1,0 +1,177 @@
+//! The decoder of UTF-8, one byte after another (The Unicode Standard, Table 3-7).
+//!
+//! What it holds of a character is the bytes that have come, and nothing beside them: at
+//! each further byte it looks at these again, so that the answer is right whatever it holds.
+ghost use Rattle.std.specs.Prelude.{◌≡◌, ◌∷◌, [], Some, IsTrue};
+ghost use Rattle.anstyle_parse.specs.Bytes.{is_within};
+ghost use Rattle.anstyle_parse.specs.Characters.{character_of};
+ghost use Rattle.anstyle_parse.specs.Decoder.{started, continued, decoded};
+ghost use Rattle.anstyle_parse.specs.Front.{bytes_of, front_with, is_front_of, IsStep};
+
+/// The front of a character: those of its bytes that have come, none at the start of one.
+#[derive(Debug, Clone, Copy, PartialEq, Eq, Default)]
+pub enum Front {
+    #[default]
+    Empty,
+    One(u8),
+    Two(u8, u8),
+    Three(u8, u8, u8),
+}
+
+impl Front {
+    /// Takes the next byte: answers the character that it completes, U+FFFD where it breaks
+    /// one or begins none, and nothing where more bytes have to come.
+    #[inline]
+    pub fn add(&mut self, byte: u8) -> Option<char>
+        ensures after { self.new ≡ front_with (decoded (bytes_of self.old) byte).0 }
+        ensures answer { result ≡ (decoded (bytes_of self.old) byte).1 }
+    {
+        let (front, answer) = match *self {
+            Front::Empty => first(byte),
+            Front::One(a) => second(a, byte),
+            Front::Two(a, b) => third(a, b, byte),
+            Front::Three(a, b, c) => fourth(a, b, c, byte),
+        };
+        *self = front;
+        answer
+    }
+}
+
+/// The answer to a byte that breaks a character. The byte is used up.
+const BROKEN: (Front, Option<char>) = (Front::Empty, Some(char::REPLACEMENT_CHARACTER));
+
+/// The front after the first byte of a character, and the answer.
+#[inline(always)]
+#[tactic(auto, unfolding(crate::specs::Bytes::is_within, crate::specs::Characters::is_lead))]
+fn first(a: u8) -> (Front, Option<char>)
+    ensures { IsStep (started a) result }
+{
+    match a {
+        0x00..=0x7F => (Front::Empty, Some(char::from(a))),
+        0xC2..=0xF4 => (Front::One(a), None),
+        _ => BROKEN,
+    }
+}
+
+/// The same after the second byte, behind the first.
+#[inline(always)]
+#[tactic(auto, using(crate::proofs::Fronts::second_byte))]
+fn second(a: u8, b: u8) -> (Front, Option<char>)
+    ensures { IsStep (continued (a ∷ b ∷ [])) result }
+{
+    if is_two(a, b) {
+        (Front::Empty, character_of_two(a, b))
+    } else if begins_three(a, b) || begins_four(a, b) {
+        (Front::Two(a, b), None)
+    } else {
+        BROKEN
+    }
+}
+
+/// After the third byte, behind two.
+#[inline(always)]
+#[tactic(auto, using(crate::proofs::Fronts::third_byte))]
+fn third(a: u8, b: u8, c: u8) -> (Front, Option<char>)
+    ensures { IsStep (continued (a ∷ b ∷ c ∷ [])) result }
+{
+    if !is_continuation(c) {
+        BROKEN
+    } else if begins_three(a, b) {
+        (Front::Empty, character_of_three(a, b, c))
+    } else if begins_four(a, b) {
+        (Front::Three(a, b, c), None)
+    } else {
+        BROKEN
+    }
+}
+
+/// After the fourth byte, behind three: the last.
+#[inline(always)]
+#[tactic(auto, using(crate::proofs::Fronts::fourth_byte))]
+fn fourth(a: u8, b: u8, c: u8, d: u8) -> (Front, Option<char>)
+    ensures { IsStep (continued (a ∷ b ∷ c ∷ d ∷ [])) result }
+{
+    if begins_four(a, b) && is_continuation(c) && is_continuation(d) {
+        (Front::Empty, character_of_four(a, b, c, d))
+    } else {
+        BROKEN
+    }
+}
+
+/// 80..BF, the bytes that may follow the first, where the table does not name fewer.
+#[inline(always)]
+#[tactic(auto, unfolding(crate::specs::Bytes::is_within))]
+fn is_continuation(b: u8) -> bool
+    ensures { result ≡ is_within 0x80 0xBF b }
+{
+    matches!(b, 0x80..=0xBF)
+}
+
+/// Whether these are the bytes of a character of two.
+#[inline(always)]
+#[tactic(auto, unfolding(crate::specs::Bytes::is_within, crate::specs::Front::is_front_of))]
+fn is_two(a: u8, b: u8) -> bool
+    ensures { result ≡ is_front_of 2 (a ∷ b ∷ []) }
+{
+    matches!(a, 0xC2..=0xDF) && is_continuation(b)
+}
+
+/// Whether a character of three bytes begins with these.
+#[inline(always)]
+#[tactic(auto, unfolding(crate::specs::Bytes::is_within, crate::specs::Front::is_front_of))]
+fn begins_three(a: u8, b: u8) -> bool
+    ensures { result ≡ is_front_of 3 (a ∷ b ∷ []) }
+{
+    match a {
+        0xE0 => matches!(b, 0xA0..=0xBF),
+        0xE1..=0xEC | 0xEE..=0xEF => is_continuation(b),
+        0xED => matches!(b, 0x80..=0x9F),
+        _ => false,
+    }
+}
+
+/// Whether a character of four bytes begins with these.
+#[inline(always)]
+#[tactic(auto, unfolding(crate::specs::Bytes::is_within, crate::specs::Front::is_front_of))]
+fn begins_four(a: u8, b: u8) -> bool
+    ensures { result ≡ is_front_of 4 (a ∷ b ∷ []) }
+{
+    match a {
+        0xF0 => matches!(b, 0x90..=0xBF),
+        0xF1..=0xF3 => is_continuation(b),
+        0xF4 => matches!(b, 0x80..=0x8F),
+        _ => false,
+    }
+}
+
+/// The character of two bytes, by their low five and six bits; never nothing.
+#[inline(always)]
+#[tactic(auto, using(crate::proofs::Fronts::scalar_values))]
+fn character_of_two(a: u8, b: u8) -> Option<char>
+    ensures { result ≡ Some (character_of (a ∷ b ∷ [])) }
+{
+    char::from_u32(a as u32 % 32 * 64 + b as u32 % 64)
+}
+
+/// The character of three bytes, by their low four, six and six bits; never nothing.
+#[inline(always)]
+#[tactic(auto, using(crate::proofs::Fronts::scalar_values))]
+fn character_of_three(a: u8, b: u8, c: u8) -> Option<char>
+    requires { IsTrue (is_front_of 3 (a ∷ b ∷ [])) }
+    ensures { result ≡ Some (character_of (a ∷ b ∷ c ∷ [])) }
+{
+    char::from_u32((a as u32 % 16 * 64 + b as u32 % 64) * 64 + c as u32 % 64)
+}
+
+/// The character of four bytes, by their low three and three times six bits; never nothing.
+#[inline(always)]
+#[tactic(auto, using(crate::proofs::Fronts::scalar_values))]
+fn character_of_four(a: u8, b: u8, c: u8, d: u8) -> Option<char>
+    requires { IsTrue (is_front_of 4 (a ∷ b ∷ [])) }
+    ensures { result ≡ Some (character_of (a ∷ b ∷ c ∷ d ∷ [])) }
+{
+    char::from_u32(((a as u32 % 8 * 64 + b as u32 % 64) * 64 + c as u32 % 64) * 64 + d as u32 % 64)
+}
+
+#[cfg(test)]
+mod tests;

@@ -2,5 +2,7 @@
 #![tactic(auto)]
 
 mod log;
+mod run;
+mod words;
 
 fn main() {}

@@ -1,0 +1,1 @@
+//! The words of the program: its arguments and its messages.

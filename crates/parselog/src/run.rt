@@ -31,11 +31,7 @@ pub enum Mode {
 ///   answers;
 /// - `Err(Fault::Write)` where a write failed: what is written is a proper beginning of the
 ///   text, and nothing was read or written after the fault.
-pub fn run<R: Source, W: Sink>(
-    mode: Mode,
-    reader: &mut R,
-    writer: W,
-) -> (W, Result<(), Fault>)
+pub fn run<R: Source, W: Sink>(mode: Mode, reader: &mut R, writer: W) -> (W, Result<(), Fault>)
     ensures { Runs R.remaining R.Source.has_failed R.zero_is_end W.contents W.Sink.has_failed (text_of mode) reader.old reader.new writer result.0 result.1 }
 {
     match mode {

@@ -47,12 +47,12 @@ returns-in-AtEnd g c =
     let OfText : (List Call → List ℕ) → Type 0 = λ t. Runs {R = R} {W = W} {T = Unit {0}} remaining failed zero contents writer_failed t c.args.reader.now c.drive-end.new.reader c.args.writer c.finish-writer.result.0 c.finish-writer.result.1 in
     let OfWriter : W → Type 0 = λ w. Runs {R = R} {W = W} {T = Unit {0}} remaining failed zero contents writer_failed lines c.args.reader.now c.drive-end.new.reader w c.finish-writer.result.0 c.finish-writer.result.1 in
     let OfEnd : End → Type 0 = λ e. Drives {R = R} {P = LogWriter W} remaining failed zero (λ old call new. Adds contents writer_failed (line call) (output_of old) (output_of new)) (λ p. fault_in (output_of p))
-        c.args.reader.now c.drive-end.new.reader new after e in
+    c.args.reader.now c.drive-end.new.reader new after e in
     subst OfText (log_text c.args.mode)
     (subst OfWriter c.new-performer.ensures.writer
     (⊎_elim
     (λ end. Runs-at_end R W (LogWriter W) (Unit {0}) remaining failed zero contents writer_failed line output_of
-        c.args.reader.now c.drive-end.new.reader new after (subst OfEnd end c.drive-end.ensures) c.new-performer.ensures.no_fault c.finish-writer.result.0 c.finish-writer.result.1 c.finish-writer.ensures)
+    c.args.reader.now c.drive-end.new.reader new after (subst OfEnd end c.drive-end.ensures) c.new-performer.ensures.no_fault c.finish-writer.result.0 c.finish-writer.result.1 c.finish-writer.ensures)
     (λ end. Runs-stopped R W (LogWriter W) (Unit {0}) remaining failed zero contents writer_failed line output_of
-        c.args.reader.now c.drive-end.new.reader new after (subst OfEnd end c.drive-end.ensures) c.new-performer.ensures.no_fault c.finish-writer.result.0 c.finish-writer.result.1 c.finish-writer.ensures)
+    c.args.reader.now c.drive-end.new.reader new after (subst OfEnd end c.drive-end.ensures) c.new-performer.ensures.no_fault c.finish-writer.result.0 c.finish-writer.result.1 c.finish-writer.ensures)
     c.in-AtEnd.is))

@@ -87,3 +87,8 @@ module _ {W : Type 0} (contents : W → Option (List ℕ)) (has_failed : W → B
       → HandsOn contents has_failed ((48 + n % 10) ∷ []) i j b c → HandsOn contents has_failed (decimal n) h j a c
   HandsOn-decimal_step n h i j a b c large fits first last =
       subst (λ t. HandsOn contents has_failed t h j a c) (sym (decimal_step n large fits)) (HandsOn-append (decimal (n / 10)) ((48 + n % 10) ∷ []) h i j a b c first last)
+
+  -- what a new piece is given, and then hands on, is written
+  pub HandsOn-new : (t h i : List ℕ) (a b c : Output W) → h ≡ [] → HandsOn contents has_failed t h i a b → Adds contents has_failed i b c → Adds contents has_failed t a c
+  HandsOn-new t h i a b c none first last =
+      subst (λ l. Adds contents has_failed (l ++ t) a c) none (HandsOn-finish t h i a b c first last)

@@ -145,11 +145,11 @@ pub IsWithinLimits-machine : {A : Type 0} (adds : Adds A) (bytes : List ℕ) (m 
 IsWithinLimits-machine adds [] m h = h
 IsWithinLimits-machine adds (b ∷ bytes) m h = IsWithinLimits-machine adds bytes (step adds b m) (IsWithinLimits-step adds b m h)
 
--- a parser whose array and text are of their sizes is within the limits
-pub IsWithinLimits-parser : {C : Type 0} (p : Parser C) → length p.params.numbers ≡ 32 → length p.osc_text.items ≤ 1024 → IsWithinLimits (machine_of p)
-IsWithinLimits-parser p numbers text = record {
+-- a parser is within the limits: its own conditions, and the size of its array of fields
+pub IsWithinLimits-parser : {C : Type 0} (p : Parser C) → length p.params.numbers ≡ 32 → IsWithinLimits (machine_of p)
+IsWithinLimits-parser p numbers = record {
   fields = omega (arith, p.params.in_range, field_total p.params.numbers p.params.lengths p.params.closed_groups p.params.open_fields p.params.len p.params.summed (omega (arith, p.params.in_range, numbers)));
   collected = omega (arith, length-take p.intermediate_count p.intermediates, p.few_intermediates);
-  stored = omega (arith, text, stored_total p.osc_text.items p.osc_lengths p.osc_parts p.osc_closed p.closed_parts p.parts_in_text);
+  stored = omega (arith, p.text_fits, stored_total p.osc_text.items p.osc_lengths p.osc_parts p.osc_closed p.closed_parts p.parts_in_text);
   parts = omega (arith, length-cut (take p.osc_parts p.osc_lengths) p.osc_text.items, length-take p.osc_parts p.osc_lengths, p.few_parts);
 }

@@ -2,7 +2,7 @@ use Rattle.std.proofs.Common.{List, ◌∷◌, [], ◌≡◌, subst, ap, sym, �
 use Rattle.std.proofs.lemmas.List.{append-nil}
 use Rattle.anstyle_parse.specs.Call.{Call}
 use Rattle.anstyle_parse.specs.Calls.{Continues}
-use Rattle.anstyle_parse.specs.Machine.{Machine, IsWithinLimits, step, step_calls}
+use Rattle.anstyle_parse.specs.Machine.{Machine, IsWithinLimits, step_calls}
 use Rattle.anstyle_parse.specs.Parser.{machine_of}
 use Rattle.anstyle_parse.proofs.CallCounts.{step_calls-few, step_calls-two}
 use Rattle.anstyle_parse.proofs.Limits.{IsWithinLimits-step, IsWithinLimits-parser}
@@ -43,4 +43,4 @@ returns-clause-limits g c =
     let P : Machine g.row.C.Denot → Type 0 = λ m. IsWithinLimits m in
     subst P (sym c.take_byte.ensures.machine)
     (IsWithinLimits-step g.C.CharAccumulator.adds c.args.byte (machine_of c.args.self.now)
-    (IsWithinLimits-parser c.args.self.now (omega arith) (omega arith)))
+    (IsWithinLimits-parser c.args.self.now (omega arith)))

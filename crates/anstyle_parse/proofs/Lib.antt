@@ -55,3 +55,4 @@ pub mod CheckpointFields
 pub mod CheckpointHeader
 pub mod CheckpointText
 pub mod Checkpoint
+pub mod Limits

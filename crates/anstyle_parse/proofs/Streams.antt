@@ -1,5 +1,5 @@
 -- What the public calls say of streams, from what they say of the machine.
-use Rattle.std.proofs.Common.{◌≡◌, ◌<◌, ◌^◌, ℕ, List, [], ◌∷◌, ◌++◌, ◌⊎◌, ⊎_elim, inl, inr, sym, ap, ◌∙◌, subst, arith, length, get_or, Fits}
+use Rattle.std.proofs.Common.{◌≡◌, Bool, true, false, IsTrue, refl, ◌<◌, ◌^◌, ℕ, List, [], ◌∷◌, ◌++◌, ◌⊎◌, ⊎_elim, inl, inr, sym, ap, ◌∙◌, subst, arith, length, get_or, Fits}
 use Rattle.std.specs.List.{AllByRecursion}
 use Rattle.std.proofs.lemmas.List.{get_or_default}
 use Rattle.std.proofs.lemmas.List.Elements.{recursion_from_All}
@@ -10,7 +10,7 @@ use Rattle.anstyle_parse.specs.Calls.{Continues}
 use Rattle.anstyle_parse.specs.Decoder.{decoded}
 use Rattle.anstyle_parse.specs.Machine.{Machine, Adds, step, machine_after, machine_calls}
 use Rattle.anstyle_parse.specs.Stands.{StandsAfter, seen, unseen, Decodes}
-use Rattle.anstyle_parse.specs.Parser.{machine_of, CanTake, CanTakeAll, AreBelow, IsAfter, IsAfterAscii}
+use Rattle.anstyle_parse.specs.Parser.{machine_of, CanTake, CanTakeAll, MayTakeAll, AreBelow, IsAfter, IsAfterAscii}
 use Rattle.anstyle_parse.proofs.Stands.{StandsAfter-machine, Continues-machine}
 use Rattle.anstyle_parse.proofs.Seen.{Seen-machine}
 use Rattle.anstyle_parse.proofs.Unseen.{Unseen-step, Unseen-machine, StandsAfter-outside, takes-outside}
@@ -22,6 +22,12 @@ bytes_below bytes fits = recursion_from_All (λ b. b < 256) bytes (λ k d lt. om
 pub AreBelow-append : (limit : ℕ) (xs ys : List ℕ) → AreBelow limit xs → AreBelow limit ys → AreBelow limit (xs ++ ys)
 AreBelow-append limit [] ys first second = second
 AreBelow-append limit (x ∷ xs) ys first second = (first.0, AreBelow-append limit xs ys first.1 second)
+
+-- an accumulator that decodes takes every byte
+pub CanTakeAll-may : {C : Type 0} (front : C → List ℕ) (takes : C → ℕ → Type 0) (adds : Adds C) (decodes : Bool) → (IsTrue decodes → Decodes C front takes adds)
+    → (parser : Parser C) (bytes : List ℕ) → MayTakeAll decodes takes parser bytes → CanTakeAll takes parser bytes
+CanTakeAll-may front takes adds true follows parser bytes may = inl (λ value b small. (follows refl).takes_bytes value b small)
+CanTakeAll-may front takes adds false follows parser bytes may = may
 
 module _ {C : Type 0} (takes : C → ℕ → Type 0) where
   -- the first of some bytes can be taken

@@ -74,7 +74,7 @@ impl<C: CharAccumulator> Default for Parser<C> {
 impl<C: CharAccumulator> Parser<C> {
     ghost use Rattle.std.specs.Prelude.{◌++◌, ◌∷◌, [], IsTrue, ◌↔◌};
     ghost use Rattle.anstyle_parse.specs.Bytes.{is_cancel};
-    ghost use Rattle.anstyle_parse.specs.Parser.{machine_of, IsNew, IsInCharacter, HasOpenString, CanTake, CanTakeAll, IsAfter, IsAfterAscii, AreBelow};
+    ghost use Rattle.anstyle_parse.specs.Parser.{machine_of, IsNew, IsInCharacter, HasOpenString, CanTake, MayTakeAll, IsAfter, IsAfterAscii, AreBelow};
     ghost use Rattle.anstyle_parse.specs.Machine.{step, step_calls, machine_after, machine_calls, IsWithinLimits};
     ghost use Rattle.anstyle_parse.specs.Calls.{Continues};
     ghost use Rattle.anstyle_parse.specs.Stands.{EndsInCharacter};
@@ -125,11 +125,12 @@ impl<C: CharAccumulator> Parser<C> {
 
     /// Takes bytes, one after another, as `advance` does.
     ///
-    /// The condition is that the accumulator takes every byte, as `Utf8Parser` does, or that
-    /// the parser is outside a character and every byte is below 80.
+    /// With `Utf8Parser` there is no condition. With an accumulator that does not decode UTF-8
+    /// it is that the accumulator takes every byte whatever it holds, or that the parser is
+    /// outside a character and every byte is below 80.
     #[inline]
     pub fn advance_all<P: Perform>(&mut self, performer: &mut P, bytes: &[u8])
-        requires { CanTakeAll C.takes self.old bytes.now }
+        requires { MayTakeAll C.decodes C.takes self.old bytes.now }
 
         // The bytes do what the machine does with each in turn.
         ensures machine { machine_of self.new ≡ machine_after C.adds bytes.now (machine_of self.old) }

@@ -2,8 +2,13 @@ use Rattle.std.proofs.Common.{arith, subst, sym}
 use Rattle.anstyle_parse.specs.Machine.{Machine, IsWithinLimits}
 use Rattle.anstyle_parse.specs.Parser.{machine_of}
 use Rattle.anstyle_parse.proofs.Limits.{IsWithinLimits-machine, IsWithinLimits-parser}
-use Rattle.anstyle_parse.proofs.Streams.{bytes_below, IsAfter-taken, Continues-taken, IsAfterAscii-taken, Continues-ascii}
+use Rattle.anstyle_parse.proofs.Streams.{CanTakeAll-may, bytes_below, IsAfter-taken, Continues-taken, IsAfterAscii-taken, Continues-ascii}
 use Rattle.anstyle_parse.proofs.parser.Parser.advance_all.Goals as goal
+
+pub take_bytes-requires : goal.take_bytes-requires
+take_bytes-requires g c =
+    let n = g.C.CharAccumulator in
+    CanTakeAll-may n.front n.takes n.adds n.decodes g.met.C.CharAccumulator.follows c.args.self.now c.args.bytes.now c.requires
 
 pub returns-clause-stands : goal.returns-clause-stands
 returns-clause-stands g c = λ before decodes stands.

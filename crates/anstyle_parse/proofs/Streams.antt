@@ -10,7 +10,7 @@ use Rattle.anstyle_parse.specs.Calls.{Continues}
 use Rattle.anstyle_parse.specs.Decoder.{decoded}
 use Rattle.anstyle_parse.specs.Machine.{Machine, Adds, step, machine_after, machine_calls}
 use Rattle.anstyle_parse.specs.Stands.{StandsAfter, seen, unseen, Decodes}
-use Rattle.anstyle_parse.specs.Parser.{machine_of, CanTake, CanTakeAll, MayTakeAll, AreBelow, IsAfter, IsAfterAscii}
+use Rattle.anstyle_parse.specs.Parser.{machine_of, CanTake, CanTakeAll, MayTake, MayTakeAll, AreBelow, IsAfter, IsAfterAscii}
 use Rattle.anstyle_parse.proofs.Stands.{StandsAfter-machine, Continues-machine}
 use Rattle.anstyle_parse.proofs.Seen.{Seen-machine}
 use Rattle.anstyle_parse.proofs.Unseen.{Unseen-step, Unseen-machine, StandsAfter-outside, takes-outside}
@@ -24,6 +24,11 @@ AreBelow-append limit [] ys first second = second
 AreBelow-append limit (x ∷ xs) ys first second = (first.0, AreBelow-append limit xs ys first.1 second)
 
 -- an accumulator that decodes takes every byte
+pub CanTake-may : {C : Type 0} (front : C → List ℕ) (takes : C → ℕ → Type 0) (adds : Adds C) (decodes : Bool) → (IsTrue decodes → Decodes C front takes adds)
+    → (parser : Parser C) (b : ℕ) → b < 256 → MayTake decodes takes parser b → CanTake takes parser b
+CanTake-may front takes adds true follows parser b small may = λ reaches. (follows refl).takes_bytes parser.accumulator b small
+CanTake-may front takes adds false follows parser b small may = may
+
 pub CanTakeAll-may : {C : Type 0} (front : C → List ℕ) (takes : C → ℕ → Type 0) (adds : Adds C) (decodes : Bool) → (IsTrue decodes → Decodes C front takes adds)
     → (parser : Parser C) (bytes : List ℕ) → MayTakeAll decodes takes parser bytes → CanTakeAll takes parser bytes
 CanTakeAll-may front takes adds true follows parser bytes may = inl (λ value b small. (follows refl).takes_bytes value b small)

@@ -56,7 +56,10 @@ abbrev pub CanTakeAll : {C : Type 0} → (C → ℕ → Type 0) → Parser C →
 CanTakeAll {C} takes parser bytes =
     ((value : C) (b : ℕ) → b < 0x100 → takes value b) ⊎ ((parser.state ≢ Utf8) × AreBelow 0x80 bytes)
 
--- The condition of taking bytes: none for an accumulator that decodes UTF-8.
+-- The condition of taking a byte, and bytes: none for an accumulator that decodes UTF-8.
+abbrev pub MayTake : {C : Type 0} → (decodes : Bool) → (C → ℕ → Type 0) → Parser C → ℕ → Type 0
+MayTake decodes takes parser b = OnFalse decodes (CanTake takes parser b)
+
 abbrev pub MayTakeAll : {C : Type 0} → (decodes : Bool) → (C → ℕ → Type 0) → Parser C → List ℕ → Type 0
 MayTakeAll decodes takes parser bytes = OnFalse decodes (CanTakeAll takes parser bytes)
 

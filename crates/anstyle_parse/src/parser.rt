@@ -74,7 +74,7 @@ impl<C: CharAccumulator> Default for Parser<C> {
 impl<C: CharAccumulator> Parser<C> {
     ghost use Rattle.std.specs.Prelude.{◌++◌, ◌∷◌, [], IsTrue, ◌↔◌};
     ghost use Rattle.anstyle_parse.specs.Bytes.{is_cancel};
-    ghost use Rattle.anstyle_parse.specs.Parser.{machine_of, IsNew, IsInCharacter, HasOpenString, CanTake, MayTakeAll, IsAfter, IsAfterAscii, AreBelow};
+    ghost use Rattle.anstyle_parse.specs.Parser.{machine_of, IsNew, IsInCharacter, HasOpenString, MayTake, MayTakeAll, IsAfter, IsAfterAscii, AreBelow};
     ghost use Rattle.anstyle_parse.specs.Machine.{step, step_calls, machine_after, machine_calls, IsWithinLimits};
     ghost use Rattle.anstyle_parse.specs.Calls.{Continues};
     ghost use Rattle.anstyle_parse.specs.Stands.{EndsInCharacter};
@@ -90,13 +90,13 @@ impl<C: CharAccumulator> Parser<C> {
 
     /// Takes one byte, and makes its calls.
     ///
-    /// The condition is that the accumulator takes the byte if it reaches it: inside a
-    /// character, or in the ground state where the byte is C2..F4. `Utf8Parser` takes every
-    /// byte. At most two calls are made, and two only where 18 or 1A ends an operating
+    /// With `Utf8Parser` there is no condition. With an accumulator that does not decode UTF-8
+    /// it is that the accumulator takes the byte if it reaches it: inside a character, or in
+    /// the ground state where the byte is C2..F4. At most two calls are made, and two only where 18 or 1A ends an operating
     /// system command or a hooked device control string.
     #[inline]
     pub fn advance<P: Perform>(&mut self, performer: &mut P, byte: u8)
-        requires { CanTake C.takes self.old byte }
+        requires { MayTake C.decodes C.takes self.old byte }
 
         // One byte does what the machine does with it.
         ensures machine { machine_of self.new ≡ step C.adds byte (machine_of self.old) }

@@ -6,8 +6,13 @@ use Rattle.anstyle_parse.specs.Machine.{Machine, IsWithinLimits, step_calls}
 use Rattle.anstyle_parse.specs.Parser.{machine_of}
 use Rattle.anstyle_parse.proofs.CallCounts.{step_calls-few, step_calls-two}
 use Rattle.anstyle_parse.proofs.Limits.{IsWithinLimits-step, IsWithinLimits-parser}
-use Rattle.anstyle_parse.proofs.Streams.{IsAfter-taken, Continues-taken, IsAfterAscii-taken, Continues-ascii}
+use Rattle.anstyle_parse.proofs.Streams.{CanTake-may, IsAfter-taken, Continues-taken, IsAfterAscii-taken, Continues-ascii}
 use Rattle.anstyle_parse.proofs.parser.Parser.advance.Goals as goal
+
+pub take_byte-requires : goal.take_byte-requires
+take_byte-requires g c =
+    let n = g.C.CharAccumulator in
+    CanTake-may n.front n.takes n.adds n.decodes g.met.C.CharAccumulator.follows c.args.self.now c.args.byte (omega arith) c.requires
 
 pub returns-clause-stands : goal.returns-clause-stands
 returns-clause-stands g c = λ before decodes stands.

@@ -1,6 +1,5 @@
 -- What the parser keeps stays within its limits, whatever the bytes are.
-use Rattle.std.proofs.Common.{◌≡◌, ℕ, ◌+◌, ◌<◌, ◌≤◌, Bool, true, false, List, [], ◌∷◌, ◌++◌, length, take, drop, eqb, arith, length-append, length-take, lit≤}
-use Rattle.std.specs.List.{concat}
+use Rattle.std.proofs.Common.{◌≡◌, ℕ, ◌+◌, ◌≤◌, false, List, [], ◌∷◌, ◌++◌, length, take, eqb, arith, length-append, length-take, lit≤}
 use Rattle.std.proofs.lemmas.Bool.{cond_both, eqb-false}
 use Rattle.anstyle_parse.specs.declared.state.definitions.State.{State}
 use Rattle.anstyle_parse.specs.declared.state.definitions.State.TheVariants.{Anywhere, Utf8}

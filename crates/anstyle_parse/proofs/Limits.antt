@@ -130,6 +130,7 @@ module _ {A : Type 0} (adds : Adds A) where
       (IsWithinLimits-action action b left (IsWithinLimits-action (exit_action m.state) b m h)) in
       record { fields = entered.fields; collected = entered.collected; stored = entered.stored; parts = entered.parts }
 
+  -- a byte in each state
   IsWithinLimits-from : (state : State) (b : ℕ) (m : Machine A) → IsWithinLimits m → IsWithinLimits (step_from adds state b m)
   IsWithinLimits-from Utf8 b m h = record { fields = h.fields; collected = h.collected; stored = h.stored; parts = h.parts }
   IsWithinLimits-from state b m h = IsWithinLimits-change (change_at state b).state (change_at state b).action b m h

@@ -1,6 +1,5 @@
 -- What the parser keeps stays within its limits, whatever the bytes are.
-use Rattle.std.proofs.Common.{◌≡◌, ℕ, ◌+◌, ◌<◌, ◌≤◌, Bool, true, false, List, [], ◌∷◌, ◌++◌, length, take, drop, eqb, arith, length-append, length-take, lit≤}
-use Rattle.std.specs.List.{concat}
+use Rattle.std.proofs.Common.{◌≡◌, ℕ, ◌+◌, ◌≤◌, false, List, [], ◌∷◌, ◌++◌, length, take, eqb, arith, length-append, length-take, lit≤}
 use Rattle.std.proofs.lemmas.Bool.{cond_both, eqb-false}
 use Rattle.anstyle_parse.specs.declared.state.definitions.State.{State}
 use Rattle.anstyle_parse.specs.declared.state.definitions.State.TheVariants.{Anywhere, Utf8}
@@ -131,6 +130,7 @@ module _ {A : Type 0} (adds : Adds A) where
       (IsWithinLimits-action action b left (IsWithinLimits-action (exit_action m.state) b m h)) in
       record { fields = entered.fields; collected = entered.collected; stored = entered.stored; parts = entered.parts }
 
+  -- a byte in each state
   IsWithinLimits-from : (state : State) (b : ℕ) (m : Machine A) → IsWithinLimits m → IsWithinLimits (step_from adds state b m)
   IsWithinLimits-from Utf8 b m h = record { fields = h.fields; collected = h.collected; stored = h.stored; parts = h.parts }
   IsWithinLimits-from state b m h = IsWithinLimits-change (change_at state b).state (change_at state b).action b m h

@@ -1,4 +1,4 @@
-use Rattle.std.proofs.Common.{List, ◌∷◌, [], ◌≡◌, subst, ap, sym, ◌∙◌, arith}
+use Rattle.std.proofs.Common.{List, ◌∷◌, [], subst, sym, arith}
 use Rattle.std.proofs.lemmas.List.{append-nil}
 use Rattle.anstyle_parse.specs.Call.{Call}
 use Rattle.anstyle_parse.specs.Calls.{Continues}

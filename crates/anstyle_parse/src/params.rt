@@ -1,10 +1,13 @@
 //! The parameters of a control sequence or of a device control string: groups of fields.
 //! A list of fixed size, so that no byte of a stream takes memory.
-ghost use Rattle.std.specs.Prelude.{◌≡◌, ◌≢◌, ◌<◌, ◌≤◌, ◌+◌, ◌++◌, ◌∷◌, [], ◌↔◌, ℕ, IsTrue, length, take, slice_index};
+ghost use Rattle.std.specs.Prelude.{◌≡◌, ◌≢◌, ◌<◌, ◌≤◌, ◌+◌, ◌++◌, ◌∷◌, [], ◌↔◌, ℕ, IsTrue, IfSome, length, take, slice_index};
 ghost use Rattle.std.specs.Bool.{OnFalse};
 ghost use Rattle.std.specs.List.{concat};
 ghost use Rattle.anstyle_parse.specs.Groups.{total};
-ghost use Rattle.std.specs.Iterator.{YieldsFirstBy, item_count};
+ghost use Rattle.std.specs.Iterator.{YieldsFirstBy, item_count, UpTo};
+ghost use Rattle.std.specs.Iterator.SizeHint.{IsWithinCount};
+
+use std::iter::FusedIterator;
 
 /// The fields that are stored at most; those that come later are dropped.
 pub const MAX_PARAMS: usize = 32;
@@ -139,12 +142,50 @@ impl<'a> Iterator for ParamsIter<'a> {
 
     ghost remaining = { item_count groups_left };
 
-    /// The next group, or nothing behind the last.
+    /// The next group, or nothing where none is left: behind the last group every further
+    /// call answers nothing.
     fn next(&mut self) -> Option<&'a [u16]> {
         let (length, lengths) = self.lengths.split_first()?;
         let (group, numbers) = self.numbers.split_at(*length as usize);
         self.lengths = lengths;
         self.numbers = numbers;
         Some(group)
+    }
+
+    /// Exactly how many groups are left, twice.
+    fn size_hint(&self) -> (usize, Option<usize>)
+        ensures exact { result ≡ (length (groups_left self.now), Some (length (groups_left self.now))) }
+        ensures lower { IsWithinCount result.0 (item_count groups_left self.now) }
+        ensures upper { IfSome result.1 (UpTo (item_count groups_left self.now)) }
+    {
+        let left = self.len();
+        (left, Some(left))
+    }
+}
+
+impl<'a> ExactSizeIterator for ParamsIter<'a> {
+    ghost use Rattle.anstyle_parse.specs.Params.{groups_left};
+
+    /// How many groups are left.
+    fn len(&self) -> usize {
+        self.lengths.len()
+    }
+}
+
+/// Behind the last group every `next` answers nothing.
+impl<'a> FusedIterator for ParamsIter<'a> {}
+
+impl<'a> IntoIterator for &'a Params {
+    type Item = &'a [u16];
+
+    type IntoIter = ParamsIter<'a>;
+
+    ghost use Rattle.anstyle_parse.specs.Params.{groups_shown, groups_left};
+
+    ghost into_iter_gives = { λ params iter. groups_left iter ≡ groups_shown params.now };
+
+    /// The groups in order, as `iter` gives them.
+    fn into_iter(self) -> ParamsIter<'a> {
+        self.iter()
     }
 }

@@ -46,3 +46,4 @@ pub mod CanonLength
 pub mod LawfulCalls
 pub mod CanonTwice
 pub mod CanonBytes
+pub mod DebugLemmas

@@ -16,4 +16,5 @@ pub mod Front
 pub mod Accumulator
 pub mod Decoding
 pub mod Canon
+pub mod DebugText
 pub mod Lawful

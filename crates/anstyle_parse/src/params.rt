@@ -6,7 +6,10 @@ ghost use Rattle.std.specs.List.{concat};
 ghost use Rattle.anstyle_parse.specs.Groups.{total};
 ghost use Rattle.std.specs.Iterator.{YieldsFirstBy, item_count, UpTo};
 ghost use Rattle.std.specs.Iterator.SizeHint.{IsWithinCount};
+ghost use Rattle.std.specs.Fmt.{WritesOnOk};
+ghost use Rattle.anstyle_parse.specs.DebugText.{group_text};
 
+use std::fmt;
 use std::iter::FusedIterator;
 
 /// The fields that are stored at most; those that come later are dropped.
@@ -125,6 +128,22 @@ impl Default for Params {
     }
 }
 
+/// `[`, the groups with `;` between them, the fields of a group in decimal with `:` between
+/// them, then `]`.
+impl fmt::Debug for Params {
+    ghost use Rattle.std.specs.Prelude.{Some};
+    ghost use Rattle.anstyle_parse.specs.Params.{groups_shown};
+    ghost use Rattle.anstyle_parse.specs.DebugText.{debug_text};
+
+    ghost debug_output = { λ params. Some (debug_text (groups_shown params)) };
+
+    fn fmt<W: fmt::Write>(&self, f: &mut fmt::Formatter<W>) -> fmt::Result {
+        f.write_str("[")?;
+        self.iter().write_texts(f)?;
+        f.write_str("]")
+    }
+}
+
 /// The groups of a `Params`, in order.
 #[derive(Drop)]
 pub struct ParamsIter<'a> {
@@ -188,4 +207,36 @@ impl<'a> IntoIterator for &'a Params {
     fn into_iter(self) -> ParamsIter<'a> {
         self.iter()
     }
+}
+
+impl<'a> ParamsIter<'a> {
+    ghost use Rattle.anstyle_parse.specs.Params.{groups_left};
+    ghost use Rattle.anstyle_parse.specs.Canon.{groups_text};
+
+    /// Writes the groups that are left, with `;` between them.
+    fn write_texts<W: fmt::Write>(mut self, f: &mut fmt::Formatter<W>) -> fmt::Result
+        ensures { WritesOnOk W.write_str_gives f.old result (groups_text (groups_left self.entry)) f.new }
+    {
+        if let Some(first) = self.next() {
+            write_group(f, first)?;
+            for group in self {
+                f.write_str(";")?;
+                write_group(f, group)?;
+            }
+        }
+        Ok(())
+    }
+}
+
+/// Writes the fields of a group in decimal, with `:` between them.
+fn write_group<W: fmt::Write>(f: &mut fmt::Formatter<W>, group: &[u16]) -> fmt::Result
+    ensures { WritesOnOk W.write_str_gives f.old result (group_text group.now) f.new }
+{
+    if let Some((first, others)) = group.split_first() {
+        write!(f, "{first}")?;
+        for field in others {
+            write!(f, ":{field}")?;
+        }
+    }
+    Ok(())
 }

@@ -7,6 +7,7 @@ use Rattle.anstyle_parse.specs.Bytes.{is_within, is_parameter, colon, semicolon}
 use Rattle.anstyle_parse.specs.Arguments.{field, max_field, first_fields}
 use Rattle.anstyle_parse.specs.Items.{EachIs}
 use Rattle.anstyle_parse.specs.Canon.{groups_text}
+use Rattle.anstyle_parse.specs.DebugText.{group_text}
 use Rattle.anstyle_parse.specs.Lawful.{IsGroup}
 use Rattle.anstyle_parse.proofs.DivisionHeaders.{EachIs-append, EachIs-weaker}
 use Rattle.anstyle_parse.proofs.CanonLists.{implied, EachIs-join_with_byte, AllByRecursion-map, AllByRecursion-weaker, slice_split-join_with_byte, join_with_byte-push_empty, EachLacks}
@@ -53,10 +54,6 @@ fields-each : (q : ℕ → Bool) → ((b : ℕ) → is_digit b ≡ true → q b 
 fields-each q step group h =
     AllByRecursion-map (EachIs q) decimal group
     (AllByRecursion-weaker (λ n. n ≤ max_field) (λ n. EachIs q (decimal n)) (λ n k. EachIs-weaker is_digit q step (decimal n) (decimal-digits n k)) group h)
-
--- one group as a text
-abbrev pub group_text : List ℕ → List ℕ
-group_text group = join_with_byte colon (map decimal group)
 
 -- a text of a group, read
 abbrev pub read_group : List ℕ → List ℕ

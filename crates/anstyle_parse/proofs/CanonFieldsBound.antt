@@ -12,10 +12,11 @@ use Rattle.anstyle_parse.specs.Bytes.{is_within, is_parameter, colon, semicolon}
 use Rattle.anstyle_parse.specs.Arguments.{field, max_field, max_fields, grouped_fields, groups_of}
 use Rattle.anstyle_parse.specs.Items.{EachIs}
 use Rattle.anstyle_parse.specs.Canon.{groups_text}
+use Rattle.anstyle_parse.specs.DebugText.{group_text}
 use Rattle.anstyle_parse.specs.Lawful.{IsGroup}
 use Rattle.anstyle_parse.proofs.CanonLists.{implied, EachIs-filter}
 use Rattle.anstyle_parse.proofs.CanonCharacters.{within_parts}
-use Rattle.anstyle_parse.proofs.CanonFields.{group_text, read_group}
+use Rattle.anstyle_parse.proofs.CanonFields.{read_group}
 use Rattle.anstyle_parse.proofs.LawfulLists.{slice_split-each, spaced, length-join_with_byte, length-join_with_byte_le, spaced-slice_split, length-slice_split_le, length-filter_le}
 use Rattle.anstyle_parse.proofs.LawfulHeaders.{groups_of-groups, fields_of}
 

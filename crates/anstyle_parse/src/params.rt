@@ -1,6 +1,6 @@
 //! The parameters of a control sequence or of a device control string: groups of fields.
 //! A list of fixed size, so that no byte of a stream takes memory.
-ghost use Rattle.std.specs.Prelude.{◌≡◌, ◌≢◌, ◌<◌, ◌≤◌, ◌+◌, ◌++◌, ◌∷◌, [], ◌↔◌, ℕ, IsTrue, IfSome, length, take, slice_index};
+ghost use Rattle.std.specs.Prelude.{◌≡◌, ◌≢◌, ◌<◌, ◌≤◌, ◌+◌, ◌++◌, ◌∷◌, [], ◌↔◌, ℕ, IsTrue, IfSome, ⊤, length, take, slice_index};
 ghost use Rattle.std.specs.Bool.{OnFalse};
 ghost use Rattle.std.specs.List.{concat};
 ghost use Rattle.anstyle_parse.specs.Groups.{total};
@@ -9,6 +9,7 @@ ghost use Rattle.std.specs.Iterator.SizeHint.{IsWithinCount};
 ghost use Rattle.std.specs.Fmt.{WritesOnOk};
 ghost use Rattle.anstyle_parse.specs.DebugText.{group_text};
 
+use std::alloc::AllocError;
 use std::fmt;
 use std::iter::FusedIterator;
 
@@ -141,6 +142,39 @@ impl fmt::Debug for Params {
         f.write_str("[")?;
         self.iter().write_texts(f)?;
         f.write_str("]")
+    }
+}
+
+impl Clone for Params {
+    ghost is_clone = { λ params clone. clone ≡ params };
+
+    ghost is_infallible = { λ _. ⊤ };
+
+    /// The same value; it never fails.
+    fn clone(&self) -> Result<Params, AllocError> {
+        Ok(Params {
+            numbers: self.numbers,
+            lengths: self.lengths,
+            closed_groups: self.closed_groups,
+            open_fields: self.open_fields,
+            len: self.len,
+        })
+    }
+}
+
+/// Laws: functions that do nothing, for what they ensure.
+impl Params {
+    ghost use Rattle.std.specs.Cmp.{IsEquivalence};
+    ghost use Rattle.anstyle_parse.specs.Params.{groups_shown};
+
+    /// `==` is reflexive, symmetric and transitive, and equal parameters show equal groups.
+    ///
+    /// Parameters that show equal groups may differ: what is left over from an earlier
+    /// sequence is compared too.
+    pub fn equality_law()
+        ensures equivalence { IsEquivalence ⟦<Params as PartialEq>⟧.eq }
+        ensures groups { (a b : Params) → IsTrue (⟦<Params as PartialEq>⟧.eq a b) → groups_shown a ≡ groups_shown b }
+    {
     }
 }
 

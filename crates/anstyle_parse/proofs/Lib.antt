@@ -47,3 +47,4 @@ pub mod LawfulCalls
 pub mod CanonTwice
 pub mod CanonBytes
 pub mod DebugLemmas
+pub mod TextLaw

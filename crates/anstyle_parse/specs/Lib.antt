@@ -18,3 +18,4 @@ pub mod Decoding
 pub mod Canon
 pub mod DebugText
 pub mod Lawful
+pub mod TextLaw

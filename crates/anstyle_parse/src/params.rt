@@ -164,8 +164,12 @@ impl Clone for Params {
 
 /// Laws: functions that do nothing, for what they ensure.
 impl Params {
+    ghost use Rattle.std.specs.Prelude.{List};
     ghost use Rattle.std.specs.Cmp.{IsEquivalence};
     ghost use Rattle.anstyle_parse.specs.Params.{groups_shown};
+    ghost use Rattle.anstyle_parse.specs.Call.{Call};
+    ghost use Rattle.anstyle_parse.specs.Calls.{AreCalls};
+    ghost use Rattle.anstyle_parse.specs.TextLaw.{AreSent, HandsOut, IsReadBack};
 
     /// `==` is reflexive, symmetric and transitive, and equal parameters show equal groups.
     ///
@@ -174,6 +178,16 @@ impl Params {
     pub fn equality_law()
         ensures equivalence { IsEquivalence ⟦<Params as PartialEq>⟧.eq }
         ensures groups { (a b : Params) → IsTrue (⟦<Params as PartialEq>⟧.eq a b) → groups_shown a ≡ groups_shown b }
+    {
+    }
+
+    /// The Debug text of parameters that a parser hands out says to a parser the same again:
+    /// 1B, that text without its last byte, then 6D make one `csi_dispatch` of the same
+    /// groups, with no intermediates and `ignore` false.
+    pub fn text_law()
+        ensures handed_out { (bytes : List ℕ) (before : List Call) (call : Call) (after : List Call) (groups : List (List ℕ))
+            → AreCalls bytes (before ++ call ∷ after) → HandsOut call groups → IsReadBack groups }
+        ensures sent { (groups : List (List ℕ)) → AreSent groups → IsReadBack groups }
     {
     }
 }

@@ -288,3 +288,6 @@ fn write_group<W: fmt::Write>(f: &mut fmt::Formatter<W>, group: &[u16]) -> fmt::
     }
     Ok(())
 }
+
+#[cfg(test)]
+mod tests;

@@ -1,6 +1,8 @@
 pub mod Classes
 pub mod Divide
 pub mod GroupLemmas
+pub mod DebugLemmas
+pub mod TextLaw
 pub mod MachineLemmas
 pub mod Splits
 pub mod TextFold
@@ -46,5 +48,3 @@ pub mod CanonLength
 pub mod LawfulCalls
 pub mod CanonTwice
 pub mod CanonBytes
-pub mod DebugLemmas
-pub mod TextLaw

@@ -8,6 +8,8 @@ pub mod Items
 pub mod Calls
 pub mod Groups
 pub mod Params
+pub mod DebugText
+pub mod TextLaw
 pub mod Machine
 pub mod Decoder
 pub mod Stands
@@ -16,6 +18,4 @@ pub mod Front
 pub mod Accumulator
 pub mod Decoding
 pub mod Canon
-pub mod DebugText
 pub mod Lawful
-pub mod TextLaw

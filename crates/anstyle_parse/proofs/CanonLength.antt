@@ -10,7 +10,8 @@ use Rattle.anstyle_parse.specs.Arguments.{significant, is_kept, has_shape, after
 use Rattle.anstyle_parse.specs.Call.{Call, print, execute, hook, put, osc_dispatch, csi_dispatch}
 use Rattle.anstyle_parse.specs.Items.{Body, escape, control, device, hooked, dropped, command, ignored, End, complete, cancelled, broken_off, unfinished, Item, single, character, broken, begun, sequence, body_text, end_text, item_text, texts, IsItem}
 use Rattle.anstyle_parse.specs.Calls.{is_executed, is_printed, single_calls, is_passed, executes, control_dispatch, body_calls, end_calls, item_calls, items_calls, AreCalls}
-use Rattle.anstyle_parse.specs.Canon.{leading_marker, is_full, one_more_field, one_more_intermediate, groups_text, header_text, escape_text, command_end, call_text, canon}
+use Rattle.anstyle_parse.specs.Canon.{leading_marker, is_full, one_more_field, one_more_intermediate, header_text, escape_text, command_end, call_text, canon}
+use Rattle.anstyle_parse.specs.Groups.{groups_text}
 use Rattle.anstyle_parse.proofs.CanonCharacters.{within_parts, encode_one}
 use Rattle.anstyle_parse.proofs.CanonShown.{leading_marker-after_marker}
 use Rattle.anstyle_parse.proofs.LawfulLists.{length-take_le, length-filter_le}

@@ -6,7 +6,8 @@ use Rattle.std.proofs.lemmas.List.Folds.{concat-append}
 use Rattle.anstyle_parse.specs.Bytes.{is_intermediate, is_parameter, is_marker, semicolon}
 use Rattle.anstyle_parse.specs.Arguments.{after_marker, has_shape, significant, first_fields, groups_of, collected_of, ignore_of, max_fields, max_collected}
 use Rattle.anstyle_parse.specs.Items.{EachIs, is_header_byte}
-use Rattle.anstyle_parse.specs.Canon.{groups_text, leading_marker, is_full, header_text}
+use Rattle.anstyle_parse.specs.Canon.{leading_marker, is_full, header_text}
+use Rattle.anstyle_parse.specs.Groups.{groups_text}
 use Rattle.anstyle_parse.specs.Lawful.{IsHeaderCall}
 use Rattle.anstyle_parse.proofs.DivisionHeaders.{EachIs-append}
 use Rattle.anstyle_parse.proofs.CanonHeaders.{IsInOrder, in_order, filter-markers, filter-parameters, filter-intermediates, header_bytes, significant-in_order, has_shape-in_order, space_is}

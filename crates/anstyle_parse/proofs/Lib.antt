@@ -28,7 +28,8 @@ pub mod Stands
 pub mod Fronts
 pub mod Seen
 pub mod Unseen
-pub mod InCharacter
+pub mod CallCounts
+pub mod CharacterEnds
 pub mod Streams
 pub mod CanonLists
 pub mod CanonCharacters
@@ -48,3 +49,11 @@ pub mod CanonLength
 pub mod LawfulCalls
 pub mod CanonTwice
 pub mod CanonBytes
+pub mod OutputLemmas
+pub mod PieceLemmas
+pub mod Forgotten
+pub mod CheckpointHeld
+pub mod CheckpointFields
+pub mod CheckpointHeader
+pub mod CheckpointText
+pub mod Checkpoint

@@ -21,11 +21,12 @@ use Rattle.anstyle_parse.proofs.Reaches.{ReachesAccumulator-begin}
 abbrev pub AddsAs : {A : Type 0} → (A → List ℕ) → Adds A → A → ℕ → Type 0
 AddsAs front adds value b = decoded (front value) b ≡ (front (adds value b).0, (adds value b).1)
 
--- the accumulator is begun by no other action than BeginUtf8, and by no way in or out
+-- on the way out of a state no byte goes to the accumulator
 exit_action-begin : (state : State) → exit_action state ≡ BeginUtf8 → ⊥
 exit_action-begin DcsPassthrough e = cc
 exit_action-begin state e = cc
 
+-- nor on the way in
 entry_action-begin : (state : State) → entry_action state ≡ BeginUtf8 → ⊥
 entry_action-begin Escape e = cc
 entry_action-begin state e = cc
@@ -60,6 +61,7 @@ module _ {A : Type 0} (front : A → List ℕ) where
 
 -- From here on: for one byte, if it is added to the front where it reaches the accumulator.
 module _ {A : Type 0} (front : A → List ℕ) (adds : Adds A) (b : ℕ) where
+  -- an action
   seen-after_action : (action : Action) (m : Machine A) → (action ≡ BeginUtf8 → AddsAs front adds m.accumulator b)
       → seen front (after_action adds action b m) ≡ after_action decoded action b (seen front m)
   seen-after_action Collect m as_front = seen-collecting front b m
@@ -71,6 +73,7 @@ module _ {A : Type 0} (front : A → List ℕ) (adds : Adds A) (b : ℕ) where
   seen-after_action BeginUtf8 m as_front = ap (λ answer. let r : Machine (List ℕ) = record (seen front m) { accumulator = answer.0 } in r) (sym (as_front refl))
   seen-after_action action m as_front = refl
 
+  -- its calls
   action_calls-seen : (action : Action) (m : Machine A) → (action ≡ BeginUtf8 → AddsAs front adds m.accumulator b)
       → action_calls adds action b m ≡ action_calls decoded action b (seen front m)
   action_calls-seen Hook m as_front = ap (λ r. dispatched hook b r ∷ []) (seen-with_last_field front m)
@@ -79,14 +82,16 @@ module _ {A : Type 0} (front : A → List ℕ) (adds : Adds A) (b : ℕ) where
   action_calls-seen BeginUtf8 m as_front = ap (λ answer. print_answer answer.1) (sym (as_front refl))
   action_calls-seen action m as_front = refl
 
-  -- a change: on the way out, by the action, on the way in
+  -- what is done on the way out of a state
   seen-left : (m : Machine A) → seen front (after_action adds (exit_action m.state) b m) ≡ after_action decoded (exit_action m.state) b (seen front m)
   seen-left m = seen-after_action (exit_action m.state) m (λ e. absurd (exit_action-begin m.state e))
 
+  -- it leaves the accumulator
   left_adds : (action : Action) (m : Machine A) → (action ≡ BeginUtf8 → AddsAs front adds m.accumulator b)
       → action ≡ BeginUtf8 → AddsAs front adds (after_action adds (exit_action m.state) b m).accumulator b
   left_adds action m as_front e = rw (accumulator-exit adds m.state b m) (as_front e)
 
+  -- that, and the action
   seen-acted : (action : Action) (m : Machine A) → (action ≡ BeginUtf8 → AddsAs front adds m.accumulator b)
       → seen front (after_action adds action b (after_action adds (exit_action m.state) b m))
       ≡ after_action decoded action b (after_action decoded (exit_action m.state) b (seen front m))
@@ -94,6 +99,7 @@ module _ {A : Type 0} (front : A → List ℕ) (adds : Adds A) (b : ℕ) where
       seen-after_action action (after_action adds (exit_action m.state) b m) (left_adds action m as_front)
       ∙ ap (after_action decoded action b) (seen-left m)
 
+  -- a change of state
   seen-after_change : (state : State) (action : Action) (m : Machine A) → (action ≡ BeginUtf8 → AddsAs front adds m.accumulator b)
       → seen front (after_change adds state action b m) ≡ after_change decoded state action b (seen front m)
   seen-after_change Anywhere action m as_front = seen-after_action action m as_front
@@ -103,6 +109,7 @@ module _ {A : Type 0} (front : A → List ℕ) (adds : Adds A) (b : ℕ) where
       (seen-after_action (entry_action state) acted (λ e. absurd (entry_action-begin state e))
       ∙ ap (after_action decoded (entry_action state) b) (seen-acted action m as_front))
 
+  -- its calls
   change_calls-seen : (state : State) (action : Action) (m : Machine A) → (action ≡ BeginUtf8 → AddsAs front adds m.accumulator b)
       → change_calls adds state action b m ≡ change_calls decoded state action b (seen front m)
   change_calls-seen Anywhere action m as_front = action_calls-seen action m as_front
@@ -114,12 +121,14 @@ module _ {A : Type 0} (front : A → List ℕ) (adds : Adds A) (b : ℕ) where
       let enters = action_calls-seen (entry_action state) acted (λ e. absurd (entry_action-begin state e)) ∙ ap (action_calls decoded (entry_action state) b) (seen-acted action m as_front) in
       cc
 
+  -- one byte in each state
   seen-step_from : (state : State) (m : Machine A) → (ReachesAccumulator state b → AddsAs front adds m.accumulator b)
       → seen front (step_from adds state b m) ≡ step_from decoded state b (seen front m)
   seen-step_from Utf8 m as_front = ap (λ answer. let r : Machine (List ℕ) = record (seen front m) { accumulator = answer.0; state = state_after_answer answer.1 } in r) (sym (as_front tt))
   seen-step_from state m as_front =
       seen-after_change (change_at state b).state (change_at state b).action m (λ e. as_front (ReachesAccumulator-begin state b e))
 
+  -- its calls
   step_calls_from-seen : (state : State) (m : Machine A) → (ReachesAccumulator state b → AddsAs front adds m.accumulator b)
       → step_calls_from adds state b m ≡ step_calls_from decoded state b (seen front m)
   step_calls_from-seen Utf8 m as_front = ap (λ answer. print_answer answer.1) (sym (as_front tt))

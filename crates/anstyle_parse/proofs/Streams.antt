@@ -28,28 +28,27 @@ module _ {C : Type 0} (takes : C → ℕ → Type 0) where
   pub CanTake-first : (parser : Parser C) (b : ℕ) (bytes : List ℕ) → b < 256 → CanTakeAll takes parser (b ∷ bytes) → CanTake takes parser b
   CanTake-first parser b bytes small can =
       ⊎_elim
-        (λ all _. all parser.accumulator b small)
-        (λ ascii reaches. absurd (takes-outside parser.state b ascii.1.0 ascii.0 reaches))
-        can
+      (λ all _. all parser.accumulator b small)
+      (λ ascii reaches. absurd (takes-outside parser.state b ascii.1.0 ascii.0 reaches))
+      can
 
   -- and then the others
   pub CanTakeAll-rest : (adds : Adds C) (old new : Parser C) (b : ℕ) (bytes : List ℕ) → machine_of new ≡ step adds b (machine_of old)
       → CanTakeAll takes old (b ∷ bytes) → CanTakeAll takes new bytes
   CanTakeAll-rest adds old new b bytes stepped can =
       ⊎_elim
-        (λ all. inl all)
-        (λ ascii. inr ((λ inside. (Unseen-step adds b ascii.1.0 (machine_of old) ascii.0).2 (sym (ap (λ (m : Machine C). m.state) stepped) ∙ inside)), ascii.1.1))
-        can
+      (λ all. inl all)
+      (λ ascii. inr ((λ inside. (Unseen-step adds b ascii.1.0 (machine_of old) ascii.0).2 (sym (ap (λ (m : Machine C). m.state) stepped) ∙ inside)), ascii.1.1))
+      can
 
 module _ {C : Type 0} (front : C → List ℕ) (takes : C → ℕ → Type 0) (adds : Adds C) (decodes : Decodes C front takes adds)
     (old new : Parser C) (bytes : List ℕ) (below : AreBelow 256 bytes) (taken : machine_of new ≡ machine_after adds bytes (machine_of old))
     (before : List ℕ) (stands : IsAfter front old before) where
-
   pub IsAfter-taken : IsAfter front new (before ++ bytes)
   IsAfter-taken =
       let Q : Machine (List ℕ) → Type 0 = λ m. StandsAfter m (before ++ bytes) in
       subst Q (sym (ap (seen front) taken ∙ (Seen-machine front takes adds decodes bytes below (machine_of old)).0))
-        (StandsAfter-machine (seen front (machine_of old)) before bytes stands)
+      (StandsAfter-machine (seen front (machine_of old)) before bytes stands)
 
   pub Continues-taken : Continues before bytes (machine_calls adds bytes (machine_of old))
   Continues-taken =
@@ -59,16 +58,16 @@ module _ {C : Type 0} (front : C → List ℕ) (takes : C → ℕ → Type 0) (a
 module _ {C : Type 0} (adds : Adds C)
     (old new : Parser C) (bytes : List ℕ) (below : AreBelow 0x80 bytes) (taken : machine_of new ≡ machine_after adds bytes (machine_of old))
     (before : List ℕ) (stands : IsAfterAscii old before) where
-
   outside : old.state ≡ Utf8 → ⊥
   outside = StandsAfter-outside (unseen (machine_of old)) before stands.0 stands.1
 
   pub IsAfterAscii-taken : IsAfterAscii new (before ++ bytes)
   IsAfterAscii-taken =
-      let Q : Machine (List ℕ) → Type 0 = λ m. StandsAfter m (before ++ bytes) in
-      ( AreBelow-append 0x80 before bytes stands.0 below
-      , subst Q (sym (ap unseen taken ∙ (Unseen-machine adds bytes below (machine_of old) outside).0))
-          (StandsAfter-machine (unseen (machine_of old)) before bytes stands.1))
+      let Q : Machine (List ℕ) → Type 0 = λ m. StandsAfter m (before ++ bytes) in (
+        AreBelow-append 0x80 before bytes stands.0 below,
+        subst Q (sym (ap unseen taken ∙ (Unseen-machine adds bytes below (machine_of old) outside).0))
+            (StandsAfter-machine (unseen (machine_of old)) before bytes stands.1),
+      )
 
   pub Continues-ascii : Continues before bytes (machine_calls adds bytes (machine_of old))
   Continues-ascii =

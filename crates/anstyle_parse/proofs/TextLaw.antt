@@ -5,7 +5,8 @@ use Rattle.std.proofs.lemmas.Bool.{false≢true}
 use Rattle.anstyle_parse.specs.Bytes.{is_within, is_final, escape_byte}
 use Rattle.anstyle_parse.specs.Call.{Call, print, execute, hook, put, unhook, osc_dispatch, csi_dispatch, esc_dispatch}
 use Rattle.anstyle_parse.specs.Calls.{AreCalls}
-use Rattle.anstyle_parse.specs.Canon.{groups_text, header_text, canon}
+use Rattle.anstyle_parse.specs.Canon.{header_text, canon}
+use Rattle.anstyle_parse.specs.Groups.{groups_text}
 use Rattle.anstyle_parse.specs.DebugText.{debug_text}
 use Rattle.anstyle_parse.specs.Lawful.{IsHeaderCall, AreLawfulFrom}
 use Rattle.anstyle_parse.specs.TextLaw.{AreSent, HandsOut, without_last, as_sequence, IsReadBack}

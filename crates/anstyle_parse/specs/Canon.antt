@@ -1,14 +1,10 @@
 -- The canonical text of calls: bytes from which a parser makes these calls again.
-use Rattle.std.specs.Prelude.{ℕ, Bool, true, false, ◌&&◌, not, nat_lt, List, [], ◌∷◌, ◌++◌, length, map, encode_utf8, if◌then◌else◌}
+use Rattle.std.specs.Prelude.{ℕ, Bool, true, false, ◌&&◌, not, nat_lt, List, [], ◌∷◌, ◌++◌, length, encode_utf8, if◌then◌else◌}
 use Rattle.std.specs.List.{join_with_byte}
-use Rattle.std.specs.Fmt.{decimal}
-use Rattle.anstyle_parse.specs.Bytes.{is_marker, colon, semicolon, bell, string_terminator, escape_byte}
+use Rattle.anstyle_parse.specs.Bytes.{is_marker, semicolon, bell, string_terminator, escape_byte}
 use Rattle.anstyle_parse.specs.Arguments.{after_marker, max_collected}
+use Rattle.anstyle_parse.specs.Groups.{groups_text}
 use Rattle.anstyle_parse.specs.Call.{Call, print, execute, hook, put, unhook, osc_dispatch, csi_dispatch, esc_dispatch}
-
--- the fields in decimal: 3A between the fields of a group, 3B between groups
-unfoldable pub groups_text : List (List ℕ) → List ℕ
-groups_text groups = join_with_byte semicolon (map (λ group. join_with_byte colon (map decimal group)) groups)
 
 -- the marker at the head of the list, if one stands there
 abbrev pub leading_marker : List ℕ → List ℕ

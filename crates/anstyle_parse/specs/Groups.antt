@@ -1,5 +1,7 @@
 -- Groups of fields, as lists.
-use Rattle.std.specs.Prelude.{ℕ, ◌+◌, List, [], ◌∷◌, ◌++◌, take, drop}
+use Rattle.std.specs.Prelude.{ℕ, ◌+◌, List, [], ◌∷◌, ◌++◌, take, drop, map, decimal}
+use Rattle.std.specs.List.{join_with_byte}
+use Rattle.anstyle_parse.specs.Bytes.{colon, semicolon}
 
 -- the sum of the numbers
 abbrev pub total : List ℕ → ℕ
@@ -15,3 +17,11 @@ cut (length ∷ lengths) numbers = take length numbers ∷ cut lengths (drop len
 abbrev pub shown_groups : List (List ℕ) → List ℕ → List (List ℕ)
 shown_groups closed [] = closed
 shown_groups closed (field ∷ fields) = closed ++ (field ∷ fields) ∷ []
+
+-- fields in decimal, with 3A between them
+abbrev pub fields_text : List ℕ → List ℕ
+fields_text fields = join_with_byte colon (map decimal fields)
+
+-- groups of fields, with 3B between them
+abbrev pub groups_text : List (List ℕ) → List ℕ
+groups_text groups = join_with_byte semicolon (map fields_text groups)

@@ -18,4 +18,8 @@ pub mod Front
 pub mod Accumulator
 pub mod Decoding
 pub mod Canon
+pub mod Checkpoint
 pub mod Lawful
+pub mod Devices
+pub mod Output
+pub mod Piece

@@ -1,6 +1,6 @@
 -- What one byte does to the parser, and which calls it makes: Williams' machine with its
 -- entry and exit actions, over the table.
-use Rattle.std.specs.Prelude.{ℕ, ◌+◌, ◌-◌, ◌*◌, Bool, true, false, ◌==◌, List, [], ◌∷◌, ◌++◌, length, min, if◌then◌else◌, Option, None, Some}
+use Rattle.std.specs.Prelude.{◌≤◌, ℕ, ◌+◌, ◌-◌, ◌*◌, Bool, true, false, ◌==◌, List, [], ◌∷◌, ◌++◌, length, min, if◌then◌else◌, Option, None, Some}
 use Rattle.std.specs.List.{concat}
 use Rattle.anstyle_parse.specs.declared.state.definitions.State.{State}
 use Rattle.anstyle_parse.specs.declared.state.definitions.State.TheVariants.{Anywhere, CsiEntry, CsiIgnore, CsiIntermediate, CsiParam, DcsEntry, DcsIgnore, DcsIntermediate, DcsParam, DcsPassthrough, Escape, EscapeIntermediate, Ground, OscString, SosPmApcString, Utf8}
@@ -87,6 +87,13 @@ dispatched call final m = call (shown_groups m.closed_groups m.open_group) m.col
 
 abbrev pub stored_count : {A : Type 0} → Machine A → ℕ
 stored_count m = length (concat m.closed_parts) + length m.open_part
+
+-- what is kept at most: 32 fields, 2 collected bytes, 1024 bytes of text in 16 closed parts
+pub record IsWithinLimits {A : Type 0} (m : Machine A) : Type 0 where
+  pub fields : field_count m ≤ max_fields
+  pub collected : length m.collected ≤ max_collected
+  pub stored : stored_count m ≤ max_osc_bytes
+  pub parts : length m.closed_parts ≤ max_osc_parts
 
 -- no text, no parts
 abbrev pub text_begun : {A : Type 0} → Machine A → Machine A

@@ -2,7 +2,7 @@
 use Rattle.std.specs.Prelude.{◌≡◌, ◌≢◌, ◌<◌, ◌⊎◌, ℕ, List, take, drop, ⊤, IsTrue}
 use Rattle.std.specs.List.{AllByRecursion}
 use Rattle.anstyle_parse.specs.declared.state.definitions.State.{State}
-use Rattle.anstyle_parse.specs.declared.state.definitions.State.TheVariants.{Ground, Utf8}
+use Rattle.anstyle_parse.specs.declared.state.definitions.State.TheVariants.{DcsPassthrough, Ground, OscString, Utf8}
 use Rattle.anstyle_parse.specs.declared.parser.Parser.{Parser}
 use Rattle.anstyle_parse.specs.Characters.{is_lead}
 use Rattle.anstyle_parse.specs.Groups.{cut}
@@ -36,6 +36,10 @@ IsNew {C} is_default parser = (machine_of parser ≡ new_machine parser.accumula
 -- the parser is inside a character of several bytes
 abbrev pub IsInCharacter : {C : Type 0} → Parser C → Type 0
 IsInCharacter parser = parser.state ≡ Utf8
+
+-- an operating system command or a hooked device control string is open
+abbrev pub HasOpenString : {C : Type 0} → Parser C → Type 0
+HasOpenString parser = (parser.state ≡ OscString) ⊎ (parser.state ≡ DcsPassthrough)
 
 -- each byte is below the limit
 abbrev pub AreBelow : ℕ → List ℕ → Type 0

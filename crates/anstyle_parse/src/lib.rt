@@ -3,6 +3,7 @@
 #![tactic(auto)]
 
 mod accumulator;
+pub mod canon;
 mod params;
 mod parser;
 mod perform;

@@ -3,11 +3,10 @@
 ghost use Rattle.std.specs.Prelude.{◌≡◌, ◌≢◌, ◌<◌, ◌≤◌, ◌+◌, ◌++◌, ◌∷◌, [], ◌↔◌, ℕ, IsTrue, IfSome, ⊤, length, take, slice_index};
 ghost use Rattle.std.specs.Bool.{OnFalse};
 ghost use Rattle.std.specs.List.{concat};
-ghost use Rattle.anstyle_parse.specs.Groups.{total};
+ghost use Rattle.anstyle_parse.specs.Groups.{total, fields_text};
 ghost use Rattle.std.specs.Iterator.{YieldsFirstBy, item_count, UpTo};
 ghost use Rattle.std.specs.Iterator.SizeHint.{IsWithinCount};
 ghost use Rattle.std.specs.Fmt.{WritesOnOk};
-ghost use Rattle.anstyle_parse.specs.DebugText.{group_text};
 
 use std::alloc::AllocError;
 use std::fmt;
@@ -259,7 +258,7 @@ impl<'a> IntoIterator for &'a Params {
 
 impl<'a> ParamsIter<'a> {
     ghost use Rattle.anstyle_parse.specs.Params.{groups_left};
-    ghost use Rattle.anstyle_parse.specs.Canon.{groups_text};
+    ghost use Rattle.anstyle_parse.specs.Groups.{groups_text};
 
     /// Writes the groups that are left, with `;` between them.
     fn write_texts<W: fmt::Write>(mut self, f: &mut fmt::Formatter<W>) -> fmt::Result
@@ -278,7 +277,7 @@ impl<'a> ParamsIter<'a> {
 
 /// Writes the fields of a group in decimal, with `:` between them.
 fn write_group<W: fmt::Write>(f: &mut fmt::Formatter<W>, group: &[u16]) -> fmt::Result
-    ensures { WritesOnOk W.write_str_gives f.old result (group_text group.now) f.new }
+    ensures { WritesOnOk W.write_str_gives f.old result (fields_text group.now) f.new }
 {
     if let Some((first, others)) = group.split_first() {
         write!(f, "{first}")?;

@@ -72,8 +72,9 @@ impl<C: CharAccumulator> Default for Parser<C> {
 
 impl<C: CharAccumulator> Parser<C> {
     ghost use Rattle.std.specs.Prelude.{◌++◌, ◌∷◌, [], IsTrue, ◌↔◌};
-    ghost use Rattle.anstyle_parse.specs.Parser.{machine_of, IsNew, IsInCharacter, CanTake, CanTakeAll, IsAfter, IsAfterAscii, AreBelow};
-    ghost use Rattle.anstyle_parse.specs.Machine.{step, step_calls, machine_after, machine_calls};
+    ghost use Rattle.anstyle_parse.specs.Bytes.{is_cancel};
+    ghost use Rattle.anstyle_parse.specs.Parser.{machine_of, IsNew, IsInCharacter, HasOpenString, CanTake, CanTakeAll, IsAfter, IsAfterAscii, AreBelow};
+    ghost use Rattle.anstyle_parse.specs.Machine.{step, step_calls, machine_after, machine_calls, IsWithinLimits};
     ghost use Rattle.anstyle_parse.specs.Calls.{Continues};
     ghost use Rattle.anstyle_parse.specs.Stands.{EndsInCharacter};
     ghost use Rattle.anstyle_parse.specs.Accumulator.{IsEmpty, front_of};
@@ -100,6 +101,13 @@ impl<C: CharAccumulator> Parser<C> {
         ensures machine { machine_of self.new ≡ step C.adds byte (machine_of self.old) }
         ensures calls { Goes P.means performer.old (step_calls C.adds byte (machine_of self.old)) performer.new }
 
+        ensures limits { IsWithinLimits (machine_of self.new) }
+
+        // Two calls are made only where a cancel ends a command or a hooked string.
+        ensures few { length (step_calls C.adds byte (machine_of self.old)) ≤ 2 }
+        ensures two { length (step_calls C.adds byte (machine_of self.old)) ≡ 2
+            → IsTrue (is_cancel byte) × HasOpenString self.old }
+
         // These calls continue those of the bytes before, for an accumulator that decodes
         // UTF-8 and for any accumulator over ASCII.
         ensures stands { (before : List ℕ) → IsTrue C.decodes → IsAfter C.front self.old before
@@ -125,6 +133,7 @@ impl<C: CharAccumulator> Parser<C> {
         // The bytes do what the machine does with each in turn.
         ensures machine { machine_of self.new ≡ machine_after C.adds bytes.now (machine_of self.old) }
         ensures calls { Goes P.means performer.old (machine_calls C.adds bytes.now (machine_of self.old)) performer.new }
+        ensures limits { IsWithinLimits (machine_of self.new) }
 
         // These calls continue those of the bytes before, for an accumulator that decodes
         // UTF-8 and for any accumulator over ASCII.

@@ -9,7 +9,12 @@ fn answers_of_the_table(rt: HostRuntime) {
         (State::Ground, 0xC1, State::Anywhere, Action::Nop),
         (State::Ground, 0xC2, State::Utf8, Action::BeginUtf8),
         (State::Escape, 0x5B, State::CsiEntry, Action::Nop),
-        (State::EscapeIntermediate, 0x5B, State::Ground, Action::EscDispatch),
+        (
+            State::EscapeIntermediate,
+            0x5B,
+            State::Ground,
+            Action::EscDispatch,
+        ),
         (State::CsiParam, 0x3C, State::CsiIgnore, Action::Nop),
         (State::DcsEntry, 0x9C, State::Anywhere, Action::Nop),
         (State::DcsPassthrough, 0x9C, State::Ground, Action::Nop),
@@ -21,7 +26,10 @@ fn answers_of_the_table(rt: HostRuntime) {
         (State::Anywhere, 0x41, State::Anywhere, Action::Nop),
     ];
     for (state, byte, next, action) in rows {
-        assert!(rt; state_change(state, byte) == (next, action), "{state:?} at {byte:02X}");
+        assert!(rt;
+            state_change(state, byte) == (next, action),
+            "{state:?} at {byte:02X}"
+        );
     }
 }
 

@@ -4,6 +4,7 @@ use Rattle.anstyle_parse.specs.Call.{Call}
 use Rattle.anstyle_parse.specs.Calls.{Continues}
 use Rattle.anstyle_parse.specs.Machine.{step_calls}
 use Rattle.anstyle_parse.specs.Parser.{machine_of}
+use Rattle.anstyle_parse.proofs.CallCounts.{step_calls-few, step_calls-two}
 use Rattle.anstyle_parse.proofs.Streams.{IsAfter-taken, Continues-taken, IsAfterAscii-taken, Continues-ascii}
 use Rattle.anstyle_parse.proofs.parser.Parser.advance.Goals as goal
 
@@ -17,7 +18,7 @@ returns-clause-stream g c = λ before decodes stands.
     let n = g.C.CharAccumulator in
     let Q : List Call → Type 0 = λ calls. Continues before (c.args.byte ∷ []) calls in
     subst Q (append-nil (step_calls n.adds c.args.byte (machine_of c.args.self.now)))
-      (Continues-taken n.front n.takes n.adds (g.met.C.CharAccumulator.follows decodes) c.args.self.now c.take_byte.new.self (c.args.byte ∷ []) (omega arith, tt) c.take_byte.ensures.machine before stands)
+    (Continues-taken n.front n.takes n.adds (g.met.C.CharAccumulator.follows decodes) c.args.self.now c.take_byte.new.self (c.args.byte ∷ []) (omega arith, tt) c.take_byte.ensures.machine before stands)
 
 pub returns-clause-ascii_stands : goal.returns-clause-ascii_stands
 returns-clause-ascii_stands g c = λ before below stands.
@@ -28,4 +29,11 @@ returns-clause-ascii_stream g c = λ before below stands.
     let adds = g.C.CharAccumulator.adds in
     let Q : List Call → Type 0 = λ calls. Continues before (c.args.byte ∷ []) calls in
     subst Q (append-nil (step_calls adds c.args.byte (machine_of c.args.self.now)))
-      (Continues-ascii adds c.args.self.now c.take_byte.new.self (c.args.byte ∷ []) (below, tt) c.take_byte.ensures.machine before stands)
+    (Continues-ascii adds c.args.self.now c.take_byte.new.self (c.args.byte ∷ []) (below, tt) c.take_byte.ensures.machine before stands)
+
+pub returns-clause-few : goal.returns-clause-few
+returns-clause-few g c = step_calls-few g.C.CharAccumulator.adds c.args.byte (machine_of c.args.self.now)
+
+pub returns-clause-two : goal.returns-clause-two
+returns-clause-two g c = step_calls-two g.C.CharAccumulator.adds c.args.byte (machine_of c.args.self.now)
+

@@ -2,7 +2,7 @@ use Rattle.std.proofs.Common.{◌≡◌, refl}
 use Rattle.std.proofs.lemmas.Bool.{false≢true}
 use Rattle.anstyle_parse.specs.Parser.{machine_of}
 use Rattle.anstyle_parse.specs.Stands.{seen, unseen}
-use Rattle.anstyle_parse.proofs.InCharacter.{EndsInCharacter-state}
+use Rattle.anstyle_parse.proofs.CharacterEnds.{EndsInCharacter-state}
 use Rattle.anstyle_parse.proofs.Unseen.{StandsAfter-outside}
 use Rattle.anstyle_parse.proofs.parser.Parser.is_in_char.Goals as goal
 

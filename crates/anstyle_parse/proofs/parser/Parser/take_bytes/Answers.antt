@@ -14,7 +14,7 @@ take_byte-requires g c =
     let takes = g.C.CharAccumulator.takes in
     let Q : List ℕ → Type 0 = λ left. CanTakeAll takes c.loop-byte.self left in
     CanTake-first takes c.loop-byte.self (get_or bytes i 0) (drop (i + 1) bytes) (omega (arith, c.type_inv.bytes i))
-      (subst Q (drop_more bytes i 0 c.loop-byte-test.true) c.loop-byte.invariant.can)
+    (subst Q (drop_more bytes i 0 c.loop-byte-test.true) c.loop-byte.invariant.can)
 
 pub loop-byte-preserved : goal.loop-byte-preserved
 loop-byte-preserved g c =
@@ -32,14 +32,14 @@ loop-byte-preserved g c =
     record {
       can = CanTakeAll-rest takes adds c.loop-byte.self c.take_byte.new.self b rest stepped (subst Q split c.loop-byte.invariant.can);
       machine =
-        ap (λ n. machine_after adds rest n) stepped
-        ∙ ap (λ left. machine_after adds left m) (sym split)
-        ∙ c.loop-byte.invariant.machine;
+          ap (λ n. machine_after adds rest n) stepped
+          ∙ ap (λ left. machine_after adds left m) (sym split)
+          ∙ c.loop-byte.invariant.machine;
       calls = λ last goes.
-        let R : List ℕ → Type 0 = λ left. Goes means c.loop-byte.performer (machine_calls adds left m) last in
-        let S : List Call → Type 0 = λ calls. Goes means c.take_byte.new.performer calls last in
-        c.loop-byte.invariant.calls last
+          let R : List ℕ → Type 0 = λ left. Goes means c.loop-byte.performer (machine_calls adds left m) last in
+          let S : List Call → Type 0 = λ calls. Goes means c.take_byte.new.performer calls last in
+          c.loop-byte.invariant.calls last
           (subst R (sym split)
-            (Goes-append means c.loop-byte.performer c.take_byte.new.performer last (step_calls adds b m) (machine_calls adds rest (step adds b m))
-              c.take_byte.ensures.calls (subst S (ap (λ n. machine_calls adds rest n) stepped) goes)));
+          (Goes-append means c.loop-byte.performer c.take_byte.new.performer last (step_calls adds b m) (machine_calls adds rest (step adds b m))
+          c.take_byte.ensures.calls (subst S (ap (λ n. machine_calls adds rest n) stepped) goes)));
     }

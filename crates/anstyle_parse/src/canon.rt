@@ -1,0 +1,20 @@
+//! Readers and writers that say what passed and whether they failed, and what the
+//! performers that write have in common.
+mod devices;
+mod output;
+mod piece;
+
+pub use devices::{FromRead, FromWrite, Sink, Source};
+pub use output::Output;
+pub use piece::Piece;
+
+/// What went wrong with a reader or a writer.
+#[derive(Debug, Clone, Copy, PartialEq, Eq)]
+pub enum Fault {
+    /// A read failed.
+    Read,
+    /// A write failed, or took none of some bytes.
+    Write,
+    /// A flush failed.
+    Flush,
+}

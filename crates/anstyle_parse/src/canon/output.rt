@@ -1,0 +1,76 @@
+//! The writing that performers share.
+ghost use Rattle.std.specs.Prelude.{◌≡◌, ℕ, List, None, Some, Ok, Err, IsNone, OnSome, OnOk, OnErr, IsTrue};
+ghost use Rattle.std.specs.Io.KnownBytes.{Keeps};
+
+use super::{Fault, Sink};
+
+/// A writer, and the fault that stopped it.
+///
+/// A performer hands it each call's text, and asks it for the fault. After a fault nothing
+/// more is written, and the first fault is kept.
+#[derive(Drop)]
+pub struct Output<W> {
+    writer: W,
+    fault: Option<Fault>,
+}
+
+impl<W: Sink> Output<W> {
+    ghost use Rattle.anstyle_parse.specs.Output.{writer_in, fault_in, Adds, Finishes};
+
+    /// An output with no fault, which has written nothing.
+    pub fn new(writer: W) -> Output<W>
+        ensures writer { writer_in result ≡ writer }
+        ensures no_fault { fault_in result ≡ None }
+    {
+        Output {
+            writer,
+            fault: None,
+        }
+    }
+
+    /// Writes all the bytes, in as many writes as the writer needs. A write that fails is
+    /// the fault [`Fault::Write`]; nothing is tried again. After a fault nothing happens.
+    pub fn put(&mut self, bytes: &[u8])
+        ensures { Adds W.contents W.has_failed bytes.now self.old self.new }
+    {
+        if self.fault.is_some() {
+            return;
+        }
+        let mut rest = bytes;
+        while !rest.is_empty() {
+            match self.writer.write(rest) {
+                Some(count) => rest = &rest[count..],
+                None => {
+                    self.fault = Some(Fault::Write);
+                    return;
+                }
+            }
+        }
+    }
+
+    /// The fault that stopped it.
+    pub fn fault(&self) -> Option<Fault>
+        ensures { result ≡ fault_in self.now }
+    {
+        self.fault
+    }
+
+    /// Hands the writer back, and answers the fault that stopped it. Where there is none,
+    /// the writer is flushed once, and a flush that fails is [`Fault::Flush`].
+    pub fn finish(self) -> (W, Result<(), Fault>)
+        ensures { Finishes W.contents W.has_failed self result.0 result.1 }
+    {
+        let Output { mut writer, fault } = self;
+        let answer = match fault {
+            Some(fault) => Err(fault),
+            None => {
+                if writer.flush() {
+                    Ok(())
+                } else {
+                    Err(Fault::Flush)
+                }
+            }
+        };
+        (writer, answer)
+    }
+}

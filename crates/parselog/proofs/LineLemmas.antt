@@ -1,0 +1,60 @@
+-- The lines, as they are put together.
+use Rattle.std.proofs.Common.{◌≡◌, ℕ, ◌/◌, ◌<◌, ◌≤◌, Bool, true, false, List, [], ◌∷◌, ◌++◌, codes, nat_lt, ◌≢◌, length, refl, sym, ap, ◌∙◌, append_assoc}
+use Rattle.std.specs.Prelude.{if◌then◌else◌}
+use Rattle.std.specs.List.{flat_map}
+use Rattle.std.proofs.lemmas.Bool.{lt-ltb, le-ltb}
+use Rattle.anstyle_parse.specs.Call.{print}
+use Rattle.parselog.specs.Lines.{hex_digit, hex_byte, hex_list, four_digits, truth, end_text, line, newline}
+
+-- a character below 10000 (hexadecimal), from its digits
+pub character_number-four : (c d3 d2 d1 d0 : ℕ) → c < 0x10000 → d3 ≡ hex_digit (c / 0x1000) → d2 ≡ hex_digit (c / 0x100) → d1 ≡ hex_digit (c / 0x10) → d0 ≡ hex_digit c
+    → codes "print U+" ++ (d3 ∷ d2 ∷ d1 ∷ d0 ∷ newline ∷ []) ≡ line (print c)
+character_number-four c d3 d2 d1 d0 small e3 e2 e1 e0 =
+    let digits : d3 ∷ d2 ∷ d1 ∷ d0 ∷ [] ≡ four_digits c = cc in
+    ap (λ l. codes "print U+" ++ (l ++ newline ∷ [])) digits
+    ∙ sym (ap (λ t. codes "print U+" ++ ((if t then four_digits c else if nat_lt c 0x100000 then hex_digit (c / 0x10000) ∷ four_digits c else hex_digit (c / 0x100000) ∷ hex_digit (c / 0x10000) ∷ four_digits c) ++ newline ∷ [])) (lt-ltb c 0x10000 small))
+
+-- one below 100000
+pub character_number-five : (c d4 d3 d2 d1 d0 : ℕ) → 0x10000 ≤ c → c < 0x100000
+    → d4 ≡ hex_digit (c / 0x10000) → d3 ≡ hex_digit (c / 0x1000) → d2 ≡ hex_digit (c / 0x100) → d1 ≡ hex_digit (c / 0x10) → d0 ≡ hex_digit c
+    → codes "print U+" ++ (d4 ∷ d3 ∷ d2 ∷ d1 ∷ d0 ∷ newline ∷ []) ≡ line (print c)
+character_number-five c d4 d3 d2 d1 d0 large small e4 e3 e2 e1 e0 =
+    let digits : d4 ∷ d3 ∷ d2 ∷ d1 ∷ d0 ∷ [] ≡ hex_digit (c / 0x10000) ∷ four_digits c = cc in
+    ap (λ l. codes "print U+" ++ (l ++ newline ∷ [])) digits
+    ∙ sym (ap (λ t. codes "print U+" ++ ((if t then hex_digit (c / 0x10000) ∷ four_digits c else hex_digit (c / 0x100000) ∷ hex_digit (c / 0x10000) ∷ four_digits c) ++ newline ∷ [])) (lt-ltb c 0x100000 small))
+    ∙ sym (ap (λ t. codes "print U+" ++ ((if t then four_digits c else if nat_lt c 0x100000 then hex_digit (c / 0x10000) ∷ four_digits c else hex_digit (c / 0x100000) ∷ hex_digit (c / 0x10000) ∷ four_digits c) ++ newline ∷ [])) (le-ltb c 0x10000 large))
+
+-- one from there on
+pub character_number-six : (c d5 d4 d3 d2 d1 d0 : ℕ) → 0x10000 ≤ c → 0x100000 ≤ c
+    → d5 ≡ hex_digit (c / 0x100000) → d4 ≡ hex_digit (c / 0x10000) → d3 ≡ hex_digit (c / 0x1000) → d2 ≡ hex_digit (c / 0x100) → d1 ≡ hex_digit (c / 0x10) → d0 ≡ hex_digit c
+    → codes "print U+" ++ (d5 ∷ d4 ∷ d3 ∷ d2 ∷ d1 ∷ d0 ∷ newline ∷ []) ≡ line (print c)
+character_number-six c d5 d4 d3 d2 d1 d0 large larger e5 e4 e3 e2 e1 e0 =
+    let digits : d5 ∷ d4 ∷ d3 ∷ d2 ∷ d1 ∷ d0 ∷ [] ≡ hex_digit (c / 0x100000) ∷ hex_digit (c / 0x10000) ∷ four_digits c = cc in
+    ap (λ l. codes "print U+" ++ (l ++ newline ∷ [])) digits
+    ∙ sym (ap (λ t. codes "print U+" ++ ((if t then hex_digit (c / 0x10000) ∷ four_digits c else hex_digit (c / 0x100000) ∷ hex_digit (c / 0x10000) ∷ four_digits c) ++ newline ∷ [])) (le-ltb c 0x100000 larger))
+    ∙ sym (ap (λ t. codes "print U+" ++ ((if t then four_digits c else if nat_lt c 0x100000 then hex_digit (c / 0x10000) ∷ four_digits c else hex_digit (c / 0x100000) ∷ hex_digit (c / 0x10000) ∷ four_digits c) ++ newline ∷ [])) (le-ltb c 0x10000 large))
+
+-- what stands behind a line stands behind its last part
+pub line_end : (a : List ℕ) (x : ℕ) (b c n : List ℕ) → (a ++ x ∷ (b ++ c)) ++ n ≡ a ++ x ∷ (b ++ (c ++ n))
+line_end a x b c n = append_assoc a (x ∷ (b ++ c)) n ∙ ap (λ l. a ++ x ∷ l) (append_assoc b c n)
+
+-- the end of a line, from the digits of the final byte
+pub end_text-digits : (intermediates : List ℕ) (ignore : Bool) (final d1 d0 : ℕ) → d1 ≡ hex_digit (final / 16) → d0 ≡ hex_digit final
+    → hex_list intermediates ++ 32 ∷ (truth ignore ++ 32 ∷ d1 ∷ d0 ∷ newline ∷ []) ≡ end_text intermediates ignore final ++ newline ∷ []
+end_text-digits intermediates ignore final d1 d0 e1 e0 =
+    ap (λ d. hex_list intermediates ++ 32 ∷ (truth ignore ++ 32 ∷ d ∷ d0 ∷ newline ∷ [])) e1
+    ∙ ap (λ d. hex_list intermediates ++ 32 ∷ (truth ignore ++ 32 ∷ hex_digit (final / 16) ∷ d ∷ newline ∷ [])) e0
+    ∙ sym (line_end (hex_list intermediates) 32 (truth ignore) (32 ∷ hex_byte final) (newline ∷ []))
+
+-- bytes that are some, digit after digit
+pub hex_list-some : (bytes : List ℕ) → length bytes ≢ 0 → flat_map hex_byte bytes ≡ hex_list bytes
+hex_list-some [] some = absurd (some refl)
+hex_list-some (b ∷ bytes) some = refl
+
+-- a byte, from its digits
+pub hex_byte-digits : (b n d1 d0 : ℕ) → n ≡ b → d1 ≡ hex_digit (n / 16) → d0 ≡ hex_digit n → d1 ∷ d0 ∷ [] ≡ hex_byte b
+hex_byte-digits b n d1 d0 same e1 e0 = ap (λ d. d ∷ d0 ∷ []) e1 ∙ ap (λ d. hex_digit (n / 16) ∷ d ∷ []) e0 ∙ ap hex_byte same
+
+-- a front more of what is left is done
+pub done_more : (done front rest whole left : List ℕ) → left ≡ front ++ rest → done ++ left ≡ whole → (done ++ front) ++ rest ≡ whole
+done_more done front rest whole left e h = append_assoc done front rest ∙ ap (λ l. done ++ l) (sym e) ∙ h

@@ -1,0 +1,4 @@
+pub mod Lines
+pub mod Log
+pub mod Run
+pub mod Words

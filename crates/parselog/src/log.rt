@@ -1,0 +1,217 @@
+//! One line for each call of the parser.
+ghost use Rattle.std.specs.Prelude.{◌≡◌, ◌++◌, [], ◌∷◌, ℕ, None, map};
+ghost use Rattle.parselog.specs.Lines.{line, hex_digit, hex_list, truth, parts_text, end_text, header_text, newline};
+ghost use Rattle.anstyle_parse.specs.Call.{Call, print, execute, hook, put, unhook, osc_dispatch, csi_dispatch, esc_dispatch};
+ghost use Rattle.anstyle_parse.specs.Output.{Adds, Finishes, writer_in, fault_in};
+ghost use Rattle.anstyle_parse.specs.Piece.{held_in, HandsOn};
+
+use anstyle_parse::canon::{Fault, Output, Piece, Sink};
+use anstyle_parse::{Params, Perform};
+
+/// Writes a line for each call.
+///
+/// Nothing is collected and no memory is taken: what a call says goes to the writer in
+/// pieces. A write that fails stops the log: nothing more is written, and the fault is kept.
+#[derive(Drop)]
+pub struct LogWriter<W> {
+    output: Output<W>,
+}
+
+impl<W: Sink> LogWriter<W> {
+    ghost use Rattle.parselog.specs.Log.{output_of};
+
+    /// A log that has written nothing and holds no fault.
+    pub fn new(writer: W) -> LogWriter<W>
+        ensures writer { writer_in (output_of result) ≡ writer }
+        ensures no_fault { fault_in (output_of result) ≡ None }
+    {
+        LogWriter {
+            output: Output::new(writer),
+        }
+    }
+
+    /// The fault that stopped the log.
+    pub fn fault(&self) -> Option<Fault>
+        ensures { result ≡ fault_in (output_of self.now) }
+    {
+        self.output.fault()
+    }
+
+    /// Hands the writer back, and answers the fault that stopped the log. Where there is
+    /// none, the writer is flushed once, and a flush that fails is [`Fault::Flush`].
+    /// Nothing is written.
+    pub fn finish(self) -> (W, Result<(), Fault>)
+        ensures { Finishes W.contents W.has_failed (output_of self) result.0 result.1 }
+    {
+        self.output.finish()
+    }
+}
+
+/// The last hexadecimal digit of a number.
+#[inline(always)]
+fn digit(number: u32) -> u8
+    ensures { result ≡ hex_digit number }
+{
+    let last = (number % 16) as u8;
+    if last < 10 {
+        b'0' + last
+    } else {
+        b'A' - 10 + last
+    }
+}
+
+impl<W: Sink> Perform for LogWriter<W> {
+    ghost use Rattle.parselog.specs.Log.{output_of};
+
+    ghost means = { λ old call new. Adds W.contents W.has_failed (line call) (output_of old) (output_of new) };
+
+    fn print(&mut self, c: char) {
+        let n = u32::from(c);
+        let (d5, d4, d3, d2, d1, d0) = (
+            digit(n / 0x10_0000),
+            digit(n / 0x1_0000),
+            digit(n / 0x1000),
+            digit(n / 0x100),
+            digit(n / 0x10),
+            digit(n),
+        );
+        if n < 0x1_0000 {
+            self.output.put(&[
+                b'p', b'r', b'i', b'n', b't', b' ', b'U', b'+', d3, d2, d1, d0, b'\n',
+            ]);
+        } else if n < 0x10_0000 {
+            self.output.put(&[
+                b'p', b'r', b'i', b'n', b't', b' ', b'U', b'+', d4, d3, d2, d1, d0, b'\n',
+            ]);
+        } else {
+            self.output.put(&[
+                b'p', b'r', b'i', b'n', b't', b' ', b'U', b'+', d5, d4, d3, d2, d1, d0, b'\n',
+            ]);
+        }
+    }
+
+    fn execute(&mut self, byte: u8) {
+        let n = u32::from(byte);
+        self.output.put(&[
+            b'e',
+            b'x',
+            b'e',
+            b'c',
+            b'u',
+            b't',
+            b'e',
+            b' ',
+            digit(n / 16),
+            digit(n),
+            b'\n',
+        ]);
+    }
+
+    fn hook(&mut self, params: &Params, intermediates: &[u8], ignore: bool, action: u8) {
+        self.header(b"hook ", params, intermediates, ignore, action);
+    }
+
+    fn put(&mut self, byte: u8) {
+        let n = u32::from(byte);
+        self.output
+            .put(&[b'p', b'u', b't', b' ', digit(n / 16), digit(n), b'\n']);
+    }
+
+    fn unhook(&mut self) {
+        self.output.put(b"unhook\n");
+    }
+
+    fn osc_dispatch(&mut self, params: &[&[u8]], bell_terminated: bool) {
+        let mut piece = Piece::new();
+        piece.push(&mut self.output, b"osc_dispatch ");
+        piece.push(&mut self.output, truth_text(bell_terminated));
+        push_parts(&mut piece, &mut self.output, params);
+        piece.push(&mut self.output, b"\n");
+        piece.finish(&mut self.output);
+    }
+
+    fn csi_dispatch(&mut self, params: &Params, intermediates: &[u8], ignore: bool, action: u8) {
+        self.header(b"csi_dispatch ", params, intermediates, ignore, action);
+    }
+
+    fn esc_dispatch(&mut self, intermediates: &[u8], ignore: bool, byte: u8) {
+        let mut piece = Piece::new();
+        piece.push(&mut self.output, b"esc_dispatch ");
+        push_end(&mut piece, &mut self.output, intermediates, ignore, byte);
+        piece.finish(&mut self.output);
+    }
+}
+
+impl<W: Sink> LogWriter<W> {
+    ghost use Rattle.anstyle_parse.specs.Params.{groups_shown};
+    ghost use Rattle.parselog.specs.Log.{output_of};
+
+    /// The line of a call with a header.
+    fn header(
+        &mut self,
+        name: &[u8],
+        params: &Params,
+        intermediates: &[u8],
+        ignore: bool,
+        action: u8,
+    )
+        ensures { Adds W.contents W.has_failed ((name.now ++ header_text (groups_shown params.now) intermediates.now ignore action) ++ newline ∷ []) (output_of self.old) (output_of self.new) }
+    {
+        let mut piece = Piece::new();
+        piece.push(&mut self.output, name);
+        piece.push(&mut self.output, b"[");
+        piece.push_groups(&mut self.output, params);
+        piece.push(&mut self.output, b"] ");
+        push_end(&mut piece, &mut self.output, intermediates, ignore, action);
+        piece.finish(&mut self.output);
+    }
+}
+
+/// A truth value as a word.
+fn truth_text(value: bool) -> &'static [u8]
+    ensures { result.now ≡ truth value }
+{
+    if value { b"true" } else { b"false" }
+}
+
+/// Bytes in hexadecimal, with nothing between them, and `-` where there are none.
+fn push_hex<W: Sink>(piece: &mut Piece, output: &mut Output<W>, bytes: &[u8])
+    ensures { HandsOn W.contents W.has_failed (hex_list bytes.now) (held_in piece.old) (held_in piece.new) output.old output.new }
+{
+    if bytes.is_empty() {
+        piece.push(output, b"-");
+        return;
+    }
+    for byte in bytes {
+        let n = u32::from(*byte);
+        piece.push(output, &[digit(n / 16), digit(n)]);
+    }
+}
+
+/// The parts of an operating system command, each with a space before it.
+fn push_parts<W: Sink>(piece: &mut Piece, output: &mut Output<W>, parts: &[&[u8]])
+    ensures { HandsOn W.contents W.has_failed (parts_text (map (λ part. part.now) parts.now)) (held_in piece.old) (held_in piece.new) output.old output.new }
+{
+    for part in parts {
+        piece.push(output, b" ");
+        push_hex(piece, output, part);
+    }
+}
+
+/// The end of a line with intermediates: these, whether more came than are shown, and the
+/// final byte.
+fn push_end<W: Sink>(
+    piece: &mut Piece,
+    output: &mut Output<W>,
+    intermediates: &[u8],
+    ignore: bool,
+    byte: u8,
+)
+    ensures { HandsOn W.contents W.has_failed (end_text intermediates.now ignore byte ++ newline ∷ []) (held_in piece.old) (held_in piece.new) output.old output.new }
+{
+    let n = u32::from(byte);
+    push_hex(piece, output, intermediates);
+    piece.push(output, b" ");
+    piece.push(output, truth_text(ignore));
+    piece.push(output, &[b' ', digit(n / 16), digit(n), b'\n']);
+}

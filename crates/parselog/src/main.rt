@@ -1,0 +1,42 @@
+//! Shows which calls a parser of ANSI escape sequences makes of standard input.
+#![tactic(auto)]
+
+mod log;
+mod run;
+mod words;
+
+use anstyle_parse::canon::{FromRead, FromWrite};
+use run::{Mode, run};
+use std::io;
+use std::process::ExitCode;
+use std::rt::Env;
+use words::{message, mode};
+
+fn main(rt: HostRuntime) -> ExitCode {
+    let Ok(mode) = chosen_mode(&rt) else {
+        let _ = eprintln!(rt; "parselog: arguments not read");
+        return ExitCode::from(1);
+    };
+    let Some(mode) = mode else {
+        let _ = eprintln!(rt; "usage: parselog [log|canon]");
+        return ExitCode::from(2);
+    };
+    let mut reader = FromRead::new(rt.stdin());
+    let (_writer, answer) = run(mode, &mut reader, FromWrite::new(rt.stdout()));
+    match answer {
+        Ok(()) => ExitCode::SUCCESS,
+        Err(fault) => {
+            let _ = eprintln!(rt; "{}", message(fault));
+            ExitCode::from(1)
+        }
+    }
+}
+
+/// The mode that the arguments name.
+fn chosen_mode(rt: &(impl Env + Alloc)) -> io::Result<Option<Mode>> {
+    let mut arguments = std::env::args(rt)?;
+    let _program = arguments.next();
+    let first = arguments.next();
+    let more = arguments.next().is_some();
+    Ok(mode(first.as_ref().map(|word| word.as_str()), more))
+}

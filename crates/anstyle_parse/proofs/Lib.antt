@@ -57,3 +57,4 @@ pub mod CheckpointFields
 pub mod CheckpointHeader
 pub mod CheckpointText
 pub mod Checkpoint
+pub mod Limits

@@ -45,6 +45,7 @@ pub struct Parser<C = DefaultCharAccumulator> {
     ghost few_parts: { osc_parts ≤ 16 },
     ghost closed_parts: { total (take osc_parts osc_lengths) ≡ osc_closed },
     ghost parts_in_text: { osc_closed ≤ array_vec_len osc_text },
+    ghost text_fits: { array_vec_len osc_text ≤ 1024 },
 }
 
 impl<C: CharAccumulator> Default for Parser<C> {

@@ -3,6 +3,8 @@
 
 mod log;
 mod run;
+#[cfg(test)]
+mod tests;
 mod words;
 
 use anstyle_parse::canon::{FromRead, FromWrite};

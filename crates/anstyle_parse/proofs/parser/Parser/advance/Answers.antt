@@ -2,9 +2,10 @@ use Rattle.std.proofs.Common.{List, ◌∷◌, [], ◌≡◌, subst, ap, sym, �
 use Rattle.std.proofs.lemmas.List.{append-nil}
 use Rattle.anstyle_parse.specs.Call.{Call}
 use Rattle.anstyle_parse.specs.Calls.{Continues}
-use Rattle.anstyle_parse.specs.Machine.{step_calls}
+use Rattle.anstyle_parse.specs.Machine.{Machine, IsWithinLimits, step_calls}
 use Rattle.anstyle_parse.specs.Parser.{machine_of}
 use Rattle.anstyle_parse.proofs.CallCounts.{step_calls-few, step_calls-two}
+use Rattle.anstyle_parse.proofs.Limits.{IsWithinLimits-step, IsWithinLimits-parser}
 use Rattle.anstyle_parse.proofs.Streams.{IsAfter-taken, Continues-taken, IsAfterAscii-taken, Continues-ascii}
 use Rattle.anstyle_parse.proofs.parser.Parser.advance.Goals as goal
 
@@ -37,3 +38,9 @@ returns-clause-few g c = step_calls-few g.C.CharAccumulator.adds c.args.byte (ma
 pub returns-clause-two : goal.returns-clause-two
 returns-clause-two g c = step_calls-two g.C.CharAccumulator.adds c.args.byte (machine_of c.args.self.now)
 
+pub returns-clause-limits : goal.returns-clause-limits
+returns-clause-limits g c =
+    let P : Machine g.row.C.Denot → Type 0 = λ m. IsWithinLimits m in
+    subst P (sym c.take_byte.ensures.machine)
+    (IsWithinLimits-step g.C.CharAccumulator.adds c.args.byte (machine_of c.args.self.now)
+    (IsWithinLimits-parser c.args.self.now (omega arith)))

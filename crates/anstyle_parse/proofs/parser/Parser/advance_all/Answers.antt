@@ -1,4 +1,7 @@
-use Rattle.std.proofs.Common.{arith}
+use Rattle.std.proofs.Common.{arith, subst, sym}
+use Rattle.anstyle_parse.specs.Machine.{Machine, IsWithinLimits}
+use Rattle.anstyle_parse.specs.Parser.{machine_of}
+use Rattle.anstyle_parse.proofs.Limits.{IsWithinLimits-machine, IsWithinLimits-parser}
 use Rattle.anstyle_parse.proofs.Streams.{bytes_below, IsAfter-taken, Continues-taken, IsAfterAscii-taken, Continues-ascii}
 use Rattle.anstyle_parse.proofs.parser.Parser.advance_all.Goals as goal
 
@@ -21,3 +24,10 @@ returns-clause-ascii_stands g c = λ before below stands.
 pub returns-clause-ascii_stream : goal.returns-clause-ascii_stream
 returns-clause-ascii_stream g c = λ before below stands.
     Continues-ascii g.C.CharAccumulator.adds c.args.self.now c.take_bytes.new.self c.args.bytes.now below c.take_bytes.ensures.machine before stands
+
+pub returns-clause-limits : goal.returns-clause-limits
+returns-clause-limits g c =
+    let P : Machine g.row.C.Denot → Type 0 = λ m. IsWithinLimits m in
+    subst P (sym c.take_bytes.ensures.machine)
+    (IsWithinLimits-machine g.C.CharAccumulator.adds c.args.bytes.now (machine_of c.args.self.now)
+    (IsWithinLimits-parser c.args.self.now (omega arith)))

@@ -16,6 +16,7 @@ invariant_of-self g c =
       closed_parts = ap (λ n. total (take (p.osc_parts + 1) (set p.osc_lengths p.osc_parts (n - p.osc_closed)))) c.len-end.ensures.value
           ∙ total_closed p.osc_text.items p.osc_lengths p.osc_parts p.osc_closed p.closed_parts p.parts_in_text (omega arith) ∙ sym c.len-end.ensures.value;
       parts_in_text = omega arith;
+      text_fits = p.text_fits;
     }
 
 pub returns-then-self-lt-MAX_OSC_PARTS : goal.returns-then-self-lt-MAX_OSC_PARTS

@@ -1,0 +1,114 @@
+//! Counts the calls that a parser makes of a file, and sums their numbers: what the parser
+//! alone costs. Its arguments are the file, and how often it is parsed.
+#![tactic(auto)]
+
+ghost use Rattle.std.specs.Prelude.{⊤};
+
+use anstyle_parse::{Params, Parser, Perform, Utf8Parser};
+use std::io;
+use std::{env, fs};
+
+/// The number of calls, and the sum of their kinds and arguments, which wraps.
+#[derive(Drop)]
+struct Count {
+    calls: u64,
+    sum: u64,
+}
+
+impl Count {
+    #[inline]
+    fn begin(&mut self, kind: u64) {
+        self.calls = self.calls.wrapping_add(1);
+        self.take(kind);
+    }
+
+    #[inline]
+    fn take(&mut self, value: u64) {
+        self.sum = self.sum.wrapping_add(value);
+    }
+
+    #[inline]
+    fn bytes(&mut self, bytes: &[u8]) {
+        self.take(bytes.len() as u64);
+        for byte in bytes {
+            self.take(u64::from(*byte));
+        }
+    }
+
+    #[inline]
+    fn header(&mut self, params: &Params, intermediates: &[u8], ignore: bool, action: u8) {
+        let mut groups = 0u64;
+        for group in params.iter() {
+            groups = groups.wrapping_add(1);
+            self.take(group.len() as u64);
+            for number in group {
+                self.take(u64::from(*number));
+            }
+        }
+        self.take(groups);
+        self.bytes(intermediates);
+        self.take(u64::from(ignore));
+        self.take(u64::from(action));
+    }
+}
+
+impl Perform for Count {
+    ghost means = { λ _ _ _. ⊤ };
+
+    #[inline]
+    fn print(&mut self, c: char) {
+        self.begin(1);
+        self.take(u64::from(u32::from(c)));
+    }
+    #[inline]
+    fn execute(&mut self, byte: u8) {
+        self.begin(2);
+        self.take(u64::from(byte));
+    }
+    fn hook(&mut self, params: &Params, intermediates: &[u8], ignore: bool, action: u8) {
+        self.begin(3);
+        self.header(params, intermediates, ignore, action);
+    }
+    #[inline]
+    fn put(&mut self, byte: u8) {
+        self.begin(4);
+        self.take(u64::from(byte));
+    }
+    fn unhook(&mut self) {
+        self.begin(5);
+    }
+    fn osc_dispatch(&mut self, params: &[&[u8]], bell_terminated: bool) {
+        self.begin(6);
+        self.take(params.len() as u64);
+        for part in params {
+            self.bytes(part);
+        }
+        self.take(u64::from(bell_terminated));
+    }
+    fn csi_dispatch(&mut self, params: &Params, intermediates: &[u8], ignore: bool, action: u8) {
+        self.begin(7);
+        self.header(params, intermediates, ignore, action);
+    }
+    fn esc_dispatch(&mut self, intermediates: &[u8], ignore: bool, byte: u8) {
+        self.begin(8);
+        self.bytes(intermediates);
+        self.take(u64::from(ignore));
+        self.take(u64::from(byte));
+    }
+}
+
+fn main(rt: HostRuntime) -> io::Result<()> {
+    let mut arguments = env::args(&rt)?;
+    let _program = arguments.next();
+    let (Some(path), Some(repeat)) = (arguments.next(), arguments.next()) else {
+        return eprintln!(rt; "usage: count FILE REPEAT");
+    };
+    let bytes = fs::read(&rt, path.as_str())?;
+    for _ in 0..repeat.as_str().parse::<u32>().unwrap_or(1) {
+        let mut count = Count { calls: 0, sum: 0 };
+        let mut parser = Parser::<Utf8Parser>::new();
+        parser.advance_all(&mut count, bytes.as_slice());
+        println!(rt; "calls {} sum {}", count.calls, count.sum)?;
+    }
+    Ok(())
+}

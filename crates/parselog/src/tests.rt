@@ -1,0 +1,281 @@
+//! Worked rows, and readers and writers that fail, through the public calls.
+mod devices;
+
+use crate::log::LogWriter;
+use crate::run::{Mode, run};
+use crate::words::{message, mode};
+use anstyle_parse::canon::{Fault, FromRead, FromWrite};
+use anstyle_parse::{Params, Parser, Perform, Utf8Parser};
+use devices::{Paper, Tape, Trouble};
+use std::process::Abort;
+use std::test::Fail;
+
+/// An operating system command and an escape sequence, in seven bytes.
+const TITLE: &[u8] = b"\x1b]0;x\x1b\\";
+
+/// Their lines.
+const TITLE_LINES: &[u8] = b"osc_dispatch false 30 78\nesc_dispatch - false 5C\n";
+
+/// How many bytes the first line has.
+const FIRST_LINE: usize = 25;
+
+/// What is written of the bytes.
+fn assert_lines(rt: &(impl Abort + AllocGlobal), input: &[u8], lines: &str) {
+    let mut reader = FromRead::new(input);
+    let writer = FromWrite::new(Vec::new(rt.alloc()));
+    let (writer, answer) = run(Mode::Log, &mut reader, writer);
+    assert_eq!(rt; answer, Ok(()), "at {lines}");
+    assert_eq!(rt;
+        writer.into_inner().as_slice(),
+        lines.as_bytes(),
+        "at {lines}"
+    );
+}
+
+#[test]
+fn text_and_controls(rt: HostRuntime) {
+    assert_lines(&rt, b"", "");
+    assert_lines(&rt, b"A\x7f\n", "print U+0041\nprint U+007F\nexecute 0A\n");
+    assert_lines(&rt, b"A\x18\n", "print U+0041\nexecute 18\nexecute 0A\n");
+    assert_lines(
+        &rt,
+        b"\xe2\x82\xac\xf0\x9f\x98\x80\x90\x9c",
+        "print U+20AC\nprint U+1F600\nexecute 9C\n",
+    );
+    assert_lines(
+        &rt,
+        b"\xf4\x8f\xbf\xbf\xed\xa0\x80",
+        "print U+10FFFF\nprint U+FFFD\nexecute 80\n",
+    );
+}
+
+#[test]
+fn control_sequences(rt: HostRuntime) {
+    assert_lines(&rt, b"\x1b[m", "csi_dispatch [0] - false 6D\n");
+    assert_lines(
+        &rt,
+        b"\x1b[38:2:255:0:255;1m",
+        "csi_dispatch [38:2:255:0:255;1] - false 6D\n",
+    );
+    assert_lines(
+        &rt,
+        b"\x1b[;;;;;;;;;;;;;;;;;;;;;;;;;;;;;;;m",
+        "csi_dispatch [0;0;0;0;0;0;0;0;0;0;0;0;0;0;0;0;0;0;0;0;0;0;0;0;0;0;0;0;0;0;0;0] - false 6D\n",
+    );
+    assert_lines(
+        &rt,
+        b"\x1b[;;;;;;;;;;;;;;;;;;;;;;;;;;;;;;;;m",
+        "csi_dispatch [0;0;0;0;0;0;0;0;0;0;0;0;0;0;0;0;0;0;0;0;0;0;0;0;0;0;0;0;0;0;0;0] - true 6D\n",
+    );
+    assert_lines(&rt, b"\x1b[99999m", "csi_dispatch [65535] - false 6D\n");
+    assert_lines(&rt, b"\x1b[?! h", "csi_dispatch [0] 3F21 true 68\n");
+    assert_lines(
+        &rt,
+        b"\x1b[1\nm",
+        "execute 0A\ncsi_dispatch [1] - false 6D\n",
+    );
+    assert_lines(&rt, b"\x1b[1\x18m", "execute 18\nprint U+006D\n");
+    assert_lines(&rt, b"\x1b[1 2m", "");
+    assert_lines(&rt, b"\x1b[4;m", "csi_dispatch [4;0] - false 6D\n");
+    assert_lines(&rt, b"\x1b[?1049h", "csi_dispatch [1049] 3F false 68\n");
+    assert_lines(&rt, b"\x1b[\x801m", "csi_dispatch [1] - false 6D\n");
+}
+
+#[test]
+fn escapes_and_strings(rt: HostRuntime) {
+    assert_lines(&rt, b"\x1b([", "esc_dispatch 28 false 5B\n");
+    assert_lines(&rt, b"\x1b !\"#0", "esc_dispatch 2021 true 30\n");
+    assert_lines(&rt, b"\x1b]\x07", "osc_dispatch true -\n");
+    assert_lines(&rt, b"\x1b]2;ti\x07", "osc_dispatch true 32 7469\n");
+    assert_lines(
+        &rt,
+        b"\x1bP1$qm\x1b\\",
+        "hook [1] 24 false 71\nput 6D\nunhook\nesc_dispatch - false 5C\n",
+    );
+}
+
+/// A part that is longer than what is held back at once.
+#[test]
+fn long_part(rt: HostRuntime) -> Result<(), Fail> {
+    let mut input = Vec::new(rt.alloc());
+    let mut lines = Vec::new(rt.alloc());
+    input.extend_from_slice(b"\x1b]")?;
+    lines.extend_from_slice(b"osc_dispatch true ")?;
+    for _ in 0..1024 {
+        input.push(b'a')?;
+        lines.extend_from_slice(b"61")?;
+    }
+    input.extend_from_slice(b";b\x07")?;
+    lines.push(b'\n')?;
+    let mut reader = FromRead::new(input.as_slice());
+    let (writer, answer) = run(Mode::Log, &mut reader, FromWrite::new(Vec::new(rt.alloc())));
+    assert_eq!(rt; answer, Ok(()));
+    assert_eq!(rt; writer.into_inner().as_slice(), lines.as_slice());
+    Ok(())
+}
+
+/// What a writer holds after a run over the two lines, read byte by byte.
+fn assert_run(
+    rt: &(impl Abort + AllocGlobal),
+    paper: Paper,
+    answer: Result<(), Fault>,
+    written: usize,
+) {
+    let mut reader = FromRead::new(Tape::by_byte(TITLE));
+    let (writer, answered) = run(Mode::Log, &mut reader, FromWrite::new(paper));
+    assert_eq!(rt; answered, answer, "at {written}");
+    assert!(rt; written <= TITLE_LINES.len());
+    assert_eq!(rt;
+        writer.into_inner().text.as_slice(),
+        &TITLE_LINES[..written]
+    );
+}
+
+#[test]
+fn reads_that_fail(rt: HostRuntime) {
+    for fails_at in 1..=9u64 {
+        let written = match fails_at {
+            1..=6 => 0,
+            7 => FIRST_LINE,
+            _ => TITLE_LINES.len(),
+        };
+        let mut tape = Tape::by_byte(TITLE);
+        tape.fails_at = fails_at;
+        let mut reader = FromRead::new(tape);
+        let paper = FromWrite::new(Paper::new(rt.alloc()));
+        let (writer, answer) = run(Mode::Log, &mut reader, paper);
+        let paper = writer.into_inner();
+        if fails_at <= 8 {
+            assert_eq!(rt; answer, Err(Fault::Read), "at {fails_at}");
+        } else {
+            assert_eq!(rt; answer, Ok(()));
+        }
+        assert!(rt; written <= TITLE_LINES.len());
+        assert_eq!(rt;
+            paper.text.as_slice(),
+            &TITLE_LINES[..written],
+            "at {fails_at}"
+        );
+        assert_eq!(rt; paper.flushes, 1, "at {fails_at}");
+    }
+    let mut tape = Tape::by_byte(b"A");
+    tape.fails_at = 2;
+    let (writer, answer) = run(
+        Mode::Log,
+        &mut FromRead::new(tape),
+        FromWrite::new(Paper::new(rt.alloc())),
+    );
+    assert_eq!(rt; answer, Err(Fault::Read));
+    assert_eq!(rt;
+        writer.into_inner().text.as_slice(),
+        b"print U+0041\n".as_slice()
+    );
+}
+
+#[test]
+fn writes_that_fail(rt: HostRuntime) {
+    for room in 0..49 {
+        for trouble in [Trouble::Fails, Trouble::IsInterrupted, Trouble::TakesNone] {
+            let paper = Paper::narrow(rt.alloc(), room, trouble);
+            assert_run(&rt, paper, Err(Fault::Write), room);
+        }
+    }
+    assert_run(
+        &rt,
+        Paper::narrow(rt.alloc(), 49, Trouble::Fails),
+        Ok(()),
+        49,
+    );
+
+    let mut third_call = Paper::narrow(rt.alloc(), 49, Trouble::Fails);
+    third_call.fails_at = 3;
+    assert_run(&rt, third_call, Err(Fault::Write), 2);
+
+    let mut ten_bytes = Paper::new(rt.alloc());
+    ten_bytes.room = 10;
+    assert_run(&rt, ten_bytes, Err(Fault::Write), 10);
+}
+
+#[test]
+fn nothing_is_read_after_a_failed_write(rt: HostRuntime) {
+    let mut paper = Paper::new(rt.alloc());
+    paper.fails_at = 1;
+    let mut reader = FromRead::new(Tape::by_byte(TITLE));
+    let (writer, answer) = run(Mode::Log, &mut reader, FromWrite::new(paper));
+    let paper = writer.into_inner();
+    assert_eq!(rt; answer, Err(Fault::Write));
+    assert_eq!(rt; paper.text.len(), 0);
+    assert_eq!(rt; paper.flushes, 0);
+    assert_eq!(rt; reader.into_inner().reads, 6);
+}
+
+#[test]
+fn flushes(rt: HostRuntime) {
+    let (writer, answer) = run(
+        Mode::Log,
+        &mut FromRead::new(Tape::by_byte(TITLE)),
+        FromWrite::new(Paper::new(rt.alloc())),
+    );
+    assert_eq!(rt; answer, Ok(()));
+    assert_eq!(rt; writer.into_inner().flushes, 1);
+
+    let mut flush_fails = Paper::new(rt.alloc());
+    flush_fails.flush_fails = true;
+    assert_run(&rt, flush_fails, Err(Fault::Flush), 49);
+
+    let mut both_fail = Paper::new(rt.alloc());
+    both_fail.flush_fails = true;
+    let mut tape = Tape::by_byte(TITLE);
+    tape.fails_at = 8;
+    let (writer, answer) = run(
+        Mode::Log,
+        &mut FromRead::new(tape),
+        FromWrite::new(both_fail),
+    );
+    assert_eq!(rt; answer, Err(Fault::Read));
+    assert_eq!(rt; writer.into_inner().text.as_slice(), TITLE_LINES);
+}
+
+/// After a fault none of the eight functions writes, and the fault stays.
+#[test]
+fn a_stopped_log_stays_stopped(rt: HostRuntime) {
+    for room in 0..49 {
+        let mut log = LogWriter::new(FromWrite::new(Paper::narrow(
+            rt.alloc(),
+            room,
+            Trouble::Fails,
+        )));
+        let mut parser = Parser::<Utf8Parser>::new();
+        assert_eq!(rt; log.fault(), None);
+        parser.advance_all(&mut log, TITLE);
+        assert_eq!(rt; log.fault(), Some(Fault::Write));
+        log.print('A');
+        log.execute(7);
+        log.hook(&Params::default(), b"$", false, b'q');
+        log.put(b'm');
+        log.unhook();
+        log.osc_dispatch(&[b"0".as_slice(), b"x".as_slice()], true);
+        log.csi_dispatch(&Params::default(), b"", true, b'm');
+        log.esc_dispatch(b"(", false, b'B');
+        assert_eq!(rt; log.fault(), Some(Fault::Write));
+        let (writer, answer) = log.finish();
+        let paper = writer.into_inner();
+        assert_eq!(rt; answer, Err(Fault::Write));
+        assert!(rt; room <= TITLE_LINES.len());
+        assert_eq!(rt; paper.text.as_slice(), &TITLE_LINES[..room]);
+        assert_eq!(rt; paper.flushes, 0);
+    }
+}
+
+#[test]
+fn words(rt: HostRuntime) {
+    assert_eq!(rt; mode(None, false), Some(Mode::Log));
+    assert_eq!(rt; mode(Some("log"), false), Some(Mode::Log));
+    assert_eq!(rt; mode(Some("log"), true), None);
+    assert_eq!(rt; mode(None, true), None);
+    assert_eq!(rt; mode(Some("Log"), false), None);
+    assert_eq!(rt; mode(Some(""), false), None);
+    assert_eq!(rt; message(Fault::Read), "parselog: read failed");
+    assert_eq!(rt; message(Fault::Write), "parselog: write failed");
+    assert_eq!(rt; message(Fault::Flush), "parselog: flush failed");
+}

@@ -6,7 +6,7 @@ use Rattle.std.proofs.lemmas.Fmt.{decimal_by_steps, decimal_is_IsNumeral}
 use Rattle.anstyle_parse.specs.Bytes.{is_within, is_parameter, colon, semicolon}
 use Rattle.anstyle_parse.specs.Arguments.{field, max_field, first_fields}
 use Rattle.anstyle_parse.specs.Items.{EachIs}
-use Rattle.anstyle_parse.specs.Groups.{groups_text}
+use Rattle.anstyle_parse.specs.Groups.{fields_text, groups_text}
 use Rattle.anstyle_parse.specs.Lawful.{IsGroup}
 use Rattle.anstyle_parse.proofs.DivisionHeaders.{EachIs-append, EachIs-weaker}
 use Rattle.anstyle_parse.proofs.CanonLists.{implied, EachIs-join_with_byte, AllByRecursion-map, AllByRecursion-weaker, slice_split-join_with_byte, join_with_byte-push_empty, EachLacks}
@@ -54,49 +54,45 @@ fields-each q step group h =
     AllByRecursion-map (EachIs q) decimal group
     (AllByRecursion-weaker (λ n. n ≤ max_field) (λ n. EachIs q (decimal n)) (λ n k. EachIs-weaker is_digit q step (decimal n) (decimal-digits n k)) group h)
 
--- one group as a text
-abbrev pub group_text : List ℕ → List ℕ
-group_text group = join_with_byte colon (map decimal group)
-
 -- a text of a group, read
 abbrev pub read_group : List ℕ → List ℕ
 read_group text = map field (slice_split (λ b. eqb b colon) text)
 
-group_text-each : (q : ℕ → Bool) → ((b : ℕ) → is_digit b ≡ true → q b ≡ true) → q colon ≡ true → (group : List ℕ) → IsGroup group → EachIs q (group_text group)
-group_text-each q step at group h = EachIs-join_with_byte q colon (map decimal group) at (fields-each q step group h.1)
+fields_text-each : (q : ℕ → Bool) → ((b : ℕ) → is_digit b ≡ true → q b ≡ true) → q colon ≡ true → (group : List ℕ) → IsGroup group → EachIs q (fields_text group)
+fields_text-each q step at group h = EachIs-join_with_byte q colon (map decimal group) at (fields-each q step group h.1)
 
 fields_read : (group : List ℕ) → AllByRecursion (λ n. n ≤ max_field) group → map field (map decimal group) ≡ group
 fields_read [] h = refl
 fields_read (n ∷ group) h = ap (λ m. m ∷ map field (map decimal group)) (field-decimal n h.0) ∙ ap (λ l. n ∷ l) (fields_read group h.1)
 
 -- a group is read from its text
-pub read_group-group_text : (group : List ℕ) → IsGroup group → read_group (group_text group) ≡ group
-read_group-group_text [] h = absurd (omega (arith, h.0))
-read_group-group_text (n ∷ group) h =
+pub read_group-fields_text : (group : List ℕ) → IsGroup group → read_group (fields_text group) ≡ group
+read_group-fields_text [] h = absurd (omega (arith, h.0))
+read_group-fields_text (n ∷ group) h =
     ap (map field) (slice_split-join_with_byte colon (decimal n) (map decimal group) (fields-each (λ b. not (eqb b colon)) digit-no_colon (n ∷ group) h.1))
     ∙ fields_read (n ∷ group) h.1
 
-groups_read : (groups : List (List ℕ)) → AllByRecursion IsGroup groups → map read_group (map group_text groups) ≡ groups
+groups_read : (groups : List (List ℕ)) → AllByRecursion IsGroup groups → map read_group (map fields_text groups) ≡ groups
 groups_read [] h = refl
 groups_read (group ∷ groups) h =
-    ap (λ g. g ∷ map read_group (map group_text groups)) (read_group-group_text group h.0) ∙ ap (λ l. group ∷ l) (groups_read groups h.1)
+    ap (λ g. g ∷ map read_group (map fields_text groups)) (read_group-fields_text group h.0) ∙ ap (λ l. group ∷ l) (groups_read groups h.1)
 
 -- the parameter bytes of a header, read as groups
 abbrev pub read_groups : List ℕ → List (List ℕ)
 read_groups text = map read_group (slice_split (λ b. eqb b semicolon) text)
 
-no_semicolons : (groups : List (List ℕ)) → AllByRecursion IsGroup groups → EachLacks semicolon (map group_text groups)
+no_semicolons : (groups : List (List ℕ)) → AllByRecursion IsGroup groups → EachLacks semicolon (map fields_text groups)
 no_semicolons groups h =
-    AllByRecursion-map (λ part. EachIs (λ b. not (eqb b semicolon)) part) group_text groups
-    (AllByRecursion-weaker IsGroup (λ group. EachIs (λ b. not (eqb b semicolon)) (group_text group))
-    (λ group k. group_text-each (λ b. not (eqb b semicolon)) digit-no_semicolon refl group k) groups h)
+    AllByRecursion-map (λ part. EachIs (λ b. not (eqb b semicolon)) part) fields_text groups
+    (AllByRecursion-weaker IsGroup (λ group. EachIs (λ b. not (eqb b semicolon)) (fields_text group))
+    (λ group k. fields_text-each (λ b. not (eqb b semicolon)) digit-no_semicolon refl group k) groups h)
 
 -- the text of groups is read as these groups
 pub read_groups-groups_text : (groups : List (List ℕ)) → 0 < length groups → AllByRecursion IsGroup groups → read_groups (groups_text groups) ≡ groups
 unfolding groups_text
 read_groups-groups_text [] some h = absurd (omega arith)
 read_groups-groups_text (group ∷ groups) some h =
-    ap (map read_group) (slice_split-join_with_byte semicolon (group_text group) (map group_text groups) (no_semicolons (group ∷ groups) h))
+    ap (map read_group) (slice_split-join_with_byte semicolon (fields_text group) (map fields_text groups) (no_semicolons (group ∷ groups) h))
     ∙ groups_read (group ∷ groups) h
 
 -- one more element of which it holds
@@ -113,10 +109,10 @@ pub read_groups-one_more : (groups : List (List ℕ)) → 0 < length groups → 
 unfolding groups_text
 read_groups-one_more [] some h = absurd (omega arith)
 read_groups-one_more (group ∷ groups) some h =
-    ap read_groups (sym (join_with_byte-push_empty semicolon (group_text group) (map group_text groups)))
-    ∙ (ap (map read_group) (slice_split-join_with_byte semicolon (group_text group) (map group_text groups ++ [] ∷ [])
-    ((no_semicolons (group ∷ groups) h).0, AllByRecursion-push (λ part. EachIs (λ b. not (eqb b semicolon)) part) (map group_text groups) [] (no_semicolons (group ∷ groups) h).1 tt))
-    ∙ (map-push read_group (group_text group ∷ map group_text groups) [] ∙ ap (λ l. l ++ (0 ∷ []) ∷ []) (groups_read (group ∷ groups) h)))
+    ap read_groups (sym (join_with_byte-push_empty semicolon (fields_text group) (map fields_text groups)))
+    ∙ (ap (map read_group) (slice_split-join_with_byte semicolon (fields_text group) (map fields_text groups ++ [] ∷ [])
+    ((no_semicolons (group ∷ groups) h).0, AllByRecursion-push (λ part. EachIs (λ b. not (eqb b semicolon)) part) (map fields_text groups) [] (no_semicolons (group ∷ groups) h).1 tt))
+    ∙ (map-push read_group (fields_text group ∷ map fields_text groups) [] ∙ ap (λ l. l ++ (0 ∷ []) ∷ []) (groups_read (group ∷ groups) h)))
 
 -- the separators are parameter bytes
 colon_is : is_parameter colon ≡ true
@@ -131,9 +127,9 @@ semicolon_is = refl
 pub groups_text-parameters : (groups : List (List ℕ)) → AllByRecursion IsGroup groups → EachIs is_parameter (groups_text groups)
 unfolding groups_text
 groups_text-parameters groups h =
-    EachIs-join_with_byte is_parameter semicolon (map group_text groups) semicolon_is
-    (AllByRecursion-map (EachIs is_parameter) group_text groups
-    (AllByRecursion-weaker IsGroup (λ group. EachIs is_parameter (group_text group)) (λ group k. group_text-each is_parameter digit-parameter colon_is group k) groups h))
+    EachIs-join_with_byte is_parameter semicolon (map fields_text groups) semicolon_is
+    (AllByRecursion-map (EachIs is_parameter) fields_text groups
+    (AllByRecursion-weaker IsGroup (λ group. EachIs is_parameter (fields_text group)) (λ group k. fields_text-each is_parameter digit-parameter colon_is group k) groups h))
 
 -- where there are no more than n fields, the first n are all
 pub first_fields-all : (n : ℕ) (groups : List (List ℕ)) → AllByRecursion IsGroup groups → length (concat groups) ≤ n → first_fields n groups ≡ groups

@@ -11,11 +11,11 @@ use Rattle.std.proofs.lemmas.Int.Digits.{digits_value-lt}
 use Rattle.anstyle_parse.specs.Bytes.{is_within, is_parameter, colon, semicolon}
 use Rattle.anstyle_parse.specs.Arguments.{field, max_field, max_fields, grouped_fields, groups_of}
 use Rattle.anstyle_parse.specs.Items.{EachIs}
-use Rattle.anstyle_parse.specs.Groups.{groups_text}
+use Rattle.anstyle_parse.specs.Groups.{fields_text, groups_text}
 use Rattle.anstyle_parse.specs.Lawful.{IsGroup}
 use Rattle.anstyle_parse.proofs.CanonLists.{implied, EachIs-filter}
 use Rattle.anstyle_parse.proofs.CanonCharacters.{within_parts}
-use Rattle.anstyle_parse.proofs.CanonFields.{group_text, read_group}
+use Rattle.anstyle_parse.proofs.CanonFields.{read_group}
 use Rattle.anstyle_parse.proofs.LawfulLists.{slice_split-each, spaced, length-join_with_byte, length-join_with_byte_le, spaced-slice_split, length-slice_split_le, length-filter_le}
 use Rattle.anstyle_parse.proofs.LawfulHeaders.{groups_of-groups, fields_of}
 
@@ -73,14 +73,14 @@ spaced-take zero fields = omega arith
 spaced-take (suc n) [] = omega arith
 spaced-take (suc n) (m ∷ fields) = omega (arith, spaced-take n fields)
 
-spaced-group_text : (group : List ℕ) → IsGroup group → suc (length (group_text group)) ≡ spaced (map decimal group)
-spaced-group_text [] h = absurd (omega (arith, h.0))
-spaced-group_text (n ∷ group) h = length-join_with_byte colon (decimal n) (map decimal group)
+spaced-fields_text : (group : List ℕ) → IsGroup group → suc (length (fields_text group)) ≡ spaced (map decimal group)
+spaced-fields_text [] h = absurd (omega (arith, h.0))
+spaced-fields_text (n ∷ group) h = length-join_with_byte colon (decimal n) (map decimal group)
 
-spaced-groups : (groups : List (List ℕ)) → AllByRecursion IsGroup groups → spaced (map group_text groups) ≡ spaced (map decimal (concat groups))
+spaced-groups : (groups : List (List ℕ)) → AllByRecursion IsGroup groups → spaced (map fields_text groups) ≡ spaced (map decimal (concat groups))
 spaced-groups [] h = refl
 spaced-groups (group ∷ groups) h =
-    omega (arith, spaced-group_text group h.0, spaced-groups groups h.1, spaced-decimal-append group (concat groups))
+    omega (arith, spaced-fields_text group h.0, spaced-groups groups h.1, spaced-decimal-append group (concat groups))
 
 -- the groups that a header shows are written in at most twice its length
 pub length-groups_text : (header : List ℕ) → length (groups_text (groups_of header)) ≤ 2 * length header + 2
@@ -90,7 +90,7 @@ length-groups_text header =
     let texts = slice_split (λ b. eqb b semicolon) parameters in
     omega (
       arith,
-      length-join_with_byte_le semicolon (map group_text (groups_of header)),
+      length-join_with_byte_le semicolon (map fields_text (groups_of header)),
       spaced-groups (groups_of header) (groups_of-groups header),
       ap (λ l. spaced (map decimal l)) (fields_of header),
       spaced-take max_fields (concat (grouped_fields header)),

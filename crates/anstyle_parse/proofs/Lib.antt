@@ -1,6 +1,8 @@
 pub mod Classes
 pub mod Divide
 pub mod GroupLemmas
+pub mod DebugLemmas
+pub mod TextLaw
 pub mod MachineLemmas
 pub mod Splits
 pub mod TextFold

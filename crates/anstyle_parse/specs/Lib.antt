@@ -8,6 +8,8 @@ pub mod Items
 pub mod Calls
 pub mod Groups
 pub mod Params
+pub mod DebugText
+pub mod TextLaw
 pub mod Machine
 pub mod Decoder
 pub mod Stands

@@ -1,10 +1,16 @@
 //! The parameters of a control sequence or of a device control string: groups of fields.
 //! A list of fixed size, so that no byte of a stream takes memory.
-ghost use Rattle.std.specs.Prelude.{◌≡◌, ◌≢◌, ◌<◌, ◌≤◌, ◌+◌, ◌++◌, ◌∷◌, [], ◌↔◌, ℕ, IsTrue, length, take, slice_index};
+ghost use Rattle.std.specs.Prelude.{◌≡◌, ◌≢◌, ◌<◌, ◌≤◌, ◌+◌, ◌++◌, ◌∷◌, [], ◌↔◌, ℕ, IsTrue, IfSome, ⊤, length, take, slice_index};
 ghost use Rattle.std.specs.Bool.{OnFalse};
 ghost use Rattle.std.specs.List.{concat};
-ghost use Rattle.anstyle_parse.specs.Groups.{total};
-ghost use Rattle.std.specs.Iterator.{YieldsFirstBy, item_count};
+ghost use Rattle.anstyle_parse.specs.Groups.{total, fields_text};
+ghost use Rattle.std.specs.Iterator.{YieldsFirstBy, item_count, UpTo};
+ghost use Rattle.std.specs.Iterator.SizeHint.{IsWithinCount};
+ghost use Rattle.std.specs.Fmt.{WritesOnOk};
+
+use std::alloc::AllocError;
+use std::fmt;
+use std::iter::FusedIterator;
 
 /// The fields that are stored at most; those that come later are dropped.
 pub const MAX_PARAMS: usize = 32;
@@ -122,6 +128,69 @@ impl Default for Params {
     }
 }
 
+/// `[`, the groups with `;` between them, the fields of a group in decimal with `:` between
+/// them, then `]`.
+impl fmt::Debug for Params {
+    ghost use Rattle.std.specs.Prelude.{Some};
+    ghost use Rattle.anstyle_parse.specs.Params.{groups_shown};
+    ghost use Rattle.anstyle_parse.specs.DebugText.{debug_text};
+
+    ghost debug_output = { λ params. Some (debug_text (groups_shown params)) };
+
+    fn fmt<W: fmt::Write>(&self, f: &mut fmt::Formatter<W>) -> fmt::Result {
+        f.write_str("[")?;
+        self.iter().write_texts(f)?;
+        f.write_str("]")
+    }
+}
+
+impl Clone for Params {
+    ghost is_clone = { λ params clone. clone ≡ params };
+
+    ghost is_infallible = { λ _. ⊤ };
+
+    /// The same value; it never fails.
+    fn clone(&self) -> Result<Params, AllocError> {
+        Ok(Params {
+            numbers: self.numbers,
+            lengths: self.lengths,
+            closed_groups: self.closed_groups,
+            open_fields: self.open_fields,
+            len: self.len,
+        })
+    }
+}
+
+/// Laws: functions that do nothing, for what they ensure.
+impl Params {
+    ghost use Rattle.std.specs.Prelude.{List};
+    ghost use Rattle.std.specs.Cmp.{IsEquivalence};
+    ghost use Rattle.anstyle_parse.specs.Params.{groups_shown};
+    ghost use Rattle.anstyle_parse.specs.Call.{Call};
+    ghost use Rattle.anstyle_parse.specs.Calls.{AreCalls};
+    ghost use Rattle.anstyle_parse.specs.TextLaw.{AreSent, HandsOut, IsReadBack};
+
+    /// `==` is reflexive, symmetric and transitive, and equal parameters show equal groups.
+    ///
+    /// Parameters that show equal groups may differ: what is left over from an earlier
+    /// sequence is compared too.
+    pub fn equality_law()
+        ensures equivalence { IsEquivalence ⟦<Params as PartialEq>⟧.eq }
+        ensures groups { (a b : Params) → IsTrue (⟦<Params as PartialEq>⟧.eq a b) → groups_shown a ≡ groups_shown b }
+    {
+    }
+
+    /// The Debug text of parameters that a parser hands out says to a parser the same again:
+    /// 1B, that text without its last byte, then 6D make one `csi_dispatch` of the same
+    /// groups, with no intermediates and `ignore` false.
+    pub fn text_law()
+        ensures handed_out { (bytes : List ℕ) (before : List Call) (call : Call) (after : List Call) (groups : List (List ℕ))
+            → AreCalls bytes (before ++ call ∷ after) → HandsOut call groups → IsReadBack groups }
+        ensures sent { (groups : List (List ℕ)) → AreSent groups → IsReadBack groups }
+    {
+    }
+}
+
 /// The groups of a `Params`, in order.
 #[derive(Drop)]
 pub struct ParamsIter<'a> {
@@ -139,7 +208,8 @@ impl<'a> Iterator for ParamsIter<'a> {
 
     ghost remaining = { item_count groups_left };
 
-    /// The next group, or nothing behind the last.
+    /// The next group, or nothing where none is left: behind the last group every further
+    /// call answers nothing.
     fn next(&mut self) -> Option<&'a [u16]> {
         let (length, lengths) = self.lengths.split_first()?;
         let (group, numbers) = self.numbers.split_at(*length as usize);
@@ -147,4 +217,76 @@ impl<'a> Iterator for ParamsIter<'a> {
         self.numbers = numbers;
         Some(group)
     }
+
+    /// Exactly how many groups are left, twice.
+    fn size_hint(&self) -> (usize, Option<usize>)
+        ensures exact { result ≡ (length (groups_left self.now), Some (length (groups_left self.now))) }
+        ensures lower { IsWithinCount result.0 (item_count groups_left self.now) }
+        ensures upper { IfSome result.1 (UpTo (item_count groups_left self.now)) }
+    {
+        let left = self.len();
+        (left, Some(left))
+    }
 }
+
+impl<'a> ExactSizeIterator for ParamsIter<'a> {
+    ghost use Rattle.anstyle_parse.specs.Params.{groups_left};
+
+    /// How many groups are left.
+    fn len(&self) -> usize {
+        self.lengths.len()
+    }
+}
+
+/// Behind the last group every `next` answers nothing.
+impl<'a> FusedIterator for ParamsIter<'a> {}
+
+impl<'a> IntoIterator for &'a Params {
+    type Item = &'a [u16];
+
+    type IntoIter = ParamsIter<'a>;
+
+    ghost use Rattle.anstyle_parse.specs.Params.{groups_shown, groups_left};
+
+    ghost into_iter_gives = { λ params iter. groups_left iter ≡ groups_shown params.now };
+
+    /// The groups in order, as `iter` gives them.
+    fn into_iter(self) -> ParamsIter<'a> {
+        self.iter()
+    }
+}
+
+impl<'a> ParamsIter<'a> {
+    ghost use Rattle.anstyle_parse.specs.Params.{groups_left};
+    ghost use Rattle.anstyle_parse.specs.Groups.{groups_text};
+
+    /// Writes the groups that are left, with `;` between them.
+    fn write_texts<W: fmt::Write>(mut self, f: &mut fmt::Formatter<W>) -> fmt::Result
+        ensures { WritesOnOk W.write_str_gives f.old result (groups_text (groups_left self.entry)) f.new }
+    {
+        if let Some(first) = self.next() {
+            write_group(f, first)?;
+            for group in self {
+                f.write_str(";")?;
+                write_group(f, group)?;
+            }
+        }
+        Ok(())
+    }
+}
+
+/// Writes the fields of a group in decimal, with `:` between them.
+fn write_group<W: fmt::Write>(f: &mut fmt::Formatter<W>, group: &[u16]) -> fmt::Result
+    ensures { WritesOnOk W.write_str_gives f.old result (fields_text group.now) f.new }
+{
+    if let Some((first, others)) = group.split_first() {
+        write!(f, "{first}")?;
+        for field in others {
+            write!(f, ":{field}")?;
+        }
+    }
+    Ok(())
+}
+
+#[cfg(test)]
+mod tests;

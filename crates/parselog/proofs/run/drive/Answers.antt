@@ -23,14 +23,6 @@ loop-turn-init g c = record {
   room = refl;
 }
 
-pub advance_all-requires : goal.advance_all-requires
-advance_all-requires g c = inl (λ value b small. tt)
-
--- an option that holds nothing is None
-none_of : {T : Type 0} (o : Option T) → is_some o ≡ false → o ≡ None
-none_of None e = refl
-none_of (Some x) e = cc
-
 pub returns-then-is_some : goal.returns-then-is_some
 returns-then-is_some g c =
     let before = c.loop-turn.invariant in
@@ -44,6 +36,11 @@ returns-then-is_some g c =
       performed = Goes-append g.P.Perform.means c.args.performer.now c.loop-turn.performer c.advance_all.new.performer before.calls more before.performed c.advance_all.ensures.calls;
       ends = (sym (c.is_some.ensures ∙ ap is_some c.kept_fault.ensures) ∙ c.if-is_some.true, c.in-Some.ensures.not_failed ∙ before.not_failed);
     }
+
+-- an option that holds nothing is None
+none_of : {T : Type 0} (o : Option T) → is_some o ≡ false → o ≡ None
+none_of None e = refl
+none_of (Some x) e = cc
 
 pub loop-turn-preserved : goal.loop-turn-preserved
 loop-turn-preserved g c =

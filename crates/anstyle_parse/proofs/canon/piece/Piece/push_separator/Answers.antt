@@ -14,5 +14,5 @@ returns-else-not-is_first g c =
 pub returns-then-not-is_first : goal.returns-then-not-is_first
 returns-then-not-is_first g c =
     let Q : Bool → Type 0 = λ b. HandsOn {W = g.row.W.Denot} g.W.Sink.contents g.W.Sink.has_failed (if b then [] else c.args.separator ∷ [])
-        (held_in c.args.self.now) (held_in c.push.new.self) c.args.output.now c.push.new.output in
+    (held_in c.args.self.now) (held_in c.push.new.self) c.args.output.now c.push.new.output in
     subst Q (sym c.if-not-is_first.true) c.push.ensures

@@ -12,9 +12,9 @@ const CAPACITY: usize = 8192;
 /// A [`Sink`] in front of another that holds bytes back, up to 8192, and hands them on
 /// together. It takes no memory.
 ///
-/// Its bytes are those of the writer behind it, and then what is held back. A write that
-/// finds no room hands on first; where that fails, the write fails, and what could not be
-/// handed on stays held back. [`flush`](Sink::flush) hands on everything and flushes the
+/// Its bytes are those of the writer behind it, and then what is held back. A write takes as
+/// many bytes as there is room for. One that finds no room hands on first; where that fails,
+/// the write fails, and what could not be handed on stays held back. [`flush`](Sink::flush) hands on everything and flushes the
 /// writer behind it. What is held back when the buffer is dropped is lost.
 #[derive(Drop)]
 pub struct Buffer<W> {
@@ -129,8 +129,9 @@ impl<W: Sink> Buffer<W> {
     ghost use Rattle.std.specs.Prelude.{IfSome, IfNone, OnSome};
     ghost use Rattle.anstyle_parse.specs.Buffer.{writer_behind, buffer_contents};
 
-    /// Hands on what is held back, and then takes the bytes: it holds them back, or hands
-    /// them on too where they end a line or are too many.
+    /// Takes bytes that are not held back as they are: those that end a line are handed on,
+    /// and of others as many are taken as there is room for, once what is held back has been
+    /// handed on where there was none.
     fn write_through(&mut self, bytes: &[u8]) -> Option<usize>
         ensures within { IfSome result (λ count. count ≤ length bytes.now) }
         ensures some { IfSome result (λ count. 0 < length bytes.now → 0 < count) }
@@ -139,12 +140,15 @@ impl<W: Sink> Buffer<W> {
         ensures nothing_passed { IfNone result (Keeps (buffer_contents W.contents self.old) (buffer_contents W.contents self.new)) }
         ensures failed { IfNone result (IsTrue (W.has_failed (writer_behind self.new))) }
     {
-        if !self.hand_on() {
+        let is_full = self.held.is_full();
+        if (self.by_line || is_full) && !self.hand_on() {
             return None;
         }
-        if !self.by_line && self.held.try_extend_from_slice(bytes).is_ok() {
-            return Some(bytes.len());
+        if self.by_line {
+            return self.writer.write(bytes);
         }
-        self.writer.write(bytes)
+        let count = bytes.len().min(CAPACITY - self.held.len());
+        let _ = self.held.try_extend_from_slice(&bytes[..count]);
+        Some(count)
     }
 }

@@ -23,3 +23,4 @@ pub mod Lawful
 pub mod Devices
 pub mod Output
 pub mod Piece
+pub mod Buffer

@@ -1,9 +1,11 @@
 //! Readers and writers that say what passed and whether they failed, and what the
 //! performers that write have in common.
+mod buffer;
 mod devices;
 mod output;
 mod piece;
 
+pub use buffer::Buffer;
 pub use devices::{FromRead, FromWrite, Sink, Source};
 pub use output::Output;
 pub use piece::Piece;

@@ -7,9 +7,10 @@ mod run;
 mod tests;
 mod words;
 
-use anstyle_parse::canon::{FromRead, FromWrite};
+use anstyle_parse::canon::{Buffer, FromRead, FromWrite};
 use run::{Mode, run};
 use std::io;
+use std::io::IsTerminal;
 use std::process::ExitCode;
 use std::rt::Env;
 use words::{message, mode};
@@ -24,7 +25,13 @@ fn main(rt: HostRuntime) -> ExitCode {
         return ExitCode::from(2);
     };
     let mut reader = FromRead::new(rt.stdin());
-    let (_writer, answer) = run(mode, &mut reader, FromWrite::new(rt.stdout()));
+    let output = rt.stdout();
+    let writer = if output.is_terminal() {
+        Buffer::by_line(FromWrite::new(output))
+    } else {
+        Buffer::new(FromWrite::new(output))
+    };
+    let (_writer, answer) = run(mode, &mut reader, writer);
     match answer {
         Ok(()) => ExitCode::SUCCESS,
         Err(fault) => {

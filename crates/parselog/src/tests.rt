@@ -4,7 +4,7 @@ mod devices;
 use crate::log::LogWriter;
 use crate::run::{Mode, run};
 use crate::words::{message, mode};
-use anstyle_parse::canon::{Fault, FromRead, FromWrite};
+use anstyle_parse::canon::{Buffer, Fault, FromRead, FromWrite};
 use anstyle_parse::{Params, Parser, Perform, Utf8Parser};
 use devices::{Paper, Tape, Trouble};
 use std::process::Abort;
@@ -265,6 +265,64 @@ fn a_stopped_log_stays_stopped(rt: HostRuntime) {
         assert_eq!(rt; paper.text.as_slice(), &TITLE_LINES[..room]);
         assert_eq!(rt; paper.flushes, 0);
     }
+}
+
+/// Through a buffer: few writes, or one for each line.
+#[test]
+fn buffered_writes(rt: HostRuntime) -> Result<(), Fail> {
+    let mut input = Vec::new(rt.alloc());
+    for _ in 0..1000 {
+        input.push(b'a')?;
+    }
+    let mut reader = FromRead::new(input.as_slice());
+    let writer = Buffer::new(FromWrite::new(Paper::new(rt.alloc())));
+    let (writer, answer) = run(Mode::Log, &mut reader, writer);
+    let paper = writer.into_inner().into_inner();
+    assert_eq!(rt; answer, Ok(()));
+    assert_eq!(rt; paper.text.len(), 13_000);
+    assert_eq!(rt; paper.calls, 2);
+    assert_eq!(rt; paper.flushes, 1);
+
+    let mut reader = FromRead::new(input.as_slice());
+    let writer = Buffer::by_line(FromWrite::new(Paper::new(rt.alloc())));
+    let (writer, answer) = run(Mode::Log, &mut reader, writer);
+    let paper = writer.into_inner().into_inner();
+    assert_eq!(rt; answer, Ok(()));
+    assert_eq!(rt; paper.text.len(), 13_000);
+    assert_eq!(rt; paper.calls, 1000);
+    Ok(())
+}
+
+/// What a buffer holds back and cannot hand on is a fault of the write or of the flush that
+/// had to hand it on.
+#[test]
+fn buffered_writes_that_fail(rt: HostRuntime) -> Result<(), Fail> {
+    let mut reader = FromRead::new(TITLE);
+    let writer = Buffer::new(FromWrite::new(Paper::narrow(rt.alloc(), 10, Trouble::Fails)));
+    let (writer, answer) = run(Mode::Log, &mut reader, writer);
+    let paper = writer.into_inner().into_inner();
+    assert_eq!(rt; answer, Err(Fault::Flush));
+    assert_eq!(rt; paper.text.as_slice(), b"osc_dispat".as_slice());
+    assert_eq!(rt; paper.flushes, 0);
+
+    let mut reader = FromRead::new(TITLE);
+    let writer = Buffer::by_line(FromWrite::new(Paper::narrow(rt.alloc(), 10, Trouble::Fails)));
+    let (writer, answer) = run(Mode::Log, &mut reader, writer);
+    let paper = writer.into_inner().into_inner();
+    assert_eq!(rt; answer, Err(Fault::Write));
+    assert_eq!(rt; paper.text.as_slice(), b"osc_dispat".as_slice());
+
+    let mut input = Vec::new(rt.alloc());
+    for _ in 0..1000 {
+        input.push(b'a')?;
+    }
+    let mut reader = FromRead::new(input.as_slice());
+    let writer = Buffer::new(FromWrite::new(Paper::narrow(rt.alloc(), 8000, Trouble::Fails)));
+    let (writer, answer) = run(Mode::Log, &mut reader, writer);
+    let paper = writer.into_inner().into_inner();
+    assert_eq!(rt; answer, Err(Fault::Write));
+    assert_eq!(rt; paper.text.len(), 8000);
+    Ok(())
 }
 
 #[test]

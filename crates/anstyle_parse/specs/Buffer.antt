@@ -1,0 +1,20 @@
+-- What a buffer holds back, and what of it counts as taken.
+use Rattle.std.specs.Prelude.{Bool, ℕ, List, Option}
+use Rattle.std.specs.Io.KnownBytes.{append_known}
+use Rattle.anstyle_parse.specs.declared.canon.buffer.Buffer.{Buffer}
+
+-- the writer behind it
+abbrev pub writer_behind : {W : Type 0} → Buffer W → W
+writer_behind buffer = buffer.writer
+
+-- the bytes that the writer behind it has not been handed yet
+abbrev pub held_back : {W : Type 0} → Buffer W → List ℕ
+held_back buffer = buffer.held.items
+
+-- what the writer behind it holds, and then what is held back
+abbrev pub buffer_contents : {W : Type 0} → (W → Option (List ℕ)) → Buffer W → Option (List ℕ)
+buffer_contents contents buffer = append_known (contents (writer_behind buffer)) (held_back buffer)
+
+-- whether the writer behind it has failed
+abbrev pub buffer_failed : {W : Type 0} → (W → Bool) → Buffer W → Bool
+buffer_failed has_failed buffer = has_failed (writer_behind buffer)

@@ -1,0 +1,154 @@
+//! A writer that hands on many bytes at once.
+ghost use Rattle.std.specs.Prelude.{◌≡◌, ◌<◌, ◌≤◌, [], length, take, drop, IsTrue};
+ghost use Rattle.std.specs.Bool.{OnTrue, OnFalse};
+ghost use Rattle.std.specs.Io.KnownBytes.{Keeps, Appends};
+
+use super::Sink;
+use arrayvec::ArrayVec;
+
+/// The bytes that are held back at most.
+const CAPACITY: usize = 8192;
+
+/// A [`Sink`] in front of another that holds bytes back, up to 8192, and hands them on
+/// together. It takes no memory.
+///
+/// Its bytes are those of the writer behind it, and then what is held back. A write takes as
+/// many bytes as there is room for. One that finds no room hands on first; where that fails,
+/// the write fails, and what could not be handed on stays held back. [`flush`](Sink::flush) hands on everything and flushes the
+/// writer behind it. What is held back when the buffer is dropped is lost.
+#[derive(Drop)]
+pub struct Buffer<W> {
+    writer: W,
+    held: ArrayVec<u8, CAPACITY>,
+    by_line: bool,
+}
+
+impl<W: Sink> Buffer<W> {
+    ghost use Rattle.anstyle_parse.specs.Buffer.{writer_behind, held_back, buffer_contents};
+
+    /// A buffer that holds nothing back, in front of the writer.
+    pub fn new(writer: W) -> Buffer<W>
+        ensures writer { writer_behind result ≡ writer }
+        ensures empty { held_back result ≡ [] }
+    {
+        Buffer {
+            writer,
+            held: ArrayVec::new(),
+            by_line: false,
+        }
+    }
+
+    /// The same, and bytes that end a line (0A) are handed on at once: for a terminal.
+    pub fn by_line(writer: W) -> Buffer<W>
+        ensures writer { writer_behind result ≡ writer }
+        ensures empty { held_back result ≡ [] }
+    {
+        Buffer {
+            writer,
+            held: ArrayVec::new(),
+            by_line: true,
+        }
+    }
+
+    /// The writer behind it. What is held back is lost.
+    pub fn into_inner(self) -> W
+        ensures { result ≡ writer_behind self }
+    {
+        self.writer
+    }
+
+    /// Hands on what is held back, and answers whether that went well. What the writer did
+    /// not take stays held back.
+    fn hand_on(&mut self) -> bool
+        ensures kept { Keeps (buffer_contents W.contents self.old) (buffer_contents W.contents self.new) }
+        ensures emptied { OnTrue result (held_back self.new ≡ []) }
+        ensures not_failed { OnTrue result (W.has_failed (writer_behind self.new) ≡ W.has_failed (writer_behind self.old)) }
+        ensures failed { OnFalse result (IsTrue (W.has_failed (writer_behind self.new))) }
+    {
+        let count = write_out(&mut self.writer, self.held.as_slice());
+        if count == self.held.len() {
+            self.held.clear();
+            true
+        } else {
+            self.held = rest_of(self.held.as_slice(), count);
+            false
+        }
+    }
+}
+
+/// Writes bytes until all are written or a write fails, and answers how many were written.
+fn write_out<W: Sink>(writer: &mut W, bytes: &[u8]) -> usize
+    ensures within { result ≤ length bytes.now }
+    ensures passed { Appends (W.contents writer.old) (W.contents writer.new) (take result bytes.now) }
+    ensures not_failed { result ≡ length bytes.now → W.has_failed writer.new ≡ W.has_failed writer.old }
+    ensures failed { result < length bytes.now → IsTrue (W.has_failed writer.new) }
+{
+    let mut written = 0;
+    while written < bytes.len() {
+        match writer.write(&bytes[written..]) {
+            Some(count) => written += count,
+            None => return written,
+        }
+    }
+    written
+}
+
+/// The bytes behind the first `count`.
+fn rest_of(bytes: &[u8], count: usize) -> ArrayVec<u8, CAPACITY>
+    requires within { count ≤ length bytes.now }
+    requires few { length bytes.now ≤ 8192 }
+    ensures { result.items ≡ drop count bytes.now }
+{
+    let mut rest = ArrayVec::new();
+    let _ = rest.try_extend_from_slice(&bytes[count..]);
+    rest
+}
+
+impl<W: Sink> Sink for Buffer<W> {
+    ghost use Rattle.anstyle_parse.specs.Buffer.{buffer_contents, buffer_failed};
+
+    ghost contents = { buffer_contents W.contents };
+
+    ghost has_failed = { buffer_failed W.has_failed };
+
+    #[inline]
+    fn write(&mut self, bytes: &[u8]) -> Option<usize> {
+        let ends_line = self.by_line && bytes.last() == Some(&b'\n');
+        if !ends_line && self.held.try_extend_from_slice(bytes).is_ok() {
+            return Some(bytes.len());
+        }
+        self.write_through(bytes)
+    }
+
+    fn flush(&mut self) -> bool {
+        self.hand_on() && self.writer.flush()
+    }
+}
+
+impl<W: Sink> Buffer<W> {
+    ghost use Rattle.std.specs.Prelude.{IfSome, IfNone, OnSome};
+    ghost use Rattle.anstyle_parse.specs.Buffer.{writer_behind, buffer_contents};
+
+    /// Takes bytes that are not held back as they are: those that end a line are handed on,
+    /// and of others as many are taken as there is room for, once what is held back has been
+    /// handed on where there was none.
+    fn write_through(&mut self, bytes: &[u8]) -> Option<usize>
+        ensures within { IfSome result (λ count. count ≤ length bytes.now) }
+        ensures some { IfSome result (λ count. 0 < length bytes.now → 0 < count) }
+        ensures passed { IfSome result (λ count. Appends (buffer_contents W.contents self.old) (buffer_contents W.contents self.new) (take count bytes.now)) }
+        ensures not_failed { OnSome result (W.has_failed (writer_behind self.new) ≡ W.has_failed (writer_behind self.old)) }
+        ensures nothing_passed { IfNone result (Keeps (buffer_contents W.contents self.old) (buffer_contents W.contents self.new)) }
+        ensures failed { IfNone result (IsTrue (W.has_failed (writer_behind self.new))) }
+    {
+        let is_full = self.held.is_full();
+        if (self.by_line || is_full) && !self.hand_on() {
+            return None;
+        }
+        if self.by_line {
+            return self.writer.write(bytes);
+        }
+        let count = bytes.len().min(CAPACITY - self.held.len());
+        let _ = self.held.try_extend_from_slice(&bytes[..count]);
+        Some(count)
+    }
+}

@@ -177,8 +177,7 @@ impl Params {
     pub fn equality_law()
         ensures equivalence { IsEquivalence ⟦<Params as PartialEq>⟧.eq }
         ensures groups { (a b : Params) → IsTrue (⟦<Params as PartialEq>⟧.eq a b) → groups_shown a ≡ groups_shown b }
-    {
-    }
+    {}
 
     /// The Debug text of parameters that a parser hands out says to a parser the same again:
     /// 1B, that text without its last byte, then 6D make one `csi_dispatch` of the same
@@ -187,8 +186,7 @@ impl Params {
         ensures handed_out { (bytes : List ℕ) (before : List Call) (call : Call) (after : List Call) (groups : List (List ℕ))
             → AreCalls bytes (before ++ call ∷ after) → HandsOut call groups → IsReadBack groups }
         ensures sent { (groups : List (List ℕ)) → AreSent groups → IsReadBack groups }
-    {
-    }
+    {}
 }
 
 /// The groups of a `Params`, in order.

@@ -24,13 +24,7 @@ impl Perform for Recorder {
 
     fn osc_dispatch(&mut self, _params: &[&[u8]], _bell_terminated: bool) {}
 
-    fn csi_dispatch(
-        &mut self,
-        params: &Params,
-        _intermediates: &[u8],
-        _ignore: bool,
-        _action: u8,
-    ) {
+    fn csi_dispatch(&mut self, params: &Params, _intermediates: &[u8], _ignore: bool, _action: u8) {
         if let Ok(params) = params.clone() {
             self.params = params;
         }
@@ -103,8 +97,16 @@ fn text_is_read_back(rt: HostRuntime) -> Result<(), Fail> {
     let rows: [(&[u8], &str, &[u8]); 4] = [
         (b"\x1B[m", "[0]", b"\x1B[0m"),
         (b"\x1B[?25h", "[25]", b"\x1B[25m"),
-        (b"\x1B[4:3;;58:2::1:2:3m", "[4:3;0;58:2:0:1:2:3]", b"\x1B[4:3;0;58:2:0:1:2:3m"),
-        (b"\x1B[65535;65536;1:H", "[65535;65535;1:0]", b"\x1B[65535;65535;1:0m"),
+        (
+            b"\x1B[4:3;;58:2::1:2:3m",
+            "[4:3;0;58:2:0:1:2:3]",
+            b"\x1B[4:3;0;58:2:0:1:2:3m",
+        ),
+        (
+            b"\x1B[65535;65536;1:H",
+            "[65535;65535;1:0]",
+            b"\x1B[65535;65535;1:0m",
+        ),
     ];
     for (bytes, text, again) in rows {
         let params = handed_out(bytes);

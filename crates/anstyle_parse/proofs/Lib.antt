@@ -49,3 +49,4 @@ pub mod CanonTwice
 pub mod CanonBytes
 pub mod OutputLemmas
 pub mod PieceLemmas
+pub mod CanonWriterLemmas

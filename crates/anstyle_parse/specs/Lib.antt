@@ -20,3 +20,4 @@ pub mod Lawful
 pub mod Devices
 pub mod Output
 pub mod Piece
+pub mod CanonWriter

@@ -3,10 +3,12 @@
 mod devices;
 mod output;
 mod piece;
+mod writer;
 
 pub use devices::{FromRead, FromWrite, Sink, Source};
 pub use output::Output;
 pub use piece::Piece;
+pub use writer::CanonWriter;
 
 /// What went wrong with a reader or a writer.
 #[derive(Debug, Clone, Copy, PartialEq, Eq)]

@@ -75,7 +75,10 @@ impl<C: CharAccumulator> Parser<C> {
     ghost use Rattle.anstyle_parse.specs.Bytes.{is_cancel};
     ghost use Rattle.anstyle_parse.specs.Parser.{machine_of, IsNew, IsInCharacter, HasOpenString, CanTake, CanTakeAll, IsAfter, IsAfterAscii, AreBelow};
     ghost use Rattle.anstyle_parse.specs.Machine.{step, step_calls, machine_after, machine_calls};
-    ghost use Rattle.anstyle_parse.specs.Calls.{Continues};
+    ghost use Rattle.anstyle_parse.specs.Call.{Call};
+    ghost use Rattle.anstyle_parse.specs.Calls.{AreCalls, Continues};
+    ghost use Rattle.anstyle_parse.specs.Canon.{canon};
+    ghost use Rattle.anstyle_parse.specs.Lawful.{AreLawful};
     ghost use Rattle.anstyle_parse.specs.Stands.{EndsInCharacter};
     ghost use Rattle.anstyle_parse.specs.Accumulator.{IsEmpty, front_of};
 
@@ -142,6 +145,15 @@ impl<C: CharAccumulator> Parser<C> {
             → IsAfterAscii self.new (before ++ bytes.now) }
         ensures ascii_stream { (before : List ℕ) → AreBelow 0x80 bytes.now → IsAfterAscii self.old before
             → Continues before bytes.now (machine_calls C.adds bytes.now (machine_of self.old)) }
+
+        // All calls so far are a lawful list: so hooks exceed unhooks by at most one, and
+        // between the two only put is called.
+        ensures lawful { (before : List ℕ) (first : List Call) → IsTrue C.decodes → IsAfter C.front self.old before → AreCalls before first
+            → AreLawful (first ++ machine_calls C.adds bytes.now (machine_of self.old)) }
+
+        // A new parser makes of the canonical text of lawful calls exactly these calls.
+        ensures replay { (calls : List Call) → IsTrue C.decodes → IsAfter C.front self.old [] → AreLawful calls → bytes.now ≡ canon calls
+            → Goes P.means performer.old calls performer.new }
     {
         self.take_bytes(performer, bytes);
     }

@@ -1,4 +1,9 @@
-use Rattle.std.proofs.Common.{arith}
+use Rattle.std.proofs.Common.{List, [], ◌++◌, arith, subst}
+use Rattle.anstyle_parse.specs.Call.{Call, Goes}
+use Rattle.anstyle_parse.specs.Machine.{machine_calls}
+use Rattle.anstyle_parse.specs.Parser.{machine_of}
+use Rattle.anstyle_parse.proofs.CanonTwice.{Continues-replay}
+use Rattle.anstyle_parse.proofs.LawfulCalls.{lawful}
 use Rattle.anstyle_parse.proofs.Streams.{bytes_below, IsAfter-taken, Continues-taken, IsAfterAscii-taken, Continues-ascii}
 use Rattle.anstyle_parse.proofs.parser.Parser.advance_all.Goals as goal
 
@@ -21,3 +26,20 @@ returns-clause-ascii_stands g c = λ before below stands.
 pub returns-clause-ascii_stream : goal.returns-clause-ascii_stream
 returns-clause-ascii_stream g c = λ before below stands.
     Continues-ascii g.C.CharAccumulator.adds c.args.self.now c.take_bytes.new.self c.args.bytes.now below c.take_bytes.ensures.machine before stands
+
+pub returns-clause-lawful : goal.returns-clause-lawful
+returns-clause-lawful g c = λ before first decodes stands are.
+    let n = g.C.CharAccumulator in
+    let below = bytes_below c.args.bytes.now (λ i. omega (arith, c.type_inv.bytes i)) in
+    lawful (before ++ c.args.bytes.now) (first ++ machine_calls n.adds c.args.bytes.now (machine_of c.args.self.now))
+    (Continues-taken n.front n.takes n.adds (g.met.C.CharAccumulator.follows decodes) c.args.self.now c.take_bytes.new.self c.args.bytes.now below c.take_bytes.ensures.machine before stands first are)
+
+pub returns-clause-replay : goal.returns-clause-replay
+returns-clause-replay g c = λ calls decodes stands h e.
+    let n = g.C.CharAccumulator in
+    let below = bytes_below c.args.bytes.now (λ i. omega (arith, c.type_inv.bytes i)) in
+    let Q : List Call → Type 0 = λ l. Goes g.P.Perform.means c.args.performer.now l c.take_bytes.new.performer in
+    subst Q
+    (Continues-replay c.args.bytes.now (machine_calls n.adds c.args.bytes.now (machine_of c.args.self.now)) calls
+    (Continues-taken n.front n.takes n.adds (g.met.C.CharAccumulator.follows decodes) c.args.self.now c.take_bytes.new.self c.args.bytes.now below c.take_bytes.ensures.machine [] stands) h e)
+    c.take_bytes.ensures.calls

@@ -5,6 +5,9 @@ mod output;
 mod piece;
 mod writer;
 
+#[cfg(test)]
+mod tests;
+
 pub use devices::{FromRead, FromWrite, Sink, Source};
 pub use output::Output;
 pub use piece::Piece;

@@ -99,7 +99,8 @@ read_groups-groups_text (group ∷ groups) some h =
     ap (map read_group) (slice_split-join_with_byte semicolon (group_text group) (map group_text groups) (no_semicolons (group ∷ groups) h))
     ∙ groups_read (group ∷ groups) h
 
-AllByRecursion-push : {X : Type 0} (P : X → Type 0) (xs : List X) (x : X) → AllByRecursion P xs → P x → AllByRecursion P (xs ++ x ∷ [])
+-- one more element of which it holds
+pub AllByRecursion-push : {X : Type 0} (P : X → Type 0) (xs : List X) (x : X) → AllByRecursion P xs → P x → AllByRecursion P (xs ++ x ∷ [])
 AllByRecursion-push P [] x h k = (k, tt)
 AllByRecursion-push P (y ∷ xs) x h k = (h.0, AllByRecursion-push P xs x h.1 k)
 

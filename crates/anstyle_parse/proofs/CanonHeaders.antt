@@ -23,7 +23,7 @@ parameter-not_intermediate : (b : ℕ) → is_parameter b ≡ true → not (is_i
 unfolding is_parameter is_intermediate is_within
 parameter-not_intermediate b e = implied is_parameter (λ x. not (is_intermediate x)) 256 b refl (below_within 0x30 0x3B b (omega arith) e) e
 
-marker-not_parameter : (b : ℕ) → is_marker b ≡ true → not (is_parameter b) ≡ true
+pub marker-not_parameter : (b : ℕ) → is_marker b ≡ true → not (is_parameter b) ≡ true
 unfolding is_parameter is_marker is_within
 marker-not_parameter b e = implied is_marker (λ x. not (is_parameter x)) 256 b refl (below_within 0x3C 0x3F b (omega arith) e) e
 
@@ -116,7 +116,8 @@ pub after_marker-unmarked : (bytes : List ℕ) → EachIs (λ b. not (is_marker 
 after_marker-unmarked [] h = refl
 after_marker-unmarked (b ∷ bytes) h = cond-false (is_marker b) bytes (b ∷ bytes) (not-true (is_marker b) h.0)
 
-after_marker-in_order : (marker bytes : List ℕ) → length marker ≤ 1 → EachIs is_marker marker → EachIs (λ b. not (is_marker b)) bytes → after_marker (marker ++ bytes) ≡ bytes
+-- what is behind a marker
+pub after_marker-in_order : (marker bytes : List ℕ) → length marker ≤ 1 → EachIs is_marker marker → EachIs (λ b. not (is_marker b)) bytes → after_marker (marker ++ bytes) ≡ bytes
 after_marker-in_order [] bytes one h k = after_marker-unmarked bytes k
 after_marker-in_order (b ∷ []) bytes one h k = cond-true (is_marker b) bytes (b ∷ bytes) h.0
 after_marker-in_order (b ∷ c ∷ marker) bytes one h k = absurd (omega arith)

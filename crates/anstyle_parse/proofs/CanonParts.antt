@@ -11,11 +11,11 @@ use Rattle.anstyle_parse.proofs.CanonLists.{implied, AllByRecursion-weaker, filt
 use Rattle.anstyle_parse.proofs.CanonCharacters.{within_parts}
 
 -- what is stored is kept, and no separator
-stored-kept : (b : ℕ) → is_stored b ≡ true → is_kept b ≡ true
+pub stored-kept : (b : ℕ) → is_stored b ≡ true → is_kept b ≡ true
 unfolding is_stored
 stored-kept b e = (and_parts (is_kept b) (not (eqb b semicolon)) e).0
 
-stored-no_semicolon : (b : ℕ) → is_stored b ≡ true → not (eqb b semicolon) ≡ true
+pub stored-no_semicolon : (b : ℕ) → is_stored b ≡ true → not (eqb b semicolon) ≡ true
 unfolding is_stored
 stored-no_semicolon b e = (and_parts (is_kept b) (not (eqb b semicolon)) e).1
 
@@ -24,11 +24,11 @@ pub kept-below : (b : ℕ) → is_kept b ≡ true → b < 256
 unfolding is_kept
 kept-below b e = omega (arith, (within_parts 0x20 0xFF b e).1)
 
-kept-text : (b : ℕ) → is_kept b ≡ true → is_text_byte bell b ≡ true
+pub kept-text : (b : ℕ) → is_kept b ≡ true → is_text_byte bell b ≡ true
 unfolding is_kept is_within is_text_byte is_escape is_cancel
 kept-text b e = implied is_kept (is_text_byte bell) 256 b refl (kept-below b e) e
 
-semicolon-kept : is_kept semicolon ≡ true
+pub semicolon-kept : is_kept semicolon ≡ true
 unfolding is_kept is_within
 semicolon-kept = refl
 

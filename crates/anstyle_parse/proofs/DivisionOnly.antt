@@ -125,7 +125,7 @@ grow-whole bytes b h = cond-true (is_well_formed (bytes ++ b ∷ [])) (done (cha
     (if is_proper_front (bytes ++ b ∷ []) then more (front (bytes ++ b ∷ [])) else done (broken bytes b)) h
 
 -- a byte with which no character begins breaks the front
-grow-broken : (bytes : List ℕ) (b : ℕ) → IsTrue (not (is_front (bytes ++ b ∷ []))) → grow (front bytes) b ≡ done (broken bytes b)
+pub grow-broken : (bytes : List ℕ) (b : ℕ) → IsTrue (not (is_front (bytes ++ b ∷ []))) → grow (front bytes) b ≡ done (broken bytes b)
 unfolding grow
 grow-broken bytes b h =
     let no = not-true (is_front (bytes ++ b ∷ [])) h in

@@ -50,3 +50,9 @@ pub mod CanonBytes
 pub mod OutputLemmas
 pub mod PieceLemmas
 pub mod CanonWriterLemmas
+pub mod Forgotten
+pub mod CheckpointHeld
+pub mod CheckpointFields
+pub mod CheckpointHeader
+pub mod CheckpointText
+pub mod Checkpoint

@@ -24,11 +24,11 @@ abbrev pub texted : {A : Type 0} → State → A → Machine A → Machine A
 texted state accumulator m = record (plain state accumulator) { closed_parts = m.closed_parts; open_part = m.open_part }
 
 -- the same, with the answers of the tests given
-abbrev collecting_by : {A : Type 0} → Bool → ℕ → Machine A → Machine A
+abbrev pub collecting_by : {A : Type 0} → Bool → ℕ → Machine A → Machine A
 collecting_by full b m = if full then record m { ignoring = true } else record m { collected = m.collected ++ b ∷ [] }
 
 -- full: 32 fields; then whether the byte separates groups, and fields
-abbrev with_parameter_by : {A : Type 0} → Bool → Bool → Bool → ℕ → Machine A → Machine A
+abbrev pub with_parameter_by : {A : Type 0} → Bool → Bool → Bool → ℕ → Machine A → Machine A
 with_parameter_by full ends_group ends_field b m =
     if full then record m { ignoring = true }
     else if ends_group then record (pushed m) { number = 0 }
@@ -44,7 +44,7 @@ abbrev with_part_by : {A : Type 0} → Bool → Machine A → Machine A
 with_part_by full m = if full then m else record m { closed_parts = m.closed_parts ++ m.open_part ∷ []; open_part = [] }
 
 -- full: 1024 bytes; then whether the byte separates parts, and whether there are sixteen
-abbrev storing_by : {A : Type 0} → Bool → Bool → Bool → ℕ → Machine A → Machine A
+abbrev pub storing_by : {A : Type 0} → Bool → Bool → Bool → ℕ → Machine A → Machine A
 storing_by full separates parts_full b m =
     if full then m else if separates then with_part_by parts_full m else record m { open_part = m.open_part ++ b ∷ [] }
 

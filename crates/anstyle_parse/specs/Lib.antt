@@ -16,6 +16,7 @@ pub mod Front
 pub mod Accumulator
 pub mod Decoding
 pub mod Canon
+pub mod Checkpoint
 pub mod Lawful
 pub mod Devices
 pub mod Output

@@ -56,3 +56,4 @@ pub mod CheckpointFields
 pub mod CheckpointHeader
 pub mod CheckpointText
 pub mod Checkpoint
+pub mod CheckpointPieces

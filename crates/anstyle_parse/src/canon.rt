@@ -1,5 +1,6 @@
 //! Readers and writers that say what passed and whether they failed, and what the
 //! performers that write have in common.
+mod checkpoints;
 mod devices;
 mod output;
 mod piece;
@@ -8,6 +9,7 @@ mod writer;
 #[cfg(test)]
 mod tests;
 
+pub use checkpoints::checkpoint;
 pub use devices::{FromRead, FromWrite, Sink, Source};
 pub use output::Output;
 pub use piece::Piece;

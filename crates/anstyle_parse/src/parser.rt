@@ -169,6 +169,57 @@ impl<C: CharAccumulator> Parser<C> {
     }
 }
 
+/// What the parser keeps, for a checkpoint.
+impl<C: CharAccumulator> Parser<C> {
+    ghost use Rattle.std.specs.Prelude.{drop};
+    ghost use Rattle.anstyle_parse.specs.Params.{closed_groups_of, open_group_of};
+    ghost use Rattle.anstyle_parse.specs.Parser.{machine_of};
+
+    pub(crate) fn state(&self) -> State
+        ensures { result ≡ (machine_of self.now).state }
+    {
+        self.state
+    }
+
+    /// Whether more fields or intermediates came than are kept.
+    pub(crate) fn is_ignoring(&self) -> bool
+        ensures { result ≡ (machine_of self.now).ignoring }
+    {
+        self.ignoring
+    }
+
+    /// The fields, of which the last group may be open.
+    pub(crate) fn params(&self) -> &Params
+        ensures closed { closed_groups_of result.now ≡ (machine_of self.now).closed_groups }
+        ensures open { open_group_of result.now ≡ (machine_of self.now).open_group }
+    {
+        &self.params
+    }
+
+    /// The field so far.
+    pub(crate) fn number(&self) -> u16
+        ensures { result ≡ (machine_of self.now).number }
+    {
+        self.param
+    }
+
+    /// The text of an operating system command, and how long each closed part of it is.
+    pub(crate) fn command(&self) -> (&[u8], &[usize])
+        ensures within { total result.1.now ≤ length result.0.now }
+        ensures closed { cut result.1.now result.0.now ≡ (machine_of self.now).closed_parts }
+        ensures rest { drop (total result.1.now) result.0.now ≡ (machine_of self.now).open_part }
+    {
+        let lengths = &self.osc_lengths[..];
+        (self.osc_text.as_slice(), &lengths[..self.osc_parts])
+    }
+
+    pub(crate) fn accumulator(&self) -> &C
+        ensures { result.now ≡ (machine_of self.now).accumulator }
+    {
+        &self.accumulator
+    }
+}
+
 /// The actions of a sequence's header.
 impl<C: CharAccumulator> Parser<C> {
     ghost use Rattle.anstyle_parse.specs.Parser.{machine_of};
@@ -226,7 +277,7 @@ impl<C: CharAccumulator> Parser<C> {
     }
 
     /// The markers and intermediates that are kept.
-    fn collected(&self) -> &[u8]
+    pub(crate) fn collected(&self) -> &[u8]
         ensures { result.now ≡ (machine_of self.now).collected }
     {
         let all = &self.intermediates[..];

@@ -121,7 +121,7 @@ impl<W: Sink> Perform for CanonWriter<W> {
         let mut piece = Piece::new();
         piece.push(&mut self.output, &[ESCAPE]);
         piece.push(&mut self.output, intermediates);
-        piece.push(&mut self.output, space_if(ignore));
+        piece.push(&mut self.output, text_if(ignore, b" "));
         piece.push(&mut self.output, &[byte]);
         piece.finish(&mut self.output);
     }
@@ -159,7 +159,7 @@ impl<W: Sink> CanonWriter<W> {
 
 /// The marker at the head, if one stands there, and what is behind it.
 #[tactic(auto, unfolding(crate::specs::Bytes::is_marker, crate::specs::Bytes::is_within))]
-fn split_marker(intermediates: &[u8]) -> (&[u8], &[u8])
+pub(super) fn split_marker(intermediates: &[u8]) -> (&[u8], &[u8])
     ensures marker { result.0.now ≡ leading_marker intermediates.now }
     ensures others { result.1.now ≡ after_marker intermediates.now }
 {
@@ -199,11 +199,11 @@ fn more_intermediates(intermediates: &[u8], ignore: bool) -> &'static [u8]
     }
 }
 
-/// One more intermediate, where more came than are shown.
-fn space_if(ignore: bool) -> &'static [u8]
-    ensures { result.now ≡ (if ignore then 0x20 ∷ [] else []) }
+/// The text, where the condition holds, and else none.
+pub(super) fn text_if(condition: bool, text: &'static [u8]) -> &'static [u8]
+    ensures { result.now ≡ (if condition then text.now else []) }
 {
-    if ignore { b" " } else { b"" }
+    if condition { text } else { b"" }
 }
 
 /// BEL where BEL ended the command, else ESC X and ST, a string that makes no call.

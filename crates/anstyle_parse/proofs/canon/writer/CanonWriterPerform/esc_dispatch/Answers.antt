@@ -15,5 +15,5 @@ returns g c =
     let all = HandsOn-append {W = g.row.W.Denot} contents has_failed _ _ _ _ _ _ _ _ begun c.push-4.ensures in
     let Q : List ℕ → Type 0 = λ t. Adds {W = g.row.W.Denot} contents has_failed t (output_of c.args.self.now) c.finish.new.output in
     subst Q
-    (escape_text-parts c.args.intermediates.now c.args.ignore (escape_byte ∷ []) _ (c.args.byte ∷ []) c.space_if.ensures)
+    (escape_text-parts c.args.intermediates.now c.args.ignore (escape_byte ∷ []) _ (c.args.byte ∷ []) c.text_if.ensures)
     (HandsOn-all {W = g.row.W.Denot} contents has_failed _ _ _ _ _ _ c.new-piece.ensures all c.finish.ensures)

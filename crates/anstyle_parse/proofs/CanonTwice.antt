@@ -1,10 +1,11 @@
 -- What follows from replay, lawful lists and the one division.
-use Rattle.std.proofs.Common.{◌≡◌, ℕ, List, ap, subst}
+use Rattle.std.proofs.Common.{◌≡◌, ℕ, List, [], ap, subst}
 use Rattle.anstyle_parse.specs.Call.{Call}
-use Rattle.anstyle_parse.specs.Calls.{AreCalls}
+use Rattle.anstyle_parse.specs.Calls.{AreCalls, Continues}
 use Rattle.anstyle_parse.specs.Canon.{canon}
 use Rattle.anstyle_parse.specs.Lawful.{AreLawful}
 use Rattle.anstyle_parse.proofs.DivisionOnly.{AreCalls-only}
+use Rattle.anstyle_parse.proofs.CanonItems.{AreCalls-nil}
 use Rattle.anstyle_parse.proofs.CanonReplay.{replay}
 use Rattle.anstyle_parse.proofs.LawfulCalls.{lawful}
 
@@ -23,3 +24,8 @@ canon-canon bytes calls others first second = ap canon (canon_twice bytes calls 
 -- lawful lists with one canonical text are one list
 pub canon_injective : (a b : List Call) → AreLawful a → AreLawful b → canon a ≡ canon b → a ≡ b
 canon_injective a b h k e = replay-only b a k (subst (λ text. AreCalls text a) e (replay a h))
+
+-- what continues the calls of no bytes, by the canonical text of a lawful list, is that list
+pub Continues-replay : (bytes : List ℕ) (more calls : List Call) → Continues [] bytes more → AreLawful calls → bytes ≡ canon calls → more ≡ calls
+Continues-replay bytes more calls continues h e =
+    replay-only calls more h (subst (λ text. AreCalls text more) e (continues [] AreCalls-nil))

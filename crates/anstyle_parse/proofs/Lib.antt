@@ -51,6 +51,7 @@ pub mod CanonTwice
 pub mod CanonBytes
 pub mod OutputLemmas
 pub mod PieceLemmas
+pub mod CanonWriterLemmas
 pub mod Forgotten
 pub mod CheckpointHeld
 pub mod CheckpointFields
@@ -58,3 +59,4 @@ pub mod CheckpointHeader
 pub mod CheckpointText
 pub mod Checkpoint
 pub mod Limits
+pub mod CheckpointPieces

@@ -1,11 +1,12 @@
 -- Texts handed to an output one after another are one text.
-use Rattle.std.proofs.Common.{◌≡◌, ℕ, Bool, List, [], ◌∷◌, ◌++◌, Option, None, Some, ◌⊎◌, inl, inr, refl, sym, ap, ◌∙◌, subst, append_assoc}
-use Rattle.std.proofs.KnownBytes.{Appends-nil, Appends-trans}
-use Rattle.std.specs.Io.KnownBytes.{Appends}
+use Rattle.std.proofs.Common.{◌≡◌, ℕ, Bool, List, [], ◌∷◌, ◌++◌, Option, None, Some, Result, Ok, Err, ◌⊎◌, inl, inr, refl, sym, ap, ◌∙◌, subst, append_assoc}
+use Rattle.std.proofs.KnownBytes.{Appends-nil, Appends-trans, Appends-kept}
+use Rattle.std.specs.Io.KnownBytes.{Keeps, Appends}
 use Rattle.anstyle_parse.specs.declared.canon.Fault.{Fault}
+use Rattle.anstyle_parse.specs.declared.canon.Fault.TheVariants.{Read, Write, Flush}
 use Rattle.anstyle_parse.specs.declared.canon.output.Output.{Output}
 use Rattle.anstyle_parse.specs.Call.{Call, Goes}
-use Rattle.anstyle_parse.specs.Output.{writer_in, fault_in, AddsAll, AddsBeginning, AddsAt, Adds, texts}
+use Rattle.anstyle_parse.specs.Output.{writer_in, fault_in, AddsAll, AddsBeginning, AddsAt, Adds, texts, Flushes, FinishesAt, Finishes, Writes, Causes}
 
 -- a list that is empty with another behind it is empty
 front_nil : (xs ys : List ℕ) → xs ++ ys ≡ [] → xs ≡ []
@@ -73,3 +74,56 @@ module _ {W : Type 0} (contents : W → Option (List ℕ)) (has_failed : W → B
   Adds-calls output_of text [] a b same = subst (λ o. Adds contents has_failed [] (output_of a) (output_of o)) (sym same) (Adds-nil (output_of a))
   Adds-calls output_of text (call ∷ calls) a b (mid, first, others) =
       Adds-append (text call) (texts text calls) (output_of a) (output_of mid) (output_of b) first (Adds-calls output_of text calls mid b others)
+
+  -- a text is written, and then the writer is flushed
+  Writes-flushed : {T : Type 0} (text : List ℕ) (before : Option (List ℕ)) (old new : W) (answer : Result T Fault) → Appends before (contents old) text → Keeps (contents old) (contents new)
+      → Flushes answer (has_failed old) (has_failed new) → Writes text before (contents new) answer
+  Writes-flushed text before old new (Ok value) written kept flushed = Appends-kept _ _ _ _ written kept
+  Writes-flushed text before old new (Err Flush) written kept flushed = Appends-kept _ _ _ _ written kept
+  Writes-flushed text before old new (Err Write) written kept flushed = cc flushed.0
+  Writes-flushed text before old new (Err Read) written kept flushed = cc flushed.0
+
+  Writes-finish_at : {T : Type 0} (text : List ℕ) (a b : Output W) (new : W) (answer : Result T Fault) → AddsAt None contents has_failed text a b → Finishes contents has_failed b new answer
+      → Writes text (contents (writer_in a)) (contents new) answer
+  Writes-finish_at {T} text a b new answer (inl all) finished =
+      let Q : Option Fault → Type 0 = λ f. FinishesAt f contents has_failed (writer_in b) new answer in
+      let flushed = subst Q all.no_fault finished in
+      Writes-flushed text (contents (writer_in a)) (writer_in b) new answer all.written flushed.0 flushed.1
+  Writes-finish_at {T} text a b new answer (inr front) finished =
+      let Q : Option Fault → Type 0 = λ f. FinishesAt f contents has_failed (writer_in b) new answer in
+      let stopped = subst Q front.fault finished in
+      let R : Result T Fault → Type 0 = λ r. Writes text (contents (writer_in a)) (contents new) r in
+      subst R (sym stopped.1) (record {
+        beginning = front.beginning;
+        rest = front.rest;
+        joined = front.joined;
+        proper = front.proper;
+        written = subst (λ w. Appends (contents (writer_in a)) (contents w) front.beginning) (sym stopped.0) front.written;
+      })
+
+  -- What stands written when an output with no fault got a text and has ended.
+  pub Writes-finish : {T : Type 0} (text : List ℕ) (a b : Output W) (new : W) (answer : Result T Fault) → fault_in a ≡ None → Adds contents has_failed text a b → Finishes contents has_failed b new answer
+      → Writes text (contents (writer_in a)) (contents new) answer
+  Writes-finish text a b new answer none added finished =
+      Writes-finish_at text a b new answer (subst (λ f. AddsAt f contents has_failed text a b) none added) finished
+
+  Causes-flushed : {T : Type 0} (failed : Bool) (old new : W) (answer : Result T Fault) → has_failed old ≡ failed → Flushes answer (has_failed old) (has_failed new) → Causes failed (has_failed new) answer
+  Causes-flushed failed old new (Ok value) same flushed = flushed ∙ same
+  Causes-flushed failed old new (Err fault) same flushed = flushed.1
+
+  Causes-finish_at : {T : Type 0} (text : List ℕ) (a b : Output W) (new : W) (answer : Result T Fault) → AddsAt None contents has_failed text a b → Finishes contents has_failed b new answer
+      → Causes (has_failed (writer_in a)) (has_failed new) answer
+  Causes-finish_at {T} text a b new answer (inl all) finished =
+      let Q : Option Fault → Type 0 = λ f. FinishesAt f contents has_failed (writer_in b) new answer in
+      Causes-flushed (has_failed (writer_in a)) (writer_in b) new answer all.not_failed (subst Q all.no_fault finished).1
+  Causes-finish_at {T} text a b new answer (inr front) finished =
+      let Q : Option Fault → Type 0 = λ f. FinishesAt f contents has_failed (writer_in b) new answer in
+      let stopped = subst Q front.fault finished in
+      let R : Result T Fault → Type 0 = λ r. Causes (has_failed (writer_in a)) (has_failed new) r in
+      subst R (sym stopped.1) (ap has_failed stopped.0 ∙ front.failed)
+
+  -- And why it ended as it did.
+  pub Causes-finish : {T : Type 0} (text : List ℕ) (a b : Output W) (new : W) (answer : Result T Fault) → fault_in a ≡ None → Adds contents has_failed text a b → Finishes contents has_failed b new answer
+      → Causes (has_failed (writer_in a)) (has_failed new) answer
+  Causes-finish text a b new answer none added finished =
+      Causes-finish_at text a b new answer (subst (λ f. AddsAt f contents has_failed text a b) none added) finished

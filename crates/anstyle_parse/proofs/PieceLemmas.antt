@@ -76,6 +76,11 @@ module _ {W : Type 0} (contents : W → Option (List ℕ)) (has_failed : W → B
   HandsOn-finish t h i a b c first last =
       subst (λ l. Adds contents has_failed l a c) (sym first.joined) (Adds-append contents has_failed first.handed i a b c first.added last)
 
+  -- where nothing was held at first, that is the text
+  pub HandsOn-all : (t h i : List ℕ) (a b c : Output W) → h ≡ [] → HandsOn contents has_failed t h i a b → Adds contents has_failed i b c → Adds contents has_failed t a c
+  HandsOn-all t h i a b c none first last =
+      subst (λ l. Adds contents has_failed (l ++ t) a c) none (HandsOn-finish t h i a b c first last)
+
   -- a number of one digit
   pub HandsOn-decimal_digit : (n : ℕ) (h i : List ℕ) (a b : Output W) → n < 10 → HandsOn contents has_failed ((48 + n % 10) ∷ []) h i a b → HandsOn contents has_failed (decimal n) h i a b
   HandsOn-decimal_digit n h i a b small first =

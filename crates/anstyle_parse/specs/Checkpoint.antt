@@ -10,7 +10,7 @@ use Rattle.anstyle_parse.specs.Machine.{Machine, field_count}
 use Rattle.anstyle_parse.specs.Canon.{leading_marker, escape_text}
 
 -- the byte, where the parser is ignoring: there it sets `ignoring` again, and does nothing else
-abbrev pub ignored_byte : ℕ → Machine (List ℕ) → List ℕ
+abbrev pub ignored_byte : {A : Type 0} → ℕ → Machine A → List ℕ
 ignored_byte b m = if m.ignoring then b ∷ [] else []
 
 -- what stored the last field: 3A, where its group is open, or 3B, where it is closed
@@ -20,25 +20,28 @@ last_separator (group ∷ groups) [] = semicolon ∷ []
 last_separator [] [] = []
 
 -- the stored fields, each with the separator that stored it
-abbrev pub fields_so_far : Machine (List ℕ) → List ℕ
+abbrev pub fields_so_far : {A : Type 0} → Machine A → List ℕ
 fields_so_far m = groups_text (shown_groups m.closed_groups m.open_group) ++ last_separator m.closed_groups m.open_group
 
 -- The number and the intermediates. With 32 fields stored the number is 0, and a parameter
 -- byte, like 3B, only sets `ignoring`. With fewer, the number has at least one digit, so that
 -- the state is not that of an empty header, and a third byte to collect, like 20, only sets
 -- `ignoring`.
-abbrev pub number_so_far : Machine (List ℕ) → List ℕ
+abbrev pub number_so_far : {A : Type 0} → Machine A → List ℕ
 number_so_far m =
     if field_count m == max_fields then ignored_byte semicolon m ++ after_marker m.collected
     else decimal m.number ++ (after_marker m.collected ++ ignored_byte 0x20 m)
 
 -- a header: the marker, if there is one, the fields, the number and the intermediates
-abbrev pub header_so_far : Machine (List ℕ) → List ℕ
+abbrev pub header_so_far : {A : Type 0} → Machine A → List ℕ
 header_so_far m = leading_marker m.collected ++ (fields_so_far m ++ number_so_far m)
 
 -- the text of an operating system command: 3B closed each part
-abbrev pub text_so_far : Machine (List ℕ) → List ℕ
-text_so_far m = flat_map (λ part. part ++ semicolon ∷ []) m.closed_parts ++ m.open_part
+abbrev pub command_text : List (List ℕ) → List ℕ → List ℕ
+command_text closed rest = flat_map (λ part. part ++ semicolon ∷ []) closed ++ rest
+
+abbrev pub text_so_far : {A : Type 0} → Machine A → List ℕ
+text_so_far m = command_text m.closed_parts m.open_part
 
 -- by the state
 abbrev pub checkpoint_in : State → Machine (List ℕ) → List ℕ

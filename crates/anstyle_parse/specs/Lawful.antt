@@ -5,7 +5,7 @@ use Rattle.anstyle_parse.specs.Bytes.{is_within, is_intermediate, is_final, semi
 use Rattle.anstyle_parse.specs.Arguments.{after_marker, is_kept, max_fields, max_field, max_collected, max_osc_bytes, max_osc_parts}
 use Rattle.anstyle_parse.specs.Call.{Call, print, execute, hook, put, unhook, osc_dispatch, csi_dispatch, esc_dispatch}
 use Rattle.anstyle_parse.specs.Items.{EachIs, is_introducer}
-use Rattle.anstyle_parse.specs.Calls.{is_executed, is_passed}
+use Rattle.anstyle_parse.specs.Calls.{is_executed, is_passed, AreCalls}
 
 -- a character that can be printed: a scalar value from the space on
 unfoldable pub is_character : ℕ → Bool
@@ -71,3 +71,7 @@ AreLawfulFrom hooked (call ∷ calls) = ⊥
 -- the lists of calls that a parser can make
 abbrev pub AreLawful : List Call → Type 0
 AreLawful calls = AreLawfulFrom false calls
+
+-- the lists of calls that some bytes make
+abbrev pub AreMade : List Call → Type 0
+AreMade calls = (bytes : List ℕ) × AllByRecursion (λ b. b < 256) bytes × AreCalls bytes calls

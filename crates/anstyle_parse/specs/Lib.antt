@@ -24,3 +24,4 @@ pub mod Devices
 pub mod Output
 pub mod Piece
 pub mod Buffer
+pub mod CanonWriter

@@ -1,8 +1,8 @@
 -- What a performer that writes adds to its writer.
-use Rattle.std.specs.Prelude.{◌≡◌, ◌≢◌, ℕ, Bool, true, List, [], ◌∷◌, ◌++◌, Option, None, Some, Result, Err, MatchResult, ◌⊎◌, IsTrue}
+use Rattle.std.specs.Prelude.{◌≡◌, ◌≢◌, ℕ, Bool, true, List, [], ◌∷◌, ◌++◌, Option, None, Some, Result, Ok, Err, MatchResult, ◌⊎◌, IsTrue}
 use Rattle.std.specs.Io.KnownBytes.{Keeps, Appends}
 use Rattle.anstyle_parse.specs.declared.canon.Fault.{Fault}
-use Rattle.anstyle_parse.specs.declared.canon.Fault.TheVariants.{Write, Flush}
+use Rattle.anstyle_parse.specs.declared.canon.Fault.TheVariants.{Read, Write, Flush}
 use Rattle.anstyle_parse.specs.declared.canon.output.Output.{Output}
 use Rattle.anstyle_parse.specs.Call.{Call}
 
@@ -55,3 +55,24 @@ FinishesAt None contents has_failed old new answer = Keeps (contents old) (conte
 -- flushed. Nothing is written.
 abbrev pub Finishes : {W T : Type 0} → (W → Option (List ℕ)) → (W → Bool) → Output W → W → Result T Fault → Type 0
 Finishes contents has_failed old new answer = FinishesAt (fault_in old) contents has_failed (writer_in old) new answer
+
+-- A proper beginning of the text was appended.
+pub record AppendsBeginning (before after : Option (List ℕ)) (text : List ℕ) : Type 0 where
+  pub beginning : List ℕ
+  pub rest : List ℕ
+  pub joined : text ≡ beginning ++ rest
+  pub proper : rest ≢ []
+  pub written : Appends before after beginning
+
+-- What was written of a text, by the answer: all of it, also where a flush failed; where a
+-- write failed, a proper beginning. No read can have failed.
+abbrev pub Writes : {T : Type 0} → List ℕ → (before after : Option (List ℕ)) → Result T Fault → Type 0
+Writes text before after (Ok value) = Appends before after text
+Writes text before after (Err Flush) = Appends before after text
+Writes text before after (Err Write) = AppendsBeginning before after text
+Writes text before after (Err Read) = ⊥
+
+-- Why: with Ok the writer has failed only if it had before, with a fault it has failed.
+abbrev pub Causes : {T : Type 0} → (failed failed_after : Bool) → Result T Fault → Type 0
+Causes failed failed_after (Ok value) = failed_after ≡ failed
+Causes failed failed_after (Err fault) = IsTrue failed_after

@@ -78,6 +78,18 @@ pub struct Utf8Parser {
     decoder: Front,
 }
 
+impl Utf8Parser {
+    ghost use Rattle.anstyle_parse.specs.Front.{bytes_of};
+    ghost use Rattle.anstyle_parse.specs.Accumulator.{front_of};
+
+    /// What has come of a character.
+    pub(crate) fn front(&self) -> Front
+        ensures { bytes_of result ≡ front_of self.now }
+    {
+        self.decoder
+    }
+}
+
 impl CharAccumulator for Utf8Parser {
     ghost use Rattle.anstyle_parse.specs.Front.{bytes_of};
     ghost use Rattle.anstyle_parse.specs.Accumulator.{front_of, parser_after};

@@ -1,14 +1,21 @@
 //! Readers and writers that say what passed and whether they failed, and what the
 //! performers that write have in common.
 mod buffer;
+mod checkpoints;
 mod devices;
 mod output;
 mod piece;
+mod writer;
 
 pub use buffer::Buffer;
+#[cfg(test)]
+mod tests;
+
+pub use checkpoints::checkpoint;
 pub use devices::{FromRead, FromWrite, Sink, Source};
 pub use output::Output;
 pub use piece::Piece;
+pub use writer::CanonWriter;
 
 /// What went wrong with a reader or a writer.
 #[derive(Debug, Clone, Copy, PartialEq, Eq)]

@@ -4,6 +4,7 @@
 
 mod accumulator;
 pub mod canon;
+pub mod laws;
 mod params;
 mod parser;
 mod perform;

@@ -1,7 +1,7 @@
 //! The parameters of a control sequence or of a device control string: groups of fields.
 //! A list of fixed size, so that no byte of a stream takes memory.
 ghost use Rattle.std.specs.Prelude.{◌≡◌, ◌≢◌, ◌<◌, ◌≤◌, ◌+◌, ◌++◌, ◌∷◌, [], ◌↔◌, ℕ, IsTrue, IfSome, ⊤, length, take, slice_index};
-ghost use Rattle.std.specs.Bool.{OnFalse};
+ghost use Rattle.std.specs.Bool.{OnFalse, OnTrue};
 ghost use Rattle.std.specs.List.{concat};
 ghost use Rattle.anstyle_parse.specs.Groups.{total, fields_text};
 ghost use Rattle.std.specs.Iterator.{YieldsFirstBy, item_count, UpTo};
@@ -74,6 +74,14 @@ impl Params {
         ensures room { OnFalse result (length (concat (closed_groups_of self.now)) + length (open_group_of self.now) < 32) }
     {
         self.len == MAX_PARAMS
+    }
+
+    /// Whether the last group may get further fields.
+    pub(crate) fn is_open(&self) -> bool
+        ensures open { OnTrue result (0 < length (open_group_of self.now)) }
+        ensures closed { OnFalse result (open_group_of self.now ≡ []) }
+    {
+        self.open_fields > 0
     }
 
     /// Empties the list.

@@ -76,7 +76,10 @@ impl<C: CharAccumulator> Parser<C> {
     ghost use Rattle.anstyle_parse.specs.Bytes.{is_cancel};
     ghost use Rattle.anstyle_parse.specs.Parser.{machine_of, IsNew, IsInCharacter, HasOpenString, MayTake, MayTakeAll, IsAfter, IsAfterAscii, AreBelow};
     ghost use Rattle.anstyle_parse.specs.Machine.{step, step_calls, machine_after, machine_calls, IsWithinLimits};
-    ghost use Rattle.anstyle_parse.specs.Calls.{Continues};
+    ghost use Rattle.anstyle_parse.specs.Calls.{Continues, AreCalls};
+    ghost use Rattle.anstyle_parse.specs.Call.{Call};
+    ghost use Rattle.anstyle_parse.specs.Canon.{canon};
+    ghost use Rattle.anstyle_parse.specs.Lawful.{AreLawful};
     ghost use Rattle.anstyle_parse.specs.Stands.{EndsInCharacter};
     ghost use Rattle.anstyle_parse.specs.Accumulator.{IsEmpty, front_of};
 
@@ -147,6 +150,15 @@ impl<C: CharAccumulator> Parser<C> {
             → IsAfterAscii self.new (before ++ bytes.now) }
         ensures ascii_stream { (before : List ℕ) → AreBelow 0x80 bytes.now → IsAfterAscii self.old before
             → Continues before bytes.now (machine_calls C.adds bytes.now (machine_of self.old)) }
+
+        // All calls so far are a lawful list: so hooks exceed unhooks by at most one, and
+        // between the two only put is called.
+        ensures lawful { (before : List ℕ) (first : List Call) → IsTrue C.decodes → IsAfter C.front self.old before → AreCalls before first
+            → AreLawful (first ++ machine_calls C.adds bytes.now (machine_of self.old)) }
+
+        // A new parser makes of the canonical text of lawful calls exactly these calls.
+        ensures replay { (calls : List Call) → IsTrue C.decodes → IsAfter C.front self.old [] → AreLawful calls → bytes.now ≡ canon calls
+            → Goes P.means performer.old calls performer.new }
     {
         self.take_bytes(performer, bytes);
     }
@@ -159,6 +171,57 @@ impl<C: CharAccumulator> Parser<C> {
         ensures ascii { (before : List ℕ) → IsAfterAscii self.now before → result ≡ false }
     {
         matches!(self.state, State::Utf8)
+    }
+}
+
+/// What the parser keeps, for a checkpoint.
+impl<C: CharAccumulator> Parser<C> {
+    ghost use Rattle.std.specs.Prelude.{drop};
+    ghost use Rattle.anstyle_parse.specs.Params.{closed_groups_of, open_group_of};
+    ghost use Rattle.anstyle_parse.specs.Parser.{machine_of};
+
+    pub(crate) fn state(&self) -> State
+        ensures { result ≡ (machine_of self.now).state }
+    {
+        self.state
+    }
+
+    /// Whether more fields or intermediates came than are kept.
+    pub(crate) fn is_ignoring(&self) -> bool
+        ensures { result ≡ (machine_of self.now).ignoring }
+    {
+        self.ignoring
+    }
+
+    /// The fields, of which the last group may be open.
+    pub(crate) fn params(&self) -> &Params
+        ensures closed { closed_groups_of result.now ≡ (machine_of self.now).closed_groups }
+        ensures open { open_group_of result.now ≡ (machine_of self.now).open_group }
+    {
+        &self.params
+    }
+
+    /// The field so far.
+    pub(crate) fn number(&self) -> u16
+        ensures { result ≡ (machine_of self.now).number }
+    {
+        self.param
+    }
+
+    /// The text of an operating system command, and how long each closed part of it is.
+    pub(crate) fn command(&self) -> (&[u8], &[usize])
+        ensures within { total result.1.now ≤ length result.0.now }
+        ensures closed { cut result.1.now result.0.now ≡ (machine_of self.now).closed_parts }
+        ensures rest { drop (total result.1.now) result.0.now ≡ (machine_of self.now).open_part }
+    {
+        let lengths = &self.osc_lengths[..];
+        (self.osc_text.as_slice(), &lengths[..self.osc_parts])
+    }
+
+    pub(crate) fn accumulator(&self) -> &C
+        ensures { result.now ≡ (machine_of self.now).accumulator }
+    {
+        &self.accumulator
     }
 }
 
@@ -219,7 +282,7 @@ impl<C: CharAccumulator> Parser<C> {
     }
 
     /// The markers and intermediates that are kept.
-    fn collected(&self) -> &[u8]
+    pub(crate) fn collected(&self) -> &[u8]
         ensures { result.now ≡ (machine_of self.now).collected }
     {
         let all = &self.intermediates[..];

@@ -1,8 +1,11 @@
-use Rattle.std.proofs.Common.{arith, subst, sym}
-use Rattle.anstyle_parse.specs.Machine.{Machine, IsWithinLimits}
+use Rattle.std.proofs.Common.{arith, subst, sym, List, [], ◌++◌}
+use Rattle.anstyle_parse.specs.Machine.{Machine, IsWithinLimits, machine_calls}
 use Rattle.anstyle_parse.specs.Parser.{machine_of}
 use Rattle.anstyle_parse.proofs.Limits.{IsWithinLimits-machine, IsWithinLimits-parser}
 use Rattle.anstyle_parse.proofs.Streams.{CanTakeAll-may, bytes_below, IsAfter-taken, Continues-taken, IsAfterAscii-taken, Continues-ascii}
+use Rattle.anstyle_parse.specs.Call.{Call, Goes}
+use Rattle.anstyle_parse.proofs.CanonTwice.{Continues-replay}
+use Rattle.anstyle_parse.proofs.LawfulCalls.{lawful}
 use Rattle.anstyle_parse.proofs.parser.Parser.advance_all.Goals as goal
 
 pub take_bytes-requires : goal.take_bytes-requires
@@ -36,3 +39,20 @@ returns-clause-limits g c =
     subst P (sym c.take_bytes.ensures.machine)
     (IsWithinLimits-machine g.C.CharAccumulator.adds c.args.bytes.now (machine_of c.args.self.now)
     (IsWithinLimits-parser c.args.self.now (omega arith)))
+
+pub returns-clause-lawful : goal.returns-clause-lawful
+returns-clause-lawful g c = λ before first decodes stands are.
+    let n = g.C.CharAccumulator in
+    let below = bytes_below c.args.bytes.now (λ i. omega (arith, c.type_inv.bytes i)) in
+    lawful (before ++ c.args.bytes.now) (first ++ machine_calls n.adds c.args.bytes.now (machine_of c.args.self.now))
+    (Continues-taken n.front n.takes n.adds (g.met.C.CharAccumulator.follows decodes) c.args.self.now c.take_bytes.new.self c.args.bytes.now below c.take_bytes.ensures.machine before stands first are)
+
+pub returns-clause-replay : goal.returns-clause-replay
+returns-clause-replay g c = λ calls decodes stands h e.
+    let n = g.C.CharAccumulator in
+    let below = bytes_below c.args.bytes.now (λ i. omega (arith, c.type_inv.bytes i)) in
+    let Q : List Call → Type 0 = λ l. Goes g.P.Perform.means c.args.performer.now l c.take_bytes.new.performer in
+    subst Q
+    (Continues-replay c.args.bytes.now (machine_calls n.adds c.args.bytes.now (machine_of c.args.self.now)) calls
+    (Continues-taken n.front n.takes n.adds (g.met.C.CharAccumulator.follows decodes) c.args.self.now c.take_bytes.new.self c.args.bytes.now below c.take_bytes.ensures.machine [] stands) h e)
+    c.take_bytes.ensures.calls

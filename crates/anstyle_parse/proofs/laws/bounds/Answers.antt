@@ -1,0 +1,9 @@
+use Rattle.anstyle_parse.proofs.CanonBounds.{length-calls}
+use Rattle.anstyle_parse.proofs.CanonLength.{length-canon}
+use Rattle.anstyle_parse.proofs.laws.bounds.Goals as goal
+
+pub returns-clause-calls : goal.returns-clause-calls
+returns-clause-calls c = length-calls
+
+pub returns-clause-text : goal.returns-clause-text
+returns-clause-text c = length-canon

@@ -1,0 +1,231 @@
+//! Canonical texts.
+ghost use Rattle.std.specs.Prelude.{◌≡◌, ◌++◌, ◌∷◌, [], None, map, if◌then◌else◌};
+ghost use Rattle.std.specs.List.{join_with_byte};
+ghost use Rattle.anstyle_parse.specs.Bytes.{escape_byte, semicolon};
+ghost use Rattle.anstyle_parse.specs.Arguments.{after_marker};
+ghost use Rattle.anstyle_parse.specs.Canon.{is_full, call_text, header_text, leading_marker, one_more_field, one_more_intermediate, command_end};
+ghost use Rattle.anstyle_parse.specs.Output.{writer_in, fault_in, Adds, Finishes};
+ghost use Rattle.anstyle_parse.specs.Piece.{held_in, HandsOn};
+
+use super::{Fault, Output, Piece, Sink};
+use crate::params::Params;
+use crate::perform::Perform;
+
+/// ESC, which begins a sequence.
+const ESCAPE: u8 = 0x1B;
+/// ST as one byte, which ends a device control string.
+const STRING_TERMINATOR: u8 = 0x9C;
+/// The intermediates that a header shows at most, a marker among them.
+const MAX_SHOWN: usize = 2;
+
+/// Writes each call's canonical text, from which a parser makes this call again.
+///
+/// With it recordings can be normalised, compared and replayed. Two streams make the same
+/// calls exactly if what is written for them is the same, and a new parser that takes what
+/// was written makes those calls once more ([`laws`](crate::laws) says this of texts, and
+/// [`Parser::advance_all`](crate::Parser::advance_all) of a parser).
+///
+/// | Call | Text |
+/// |---|---|
+/// | `print` | the character in UTF-8 |
+/// | `execute`, `put` | the byte |
+/// | `unhook` | 9C |
+/// | `csi_dispatch`, `hook` | ESC and `[`, or ESC and `P`; the marker, one of `<=>?`, if there is one; the fields in decimal, with `:` between the fields of a group and `;` between groups; one more `;` if more came than is shown and there are fewer than two intermediates; the other intermediates; a space if more came and there are two; the final byte |
+/// | `esc_dispatch` | ESC; the intermediates; a space if more came than are shown; the final byte |
+/// | `osc_dispatch` | ESC and `]`; the parts with `;` between them; BEL if BEL ended it, else 1B 58 9C |
+///
+/// So a command that BEL ended keeps its BEL. Behind any other command stands a string that
+/// makes no call: its ESC ends the command, `X` begins a string that is ignored, and 9C ends
+/// that.
+///
+/// Nothing is collected and no memory is taken. A write that fails stops the writer: nothing
+/// more is written, and the fault is kept.
+#[derive(Drop)]
+pub struct CanonWriter<W> {
+    output: Output<W>,
+}
+
+impl<W: Sink> CanonWriter<W> {
+    ghost use Rattle.anstyle_parse.specs.CanonWriter.{output_of};
+
+    /// A canonical text of no calls so far, and no fault. Nothing is written.
+    pub fn new(writer: W) -> CanonWriter<W>
+        ensures writer { writer_in (output_of result) ≡ writer }
+        ensures no_fault { fault_in (output_of result) ≡ None }
+    {
+        CanonWriter {
+            output: Output::new(writer),
+        }
+    }
+
+    /// The fault that stopped it.
+    pub fn fault(&self) -> Option<Fault>
+        ensures { result ≡ fault_in (output_of self.now) }
+    {
+        self.output.fault()
+    }
+
+    /// Hands the writer back, and answers the fault that stopped it. Where there is none,
+    /// the writer is flushed once, and a flush that fails is [`Fault::Flush`]. Nothing is
+    /// written.
+    pub fn finish(self) -> (W, Result<(), Fault>)
+        ensures { Finishes W.contents W.has_failed (output_of self) result.0 result.1 }
+    {
+        self.output.finish()
+    }
+}
+
+impl<W: Sink> Perform for CanonWriter<W> {
+    ghost use Rattle.anstyle_parse.specs.CanonWriter.{output_of};
+
+    // It adds the call's canonical text.
+    ghost means = { λ old call new. Adds W.contents W.has_failed (call_text call) (output_of old) (output_of new) };
+
+    #[inline]
+    fn print(&mut self, c: char) {
+        let mut bytes = [0; 4];
+        self.output.put(c.encode_utf8(&mut bytes).as_bytes());
+    }
+
+    #[inline]
+    fn execute(&mut self, byte: u8) {
+        self.output.put(&[byte]);
+    }
+
+    fn hook(&mut self, params: &Params, intermediates: &[u8], ignore: bool, action: u8) {
+        self.header(b'P', params, intermediates, ignore, action);
+    }
+
+    #[inline]
+    fn put(&mut self, byte: u8) {
+        self.output.put(&[byte]);
+    }
+
+    fn unhook(&mut self) {
+        self.output.put(&[STRING_TERMINATOR]);
+    }
+
+    fn osc_dispatch(&mut self, params: &[&[u8]], bell_terminated: bool) {
+        let mut piece = Piece::new();
+        piece.push(&mut self.output, &[ESCAPE, b']']);
+        push_parts(&mut piece, &mut self.output, params);
+        piece.push(&mut self.output, end_of_command(bell_terminated));
+        piece.finish(&mut self.output);
+    }
+
+    fn csi_dispatch(&mut self, params: &Params, intermediates: &[u8], ignore: bool, action: u8) {
+        self.header(b'[', params, intermediates, ignore, action);
+    }
+
+    fn esc_dispatch(&mut self, intermediates: &[u8], ignore: bool, byte: u8) {
+        let mut piece = Piece::new();
+        piece.push(&mut self.output, &[ESCAPE]);
+        piece.push(&mut self.output, intermediates);
+        piece.push(&mut self.output, text_if(ignore, b" "));
+        piece.push(&mut self.output, &[byte]);
+        piece.finish(&mut self.output);
+    }
+}
+
+impl<W: Sink> CanonWriter<W> {
+    ghost use Rattle.anstyle_parse.specs.Params.{groups_shown};
+    ghost use Rattle.anstyle_parse.specs.CanonWriter.{output_of};
+
+    /// A call with a header: the byte that begins it, what it shows, and the final byte.
+    fn header(
+        &mut self,
+        introducer: u8,
+        params: &Params,
+        intermediates: &[u8],
+        ignore: bool,
+        action: u8,
+    )
+        ensures { Adds W.contents W.has_failed
+            (escape_byte ∷ introducer ∷ (header_text (groups_shown params.now) intermediates.now ignore ++ action ∷ []))
+            (output_of self.old) (output_of self.new) }
+    {
+        let (marker, others) = split_marker(intermediates);
+        let mut piece = Piece::new();
+        piece.push(&mut self.output, &[ESCAPE, introducer]);
+        piece.push(&mut self.output, marker);
+        piece.push_groups(&mut self.output, params);
+        piece.push(&mut self.output, more_fields(intermediates, ignore));
+        piece.push(&mut self.output, others);
+        piece.push(&mut self.output, more_intermediates(intermediates, ignore));
+        piece.push(&mut self.output, &[action]);
+        piece.finish(&mut self.output);
+    }
+}
+
+/// The marker at the head, if one stands there, and what is behind it.
+#[tactic(auto, unfolding(crate::specs::Bytes::is_marker, crate::specs::Bytes::is_within))]
+pub(super) fn split_marker(intermediates: &[u8]) -> (&[u8], &[u8])
+    ensures marker { result.0.now ≡ leading_marker intermediates.now }
+    ensures others { result.1.now ≡ after_marker intermediates.now }
+{
+    match intermediates {
+        [b'<'..=b'?', ..] => intermediates.split_at(1),
+        _ => intermediates.split_at(0),
+    }
+}
+
+/// Whether there are as many intermediates as a header shows.
+#[tactic(auto, unfolding(crate::specs::Canon::is_full))]
+fn is_full(intermediates: &[u8]) -> bool
+    ensures { result ≡ is_full intermediates.now }
+{
+    intermediates.len() >= MAX_SHOWN
+}
+
+/// One more field, where more came than is shown and one more intermediate could be shown.
+fn more_fields(intermediates: &[u8], ignore: bool) -> &'static [u8]
+    ensures { result.now ≡ one_more_field intermediates.now ignore }
+{
+    if ignore && !is_full(intermediates) {
+        b";"
+    } else {
+        b""
+    }
+}
+
+/// One more intermediate, where more came than is shown and no more can be shown.
+fn more_intermediates(intermediates: &[u8], ignore: bool) -> &'static [u8]
+    ensures { result.now ≡ one_more_intermediate intermediates.now ignore }
+{
+    if ignore && is_full(intermediates) {
+        b" "
+    } else {
+        b""
+    }
+}
+
+/// The text, where the condition holds, and else none.
+pub(super) fn text_if(condition: bool, text: &'static [u8]) -> &'static [u8]
+    ensures { result.now ≡ (if condition then text.now else []) }
+{
+    if condition { text } else { b"" }
+}
+
+/// BEL where BEL ended the command, else ESC X and ST, a string that makes no call.
+fn end_of_command(bell_terminated: bool) -> &'static [u8]
+    ensures { result.now ≡ command_end bell_terminated }
+{
+    if bell_terminated {
+        b"\x07"
+    } else {
+        b"\x1BX\x9C"
+    }
+}
+
+/// Adds the parts of an operating system command, with `;` between them.
+fn push_parts<W: Sink>(piece: &mut Piece, output: &mut Output<W>, parts: &[&[u8]])
+    ensures { HandsOn W.contents W.has_failed (join_with_byte semicolon (map (λ part. part.now) parts.now))
+        (held_in piece.old) (held_in piece.new) output.old output.new }
+{
+    let mut is_first = true;
+    for part in parts {
+        piece.push_separator(output, is_first, b';');
+        is_first = false;
+        piece.push(output, part);
+    }
+}

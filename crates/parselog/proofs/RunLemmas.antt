@@ -1,5 +1,5 @@
 -- What a run does, from what its performer received and how it was finished.
-use Rattle.std.proofs.Common.{◌≡◌, ℕ, Bool, true, false, List, ◌++◌, Option, None, Some, is_some, Result, Ok, Err, ◌⊎◌, inl, inr, refl, sym, ap, ◌∙◌, subst}
+use Rattle.std.proofs.Common.{◌≡◌, ℕ, Bool, true, false, List, [], ◌∷◌, ◌++◌, Option, None, Some, is_some, Result, Ok, Err, ◌⊎◌, inl, inr, refl, sym, ap, ◌∙◌, subst}
 use Rattle.std.specs.Io.KnownBytes.{Appends, IsAtEnd}
 use Rattle.std.proofs.KnownBytes.{Appends-kept}
 use Rattle.anstyle_parse.specs.declared.canon.Fault.{Fault}
@@ -10,7 +10,8 @@ use Rattle.anstyle_parse.specs.Output.{writer_in, fault_in, AddsAll, AddsBeginni
 use Rattle.anstyle_parse.proofs.OutputLemmas.{Adds-calls}
 use Rattle.parselog.specs.declared.run.End.{End}
 use Rattle.parselog.specs.declared.run.End.TheVariants.{AtEnd, Stopped, Failed}
-use Rattle.parselog.specs.Run.{Drives, Runs}
+use Rattle.parselog.specs.Run.{Drives, Runs, Writes}
+use Rattle.anstyle_parse.specs.Canon.{call_text, canon}
 
 module _ (R W P T : Type 0) (remaining : R → Option (List ℕ)) (reader_failed : R → Bool) (zero_is_end : Bool) (contents : W → Option (List ℕ)) (writer_failed : W → Bool)
     (text : Call → List ℕ) (output_of : P → Output W) where
@@ -113,3 +114,22 @@ module _ (R W P T : Type 0) (remaining : R → Option (List ℕ)) (reader_failed
         unread = λ _. tt;
         causes = λ r w. d.ends.1;
       }
+
+-- texts that are the same for all calls
+pub Runs-text : (R W T : Type 0) (remaining : R → Option (List ℕ)) (reader_failed : R → Bool) (zero_is_end : Bool) (contents : W → Option (List ℕ)) (writer_failed : W → Bool)
+    (text other : List Call → List ℕ) → ((calls : List Call) → text calls ≡ other calls)
+    → (reader reader_after : R) (writer writer_after : W) (answer : Result T Fault)
+    → Runs remaining reader_failed zero_is_end contents writer_failed text reader reader_after writer writer_after answer
+    → Runs remaining reader_failed zero_is_end contents writer_failed other reader reader_after writer writer_after answer
+Runs-text R W T remaining reader_failed zero_is_end contents writer_failed text other same reader reader_after writer writer_after answer r =
+    let Q : List ℕ → Type 0 = λ t. Writes answer (contents writer) (contents writer_after) t in
+    record {
+      read = r.read; calls = r.calls; consumed = r.consumed; are_calls = r.are_calls;
+      written = subst Q (same r.calls) r.written;
+      unread = r.unread; causes = r.causes;
+    }
+
+-- canonical texts, joined
+pub texts-canon : (calls : List Call) → texts call_text calls ≡ canon calls
+texts-canon [] = refl
+texts-canon (call ∷ calls) = ap (λ text. call_text call ++ text) (texts-canon calls)

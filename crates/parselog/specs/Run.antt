@@ -5,15 +5,17 @@ use Rattle.anstyle_parse.specs.declared.canon.Fault.{Fault}
 use Rattle.anstyle_parse.specs.declared.canon.Fault.TheVariants.{Read, Write, Flush}
 use Rattle.anstyle_parse.specs.Call.{Call, Goes}
 use Rattle.anstyle_parse.specs.Calls.{AreCalls}
+use Rattle.anstyle_parse.specs.Canon.{canon}
 use Rattle.parselog.specs.Lines.{lines}
 use Rattle.parselog.specs.declared.run.Mode.{Mode}
-use Rattle.parselog.specs.declared.run.Mode.TheVariants.{Log}
+use Rattle.parselog.specs.declared.run.Mode.TheVariants.{Log, Canon}
 use Rattle.parselog.specs.declared.run.End.{End}
 use Rattle.parselog.specs.declared.run.End.TheVariants.{AtEnd, Stopped, Failed}
 
 -- the text of calls in a mode
 abbrev pub text_of : Mode → List Call → List ℕ
 text_of Log = lines
+text_of Canon = canon
 
 -- the reads of one run at most
 abbrev pub most_reads : ℕ

@@ -3,13 +3,13 @@ use Rattle.std.specs.Prelude.{ℕ, Bool, true, false, List, Option, None, Some, 
 use Rattle.anstyle_parse.specs.declared.canon.Fault.{Fault}
 use Rattle.anstyle_parse.specs.declared.canon.Fault.TheVariants.{Read, Write, Flush}
 use Rattle.parselog.specs.declared.run.Mode.{Mode}
-use Rattle.parselog.specs.declared.run.Mode.TheVariants.{Log}
+use Rattle.parselog.specs.declared.run.Mode.TheVariants.{Log, Canon}
 
 -- the mode that the first argument names, where no second one came
 abbrev pub mode_of : Option (List ℕ) → (more : Bool) → Option Mode
 mode_of first true = None
 mode_of None false = Some Log
-mode_of (Some word) false = if bytes_eq word (codes "log") then Some Log else None
+mode_of (Some word) false = if bytes_eq word (codes "log") then Some Log else if bytes_eq word (codes "canon") then Some Canon else None
 
 -- what is said of a fault
 abbrev pub message_of : Fault → List ℕ

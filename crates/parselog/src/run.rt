@@ -2,11 +2,14 @@
 ghost use Rattle.std.specs.Prelude.{◌≡◌, ℕ, None, Option};
 ghost use Rattle.anstyle_parse.specs.declared.canon.Fault.{Fault as AFault};
 ghost use Rattle.anstyle_parse.specs.Output.{fault_in};
+ghost use Rattle.anstyle_parse.specs.Canon.{canon};
+ghost use Rattle.anstyle_parse.specs.CanonWriter.{output_of as canon_output};
+ghost use Rattle.parselog.specs.Lines.{lines};
 ghost use Rattle.parselog.specs.Log.{output_of};
 ghost use Rattle.parselog.specs.Run.{Drives, Runs, text_of};
 
 use crate::log::LogWriter;
-use anstyle_parse::canon::{Fault, Sink, Source};
+use anstyle_parse::canon::{CanonWriter, Fault, Sink, Source};
 use anstyle_parse::{Parser, Perform, Utf8Parser};
 
 /// The bytes that one read is asked for.
@@ -17,6 +20,8 @@ const PIECE: usize = 4096;
 pub enum Mode {
     /// A line for each call.
     Log,
+    /// The canonical text of the calls, which makes the same calls again.
+    Canon,
 }
 
 /// Writes the text of the calls of all bytes that the reader gives.
@@ -35,15 +40,34 @@ pub fn run<R: Source, W: Sink>(mode: Mode, reader: &mut R, writer: W) -> (W, Res
     ensures { Runs R.remaining R.Source.has_failed R.zero_is_end W.contents W.Sink.has_failed (text_of mode) reader.old reader.new writer result.0 result.1 }
 {
     match mode {
-        Mode::Log => {
-            let mut performer = LogWriter::new(writer);
-            let end = drive(reader, &mut performer);
-            let (writer, answer) = performer.finish();
-            match end {
-                End::Failed => (writer, Err(Fault::Read)),
-                End::AtEnd | End::Stopped => (writer, answer),
-            }
-        }
+        Mode::Log => run_log(reader, writer),
+        Mode::Canon => run_canon(reader, writer),
+    }
+}
+
+/// The same with the lines of the calls.
+fn run_log<R: Source, W: Sink>(reader: &mut R, writer: W) -> (W, Result<(), Fault>)
+    ensures { Runs R.remaining R.Source.has_failed R.zero_is_end W.contents W.Sink.has_failed lines reader.old reader.new writer result.0 result.1 }
+{
+    let mut performer = LogWriter::new(writer);
+    let end = drive(reader, &mut performer);
+    let (writer, answer) = performer.finish();
+    match end {
+        End::Failed => (writer, Err(Fault::Read)),
+        End::AtEnd | End::Stopped => (writer, answer),
+    }
+}
+
+/// The same with the canonical text of the calls.
+fn run_canon<R: Source, W: Sink>(reader: &mut R, writer: W) -> (W, Result<(), Fault>)
+    ensures { Runs R.remaining R.Source.has_failed R.zero_is_end W.contents W.Sink.has_failed canon reader.old reader.new writer result.0 result.1 }
+{
+    let mut performer = CanonWriter::new(writer);
+    let end = drive(reader, &mut performer);
+    let (writer, answer) = performer.finish();
+    match end {
+        End::Failed => (writer, Err(Fault::Read)),
+        End::AtEnd | End::Stopped => (writer, answer),
     }
 }
 
@@ -69,6 +93,14 @@ trait KeepsFault {
 
 impl<W: Sink> KeepsFault for LogWriter<W> {
     ghost kept = { λ performer. fault_in (output_of performer) };
+
+    fn kept_fault(&self) -> Option<Fault> {
+        self.fault()
+    }
+}
+
+impl<W: Sink> KeepsFault for CanonWriter<W> {
+    ghost kept = { λ performer. fault_in (canon_output performer) };
 
     fn kept_fault(&self) -> Option<Fault> {
         self.fault()

@@ -6,8 +6,8 @@ use crate::run::Mode;
 use anstyle_parse::canon::Fault;
 
 /// The mode that the arguments name: `first` is the first, and `more` says whether a second
-/// came. No argument means [`Mode::Log`], as the one argument `log` does. `None`, for
-/// anything else, means the usage line.
+/// came. No argument means [`Mode::Log`], as the one argument `log` does, and the one
+/// argument `canon` means [`Mode::Canon`]. `None`, for anything else, means the usage line.
 pub fn mode(first: Option<&str>, more: bool) -> Option<Mode>
     ensures { result ≡ mode_of (option_copied first.entry) more }
 {
@@ -16,7 +16,15 @@ pub fn mode(first: Option<&str>, more: bool) -> Option<Mode>
     }
     match first {
         None => Some(Mode::Log),
-        Some(word) => { if word == "log" { Some(Mode::Log) } else { None } }
+        Some(word) => {
+            if word == "log" {
+                Some(Mode::Log)
+            } else if word == "canon" {
+                Some(Mode::Canon)
+            } else {
+                None
+            }
+        }
     }
 }
 

@@ -5,17 +5,12 @@ use Rattle.anstyle_parse.specs.Output.{Adds, fault_in}
 use Rattle.anstyle_parse.specs.declared.canon.Fault.{Fault}
 use Rattle.anstyle_parse.specs.Call.{Call}
 use Rattle.parselog.specs.declared.log.LogWriter.{LogWriter}
-use Rattle.parselog.specs.declared.run.Mode.{Mode}
-use Rattle.parselog.specs.declared.run.Mode.TheVariants.{Log}
 use Rattle.parselog.specs.declared.run.End.{End}
 use Rattle.parselog.specs.Lines.{line, lines}
 use Rattle.parselog.specs.Log.{output_of}
-use Rattle.parselog.specs.Run.{Runs, Drives, text_of}
+use Rattle.parselog.specs.Run.{Runs, Drives}
 use Rattle.parselog.proofs.RunLemmas.{Runs-at_end, Runs-stopped, Runs-failed}
-use Rattle.parselog.proofs.run.run.Goals as goal
-
-log_text : (mode : Mode) → lines ≡ text_of mode
-log_text Log = refl
+use Rattle.parselog.proofs.run.run_log.Goals as goal
 
 pub returns-in-Failed : goal.returns-in-Failed
 returns-in-Failed g c =
@@ -26,9 +21,7 @@ returns-in-Failed g c =
     let zero = g.R.Source.zero_is_end in
     let contents = g.W.Sink.contents in
     let writer_failed = g.W.Sink.has_failed in
-    let OfText : (List Call → List ℕ) → Type 0 = λ t. Runs {R = R} {W = W} {T = Unit {0}} remaining failed zero contents writer_failed t c.args.reader.now c.drive-end.new.reader c.args.writer c.finish-writer.result.0 (Err Read) in
     let OfWriter : W → Type 0 = λ w. Runs {R = R} {W = W} {T = Unit {0}} remaining failed zero contents writer_failed lines c.args.reader.now c.drive-end.new.reader w c.finish-writer.result.0 (Err Read) in
-    subst OfText (log_text c.args.mode)
     (subst OfWriter c.new-performer.ensures.writer
     (Runs-failed R W (LogWriter W) (Unit {0}) remaining failed zero contents writer_failed line output_of
     c.args.reader.now c.drive-end.new.reader c.new-performer.result c.drive-end.new.performer c.in-Failed.ensures c.new-performer.ensures.no_fault c.finish-writer.result.0 c.finish-writer.result.1 c.finish-writer.ensures))
@@ -44,11 +37,9 @@ returns-in-AtEnd g c =
     let writer_failed = g.W.Sink.has_failed in
     let new = c.new-performer.result in
     let after = c.drive-end.new.performer in
-    let OfText : (List Call → List ℕ) → Type 0 = λ t. Runs {R = R} {W = W} {T = Unit {0}} remaining failed zero contents writer_failed t c.args.reader.now c.drive-end.new.reader c.args.writer c.finish-writer.result.0 c.finish-writer.result.1 in
     let OfWriter : W → Type 0 = λ w. Runs {R = R} {W = W} {T = Unit {0}} remaining failed zero contents writer_failed lines c.args.reader.now c.drive-end.new.reader w c.finish-writer.result.0 c.finish-writer.result.1 in
     let OfEnd : End → Type 0 = λ e. Drives {R = R} {P = LogWriter W} remaining failed zero (λ old call new. Adds contents writer_failed (line call) (output_of old) (output_of new)) (λ p. fault_in (output_of p))
     c.args.reader.now c.drive-end.new.reader new after e in
-    subst OfText (log_text c.args.mode)
     (subst OfWriter c.new-performer.ensures.writer
     (⊎_elim
     (λ end. Runs-at_end R W (LogWriter W) (Unit {0}) remaining failed zero contents writer_failed line output_of

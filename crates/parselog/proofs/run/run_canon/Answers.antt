@@ -1,0 +1,51 @@
+-- A run is what its performer received and how it was finished.
+use Rattle.std.proofs.Common.{◌≡◌, List, ℕ, Result, Err, ⊎_elim, refl, subst}
+use Rattle.anstyle_parse.specs.declared.canon.Fault.TheVariants.{Read}
+use Rattle.anstyle_parse.specs.Output.{Adds, fault_in, texts}
+use Rattle.anstyle_parse.specs.declared.canon.Fault.{Fault}
+use Rattle.anstyle_parse.specs.Call.{Call}
+use Rattle.anstyle_parse.specs.declared.canon.writer.CanonWriter.{CanonWriter}
+use Rattle.parselog.specs.declared.run.End.{End}
+use Rattle.anstyle_parse.specs.Canon.{call_text, canon}
+use Rattle.anstyle_parse.specs.CanonWriter.{output_of}
+use Rattle.parselog.specs.Run.{Runs, Drives}
+use Rattle.parselog.proofs.RunLemmas.{Runs-text, texts-canon, Runs-at_end, Runs-stopped, Runs-failed}
+use Rattle.parselog.proofs.run.run_canon.Goals as goal
+
+pub returns-in-Failed : goal.returns-in-Failed
+returns-in-Failed g c =
+    let R = g.row.R.Denot in
+    let W = g.row.W.Denot in
+    let remaining = g.R.Source.remaining in
+    let failed = g.R.Source.has_failed in
+    let zero = g.R.Source.zero_is_end in
+    let contents = g.W.Sink.contents in
+    let writer_failed = g.W.Sink.has_failed in
+    let OfWriter : W → Type 0 = λ w. Runs {R = R} {W = W} {T = Unit {0}} remaining failed zero contents writer_failed (texts call_text) c.args.reader.now c.drive-end.new.reader w c.finish-writer.result.0 (Err Read) in
+    Runs-text R W (Unit {0}) remaining failed zero contents writer_failed (texts call_text) canon texts-canon c.args.reader.now c.drive-end.new.reader c.args.writer c.finish-writer.result.0 (Err Read)
+    (subst OfWriter c.new-performer.ensures.writer
+    (Runs-failed R W (CanonWriter W) (Unit {0}) remaining failed zero contents writer_failed call_text output_of
+    c.args.reader.now c.drive-end.new.reader c.new-performer.result c.drive-end.new.performer c.in-Failed.ensures c.new-performer.ensures.no_fault c.finish-writer.result.0 c.finish-writer.result.1 c.finish-writer.ensures))
+
+pub returns-in-AtEnd : goal.returns-in-AtEnd
+returns-in-AtEnd g c =
+    let R = g.row.R.Denot in
+    let W = g.row.W.Denot in
+    let remaining = g.R.Source.remaining in
+    let failed = g.R.Source.has_failed in
+    let zero = g.R.Source.zero_is_end in
+    let contents = g.W.Sink.contents in
+    let writer_failed = g.W.Sink.has_failed in
+    let new = c.new-performer.result in
+    let after = c.drive-end.new.performer in
+    let OfWriter : W → Type 0 = λ w. Runs {R = R} {W = W} {T = Unit {0}} remaining failed zero contents writer_failed (texts call_text) c.args.reader.now c.drive-end.new.reader w c.finish-writer.result.0 c.finish-writer.result.1 in
+    let OfEnd : End → Type 0 = λ e. Drives {R = R} {P = CanonWriter W} remaining failed zero (λ old call new. Adds contents writer_failed (call_text call) (output_of old) (output_of new)) (λ p. fault_in (output_of p))
+    c.args.reader.now c.drive-end.new.reader new after e in
+    Runs-text R W (Unit {0}) remaining failed zero contents writer_failed (texts call_text) canon texts-canon c.args.reader.now c.drive-end.new.reader c.args.writer c.finish-writer.result.0 c.finish-writer.result.1
+    (subst OfWriter c.new-performer.ensures.writer
+    (⊎_elim
+    (λ end. Runs-at_end R W (CanonWriter W) (Unit {0}) remaining failed zero contents writer_failed call_text output_of
+    c.args.reader.now c.drive-end.new.reader new after (subst OfEnd end c.drive-end.ensures) c.new-performer.ensures.no_fault c.finish-writer.result.0 c.finish-writer.result.1 c.finish-writer.ensures)
+    (λ end. Runs-stopped R W (CanonWriter W) (Unit {0}) remaining failed zero contents writer_failed call_text output_of
+    c.args.reader.now c.drive-end.new.reader new after (subst OfEnd end c.drive-end.ensures) c.new-performer.ensures.no_fault c.finish-writer.result.0 c.finish-writer.result.1 c.finish-writer.ensures)
+    c.in-AtEnd.is))

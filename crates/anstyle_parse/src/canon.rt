@@ -8,6 +8,7 @@ mod piece;
 mod writer;
 
 pub use buffer::Buffer;
+
 #[cfg(test)]
 mod tests;
 

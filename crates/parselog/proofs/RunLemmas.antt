@@ -124,9 +124,13 @@ pub Runs-text : (R W T : Type 0) (remaining : R → Option (List ℕ)) (reader_f
 Runs-text R W T remaining reader_failed zero_is_end contents writer_failed text other same reader reader_after writer writer_after answer r =
     let Q : List ℕ → Type 0 = λ t. Writes answer (contents writer) (contents writer_after) t in
     record {
-      read = r.read; calls = r.calls; consumed = r.consumed; are_calls = r.are_calls;
+      read = r.read;
+      calls = r.calls;
+      consumed = r.consumed;
+      are_calls = r.are_calls;
       written = subst Q (same r.calls) r.written;
-      unread = r.unread; causes = r.causes;
+      unread = r.unread;
+      causes = r.causes;
     }
 
 -- canonical texts, joined

@@ -325,11 +325,41 @@ fn buffered_writes_that_fail(rt: HostRuntime) -> Result<(), Fail> {
     Ok(())
 }
 
+/// The canonical text of the bytes, which is its own canonical text.
+fn assert_canonical(rt: &(impl Abort + AllocGlobal), input: &[u8], text: &[u8]) {
+    for bytes in [input, text] {
+        let mut reader = FromRead::new(bytes);
+        let writer = FromWrite::new(Vec::new(rt.alloc()));
+        let (writer, answer) = run(Mode::Canon, &mut reader, writer);
+        assert_eq!(rt; answer, Ok(()), "at {input:?}");
+        assert_eq!(rt; writer.into_inner().as_slice(), text, "at {input:?}");
+    }
+}
+
+#[test]
+fn canonical_texts(rt: HostRuntime) {
+    assert_canonical(&rt, b"", b"");
+    assert_canonical(&rt, b"A\x7f\n", b"A\x7f\n");
+    assert_canonical(&rt, b"\x1b[m", b"\x1b[0m");
+    assert_canonical(&rt, b"\x1b[99999m", b"\x1b[65535m");
+    assert_canonical(&rt, b"\x1b[?! h", b"\x1b[?0! h");
+    assert_canonical(&rt, b"\x1b[1\x0am", b"\x0a\x1b[1m");
+    assert_canonical(&rt, b"\x1b[1 2m", b"");
+    assert_canonical(&rt, TITLE, b"\x1b]0;x\x1bX\x9c\x1b\\");
+    assert_canonical(&rt, b"\x1bP1$qm\x1b\\", b"\x1bP1$qm\x9c\x1b\\");
+    assert_canonical(&rt, b"\x1bPq\x18", b"\x1bP0q\x9c\x18");
+    assert_canonical(&rt, b"\x1b !\"#0", b"\x1b ! 0");
+    assert_canonical(&rt, b"\xc3\x1b[m", b"\xef\xbf\xbd[m");
+    assert_canonical(&rt, b"\xed\xa0\x80", b"\xef\xbf\xbd\x80");
+}
+
 #[test]
 fn words(rt: HostRuntime) {
     assert_eq!(rt; mode(None, false), Some(Mode::Log));
     assert_eq!(rt; mode(Some("log"), false), Some(Mode::Log));
+    assert_eq!(rt; mode(Some("canon"), false), Some(Mode::Canon));
     assert_eq!(rt; mode(Some("log"), true), None);
+    assert_eq!(rt; mode(Some("canon"), true), None);
     assert_eq!(rt; mode(None, true), None);
     assert_eq!(rt; mode(Some("Log"), false), None);
     assert_eq!(rt; mode(Some(""), false), None);

@@ -65,7 +65,12 @@ impl Piece {
     }
 
     /// Adds the byte that stands before each but the first.
-    pub(crate) fn push_separator<W: Sink>(&mut self, output: &mut Output<W>, is_first: bool, separator: u8)
+    pub(crate) fn push_separator<W: Sink>(
+        &mut self,
+        output: &mut Output<W>,
+        is_first: bool,
+        separator: u8,
+    )
         ensures { HandsOn W.contents W.has_failed (if is_first then [] else separator ∷ []) (held_in self.old) (held_in self.new) output.old output.new }
     {
         if !is_first {

@@ -150,7 +150,9 @@ impl Sink for Failing {
 
     fn write(&mut self, bytes: &[u8]) -> Option<usize> {
         let count = bytes.len().min(self.step).min(self.room);
-        if self.taken.try_extend_from_slice(&bytes[..count]).is_err() || (count == 0 && !bytes.is_empty()) {
+        if self.taken.try_extend_from_slice(&bytes[..count]).is_err()
+            || (count == 0 && !bytes.is_empty())
+        {
             self.failed = true;
             return None;
         }
@@ -191,7 +193,14 @@ fn faults(rt: HostRuntime) {
             feed(&mut parser, &mut writer, input);
             assert!(rt; writer.fault() == None);
             let (sink, answer) = writer.finish();
-            assert!(rt; answer == if flush_fails { Err(Fault::Flush) } else { Ok(()) });
+            assert!(rt;
+                answer
+                    == if flush_fails {
+                        Err(Fault::Flush)
+                    } else {
+                        Ok(())
+                    }
+            );
             assert!(rt; sink.taken.as_slice() == want.as_slice());
             assert!(rt; sink.flushes == 1);
         }

@@ -1,6 +1,6 @@
 -- Groups that are cut from fields by their lengths.
-use Rattle.std.proofs.Common.{◌≡◌, ℕ, true, ltb, ◌&&◌, suc, zero, ◌+◌, ◌-◌, ◌<◌, ◌≤◌, List, [], ◌∷◌, ◌++◌, length, take, drop, set, get_or, min, refl, sym, ap, ap₂, ◌∙◌, arith, append_assoc, length-append, length-take, length-drop, add_assoc, zero-add}
-use Rattle.std.specs.List.{concat, AllByRecursion}
+use Rattle.std.proofs.Common.{◌≡◌, ℕ, true, ltb, ◌&&◌, suc, ◌+◌, ◌-◌, ◌<◌, ◌≤◌, List, [], ◌∷◌, ◌++◌, length, take, drop, set, get_or, refl, sym, ap, ap₂, ◌∙◌, arith, append_assoc, length-append, length-drop, add_assoc, zero-add}
+use Rattle.std.specs.List.{concat}
 use Rattle.std.proofs.Math.Seq.{take-add}
 use Rattle.std.proofs.lemmas.Bool.{and_parts, ltb-true, lt-ltb}
 use Rattle.std.proofs.lemmas.List.{append-nil, take_more, take_more_set, take-set, drop-set-add, length-take-le, take-take, drop-drop, drop-take, take-set-le, take-append-le, drop-append-le, take_rest}
@@ -56,9 +56,10 @@ concat-shown_groups gs (x ∷ xs) = concat-append gs ((x ∷ xs) ∷ []) ∙ ap 
 pub HaveFields-cut : (ls ns : List ℕ) → none_is_zero ls ≡ true → total ls ≤ length ns → HaveFields (cut ls ns)
 HaveFields-cut [] ns e h = tt
 HaveFields-cut (l ∷ ls) ns e h =
-    let some : 0 < l = ltb-true 0 l (and_parts (ltb 0 l) (none_is_zero ls) e).0 in
-    (omega (arith, length-take-le l ns (omega arith)),
-    HaveFields-cut ls (drop l ns) (and_parts (ltb 0 l) (none_is_zero ls) e).1 (omega (arith, length-drop l ns)))
+    let some : 0 < l = ltb-true 0 l (and_parts (ltb 0 l) (none_is_zero ls) e).0 in (
+      omega (arith, length-take-le l ns (omega arith)),
+      HaveFields-cut ls (drop l ns) (and_parts (ltb 0 l) (none_is_zero ls) e).1 (omega (arith, length-drop l ns)),
+    )
 
 HaveFields-push : (gs : List (List ℕ)) (x : ℕ) (xs : List ℕ) → HaveFields gs → HaveFields (gs ++ (x ∷ xs) ∷ [])
 HaveFields-push [] x xs h = (omega arith, tt)

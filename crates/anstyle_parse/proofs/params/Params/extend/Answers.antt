@@ -1,5 +1,5 @@
 -- there is room for one more field: the fields of all groups are as many as the array holds
-use Rattle.std.proofs.Common.{◌≡◌, ◌<◌, ◌+◌, length, arith, ap, ◌∙◌}
+use Rattle.std.proofs.Common.{◌+◌, arith, ap, ◌∙◌}
 use Rattle.std.proofs.lemmas.List.{get_or-set_same, take-set}
 use Rattle.anstyle_parse.specs.Groups.{none_is_zero}
 use Rattle.anstyle_parse.proofs.GroupLemmas.{field_total, sum_extended, cut_extended, open_extended}

@@ -1,6 +1,6 @@
 -- The lengths of the closed groups, and of the open one if there is one, cut the fields
 -- into the groups that are shown.
-use Rattle.std.proofs.Common.{◌≡◌, ◌+◌, length, take, drop, arith, ap, sym, ◌∙◌, get_or}
+use Rattle.std.proofs.Common.{take, drop, arith, ap, sym, ◌∙◌}
 use Rattle.anstyle_parse.specs.Groups.{total, cut, shown_groups}
 use Rattle.anstyle_parse.proofs.GroupLemmas.{cut_front, cut_front_open, sum_front, sum_front_open, shown-have_fields}
 use Rattle.anstyle_parse.proofs.params.Params.iter.Goals as goal

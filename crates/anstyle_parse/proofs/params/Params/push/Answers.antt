@@ -1,6 +1,5 @@
 -- there is room for one more field: the fields of all groups are as many as the array holds
-use Rattle.std.proofs.Common.{◌≡◌, ◌<◌, ◌+◌, length, arith}
-use Rattle.std.proofs.lemmas.List.{get_or-set_same}
+use Rattle.std.proofs.Common.{arith}
 use Rattle.anstyle_parse.proofs.GroupLemmas.{field_total, sum_pushed, none_is_zero-pushed, cut_pushed}
 use Rattle.anstyle_parse.proofs.params.Params.push.Goals as goal
 

@@ -1,6 +1,6 @@
 -- Fields written in decimal and read back.
 use Rattle.std.proofs.Common.{◌≡◌, ℕ, zero, suc, ◌+◌, ◌-◌, ◌%◌, ◌^◌, ◌<◌, ◌≤◌, Bool, true, not, List, [], ◌∷◌, ◌++◌, length, map, refl, sym, ap, ◌∙◌, eqb, arith, length-append, take_all, lit<, lt_of_le_of_lt}
-use Rattle.std.specs.List.{AllByRecursion, concat, join_with_byte, slice_split}
+use Rattle.std.specs.List.{AllByRecursion, concat, slice_split}
 use Rattle.std.specs.Fmt.{decimal}
 use Rattle.std.proofs.lemmas.Fmt.{decimal_by_steps, decimal_is_IsNumeral}
 use Rattle.anstyle_parse.specs.Bytes.{is_within, is_parameter, colon, semicolon}

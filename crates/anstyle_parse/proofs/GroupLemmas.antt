@@ -1,9 +1,10 @@
 -- Groups that are cut from fields by their lengths.
-use Rattle.std.proofs.Common.{◌≡◌, ℕ, suc, zero, ◌+◌, ◌-◌, ◌<◌, ◌≤◌, List, [], ◌∷◌, ◌++◌, length, take, drop, set, get_or, min, refl, sym, ap, ◌∙◌, arith, append_assoc, length-append, length-take, length-drop, add_assoc, zero-add}
+use Rattle.std.proofs.Common.{◌≡◌, ℕ, true, ltb, ◌&&◌, suc, ◌+◌, ◌-◌, ◌<◌, ◌≤◌, List, [], ◌∷◌, ◌++◌, length, take, drop, set, get_or, refl, sym, ap, ap₂, ◌∙◌, arith, append_assoc, length-append, length-drop, add_assoc, zero-add}
 use Rattle.std.specs.List.{concat}
 use Rattle.std.proofs.Math.Seq.{take-add}
+use Rattle.std.proofs.lemmas.Bool.{and_parts, ltb-true, lt-ltb}
 use Rattle.std.proofs.lemmas.List.{append-nil, take_more, take_more_set, take-set, drop-set-add, length-take-le, take-take, drop-drop, drop-take, take-set-le, take-append-le, drop-append-le, take_rest}
-use Rattle.anstyle_parse.specs.Groups.{total, cut, shown_groups}
+use Rattle.anstyle_parse.specs.Groups.{total, none_is_zero, cut, shown_groups, HaveFields}
 
 pub total-append : (xs ys : List ℕ) → total (xs ++ ys) ≡ total xs + total ys
 total-append [] ys = sym (zero-add (total ys))
@@ -51,6 +52,29 @@ pub concat-shown_groups : (gs : List (List ℕ)) (xs : List ℕ) → concat (sho
 concat-shown_groups gs [] = sym (append-nil (concat gs))
 concat-shown_groups gs (x ∷ xs) = concat-append gs ((x ∷ xs) ∷ []) ∙ ap (λ ys. concat gs ++ ys) (append-nil (x ∷ xs))
 
+-- groups that are cut by lengths above 0 have fields
+pub HaveFields-cut : (ls ns : List ℕ) → none_is_zero ls ≡ true → total ls ≤ length ns → HaveFields (cut ls ns)
+HaveFields-cut [] ns e h = tt
+HaveFields-cut (l ∷ ls) ns e h =
+    let some : 0 < l = ltb-true 0 l (and_parts (ltb 0 l) (none_is_zero ls) e).0 in (
+      omega (arith, length-take-le l ns (omega arith)),
+      HaveFields-cut ls (drop l ns) (and_parts (ltb 0 l) (none_is_zero ls) e).1 (omega (arith, length-drop l ns)),
+    )
+
+HaveFields-push : (gs : List (List ℕ)) (x : ℕ) (xs : List ℕ) → HaveFields gs → HaveFields (gs ++ (x ∷ xs) ∷ [])
+HaveFields-push [] x xs h = (omega arith, tt)
+HaveFields-push (g ∷ gs) x xs h = (h.0, HaveFields-push gs x xs h.1)
+
+pub HaveFields-shown_groups : (gs : List (List ℕ)) (xs : List ℕ) → HaveFields gs → HaveFields (shown_groups gs xs)
+HaveFields-shown_groups gs [] h = h
+HaveFields-shown_groups gs (x ∷ xs) h = HaveFields-push gs x xs h
+
+none_is_zero-push : (ls : List ℕ) (n : ℕ) → none_is_zero ls ≡ true → none_is_zero (ls ++ (n + 1) ∷ []) ≡ true
+none_is_zero-push [] n e = ap (λ b. b && true) (lt-ltb 0 (n + 1) (omega arith))
+none_is_zero-push (l ∷ ls) n e =
+    let parts = and_parts (ltb 0 l) (none_is_zero ls) e in
+    ap₂ (λ a b. a && b) parts.0 (none_is_zero-push ls n parts.1)
+
 module _ (numbers lengths : List ℕ) (closed fields len : ℕ)
     (summed : total (take closed lengths) + fields ≡ len) (within : len ≤ length numbers) where
   -- the closed groups have so many fields, and the open one the others
@@ -95,6 +119,11 @@ module _ (numbers lengths : List ℕ) (closed fields len : ℕ)
       ∙ ap (λ xs. cut (take closed lengths) numbers ++ xs ∷ []) last
       ∙ sym (shown_groups-open (cut (take closed lengths) numbers) (take fields (drop (total (take closed lengths)) numbers)) some_open)
 
+  -- groups that are shown have fields
+  pub shown-have_fields : none_is_zero (take closed lengths) ≡ true
+      → HaveFields (shown_groups (cut (take closed lengths) numbers) (take fields (drop (total (take closed lengths)) numbers)))
+  shown-have_fields e = HaveFields-shown_groups (cut (take closed lengths) numbers) (take fields (drop (total (take closed lengths)) numbers)) (HaveFields-cut (take closed lengths) numbers e (omega arith))
+
   module _ (item : ℕ) (room : len < length numbers) (lt : closed < length lengths) where
     -- the length of the open group with one more field, written behind the closed ones
     take_longer : take (closed + 1) (set lengths closed (fields + 1)) ≡ take closed lengths ++ (fields + 1) ∷ []
@@ -111,6 +140,9 @@ module _ (numbers lengths : List ℕ) (closed fields len : ℕ)
 
     pub sum_pushed : total (take (closed + 1) (set lengths closed (fields + 1))) ≡ len + 1
     sum_pushed = ap total take_longer ∙ omega (arith, total-append (take closed lengths) ((fields + 1) ∷ []))
+
+    pub none_is_zero-pushed : none_is_zero (take closed lengths) ≡ true → none_is_zero (take (closed + 1) (set lengths closed (fields + 1))) ≡ true
+    none_is_zero-pushed e = ap none_is_zero take_longer ∙ none_is_zero-push (take closed lengths) fields e
 
     pub cut_pushed : cut (take (closed + 1) (set lengths closed (fields + 1))) (set numbers len item)
         ≡ cut (take closed lengths) numbers ++ (take fields (drop (total (take closed lengths)) numbers) ++ item ∷ []) ∷ []

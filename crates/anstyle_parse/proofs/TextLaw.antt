@@ -9,7 +9,7 @@ use Rattle.anstyle_parse.specs.Canon.{header_text, canon}
 use Rattle.anstyle_parse.specs.Groups.{groups_text}
 use Rattle.anstyle_parse.specs.DebugText.{debug_text}
 use Rattle.anstyle_parse.specs.Lawful.{IsHeaderCall, AreLawfulFrom}
-use Rattle.anstyle_parse.specs.TextLaw.{AreSent, HandsOut, without_last, as_sequence, IsReadBack}
+use Rattle.anstyle_parse.specs.TextLaw.{AreSent, HandsOut, without_last, IsReadBack}
 use Rattle.anstyle_parse.proofs.CanonReplay.{replay}
 use Rattle.anstyle_parse.proofs.LawfulCalls.{lawful}
 

@@ -1,12 +1,16 @@
 -- Groups of fields, as lists.
-use Rattle.std.specs.Prelude.{ℕ, ◌+◌, List, [], ◌∷◌, ◌++◌, take, drop, map, decimal}
-use Rattle.std.specs.List.{join_with_byte}
+use Rattle.std.specs.Prelude.{ℕ, ◌+◌, ◌<◌, Bool, nat_lt, List, [], ◌∷◌, ◌++◌, length, take, drop, map, decimal}
+use Rattle.std.specs.List.{AllByRecursion, list_all, join_with_byte}
 use Rattle.anstyle_parse.specs.Bytes.{colon, semicolon}
 
 -- the sum of the numbers
 abbrev pub total : List ℕ → ℕ
 total [] = 0
 total (number ∷ numbers) = number + total numbers
+
+-- whether none of the numbers is 0
+abbrev pub none_is_zero : List ℕ → Bool
+none_is_zero numbers = list_all (nat_lt 0) numbers
 
 -- numbers cut into groups of these lengths
 abbrev pub cut : List ℕ → List ℕ → List (List ℕ)
@@ -17,6 +21,10 @@ cut (length ∷ lengths) numbers = take length numbers ∷ cut lengths (drop len
 abbrev pub shown_groups : List (List ℕ) → List ℕ → List (List ℕ)
 shown_groups closed [] = closed
 shown_groups closed (field ∷ fields) = closed ++ (field ∷ fields) ∷ []
+
+-- each group has a field
+abbrev pub HaveFields : List (List ℕ) → Type 0
+HaveFields groups = AllByRecursion (λ group. 0 < length group) groups
 
 -- fields in decimal, with 3A between them
 abbrev pub fields_text : List ℕ → List ℕ

@@ -3,7 +3,7 @@
 ghost use Rattle.std.specs.Prelude.{◌≡◌, ◌≢◌, ◌<◌, ◌≤◌, ◌+◌, ◌++◌, ◌∷◌, [], ◌↔◌, ℕ, IsTrue, IfSome, ⊤, length, take, slice_index};
 ghost use Rattle.std.specs.Bool.{OnFalse, OnTrue};
 ghost use Rattle.std.specs.List.{concat};
-ghost use Rattle.anstyle_parse.specs.Groups.{total, fields_text};
+ghost use Rattle.anstyle_parse.specs.Groups.{total, none_is_zero, fields_text};
 ghost use Rattle.std.specs.Iterator.{YieldsFirstBy, item_count, UpTo};
 ghost use Rattle.std.specs.Iterator.SizeHint.{IsWithinCount};
 ghost use Rattle.std.specs.Fmt.{WritesOnOk};
@@ -30,11 +30,13 @@ pub struct Params {
     len: usize,
     ghost summed: { total (take closed_groups lengths) + open_fields ≡ len },
     ghost in_range: { len ≤ 32 },
+    ghost none_is_empty: { IsTrue (none_is_zero (take closed_groups lengths)) },
     ghost each_has_a_field: { closed_groups + open_fields ≤ len },
     ghost open_length: { 0 < open_fields → slice_index lengths closed_groups ≡ open_fields },
 }
 
 impl Params {
+    ghost use Rattle.anstyle_parse.specs.Groups.{HaveFields};
     ghost use Rattle.anstyle_parse.specs.Params.{groups_shown, groups_left, closed_groups_of, open_group_of};
 
     /// How many fields there are, subparameters included.
@@ -51,9 +53,10 @@ impl Params {
         self.len == 0
     }
 
-    /// The groups in order, each a slice of these parameters.
+    /// The groups in order, each a slice of these parameters. None of them is empty.
     pub fn iter(&self) -> ParamsIter<'_>
-        ensures { groups_left result ≡ groups_shown self.now }
+        ensures groups { groups_left result ≡ groups_shown self.now }
+        ensures have_fields { HaveFields (groups_shown self.now) }
     {
         let groups = if self.open_fields == 0 {
             self.closed_groups
@@ -252,9 +255,10 @@ impl<'a> IntoIterator for &'a Params {
 
     type IntoIter = ParamsIter<'a>;
 
+    ghost use Rattle.anstyle_parse.specs.Groups.{HaveFields};
     ghost use Rattle.anstyle_parse.specs.Params.{groups_shown, groups_left};
 
-    ghost into_iter_gives = { λ params iter. groups_left iter ≡ groups_shown params.now };
+    ghost into_iter_gives = { λ params iter. (groups_left iter ≡ groups_shown params.now) × HaveFields (groups_shown params.now) };
 
     /// The groups in order, as `iter` gives them.
     fn into_iter(self) -> ParamsIter<'a> {

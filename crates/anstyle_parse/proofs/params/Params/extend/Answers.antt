@@ -1,7 +1,8 @@
 -- there is room for one more field: the fields of all groups are as many as the array holds
-use Rattle.std.proofs.Common.{◌≡◌, ◌<◌, ◌+◌, length, arith}
-use Rattle.std.proofs.lemmas.List.{get_or-set_same}
-use Rattle.anstyle_parse.proofs.GroupLemmas.{field_total, sum_pushed, cut_pushed, sum_extended, cut_extended, open_extended}
+use Rattle.std.proofs.Common.{◌+◌, arith, ap, ◌∙◌}
+use Rattle.std.proofs.lemmas.List.{get_or-set_same, take-set}
+use Rattle.anstyle_parse.specs.Groups.{none_is_zero}
+use Rattle.anstyle_parse.proofs.GroupLemmas.{field_total, sum_extended, cut_extended, open_extended}
 use Rattle.anstyle_parse.proofs.params.Params.extend.Goals as goal
 
 pub bounds-self-self : goal.bounds-self-self
@@ -21,6 +22,7 @@ invariant_of-self c =
     let sum = sum_extended p.numbers p.lengths p.closed_groups p.open_fields p.len p.summed (omega arith) c.args.field (omega (arith, total)) (omega (arith, total)) in
     record {
       summed = omega (arith, sum, p.summed);
+      none_is_empty = ap none_is_zero (take-set p.lengths p.closed_groups (p.open_fields + 1)) ∙ p.none_is_empty;
       in_range = omega (arith, total);
       each_has_a_field = omega (arith, p.each_has_a_field);
       open_length = λ h. get_or-set_same p.lengths p.closed_groups (p.open_fields + 1) 0 (omega (arith, total));

@@ -1,4 +1,4 @@
-use Rattle.std.proofs.Common.{◌≡◌, length, arith, sym, ◌∙◌, eq-eqb, eqb-true}
+use Rattle.std.proofs.Common.{◌≡◌, arith, sym, ◌∙◌, eq-eqb, eqb-true}
 use Rattle.std.proofs.lemmas.Bool.{OnFalse_from, eqb-false}
 use Rattle.anstyle_parse.proofs.GroupLemmas.{field_total}
 use Rattle.anstyle_parse.proofs.params.Params.is_full.Goals as goal

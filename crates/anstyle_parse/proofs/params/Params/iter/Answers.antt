@@ -1,8 +1,8 @@
 -- The lengths of the closed groups, and of the open one if there is one, cut the fields
 -- into the groups that are shown.
-use Rattle.std.proofs.Common.{◌≡◌, ◌+◌, length, take, drop, arith, ap, sym, ◌∙◌, get_or}
+use Rattle.std.proofs.Common.{take, drop, arith, ap, sym, ◌∙◌}
 use Rattle.anstyle_parse.specs.Groups.{total, cut, shown_groups}
-use Rattle.anstyle_parse.proofs.GroupLemmas.{cut_front, cut_front_open, sum_front, sum_front_open}
+use Rattle.anstyle_parse.proofs.GroupLemmas.{cut_front, cut_front_open, sum_front, sum_front_open, shown-have_fields}
 use Rattle.anstyle_parse.proofs.params.Params.iter.Goals as goal
 use Rattle.anstyle_parse.proofs.params.Params.iter.Goals.{then-self-eq0, else-self-eq0}
 
@@ -22,8 +22,8 @@ invariant_of-result c =
       }
     ]
 
-pub returns : goal.returns
-returns c =
+pub returns-clause-groups : goal.returns-clause-groups
+returns-clause-groups c =
     let p = c.args.self.now in
     elim c.if-self-eq0.branch [
       | then-self-eq0 w ↦
@@ -34,3 +34,8 @@ returns c =
           ap (λ n. cut (take n p.lengths) (take p.len p.numbers)) w.groups-is
           ∙ cut_front_open p.numbers p.lengths p.closed_groups p.open_fields p.len p.summed (omega arith) (omega (arith, w.if-self-eq0.false)) (omega (arith, w.if-self-eq0.false)) (p.open_length (omega (arith, w.if-self-eq0.false)))
     ]
+
+pub returns-clause-have_fields : goal.returns-clause-have_fields
+returns-clause-have_fields c =
+    let p = c.args.self.now in
+    shown-have_fields p.numbers p.lengths p.closed_groups p.open_fields p.len p.summed (omega arith) p.none_is_empty

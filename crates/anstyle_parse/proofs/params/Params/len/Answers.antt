@@ -1,4 +1,4 @@
-use Rattle.std.proofs.Common.{length, arith, sym}
+use Rattle.std.proofs.Common.{arith, sym}
 use Rattle.anstyle_parse.proofs.GroupLemmas.{shown_total}
 use Rattle.anstyle_parse.proofs.params.Params.len.Goals as goal
 

@@ -1,7 +1,6 @@
 -- there is room for one more field: the fields of all groups are as many as the array holds
-use Rattle.std.proofs.Common.{◌≡◌, ◌<◌, ◌+◌, length, arith}
-use Rattle.std.proofs.lemmas.List.{get_or-set_same}
-use Rattle.anstyle_parse.proofs.GroupLemmas.{field_total, sum_pushed, cut_pushed, sum_extended, cut_extended, open_extended}
+use Rattle.std.proofs.Common.{arith}
+use Rattle.anstyle_parse.proofs.GroupLemmas.{field_total, sum_pushed, none_is_zero-pushed, cut_pushed}
 use Rattle.anstyle_parse.proofs.params.Params.push.Goals as goal
 
 pub bounds-self-self : goal.bounds-self-self
@@ -21,6 +20,7 @@ invariant_of-self c =
     let sum = sum_pushed p.numbers p.lengths p.closed_groups p.open_fields p.len p.summed (omega arith) c.args.field (omega (arith, total)) (omega (arith, total)) in
     record {
       summed = omega (arith, sum);
+      none_is_empty = none_is_zero-pushed p.numbers p.lengths p.closed_groups p.open_fields p.len p.summed (omega arith) c.args.field (omega (arith, total)) (omega (arith, total, p.each_has_a_field)) p.none_is_empty;
       in_range = omega (arith, total);
       each_has_a_field = omega (arith, p.each_has_a_field);
       open_length = λ h. absurd (omega arith);

@@ -1,6 +1,5 @@
-use Rattle.std.proofs.Common.{◌++◌, map, ap, sym, ◌∙◌}
+use Rattle.std.proofs.Common.{map, ap, sym, ◌∙◌}
 use Rattle.std.proofs.Output.{has_written_append, has_written_of_eq, writes_in_calls_nil}
-use Rattle.std.specs.Fmt.{HasWritten}
 use Rattle.anstyle_parse.specs.Params.{groups_left}
 use Rattle.anstyle_parse.proofs.DebugLemmas.{groups_text-parts, groups_text-none}
 use Rattle.anstyle_parse.proofs.params.ParamsIter.write_texts.Goals as goal

@@ -11,7 +11,7 @@ use Rattle.anstyle_parse.proofs.canon.piece.Piece.push_groups.Goals as goal
 pub loop-group-init : goal.loop-group-init
 loop-group-init g c = record {
   done = [];
-  whole = ap (λ iter. groups_text (groups_left iter)) c.into_iter-group-iterator.ensures.into_iter_gives ∙ ap groups_text c.iter-group-items.ensures;
+  whole = ap (λ iter. groups_text (groups_left iter)) c.into_iter-group-iterator.ensures.into_iter_gives ∙ ap groups_text c.iter-group-items.ensures.groups;
   added = HandsOn-nil {W = g.row.W.Denot} g.W.Sink.contents g.W.Sink.has_failed (held_in c.args.self.now) c.args.output.now;
 }
 

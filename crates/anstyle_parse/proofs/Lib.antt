@@ -60,3 +60,4 @@ pub mod CheckpointText
 pub mod Checkpoint
 pub mod Limits
 pub mod CheckpointPieces
+pub mod EqualParsers

@@ -2,16 +2,29 @@
 //!
 //! They speak of definitions alone and hold of all bytes and all calls. Each is the contract
 //! of a function that does nothing.
-ghost use Rattle.std.specs.Prelude.{◌≡◌, ◌≤◌, ◌*◌, ◌↔◌, ℕ, List, length};
+ghost use Rattle.std.specs.Prelude.{◌≡◌, ◌≤◌, ◌*◌, ◌↔◌, ℕ, List, [], ◌∷◌, ◌++◌, length, IsTrue};
+ghost use Rattle.anstyle_parse.specs.Accumulator.{front_of};
+ghost use Rattle.anstyle_parse.specs.Bytes.{escape_byte, is_cancel};
 ghost use Rattle.anstyle_parse.specs.Call.{Call, Goes};
-ghost use Rattle.anstyle_parse.specs.Calls.{AreCalls};
+ghost use Rattle.anstyle_parse.specs.Calls.{AreCalls, Continues};
 ghost use Rattle.anstyle_parse.specs.Canon.{canon};
 ghost use Rattle.anstyle_parse.specs.CanonWriter.{output_of};
+ghost use Rattle.anstyle_parse.specs.Items.{Item, IsDivision};
 ghost use Rattle.anstyle_parse.specs.Lawful.{AreLawful, AreMade};
 ghost use Rattle.anstyle_parse.specs.Output.{Adds};
+ghost use Rattle.anstyle_parse.specs.Parser.{IsAfter, IsAfterAscii};
+ghost use Rattle.anstyle_parse.specs.Stands.{EndsInCharacter};
 
+use crate::accumulator::{CharAccumulator, Utf8Parser};
 use crate::canon::{CanonWriter, Sink};
+use crate::parser::Parser;
 use crate::perform::Perform;
+
+/// Every list of bytes is divided into items in exactly one way.
+pub fn one_division()
+    ensures some { (bytes : List ℕ) → (items : List Item) × IsDivision items bytes }
+    ensures one { (bytes : List ℕ) (items others : List Item) → IsDivision items bytes → IsDivision others bytes → others ≡ items }
+{}
 
 /// Lawful exactly: the calls that bytes make are a lawful list, and every lawful list is made
 /// by some bytes.
@@ -50,4 +63,33 @@ pub fn bounds()
 pub fn canonical_text<W: Sink>()
     ensures { (calls : List Call) (old new : CanonWriter W) → Goes ⟦<CanonWriter<W> as Perform>⟧.means old calls new
         → Adds W.contents W.has_failed (canon calls) (output_of old) (output_of new) }
+{}
+
+/// Forgotten: after two ESC bytes nothing counts that came before.
+///
+/// A parser that stands after any bytes and two ESC stands after one ESC. So after any two
+/// histories and two ESC bytes the calls of all further bytes are the same, although what is
+/// still stored may differ.
+pub fn forgotten<C: CharAccumulator>()
+    ensures stands { (parser : Parser C) (before : List ℕ) → IsAfter C.front parser (before ++ escape_byte ∷ escape_byte ∷ [])
+        → IsAfter C.front parser (escape_byte ∷ []) }
+    ensures ascii { (parser : Parser C) (before : List ℕ) → IsAfterAscii parser (before ++ escape_byte ∷ escape_byte ∷ [])
+        → IsAfterAscii parser (escape_byte ∷ []) }
+    ensures calls { (before bytes : List ℕ) (more : List Call)
+        → (Continues (escape_byte ∷ []) bytes more ↔ Continues (before ++ escape_byte ∷ escape_byte ∷ []) bytes more) }
+{}
+
+/// One byte is enough outside a character: after ESC a parser stands as after ESC alone, and
+/// after 18 or 1A as a new one.
+pub fn forgotten_outside_a_character<C: CharAccumulator>()
+    ensures escape { (parser : Parser C) (before : List ℕ) → ¬ EndsInCharacter before → IsAfter C.front parser (before ++ escape_byte ∷ [])
+        → IsAfter C.front parser (escape_byte ∷ []) }
+    ensures cancel { (parser : Parser C) (before : List ℕ) (byte : ℕ) → IsTrue (is_cancel byte) → ¬ EndsInCharacter before
+        → IsAfter C.front parser (before ++ byte ∷ []) → IsAfter C.front parser [] }
+{}
+
+/// Equal parsers stand after the same bytes, so they make equal calls of all further bytes.
+pub fn equal_parsers()
+    ensures { (a b : Parser Utf8Parser) (before : List ℕ) → IsTrue (⟦<Parser as PartialEq>⟧.eq a b)
+        → (IsAfter front_of a before ↔ IsAfter front_of b before) }
 {}

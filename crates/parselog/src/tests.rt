@@ -1,5 +1,6 @@
 //! Worked rows, and readers and writers that fail, through the public calls.
 mod devices;
+mod vectors;
 
 use crate::log::LogWriter;
 use crate::run::{Mode, run};
@@ -9,6 +10,7 @@ use anstyle_parse::{Params, Parser, Perform, Utf8Parser};
 use devices::{Paper, Tape, Trouble};
 use std::process::Abort;
 use std::test::Fail;
+use vectors::VECTORS;
 
 /// An operating system command and an escape sequence, in seven bytes.
 const TITLE: &[u8] = b"\x1b]0;x\x1b\\";
@@ -129,6 +131,13 @@ fn assert_run(
         writer.into_inner().text.as_slice(),
         &TITLE_LINES[..written]
     );
+}
+
+#[test]
+fn answers_of_the_rust_crate(rt: HostRuntime) {
+    for (input, lines) in VECTORS {
+        assert_lines(&rt, input, lines);
+    }
 }
 
 #[test]

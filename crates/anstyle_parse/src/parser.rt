@@ -95,8 +95,10 @@ impl<C: CharAccumulator> Parser<C> {
     ///
     /// With `Utf8Parser` there is no condition. With an accumulator that does not decode UTF-8
     /// it is that the accumulator takes the byte if it reaches it: inside a character, or in
-    /// the ground state where the byte is C2..F4. At most two calls are made, and two only where 18 or 1A ends an operating
-    /// system command or a hooked device control string.
+    /// the ground state where the byte is C2..F4.
+    ///
+    /// At most two calls are made, and two only where 18 or 1A ends an operating system command
+    /// or a hooked device control string.
     #[inline]
     pub fn advance<P: Perform>(&mut self, performer: &mut P, byte: u8)
         requires { MayTake C.decodes C.takes self.old byte }
@@ -496,3 +498,6 @@ fn entry_action(state: State) -> Action
         _ => Action::Nop,
     }
 }
+
+#[cfg(test)]
+mod tests;

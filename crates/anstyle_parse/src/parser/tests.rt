@@ -1,0 +1,104 @@
+ghost use Rattle.std.specs.Prelude.{◌≡◌, List, [], Some, false, true, IsTrue, refl, ⊤};
+ghost use Rattle.std.proofs.lemmas.Bool.{false≢true};
+
+use crate::{AsciiParser, CharAccumulator, Params, Parser, Perform, Utf8Parser};
+
+/// Answers `x` to every byte.
+#[derive(Default, Drop)]
+struct AlwaysX;
+
+impl CharAccumulator for AlwaysX {
+    ghost front = { λ _. [] };
+
+    ghost takes = { λ _ _. ⊤ };
+
+    ghost adds = { λ value _. (value, Some 0x78) };
+
+    ghost decodes = { false };
+
+    ghost default_holds_none = { λ _ _. refl };
+
+    ghost follows = { λ h. absurd (false≢true h) };
+
+    fn add(&mut self, _byte: u8) -> Option<char> {
+        Some('x')
+    }
+}
+
+/// Counts what is printed, and the other calls.
+#[derive(Default, Drop)]
+struct Counter {
+    x: u64,
+    other: u64,
+    commands: u64,
+}
+
+impl Perform for Counter {
+    ghost means = { λ _ _ _. ⊤ };
+
+    fn print(&mut self, c: char) {
+        if c == 'x' {
+            self.x = self.x.saturating_add(1);
+        } else {
+            self.other = self.other.saturating_add(1);
+        }
+    }
+
+    fn execute(&mut self, _byte: u8) {}
+
+    fn hook(&mut self, _params: &Params, _intermediates: &[u8], _ignore: bool, _action: u8) {}
+
+    fn put(&mut self, _byte: u8) {}
+
+    fn unhook(&mut self) {}
+
+    fn osc_dispatch(&mut self, _params: &[&[u8]], _bell_terminated: bool) {}
+
+    fn csi_dispatch(
+        &mut self,
+        _params: &Params,
+        _intermediates: &[u8],
+        _ignore: bool,
+        _action: u8,
+    ) {
+        self.commands = self.commands.saturating_add(1);
+    }
+
+    fn esc_dispatch(&mut self, _intermediates: &[u8], _ignore: bool, _byte: u8) {}
+}
+
+#[test]
+fn accumulator_that_answers_at_once(rt: HostRuntime) {
+    let mut parser = Parser::<AlwaysX>::default();
+    let mut counter = Counter::default();
+    parser.advance(&mut counter, 0xC2);
+    assert!(rt; parser.is_in_char());
+    assert_eq!(rt; (counter.x, counter.other), (1, 0));
+    parser.advance(&mut counter, 0x41);
+    assert!(rt; !parser.is_in_char());
+    assert_eq!(rt; (counter.x, counter.other), (2, 0));
+    parser.advance(&mut counter, 0x41);
+    assert_eq!(rt; (counter.x, counter.other), (2, 1));
+}
+
+#[test]
+fn unfinished_character(rt: HostRuntime) {
+    let mut parser = Parser::<Utf8Parser>::new();
+    let mut counter = Counter::default();
+    parser.advance_all(&mut counter, b"\xe2\x82");
+    assert!(rt; parser.is_in_char());
+    parser.advance(&mut counter, 0xAC);
+    assert!(rt; !parser.is_in_char());
+    assert_eq!(rt; (counter.x, counter.other), (0, 1));
+}
+
+#[test]
+fn ascii_alone(rt: HostRuntime) {
+    let mut parser = Parser::<AsciiParser>::default();
+    let mut counter = Counter::default();
+    for byte in *b"\x1b[m" {
+        parser.advance(&mut counter, byte);
+        assert!(rt; !parser.is_in_char());
+    }
+    assert_eq!(rt; counter.commands, 1);
+}

@@ -141,7 +141,6 @@ looked_up (entry ∷ entries) b other =
 unfoldable pub change_at : State → ℕ → Change
 change_at state b = looked_up (row Anywhere) b (looked_up (row state) b (Anywhere by Nop))
 
--- the answer, as the code gives it, is what one row says
-abbrev pub IsLookedUp : List Entry → ℕ → State × Action → Type 0
-IsLookedUp entries b answer =
-    (answer.0 ≡ (looked_up entries b (Anywhere by Nop)).state) × (answer.1 ≡ (looked_up entries b (Anywhere by Nop)).action)
+-- the answer, as the code gives it
+abbrev pub IsAnswer : State → ℕ → State × Action → Type 0
+IsAnswer state b answer = (answer.0 ≡ (change_at state b).state) × (answer.1 ≡ (change_at state b).action)

@@ -118,7 +118,7 @@ impl CharAccumulator for Utf8Parser {
     /// is one U+FFFD for the front and this byte, which is used up.
     ///
     /// After an answer the next byte is at the start of a character.
-    #[inline]
+    #[inline(always)]
     fn add(&mut self, byte: u8) -> Option<char> {
         self.decoder.add(byte)
     }

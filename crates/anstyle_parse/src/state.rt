@@ -15,15 +15,27 @@ pub use definitions::{Action, State};
 /// `docs/DIFFERENCES.md` names. It answers for all sixteen states and every byte; 18, 1A
 /// and 1B lead to the same answer from each. The new state `Anywhere` means: keep the
 /// state. A byte that the table does not name gives `(Anywhere, Nop)`.
-#[inline]
-#[tactic(auto, unfolding(crate::specs::Bytes::is_within, crate::specs::Table::change_at))]
+#[inline(always)]
+#[tactic(auto, unfolding(crate::specs::Table::change_at))]
 pub fn state_change(state: State, byte: u8) -> (State, Action)
     ensures state { result.0 ≡ (change_at state byte).state }
     ensures action { result.1 ≡ (change_at state byte).action }
 {
-    match byte {
-        0x18 | 0x1A => (State::Ground, Action::Execute),
-        0x1B => (State::Escape, Action::Nop),
-        _ => table::change(state, byte),
+    match state {
+        State::Ground => table::ground(byte),
+        State::Escape => table::escape(byte),
+        State::EscapeIntermediate => table::escape_intermediate(byte),
+        State::CsiEntry => table::csi_entry(byte),
+        State::CsiParam => table::csi_param(byte),
+        State::CsiIntermediate => table::csi_intermediate(byte),
+        State::CsiIgnore => table::csi_ignore(byte),
+        State::DcsEntry => table::dcs_entry(byte),
+        State::DcsParam => table::dcs_param(byte),
+        State::DcsIntermediate => table::dcs_intermediate(byte),
+        State::DcsIgnore => table::dcs_ignore(byte),
+        State::DcsPassthrough => table::dcs_passthrough(byte),
+        State::SosPmApcString => table::sos_pm_apc_string(byte),
+        State::OscString => table::osc_string(byte),
+        State::Anywhere | State::Utf8 => table::anywhere(byte),
     }
 }

@@ -21,7 +21,7 @@ pub enum Front {
 impl Front {
     /// Takes the next byte: answers the character that it completes, U+FFFD where it breaks
     /// one or begins none, and nothing where more bytes have to come.
-    #[inline]
+    #[inline(always)]
     pub fn add(&mut self, byte: u8) -> Option<char>
         ensures after { self.new ≡ front_with (decoded (bytes_of self.old) byte).0 }
         ensures answer { result ≡ (decoded (bytes_of self.old) byte).1 }

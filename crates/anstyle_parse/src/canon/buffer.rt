@@ -132,6 +132,7 @@ impl<W: Sink> Buffer<W> {
     /// Takes bytes that are not held back as they are: those that end a line are handed on,
     /// and of others as many are taken as there is room for, once what is held back has been
     /// handed on where there was none.
+    #[inline(never)]
     fn write_through(&mut self, bytes: &[u8]) -> Option<usize>
         ensures within { IfSome result (λ count. count ≤ length bytes.now) }
         ensures some { IfSome result (λ count. 0 < length bytes.now → 0 < count) }

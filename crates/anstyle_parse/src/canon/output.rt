@@ -1,5 +1,5 @@
 //! The writing that performers share.
-ghost use Rattle.std.specs.Prelude.{◌≡◌, ℕ, List, None, Some, Ok, Err, IsNone, OnSome, OnOk, OnErr, IsTrue};
+ghost use Rattle.std.specs.Prelude.{◌≡◌, ◌∷◌, [], ℕ, List, None, Some, Ok, Err, IsNone, OnSome, OnOk, OnErr, IsTrue};
 ghost use Rattle.std.specs.Io.KnownBytes.{Keeps};
 
 use super::{Fault, Sink};
@@ -45,6 +45,16 @@ impl<W: Sink> Output<W> {
                     return;
                 }
             }
+        }
+    }
+
+    /// The same with one byte, which one write takes or not.
+    #[inline]
+    pub fn put_byte(&mut self, byte: u8)
+        ensures { Adds W.contents W.has_failed (byte ∷ []) self.old self.new }
+    {
+        if self.fault.is_none() && self.writer.write(&[byte]).is_none() {
+            self.fault = Some(Fault::Write);
         }
     }
 

@@ -44,6 +44,7 @@ impl Piece {
 
     /// Hands on what is held, and then holds these bytes, or hands them on too where they
     /// are more than it can hold.
+    #[inline(never)]
     fn push_anew<W: Sink>(&mut self, output: &mut Output<W>, bytes: &[u8])
         ensures { HandsOn W.contents W.has_failed bytes.now (held_in self.old) (held_in self.new) output.old output.new }
     {

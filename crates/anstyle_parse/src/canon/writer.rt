@@ -1,5 +1,5 @@
 //! Canonical texts.
-ghost use Rattle.std.specs.Prelude.{◌≡◌, ◌++◌, ◌∷◌, [], None, map, if◌then◌else◌};
+ghost use Rattle.std.specs.Prelude.{◌≡◌, ◌++◌, ◌∷◌, [], None, map, encode_utf8, if◌then◌else◌};
 ghost use Rattle.std.specs.List.{join_with_byte};
 ghost use Rattle.anstyle_parse.specs.Bytes.{escape_byte, semicolon};
 ghost use Rattle.anstyle_parse.specs.Arguments.{after_marker};
@@ -81,15 +81,18 @@ impl<W: Sink> Perform for CanonWriter<W> {
     // It adds the call's canonical text.
     ghost means = { λ old call new. Adds W.contents W.has_failed (call_text call) (output_of old) (output_of new) };
 
-    #[inline]
+    #[inline(always)]
     fn print(&mut self, c: char) {
-        let mut bytes = [0; 4];
-        self.output.put(c.encode_utf8(&mut bytes).as_bytes());
+        if c.is_ascii() {
+            self.output.put_byte(c as u8);
+        } else {
+            self.print_encoded(c);
+        }
     }
 
     #[inline]
     fn execute(&mut self, byte: u8) {
-        self.output.put(&[byte]);
+        self.output.put_byte(byte);
     }
 
     fn hook(&mut self, params: &Params, intermediates: &[u8], ignore: bool, action: u8) {
@@ -98,11 +101,11 @@ impl<W: Sink> Perform for CanonWriter<W> {
 
     #[inline]
     fn put(&mut self, byte: u8) {
-        self.output.put(&[byte]);
+        self.output.put_byte(byte);
     }
 
     fn unhook(&mut self) {
-        self.output.put(&[STRING_TERMINATOR]);
+        self.output.put_byte(STRING_TERMINATOR);
     }
 
     fn osc_dispatch(&mut self, params: &[&[u8]], bell_terminated: bool) {
@@ -130,6 +133,14 @@ impl<W: Sink> Perform for CanonWriter<W> {
 impl<W: Sink> CanonWriter<W> {
     ghost use Rattle.anstyle_parse.specs.Params.{groups_shown};
     ghost use Rattle.anstyle_parse.specs.CanonWriter.{output_of};
+
+    /// A character of several bytes.
+    fn print_encoded(&mut self, c: char)
+        ensures { Adds W.contents W.has_failed (encode_utf8 c) (output_of self.old) (output_of self.new) }
+    {
+        let mut bytes = [0; 4];
+        self.output.put(c.encode_utf8(&mut bytes).as_bytes());
+    }
 
     /// A call with a header: the byte that begins it, what it shows, and the final byte.
     fn header(

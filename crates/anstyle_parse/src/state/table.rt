@@ -1,52 +1,33 @@
-//! The rows of the table, a function each. The row `Anywhere` stands in `state_change`.
-#![tactic(auto, unfolding(crate::specs::Bytes::is_within))]
+//! The rows of the table, a function each. The row `anywhere` names 18, 1A and 1B, which no
+//! other row names, and answers for every byte that the state's own row does not name.
+#![tactic(auto, unfolding(crate::specs::Bytes::is_within, crate::specs::Table::change_at))]
 
-ghost use Rattle.anstyle_parse.specs.Table.{IsLookedUp, row};
+ghost use Rattle.anstyle_parse.specs.Table.{IsAnswer};
 
 use crate::state::{Action, State};
-
-/// The state's own row, without the row `Anywhere`.
-#[inline(always)]
-pub fn change(state: State, byte: u8) -> (State, Action)
-    ensures { IsLookedUp (row state) byte result }
-{
-    match state {
-        State::Ground => ground(byte),
-        State::Escape => escape(byte),
-        State::EscapeIntermediate => escape_intermediate(byte),
-        State::CsiEntry => csi_entry(byte),
-        State::CsiParam => csi_param(byte),
-        State::CsiIntermediate => csi_intermediate(byte),
-        State::CsiIgnore => csi_ignore(byte),
-        State::DcsEntry => dcs_entry(byte),
-        State::DcsParam => dcs_param(byte),
-        State::DcsIntermediate => dcs_intermediate(byte),
-        State::DcsIgnore => dcs_ignore(byte),
-        State::DcsPassthrough => dcs_passthrough(byte),
-        State::SosPmApcString => sos_pm_apc_string(byte),
-        State::OscString => osc_string(byte),
-        State::Anywhere => anywhere(byte),
-        State::Utf8 => NO_CHANGE,
-    }
-}
 
 /// The answer for a byte that the table does not name.
 const NO_CHANGE: (State, Action) = (State::Anywhere, Action::Nop);
 
-fn ground(byte: u8) -> (State, Action)
-    ensures { IsLookedUp (row State.Ground) byte result }
+#[inline(always)]
+pub fn ground(byte: u8) -> (State, Action)
+    ensures { IsAnswer State.Ground byte result }
 {
+    // What is printed comes first, since most bytes are that.
     match byte {
-        0x00..=0x17 | 0x19 | 0x1C..=0x1F => (State::Anywhere, Action::Execute),
         0x20..=0x7F => (State::Anywhere, Action::Print),
-        0x80..=0x8F | 0x91..=0x9A | 0x9C => (State::Anywhere, Action::Execute),
         0xC2..=0xF4 => (State::Utf8, Action::BeginUtf8),
-        _ => NO_CHANGE,
+        _ => match byte {
+            0x00..=0x17 | 0x19 | 0x1C..=0x1F => (State::Anywhere, Action::Execute),
+            0x80..=0x8F | 0x91..=0x9A | 0x9C => (State::Anywhere, Action::Execute),
+            _ => anywhere(byte),
+        },
     }
 }
 
-fn escape(byte: u8) -> (State, Action)
-    ensures { IsLookedUp (row State.Escape) byte result }
+#[inline(always)]
+pub fn escape(byte: u8) -> (State, Action)
+    ensures { IsAnswer State.Escape byte result }
 {
     match byte {
         0x00..=0x17 | 0x19 | 0x1C..=0x1F => (State::Anywhere, Action::Execute),
@@ -60,24 +41,26 @@ fn escape(byte: u8) -> (State, Action)
             State::Ground,
             Action::EscDispatch,
         ),
-        _ => NO_CHANGE,
+        _ => anywhere(byte),
     }
 }
 
-fn escape_intermediate(byte: u8) -> (State, Action)
-    ensures { IsLookedUp (row State.EscapeIntermediate) byte result }
+#[inline(always)]
+pub fn escape_intermediate(byte: u8) -> (State, Action)
+    ensures { IsAnswer State.EscapeIntermediate byte result }
 {
     match byte {
         0x00..=0x17 | 0x19 | 0x1C..=0x1F => (State::Anywhere, Action::Execute),
         0x7F => (State::Anywhere, Action::Ignore),
         0x20..=0x2F => (State::Anywhere, Action::Collect),
         0x30..=0x7E => (State::Ground, Action::EscDispatch),
-        _ => NO_CHANGE,
+        _ => anywhere(byte),
     }
 }
 
-fn csi_entry(byte: u8) -> (State, Action)
-    ensures { IsLookedUp (row State.CsiEntry) byte result }
+#[inline(always)]
+pub fn csi_entry(byte: u8) -> (State, Action)
+    ensures { IsAnswer State.CsiEntry byte result }
 {
     match byte {
         0x00..=0x17 | 0x19 | 0x1C..=0x1F => (State::Anywhere, Action::Execute),
@@ -86,12 +69,13 @@ fn csi_entry(byte: u8) -> (State, Action)
         0x30..=0x3B => (State::CsiParam, Action::Param),
         0x3C..=0x3F => (State::CsiParam, Action::Collect),
         0x40..=0x7E => (State::Ground, Action::CsiDispatch),
-        _ => NO_CHANGE,
+        _ => anywhere(byte),
     }
 }
 
-fn csi_param(byte: u8) -> (State, Action)
-    ensures { IsLookedUp (row State.CsiParam) byte result }
+#[inline(always)]
+pub fn csi_param(byte: u8) -> (State, Action)
+    ensures { IsAnswer State.CsiParam byte result }
 {
     match byte {
         0x00..=0x17 | 0x19 | 0x1C..=0x1F => (State::Anywhere, Action::Execute),
@@ -100,12 +84,13 @@ fn csi_param(byte: u8) -> (State, Action)
         0x3C..=0x3F => (State::CsiIgnore, Action::Nop),
         0x20..=0x2F => (State::CsiIntermediate, Action::Collect),
         0x40..=0x7E => (State::Ground, Action::CsiDispatch),
-        _ => NO_CHANGE,
+        _ => anywhere(byte),
     }
 }
 
-fn csi_intermediate(byte: u8) -> (State, Action)
-    ensures { IsLookedUp (row State.CsiIntermediate) byte result }
+#[inline(always)]
+pub fn csi_intermediate(byte: u8) -> (State, Action)
+    ensures { IsAnswer State.CsiIntermediate byte result }
 {
     match byte {
         0x00..=0x17 | 0x19 | 0x1C..=0x1F => (State::Anywhere, Action::Execute),
@@ -113,23 +98,25 @@ fn csi_intermediate(byte: u8) -> (State, Action)
         0x20..=0x2F => (State::Anywhere, Action::Collect),
         0x30..=0x3F => (State::CsiIgnore, Action::Nop),
         0x40..=0x7E => (State::Ground, Action::CsiDispatch),
-        _ => NO_CHANGE,
+        _ => anywhere(byte),
     }
 }
 
-fn csi_ignore(byte: u8) -> (State, Action)
-    ensures { IsLookedUp (row State.CsiIgnore) byte result }
+#[inline(always)]
+pub fn csi_ignore(byte: u8) -> (State, Action)
+    ensures { IsAnswer State.CsiIgnore byte result }
 {
     match byte {
         0x00..=0x17 | 0x19 | 0x1C..=0x1F => (State::Anywhere, Action::Execute),
         0x20..=0x3F | 0x7F => (State::Anywhere, Action::Ignore),
         0x40..=0x7E => (State::Ground, Action::Nop),
-        _ => NO_CHANGE,
+        _ => anywhere(byte),
     }
 }
 
-fn dcs_entry(byte: u8) -> (State, Action)
-    ensures { IsLookedUp (row State.DcsEntry) byte result }
+#[inline(always)]
+pub fn dcs_entry(byte: u8) -> (State, Action)
+    ensures { IsAnswer State.DcsEntry byte result }
 {
     match byte {
         0x00..=0x17 | 0x19 | 0x1C..=0x1F | 0x7F => (State::Anywhere, Action::Ignore),
@@ -137,12 +124,13 @@ fn dcs_entry(byte: u8) -> (State, Action)
         0x30..=0x3B => (State::DcsParam, Action::Param),
         0x3C..=0x3F => (State::DcsParam, Action::Collect),
         0x40..=0x7E => (State::DcsPassthrough, Action::Nop),
-        _ => NO_CHANGE,
+        _ => anywhere(byte),
     }
 }
 
-fn dcs_param(byte: u8) -> (State, Action)
-    ensures { IsLookedUp (row State.DcsParam) byte result }
+#[inline(always)]
+pub fn dcs_param(byte: u8) -> (State, Action)
+    ensures { IsAnswer State.DcsParam byte result }
 {
     match byte {
         0x00..=0x17 | 0x19 | 0x1C..=0x1F | 0x7F => (State::Anywhere, Action::Ignore),
@@ -150,66 +138,72 @@ fn dcs_param(byte: u8) -> (State, Action)
         0x3C..=0x3F => (State::DcsIgnore, Action::Nop),
         0x20..=0x2F => (State::DcsIntermediate, Action::Collect),
         0x40..=0x7E => (State::DcsPassthrough, Action::Nop),
-        _ => NO_CHANGE,
+        _ => anywhere(byte),
     }
 }
 
-fn dcs_intermediate(byte: u8) -> (State, Action)
-    ensures { IsLookedUp (row State.DcsIntermediate) byte result }
+#[inline(always)]
+pub fn dcs_intermediate(byte: u8) -> (State, Action)
+    ensures { IsAnswer State.DcsIntermediate byte result }
 {
     match byte {
         0x00..=0x17 | 0x19 | 0x1C..=0x1F | 0x7F => (State::Anywhere, Action::Ignore),
         0x20..=0x2F => (State::Anywhere, Action::Collect),
         0x30..=0x3F => (State::DcsIgnore, Action::Nop),
         0x40..=0x7E => (State::DcsPassthrough, Action::Nop),
-        _ => NO_CHANGE,
+        _ => anywhere(byte),
     }
 }
 
-fn dcs_ignore(byte: u8) -> (State, Action)
-    ensures { IsLookedUp (row State.DcsIgnore) byte result }
+#[inline(always)]
+pub fn dcs_ignore(byte: u8) -> (State, Action)
+    ensures { IsAnswer State.DcsIgnore byte result }
 {
     match byte {
         0x00..=0x17 | 0x19 | 0x1C..=0x1F | 0x20..=0x7F => (State::Anywhere, Action::Ignore),
         0x9C => (State::Ground, Action::Nop),
-        _ => NO_CHANGE,
+        _ => anywhere(byte),
     }
 }
 
-fn dcs_passthrough(byte: u8) -> (State, Action)
-    ensures { IsLookedUp (row State.DcsPassthrough) byte result }
+#[inline(always)]
+pub fn dcs_passthrough(byte: u8) -> (State, Action)
+    ensures { IsAnswer State.DcsPassthrough byte result }
 {
     match byte {
         0x00..=0x17 | 0x19 | 0x1C..=0x1F | 0x20..=0x7E => (State::Anywhere, Action::Put),
         0x7F => (State::Anywhere, Action::Ignore),
         0x9C => (State::Ground, Action::Nop),
-        _ => NO_CHANGE,
+        _ => anywhere(byte),
     }
 }
 
-fn sos_pm_apc_string(byte: u8) -> (State, Action)
-    ensures { IsLookedUp (row State.SosPmApcString) byte result }
+#[inline(always)]
+pub fn sos_pm_apc_string(byte: u8) -> (State, Action)
+    ensures { IsAnswer State.SosPmApcString byte result }
 {
     match byte {
         0x00..=0x17 | 0x19 | 0x1C..=0x1F | 0x20..=0x7F => (State::Anywhere, Action::Ignore),
         0x9C => (State::Ground, Action::Nop),
-        _ => NO_CHANGE,
+        _ => anywhere(byte),
     }
 }
 
-fn osc_string(byte: u8) -> (State, Action)
-    ensures { IsLookedUp (row State.OscString) byte result }
+#[inline(always)]
+pub fn osc_string(byte: u8) -> (State, Action)
+    ensures { IsAnswer State.OscString byte result }
 {
     match byte {
         0x07 => (State::Ground, Action::Nop),
         0x00..=0x06 | 0x08..=0x17 | 0x19 | 0x1C..=0x1F => (State::Anywhere, Action::Ignore),
         0x20..=0xFF => (State::Anywhere, Action::OscPut),
-        _ => NO_CHANGE,
+        _ => anywhere(byte),
     }
 }
 
-fn anywhere(byte: u8) -> (State, Action)
-    ensures { IsLookedUp (row State.Anywhere) byte result }
+#[inline(always)]
+pub fn anywhere(byte: u8) -> (State, Action)
+    ensures { IsAnswer State.Anywhere byte result }
 {
     match byte {
         0x18 | 0x1A => (State::Ground, Action::Execute),

@@ -11,6 +11,7 @@ pub mod HeaderGroups
 pub mod HeaderShown
 pub mod HeaderFold
 pub mod CharacterLemmas
+pub mod CharacterFronts
 pub mod DivisionSplit
 pub mod DivisionHeaders
 pub mod DivisionExists

@@ -1,5 +1,5 @@
 -- The well-formed UTF-8 sequences of two to four bytes (The Unicode Standard, Table 3-7).
-use Rattle.std.specs.Prelude.{ℕ, Bool, true, false, ◌&&◌, not, nat_lt, ◌==◌, List, [], ◌∷◌, ◌+◌, ◌*◌, ◌%◌, length}
+use Rattle.std.specs.Prelude.{◌≢◌, ℕ, Bool, true, false, ◌&&◌, nat_lt, ◌==◌, List, [], ◌∷◌, ◌++◌, ◌+◌, ◌*◌, ◌%◌, length, IsTrue}
 use Rattle.std.specs.List.{list_any}
 use Rattle.anstyle_parse.specs.Bytes.{is_within}
 
@@ -34,11 +34,22 @@ begins (place ∷ row) (b ∷ bytes) = is_within place.first place.last b && beg
 unfoldable pub is_well_formed : List ℕ → Bool
 is_well_formed bytes = list_any (λ row. begins row bytes && length bytes == length row) rows
 
--- the beginning of a well-formed sequence, the whole included
+-- A beginning of a well-formed sequence, the whole included: some bytes behind it make it one.
+abbrev pub IsFront : List ℕ → Type 0
+IsFront bytes = (rest : List ℕ) × IsTrue (is_well_formed (bytes ++ rest))
+
+-- a beginning that is neither empty nor the whole
+pub record IsProperFront (bytes : List ℕ) : Type 0 where
+  pub begun : bytes ≢ []
+  pub rest : List ℕ
+  pub proper : rest ≢ []
+  pub whole : IsTrue (is_well_formed (bytes ++ rest))
+
+-- the test for a beginning: the bytes begin some row
 unfoldable pub is_front : List ℕ → Bool
 is_front bytes = list_any (λ row. begins row bytes) rows
 
--- a beginning that is neither empty nor the whole
+-- the test for a beginning that is neither empty nor the whole: they begin a longer row
 unfoldable pub is_proper_front : List ℕ → Bool
 is_proper_front bytes = nat_lt 0 (length bytes) && list_any (λ row. begins row bytes && nat_lt (length bytes) (length row)) rows
 

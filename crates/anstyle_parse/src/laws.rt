@@ -9,6 +9,7 @@ ghost use Rattle.anstyle_parse.specs.Call.{Call, Goes};
 ghost use Rattle.anstyle_parse.specs.Calls.{AreCalls, Continues};
 ghost use Rattle.anstyle_parse.specs.Canon.{canon};
 ghost use Rattle.anstyle_parse.specs.CanonWriter.{output_of};
+ghost use Rattle.anstyle_parse.specs.Characters.{is_front, is_proper_front, IsFront, IsProperFront};
 ghost use Rattle.anstyle_parse.specs.Items.{Item, IsDivision};
 ghost use Rattle.anstyle_parse.specs.Lawful.{AreLawful, AreMade};
 ghost use Rattle.anstyle_parse.specs.Output.{Adds};
@@ -24,6 +25,14 @@ use crate::perform::Perform;
 pub fn one_division()
     ensures some { (bytes : List ℕ) → (items : List Item) × IsDivision items bytes }
     ensures one { (bytes : List ℕ) (items others : List Item) → IsDivision items bytes → IsDivision others bytes → others ≡ items }
+{}
+
+/// The front of a character: a list of bytes passes the test over the table exactly if some
+/// bytes behind it make it a well-formed sequence, and the test for a proper front if besides
+/// neither of the two is empty.
+pub fn front_of_a_character()
+    ensures front { (bytes : List ℕ) → (IsTrue (is_front bytes) ↔ IsFront bytes) }
+    ensures proper { (bytes : List ℕ) → (IsTrue (is_proper_front bytes) ↔ IsProperFront bytes) }
 {}
 
 /// Lawful exactly: the calls that bytes make are a lawful list, and every lawful list is made

@@ -2,14 +2,15 @@
 use Rattle.std.proofs.Common.{◌≡◌, ℕ, true, false, not, ◌||◌, List, [], ◌∷◌, ◌++◌, IsTrue, refl, sym, ap, ◌∙◌, subst, append_assoc, append-nil, ⊎_elim}
 use Rattle.std.specs.Prelude.{⊤, if◌then◌else◌}
 use Rattle.std.specs.List.{AllByRecursion, list_any}
-use Rattle.std.proofs.lemmas.Bool.{and_from, or_from, or_left, or_right, eqb-true, cond_both, false_from_ne_true, not_from_false, both_ways}
+use Rattle.std.proofs.lemmas.Bool.{and_from, or_from, or_left, or_right, eqb-true, cond_both, not_from_false, both_ways}
 use Rattle.anstyle_parse.specs.Bytes.{is_within, is_escape, is_intermediate, is_final, is_significant, is_noise, bell, string_terminator, escape_byte}
-use Rattle.anstyle_parse.specs.Characters.{is_lead, is_well_formed, is_front, is_proper_front}
+use Rattle.anstyle_parse.specs.Characters.{is_lead, is_well_formed, is_front, is_proper_front, IsFront}
 use Rattle.anstyle_parse.specs.Arguments.{significant, has_shape}
 use Rattle.anstyle_parse.specs.Items.{Body, escape, control, device, hooked, dropped, command, ignored, complete, cancelled, broken_off, Item, single, character, broken, sequence, body_text, item_text, texts, EachIs, IsBody, completes, IsItem, MayPrecede, IsDivision, is_introducer, is_header_byte, is_text_byte}
 use Rattle.anstyle_parse.proofs.Classes.{Class, bell_byte, cancel_byte, esc_byte, intermediate_byte, digit_byte, colon_byte, semicolon_byte, marker_byte, device_byte, string_byte, control_introducer, command_byte, final_byte, terminator_byte, lead_byte, class_of, is_cancel_at, is_escape_at, is_final_at, is_significant_at, is_lead_at, is_header_byte_at, is_string_kind_at, is_introducer_at, is_string_text_at, is_command_text_at, is_last_at, is_terminator_at, is_bell_at, is_device_at, is_control_introducer_at, is_command_at, is_cancel-class, is_escape-class, is_final-class, is_significant-class, is_lead-class, is_header_byte-class, is_string_kind-class, is_introducer-class, is_string_text-class, is_command_text-class, is_last-class, is_terminator-class, is_bell-class, is_device-class, is_control_introducer-class, is_command-class}
 use Rattle.anstyle_parse.proofs.Divide.{Open, nothing, front, inside, Growth, more, done, start, grow_front, into, ended, introduce, grow_header, grow_body, grow, divide, open_after, last_items, open_text}
 use Rattle.anstyle_parse.proofs.CharacterLemmas.{front_cases, is_proper_front-nil, is_proper_front-lead}
+use Rattle.anstyle_parse.proofs.CharacterFronts.{IsFront-test, IsProperFront-test}
 use Rattle.anstyle_parse.proofs.DivisionHeaders.{EachIs-push, significant-push, significant_same, is_in_escape_at, is_in_header_at, is_in_escape-class, is_in_header-class, EachIs-noise}
 
 -- the open items that can come about
@@ -170,11 +171,12 @@ Grown-body (ignored lead kind text) b c e h = Grown-into (ignored lead kind text
     (h.0, h.1, EachIs-push (is_text_byte string_terminator) text b h.2 (is_string_text-class b ∙ ap is_string_text_at e)) (simp append_assoc)
 
 -- a list that is neither a whole nor a proper beginning is no beginning
-not_front : (bytes : List ℕ) → is_well_formed bytes ≡ false → is_proper_front bytes ≡ false → (a : ℕ) (x : List ℕ) → bytes ≡ a ∷ x → IsTrue (not (is_front bytes))
-not_front bytes whole part a x e = not_from_false (is_front bytes) (false_from_ne_true (is_front bytes) (λ f.
+not_front : (bytes : List ℕ) → is_well_formed bytes ≡ false → is_proper_front bytes ≡ false
+    → (a : ℕ) (x : List ℕ) → bytes ≡ a ∷ x → ¬ IsFront bytes
+not_front bytes whole part a x e f =
     ⊎_elim (λ w. both_ways (is_well_formed (a ∷ x)) (sym (ap is_well_formed e) ∙ whole) w)
     (λ p. both_ways (is_proper_front (a ∷ x)) (sym (ap is_proper_front e) ∙ part) p)
-    (front_cases a x (sym (ap is_front e) ∙ f))))
+    (front_cases a x (sym (ap is_front e) ∙ (IsFront-test bytes).1 f))
 
 -- a byte behind the front of a character makes it whole, or longer, or breaks it
 Grown-front : (bytes : List ℕ) (b : ℕ) → IsTrue (is_proper_front bytes) → Grown (front bytes) b (grow_front bytes b)
@@ -187,7 +189,8 @@ Grown-front (a ∷ x) b h =
     (λ other. cond_both (is_proper_front (a ∷ (x ++ b ∷ []))) (more (front (a ∷ (x ++ b ∷ [])))) (done (broken (a ∷ x) b))
     (λ g. Grown (front (a ∷ x)) b g)
     (λ part. Grown-more (front (a ∷ x)) b (front (a ∷ (x ++ b ∷ []))) part refl)
-    (λ neither. Grown-done (front (a ∷ x)) b (broken (a ∷ x) b) (h, not_front (a ∷ (x ++ b ∷ [])) other neither a (x ++ b ∷ []) refl) refl (λ rest. tt)))
+    (λ neither. Grown-done (front (a ∷ x)) b (broken (a ∷ x) b)
+    ((IsProperFront-test (a ∷ x)).0 h, not_front (a ∷ (x ++ b ∷ [])) other neither a (x ++ b ∷ []) refl) refl (λ rest. tt)))
 
 -- a byte where no item is open
 Grown-start : (b : ℕ) (c : Class) → class_of b ≡ c → Grown nothing b (start b c)
@@ -212,7 +215,7 @@ IsOpen-open_after o (b ∷ bytes) h = IsOpen-open_after (grow o b).next bytes (G
 -- what is open at the end is the last item
 IsDivision-last : (o : Open) → IsOpen o → IsDivision (last_items o) (open_text o)
 IsDivision-last nothing h = record { whole = refl; each = tt; joined = tt }
-IsDivision-last (front bytes) h = record { whole = append-nil bytes; each = (h, tt); joined = (refl, tt) }
+IsDivision-last (front bytes) h = record { whole = append-nil bytes; each = ((IsProperFront-test bytes).0 h, tt); joined = (refl, tt) }
 IsDivision-last (inside body) h = record { whole = append-nil (body_text body ++ []) ∙ append-nil (body_text body); each = ((h, tt), tt); joined = (refl, tt) }
 
 -- the bytes of an open item and those behind it are divided

@@ -4,7 +4,7 @@ use Rattle.std.specs.Prelude.{if◌then◌else◌}
 use Rattle.std.specs.List.{AllByRecursion, list_any}
 use Rattle.std.proofs.lemmas.Bool.{false≢true, not-true, or_parts, or_cases, cond-true, cond-false, both_ways, false_from_ne_true}
 use Rattle.anstyle_parse.specs.Bytes.{is_cancel, is_escape, is_intermediate}
-use Rattle.anstyle_parse.specs.Characters.{is_lead, is_well_formed, is_front, is_proper_front}
+use Rattle.anstyle_parse.specs.Characters.{is_lead, is_well_formed, is_front, is_proper_front, IsFront}
 use Rattle.anstyle_parse.specs.Items.{Body, escape, control, device, hooked, dropped, command, ignored, complete, cancelled, broken_off, unfinished, Item, single, character, broken, begun, sequence, body_text, item_text, texts, IsBody, completes, IsItem, BeginsWithEscape, MayPrecede, AreJoined, IsDivision, is_introducer}
 use Rattle.anstyle_parse.specs.Call.{Call}
 use Rattle.anstyle_parse.specs.Calls.{items_calls, AreCalls}
@@ -12,6 +12,7 @@ use Rattle.anstyle_parse.proofs.Classes.{Class, bell_byte, cancel_byte, esc_byte
 use Rattle.anstyle_parse.proofs.Divide.{Open, nothing, front, inside, more, done, start, ended, introduce, grow_body, grow, divide, last_items, open_text, open_after}
 use Rattle.anstyle_parse.proofs.DivisionSplit.{divide-append}
 use Rattle.anstyle_parse.proofs.CharacterLemmas.{is_front-well_formed, is_front-proper, is_proper_front-before, is_proper_front-lead, is_lead-front, is_well_formed-nil, is_well_formed-proper}
+use Rattle.anstyle_parse.proofs.CharacterFronts.{IsFront-test, IsProperFront-test}
 use Rattle.anstyle_parse.proofs.DivisionExists.{IsOpen}
 use Rattle.anstyle_parse.proofs.DivisionRuns.{Runs, Runs-open}
 
@@ -125,15 +126,15 @@ grow-whole bytes b h = cond-true (is_well_formed (bytes ++ b ∷ [])) (done (cha
     (if is_proper_front (bytes ++ b ∷ []) then more (front (bytes ++ b ∷ [])) else done (broken bytes b)) h
 
 -- a byte with which no character begins breaks the front
-pub grow-broken : (bytes : List ℕ) (b : ℕ) → IsTrue (not (is_front (bytes ++ b ∷ []))) → grow (front bytes) b ≡ done (broken bytes b)
+pub grow-broken : (bytes : List ℕ) (b : ℕ) → ¬ IsFront (bytes ++ b ∷ []) → grow (front bytes) b ≡ done (broken bytes b)
 unfolding grow
 grow-broken bytes b h =
-    let no = not-true (is_front (bytes ++ b ∷ [])) h in
+    let is = IsFront-test (bytes ++ b ∷ []) in
     cond-false (is_well_formed (bytes ++ b ∷ [])) (done (character (bytes ++ b ∷ [])))
     (if is_proper_front (bytes ++ b ∷ []) then more (front (bytes ++ b ∷ [])) else done (broken bytes b))
-    (false_from_ne_true (is_well_formed (bytes ++ b ∷ [])) (λ w. both_ways (is_front (bytes ++ b ∷ [])) no (is_front-well_formed (bytes ++ b ∷ []) w)))
+    (false_from_ne_true (is_well_formed (bytes ++ b ∷ [])) (λ w. h (is.0 (is_front-well_formed (bytes ++ b ∷ []) w))))
     ∙ cond-false (is_proper_front (bytes ++ b ∷ [])) (more (front (bytes ++ b ∷ []))) (done (broken bytes b))
-    (false_from_ne_true (is_proper_front (bytes ++ b ∷ [])) (λ p. both_ways (is_front (bytes ++ b ∷ [])) no (is_front-proper (bytes ++ b ∷ []) p)))
+    (false_from_ne_true (is_proper_front (bytes ++ b ∷ [])) (λ p. h (is.0 (is_front-proper (bytes ++ b ∷ []) p))))
 
 -- a list that is not empty, as what stands before its last byte, and that byte
 ends_in : (b : ℕ) (x : List ℕ) → (front : List ℕ) × (last : ℕ) × (b ∷ x ≡ front ++ last ∷ [])
@@ -173,10 +174,11 @@ divide-broken_off body (b ∷ rest) h m =
 divide-item : (item : Item) (rest : List ℕ) → IsItem item → MayPrecede item rest → divide nothing (item_text item ++ rest) ≡ item ∷ divide nothing rest
 divide-item (single b) rest h m = divide-done nothing b rest (single b) (grow-single b h)
 divide-item (character bytes) rest h m = divide-character bytes rest h
-divide-item (broken bytes b) rest h m = divide-whole (front bytes) b rest (broken bytes b) h.0 (grow-broken bytes b h.1)
+divide-item (broken bytes b) rest h m =
+    divide-whole (front bytes) b rest (broken bytes b) ((IsProperFront-test bytes).1 h.0) (grow-broken bytes b h.1)
 divide-item (begun bytes) rest h m =
     subst (λ r. divide nothing (bytes ++ r) ≡ begun bytes ∷ divide nothing r) (sym m)
-    (ap (λ text. divide nothing text) (append-nil bytes) ∙ divide-last (front bytes) h)
+    (ap (λ text. divide nothing text) (append-nil bytes) ∙ divide-last (front bytes) ((IsProperFront-test bytes).1 h))
 divide-item (sequence body (complete b)) rest h m = divide-whole (inside body) b rest (sequence body (complete b)) h.0 (grow-complete body b h.1)
 divide-item (sequence body (cancelled b)) rest h m = divide-whole (inside body) b rest (sequence body (cancelled b)) h.0 (grow-cancel body b h.1)
 divide-item (sequence body broken_off) rest h m = divide-broken_off body rest h.0 m

@@ -1,11 +1,11 @@
 -- After ESC ESC nothing that came before counts; outside a character one ESC is enough, and
 -- after 18 or 1A a parser stands as a new one.
 use Rattle.std.proofs.Common.{◌≡◌, ℕ, Bool, true, false, List, [], ◌∷◌, ◌++◌, IsTrue, refl, sym, ap, ◌∙◌, subst, ◌↔◌}
-use Rattle.std.proofs.lemmas.Bool.{both_ways, not_from_false, false_from_ne_true}
+use Rattle.std.proofs.lemmas.Bool.{both_ways}
 use Rattle.std.proofs.lemmas.List.{append_cancel_left}
 use Rattle.anstyle_parse.specs.declared.state.definitions.State.TheVariants.{Utf8}
 use Rattle.anstyle_parse.specs.Bytes.{is_within, is_cancel, escape_byte}
-use Rattle.anstyle_parse.specs.Characters.{is_front, is_proper_front}
+use Rattle.anstyle_parse.specs.Characters.{is_proper_front}
 use Rattle.anstyle_parse.specs.Call.{Call}
 use Rattle.anstyle_parse.specs.Calls.{Continues}
 use Rattle.anstyle_parse.specs.Items.{Body, escape, EachIs}
@@ -16,6 +16,7 @@ use Rattle.anstyle_parse.proofs.Classes.{Class, cancel_byte, class_below, class_
 use Rattle.anstyle_parse.proofs.Divide.{Open, nothing, front, inside, start, grow, grow_body, open_after}
 use Rattle.anstyle_parse.proofs.DivisionSplit.{open_after-append}
 use Rattle.anstyle_parse.proofs.CharacterLemmas.{EachIs-front, is_proper_front-nil}
+use Rattle.anstyle_parse.proofs.CharacterFronts.{IsFront-test}
 use Rattle.anstyle_parse.proofs.DivisionExists.{IsOpen, IsOpen-open_after}
 use Rattle.anstyle_parse.proofs.DivisionOnly.{AreCalls-only, grow-broken}
 use Rattle.anstyle_parse.proofs.StandCounted.{counted-machine}
@@ -42,9 +43,8 @@ grow-front_stopped : (bytes : List ℕ) (b : ℕ) → is_within 0x80 0xBF b ≡ 
 grow-front_stopped [] b stops proper = absurd (both_ways (is_proper_front []) is_proper_front-nil proper)
 grow-front_stopped (a ∷ x) b stops proper =
     ap (λ growth. growth.next)
-    (grow-broken (a ∷ x) b
-    (not_from_false (is_front (a ∷ (x ++ b ∷ [])))
-    (false_from_ne_true (is_front (a ∷ (x ++ b ∷ []))) (λ is. both_ways (is_within 0x80 0xBF b) stops (EachIs-last (is_within 0x80 0xBF) x b (EachIs-front a (x ++ b ∷ []) is))))))
+    (grow-broken (a ∷ x) b (λ is. both_ways (is_within 0x80 0xBF b) stops
+    (EachIs-last (is_within 0x80 0xBF) x b (EachIs-front a (x ++ b ∷ []) ((IsFront-test (a ∷ (x ++ b ∷ []))).1 is)))))
 
 -- ESC is no such byte
 escape_stops : is_within 0x80 0xBF escape_byte ≡ false

@@ -3,7 +3,7 @@
 use Rattle.std.specs.Prelude.{◌≡◌, ◌≢◌, ℕ, Bool, true, false, ◌||◌, ◌&&◌, not, ◌==◌, List, [], ◌∷◌, ◌++◌, IsTrue, ⊤}
 use Rattle.std.specs.List.{AllByRecursion, list_any, concat}
 use Rattle.anstyle_parse.specs.Bytes.{is_within, is_cancel, is_escape, is_intermediate, is_parameter, is_marker, is_final, is_noise, bell, string_terminator, escape_byte}
-use Rattle.anstyle_parse.specs.Characters.{is_lead, is_well_formed, is_front, is_proper_front}
+use Rattle.anstyle_parse.specs.Characters.{is_lead, is_well_formed, IsFront, IsProperFront}
 use Rattle.anstyle_parse.specs.Arguments.{significant, has_shape}
 
 -- The bodies, with their parts. lead is the noise between ESC and the byte that decides.
@@ -123,8 +123,8 @@ IsEnd body unfinished = ⊤
 abbrev pub IsItem : Item → Type 0
 IsItem (single byte) = IsTrue (not (is_escape byte || is_lead byte))
 IsItem (character bytes) = IsTrue (is_well_formed bytes)
-IsItem (broken front byte) = IsTrue (is_proper_front front) × IsTrue (not (is_front (front ++ byte ∷ [])))
-IsItem (begun front) = IsTrue (is_proper_front front)
+IsItem (broken front byte) = IsProperFront front × ¬ IsFront (front ++ byte ∷ [])
+IsItem (begun front) = IsProperFront front
 IsItem (sequence body end) = IsBody body × IsEnd body end
 
 -- the list begins with ESC

@@ -6,8 +6,8 @@ use Rattle.std.specs.List.{list_any, list_all}
 use Rattle.std.proofs.lemmas.Bool.{false≢true, and_parts, and_from, or_cases, or_left, or_right, eq-eqb, both_ways}
 use Rattle.std.proofs.lemmas.Bool.Decides.{nat_tests}
 use Rattle.anstyle_parse.specs.Bytes.{is_within}
-use Rattle.anstyle_parse.specs.Characters.{Place, rows, begins, is_well_formed, is_front, is_proper_front, IsFront, IsProperFront}
-use Rattle.anstyle_parse.proofs.CharacterLemmas.{is_front-well_formed, is_front-proper, is_front-prefix, is_proper_front-before, is_proper_front-nil, is_well_formed-proper}
+use Rattle.anstyle_parse.specs.Characters.{Place, rows, begins, is_well_formed, is_proper_front, IsFront, IsProperFront}
+use Rattle.anstyle_parse.proofs.CharacterLemmas.{is_front, is_front-well_formed, is_front-proper, is_front-prefix, is_proper_front-before, is_proper_front-nil, is_well_formed-proper}
 
 -- A list with an element that passes one test has one that passes another with some value, if
 -- that holds of each element.

@@ -5,8 +5,12 @@ use Rattle.std.specs.List.{list_any, list_all, AllByRecursion}
 use Rattle.std.proofs.lemmas.Bool.{agree_below_at, false≢true, and_parts, and_from, or_cases, or_left, or_right, leb-true, ltb-true, eqb-true, lt-ltb, eq-eqb, cases_eq, false_from_ne_true}
 use Rattle.std.proofs.lemmas.Bool.Decides.{nat_tests}
 use Rattle.anstyle_parse.specs.Bytes.{is_within}
-use Rattle.anstyle_parse.specs.Characters.{Place, ◌‥◌, rows, begins, is_well_formed, is_front, is_proper_front, is_lead}
+use Rattle.anstyle_parse.specs.Characters.{Place, ◌‥◌, rows, begins, is_well_formed, is_proper_front, is_lead}
 use Rattle.anstyle_parse.specs.Items.{EachIs}
+
+-- the bytes begin some row: the test for a beginning of a well-formed sequence
+unfoldable pub is_front : List ℕ → Bool
+is_front bytes = list_any (λ row. begins row bytes) rows
 
 -- a test that some element passes, where each such element gives the same fact
 pub from_some : {X : Type 0} (Fact : Type 0) (test : X → Bool) (Holds : X → Type 0) (xs : List X) → AllByRecursion Holds xs

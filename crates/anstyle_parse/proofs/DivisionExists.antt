@@ -4,12 +4,12 @@ use Rattle.std.specs.Prelude.{⊤, if◌then◌else◌}
 use Rattle.std.specs.List.{AllByRecursion, list_any}
 use Rattle.std.proofs.lemmas.Bool.{and_from, or_from, or_left, or_right, eqb-true, cond_both, not_from_false, both_ways}
 use Rattle.anstyle_parse.specs.Bytes.{is_within, is_escape, is_intermediate, is_final, is_significant, is_noise, bell, string_terminator, escape_byte}
-use Rattle.anstyle_parse.specs.Characters.{is_lead, is_well_formed, is_front, is_proper_front, IsFront}
+use Rattle.anstyle_parse.specs.Characters.{is_lead, is_well_formed, is_proper_front, IsFront}
 use Rattle.anstyle_parse.specs.Arguments.{significant, has_shape}
 use Rattle.anstyle_parse.specs.Items.{Body, escape, control, device, hooked, dropped, command, ignored, complete, cancelled, broken_off, Item, single, character, broken, sequence, body_text, item_text, texts, EachIs, IsBody, completes, IsItem, MayPrecede, IsDivision, is_introducer, is_header_byte, is_text_byte}
 use Rattle.anstyle_parse.proofs.Classes.{Class, bell_byte, cancel_byte, esc_byte, intermediate_byte, digit_byte, colon_byte, semicolon_byte, marker_byte, device_byte, string_byte, control_introducer, command_byte, final_byte, terminator_byte, lead_byte, class_of, is_cancel_at, is_escape_at, is_final_at, is_significant_at, is_lead_at, is_header_byte_at, is_string_kind_at, is_introducer_at, is_string_text_at, is_command_text_at, is_last_at, is_terminator_at, is_bell_at, is_device_at, is_control_introducer_at, is_command_at, is_cancel-class, is_escape-class, is_final-class, is_significant-class, is_lead-class, is_header_byte-class, is_string_kind-class, is_introducer-class, is_string_text-class, is_command_text-class, is_last-class, is_terminator-class, is_bell-class, is_device-class, is_control_introducer-class, is_command-class}
 use Rattle.anstyle_parse.proofs.Divide.{Open, nothing, front, inside, Growth, more, done, start, grow_front, into, ended, introduce, grow_header, grow_body, grow, divide, open_after, last_items, open_text}
-use Rattle.anstyle_parse.proofs.CharacterLemmas.{front_cases, is_proper_front-nil, is_proper_front-lead}
+use Rattle.anstyle_parse.proofs.CharacterLemmas.{is_front, front_cases, is_proper_front-nil, is_proper_front-lead}
 use Rattle.anstyle_parse.proofs.CharacterFronts.{IsFront-test, IsProperFront-test}
 use Rattle.anstyle_parse.proofs.DivisionHeaders.{EachIs-push, significant-push, significant_same, is_in_escape_at, is_in_header_at, is_in_escape-class, is_in_header-class, EachIs-noise}
 

@@ -4,7 +4,7 @@ use Rattle.std.specs.Prelude.{if◌then◌else◌}
 use Rattle.std.specs.List.{AllByRecursion, list_any}
 use Rattle.std.proofs.lemmas.Bool.{false≢true, not-true, or_parts, or_cases, cond-true, cond-false, both_ways, false_from_ne_true}
 use Rattle.anstyle_parse.specs.Bytes.{is_cancel, is_escape, is_intermediate}
-use Rattle.anstyle_parse.specs.Characters.{is_lead, is_well_formed, is_front, is_proper_front, IsFront}
+use Rattle.anstyle_parse.specs.Characters.{is_lead, is_well_formed, is_proper_front, IsFront}
 use Rattle.anstyle_parse.specs.Items.{Body, escape, control, device, hooked, dropped, command, ignored, complete, cancelled, broken_off, unfinished, Item, single, character, broken, begun, sequence, body_text, item_text, texts, IsBody, completes, IsItem, BeginsWithEscape, MayPrecede, AreJoined, IsDivision, is_introducer}
 use Rattle.anstyle_parse.specs.Call.{Call}
 use Rattle.anstyle_parse.specs.Calls.{items_calls, AreCalls}

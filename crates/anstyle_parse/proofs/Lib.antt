@@ -54,6 +54,7 @@ pub mod OutputLemmas
 pub mod PieceLemmas
 pub mod CanonWriterLemmas
 pub mod Forgotten
+pub mod Headline
 pub mod CheckpointHeld
 pub mod CheckpointFields
 pub mod CheckpointHeader

@@ -3,7 +3,7 @@ use Rattle.std.specs.Prelude.{◌≡◌, ℕ, Bool, true, false, nat_lt, ◌||�
 use Rattle.anstyle_parse.specs.Bytes.{is_within, is_control, is_cancel, is_intermediate, string_terminator}
 use Rattle.anstyle_parse.specs.Characters.{character_of, replacement}
 use Rattle.anstyle_parse.specs.Arguments.{significant, has_shape, groups_of, collected_of, ignore_of, parts_of, max_collected}
-use Rattle.anstyle_parse.specs.Call.{Call, print, execute, hook, put, unhook, osc_dispatch, csi_dispatch, esc_dispatch}
+use Rattle.anstyle_parse.specs.Call.{Call, Goes, print, execute, hook, put, unhook, osc_dispatch, csi_dispatch, esc_dispatch}
 use Rattle.anstyle_parse.specs.Items.{Body, escape, control, device, hooked, dropped, command, ignored, End, complete, cancelled, broken_off, unfinished, Item, single, character, broken, begun, sequence, IsDivision}
 
 -- a single byte that is executed: the controls, 18 and 1A, and of C1 those that begin no string
@@ -79,3 +79,8 @@ AreCalls bytes calls = (items : List Item) × IsDivision items bytes × (calls �
 -- are the calls of all the bytes.
 abbrev pub Continues : List ℕ → List ℕ → List Call → Type 0
 Continues before bytes more = (first : List Call) → AreCalls before first → AreCalls (before ++ bytes) (first ++ more)
+
+-- The performer has received exactly the calls of the bytes: by them it went to what it is
+-- from what it was at first.
+abbrev pub HasReceived : {P : Type 0} → (P → Call → P → Type 0) → (first : P) → List ℕ → P → Type 0
+HasReceived means first bytes performer = (calls : List Call) × AreCalls bytes calls × Goes means first calls performer

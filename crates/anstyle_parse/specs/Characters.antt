@@ -45,10 +45,6 @@ pub record IsProperFront (bytes : List ℕ) : Type 0 where
   pub proper : rest ≢ []
   pub whole : IsTrue (is_well_formed (bytes ++ rest))
 
--- the test for a beginning: the bytes begin some row
-unfoldable pub is_front : List ℕ → Bool
-is_front bytes = list_any (λ row. begins row bytes) rows
-
 -- the test for a beginning that is neither empty nor the whole: they begin a longer row
 unfoldable pub is_proper_front : List ℕ → Bool
 is_proper_front bytes = nat_lt 0 (length bytes) && list_any (λ row. begins row bytes && nat_lt (length bytes) (length row)) rows

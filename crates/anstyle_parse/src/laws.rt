@@ -1,15 +1,16 @@
 //! Laws of streams, calls and canonical texts.
 //!
-//! They speak of definitions alone and hold of all bytes and all calls. Each is the contract
-//! of a function that does nothing.
+//! They hold of all bytes and all calls. The first is what the crate promises; each other one
+//! speaks of definitions alone, and is the contract of a function that does nothing.
 ghost use Rattle.std.specs.Prelude.{◌≡◌, ◌≤◌, ◌*◌, ◌↔◌, ℕ, List, [], ◌∷◌, ◌++◌, length, IsTrue};
+ghost use Rattle.std.specs.List.{flat_map};
 ghost use Rattle.anstyle_parse.specs.Accumulator.{front_of};
 ghost use Rattle.anstyle_parse.specs.Bytes.{escape_byte, is_cancel};
 ghost use Rattle.anstyle_parse.specs.Call.{Call, Goes};
-ghost use Rattle.anstyle_parse.specs.Calls.{AreCalls, Continues};
+ghost use Rattle.anstyle_parse.specs.Calls.{AreCalls, Continues, HasReceived};
 ghost use Rattle.anstyle_parse.specs.Canon.{canon};
 ghost use Rattle.anstyle_parse.specs.CanonWriter.{output_of};
-ghost use Rattle.anstyle_parse.specs.Characters.{is_front, is_proper_front, IsFront, IsProperFront};
+ghost use Rattle.anstyle_parse.specs.Characters.{is_proper_front, IsProperFront};
 ghost use Rattle.anstyle_parse.specs.Items.{Item, IsDivision};
 ghost use Rattle.anstyle_parse.specs.Lawful.{AreLawful, AreMade};
 ghost use Rattle.anstyle_parse.specs.Output.{Adds};
@@ -21,18 +22,50 @@ use crate::canon::{CanonWriter, Sink};
 use crate::parser::Parser;
 use crate::perform::Perform;
 
-/// Every list of bytes is divided into items in exactly one way.
-pub fn one_division()
-    ensures some { (bytes : List ℕ) → (items : List Item) × IsDivision items bytes }
-    ensures one { (bytes : List ℕ) (items others : List Item) → IsDivision items bytes → IsDivision others bytes → others ≡ items }
-{}
+/// The headline: for a new parser of UTF-8 and every list of bytes, in whatever pieces it is
+/// handed on, the performer receives exactly the calls of the one division of the bytes into
+/// items; the canonical text of these calls makes the same calls again; and after two ESC
+/// bytes the calls for what follows depend on nothing before them.
+///
+/// The body hands the pieces on by a mixture of both calls, [`Parser::advance`] and
+/// [`Parser::advance_all`], whose clauses `received` and `stands` hold of any mixture.
+pub fn headline<P: Perform>(performer: &mut P, pieces: &[&[u8]])
+    // The performer has received exactly the calls of all the bytes.
+    ensures received { HasReceived P.means performer.old (flat_map (λ piece. piece.now) pieces.now) performer.new }
 
-/// The front of a character: a list of bytes passes the test over the table exactly if some
-/// bytes behind it make it a well-formed sequence, and the test for a proper front if besides
-/// neither of the two is empty.
+    // Every list of bytes is divided into items in exactly one way.
+    ensures one_division { (bytes : List ℕ) → (items : List Item) × IsDivision items bytes
+        × ((others : List Item) → IsDivision others bytes → others ≡ items) }
+
+    // The canonical text of these calls makes the same calls again.
+    ensures again { (bytes : List ℕ) (calls : List Call) → AreCalls bytes calls → AreCalls (canon calls) calls }
+
+    // Behind two ESC bytes the calls are those of one ESC and what follows.
+    ensures forgotten { (before bytes : List ℕ) (first more : List Call) → AreCalls (before ++ escape_byte ∷ escape_byte ∷ []) first
+        → AreCalls (escape_byte ∷ bytes) more → AreCalls (before ++ escape_byte ∷ escape_byte ∷ bytes) (first ++ more) }
+{
+    let mut parser = Parser::<Utf8Parser>::new();
+    for piece in pieces {
+        take_piece(&mut parser, performer, piece);
+    }
+}
+
+/// A piece of one byte goes by `advance`, any other by `advance_all`.
+fn take_piece<P: Perform>(parser: &mut Parser, performer: &mut P, piece: &[u8])
+    ensures stands { (before : List ℕ) → IsAfter front_of parser.old before → IsAfter front_of parser.new (before ++ piece.now) }
+    ensures received { (first : P) (before : List ℕ) → IsAfter front_of parser.old before
+        → HasReceived P.means first before performer.old → HasReceived P.means first (before ++ piece.now) performer.new }
+{
+    match piece {
+        [byte] => parser.advance(performer, *byte),
+        _ => parser.advance_all(performer, piece),
+    }
+}
+
+/// The front of a character: bytes pass the decoder's test over the table exactly if they are
+/// begun and some bytes behind them make them a well-formed sequence.
 pub fn front_of_a_character()
-    ensures front { (bytes : List ℕ) → (IsTrue (is_front bytes) ↔ IsFront bytes) }
-    ensures proper { (bytes : List ℕ) → (IsTrue (is_proper_front bytes) ↔ IsProperFront bytes) }
+    ensures { (bytes : List ℕ) → (IsTrue (is_proper_front bytes) ↔ IsProperFront bytes) }
 {}
 
 /// Lawful exactly: the calls that bytes make are a lawful list, and every lawful list is made

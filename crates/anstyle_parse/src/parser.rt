@@ -73,10 +73,10 @@ impl<C: CharAccumulator> Default for Parser<C> {
 
 impl<C: CharAccumulator> Parser<C> {
     ghost use Rattle.std.specs.Prelude.{◌++◌, ◌∷◌, [], IsTrue, ◌↔◌};
-    ghost use Rattle.anstyle_parse.specs.Bytes.{is_cancel};
+    ghost use Rattle.anstyle_parse.specs.Bytes.{is_cancel, escape_byte};
     ghost use Rattle.anstyle_parse.specs.Parser.{machine_of, IsNew, IsInCharacter, HasOpenString, MayTake, MayTakeAll, IsAfter, IsAfterAscii, AreBelow};
     ghost use Rattle.anstyle_parse.specs.Machine.{step, step_calls, machine_after, machine_calls, IsWithinLimits};
-    ghost use Rattle.anstyle_parse.specs.Calls.{Continues, AreCalls};
+    ghost use Rattle.anstyle_parse.specs.Calls.{Continues, AreCalls, HasReceived};
     ghost use Rattle.anstyle_parse.specs.Call.{Call};
     ghost use Rattle.anstyle_parse.specs.Canon.{canon};
     ghost use Rattle.anstyle_parse.specs.Lawful.{AreLawful};
@@ -114,6 +114,11 @@ impl<C: CharAccumulator> Parser<C> {
         ensures two { length (step_calls C.adds byte (machine_of self.old)) ≡ 2
             → IsTrue (is_cancel byte) × HasOpenString self.old }
 
+        // The headline: a performer that has received exactly the calls of the bytes before
+        // has received exactly those of all bytes.
+        ensures received { (first : P) (before : List ℕ) → IsTrue C.decodes → IsAfter C.front self.old before
+            → HasReceived P.means first before performer.old → HasReceived P.means first (before ++ byte ∷ []) performer.new }
+
         // These calls continue those of the bytes before, for an accumulator that decodes
         // UTF-8 and for any accumulator over ASCII.
         ensures stands { (before : List ℕ) → IsTrue C.decodes → IsAfter C.front self.old before
@@ -142,6 +147,11 @@ impl<C: CharAccumulator> Parser<C> {
         ensures calls { Goes P.means performer.old (machine_calls C.adds bytes.now (machine_of self.old)) performer.new }
         ensures limits { IsWithinLimits (machine_of self.new) }
 
+        // The headline: a performer that has received exactly the calls of the bytes before
+        // has received exactly those of all bytes.
+        ensures received { (first : P) (before : List ℕ) → IsTrue C.decodes → IsAfter C.front self.old before
+            → HasReceived P.means first before performer.old → HasReceived P.means first (before ++ bytes.now) performer.new }
+
         // These calls continue those of the bytes before, for an accumulator that decodes
         // UTF-8 and for any accumulator over ASCII.
         ensures stands { (before : List ℕ) → IsTrue C.decodes → IsAfter C.front self.old before
@@ -157,6 +167,18 @@ impl<C: CharAccumulator> Parser<C> {
         // between the two only put is called.
         ensures lawful { (before : List ℕ) (first : List Call) → IsTrue C.decodes → IsAfter C.front self.old before → AreCalls before first
             → AreLawful (first ++ machine_calls C.adds bytes.now (machine_of self.old)) }
+
+        // Behind two ESC bytes, and outside a character behind one, the calls are those of one
+        // ESC and these bytes; behind 18 or 1A outside a character, those of these bytes.
+        // Nothing before counts.
+        ensures forgotten { (before : List ℕ) → IsTrue C.decodes → IsAfter C.front self.old (before ++ escape_byte ∷ escape_byte ∷ [])
+            → AreCalls (escape_byte ∷ bytes.now) (machine_calls C.adds bytes.now (machine_of self.old)) }
+        ensures forgotten_once { (before : List ℕ) → IsTrue C.decodes → ¬ EndsInCharacter before
+            → IsAfter C.front self.old (before ++ escape_byte ∷ [])
+            → AreCalls (escape_byte ∷ bytes.now) (machine_calls C.adds bytes.now (machine_of self.old)) }
+        ensures cancelled { (before : List ℕ) (cancel : ℕ) → IsTrue C.decodes → IsTrue (is_cancel cancel) → ¬ EndsInCharacter before
+            → IsAfter C.front self.old (before ++ cancel ∷ [])
+            → AreCalls bytes.now (machine_calls C.adds bytes.now (machine_of self.old)) }
 
         // A new parser makes of the canonical text of lawful calls exactly these calls.
         ensures replay { (calls : List Call) → IsTrue C.decodes → IsAfter C.front self.old [] → AreLawful calls → bytes.now ≡ canon calls

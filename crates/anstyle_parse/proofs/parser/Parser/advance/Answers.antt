@@ -5,6 +5,7 @@ use Rattle.anstyle_parse.specs.Calls.{Continues}
 use Rattle.anstyle_parse.specs.Machine.{Machine, IsWithinLimits, step_calls}
 use Rattle.anstyle_parse.specs.Parser.{machine_of}
 use Rattle.anstyle_parse.proofs.CallCounts.{step_calls-few, step_calls-two}
+use Rattle.anstyle_parse.proofs.Headline.{HasReceived-more}
 use Rattle.anstyle_parse.proofs.Limits.{IsWithinLimits-step, IsWithinLimits-parser}
 use Rattle.anstyle_parse.proofs.Streams.{CanTake-may, IsAfter-taken, Continues-taken, IsAfterAscii-taken, Continues-ascii}
 use Rattle.anstyle_parse.proofs.parser.Parser.advance.Goals as goal
@@ -25,6 +26,12 @@ returns-clause-stream g c = λ before decodes stands.
     let Q : List Call → Type 0 = λ calls. Continues before (c.args.byte ∷ []) calls in
     subst Q (append-nil (step_calls n.adds c.args.byte (machine_of c.args.self.now)))
     (Continues-taken n.front n.takes n.adds (g.met.C.CharAccumulator.follows decodes) c.args.self.now c.take_byte.new.self (c.args.byte ∷ []) (omega arith, tt) c.take_byte.ensures.machine before stands)
+
+pub returns-clause-received : goal.returns-clause-received
+returns-clause-received g c = λ first before decodes stands.
+    HasReceived-more g.P.Perform.means first c.args.performer.now c.take_byte.new.performer before (c.args.byte ∷ [])
+    (step_calls g.C.CharAccumulator.adds c.args.byte (machine_of c.args.self.now))
+    (returns-clause-stream g c before decodes stands) c.take_byte.ensures.calls
 
 pub returns-clause-ascii_stands : goal.returns-clause-ascii_stands
 returns-clause-ascii_stands g c = λ before below stands.

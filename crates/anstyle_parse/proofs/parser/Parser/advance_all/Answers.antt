@@ -1,11 +1,16 @@
-use Rattle.std.proofs.Common.{arith, subst, sym, List, [], ◌++◌}
+use Rattle.std.proofs.Common.{arith, subst, sym, List, [], ◌∷◌, ◌++◌}
+use Rattle.anstyle_parse.specs.Bytes.{escape_byte}
 use Rattle.anstyle_parse.specs.Machine.{Machine, IsWithinLimits, machine_calls}
 use Rattle.anstyle_parse.specs.Parser.{machine_of}
 use Rattle.anstyle_parse.proofs.Limits.{IsWithinLimits-machine, IsWithinLimits-parser}
 use Rattle.anstyle_parse.proofs.Streams.{CanTakeAll-may, bytes_below, IsAfter-taken, Continues-taken, IsAfterAscii-taken, Continues-ascii}
 use Rattle.anstyle_parse.specs.Call.{Call, Goes}
 use Rattle.anstyle_parse.proofs.CanonTwice.{Continues-replay}
+use Rattle.anstyle_parse.specs.Stands.{seen}
 use Rattle.anstyle_parse.proofs.LawfulCalls.{lawful}
+use Rattle.anstyle_parse.proofs.CanonItems.{AreCalls-nil}
+use Rattle.anstyle_parse.proofs.Forgotten.{forgotten, forgotten_once-outside, cancelled_is_new-outside}
+use Rattle.anstyle_parse.proofs.Headline.{AreCalls-escape, HasReceived-more}
 use Rattle.anstyle_parse.proofs.parser.Parser.advance_all.Goals as goal
 
 pub take_bytes-requires : goal.take_bytes-requires
@@ -25,6 +30,27 @@ returns-clause-stream g c = λ before decodes stands.
     let below = bytes_below c.args.bytes.now (λ i. omega (arith, c.type_inv.bytes i)) in
     Continues-taken n.front n.takes n.adds (g.met.C.CharAccumulator.follows decodes) c.args.self.now c.take_bytes.new.self c.args.bytes.now below c.take_bytes.ensures.machine before stands
 
+pub returns-clause-received : goal.returns-clause-received
+returns-clause-received g c = λ first before decodes stands.
+    HasReceived-more g.P.Perform.means first c.args.performer.now c.take_bytes.new.performer before c.args.bytes.now
+    (machine_calls g.C.CharAccumulator.adds c.args.bytes.now (machine_of c.args.self.now))
+    (returns-clause-stream g c before decodes stands) c.take_bytes.ensures.calls
+
+pub returns-clause-forgotten : goal.returns-clause-forgotten
+returns-clause-forgotten g c = λ before decodes stands.
+    let m = seen g.C.CharAccumulator.front (machine_of c.args.self.now) in
+    returns-clause-stream g c (escape_byte ∷ []) decodes (forgotten m before stands) [] AreCalls-escape
+
+pub returns-clause-forgotten_once : goal.returns-clause-forgotten_once
+returns-clause-forgotten_once g c = λ before decodes outside stands.
+    let m = seen g.C.CharAccumulator.front (machine_of c.args.self.now) in
+    returns-clause-stream g c (escape_byte ∷ []) decodes (forgotten_once-outside m before outside stands) [] AreCalls-escape
+
+pub returns-clause-cancelled : goal.returns-clause-cancelled
+returns-clause-cancelled g c = λ before cancel decodes is outside stands.
+    let m = seen g.C.CharAccumulator.front (machine_of c.args.self.now) in
+    returns-clause-stream g c [] decodes (cancelled_is_new-outside m before cancel is outside stands) [] AreCalls-nil
+
 pub returns-clause-ascii_stands : goal.returns-clause-ascii_stands
 returns-clause-ascii_stands g c = λ before below stands.
     IsAfterAscii-taken g.C.CharAccumulator.adds c.args.self.now c.take_bytes.new.self c.args.bytes.now below c.take_bytes.ensures.machine before stands
@@ -42,17 +68,13 @@ returns-clause-limits g c =
 
 pub returns-clause-lawful : goal.returns-clause-lawful
 returns-clause-lawful g c = λ before first decodes stands are.
-    let n = g.C.CharAccumulator in
-    let below = bytes_below c.args.bytes.now (λ i. omega (arith, c.type_inv.bytes i)) in
-    lawful (before ++ c.args.bytes.now) (first ++ machine_calls n.adds c.args.bytes.now (machine_of c.args.self.now))
-    (Continues-taken n.front n.takes n.adds (g.met.C.CharAccumulator.follows decodes) c.args.self.now c.take_bytes.new.self c.args.bytes.now below c.take_bytes.ensures.machine before stands first are)
+    lawful (before ++ c.args.bytes.now) (first ++ machine_calls g.C.CharAccumulator.adds c.args.bytes.now (machine_of c.args.self.now))
+    (returns-clause-stream g c before decodes stands first are)
 
 pub returns-clause-replay : goal.returns-clause-replay
 returns-clause-replay g c = λ calls decodes stands h e.
-    let n = g.C.CharAccumulator in
-    let below = bytes_below c.args.bytes.now (λ i. omega (arith, c.type_inv.bytes i)) in
     let Q : List Call → Type 0 = λ l. Goes g.P.Perform.means c.args.performer.now l c.take_bytes.new.performer in
     subst Q
-    (Continues-replay c.args.bytes.now (machine_calls n.adds c.args.bytes.now (machine_of c.args.self.now)) calls
-    (Continues-taken n.front n.takes n.adds (g.met.C.CharAccumulator.follows decodes) c.args.self.now c.take_bytes.new.self c.args.bytes.now below c.take_bytes.ensures.machine [] stands) h e)
+    (Continues-replay c.args.bytes.now (machine_calls g.C.CharAccumulator.adds c.args.bytes.now (machine_of c.args.self.now)) calls
+    (returns-clause-stream g c [] decodes stands) h e)
     c.take_bytes.ensures.calls

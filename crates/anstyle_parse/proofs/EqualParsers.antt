@@ -1,9 +1,11 @@
--- Parsers that `==` finds equal stand for the same machine.
-use Rattle.std.proofs.Common.{◌≡◌, ℕ, Bool, true, false, ◌&&◌, eqb, refl, sym, ap, ap₂, rules}
+-- `==` of parsers is an equivalence, and equal parsers stand for the same machine.
+use Rattle.std.proofs.Common.{◌≡◌, ℕ, Bool, true, false, ◌&&◌, eqb, refl, ap, ap₂, rules}
 use Rattle.std.specs.Str.{bytes_eq}
 use Rattle.std.specs.Bool.{beq}
 use Rattle.std.proofs.lemmas.Bool.{and_parts, eqb-true}
 use Rattle.std.proofs.lemmas.Slice.Eq.{bytes_eq-Decides}
+use Rattle.std.specs.Cmp.{IsEquivalence, bool_eq_equiv}
+use Rattle.std.proofs.lemmas.Cmp.{and_equiv, on_equiv, nat_eq_equiv, nat_list_eq_equiv}
 use denote.Enum.Bare.{sameb, same_true}
 use Rattle.anstyle_parse.specs.declared.params.Params.{Params}
 use Rattle.anstyle_parse.specs.declared.utf8.Front.{Front}
@@ -11,10 +13,11 @@ use Rattle.anstyle_parse.specs.declared.utf8.Front.TheVariants.{Empty, One, Two,
 use Rattle.anstyle_parse.specs.declared.accumulator.Utf8Parser.{Utf8Parser}
 use Rattle.anstyle_parse.specs.declared.parser.Parser.{Parser}
 use Rattle.anstyle_parse.specs.contracts.state.definitions.State.{the_type}
+use Rattle.anstyle_parse.specs.contracts.state.definitions.StateEq.TheImpl.Laws.{laws-law as state_laws}
+use Rattle.anstyle_parse.specs.contracts.params.ParamsEq.TheImpl.Laws.{laws-law as params_laws}
 use Rattle.anstyle_parse.specs.contracts.utf8.FrontPartialEq.TheImpl.{ghosts}
-use Rattle.anstyle_parse.specs.Accumulator.{front_of}
+use Rattle.anstyle_parse.specs.contracts.utf8.FrontEq.TheImpl.Laws.{laws-law as front_laws}
 use Rattle.anstyle_parse.specs.Parser.{machine_of}
-use Rattle.anstyle_parse.specs.Stands.{seen}
 
 -- what `==` compares: every field
 abbrev same_params : Params → Params → Bool
@@ -26,6 +29,21 @@ same_fields a b =
     sameb the_type a.state b.state && (bytes_eq a.intermediates b.intermediates && (eqb a.intermediate_count b.intermediate_count && (beq a.ignoring b.ignoring
     && (same_params a.params b.params && (eqb a.param b.param && (bytes_eq a.osc_text.items b.osc_text.items && (bytes_eq a.osc_lengths b.osc_lengths
     && (eqb a.osc_parts b.osc_parts && (eqb a.osc_closed b.osc_closed && ghosts.eq a.accumulator.decoder b.accumulator.decoder)))))))))
+
+-- an equivalence at each field is one of the whole
+pub same_fields-equivalence : IsEquivalence same_fields
+same_fields-equivalence =
+    and_equiv (on_equiv (λ p. p.state) state_laws)
+    (and_equiv (on_equiv (λ p. p.intermediates) nat_list_eq_equiv)
+    (and_equiv (on_equiv (λ p. p.intermediate_count) nat_eq_equiv)
+    (and_equiv (on_equiv (λ p. p.ignoring) bool_eq_equiv)
+    (and_equiv (on_equiv (λ p. p.params) params_laws)
+    (and_equiv (on_equiv (λ p. p.param) nat_eq_equiv)
+    (and_equiv (on_equiv (λ p. p.osc_text.items) nat_list_eq_equiv)
+    (and_equiv (on_equiv (λ p. p.osc_lengths) nat_list_eq_equiv)
+    (and_equiv (on_equiv (λ p. p.osc_parts) nat_eq_equiv)
+    (and_equiv (on_equiv (λ p. p.osc_closed) nat_eq_equiv)
+    (on_equiv (λ p. p.accumulator.decoder) front_laws))))))))))
 
 -- equal fronts of characters
 front_same : (x y : Front) → ghosts.eq x y ≡ true → x ≡ y
@@ -49,7 +67,7 @@ flag_same false false h = refl
 flag_same x y h = cc
 
 -- parsers whose fields are equal stand for the same machine
-pub machine_of-same : (a b : Parser Utf8Parser) → same_fields a b ≡ true → seen front_of (machine_of a) ≡ seen front_of (machine_of b)
+pub machine_of-same : (a b : Parser Utf8Parser) → same_fields a b ≡ true → machine_of a ≡ machine_of b
 machine_of-same a b same =
     let h0 = and_parts _ _ same in
     let h1 = and_parts _ _ h0.1 in
@@ -79,4 +97,5 @@ machine_of-same a b same =
     let osc_parts : a.osc_parts ≡ b.osc_parts = eqb-true _ _ h8.0 in
     let osc_closed : a.osc_closed ≡ b.osc_closed = eqb-true _ _ h9.0 in
     let decoder : a.accumulator.decoder ≡ b.accumulator.decoder = front_same a.accumulator.decoder b.accumulator.decoder h9.1 in
+    let accumulator : a.accumulator ≡ b.accumulator = ap (λ d. record { decoder = d }) decoder in
     cc

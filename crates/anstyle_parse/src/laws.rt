@@ -3,8 +3,9 @@
 //! They hold of all bytes and all calls. The first is what the crate promises; each other one
 //! speaks of definitions alone, and is the contract of a function that does nothing.
 ghost use Rattle.std.specs.Prelude.{◌≡◌, ◌≤◌, ◌*◌, ◌↔◌, ℕ, List, [], ◌∷◌, ◌++◌, length, IsTrue};
+ghost use Rattle.std.specs.Cmp.{IsEquivalence};
 ghost use Rattle.std.specs.List.{flat_map};
-ghost use Rattle.anstyle_parse.specs.Accumulator.{front_of};
+ghost use Rattle.anstyle_parse.specs.Accumulator.{front_of, parser_after};
 ghost use Rattle.anstyle_parse.specs.Bytes.{escape_byte, is_cancel};
 ghost use Rattle.anstyle_parse.specs.Call.{Call, Goes};
 ghost use Rattle.anstyle_parse.specs.Calls.{AreCalls, Continues, HasReceived};
@@ -14,7 +15,8 @@ ghost use Rattle.anstyle_parse.specs.Characters.{is_proper_front, IsProperFront}
 ghost use Rattle.anstyle_parse.specs.Items.{Item, IsDivision};
 ghost use Rattle.anstyle_parse.specs.Lawful.{AreLawful, AreMade};
 ghost use Rattle.anstyle_parse.specs.Output.{Adds};
-ghost use Rattle.anstyle_parse.specs.Parser.{IsAfter, IsAfterAscii};
+ghost use Rattle.anstyle_parse.specs.Machine.{machine_calls};
+ghost use Rattle.anstyle_parse.specs.Parser.{machine_of, IsAfter, IsAfterAscii};
 ghost use Rattle.anstyle_parse.specs.Stands.{EndsInCharacter};
 
 use crate::accumulator::{CharAccumulator, Utf8Parser};
@@ -130,8 +132,15 @@ pub fn forgotten_outside_a_character<C: CharAccumulator>()
         → IsAfter C.front parser (before ++ byte ∷ []) → IsAfter C.front parser [] }
 {}
 
-/// Equal parsers stand after the same bytes, so they make equal calls of all further bytes.
+/// `==` of parsers is reflexive, symmetric and transitive. Equal parsers stand after the same
+/// bytes, and make equal calls of all further bytes.
+///
+/// Parsers that make equal calls may differ: what is left over from an earlier sequence is
+/// compared too.
 pub fn equal_parsers()
-    ensures { (a b : Parser Utf8Parser) (before : List ℕ) → IsTrue (⟦<Parser as PartialEq>⟧.eq a b)
+    ensures equivalence { IsEquivalence ⟦<Parser as PartialEq>⟧.eq }
+    ensures stands { (a b : Parser Utf8Parser) (before : List ℕ) → IsTrue (⟦<Parser as PartialEq>⟧.eq a b)
         → (IsAfter front_of a before ↔ IsAfter front_of b before) }
+    ensures calls { (a b : Parser Utf8Parser) (bytes : List ℕ) → IsTrue (⟦<Parser as PartialEq>⟧.eq a b)
+        → machine_calls parser_after bytes (machine_of a) ≡ machine_calls parser_after bytes (machine_of b) }
 {}

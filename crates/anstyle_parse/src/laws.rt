@@ -19,7 +19,7 @@ ghost use Rattle.anstyle_parse.specs.Machine.{machine_calls};
 ghost use Rattle.anstyle_parse.specs.Parser.{machine_of, IsAfter, IsAfterAscii};
 ghost use Rattle.anstyle_parse.specs.Stands.{EndsInCharacter};
 
-use crate::accumulator::{CharAccumulator, Utf8Parser};
+use crate::accumulator::{AsciiParser, CharAccumulator, Utf8Parser};
 use crate::canon::{CanonWriter, Sink};
 use crate::parser::Parser;
 use crate::perform::Perform;
@@ -143,4 +143,12 @@ pub fn equal_parsers()
         → (IsAfter front_of a before ↔ IsAfter front_of b before) }
     ensures calls { (a b : Parser Utf8Parser) (bytes : List ℕ) → IsTrue (⟦<Parser as PartialEq>⟧.eq a b)
         → machine_calls parser_after bytes (machine_of a) ≡ machine_calls parser_after bytes (machine_of b) }
+{}
+
+/// `==` of accumulators is reflexive, symmetric and transitive. Two decoders of UTF-8 are equal
+/// exactly if they hold equal fronts, and any two accumulators of ASCII are equal.
+pub fn equal_accumulators()
+    ensures equivalence { IsEquivalence ⟦<Utf8Parser as PartialEq>⟧.eq }
+    ensures fronts { (a b : Utf8Parser) → (IsTrue (⟦<Utf8Parser as PartialEq>⟧.eq a b) ↔ (front_of a ≡ front_of b)) }
+    ensures ascii { (a b : AsciiParser) → IsTrue (⟦<AsciiParser as PartialEq>⟧.eq a b) }
 {}

@@ -5,6 +5,8 @@
 mod accumulator;
 pub mod canon;
 pub mod laws;
+#[cfg(test)]
+mod lines;
 mod params;
 mod parser;
 mod perform;

@@ -1,9 +1,12 @@
 ghost use Rattle.std.specs.Prelude.{None};
 
+mod checkpoints;
+
 use crate::canon::{CanonWriter, Fault, FromWrite, Sink};
 use crate::{Parser, Perform, Utf8Parser};
 use arrayvec::ArrayVec;
 use std::alloc::{AllocError, Global};
+use std::io::{self, Write};
 use std::test::Fail;
 
 fn feed<P: Perform>(parser: &mut Parser, performer: &mut P, bytes: &[u8]) {
@@ -166,6 +169,26 @@ impl Sink for Failing {
             self.failed = true;
         }
         !self.flush_fails
+    }
+}
+
+// As a writer of std: without room a write takes 0, and only a flush fails.
+impl Write for Failing {
+    fn write(&mut self, bytes: &[u8]) -> io::Result<usize> {
+        let count = bytes.len().min(self.step).min(self.room);
+        if self.taken.try_extend_from_slice(&bytes[..count]).is_err() {
+            return Ok(0);
+        }
+        self.room -= count;
+        Ok(count)
+    }
+
+    fn flush(&mut self) -> io::Result<()> {
+        self.flushes = self.flushes.saturating_add(1);
+        if self.flush_fails {
+            return Err(io::Error::from(io::ErrorKind::Other));
+        }
+        Ok(())
     }
 }
 

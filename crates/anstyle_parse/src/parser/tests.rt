@@ -1,6 +1,7 @@
 ghost use Rattle.std.specs.Prelude.{◌≡◌, List, [], Some, false, true, IsTrue, refl, ⊤};
 ghost use Rattle.std.proofs.lemmas.Bool.{false≢true};
 
+use crate::lines::{lines_of, parser_after};
 use crate::{AsciiParser, CharAccumulator, Params, Parser, Perform, Utf8Parser};
 
 /// Answers `x` to every byte.
@@ -101,4 +102,17 @@ fn ascii_alone(rt: HostRuntime) {
         assert!(rt; !parser.is_in_char());
     }
     assert_eq!(rt; counter.commands, 1);
+}
+
+// After two ESC nothing counts that came before, and yet `==` tells these parsers apart, since
+// the one still stores the text of a command.
+#[test]
+fn unequal_parsers_with_equal_calls(rt: HostRuntime) {
+    let mut character = parser_after(b"\xC3\x1B\x1B");
+    let mut command = parser_after(b"\x1B]a\x1B\x1B");
+    assert!(rt; character == parser_after(b"\xC3\x1B\x1B"));
+    assert!(rt; character != command);
+    let want = "csi_dispatch [0] - false 6D\n";
+    assert!(rt; lines_of(&mut character, b"[m").as_str() == want);
+    assert!(rt; lines_of(&mut command, b"[m").as_str() == want);
 }

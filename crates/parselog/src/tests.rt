@@ -96,6 +96,22 @@ fn escapes_and_strings(rt: HostRuntime) {
     );
 }
 
+/// After two ESC, and after a cancel outside a character, nothing counts that came before.
+#[test]
+fn forgotten_histories(rt: HostRuntime) {
+    assert_lines(
+        &rt,
+        b"\x1bPq\x1b\x1b[m",
+        "hook [0] - false 71\nunhook\ncsi_dispatch [0] - false 6D\n",
+    );
+    assert_lines(
+        &rt,
+        b"\xf0\x9f\x98\x1b\x1b[m",
+        "print U+FFFD\ncsi_dispatch [0] - false 6D\n",
+    );
+    assert_lines(&rt, b"\x1b[99\x18A", "execute 18\nprint U+0041\n");
+}
+
 /// A part that is longer than what is held back at once.
 #[test]
 fn long_part(rt: HostRuntime) -> Result<(), Fail> {

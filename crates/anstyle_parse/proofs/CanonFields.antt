@@ -89,7 +89,6 @@ no_semicolons groups h =
 
 -- the text of groups is read as these groups
 pub read_groups-groups_text : (groups : List (List ℕ)) → 0 < length groups → AllByRecursion IsGroup groups → read_groups (groups_text groups) ≡ groups
-unfolding groups_text
 read_groups-groups_text [] some h = absurd (omega arith)
 read_groups-groups_text (group ∷ groups) some h =
     ap (map read_group) (slice_split-join_with_byte semicolon (fields_text group) (map fields_text groups) (no_semicolons (group ∷ groups) h))
@@ -106,7 +105,6 @@ map-push f (y ∷ xs) x = ap (λ l. f y ∷ l) (map-push f xs x)
 
 -- with one more 3B it is read as these groups and one of one field, 0
 pub read_groups-one_more : (groups : List (List ℕ)) → 0 < length groups → AllByRecursion IsGroup groups → read_groups (groups_text groups ++ semicolon ∷ []) ≡ groups ++ (0 ∷ []) ∷ []
-unfolding groups_text
 read_groups-one_more [] some h = absurd (omega arith)
 read_groups-one_more (group ∷ groups) some h =
     ap read_groups (sym (join_with_byte-push_empty semicolon (fields_text group) (map fields_text groups)))
@@ -125,7 +123,6 @@ semicolon_is = refl
 
 -- the text of groups is made of parameter bytes
 pub groups_text-parameters : (groups : List (List ℕ)) → AllByRecursion IsGroup groups → EachIs is_parameter (groups_text groups)
-unfolding groups_text
 groups_text-parameters groups h =
     EachIs-join_with_byte is_parameter semicolon (map fields_text groups) semicolon_is
     (AllByRecursion-map (EachIs is_parameter) fields_text groups

@@ -84,7 +84,6 @@ spaced-groups (group ∷ groups) h =
 
 -- the groups that a header shows are written in at most twice its length
 pub length-groups_text : (header : List ℕ) → length (groups_text (groups_of header)) ≤ 2 * length header + 2
-unfolding groups_text
 length-groups_text header =
     let parameters = filter is_parameter header in
     let texts = slice_split (λ b. eqb b semicolon) parameters in

@@ -1,12 +1,12 @@
 -- The one division, computed from left to right: an open item grows byte by byte.
-use Rattle.std.proofs.Common.{ℕ, Bool, true, false, cond, List, [], ◌∷◌, ◌++◌}
+use Rattle.std.proofs.Common.{ℕ, List, [], ◌∷◌, ◌++◌}
 use Rattle.std.specs.Prelude.{if◌then◌else◌}
 use Rattle.std.specs.List.{list_any}
 use Rattle.anstyle_parse.specs.Bytes.{is_intermediate}
 use Rattle.anstyle_parse.specs.Characters.{is_well_formed, is_proper_front}
 use Rattle.anstyle_parse.specs.Arguments.{significant, has_shape}
-use Rattle.anstyle_parse.specs.Items.{Body, escape, control, device, hooked, dropped, command, ignored, End, complete, cancelled, broken_off, unfinished, Item, single, character, broken, begun, sequence, body_text}
-use Rattle.anstyle_parse.proofs.Classes.{Class, control_byte, bell_byte, cancel_byte, esc_byte, intermediate_byte, digit_byte, colon_byte, semicolon_byte, marker_byte, device_byte, string_byte, control_introducer, command_byte, final_byte, delete_byte, high_control, terminator_byte, silent_byte, lead_byte, above_byte, beyond_byte, class_of}
+use Rattle.anstyle_parse.specs.Items.{Body, escape, control, device, hooked, dropped, command, ignored, complete, cancelled, broken_off, unfinished, Item, single, character, broken, begun, sequence, body_text}
+use Rattle.anstyle_parse.proofs.Classes.{Class, bell_byte, cancel_byte, esc_byte, intermediate_byte, digit_byte, colon_byte, semicolon_byte, marker_byte, device_byte, string_byte, control_introducer, command_byte, final_byte, terminator_byte, lead_byte, class_of}
 
 -- what has come of an item that is not whole
 pub data Open : Type 0 where

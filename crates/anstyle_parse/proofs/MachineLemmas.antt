@@ -1,5 +1,5 @@
 -- The machine's steps by cases, and machines that agree in each part.
-use Rattle.std.proofs.Common.{◌≡◌, ℕ, List, refl, [], ◌∷◌, ◌++◌, length, ap, sym, subst, ◌∙◌, cond, eqb, eq-eqb}
+use Rattle.std.proofs.Common.{◌≡◌, ℕ, List, refl, [], ◌∷◌, ◌++◌, length, ap, sym, subst, ◌∙◌, eqb, eq-eqb}
 use Rattle.std.proofs.lemmas.Bool.{cond-true, cond-false, cond_both, ne_eqb}
 use Rattle.anstyle_parse.specs.Bytes.{semicolon}
 use Rattle.anstyle_parse.specs.Arguments.{max_osc_bytes, max_osc_parts}

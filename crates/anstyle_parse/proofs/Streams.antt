@@ -1,13 +1,11 @@
 -- What the public calls say of streams, from what they say of the machine.
-use Rattle.std.proofs.Common.{◌≡◌, Bool, true, false, IsTrue, refl, ◌<◌, ◌^◌, ℕ, List, [], ◌∷◌, ◌++◌, ◌⊎◌, ⊎_elim, inl, inr, sym, ap, ◌∙◌, subst, arith, length, get_or, Fits}
-use Rattle.std.specs.List.{AllByRecursion}
+use Rattle.std.proofs.Common.{◌≡◌, Bool, true, false, IsTrue, refl, ◌<◌, ℕ, List, [], ◌∷◌, ◌++◌, ⊎_elim, inl, inr, sym, ap, ◌∙◌, subst, arith, get_or}
 use Rattle.std.proofs.lemmas.List.{get_or_default}
 use Rattle.std.proofs.lemmas.List.Elements.{recursion_from_All}
 use Rattle.anstyle_parse.specs.declared.state.definitions.State.TheVariants.{Utf8}
 use Rattle.anstyle_parse.specs.declared.parser.Parser.{Parser}
 use Rattle.anstyle_parse.specs.Call.{Call}
 use Rattle.anstyle_parse.specs.Calls.{Continues}
-use Rattle.anstyle_parse.specs.Decoder.{decoded}
 use Rattle.anstyle_parse.specs.Machine.{Machine, Adds, step, machine_after, machine_calls}
 use Rattle.anstyle_parse.specs.Stands.{StandsAfter, seen, unseen, Decodes}
 use Rattle.anstyle_parse.specs.Parser.{machine_of, CanTake, CanTakeAll, MayTake, MayTakeAll, AreBelow, IsAfter, IsAfterAscii}

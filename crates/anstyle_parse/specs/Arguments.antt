@@ -1,5 +1,5 @@
 -- What CSI, device control and operating system commands say, computed from their bytes.
-use Rattle.std.specs.Prelude.{ℕ, suc, zero, ◌-◌, Bool, true, false, ◌||◌, not, nat_lt, ◌==◌, List, [], ◌∷◌, ◌++◌, length, take, map, filter, min, if◌then◌else◌}
+use Rattle.std.specs.Prelude.{ℕ, suc, zero, ◌-◌, Bool, ◌||◌, nat_lt, ◌==◌, List, [], ◌∷◌, ◌++◌, length, take, map, filter, min, if◌then◌else◌}
 use Rattle.std.specs.List.{list_all, slice_split, concat}
 use Rattle.std.specs.Str.Parse.{digits_value}
 use Rattle.anstyle_parse.specs.Bytes.{is_within, is_intermediate, is_parameter, is_marker, is_significant, colon, semicolon}

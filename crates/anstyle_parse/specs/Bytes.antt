@@ -1,6 +1,6 @@
 -- The classes of bytes, as ECMA-48 and Paul Williams' parser (vt100.net) name them.
 -- A byte is a number 00..FF. The classes cover all numbers: noise has no upper end.
-use Rattle.std.specs.Prelude.{ℕ, Bool, ◌||◌, ◌&&◌, not, nat_le, ◌==◌}
+use Rattle.std.specs.Prelude.{ℕ, Bool, ◌||◌, ◌&&◌, nat_le, ◌==◌}
 
 -- low..high, both ends included
 unfoldable pub is_within : ℕ → ℕ → ℕ → Bool

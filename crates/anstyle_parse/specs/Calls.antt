@@ -4,7 +4,7 @@ use Rattle.anstyle_parse.specs.Bytes.{is_within, is_control, is_cancel, is_inter
 use Rattle.anstyle_parse.specs.Characters.{character_of, replacement}
 use Rattle.anstyle_parse.specs.Arguments.{significant, has_shape, groups_of, collected_of, ignore_of, parts_of, max_collected}
 use Rattle.anstyle_parse.specs.Call.{Call, Goes, print, execute, hook, put, unhook, osc_dispatch, csi_dispatch, esc_dispatch}
-use Rattle.anstyle_parse.specs.Items.{Body, escape, control, device, hooked, dropped, command, ignored, End, complete, cancelled, broken_off, unfinished, Item, single, character, broken, begun, sequence, IsDivision}
+use Rattle.anstyle_parse.specs.Items.{Body, escape, control, device, hooked, dropped, command, ignored, End, complete, cancelled, broken_off, Item, single, character, broken, begun, sequence, IsDivision}
 
 -- a single byte that is executed: the controls, 18 and 1A, and of C1 those that begin no string
 unfoldable pub is_executed : ℕ → Bool

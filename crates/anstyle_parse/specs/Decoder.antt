@@ -1,5 +1,5 @@
 -- What the decoder of UTF-8 does with one byte, by the front of a character that it holds.
-use Rattle.std.specs.Prelude.{ℕ, Bool, List, [], ◌∷◌, ◌++◌, nat_lt, if◌then◌else◌, Option, None, Some}
+use Rattle.std.specs.Prelude.{ℕ, List, [], ◌∷◌, ◌++◌, nat_lt, if◌then◌else◌, Option, None, Some}
 use Rattle.anstyle_parse.specs.Characters.{is_well_formed, is_proper_front, is_lead, character_of, replacement}
 
 -- At the start of a character: ASCII is answered at once, a lead byte begins a front, any

@@ -1,8 +1,8 @@
 -- The items that a list of bytes is cut into: single bytes, characters and sequences.
 -- A sequence is a body, which begins with ESC, and an end.
-use Rattle.std.specs.Prelude.{◌≡◌, ◌≢◌, ℕ, Bool, true, false, ◌||◌, ◌&&◌, not, ◌==◌, List, [], ◌∷◌, ◌++◌, IsTrue, ⊤}
-use Rattle.std.specs.List.{AllByRecursion, list_any, concat}
-use Rattle.anstyle_parse.specs.Bytes.{is_within, is_cancel, is_escape, is_intermediate, is_parameter, is_marker, is_final, is_noise, bell, string_terminator, escape_byte}
+use Rattle.std.specs.Prelude.{◌≡◌, ℕ, Bool, false, ◌||◌, ◌&&◌, not, ◌==◌, List, [], ◌∷◌, ◌++◌, IsTrue, ⊤}
+use Rattle.std.specs.List.{AllByRecursion, list_any}
+use Rattle.anstyle_parse.specs.Bytes.{is_within, is_cancel, is_escape, is_intermediate, is_final, is_noise, bell, string_terminator, escape_byte}
 use Rattle.anstyle_parse.specs.Characters.{is_lead, is_well_formed, IsFront, IsProperFront}
 use Rattle.anstyle_parse.specs.Arguments.{significant, has_shape}
 

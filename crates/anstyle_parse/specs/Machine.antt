@@ -3,13 +3,13 @@
 use Rattle.std.specs.Prelude.{◌≤◌, ℕ, ◌+◌, ◌-◌, ◌*◌, Bool, true, false, ◌==◌, List, [], ◌∷◌, ◌++◌, length, min, if◌then◌else◌, Option, None, Some}
 use Rattle.std.specs.List.{concat}
 use Rattle.anstyle_parse.specs.declared.state.definitions.State.{State}
-use Rattle.anstyle_parse.specs.declared.state.definitions.State.TheVariants.{Anywhere, CsiEntry, CsiIgnore, CsiIntermediate, CsiParam, DcsEntry, DcsIgnore, DcsIntermediate, DcsParam, DcsPassthrough, Escape, EscapeIntermediate, Ground, OscString, SosPmApcString, Utf8}
+use Rattle.anstyle_parse.specs.declared.state.definitions.State.TheVariants.{Anywhere, CsiEntry, DcsEntry, DcsPassthrough, Escape, Ground, OscString, Utf8}
 use Rattle.anstyle_parse.specs.declared.state.definitions.Action.{Action}
 use Rattle.anstyle_parse.specs.declared.state.definitions.Action.TheVariants.{Nop, Clear, Collect, CsiDispatch, EscDispatch, Execute, Hook, Ignore, OscEnd, OscPut, OscStart, Param, Print, Put, Unhook, BeginUtf8}
 use Rattle.anstyle_parse.specs.Bytes.{colon, semicolon, bell}
 use Rattle.anstyle_parse.specs.Arguments.{max_fields, max_field, max_collected, max_osc_bytes, max_osc_parts}
 use Rattle.anstyle_parse.specs.Call.{Call, print, execute, hook, put, unhook, osc_dispatch, csi_dispatch, esc_dispatch}
-use Rattle.anstyle_parse.specs.Table.{Change, change_at}
+use Rattle.anstyle_parse.specs.Table.{change_at}
 use Rattle.anstyle_parse.specs.Groups.{shown_groups}
 
 -- What the parser keeps. A is what its accumulator of characters holds.

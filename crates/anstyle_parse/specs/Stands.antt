@@ -2,7 +2,7 @@
 -- took them.
 use Rattle.std.specs.Prelude.{◌≡◌, ◌<◌, ℕ, List, [], ◌∷◌, ◌++◌}
 use Rattle.anstyle_parse.specs.declared.state.definitions.State.{State}
-use Rattle.anstyle_parse.specs.declared.state.definitions.State.TheVariants.{Anywhere, CsiEntry, CsiIgnore, CsiIntermediate, CsiParam, DcsEntry, DcsIgnore, DcsIntermediate, DcsParam, DcsPassthrough, Escape, EscapeIntermediate, Ground, OscString, SosPmApcString, Utf8}
+use Rattle.anstyle_parse.specs.declared.state.definitions.State.TheVariants.{CsiEntry, CsiIntermediate, CsiParam, DcsEntry, DcsIntermediate, DcsParam, Escape, EscapeIntermediate, OscString}
 use Rattle.anstyle_parse.specs.Decoder.{decoded}
 use Rattle.anstyle_parse.specs.Machine.{Machine, Adds, new_machine, with_accumulator, machine_after}
 use Rattle.anstyle_parse.specs.Items.{Item, begun, IsDivision}

@@ -1,9 +1,9 @@
 -- What a run does, from what its performer received and how it was finished.
 use Rattle.std.proofs.Common.{◌≡◌, ℕ, Bool, true, false, List, [], ◌∷◌, ◌++◌, Option, None, Some, is_some, Result, Ok, Err, ◌⊎◌, inl, inr, refl, sym, ap, ◌∙◌, subst}
-use Rattle.std.specs.Io.KnownBytes.{Appends, IsAtEnd}
+use Rattle.std.specs.Io.KnownBytes.{Appends}
 use Rattle.std.proofs.KnownBytes.{Appends-kept}
 use Rattle.anstyle_parse.specs.declared.canon.Fault.{Fault}
-use Rattle.anstyle_parse.specs.declared.canon.Fault.TheVariants.{Read, Write, Flush}
+use Rattle.anstyle_parse.specs.declared.canon.Fault.TheVariants.{Read, Write}
 use Rattle.anstyle_parse.specs.declared.canon.output.Output.{Output}
 use Rattle.anstyle_parse.specs.Call.{Call}
 use Rattle.anstyle_parse.specs.Output.{writer_in, fault_in, AddsAll, AddsBeginning, AddsAt, Adds, Finishes, FinishesAt, texts}

@@ -1,4 +1,4 @@
-use Rattle.std.proofs.Common.{◌≡◌, ◌++◌, List, ℕ, [], ◌∷◌, ap, ◌∙◌, subst}
+use Rattle.std.proofs.Common.{◌++◌, List, ℕ, [], ◌∷◌, ap, ◌∙◌, subst}
 use Rattle.anstyle_parse.specs.Piece.{held_in, HandsOn}
 use Rattle.anstyle_parse.proofs.PieceLemmas.{HandsOn-append}
 use Rattle.parselog.specs.Lines.{hex_list, end_text, newline}

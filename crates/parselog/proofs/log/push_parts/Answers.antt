@@ -1,5 +1,5 @@
 -- One part more is done, with the space before it.
-use Rattle.std.proofs.Common.{◌≡◌, ◌++◌, ◌+◌, ◌<◌, List, ℕ, [], ◌∷◌, length, get_or, drop, map, refl, ap, ◌∙◌, append_assoc}
+use Rattle.std.proofs.Common.{◌++◌, ◌+◌, List, ℕ, [], ◌∷◌, get_or, drop, map, refl, ap, ◌∙◌, append_assoc}
 use Rattle.std.specs.Borrow.{Bor}
 use Rattle.std.proofs.lemmas.List.{at_drop_more}
 use Rattle.anstyle_parse.specs.Piece.{held_in}

@@ -1,8 +1,7 @@
 -- A piece more is read, and its calls are made.
-use Rattle.std.proofs.Common.{◌≡◌, ◌≤◌, ◌++◌, List, ℕ, [], false, Option, None, Some, is_some, length, take, refl, inl, sym, ap, ◌∙◌, arith, length-append, length-take}
+use Rattle.std.proofs.Common.{◌≡◌, ◌++◌, [], false, Option, None, Some, is_some, take, refl, sym, ap, ◌∙◌, arith, length-append, length-take}
 use Rattle.std.proofs.KnownBytes.{Consumes-nil, Consumes-trans}
 use Rattle.anstyle_parse.specs.Accumulator.{parser_after}
-use Rattle.anstyle_parse.specs.Call.{Call}
 use Rattle.anstyle_parse.specs.Machine.{machine_calls}
 use Rattle.anstyle_parse.specs.Parser.{machine_of}
 use Rattle.anstyle_parse.proofs.CanonItems.{AreCalls-nil}

@@ -1,9 +1,7 @@
 -- A run is what its performer received and how it was finished.
-use Rattle.std.proofs.Common.{◌≡◌, List, ℕ, Result, Err, ⊎_elim, refl, subst}
+use Rattle.std.proofs.Common.{Err, ⊎_elim, subst}
 use Rattle.anstyle_parse.specs.declared.canon.Fault.TheVariants.{Read}
 use Rattle.anstyle_parse.specs.Output.{Adds, fault_in}
-use Rattle.anstyle_parse.specs.declared.canon.Fault.{Fault}
-use Rattle.anstyle_parse.specs.Call.{Call}
 use Rattle.parselog.specs.declared.log.LogWriter.{LogWriter}
 use Rattle.parselog.specs.declared.run.End.{End}
 use Rattle.parselog.specs.Lines.{line, lines}

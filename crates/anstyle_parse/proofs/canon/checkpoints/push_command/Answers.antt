@@ -1,5 +1,5 @@
 -- One part more is done, with the separator behind it.
-use Rattle.std.proofs.Common.{◌≡◌, ◌++◌, ◌+◌, List, ℕ, [], ◌∷◌, length, get_or, take, drop, refl, subst, arith}
+use Rattle.std.proofs.Common.{◌≡◌, ◌++◌, ◌+◌, List, ℕ, [], ◌∷◌, get_or, drop, refl, subst, arith}
 use Rattle.std.proofs.lemmas.List.{at_drop_more, drop_all}
 use Rattle.anstyle_parse.specs.Bytes.{semicolon}
 use Rattle.anstyle_parse.specs.Checkpoint.{command_text}

@@ -5,7 +5,6 @@ use Rattle.std.proofs.lemmas.Bool.{false≢true}
 use Rattle.anstyle_parse.specs.Arguments.{after_marker}
 use Rattle.anstyle_parse.specs.Bytes.{semicolon}
 use Rattle.anstyle_parse.specs.Canon.{leading_marker}
-use Rattle.anstyle_parse.specs.Checkpoint.{header_so_far}
 use Rattle.anstyle_parse.specs.Params.{closed_groups_of, open_group_of}
 use Rattle.anstyle_parse.specs.Parser.{machine_of}
 use Rattle.anstyle_parse.specs.Piece.{held_in, HandsOn}

@@ -1,5 +1,5 @@
 -- The bytes behind the closed parts become a part, where there are fewer than sixteen.
-use Rattle.std.proofs.Common.{◌≡◌, ◌<◌, ◌+◌, ◌-◌, length, take, drop, set, arith, ap, sym, ◌∙◌}
+use Rattle.std.proofs.Common.{◌≡◌, ◌+◌, ◌-◌, length, take, set, arith, ap, sym, ◌∙◌}
 use Rattle.std.proofs.lemmas.List.{drop_all}
 use Rattle.anstyle_parse.specs.Groups.{cut, total}
 use Rattle.anstyle_parse.specs.Parser.{machine_of}

@@ -1,4 +1,4 @@
-use Rattle.std.proofs.Common.{◌≡◌, refl}
+use Rattle.std.proofs.Common.{refl}
 use Rattle.std.proofs.lemmas.Bool.{false≢true}
 use Rattle.anstyle_parse.specs.Parser.{machine_of}
 use Rattle.anstyle_parse.specs.Stands.{seen, unseen}

@@ -1,4 +1,4 @@
-use Rattle.std.proofs.Common.{◌≡◌, ◌++◌, List, ℕ, [], ◌∷◌, sym, subst}
+use Rattle.std.proofs.Common.{List, ℕ, [], ◌∷◌, sym, subst}
 use Rattle.anstyle_parse.specs.Groups.{groups_text}
 use Rattle.anstyle_parse.specs.Params.{groups_shown}
 use Rattle.anstyle_parse.specs.Output.{Adds}

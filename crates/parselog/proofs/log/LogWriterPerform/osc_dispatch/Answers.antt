@@ -1,4 +1,4 @@
-use Rattle.std.proofs.Common.{◌≡◌, ◌++◌, List, ℕ, [], ◌∷◌, map, codes, sym, ap, ◌∙◌, subst, append_assoc}
+use Rattle.std.proofs.Common.{◌++◌, List, ℕ, [], ◌∷◌, map, codes, sym, ap, ◌∙◌, subst, append_assoc}
 use Rattle.anstyle_parse.specs.Output.{Adds}
 use Rattle.anstyle_parse.proofs.PieceLemmas.{HandsOn-append, HandsOn-new}
 use Rattle.parselog.specs.Lines.{truth, parts_text, newline}

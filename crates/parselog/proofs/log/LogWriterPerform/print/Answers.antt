@@ -1,4 +1,4 @@
-use Rattle.std.proofs.Common.{◌≡◌, List, ℕ, ap, ◌∙◌, subst}
+use Rattle.std.proofs.Common.{List, ℕ, ap, ◌∙◌, subst}
 use Rattle.anstyle_parse.specs.Call.{print}
 use Rattle.anstyle_parse.specs.Output.{Adds}
 use Rattle.parselog.specs.Lines.{line}

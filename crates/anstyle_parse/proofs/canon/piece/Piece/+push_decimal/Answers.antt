@@ -1,5 +1,5 @@
 -- The digits before the last are pushed first, if there are any.
-use Rattle.std.proofs.Common.{◌≡◌, ◌/◌, ℕ, List, decimal, arith, sym, subst}
+use Rattle.std.proofs.Common.{◌/◌, decimal, arith, sym, subst}
 use Rattle.anstyle_parse.specs.declared.canon.output.Output.{Output}
 use Rattle.anstyle_parse.specs.declared.canon.piece.Piece.{Piece}
 use Rattle.anstyle_parse.specs.Piece.{held_in, HandsOn}

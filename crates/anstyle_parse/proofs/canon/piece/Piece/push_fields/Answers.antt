@@ -1,5 +1,5 @@
 -- One field more is done, with the separator before it.
-use Rattle.std.proofs.Common.{◌≡◌, ◌++◌, ◌+◌, List, ℕ, [], ◌∷◌, get_or, drop, map, decimal, refl}
+use Rattle.std.proofs.Common.{◌++◌, ◌+◌, [], ◌∷◌, get_or, drop, map, decimal, refl}
 use Rattle.std.specs.Prelude.{if◌then◌else◌}
 use Rattle.std.proofs.lemmas.List.{at_drop_more}
 use Rattle.anstyle_parse.specs.Bytes.{colon}

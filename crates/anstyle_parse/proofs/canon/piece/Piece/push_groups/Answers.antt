@@ -1,5 +1,5 @@
 -- One group more is done, with the separator before it.
-use Rattle.std.proofs.Common.{◌≡◌, ◌++◌, List, ℕ, [], ◌∷◌, map, ap, ◌∙◌}
+use Rattle.std.proofs.Common.{◌++◌, [], ◌∷◌, map, ap, ◌∙◌}
 use Rattle.std.specs.Prelude.{if◌then◌else◌}
 use Rattle.anstyle_parse.specs.Bytes.{semicolon}
 use Rattle.anstyle_parse.specs.Groups.{fields_text, groups_text}

@@ -1,4 +1,4 @@
-use Rattle.std.proofs.Common.{◌≡◌, List, ℕ, Bool, true, false, [], ◌∷◌, sym, subst}
+use Rattle.std.proofs.Common.{Bool, [], ◌∷◌, sym, subst}
 use Rattle.std.specs.Prelude.{if◌then◌else◌}
 use Rattle.anstyle_parse.specs.Piece.{held_in, HandsOn}
 use Rattle.anstyle_parse.proofs.PieceLemmas.{HandsOn-nil}

@@ -1,5 +1,5 @@
 -- The parts of the command are pushed one after another.
-use Rattle.std.proofs.Common.{List, ℕ, [], ◌∷◌, ◌++◌, map, ap, subst}
+use Rattle.std.proofs.Common.{List, ℕ, ◌∷◌, ◌++◌, map, ap, subst}
 use Rattle.std.specs.List.{join_with_byte}
 use Rattle.anstyle_parse.specs.Bytes.{escape_byte, semicolon}
 use Rattle.anstyle_parse.specs.CanonWriter.{output_of}

@@ -11,6 +11,10 @@ writer_behind buffer = buffer.writer
 abbrev pub held_back : {W : Type 0} → Buffer W → List ℕ
 held_back buffer = buffer.held.items
 
+-- whether bytes that end a line are handed on at once
+abbrev pub is_by_line : {W : Type 0} → Buffer W → Bool
+is_by_line buffer = buffer.by_line
+
 -- what the writer behind it holds, and then what is held back
 abbrev pub buffer_contents : {W : Type 0} → (W → Option (List ℕ)) → Buffer W → Option (List ℕ)
 buffer_contents contents buffer = append_known (contents (writer_behind buffer)) (held_back buffer)

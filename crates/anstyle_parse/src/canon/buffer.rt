@@ -1,5 +1,5 @@
 //! A writer that hands on many bytes at once.
-ghost use Rattle.std.specs.Prelude.{◌≡◌, ◌<◌, ◌≤◌, [], length, take, drop, IsTrue};
+ghost use Rattle.std.specs.Prelude.{◌≡◌, ◌<◌, ◌≤◌, true, false, [], length, take, drop, IsTrue};
 ghost use Rattle.std.specs.Bool.{OnTrue, OnFalse};
 ghost use Rattle.std.specs.Io.KnownBytes.{Keeps, Appends};
 
@@ -14,8 +14,9 @@ const CAPACITY: usize = 8192;
 ///
 /// Its bytes are those of the writer behind it, and then what is held back. A write takes as
 /// many bytes as there is room for. One that finds no room hands on first; where that fails,
-/// the write fails, and what could not be handed on stays held back. [`flush`](Sink::flush) hands on everything and flushes the
-/// writer behind it. What is held back when the buffer is dropped is lost.
+/// the write fails, and what could not be handed on stays held back. [`flush`](Sink::flush)
+/// hands on everything and flushes the writer behind it. What is held back when the buffer is
+/// dropped is lost.
 #[derive(Drop)]
 pub struct Buffer<W> {
     writer: W,
@@ -24,12 +25,13 @@ pub struct Buffer<W> {
 }
 
 impl<W: Sink> Buffer<W> {
-    ghost use Rattle.anstyle_parse.specs.Buffer.{writer_behind, held_back, buffer_contents};
+    ghost use Rattle.anstyle_parse.specs.Buffer.{writer_behind, held_back, is_by_line, buffer_contents};
 
     /// A buffer that holds nothing back, in front of the writer.
     pub fn new(writer: W) -> Buffer<W>
         ensures writer { writer_behind result ≡ writer }
         ensures empty { held_back result ≡ [] }
+        ensures not_by_line { is_by_line result ≡ false }
     {
         Buffer {
             writer,
@@ -42,6 +44,7 @@ impl<W: Sink> Buffer<W> {
     pub fn by_line(writer: W) -> Buffer<W>
         ensures writer { writer_behind result ≡ writer }
         ensures empty { held_back result ≡ [] }
+        ensures by_line { is_by_line result ≡ true }
     {
         Buffer {
             writer,
@@ -64,6 +67,7 @@ impl<W: Sink> Buffer<W> {
         ensures emptied { OnTrue result (held_back self.new ≡ []) }
         ensures not_failed { OnTrue result (W.has_failed (writer_behind self.new) ≡ W.has_failed (writer_behind self.old)) }
         ensures failed { OnFalse result (IsTrue (W.has_failed (writer_behind self.new))) }
+        ensures same_mode { is_by_line self.new ≡ is_by_line self.old }
     {
         let count = write_out(&mut self.writer, self.held.as_slice());
         if count == self.held.len() {
@@ -127,7 +131,7 @@ impl<W: Sink> Sink for Buffer<W> {
 
 impl<W: Sink> Buffer<W> {
     ghost use Rattle.std.specs.Prelude.{IfSome, IfNone, OnSome};
-    ghost use Rattle.anstyle_parse.specs.Buffer.{writer_behind, buffer_contents};
+    ghost use Rattle.anstyle_parse.specs.Buffer.{writer_behind, held_back, is_by_line, buffer_contents};
 
     /// Takes bytes that are not held back as they are: those that end a line are handed on,
     /// and of others as many are taken as there is room for, once what is held back has been
@@ -140,6 +144,8 @@ impl<W: Sink> Buffer<W> {
         ensures not_failed { OnSome result (W.has_failed (writer_behind self.new) ≡ W.has_failed (writer_behind self.old)) }
         ensures nothing_passed { IfNone result (Keeps (buffer_contents W.contents self.old) (buffer_contents W.contents self.new)) }
         ensures failed { IfNone result (IsTrue (W.has_failed (writer_behind self.new))) }
+        ensures lines_at_once { OnSome result (IsTrue (is_by_line self.old) → held_back self.new ≡ []) }
+        ensures same_mode { is_by_line self.new ≡ is_by_line self.old }
     {
         let is_full = self.held.is_full();
         if (self.by_line || is_full) && !self.hand_on() {

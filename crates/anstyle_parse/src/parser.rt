@@ -10,6 +10,7 @@ use crate::params::Params;
 use crate::perform::Perform;
 use crate::state::{Action, State, state_change};
 use arrayvec::ArrayVec;
+use std::alloc::AllocError;
 
 /// The intermediates and markers that are kept at most.
 const MAX_INTERMEDIATES: usize = 2;
@@ -22,7 +23,7 @@ const MAX_OSC_PARTS: usize = 16;
 const BELL: u8 = 0x07;
 
 /// Cuts a stream of bytes into calls of a [`Perform`].
-#[derive(PartialEq, Eq, Drop)]
+#[derive(Debug, PartialEq, Eq, Drop)]
 pub struct Parser<C = DefaultCharAccumulator> {
     state: State,
     /// The markers and intermediates of the sequence.
@@ -68,6 +69,36 @@ impl<C: CharAccumulator> Default for Parser<C> {
             osc_closed: 0,
             accumulator: C::default(),
         }
+    }
+}
+
+impl<C: Clone> Clone for Parser<C> {
+    ghost use Rattle.anstyle_parse.specs.Machine.{with_accumulator};
+    ghost use Rattle.anstyle_parse.specs.Parser.{machine_of};
+
+    ghost is_clone = { λ parser clone. C.is_clone parser.accumulator clone.accumulator
+        × (machine_of clone ≡ with_accumulator clone.accumulator (machine_of parser)) };
+
+    ghost is_infallible = { λ parser. C.is_infallible parser.accumulator };
+
+    /// A parser that stands where this one stands. It fails only where the clone of the
+    /// accumulator does.
+    fn clone(&self) -> Result<Parser<C>, AllocError> {
+        let mut osc_text = ArrayVec::new();
+        let _ = osc_text.try_extend_from_slice(self.osc_text.as_slice());
+        Ok(Parser {
+            state: self.state,
+            intermediates: self.intermediates,
+            intermediate_count: self.intermediate_count,
+            ignoring: self.ignoring,
+            params: self.params.clone()?,
+            param: self.param,
+            osc_text,
+            osc_lengths: self.osc_lengths,
+            osc_parts: self.osc_parts,
+            osc_closed: self.osc_closed,
+            accumulator: self.accumulator.clone()?,
+        })
     }
 }
 

@@ -3,6 +3,7 @@ ghost use Rattle.std.proofs.lemmas.Bool.{false≢true};
 
 use crate::lines::{lines_of, parser_after};
 use crate::{AsciiParser, CharAccumulator, Params, Parser, Perform, Utf8Parser};
+use std::test::Fail;
 
 /// Answers `x` to every byte.
 #[derive(Default, Drop)]
@@ -115,4 +116,16 @@ fn unequal_parsers_with_equal_calls(rt: HostRuntime) {
     let want = "csi_dispatch [0] - false 6D\n";
     assert!(rt; lines_of(&mut character, b"[m").as_str() == want);
     assert!(rt; lines_of(&mut command, b"[m").as_str() == want);
+}
+
+// A clone goes on as the parser that it is of.
+#[test]
+fn clones(rt: HostRuntime) -> Result<(), Fail> {
+    let mut parser = parser_after(b"\x1B]0;x\xC3");
+    let mut clone = parser.clone()?;
+    assert!(rt; clone == parser);
+    let want = "osc_dispatch true 30 78C3\n";
+    assert!(rt; lines_of(&mut clone, b"\x07").as_str() == want);
+    assert!(rt; lines_of(&mut parser, b"\x07").as_str() == want);
+    Ok(())
 }

@@ -134,10 +134,16 @@ impl<C: CharAccumulator> Parser<C> {
     pub fn advance<P: Perform>(&mut self, performer: &mut P, byte: u8)
         requires { MayTake C.decodes C.takes self.old byte }
 
+        // The headline: the parser stands after all bytes, and a performer that has received
+        // exactly the calls of the bytes before has received exactly those of all.
+        ensures stands { (before : List ℕ) → IsTrue C.decodes → IsAfter C.front self.old before
+            → IsAfter C.front self.new (before ++ byte ∷ []) }
+        ensures received { (first : P) (before : List ℕ) → IsTrue C.decodes → IsAfter C.front self.old before
+            → HasReceived P.means first before performer.old → HasReceived P.means first (before ++ byte ∷ []) performer.new }
+
         // One byte does what the machine does with it.
         ensures machine { machine_of self.new ≡ step C.adds byte (machine_of self.old) }
         ensures calls { Goes P.means performer.old (step_calls C.adds byte (machine_of self.old)) performer.new }
-
         ensures limits { IsWithinLimits (machine_of self.new) }
 
         // Two calls are made only where a cancel ends a command or a hooked string.
@@ -145,15 +151,8 @@ impl<C: CharAccumulator> Parser<C> {
         ensures two { length (step_calls C.adds byte (machine_of self.old)) ≡ 2
             → IsTrue (is_cancel byte) × HasOpenString self.old }
 
-        // The headline: a performer that has received exactly the calls of the bytes before
-        // has received exactly those of all bytes.
-        ensures received { (first : P) (before : List ℕ) → IsTrue C.decodes → IsAfter C.front self.old before
-            → HasReceived P.means first before performer.old → HasReceived P.means first (before ++ byte ∷ []) performer.new }
-
-        // These calls continue those of the bytes before, for an accumulator that decodes
-        // UTF-8 and for any accumulator over ASCII.
-        ensures stands { (before : List ℕ) → IsTrue C.decodes → IsAfter C.front self.old before
-            → IsAfter C.front self.new (before ++ byte ∷ []) }
+        // These calls continue those of the bytes before; over ASCII this is so for any
+        // accumulator.
         ensures stream { (before : List ℕ) → IsTrue C.decodes → IsAfter C.front self.old before
             → Continues before (byte ∷ []) (step_calls C.adds byte (machine_of self.old)) }
         ensures ascii_stands { (before : List ℕ) → byte < 0x80 → IsAfterAscii self.old before
@@ -166,6 +165,9 @@ impl<C: CharAccumulator> Parser<C> {
 
     /// Takes bytes, one after another, as `advance` does.
     ///
+    /// A stream may come in any pieces, by any mixture of both calls: after each call the
+    /// performer has received exactly the calls of the bytes so far, none early and none late.
+    ///
     /// With `Utf8Parser` there is no condition. With an accumulator that does not decode UTF-8
     /// it is that the accumulator takes every byte whatever it holds, or that the parser is
     /// outside a character and every byte is below 80.
@@ -173,20 +175,20 @@ impl<C: CharAccumulator> Parser<C> {
     pub fn advance_all<P: Perform>(&mut self, performer: &mut P, bytes: &[u8])
         requires { MayTakeAll C.decodes C.takes self.old bytes.now }
 
+        // The headline: the parser stands after all bytes, and a performer that has received
+        // exactly the calls of the bytes before has received exactly those of all.
+        ensures stands { (before : List ℕ) → IsTrue C.decodes → IsAfter C.front self.old before
+            → IsAfter C.front self.new (before ++ bytes.now) }
+        ensures received { (first : P) (before : List ℕ) → IsTrue C.decodes → IsAfter C.front self.old before
+            → HasReceived P.means first before performer.old → HasReceived P.means first (before ++ bytes.now) performer.new }
+
         // The bytes do what the machine does with each in turn.
         ensures machine { machine_of self.new ≡ machine_after C.adds bytes.now (machine_of self.old) }
         ensures calls { Goes P.means performer.old (machine_calls C.adds bytes.now (machine_of self.old)) performer.new }
         ensures limits { IsWithinLimits (machine_of self.new) }
 
-        // The headline: a performer that has received exactly the calls of the bytes before
-        // has received exactly those of all bytes.
-        ensures received { (first : P) (before : List ℕ) → IsTrue C.decodes → IsAfter C.front self.old before
-            → HasReceived P.means first before performer.old → HasReceived P.means first (before ++ bytes.now) performer.new }
-
-        // These calls continue those of the bytes before, for an accumulator that decodes
-        // UTF-8 and for any accumulator over ASCII.
-        ensures stands { (before : List ℕ) → IsTrue C.decodes → IsAfter C.front self.old before
-            → IsAfter C.front self.new (before ++ bytes.now) }
+        // These calls continue those of the bytes before; over ASCII this is so for any
+        // accumulator.
         ensures stream { (before : List ℕ) → IsTrue C.decodes → IsAfter C.front self.old before
             → Continues before bytes.now (machine_calls C.adds bytes.now (machine_of self.old)) }
         ensures ascii_stands { (before : List ℕ) → AreBelow 0x80 bytes.now → IsAfterAscii self.old before
@@ -196,24 +198,25 @@ impl<C: CharAccumulator> Parser<C> {
 
         // All calls so far are a lawful list: so hooks exceed unhooks by at most one, and
         // between the two only put is called.
-        ensures lawful { (before : List ℕ) (first : List Call) → IsTrue C.decodes → IsAfter C.front self.old before → AreCalls before first
-            → AreLawful (first ++ machine_calls C.adds bytes.now (machine_of self.old)) }
+        ensures lawful { (before : List ℕ) (first : List Call) → IsTrue C.decodes → IsAfter C.front self.old before
+            → AreCalls before first → AreLawful (first ++ machine_calls C.adds bytes.now (machine_of self.old)) }
 
         // Behind two ESC bytes, and outside a character behind one, the calls are those of one
         // ESC and these bytes; behind 18 or 1A outside a character, those of these bytes.
         // Nothing before counts.
-        ensures forgotten { (before : List ℕ) → IsTrue C.decodes → IsAfter C.front self.old (before ++ escape_byte ∷ escape_byte ∷ [])
+        ensures forgotten { (before : List ℕ) → IsTrue C.decodes
+            → IsAfter C.front self.old (before ++ escape_byte ∷ escape_byte ∷ [])
             → AreCalls (escape_byte ∷ bytes.now) (machine_calls C.adds bytes.now (machine_of self.old)) }
         ensures forgotten_once { (before : List ℕ) → IsTrue C.decodes → ¬ EndsInCharacter before
             → IsAfter C.front self.old (before ++ escape_byte ∷ [])
             → AreCalls (escape_byte ∷ bytes.now) (machine_calls C.adds bytes.now (machine_of self.old)) }
-        ensures cancelled { (before : List ℕ) (cancel : ℕ) → IsTrue C.decodes → IsTrue (is_cancel cancel) → ¬ EndsInCharacter before
-            → IsAfter C.front self.old (before ++ cancel ∷ [])
+        ensures cancelled { (before : List ℕ) (cancel : ℕ) → IsTrue C.decodes → IsTrue (is_cancel cancel)
+            → ¬ EndsInCharacter before → IsAfter C.front self.old (before ++ cancel ∷ [])
             → AreCalls bytes.now (machine_calls C.adds bytes.now (machine_of self.old)) }
 
         // A new parser makes of the canonical text of lawful calls exactly these calls.
-        ensures replay { (calls : List Call) → IsTrue C.decodes → IsAfter C.front self.old [] → AreLawful calls → bytes.now ≡ canon calls
-            → Goes P.means performer.old calls performer.new }
+        ensures replay { (calls : List Call) → IsTrue C.decodes → IsAfter C.front self.old [] → AreLawful calls
+            → bytes.now ≡ canon calls → Goes P.means performer.old calls performer.new }
     {
         self.take_bytes(performer, bytes);
     }

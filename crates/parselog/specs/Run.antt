@@ -1,5 +1,5 @@
 -- What a run of the program does: it reads bytes, and writes the text of their calls.
-use Rattle.std.specs.Prelude.{◌≡◌, ◌≢◌, ◌≤◌, ◌-◌, ◌^◌, ℕ, Bool, false, List, [], ◌++◌, length, Option, None, Result, Ok, Err, ⊤, ◌⊎◌, IsTrue, IsSome}
+use Rattle.std.specs.Prelude.{◌≡◌, ◌≢◌, ◌≤◌, ◌-◌, ◌*◌, ◌^◌, ◌↔◌, ℕ, Bool, false, List, [], ◌++◌, length, Option, None, Result, Ok, Err, ⊤, ◌⊎◌, IsTrue, IsSome}
 use Rattle.std.specs.Io.KnownBytes.{Appends, Consumes, IsAtEnd}
 use Rattle.anstyle_parse.specs.declared.canon.Fault.{Fault}
 use Rattle.anstyle_parse.specs.declared.canon.Fault.TheVariants.{Read, Write, Flush}
@@ -68,3 +68,14 @@ pub record Runs {R W T : Type 0} (remaining : R → Option (List ℕ)) (reader_f
   pub written : Writes answer (contents writer) (contents writer_after) (text calls)
   pub unread : IsTrue zero_is_end → LeavesNothing answer (remaining reader_after)
   pub causes : reader_failed reader ≡ false → writer_failed writer ≡ false → IsCausedBy answer (reader_failed reader_after) (writer_failed writer_after) (length read)
+
+-- What was written makes the calls of what was read, and has at most three times as many
+-- bytes; where a write failed, a proper beginning of that is written.
+pub record Normalises {R W T : Type 0} (remaining : R → Option (List ℕ)) (contents : W → Option (List ℕ))
+    (reader reader_after : R) (writer writer_after : W) (answer : Result T Fault) : Type 0 where
+  pub read : List ℕ
+  pub text : List ℕ
+  pub consumed : Consumes (remaining reader) (remaining reader_after) read
+  pub written : Writes answer (contents writer) (contents writer_after) text
+  pub same_calls : (calls : List Call) → (AreCalls read calls ↔ AreCalls text calls)
+  pub bound : length text ≤ 3 * length read

@@ -6,7 +6,7 @@ ghost use Rattle.anstyle_parse.specs.Canon.{canon};
 ghost use Rattle.anstyle_parse.specs.CanonWriter.{output_of as canon_output};
 ghost use Rattle.parselog.specs.Lines.{lines};
 ghost use Rattle.parselog.specs.Log.{output_of};
-ghost use Rattle.parselog.specs.Run.{Drives, Runs, text_of};
+ghost use Rattle.parselog.specs.Run.{Drives, Runs, Normalises, text_of};
 
 use crate::log::LogWriter;
 use anstyle_parse::canon::{CanonWriter, Fault, Sink, Source};
@@ -37,7 +37,10 @@ pub enum Mode {
 /// - `Err(Fault::Write)` where a write failed: what is written is a proper beginning of the
 ///   text, and nothing was read or written after the fault.
 pub fn run<R: Source, W: Sink>(mode: Mode, reader: &mut R, writer: W) -> (W, Result<(), Fault>)
-    ensures { Runs R.remaining R.Source.has_failed R.zero_is_end W.contents W.Sink.has_failed (text_of mode) reader.old reader.new writer result.0 result.1 }
+    ensures runs { Runs R.remaining R.Source.has_failed R.zero_is_end W.contents W.Sink.has_failed (text_of mode) reader.old reader.new writer result.0 result.1 }
+
+    // What mode canon writes makes the calls of what was read.
+    ensures normalises { mode ≡ Mode.Canon → Normalises R.remaining W.contents reader.old reader.new writer result.0 result.1 }
 {
     match mode {
         Mode::Log => run_log(reader, writer),

@@ -1,0 +1,29 @@
+-- What is written canonically makes the calls of what was read.
+use Rattle.std.proofs.Common.{ℕ, Bool, List, Option, Result, sym, subst}
+use Rattle.anstyle_parse.specs.declared.canon.Fault.{Fault}
+use Rattle.anstyle_parse.specs.Calls.{AreCalls}
+use Rattle.anstyle_parse.specs.Canon.{canon}
+use Rattle.anstyle_parse.proofs.CanonLength.{length-canon}
+use Rattle.anstyle_parse.proofs.CanonReplay.{replay}
+use Rattle.anstyle_parse.proofs.CanonTwice.{canon_twice}
+use Rattle.anstyle_parse.proofs.DivisionOnly.{AreCalls-only}
+use Rattle.anstyle_parse.proofs.LawfulCalls.{lawful}
+use Rattle.parselog.specs.Run.{Runs, Normalises}
+
+pub Normalises-run : (R W T : Type 0) (remaining : R → Option (List ℕ)) (reader_failed : R → Bool) (zero_is_end : Bool) (contents : W → Option (List ℕ)) (writer_failed : W → Bool)
+    (reader reader_after : R) (writer writer_after : W) (answer : Result T Fault)
+    → Runs remaining reader_failed zero_is_end contents writer_failed canon reader reader_after writer writer_after answer
+    → Normalises remaining contents reader reader_after writer writer_after answer
+Normalises-run R W T remaining reader_failed zero_is_end contents writer_failed reader reader_after writer writer_after answer ran =
+    let again : AreCalls (canon ran.calls) ran.calls = replay ran.calls (lawful ran.read ran.calls ran.are_calls) in
+    record {
+      read = ran.read;
+      text = canon ran.calls;
+      consumed = ran.consumed;
+      written = ran.written;
+      same_calls = λ calls. (
+        λ are. subst (λ l. AreCalls (canon ran.calls) l) (AreCalls-only ran.read ran.calls calls ran.are_calls are) again,
+        λ are. subst (λ l. AreCalls ran.read l) (sym (canon_twice ran.read ran.calls calls ran.are_calls are)) ran.are_calls,
+      );
+      bound = length-canon ran.read ran.calls ran.are_calls;
+    }

@@ -1,5 +1,5 @@
 //! One line for each call of the parser.
-ghost use Rattle.std.specs.Prelude.{◌≡◌, ◌++◌, [], ◌∷◌, ℕ, None, map};
+ghost use Rattle.std.specs.Prelude.{◌≡◌, ◌++◌, [], ◌∷◌, ℕ, None, OnOk, map};
 ghost use Rattle.parselog.specs.Lines.{line, hex_digit, hex_list, truth, parts_text, end_text, header_text, newline};
 ghost use Rattle.anstyle_parse.specs.Call.{Call, print, execute, hook, put, unhook, osc_dispatch, csi_dispatch, esc_dispatch};
 ghost use Rattle.anstyle_parse.specs.Output.{Adds, Finishes, writer_in, fault_in};
@@ -41,7 +41,8 @@ impl<W: Sink> LogWriter<W> {
     /// none, the writer is flushed once, and a flush that fails is [`Fault::Flush`].
     /// Nothing is written.
     pub fn finish(self) -> (W, Result<(), Fault>)
-        ensures { Finishes W.contents W.has_failed (output_of self) result.0 result.1 }
+        ensures finishes { Finishes W.contents W.has_failed (output_of self) result.0 result.1 }
+        ensures handed_on { OnOk result.1 (W.holds_nothing result.0) }
     {
         self.output.finish()
     }

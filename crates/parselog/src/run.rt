@@ -1,5 +1,5 @@
 //! From a reader to a writer: the bytes, their calls, the text of the calls.
-ghost use Rattle.std.specs.Prelude.{◌≡◌, ℕ, None, Option};
+ghost use Rattle.std.specs.Prelude.{◌≡◌, ℕ, None, Option, OnOk};
 ghost use Rattle.anstyle_parse.specs.declared.canon.Fault.{Fault as AFault};
 ghost use Rattle.anstyle_parse.specs.Output.{fault_in};
 ghost use Rattle.anstyle_parse.specs.Canon.{canon};
@@ -39,6 +39,9 @@ pub enum Mode {
 pub fn run<R: Source, W: Sink>(mode: Mode, reader: &mut R, writer: W) -> (W, Result<(), Fault>)
     ensures runs { Runs R.remaining R.Source.has_failed R.zero_is_end W.contents W.Sink.has_failed (text_of mode) reader.old reader.new writer result.0 result.1 }
 
+    // With Ok nothing of it is held back.
+    ensures handed_on { OnOk result.1 (W.holds_nothing result.0) }
+
     // What mode canon writes makes the calls of what was read.
     ensures normalises { mode ≡ Mode.Canon → Normalises R.remaining W.contents reader.old reader.new writer result.0 result.1 }
 {
@@ -50,7 +53,8 @@ pub fn run<R: Source, W: Sink>(mode: Mode, reader: &mut R, writer: W) -> (W, Res
 
 /// The same with the lines of the calls.
 fn run_log<R: Source, W: Sink>(reader: &mut R, writer: W) -> (W, Result<(), Fault>)
-    ensures { Runs R.remaining R.Source.has_failed R.zero_is_end W.contents W.Sink.has_failed lines reader.old reader.new writer result.0 result.1 }
+    ensures runs { Runs R.remaining R.Source.has_failed R.zero_is_end W.contents W.Sink.has_failed lines reader.old reader.new writer result.0 result.1 }
+    ensures handed_on { OnOk result.1 (W.holds_nothing result.0) }
 {
     let mut performer = LogWriter::new(writer);
     let end = drive(reader, &mut performer);
@@ -63,7 +67,8 @@ fn run_log<R: Source, W: Sink>(reader: &mut R, writer: W) -> (W, Result<(), Faul
 
 /// The same with the canonical text of the calls.
 fn run_canon<R: Source, W: Sink>(reader: &mut R, writer: W) -> (W, Result<(), Fault>)
-    ensures { Runs R.remaining R.Source.has_failed R.zero_is_end W.contents W.Sink.has_failed canon reader.old reader.new writer result.0 result.1 }
+    ensures runs { Runs R.remaining R.Source.has_failed R.zero_is_end W.contents W.Sink.has_failed canon reader.old reader.new writer result.0 result.1 }
+    ensures handed_on { OnOk result.1 (W.holds_nothing result.0) }
 {
     let mut performer = CanonWriter::new(writer);
     let end = drive(reader, &mut performer);

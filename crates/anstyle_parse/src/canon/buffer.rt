@@ -109,11 +109,13 @@ fn rest_of(bytes: &[u8], count: usize) -> ArrayVec<u8, CAPACITY>
 }
 
 impl<W: Sink> Sink for Buffer<W> {
-    ghost use Rattle.anstyle_parse.specs.Buffer.{buffer_contents, buffer_failed};
+    ghost use Rattle.anstyle_parse.specs.Buffer.{writer_behind, held_back, buffer_contents, buffer_failed};
 
     ghost contents = { buffer_contents W.contents };
 
     ghost has_failed = { buffer_failed W.has_failed };
+
+    ghost holds_nothing = { λ buffer. (held_back buffer ≡ []) × W.holds_nothing (writer_behind buffer) };
 
     #[inline]
     fn write(&mut self, bytes: &[u8]) -> Option<usize> {

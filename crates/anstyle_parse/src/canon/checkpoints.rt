@@ -1,5 +1,5 @@
 //! Parsers written down.
-ghost use Rattle.std.specs.Prelude.{◌≡◌, ◌≤◌, ◌++◌, ◌∷◌, [], ℕ, List, length, map, drop, if◌then◌else◌};
+ghost use Rattle.std.specs.Prelude.{◌≡◌, ◌≤◌, ◌++◌, ◌∷◌, [], ℕ, List, OnOk, length, map, drop, if◌then◌else◌};
 ghost use Rattle.std.specs.List.{flat_map};
 ghost use Rattle.anstyle_parse.specs.Bytes.{semicolon};
 ghost use Rattle.anstyle_parse.specs.Groups.{total, cut};
@@ -39,6 +39,9 @@ pub fn checkpoint<W: Sink>(parser: &Parser, writer: W) -> (W, Result<(), Fault>)
     // A text after which the parser stands is written, or a proper beginning of one.
     ensures written { (text : List ℕ) × IsAfter front_of parser.now text × (length text ≤ 1042)
         × Writes text (W.contents writer) (W.contents result.0) result.1 }
+
+    // With Ok nothing of it is held back.
+    ensures handed_on { OnOk result.1 (W.holds_nothing result.0) }
 
     // Only a writer that fails is a reason for a fault.
     ensures causes { Causes (W.has_failed writer) (W.has_failed result.0) result.1 }

@@ -1,5 +1,5 @@
 //! Where bytes come from, and where they go.
-ghost use Rattle.std.specs.Prelude.{◌≡◌, ◌<◌, ◌≤◌, ℕ, Bool, true, false, List, Option, length, take, IsTrue, IfSome, IfNone, OnSome};
+ghost use Rattle.std.specs.Prelude.{◌≡◌, ◌<◌, ◌≤◌, ℕ, Bool, true, false, List, Option, length, take, IsTrue, IfSome, IfNone, OnSome, ⊤};
 ghost use Rattle.std.specs.Bool.{OnTrue, OnFalse};
 ghost use Rattle.std.specs.Io.KnownBytes.{Keeps, Appends, Consumes, IsAtEnd};
 
@@ -32,13 +32,16 @@ pub trait Source {
 
 /// Takes bytes.
 ///
-/// An implementation tells in `contents` which bytes it holds, where it knows them, and in
-/// `has_failed` whether a write or a flush has failed.
+/// An implementation tells in `contents` which bytes it has taken, where it knows them, in
+/// `has_failed` whether a write or a flush has failed, and, where it holds bytes back, in
+/// `holds_nothing` when it holds none.
 pub trait Sink {
     // The bytes that it has taken, where they are known.
     ghost contents: { Self → Option (List ℕ) };
     // Whether a write or a flush has failed.
     ghost has_failed: { Self → Bool };
+    // None of these bytes is held back.
+    ghost holds_nothing: { Self → Type 0 } = { λ _. ⊤ };
 
     /// Takes bytes from the front of the slice, and answers how many: of some bytes at
     /// least 1. `None` where it failed, and then no byte passed.
@@ -54,6 +57,7 @@ pub trait Sink {
     /// went well. No further byte passes.
     fn flush(&mut self) -> bool
         ensures nothing_passed { Keeps (contents self.old) (contents self.new) }
+        ensures handed_on { OnTrue result (holds_nothing self.new) }
         ensures not_failed { OnTrue result (has_failed self.new ≡ has_failed self.old) }
         ensures failed { OnFalse result (IsTrue (has_failed self.new)) };
 }

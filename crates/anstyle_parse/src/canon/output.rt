@@ -68,7 +68,8 @@ impl<W: Sink> Output<W> {
     /// Hands the writer back, and answers the fault that stopped it. Where there is none,
     /// the writer is flushed once, and a flush that fails is [`Fault::Flush`].
     pub fn finish(self) -> (W, Result<(), Fault>)
-        ensures { Finishes W.contents W.has_failed self result.0 result.1 }
+        ensures finishes { Finishes W.contents W.has_failed self result.0 result.1 }
+        ensures handed_on { OnOk result.1 (W.holds_nothing result.0) }
     {
         let Output { mut writer, fault } = self;
         let answer = match fault {

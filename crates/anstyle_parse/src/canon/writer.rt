@@ -1,5 +1,5 @@
 //! Canonical texts.
-ghost use Rattle.std.specs.Prelude.{◌≡◌, ◌++◌, ◌∷◌, [], None, map, encode_utf8, if◌then◌else◌};
+ghost use Rattle.std.specs.Prelude.{◌≡◌, ◌++◌, ◌∷◌, [], None, OnOk, map, encode_utf8, if◌then◌else◌};
 ghost use Rattle.std.specs.List.{join_with_byte};
 ghost use Rattle.anstyle_parse.specs.Bytes.{escape_byte, semicolon};
 ghost use Rattle.anstyle_parse.specs.Arguments.{after_marker};
@@ -69,7 +69,8 @@ impl<W: Sink> CanonWriter<W> {
     /// the writer is flushed once, and a flush that fails is [`Fault::Flush`]. Nothing is
     /// written.
     pub fn finish(self) -> (W, Result<(), Fault>)
-        ensures { Finishes W.contents W.has_failed (output_of self) result.0 result.1 }
+        ensures finishes { Finishes W.contents W.has_failed (output_of self) result.0 result.1 }
+        ensures handed_on { OnOk result.1 (W.holds_nothing result.0) }
     {
         self.output.finish()
     }

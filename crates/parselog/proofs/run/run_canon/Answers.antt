@@ -10,8 +10,8 @@ use Rattle.parselog.specs.Run.{Runs, Drives}
 use Rattle.parselog.proofs.RunLemmas.{Runs-text, texts-canon, Runs-at_end, Runs-stopped, Runs-failed}
 use Rattle.parselog.proofs.run.run_canon.Goals as goal
 
-pub returns-in-Failed : goal.returns-in-Failed
-returns-in-Failed g c =
+pub returns-in-Failed-clause-runs : goal.returns-in-Failed-clause-runs
+returns-in-Failed-clause-runs g c =
     let R = g.row.R.Denot in
     let W = g.row.W.Denot in
     let remaining = g.R.Source.remaining in
@@ -23,10 +23,10 @@ returns-in-Failed g c =
     Runs-text R W (Unit {0}) remaining failed zero contents writer_failed (texts call_text) canon texts-canon c.args.reader.now c.drive-end.new.reader c.args.writer c.finish-writer.result.0 (Err Read)
     (subst OfWriter c.new-performer.ensures.writer
     (Runs-failed R W (CanonWriter W) (Unit {0}) remaining failed zero contents writer_failed call_text output_of
-    c.args.reader.now c.drive-end.new.reader c.new-performer.result c.drive-end.new.performer c.in-Failed.ensures c.new-performer.ensures.no_fault c.finish-writer.result.0 c.finish-writer.result.1 c.finish-writer.ensures))
+    c.args.reader.now c.drive-end.new.reader c.new-performer.result c.drive-end.new.performer c.in-Failed.ensures c.new-performer.ensures.no_fault c.finish-writer.result.0 c.finish-writer.result.1 c.finish-writer.ensures.finishes))
 
-pub returns-in-AtEnd : goal.returns-in-AtEnd
-returns-in-AtEnd g c =
+pub returns-in-AtEnd-clause-runs : goal.returns-in-AtEnd-clause-runs
+returns-in-AtEnd-clause-runs g c =
     let R = g.row.R.Denot in
     let W = g.row.W.Denot in
     let remaining = g.R.Source.remaining in
@@ -43,7 +43,7 @@ returns-in-AtEnd g c =
     (subst OfWriter c.new-performer.ensures.writer
     (⊎_elim
     (λ end. Runs-at_end R W (CanonWriter W) (Unit {0}) remaining failed zero contents writer_failed call_text output_of
-    c.args.reader.now c.drive-end.new.reader new after (subst OfEnd end c.drive-end.ensures) c.new-performer.ensures.no_fault c.finish-writer.result.0 c.finish-writer.result.1 c.finish-writer.ensures)
+    c.args.reader.now c.drive-end.new.reader new after (subst OfEnd end c.drive-end.ensures) c.new-performer.ensures.no_fault c.finish-writer.result.0 c.finish-writer.result.1 c.finish-writer.ensures.finishes)
     (λ end. Runs-stopped R W (CanonWriter W) (Unit {0}) remaining failed zero contents writer_failed call_text output_of
-    c.args.reader.now c.drive-end.new.reader new after (subst OfEnd end c.drive-end.ensures) c.new-performer.ensures.no_fault c.finish-writer.result.0 c.finish-writer.result.1 c.finish-writer.ensures)
+    c.args.reader.now c.drive-end.new.reader new after (subst OfEnd end c.drive-end.ensures) c.new-performer.ensures.no_fault c.finish-writer.result.0 c.finish-writer.result.1 c.finish-writer.ensures.finishes)
     c.in-AtEnd.is))

@@ -10,8 +10,8 @@ use Rattle.parselog.specs.Run.{Runs, Drives}
 use Rattle.parselog.proofs.RunLemmas.{Runs-at_end, Runs-stopped, Runs-failed}
 use Rattle.parselog.proofs.run.run_log.Goals as goal
 
-pub returns-in-Failed : goal.returns-in-Failed
-returns-in-Failed g c =
+pub returns-in-Failed-clause-runs : goal.returns-in-Failed-clause-runs
+returns-in-Failed-clause-runs g c =
     let R = g.row.R.Denot in
     let W = g.row.W.Denot in
     let remaining = g.R.Source.remaining in
@@ -22,10 +22,10 @@ returns-in-Failed g c =
     let OfWriter : W → Type 0 = λ w. Runs {R = R} {W = W} {T = Unit {0}} remaining failed zero contents writer_failed lines c.args.reader.now c.drive-end.new.reader w c.finish-writer.result.0 (Err Read) in
     (subst OfWriter c.new-performer.ensures.writer
     (Runs-failed R W (LogWriter W) (Unit {0}) remaining failed zero contents writer_failed line output_of
-    c.args.reader.now c.drive-end.new.reader c.new-performer.result c.drive-end.new.performer c.in-Failed.ensures c.new-performer.ensures.no_fault c.finish-writer.result.0 c.finish-writer.result.1 c.finish-writer.ensures))
+    c.args.reader.now c.drive-end.new.reader c.new-performer.result c.drive-end.new.performer c.in-Failed.ensures c.new-performer.ensures.no_fault c.finish-writer.result.0 c.finish-writer.result.1 c.finish-writer.ensures.finishes))
 
-pub returns-in-AtEnd : goal.returns-in-AtEnd
-returns-in-AtEnd g c =
+pub returns-in-AtEnd-clause-runs : goal.returns-in-AtEnd-clause-runs
+returns-in-AtEnd-clause-runs g c =
     let R = g.row.R.Denot in
     let W = g.row.W.Denot in
     let remaining = g.R.Source.remaining in
@@ -41,7 +41,7 @@ returns-in-AtEnd g c =
     (subst OfWriter c.new-performer.ensures.writer
     (⊎_elim
     (λ end. Runs-at_end R W (LogWriter W) (Unit {0}) remaining failed zero contents writer_failed line output_of
-    c.args.reader.now c.drive-end.new.reader new after (subst OfEnd end c.drive-end.ensures) c.new-performer.ensures.no_fault c.finish-writer.result.0 c.finish-writer.result.1 c.finish-writer.ensures)
+    c.args.reader.now c.drive-end.new.reader new after (subst OfEnd end c.drive-end.ensures) c.new-performer.ensures.no_fault c.finish-writer.result.0 c.finish-writer.result.1 c.finish-writer.ensures.finishes)
     (λ end. Runs-stopped R W (LogWriter W) (Unit {0}) remaining failed zero contents writer_failed line output_of
-    c.args.reader.now c.drive-end.new.reader new after (subst OfEnd end c.drive-end.ensures) c.new-performer.ensures.no_fault c.finish-writer.result.0 c.finish-writer.result.1 c.finish-writer.ensures)
+    c.args.reader.now c.drive-end.new.reader new after (subst OfEnd end c.drive-end.ensures) c.new-performer.ensures.no_fault c.finish-writer.result.0 c.finish-writer.result.1 c.finish-writer.ensures.finishes)
     c.in-AtEnd.is))

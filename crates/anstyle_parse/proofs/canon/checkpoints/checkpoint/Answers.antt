@@ -17,7 +17,7 @@ returns-clause-written g c =
       length-checkpoint c.requires.0 m c.requires.1,
       subst (λ w. Writes (checkpoint_text m) (g.W.Sink.contents w) (g.W.Sink.contents c.finish.result.0) c.finish.result.1) c.new-output.ensures.writer
           (Writes-finish {W = g.row.W.Denot} g.W.Sink.contents g.W.Sink.has_failed (checkpoint_text m) c.new-output.result c.write_checkpoint.new.output c.finish.result.0 c.finish.result.1
-          c.new-output.ensures.no_fault c.write_checkpoint.ensures c.finish.ensures),
+          c.new-output.ensures.no_fault c.write_checkpoint.ensures c.finish.ensures.finishes),
     )
 
 pub returns-clause-causes : goal.returns-clause-causes
@@ -25,4 +25,4 @@ returns-clause-causes g c =
     let m = seen front_of (machine_of c.args.parser.now) in
     subst (λ w. Causes (g.W.Sink.has_failed w) (g.W.Sink.has_failed c.finish.result.0) c.finish.result.1) c.new-output.ensures.writer
     (Causes-finish {W = g.row.W.Denot} g.W.Sink.contents g.W.Sink.has_failed (checkpoint_text m) c.new-output.result c.write_checkpoint.new.output c.finish.result.0 c.finish.result.1
-    c.new-output.ensures.no_fault c.write_checkpoint.ensures c.finish.ensures)
+    c.new-output.ensures.no_fault c.write_checkpoint.ensures c.finish.ensures.finishes)

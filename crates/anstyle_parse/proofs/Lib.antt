@@ -51,7 +51,7 @@ pub mod LawfulCalls
 pub mod CanonTwice
 pub mod CanonBytes
 pub mod OutputLemmas
-pub mod PieceLemmas
+pub mod JoinLemmas
 pub mod CanonWriterLemmas
 pub mod Forgotten
 pub mod Headline
@@ -61,5 +61,5 @@ pub mod CheckpointHeader
 pub mod CheckpointText
 pub mod Checkpoint
 pub mod Limits
-pub mod CheckpointPieces
+pub mod CheckpointTexts
 pub mod EqualParsers

@@ -1,5 +1,7 @@
 -- Texts handed to an output one after another are one text.
-use Rattle.std.proofs.Common.{◌≡◌, ℕ, Bool, List, [], ◌∷◌, ◌++◌, Option, None, Some, Result, Ok, Err, inl, inr, refl, sym, ap, ◌∙◌, subst, append_assoc}
+use Rattle.std.proofs.Common.{◌≡◌, ℕ, ◌+◌, ◌/◌, ◌%◌, ◌^◌, ◌<◌, ◌≤◌, Bool, List, [], ◌∷◌, ◌++◌, Option, None, Some, Result, Ok, Err, inl, inr, refl, sym, ap, ◌∙◌, subst, append_assoc, arith}
+use Rattle.std.specs.Prelude.{decimal}
+use Rattle.std.proofs.lemmas.Fmt.{decimal_step, decimal_digit}
 use Rattle.std.proofs.KnownBytes.{Appends-nil, Appends-trans, Appends-kept}
 use Rattle.std.specs.Io.KnownBytes.{Keeps, Appends}
 use Rattle.anstyle_parse.specs.declared.canon.Fault.{Fault}
@@ -65,6 +67,23 @@ module _ {W : Type 0} (contents : W → Option (List ℕ)) (has_failed : W → B
   -- a text and then a further one are both, joined
   pub Adds-append : (t u : List ℕ) (a b c : Output W) → Adds contents has_failed t a b → Adds contents has_failed u b c → Adds contents has_failed (t ++ u) a c
   Adds-append t u a b c first second = Adds-append_at (fault_in a) t u a b c refl first second
+
+  -- three texts, one after another
+  pub Adds-append3 : (t u v : List ℕ) (a b c d : Output W) → Adds contents has_failed t a b → Adds contents has_failed u b c → Adds contents has_failed v c d
+      → Adds contents has_failed ((t ++ u) ++ v) a d
+  Adds-append3 t u v a b c d first second third = Adds-append (t ++ u) v a c d (Adds-append t u a b c first second) third
+
+  -- a number of one digit
+  pub Adds-decimal_digit : (n : ℕ) (a b : Output W) → n < 10 → Adds contents has_failed ((48 + n % 10) ∷ []) a b → Adds contents has_failed (decimal n) a b
+  Adds-decimal_digit n a b small first =
+      let same : n % 10 ≡ n = omega arith in
+      subst (λ t. Adds contents has_failed t a b) (ap (λ k. (48 + k) ∷ []) same ∙ sym (decimal_digit n small)) first
+
+  -- the digits before the last, and then the last
+  pub Adds-decimal_step : (n : ℕ) (a b c : Output W) → 10 ≤ n → n < 2 ^ 64 → Adds contents has_failed (decimal (n / 10)) a b
+      → Adds contents has_failed ((48 + n % 10) ∷ []) b c → Adds contents has_failed (decimal n) a c
+  Adds-decimal_step n a b c large fits first last =
+      subst (λ t. Adds contents has_failed t a c) (sym (decimal_step n large fits)) (Adds-append (decimal (n / 10)) ((48 + n % 10) ∷ []) a b c first last)
 
   -- What a list of calls adds: a performer, seen as its output, that adds the text of each
   -- call adds the texts of all, joined.

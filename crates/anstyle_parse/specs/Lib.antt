@@ -22,6 +22,5 @@ pub mod Checkpoint
 pub mod Lawful
 pub mod Devices
 pub mod Output
-pub mod Piece
 pub mod Buffer
 pub mod CanonWriter

@@ -4,7 +4,6 @@ mod buffer;
 mod checkpoints;
 mod devices;
 mod output;
-mod piece;
 mod writer;
 
 pub use buffer::Buffer;
@@ -15,7 +14,6 @@ mod tests;
 pub use checkpoints::checkpoint;
 pub use devices::{FromRead, FromWrite, Sink, Source};
 pub use output::Output;
-pub use piece::Piece;
 pub use writer::CanonWriter;
 
 /// What went wrong with a reader or a writer.

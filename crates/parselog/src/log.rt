@@ -3,15 +3,15 @@ ghost use Rattle.std.specs.Prelude.{◌≡◌, ◌++◌, [], ◌∷◌, ℕ, Non
 ghost use Rattle.parselog.specs.Lines.{line, hex_digit, hex_list, truth, parts_text, end_text, header_text, newline};
 ghost use Rattle.anstyle_parse.specs.Call.{Call, print, execute, hook, put, unhook, osc_dispatch, csi_dispatch, esc_dispatch};
 ghost use Rattle.anstyle_parse.specs.Output.{Adds, Finishes, writer_in, fault_in};
-ghost use Rattle.anstyle_parse.specs.Piece.{held_in, HandsOn};
 
-use anstyle_parse::canon::{Fault, Output, Piece, Sink};
+use anstyle_parse::canon::{Fault, Output, Sink};
 use anstyle_parse::{Params, Perform};
 
 /// Writes a line for each call.
 ///
-/// Nothing is collected and no memory is taken: what a call says goes to the writer in
-/// pieces. A write that fails stops the log: nothing more is written, and the fault is kept.
+/// Nothing is collected and no memory is taken: what a call says goes straight to the writer,
+/// in several writes, which a [`Buffer`](anstyle_parse::canon::Buffer) before it makes few. A
+/// write that fails stops the log: nothing more is written, and the fault is kept.
 #[derive(Drop)]
 pub struct LogWriter<W> {
     output: Output<W>,
@@ -123,12 +123,10 @@ impl<W: Sink> Perform for LogWriter<W> {
     }
 
     fn osc_dispatch(&mut self, params: &[&[u8]], bell_terminated: bool) {
-        let mut piece = Piece::new();
-        piece.push(&mut self.output, b"osc_dispatch ");
-        piece.push(&mut self.output, truth_text(bell_terminated));
-        push_parts(&mut piece, &mut self.output, params);
-        piece.push(&mut self.output, b"\n");
-        piece.finish(&mut self.output);
+        self.output.put(b"osc_dispatch ");
+        self.output.put(truth_text(bell_terminated));
+        put_parts(&mut self.output, params);
+        self.output.put_byte(b'\n');
     }
 
     fn csi_dispatch(&mut self, params: &Params, intermediates: &[u8], ignore: bool, action: u8) {
@@ -136,10 +134,8 @@ impl<W: Sink> Perform for LogWriter<W> {
     }
 
     fn esc_dispatch(&mut self, intermediates: &[u8], ignore: bool, byte: u8) {
-        let mut piece = Piece::new();
-        piece.push(&mut self.output, b"esc_dispatch ");
-        push_end(&mut piece, &mut self.output, intermediates, ignore, byte);
-        piece.finish(&mut self.output);
+        self.output.put(b"esc_dispatch ");
+        put_end(&mut self.output, intermediates, ignore, byte);
     }
 }
 
@@ -158,13 +154,11 @@ impl<W: Sink> LogWriter<W> {
     )
         ensures { Adds W.contents W.has_failed ((name.now ++ header_text (groups_shown params.now) intermediates.now ignore action) ++ newline ∷ []) (output_of self.old) (output_of self.new) }
     {
-        let mut piece = Piece::new();
-        piece.push(&mut self.output, name);
-        piece.push(&mut self.output, b"[");
-        piece.push_groups(&mut self.output, params);
-        piece.push(&mut self.output, b"] ");
-        push_end(&mut piece, &mut self.output, intermediates, ignore, action);
-        piece.finish(&mut self.output);
+        self.output.put(name);
+        self.output.put_byte(b'[');
+        self.output.put_groups(params);
+        self.output.put(b"] ");
+        put_end(&mut self.output, intermediates, ignore, action);
     }
 }
 
@@ -176,43 +170,37 @@ fn truth_text(value: bool) -> &'static [u8]
 }
 
 /// Bytes in hexadecimal, with nothing between them, and `-` where there are none.
-fn push_hex<W: Sink>(piece: &mut Piece, output: &mut Output<W>, bytes: &[u8])
-    ensures { HandsOn W.contents W.has_failed (hex_list bytes.now) (held_in piece.old) (held_in piece.new) output.old output.new }
+fn put_hex<W: Sink>(output: &mut Output<W>, bytes: &[u8])
+    ensures { Adds W.contents W.has_failed (hex_list bytes.now) output.old output.new }
 {
     if bytes.is_empty() {
-        piece.push(output, b"-");
+        output.put_byte(b'-');
         return;
     }
     for byte in bytes {
         let n = u32::from(*byte);
-        piece.push(output, &[digit(n / 16), digit(n)]);
+        output.put(&[digit(n / 16), digit(n)]);
     }
 }
 
 /// The parts of an operating system command, each with a space before it.
-fn push_parts<W: Sink>(piece: &mut Piece, output: &mut Output<W>, parts: &[&[u8]])
-    ensures { HandsOn W.contents W.has_failed (parts_text (map (λ part. part.now) parts.now)) (held_in piece.old) (held_in piece.new) output.old output.new }
+fn put_parts<W: Sink>(output: &mut Output<W>, parts: &[&[u8]])
+    ensures { Adds W.contents W.has_failed (parts_text (map (λ part. part.now) parts.now)) output.old output.new }
 {
     for part in parts {
-        piece.push(output, b" ");
-        push_hex(piece, output, part);
+        output.put_byte(b' ');
+        put_hex(output, part);
     }
 }
 
 /// The end of a line with intermediates: these, whether more came than are shown, and the
 /// final byte.
-fn push_end<W: Sink>(
-    piece: &mut Piece,
-    output: &mut Output<W>,
-    intermediates: &[u8],
-    ignore: bool,
-    byte: u8,
-)
-    ensures { HandsOn W.contents W.has_failed (end_text intermediates.now ignore byte ++ newline ∷ []) (held_in piece.old) (held_in piece.new) output.old output.new }
+fn put_end<W: Sink>(output: &mut Output<W>, intermediates: &[u8], ignore: bool, byte: u8)
+    ensures { Adds W.contents W.has_failed (end_text intermediates.now ignore byte ++ newline ∷ []) output.old output.new }
 {
     let n = u32::from(byte);
-    push_hex(piece, output, intermediates);
-    piece.push(output, b" ");
-    piece.push(output, truth_text(ignore));
-    piece.push(output, &[b' ', digit(n / 16), digit(n), b'\n']);
+    put_hex(output, intermediates);
+    output.put_byte(b' ');
+    output.put(truth_text(ignore));
+    output.put(&[b' ', digit(n / 16), digit(n), b'\n']);
 }

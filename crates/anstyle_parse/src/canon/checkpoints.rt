@@ -10,11 +10,10 @@ ghost use Rattle.anstyle_parse.specs.Front.{bytes_of};
 ghost use Rattle.anstyle_parse.specs.Output.{Adds, Writes, Causes};
 ghost use Rattle.anstyle_parse.specs.Params.{closed_groups_of, open_group_of};
 ghost use Rattle.anstyle_parse.specs.Parser.{machine_of, IsAfter};
-ghost use Rattle.anstyle_parse.specs.Piece.{held_in, HandsOn};
 ghost use Rattle.anstyle_parse.specs.Stands.{seen};
 
 use super::writer::{split_marker, text_if};
-use super::{Fault, Output, Piece, Sink};
+use super::{Fault, Output, Sink};
 use crate::params::Params;
 use crate::parser::Parser;
 use crate::state::State;
@@ -47,84 +46,73 @@ pub fn checkpoint<W: Sink>(parser: &Parser, writer: W) -> (W, Result<(), Fault>)
     ensures causes { Causes (W.has_failed writer) (W.has_failed result.0) result.1 }
 {
     let mut output = Output::new(writer);
-    write_checkpoint(parser, &mut output);
+    put_checkpoint(&mut output, parser);
     output.finish()
 }
 
-/// Writes the checkpoint's text.
-fn write_checkpoint<W: Sink>(parser: &Parser, output: &mut Output<W>)
+/// Writes the checkpoint's text: by the state, what counts of the parser.
+fn put_checkpoint<W: Sink>(output: &mut Output<W>, parser: &Parser)
     ensures { Adds W.contents W.has_failed (checkpoint_text (seen front_of (machine_of parser.now))) output.old output.new }
-{
-    let mut piece = Piece::new();
-    push_checkpoint(&mut piece, output, parser);
-    piece.finish(output);
-}
-
-/// Adds the checkpoint's text: by the state, what counts of the parser.
-fn push_checkpoint<W: Sink>(piece: &mut Piece, output: &mut Output<W>, parser: &Parser)
-    ensures { HandsOn W.contents W.has_failed (checkpoint_text (seen front_of (machine_of parser.now)))
-        (held_in piece.old) (held_in piece.new) output.old output.new }
 {
     match parser.state() {
         State::Ground | State::Anywhere => {}
-        State::Utf8 => push_front(piece, output, parser.accumulator().front()),
-        State::Escape => piece.push(output, b"\x1B"),
+        State::Utf8 => put_front(output, parser.accumulator().front()),
+        State::Escape => output.put(b"\x1B"),
         State::EscapeIntermediate => {
-            piece.push(output, b"\x1B");
-            piece.push(output, parser.collected());
-            piece.push(output, text_if(parser.is_ignoring(), b" "));
+            output.put(b"\x1B");
+            output.put(parser.collected());
+            output.put(text_if(parser.is_ignoring(), b" "));
         }
-        State::CsiEntry => piece.push(output, b"\x1B["),
+        State::CsiEntry => output.put(b"\x1B["),
         State::CsiParam | State::CsiIntermediate => {
-            piece.push(output, b"\x1B[");
-            push_header(piece, output, parser);
+            output.put(b"\x1B[");
+            put_header(output, parser);
         }
-        State::CsiIgnore => piece.push(output, b"\x1B[0<"),
-        State::DcsEntry => piece.push(output, b"\x1BP"),
+        State::CsiIgnore => output.put(b"\x1B[0<"),
+        State::DcsEntry => output.put(b"\x1BP"),
         State::DcsParam | State::DcsIntermediate => {
-            piece.push(output, b"\x1BP");
-            push_header(piece, output, parser);
+            output.put(b"\x1BP");
+            put_header(output, parser);
         }
-        State::DcsIgnore => piece.push(output, b"\x1BP0<"),
-        State::DcsPassthrough => piece.push(output, b"\x1BP@"),
+        State::DcsIgnore => output.put(b"\x1BP0<"),
+        State::DcsPassthrough => output.put(b"\x1BP@"),
         State::OscString => {
-            piece.push(output, b"\x1B]");
+            output.put(b"\x1B]");
             let (text, lengths) = parser.command();
-            push_command(piece, output, text, lengths);
+            put_command(output, text, lengths);
         }
-        State::SosPmApcString => piece.push(output, b"\x1BX"),
+        State::SosPmApcString => output.put(b"\x1BX"),
     }
 }
 
-/// Adds the bytes of a character that is begun.
-fn push_front<W: Sink>(piece: &mut Piece, output: &mut Output<W>, front: Front)
-    ensures { HandsOn W.contents W.has_failed (bytes_of front) (held_in piece.old) (held_in piece.new) output.old output.new }
+/// Writes the bytes of a character that is begun.
+fn put_front<W: Sink>(output: &mut Output<W>, front: Front)
+    ensures { Adds W.contents W.has_failed (bytes_of front) output.old output.new }
 {
     match front {
         Front::Empty => {}
-        Front::One(a) => piece.push(output, &[a]),
-        Front::Two(a, b) => piece.push(output, &[a, b]),
-        Front::Three(a, b, c) => piece.push(output, &[a, b, c]),
+        Front::One(a) => output.put(&[a]),
+        Front::Two(a, b) => output.put(&[a, b]),
+        Front::Three(a, b, c) => output.put(&[a, b, c]),
     }
 }
 
-/// Adds a header: the marker, the fields, the number and the other intermediates.
-fn push_header<W: Sink>(piece: &mut Piece, output: &mut Output<W>, parser: &Parser)
-    ensures { HandsOn W.contents W.has_failed (header_so_far (machine_of parser.now))
-        (held_in piece.old) (held_in piece.new) output.old output.new }
+/// Writes a header: the marker, the fields, the number and the other intermediates.
+fn put_header<W: Sink>(output: &mut Output<W>, parser: &Parser)
+    ensures { Adds W.contents W.has_failed (header_so_far (machine_of parser.now)) output.old output.new }
 {
     let (marker, others) = split_marker(parser.collected());
     let params = parser.params();
-    piece.push(output, marker);
-    piece.push_groups(output, params);
-    piece.push(output, separator_behind(params));
+    output.put(marker);
+    output.put_groups(params);
+    output.put(separator_behind(params));
     if params.is_full() {
-        piece.push(output, text_if(parser.is_ignoring(), b";"));
-        piece.push(output, others);
+        output.put(text_if(parser.is_ignoring(), b";"));
+        output.put(others);
     } else {
-        piece.push_decimal(output, parser.number());
-        piece.push(output, others);
-        piece.push(output, text_if(parser.is_ignoring(), b" "));
+        output.put_decimal(parser.number());
+        output.put(others);
+        output.put(text_if(parser.is_ignoring(), b" "));
     }
 }
 
@@ -141,18 +129,17 @@ fn separator_behind(params: &Params) -> &'static [u8]
     }
 }
 
-/// Adds the text of an operating system command, with `;` behind each closed part.
-fn push_command<W: Sink>(piece: &mut Piece, output: &mut Output<W>, text: &[u8], lengths: &[usize])
+/// Writes the text of an operating system command, with `;` behind each closed part.
+fn put_command<W: Sink>(output: &mut Output<W>, text: &[u8], lengths: &[usize])
     requires { total lengths.now ≤ length text.now }
-    ensures { HandsOn W.contents W.has_failed (command_text (cut lengths.now text.now) (drop (total lengths.now) text.now))
-        (held_in piece.old) (held_in piece.new) output.old output.new }
+    ensures { Adds W.contents W.has_failed (command_text (cut lengths.now text.now) (drop (total lengths.now) text.now)) output.old output.new }
 {
     let mut rest = text;
     for length in lengths {
         let (part, behind) = rest.split_at(*length);
-        piece.push(output, part);
-        piece.push(output, b";");
+        output.put(part);
+        output.put(b";");
         rest = behind;
     }
-    piece.push(output, rest);
+    output.put(rest);
 }

@@ -1,8 +1,11 @@
 //! The writing that performers share.
-ghost use Rattle.std.specs.Prelude.{◌≡◌, ◌∷◌, [], ℕ, List, None, Some, Ok, Err, IsNone, OnSome, OnOk, OnErr, IsTrue};
+ghost use Rattle.std.specs.Prelude.{◌≡◌, ◌∷◌, [], ℕ, List, decimal, if◌then◌else◌, None, Some, Ok, Err, IsNone, OnSome, OnOk, OnErr, IsTrue};
 ghost use Rattle.std.specs.Io.KnownBytes.{Keeps};
+ghost use Rattle.anstyle_parse.specs.Groups.{fields_text, groups_text};
+ghost use Rattle.anstyle_parse.specs.Output.{Adds};
 
 use super::{Fault, Sink};
+use crate::params::Params;
 
 /// A writer, and the fault that stopped it.
 ///
@@ -15,7 +18,7 @@ pub struct Output<W> {
 }
 
 impl<W: Sink> Output<W> {
-    ghost use Rattle.anstyle_parse.specs.Output.{writer_in, fault_in, Adds, Finishes};
+    ghost use Rattle.anstyle_parse.specs.Output.{writer_in, fault_in, Finishes};
 
     /// An output with no fault, which has written nothing.
     pub fn new(writer: W) -> Output<W>
@@ -83,5 +86,54 @@ impl<W: Sink> Output<W> {
             }
         };
         (writer, answer)
+    }
+}
+
+/// Numbers and the parameters of a sequence.
+impl<W: Sink> Output<W> {
+    ghost use Rattle.anstyle_parse.specs.Params.{groups_shown};
+
+    /// Writes a number in decimal, without leading zeros.
+    pub fn put_decimal(&mut self, number: u16)
+        ensures { Adds W.contents W.has_failed (decimal number) self.old self.new }
+    {
+        if number >= 10 {
+            self.put_decimal(number / 10);
+        }
+        self.put_byte(b'0' + (number % 10) as u8);
+    }
+
+    /// Writes the byte that stands before each but the first.
+    pub(crate) fn put_separator(&mut self, is_first: bool, separator: u8)
+        ensures { Adds W.contents W.has_failed (if is_first then [] else separator ∷ []) self.old self.new }
+    {
+        if !is_first {
+            self.put_byte(separator);
+        }
+    }
+
+    /// Writes fields in decimal, with `:` between them.
+    fn put_fields(&mut self, fields: &[u16])
+        ensures { Adds W.contents W.has_failed (fields_text fields.now) self.old self.new }
+    {
+        let mut is_first = true;
+        for field in fields {
+            self.put_separator(is_first, b':');
+            is_first = false;
+            self.put_decimal(*field);
+        }
+    }
+
+    /// Writes the groups of a sequence's parameters: the fields in decimal, with `:` between
+    /// the fields of a group and `;` between groups.
+    pub fn put_groups(&mut self, params: &Params)
+        ensures { Adds W.contents W.has_failed (groups_text (groups_shown params.now)) self.old self.new }
+    {
+        let mut is_first = true;
+        for group in params.iter() {
+            self.put_separator(is_first, b';');
+            is_first = false;
+            self.put_fields(group);
+        }
     }
 }

@@ -5,9 +5,8 @@ ghost use Rattle.anstyle_parse.specs.Bytes.{escape_byte, semicolon};
 ghost use Rattle.anstyle_parse.specs.Arguments.{after_marker};
 ghost use Rattle.anstyle_parse.specs.Canon.{is_full, call_text, header_text, leading_marker, one_more_field, one_more_intermediate, command_end};
 ghost use Rattle.anstyle_parse.specs.Output.{writer_in, fault_in, Adds, Finishes};
-ghost use Rattle.anstyle_parse.specs.Piece.{held_in, HandsOn};
 
-use super::{Fault, Output, Piece, Sink};
+use super::{Fault, Output, Sink};
 use crate::params::Params;
 use crate::perform::Perform;
 
@@ -38,8 +37,9 @@ const MAX_SHOWN: usize = 2;
 /// makes no call: its ESC ends the command, `X` begins a string that is ignored, and 9C ends
 /// that.
 ///
-/// Nothing is collected and no memory is taken. A write that fails stops the writer: nothing
-/// more is written, and the fault is kept.
+/// Nothing is collected and no memory is taken: the parts of a call's text go straight to the
+/// writer, in several writes, which a [`Buffer`](crate::canon::Buffer) before it makes few. A
+/// write that fails stops the writer: nothing more is written, and the fault is kept.
 #[derive(Drop)]
 pub struct CanonWriter<W> {
     output: Output<W>,
@@ -110,11 +110,9 @@ impl<W: Sink> Perform for CanonWriter<W> {
     }
 
     fn osc_dispatch(&mut self, params: &[&[u8]], bell_terminated: bool) {
-        let mut piece = Piece::new();
-        piece.push(&mut self.output, &[ESCAPE, b']']);
-        push_parts(&mut piece, &mut self.output, params);
-        piece.push(&mut self.output, end_of_command(bell_terminated));
-        piece.finish(&mut self.output);
+        self.output.put(&[ESCAPE, b']']);
+        put_parts(&mut self.output, params);
+        self.output.put(end_of_command(bell_terminated));
     }
 
     fn csi_dispatch(&mut self, params: &Params, intermediates: &[u8], ignore: bool, action: u8) {
@@ -122,12 +120,10 @@ impl<W: Sink> Perform for CanonWriter<W> {
     }
 
     fn esc_dispatch(&mut self, intermediates: &[u8], ignore: bool, byte: u8) {
-        let mut piece = Piece::new();
-        piece.push(&mut self.output, &[ESCAPE]);
-        piece.push(&mut self.output, intermediates);
-        piece.push(&mut self.output, text_if(ignore, b" "));
-        piece.push(&mut self.output, &[byte]);
-        piece.finish(&mut self.output);
+        self.output.put_byte(ESCAPE);
+        self.output.put(intermediates);
+        self.output.put(text_if(ignore, b" "));
+        self.output.put_byte(byte);
     }
 }
 
@@ -157,15 +153,13 @@ impl<W: Sink> CanonWriter<W> {
             (output_of self.old) (output_of self.new) }
     {
         let (marker, others) = split_marker(intermediates);
-        let mut piece = Piece::new();
-        piece.push(&mut self.output, &[ESCAPE, introducer]);
-        piece.push(&mut self.output, marker);
-        piece.push_groups(&mut self.output, params);
-        piece.push(&mut self.output, more_fields(intermediates, ignore));
-        piece.push(&mut self.output, others);
-        piece.push(&mut self.output, more_intermediates(intermediates, ignore));
-        piece.push(&mut self.output, &[action]);
-        piece.finish(&mut self.output);
+        self.output.put(&[ESCAPE, introducer]);
+        self.output.put(marker);
+        self.output.put_groups(params);
+        self.output.put(more_fields(intermediates, ignore));
+        self.output.put(others);
+        self.output.put(more_intermediates(intermediates, ignore));
+        self.output.put_byte(action);
     }
 }
 
@@ -229,15 +223,14 @@ fn end_of_command(bell_terminated: bool) -> &'static [u8]
     }
 }
 
-/// Adds the parts of an operating system command, with `;` between them.
-fn push_parts<W: Sink>(piece: &mut Piece, output: &mut Output<W>, parts: &[&[u8]])
-    ensures { HandsOn W.contents W.has_failed (join_with_byte semicolon (map (λ part. part.now) parts.now))
-        (held_in piece.old) (held_in piece.new) output.old output.new }
+/// Writes the parts of an operating system command, with `;` between them.
+fn put_parts<W: Sink>(output: &mut Output<W>, parts: &[&[u8]])
+    ensures { Adds W.contents W.has_failed (join_with_byte semicolon (map (λ part. part.now) parts.now)) output.old output.new }
 {
     let mut is_first = true;
     for part in parts {
-        piece.push_separator(output, is_first, b';');
+        output.put_separator(is_first, b';');
         is_first = false;
-        piece.push(output, part);
+        output.put(part);
     }
 }

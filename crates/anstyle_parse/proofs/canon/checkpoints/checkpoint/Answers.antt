@@ -16,13 +16,13 @@ returns-clause-written g c =
       checkpoint_stands c.requires.0 m c.requires.1,
       length-checkpoint c.requires.0 m c.requires.1,
       subst (λ w. Writes (checkpoint_text m) (g.W.Sink.contents w) (g.W.Sink.contents c.finish.result.0) c.finish.result.1) c.new-output.ensures.writer
-          (Writes-finish {W = g.row.W.Denot} g.W.Sink.contents g.W.Sink.has_failed (checkpoint_text m) c.new-output.result c.write_checkpoint.new.output c.finish.result.0 c.finish.result.1
-          c.new-output.ensures.no_fault c.write_checkpoint.ensures c.finish.ensures.finishes),
+          (Writes-finish {W = g.row.W.Denot} g.W.Sink.contents g.W.Sink.has_failed (checkpoint_text m) c.new-output.result c.put_checkpoint.new.output c.finish.result.0 c.finish.result.1
+          c.new-output.ensures.no_fault c.put_checkpoint.ensures c.finish.ensures.finishes),
     )
 
 pub returns-clause-causes : goal.returns-clause-causes
 returns-clause-causes g c =
     let m = seen front_of (machine_of c.args.parser.now) in
     subst (λ w. Causes (g.W.Sink.has_failed w) (g.W.Sink.has_failed c.finish.result.0) c.finish.result.1) c.new-output.ensures.writer
-    (Causes-finish {W = g.row.W.Denot} g.W.Sink.contents g.W.Sink.has_failed (checkpoint_text m) c.new-output.result c.write_checkpoint.new.output c.finish.result.0 c.finish.result.1
-    c.new-output.ensures.no_fault c.write_checkpoint.ensures c.finish.ensures.finishes)
+    (Causes-finish {W = g.row.W.Denot} g.W.Sink.contents g.W.Sink.has_failed (checkpoint_text m) c.new-output.result c.put_checkpoint.new.output c.finish.result.0 c.finish.result.1
+    c.new-output.ensures.no_fault c.put_checkpoint.ensures c.finish.ensures.finishes)

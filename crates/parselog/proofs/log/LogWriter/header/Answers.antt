@@ -2,7 +2,7 @@ use Rattle.std.proofs.Common.{List, ℕ, [], ◌∷◌, sym, subst}
 use Rattle.anstyle_parse.specs.Groups.{groups_text}
 use Rattle.anstyle_parse.specs.Params.{groups_shown}
 use Rattle.anstyle_parse.specs.Output.{Adds}
-use Rattle.anstyle_parse.proofs.PieceLemmas.{HandsOn-append, HandsOn-new}
+use Rattle.anstyle_parse.proofs.OutputLemmas.{Adds-append}
 use Rattle.parselog.specs.Lines.{end_text, newline}
 use Rattle.parselog.specs.Log.{output_of}
 use Rattle.parselog.proofs.LineLemmas.{line_end}
@@ -10,10 +10,13 @@ use Rattle.parselog.proofs.log.LogWriter.header.Goals as goal
 
 pub returns : goal.returns
 returns g c =
-    let Q : List ℕ → Type 0 = λ t. Adds {W = g.row.W.Denot} g.W.Sink.contents g.W.Sink.has_failed t (output_of c.args.self.now) c.finish.new.output in
-    let append = HandsOn-append {W = g.row.W.Denot} g.W.Sink.contents g.W.Sink.has_failed in
+    let old = output_of c.args.self.now in
+    let last = c.put_end.new.output in
+    let Q : List ℕ → Type 0 = λ t. Adds g.W.Sink.contents g.W.Sink.has_failed t old last in
+    let append = Adds-append g.W.Sink.contents g.W.Sink.has_failed in
     subst Q
     (sym (line_end c.args.name.now 91 (groups_text (groups_shown c.args.params.now)) (93 ∷ 32 ∷ end_text c.args.intermediates.now c.args.ignore c.args.action) (newline ∷ [])))
-    (HandsOn-new {W = g.row.W.Denot} g.W.Sink.contents g.W.Sink.has_failed _ _ _ _ _ _ c.new-piece.ensures
-    (append _ _ _ _ _ _ _ _ c.push.ensures (append _ _ _ _ _ _ _ _ c.push-2.ensures (append _ _ _ _ _ _ _ _ c.push_groups.ensures (append _ _ _ _ _ _ _ _ c.push-3.ensures c.push_end.ensures))))
-    c.finish.ensures)
+    (append _ _ old c.put.new.self last c.put.ensures
+    (append _ _ c.put.new.self c.put_byte.new.self last c.put_byte.ensures
+    (append _ _ c.put_byte.new.self c.put_groups.new.self last c.put_groups.ensures
+    (append _ _ c.put_groups.new.self c.put-2.new.self last c.put-2.ensures c.put_end.ensures))))

@@ -1,10 +1,10 @@
--- The parts of the header are pushed one after another.
+-- The parts of the header are written one after another.
 use Rattle.std.proofs.Common.{List, ℕ, [], ◌∷◌, subst}
 use Rattle.anstyle_parse.specs.Bytes.{escape_byte}
 use Rattle.anstyle_parse.specs.CanonWriter.{output_of}
 use Rattle.anstyle_parse.specs.Output.{Adds}
 use Rattle.anstyle_parse.specs.Params.{groups_shown}
-use Rattle.anstyle_parse.proofs.PieceLemmas.{HandsOn-append, HandsOn-all}
+use Rattle.anstyle_parse.proofs.OutputLemmas.{Adds-append3}
 use Rattle.anstyle_parse.proofs.CanonWriterLemmas.{header_text-parts}
 use Rattle.anstyle_parse.proofs.canon.writer.CanonWriter.header.Goals as goal
 
@@ -12,12 +12,12 @@ pub returns : goal.returns
 returns g c =
     let contents = g.W.Sink.contents in
     let has_failed = g.W.Sink.has_failed in
-    let begun = HandsOn-append {W = g.row.W.Denot} contents has_failed _ _ _ _ _ _ _ _ c.push.ensures c.push-2.ensures in
-    let fields = HandsOn-append {W = g.row.W.Denot} contents has_failed _ _ _ _ _ _ _ _ (HandsOn-append {W = g.row.W.Denot} contents has_failed _ _ _ _ _ _ _ _ begun c.push_groups.ensures) c.push-3.ensures in
-    let others = HandsOn-append {W = g.row.W.Denot} contents has_failed _ _ _ _ _ _ _ _ (HandsOn-append {W = g.row.W.Denot} contents has_failed _ _ _ _ _ _ _ _ fields c.push-4.ensures) c.push-5.ensures in
-    let all = HandsOn-append {W = g.row.W.Denot} contents has_failed _ _ _ _ _ _ _ _ others c.push-6.ensures in
-    let Q : List ℕ → Type 0 = λ t. Adds {W = g.row.W.Denot} contents has_failed t (output_of c.args.self.now) c.finish.new.output in
+    let old = output_of c.args.self.now in
+    let begun = Adds-append3 contents has_failed _ _ _ old c.put.new.self c.put-2.new.self c.put_groups.new.self c.put.ensures c.put-2.ensures c.put_groups.ensures in
+    let others = Adds-append3 contents has_failed _ _ _ old c.put_groups.new.self c.put-3.new.self c.put-4.new.self begun c.put-3.ensures c.put-4.ensures in
+    let all = Adds-append3 contents has_failed _ _ _ old c.put-4.new.self c.put-5.new.self c.put_byte.new.self others c.put-5.ensures c.put_byte.ensures in
+    let Q : List ℕ → Type 0 = λ t. Adds contents has_failed t old c.put_byte.new.self in
     subst Q
     (header_text-parts (groups_shown c.args.params.now) c.args.intermediates.now c.args.ignore (escape_byte ∷ c.args.introducer ∷ []) _ _ _ _ (c.args.action ∷ [])
     c.split_marker.ensures.marker c.more_fields.ensures c.split_marker.ensures.others c.more_intermediates.ensures)
-    (HandsOn-all {W = g.row.W.Denot} contents has_failed _ _ _ _ _ _ c.new-piece.ensures all c.finish.ensures)
+    all

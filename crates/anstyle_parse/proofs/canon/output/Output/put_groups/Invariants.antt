@@ -1,0 +1,15 @@
+-- The text so far, and that of the groups that are left, are the whole text.
+use Rattle.std.proofs.Common.{◌≡◌, ◌++◌, List, ℕ, map}
+use Rattle.anstyle_parse.specs.Bytes.{semicolon}
+use Rattle.anstyle_parse.specs.Groups.{fields_text, groups_text}
+use Rattle.anstyle_parse.specs.Params.{groups_shown, groups_left}
+use Rattle.anstyle_parse.specs.Output.{Adds}
+use Rattle.anstyle_parse.proofs.JoinLemmas.{joined_rest}
+use Rattle.anstyle_parse.proofs.canon.output.Output.put_groups.Given as goal
+
+abbrev pub invariant-loop-group : goal.invariant-loop-group
+invariant-loop-group g l = record {
+  done : List ℕ;
+  whole : done ++ joined_rest l.is_first semicolon (map fields_text (groups_left l.group-iterator)) ≡ groups_text (groups_shown l.params);
+  added : Adds g.W.Sink.contents g.W.Sink.has_failed done l.initial.self l.self;
+}

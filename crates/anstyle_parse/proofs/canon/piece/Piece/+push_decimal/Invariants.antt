@@ -1,4 +1,0 @@
-use Rattle.anstyle_parse.proofs.canon.piece.Piece.+push_decimal.Given as goal
-
-abbrev pub decreases-push_decimal : goal.decreases-push_decimal
-decreases-push_decimal g l = l.number

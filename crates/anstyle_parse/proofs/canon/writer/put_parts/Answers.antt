@@ -1,0 +1,30 @@
+-- One part more is done, with the separator before it.
+use Rattle.std.proofs.Common.{◌++◌, ◌+◌, List, ℕ, [], ◌∷◌, get_or, drop, map, refl, Bor}
+use Rattle.std.specs.Prelude.{if◌then◌else◌}
+use Rattle.std.specs.List.{join_with_byte}
+use Rattle.std.proofs.lemmas.List.{at_drop_more}
+use Rattle.anstyle_parse.specs.Bytes.{semicolon}
+use Rattle.anstyle_parse.proofs.JoinLemmas.{joined_rest-more}
+use Rattle.anstyle_parse.proofs.OutputLemmas.{Adds-nil, Adds-append3}
+use Rattle.anstyle_parse.proofs.canon.writer.put_parts.Goals as goal
+
+pub loop-part-init : goal.loop-part-init
+loop-part-init g c = record { done = []; whole = refl; added = Adds-nil g.W.Sink.contents g.W.Sink.has_failed c.args.output.now }
+
+pub loop-part-preserved : goal.loop-part-preserved
+loop-part-preserved g c =
+    let parts = c.args.parts.now in
+    let i = c.loop-part.part-index in
+    let none : Bor (List ℕ) = record { ref_ptr = (0, 0); now = [] } in
+    let contents_of : List (Bor (List ℕ)) → List (List ℕ) = λ ps. map (λ (part : Bor (List ℕ)). part.now) ps in
+    let before = c.loop-part.invariant in
+    let is_first = c.loop-part.is_first in
+    let separator = if is_first then [] else semicolon ∷ [] in
+    let text = (get_or parts i none).now in
+    record {
+      done = (before.done ++ separator) ++ text;
+      whole = joined_rest-more before.done (join_with_byte semicolon (contents_of parts)) is_first semicolon text (contents_of (drop i parts)) (contents_of (drop (i + 1) parts))
+          (at_drop_more contents_of parts i none c.loop-part-test.true) before.whole;
+      added = Adds-append3 g.W.Sink.contents g.W.Sink.has_failed before.done separator text
+          c.args.output.now c.loop-part.output c.put_separator.new.self c.put.new.self before.added c.put_separator.ensures c.put.ensures;
+    }

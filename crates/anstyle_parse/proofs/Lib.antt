@@ -61,5 +61,5 @@ pub mod CheckpointHeader
 pub mod CheckpointText
 pub mod Checkpoint
 pub mod Limits
-pub mod CheckpointTexts
+pub mod CheckpointParts
 pub mod EqualParsers

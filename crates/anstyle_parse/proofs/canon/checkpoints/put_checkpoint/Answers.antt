@@ -9,7 +9,7 @@ use Rattle.anstyle_parse.specs.Parser.{machine_of}
 use Rattle.anstyle_parse.specs.Output.{Adds}
 use Rattle.anstyle_parse.specs.Stands.{seen}
 use Rattle.anstyle_parse.proofs.OutputLemmas.{Adds-nil, Adds-append, Adds-append3}
-use Rattle.anstyle_parse.proofs.CheckpointTexts.{escape_text-begun}
+use Rattle.anstyle_parse.proofs.CheckpointParts.{escape_text-begun}
 use Rattle.anstyle_parse.proofs.canon.checkpoints.put_checkpoint.Goals as goal
 
 pub returns-in-Ground : goal.returns-in-Ground

@@ -6,7 +6,7 @@ use Rattle.anstyle_parse.specs.Checkpoint.{command_text}
 use Rattle.anstyle_parse.specs.Groups.{total, cut}
 use Rattle.anstyle_parse.specs.Output.{Adds}
 use Rattle.anstyle_parse.proofs.OutputLemmas.{Adds-nil, Adds-append, Adds-append3}
-use Rattle.anstyle_parse.proofs.CheckpointTexts.{command_text-more, command_text-none}
+use Rattle.anstyle_parse.proofs.CheckpointParts.{command_text-more, command_text-none}
 use Rattle.anstyle_parse.proofs.canon.checkpoints.put_command.Goals as goal
 
 pub loop-length-init : goal.loop-length-init

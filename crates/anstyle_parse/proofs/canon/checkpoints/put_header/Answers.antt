@@ -9,7 +9,7 @@ use Rattle.anstyle_parse.specs.Params.{closed_groups_of, open_group_of}
 use Rattle.anstyle_parse.specs.Parser.{machine_of}
 use Rattle.anstyle_parse.specs.Output.{Adds}
 use Rattle.anstyle_parse.proofs.OutputLemmas.{Adds-append, Adds-append3}
-use Rattle.anstyle_parse.proofs.CheckpointTexts.{header_so_far-full, header_so_far-room}
+use Rattle.anstyle_parse.proofs.CheckpointParts.{header_so_far-full, header_so_far-room}
 use Rattle.anstyle_parse.proofs.canon.checkpoints.put_header.Goals as goal
 
 pub returns-then-is_full : goal.returns-then-is_full

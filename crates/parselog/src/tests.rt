@@ -1,5 +1,6 @@
 //! Worked rows, and readers and writers that fail, through the public calls.
 mod devices;
+mod rows;
 mod vectors;
 
 use crate::log::LogWriter;
@@ -8,6 +9,8 @@ use crate::words::{message, mode};
 use anstyle_parse::canon::{Buffer, Fault, FromRead, FromWrite};
 use anstyle_parse::{Params, Parser, Perform, Utf8Parser};
 use devices::{Paper, Tape, Trouble};
+use rows::ROWS;
+use std::alloc::{AllocError, Global};
 use std::process::Abort;
 use std::test::Fail;
 use vectors::VECTORS;
@@ -35,100 +38,48 @@ fn assert_lines(rt: &(impl Abort + AllocGlobal), input: &[u8], lines: &str) {
 }
 
 #[test]
-fn text_and_controls(rt: HostRuntime) {
-    assert_lines(&rt, b"", "");
-    assert_lines(&rt, b"A\x7f\n", "print U+0041\nprint U+007F\nexecute 0A\n");
-    assert_lines(&rt, b"A\x18\n", "print U+0041\nexecute 18\nexecute 0A\n");
-    assert_lines(
-        &rt,
-        b"\xe2\x82\xac\xf0\x9f\x98\x80\x90\x9c",
-        "print U+20AC\nprint U+1F600\nexecute 9C\n",
-    );
-    assert_lines(
-        &rt,
-        b"\xf4\x8f\xbf\xbf\xed\xa0\x80",
-        "print U+10FFFF\nprint U+FFFD\nexecute 80\n",
-    );
-}
-
-#[test]
-fn control_sequences(rt: HostRuntime) {
-    assert_lines(&rt, b"\x1b[m", "csi_dispatch [0] - false 6D\n");
-    assert_lines(
-        &rt,
-        b"\x1b[38:2:255:0:255;1m",
-        "csi_dispatch [38:2:255:0:255;1] - false 6D\n",
-    );
-    assert_lines(
-        &rt,
-        b"\x1b[;;;;;;;;;;;;;;;;;;;;;;;;;;;;;;;m",
-        "csi_dispatch [0;0;0;0;0;0;0;0;0;0;0;0;0;0;0;0;0;0;0;0;0;0;0;0;0;0;0;0;0;0;0;0] - false 6D\n",
-    );
-    assert_lines(
-        &rt,
-        b"\x1b[;;;;;;;;;;;;;;;;;;;;;;;;;;;;;;;;m",
-        "csi_dispatch [0;0;0;0;0;0;0;0;0;0;0;0;0;0;0;0;0;0;0;0;0;0;0;0;0;0;0;0;0;0;0;0] - true 6D\n",
-    );
-    assert_lines(&rt, b"\x1b[99999m", "csi_dispatch [65535] - false 6D\n");
-    assert_lines(&rt, b"\x1b[?! h", "csi_dispatch [0] 3F21 true 68\n");
-    assert_lines(
-        &rt,
-        b"\x1b[1\nm",
-        "execute 0A\ncsi_dispatch [1] - false 6D\n",
-    );
-    assert_lines(&rt, b"\x1b[1\x18m", "execute 18\nprint U+006D\n");
-    assert_lines(&rt, b"\x1b[1 2m", "");
-    assert_lines(&rt, b"\x1b[4;m", "csi_dispatch [4;0] - false 6D\n");
-    assert_lines(&rt, b"\x1b[?1049h", "csi_dispatch [1049] 3F false 68\n");
-    assert_lines(&rt, b"\x1b[\x801m", "csi_dispatch [1] - false 6D\n");
-}
-
-#[test]
-fn escapes_and_strings(rt: HostRuntime) {
-    assert_lines(&rt, b"\x1b([", "esc_dispatch 28 false 5B\n");
-    assert_lines(&rt, b"\x1b !\"#0", "esc_dispatch 2021 true 30\n");
-    assert_lines(&rt, b"\x1b]\x07", "osc_dispatch true -\n");
-    assert_lines(&rt, b"\x1b]2;ti\x07", "osc_dispatch true 32 7469\n");
-    assert_lines(
-        &rt,
-        b"\x1bP1$qm\x1b\\",
-        "hook [1] 24 false 71\nput 6D\nunhook\nesc_dispatch - false 5C\n",
-    );
-}
-
-/// After two ESC, and after a cancel outside a character, nothing counts that came before.
-#[test]
-fn forgotten_histories(rt: HostRuntime) {
-    assert_lines(
-        &rt,
-        b"\x1bPq\x1b\x1b[m",
-        "hook [0] - false 71\nunhook\ncsi_dispatch [0] - false 6D\n",
-    );
-    assert_lines(
-        &rt,
-        b"\xf0\x9f\x98\x1b\x1b[m",
-        "print U+FFFD\ncsi_dispatch [0] - false 6D\n",
-    );
-    assert_lines(&rt, b"\x1b[99\x18A", "execute 18\nprint U+0041\n");
-}
-
-/// A part that is longer than what is held back at once.
-#[test]
-fn long_part(rt: HostRuntime) -> Result<(), Fail> {
-    let mut input = Vec::new(rt.alloc());
-    let mut lines = Vec::new(rt.alloc());
-    input.extend_from_slice(b"\x1b]")?;
-    lines.extend_from_slice(b"osc_dispatch true ")?;
-    for _ in 0..1024 {
-        input.push(b'a')?;
-        lines.extend_from_slice(b"61")?;
+fn worked_rows(rt: HostRuntime) {
+    for (input, lines) in ROWS {
+        assert_lines(&rt, input, lines);
     }
-    input.extend_from_slice(b";b\x07")?;
-    lines.push(b'\n')?;
-    let mut reader = FromRead::new(input.as_slice());
-    let (writer, answer) = run(Mode::Log, &mut reader, FromWrite::new(Vec::new(rt.alloc())));
-    assert_eq!(rt; answer, Ok(()));
-    assert_eq!(rt; writer.into_inner().as_slice(), lines.as_slice());
+}
+
+/// Texts, each so often, one after another.
+fn repeated(alloc: Global, parts: &[(&[u8], usize)]) -> Result<Vec<u8>, AllocError> {
+    let mut bytes = Vec::new(alloc);
+    for (part, times) in parts {
+        for _ in 0..*times {
+            bytes.extend_from_slice(part)?;
+        }
+    }
+    Ok(bytes)
+}
+
+/// Commands that fill the store: what comes behind its 1024 bytes is dropped.
+#[test]
+fn long_commands(rt: HostRuntime) -> Result<(), Fail> {
+    let rows: [(&[(&[u8], usize)], &[(&[u8], usize)]); 3] = [
+        (
+            &[(b"\x1b]", 1), (b"a", 1024), (b";b\x07", 1)],
+            &[(b"osc_dispatch true ", 1), (b"61", 1024), (b"\n", 1)],
+        ),
+        (
+            &[(b"\x1b]", 1), (b"a", 1023), (b";bc\x07", 1)],
+            &[(b"osc_dispatch true ", 1), (b"61", 1023), (b" 62\n", 1)],
+        ),
+        (
+            &[(b"\x1b]a", 1), (b";", 16), (b"x", 1024), (b"\x07", 1)],
+            &[(b"osc_dispatch true 61", 1), (b" -", 15), (b"\n", 1)],
+        ),
+    ];
+    for (input, lines) in rows {
+        let input = repeated(rt.alloc(), input)?;
+        let lines = repeated(rt.alloc(), lines)?;
+        let mut reader = FromRead::new(input.as_slice());
+        let (writer, answer) = run(Mode::Log, &mut reader, FromWrite::new(Vec::new(rt.alloc())));
+        assert_eq!(rt; answer, Ok(()));
+        assert_eq!(rt; writer.into_inner().as_slice(), lines.as_slice());
+    }
     Ok(())
 }
 

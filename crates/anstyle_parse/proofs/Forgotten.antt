@@ -11,6 +11,7 @@ use Rattle.anstyle_parse.specs.Calls.{Continues}
 use Rattle.anstyle_parse.specs.Items.{Body, escape, EachIs}
 use Rattle.anstyle_parse.specs.Decoder.{decoded}
 use Rattle.anstyle_parse.specs.Machine.{Machine, new_machine, machine_after, machine_calls}
+use Rattle.anstyle_parse.specs.Parser.{AreBelow}
 use Rattle.anstyle_parse.specs.Stands.{counted, StandsAfter, EndsInCharacter}
 use Rattle.anstyle_parse.proofs.Classes.{Class, cancel_byte, class_below, class_of, is_cancel_at, is_cancel-class}
 use Rattle.anstyle_parse.proofs.Divide.{Open, nothing, front, inside, start, grow, grow_body, open_after}
@@ -22,6 +23,7 @@ use Rattle.anstyle_parse.proofs.DivisionOnly.{AreCalls-only, grow-broken}
 use Rattle.anstyle_parse.proofs.StandCounted.{counted-machine}
 use Rattle.anstyle_parse.proofs.StandValues.{value_at}
 use Rattle.anstyle_parse.proofs.CharacterEnds.{EndsInCharacter-state}
+use Rattle.anstyle_parse.proofs.Unseen.{Unseen-machine}
 use Rattle.anstyle_parse.proofs.Stands.{machine-division, StandsAfter-value, StandsAfter-state, AreCalls-machine, Continues-machine}
 
 -- a machine of which what counts is what an open item leaves stands after the bytes that leave it
@@ -116,6 +118,23 @@ forgotten_once-outside m h outside = forgotten_once m h (λ e. outside ((EndsInC
 -- the same of 18 and 1A
 pub cancelled_is_new-outside : (m : Machine (List ℕ)) (h : List ℕ) (b : ℕ) → IsTrue (is_cancel b) → (EndsInCharacter h → ⊥) → StandsAfter m (h ++ b ∷ []) → StandsAfter m []
 cancelled_is_new-outside m h b is outside = cancelled_is_new m h b is (λ e. outside ((EndsInCharacter-state (machine_after decoded h (new_machine [])) h refl).0 e))
+
+-- bytes before others that are below 80
+below_before : (xs ys : List ℕ) → AreBelow 0x80 (xs ++ ys) → AreBelow 0x80 xs
+below_before [] ys below = tt
+below_before (x ∷ xs) ys below = (below.0, below_before xs ys below.1)
+
+-- after bytes below 80 a machine is outside a character
+ascii_outside : (h : List ℕ) → AreBelow 0x80 h → (machine_after decoded h (new_machine [])).state ≡ Utf8 → ⊥
+ascii_outside h below = (Unseen-machine decoded h below (new_machine []) (λ ground. cc)).2
+
+-- so over ASCII one ESC is always enough
+pub forgotten_once-ascii : (m : Machine (List ℕ)) (h : List ℕ) → AreBelow 0x80 (h ++ escape_byte ∷ []) → StandsAfter m (h ++ escape_byte ∷ []) → StandsAfter m (escape_byte ∷ [])
+forgotten_once-ascii m h below = forgotten_once m h (ascii_outside h (below_before h (escape_byte ∷ []) below))
+
+-- the same of 18 and 1A
+pub cancelled_is_new-ascii : (m : Machine (List ℕ)) (h : List ℕ) (b : ℕ) → IsTrue (is_cancel b) → AreBelow 0x80 (h ++ b ∷ []) → StandsAfter m (h ++ b ∷ []) → StandsAfter m []
+cancelled_is_new-ascii m h b is below = cancelled_is_new m h b is (ascii_outside h (below_before h (b ∷ []) below))
 
 -- machines of which the same counts make the same calls for all bytes
 pub same_calls : (m n : Machine (List ℕ)) → counted m ≡ counted n → (bytes : List ℕ) → machine_calls decoded bytes m ≡ machine_calls decoded bytes n

@@ -24,6 +24,10 @@ machine_of parser = record {
   accumulator = parser.accumulator;
 }
 
+-- the accumulator that the parser has
+abbrev pub accumulator_of : {C : Type 0} → Parser C → C
+accumulator_of parser = parser.accumulator
+
 -- the byte goes to the accumulator
 abbrev pub ReachesAccumulator : State → ℕ → Type 0
 ReachesAccumulator Utf8 b = ⊤

@@ -1,7 +1,7 @@
 //! Laws of streams, calls and canonical texts.
 //!
-//! They hold of all bytes and all calls. The first is what the crate promises; each other one
-//! speaks of definitions alone, and is the contract of a function that does nothing.
+//! They hold of all bytes and all calls. The first is what the crate promises; of the others
+//! nearly each speaks of definitions alone, and is the contract of a function that does nothing.
 ghost use Rattle.std.specs.Prelude.{◌≡◌, ◌≤◌, ◌*◌, ◌↔◌, ℕ, List, [], ◌∷◌, ◌++◌, length, IsTrue};
 ghost use Rattle.std.specs.Cmp.{IsEquivalence};
 ghost use Rattle.std.specs.List.{flat_map};
@@ -18,11 +18,13 @@ ghost use Rattle.anstyle_parse.specs.Output.{Adds};
 ghost use Rattle.anstyle_parse.specs.Machine.{machine_calls};
 ghost use Rattle.anstyle_parse.specs.Parser.{machine_of, IsAfter, IsAfterAscii};
 ghost use Rattle.anstyle_parse.specs.Stands.{EndsInCharacter};
+ghost use Rattle.anstyle_parse.specs.State.{state_number, action_number};
 
 use crate::accumulator::{AsciiParser, CharAccumulator, Utf8Parser};
-use crate::canon::{CanonWriter, Sink};
+use crate::canon::{CanonWriter, Fault, Sink};
 use crate::parser::Parser;
 use crate::perform::Perform;
+use crate::state::{Action, State};
 
 /// The headline: for a new parser of UTF-8 and every list of bytes, in whatever pieces it is
 /// handed on, the performer receives exactly the calls of the one division of the bytes into
@@ -124,12 +126,16 @@ pub fn forgotten<C: CharAccumulator>()
 {}
 
 /// One byte is enough outside a character: after ESC a parser stands as after ESC alone, and
-/// after 18 or 1A as a new one.
+/// after 18 or 1A as a new one. Over ASCII it always is, whatever the accumulator.
 pub fn forgotten_outside_a_character<C: CharAccumulator>()
     ensures escape { (parser : Parser C) (before : List ℕ) → ¬ EndsInCharacter before → IsAfter C.front parser (before ++ escape_byte ∷ [])
         → IsAfter C.front parser (escape_byte ∷ []) }
     ensures cancel { (parser : Parser C) (before : List ℕ) (byte : ℕ) → IsTrue (is_cancel byte) → ¬ EndsInCharacter before
         → IsAfter C.front parser (before ++ byte ∷ []) → IsAfter C.front parser [] }
+    ensures ascii_escape { (parser : Parser C) (before : List ℕ) → IsAfterAscii parser (before ++ escape_byte ∷ [])
+        → IsAfterAscii parser (escape_byte ∷ []) }
+    ensures ascii_cancel { (parser : Parser C) (before : List ℕ) (byte : ℕ) → IsTrue (is_cancel byte)
+        → IsAfterAscii parser (before ++ byte ∷ []) → IsAfterAscii parser [] }
 {}
 
 /// `==` of parsers is reflexive, symmetric and transitive. Equal parsers stand after the same
@@ -151,4 +157,31 @@ pub fn equal_accumulators()
     ensures equivalence { IsEquivalence ⟦<Utf8Parser as PartialEq>⟧.eq }
     ensures fronts { (a b : Utf8Parser) → (IsTrue (⟦<Utf8Parser as PartialEq>⟧.eq a b) ↔ (front_of a ≡ front_of b)) }
     ensures ascii { (a b : AsciiParser) → IsTrue (⟦<AsciiParser as PartialEq>⟧.eq a b) }
+{}
+
+/// `==` of states, of actions and of faults holds exactly between equal variants.
+pub fn equal_variants()
+    ensures states { (a b : State) → (IsTrue (⟦<State as PartialEq>⟧.eq a b) ↔ (a ≡ b)) }
+    ensures actions { (a b : Action) → (IsTrue (⟦<Action as PartialEq>⟧.eq a b) ↔ (a ≡ b)) }
+    ensures faults { (a b : Fault) → (IsTrue (⟦<Fault as PartialEq>⟧.eq a b) ↔ (a ≡ b)) }
+{}
+
+/// `as u8` gives the number of a state.
+pub fn state_as_number(state: State) -> u8
+    ensures { result ≡ state_number state }
+{
+    state as u8
+}
+
+/// `as u8` gives the number of an action.
+pub fn action_as_number(action: Action) -> u8
+    ensures { result ≡ action_number action }
+{
+    action as u8
+}
+
+/// The default state is Ground, and the default action Nop.
+pub fn default_variants()
+    ensures state { (value : State) → (⟦<State as Default>⟧.is_default value ↔ (value ≡ State.Ground)) }
+    ensures action { (value : Action) → (⟦<Action as Default>⟧.is_default value ↔ (value ≡ Action.Nop)) }
 {}

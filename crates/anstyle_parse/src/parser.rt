@@ -74,12 +74,12 @@ impl<C: CharAccumulator> Default for Parser<C> {
 
 impl<C: Clone> Clone for Parser<C> {
     ghost use Rattle.anstyle_parse.specs.Machine.{with_accumulator};
-    ghost use Rattle.anstyle_parse.specs.Parser.{machine_of};
+    ghost use Rattle.anstyle_parse.specs.Parser.{machine_of, accumulator_of};
 
-    ghost is_clone = { λ parser clone. C.is_clone parser.accumulator clone.accumulator
-        × (machine_of clone ≡ with_accumulator clone.accumulator (machine_of parser)) };
+    ghost is_clone = { λ parser clone. C.is_clone (accumulator_of parser) (accumulator_of clone)
+        × (machine_of clone ≡ with_accumulator (accumulator_of clone) (machine_of parser)) };
 
-    ghost is_infallible = { λ parser. C.is_infallible parser.accumulator };
+    ghost is_infallible = { λ parser. C.is_infallible (accumulator_of parser) };
 
     /// A parser that stands where this one stands. It fails only where the clone of the
     /// accumulator does.
@@ -212,6 +212,14 @@ impl<C: CharAccumulator> Parser<C> {
             → AreCalls (escape_byte ∷ bytes.now) (machine_calls C.adds bytes.now (machine_of self.old)) }
         ensures cancelled { (before : List ℕ) (cancel : ℕ) → IsTrue C.decodes → IsTrue (is_cancel cancel)
             → ¬ EndsInCharacter before → IsAfter C.front self.old (before ++ cancel ∷ [])
+            → AreCalls bytes.now (machine_calls C.adds bytes.now (machine_of self.old)) }
+
+        // Over ASCII one ESC, 18 or 1A is always enough, for any accumulator.
+        ensures ascii_escape { (before : List ℕ) → AreBelow 0x80 bytes.now
+            → IsAfterAscii self.old (before ++ escape_byte ∷ [])
+            → AreCalls (escape_byte ∷ bytes.now) (machine_calls C.adds bytes.now (machine_of self.old)) }
+        ensures ascii_cancel { (before : List ℕ) (cancel : ℕ) → AreBelow 0x80 bytes.now → IsTrue (is_cancel cancel)
+            → IsAfterAscii self.old (before ++ cancel ∷ [])
             → AreCalls bytes.now (machine_calls C.adds bytes.now (machine_of self.old)) }
 
         // A new parser makes of the canonical text of lawful calls exactly these calls.

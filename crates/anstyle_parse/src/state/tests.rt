@@ -33,16 +33,67 @@ fn answers_of_the_table(rt: HostRuntime) {
     }
 }
 
-// The numbers of the variants, and the refusals.
+// The number of each state, in the order of their declaration.
 #[test]
-fn numbers_of_states_and_actions(rt: HostRuntime) {
+fn numbers_of_states(rt: HostRuntime) {
+    let rows = [
+        (State::Anywhere, 0),
+        (State::CsiEntry, 1),
+        (State::CsiIgnore, 2),
+        (State::CsiIntermediate, 3),
+        (State::CsiParam, 4),
+        (State::DcsEntry, 5),
+        (State::DcsIgnore, 6),
+        (State::DcsIntermediate, 7),
+        (State::DcsParam, 8),
+        (State::DcsPassthrough, 9),
+        (State::Escape, 10),
+        (State::EscapeIntermediate, 11),
+        (State::Ground, 12),
+        (State::OscString, 13),
+        (State::SosPmApcString, 14),
+        (State::Utf8, 15),
+    ];
+    for (state, number) in rows {
+        assert!(rt; state as u8 == number, "{state:?}");
+        assert!(rt; State::try_from(number) == Ok(state), "{state:?}");
+    }
+}
+
+// The number of each action, in the order of their declaration.
+#[test]
+fn numbers_of_actions(rt: HostRuntime) {
+    let rows = [
+        (Action::Nop, 0),
+        (Action::Clear, 1),
+        (Action::Collect, 2),
+        (Action::CsiDispatch, 3),
+        (Action::EscDispatch, 4),
+        (Action::Execute, 5),
+        (Action::Hook, 6),
+        (Action::Ignore, 7),
+        (Action::OscEnd, 8),
+        (Action::OscPut, 9),
+        (Action::OscStart, 10),
+        (Action::Param, 11),
+        (Action::Print, 12),
+        (Action::Put, 13),
+        (Action::Unhook, 14),
+        (Action::BeginUtf8, 15),
+    ];
+    for (action, number) in rows {
+        assert!(rt; action as u8 == number, "{action:?}");
+        assert!(rt; Action::try_from(number) == Ok(action), "{action:?}");
+    }
+}
+
+// The refusals, and the defaults.
+#[test]
+fn refused_numbers_and_defaults(rt: HostRuntime) {
     assert!(rt; State::try_from(16) == Err(16));
-    assert!(rt; State::try_from(0) == Ok(State::Anywhere));
-    assert!(rt; State::try_from(15) == Ok(State::Utf8));
-    assert!(rt; Action::try_from(15) == Ok(Action::BeginUtf8));
+    assert!(rt; State::try_from(255) == Err(255));
+    assert!(rt; Action::try_from(16) == Err(16));
     assert!(rt; Action::try_from(255) == Err(255));
-    assert!(rt; State::Ground as u8 == 12);
-    assert!(rt; Action::Print as u8 == 12);
     assert!(rt; State::default() == State::Ground);
     assert!(rt; Action::default() == Action::Nop);
 }

@@ -6,10 +6,10 @@ use Rattle.anstyle_parse.proofs.Limits.{IsWithinLimits-machine, IsWithinLimits-p
 use Rattle.anstyle_parse.proofs.Streams.{CanTakeAll-may, bytes_below, IsAfter-taken, Continues-taken, IsAfterAscii-taken, Continues-ascii}
 use Rattle.anstyle_parse.specs.Call.{Call, Goes}
 use Rattle.anstyle_parse.proofs.CanonTwice.{Continues-replay}
-use Rattle.anstyle_parse.specs.Stands.{seen}
+use Rattle.anstyle_parse.specs.Stands.{seen, unseen}
 use Rattle.anstyle_parse.proofs.LawfulCalls.{lawful}
 use Rattle.anstyle_parse.proofs.CanonItems.{AreCalls-nil}
-use Rattle.anstyle_parse.proofs.Forgotten.{forgotten, forgotten_once-outside, cancelled_is_new-outside}
+use Rattle.anstyle_parse.proofs.Forgotten.{forgotten, forgotten_once-outside, forgotten_once-ascii, cancelled_is_new-outside, cancelled_is_new-ascii}
 use Rattle.anstyle_parse.proofs.Headline.{AreCalls-escape, HasReceived-more}
 use Rattle.anstyle_parse.proofs.parser.Parser.advance_all.Goals as goal
 
@@ -58,6 +58,16 @@ returns-clause-ascii_stands g c = λ before below stands.
 pub returns-clause-ascii_stream : goal.returns-clause-ascii_stream
 returns-clause-ascii_stream g c = λ before below stands.
     Continues-ascii g.C.CharAccumulator.adds c.args.self.now c.take_bytes.new.self c.args.bytes.now below c.take_bytes.ensures.machine before stands
+
+pub returns-clause-ascii_escape : goal.returns-clause-ascii_escape
+returns-clause-ascii_escape g c = λ before below stands.
+    let m = unseen (machine_of c.args.self.now) in
+    returns-clause-ascii_stream g c (escape_byte ∷ []) below ((omega arith, tt), forgotten_once-ascii m before stands.0 stands.1) [] AreCalls-escape
+
+pub returns-clause-ascii_cancel : goal.returns-clause-ascii_cancel
+returns-clause-ascii_cancel g c = λ before cancel below is stands.
+    let m = unseen (machine_of c.args.self.now) in
+    returns-clause-ascii_stream g c [] below (tt, cancelled_is_new-ascii m before cancel is stands.0 stands.1) [] AreCalls-nil
 
 pub returns-clause-limits : goal.returns-clause-limits
 returns-clause-limits g c =

@@ -31,11 +31,11 @@ fn main(rt: HostRuntime) -> ExitCode {
     } else {
         Buffer::new(FromWrite::new(output))
     };
-    let (_writer, answer) = run(mode, &mut reader, writer);
+    let (writer, answer) = run(mode, &mut reader, writer);
     match answer {
         Ok(()) => ExitCode::SUCCESS,
         Err(fault) => {
-            let _ = eprintln!(rt; "{}", message(fault));
+            let _ = eprintln!(rt; "{}", message(writer.fault_behind(fault)));
             ExitCode::from(1)
         }
     }

@@ -1,7 +1,7 @@
 -- The transition table, row by row: for which bytes of a state there is which answer.
 -- It is Paul Williams' (vt100.net/emu/dec_ansi_parser), with these differences: UTF-8
 -- begins in Ground, 07 ends an operating system command, 8-bit codes begin no sequence,
--- 3A separates fields. docs/DECISIONS.md names them all.
+-- 3A separates fields. docs/DIFFERENCES.md names each cell that differs.
 use Rattle.std.specs.Prelude.{◌≡◌, ℕ, List, [], ◌∷◌, if◌then◌else◌}
 use Rattle.std.specs.List.{list_any}
 use Rattle.anstyle_parse.specs.declared.state.definitions.State.{State}

@@ -17,6 +17,7 @@ pub mod DivisionHeaders
 pub mod DivisionExists
 pub mod DivisionRuns
 pub mod DivisionOnly
+pub mod PackedTable
 pub mod StandTable
 pub mod Reaches
 pub mod StandActions

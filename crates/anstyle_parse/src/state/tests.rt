@@ -1,4 +1,7 @@
-use crate::state::{Action, State, state_change};
+mod ranges;
+
+use crate::state::{Action, State, state_change, table, unpack};
+use ranges::by_ranges;
 
 // Cells of the table, as the table gives them.
 #[test]
@@ -96,4 +99,58 @@ fn refused_numbers_and_defaults(rt: HostRuntime) {
     assert!(rt; Action::try_from(255) == Err(255));
     assert!(rt; State::default() == State::Ground);
     assert!(rt; Action::default() == Action::Nop);
+}
+
+// Cells of known answers.
+#[test]
+fn answers_of_cells(rt: HostRuntime) {
+    assert!(rt; unpack(0x4C) == (State::Ground, Action::EscDispatch));
+    assert!(rt; unpack(0xFF) == (State::Utf8, Action::BeginUtf8));
+    assert!(rt; unpack(0x00) == (State::Anywhere, Action::Nop));
+}
+
+// How many bytes each row names, as counted in the table by hand.
+#[test]
+fn named_bytes_of_each_row(rt: HostRuntime) {
+    let rows = [
+        (State::Anywhere, 3),
+        (State::CsiEntry, 125),
+        (State::CsiIgnore, 125),
+        (State::CsiIntermediate, 125),
+        (State::CsiParam, 125),
+        (State::DcsEntry, 125),
+        (State::DcsIgnore, 126),
+        (State::DcsIntermediate, 125),
+        (State::DcsParam, 125),
+        (State::DcsPassthrough, 126),
+        (State::Escape, 125),
+        (State::EscapeIntermediate, 125),
+        (State::Ground, 203),
+        (State::OscString, 253),
+        (State::SosPmApcString, 126),
+        (State::Utf8, 0),
+    ];
+    let mut all = 0usize;
+    for (state, named) in rows {
+        let cells = table::row(state).iter();
+        let count = cells.filter(|cell| **cell != 0).count();
+        assert_eq!(rt; count, named, "{state:?}");
+        all = all.saturating_add(count);
+    }
+    assert_eq!(rt; all, 1962);
+}
+
+// Each answer for each byte, against the table by ranges.
+#[test]
+fn answers_by_ranges(rt: HostRuntime) -> Result<(), u8> {
+    for number in 0..16 {
+        let state = State::try_from(number)?;
+        for byte in 0..=0xFF {
+            assert!(rt;
+                state_change(state, byte) == by_ranges(state, byte),
+                "{state:?} at {byte:02X}"
+            );
+        }
+    }
+    Ok(())
 }

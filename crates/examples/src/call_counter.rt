@@ -6,7 +6,7 @@ use anstyle_parse::{Params, Parser, Perform, Utf8Parser};
 
 /// Counts the calls, up to the greatest `u64`.
 #[derive(Drop)]
-pub struct CallCounter {
+struct CallCounter {
     count: u64,
 }
 

@@ -7,6 +7,6 @@ mod quiet;
 #[cfg(test)]
 mod tests;
 
-pub use call_counter::{CallCounter, calls_made};
+pub use call_counter::calls_made;
 pub use counter::printed;
 pub use quiet::{Quiet, stay_quiet};

@@ -137,6 +137,25 @@ CANON_HOSTILE = [
     ("random bytes", random_bytes, CANON_DIGEST),
 ]
 
+STRIP_ROWS = [
+    ("colours and a bell", b"\x1b[31mhi\x07\x1b[0m\n", b"hi\n"),
+    ("an operating system command", b"\x1b]0;x\x07a\r\n", b"a\r\n"),
+    ("a device control string", b"\x1bPqA\x9cB", b"B"),
+    ("a control in a control sequence", b"\x1b[1\nm", b"\n"),
+    ("a tab, and a vertical one", b"\ta\vb", b"\tab"),
+    ("7F, and controls above it", b"\x7f\x80\x9c\xc2\x80", b"\x7f\xc2\x80"),
+    ("a broken character", b"\xc3(", b"\xef\xbf\xbd("),
+    ("a character broken by a sequence", b"\xc3\x1b[mA", b"\xef\xbf\xbdA"),
+    ("text, stripped again", b"hi\n\x7f\xc2\x80\xef\xbf\xbd(", b"hi\n\x7f\xc2\x80\xef\xbf\xbd("),
+]
+
+STRIP_HOSTILE = [
+    (name, blocks, text(b"") if name != "lead bytes" else times(b"\xef\xbf\xbd", SIZE - 1))
+    for name, blocks, _ in LOG_HOSTILE[:-1]
+] + [
+    ("random bytes", random_bytes, "f6c8a22f508312f4d16518933ef340758071857fed6130669459a0d43fe5f9ad"),
+]
+
 PROGRAMS = [
     Program(
         "parselog",
@@ -160,5 +179,11 @@ PROGRAMS = [
                 (["canon"], CANON_ROWS, (b"\x1b[mA\n", b"\x1b[0mA\n"), CANON_HOSTILE),
             )
         ],
+    ),
+    Program(
+        "ansi2text",
+        b"usage: ansi2text",
+        [["text"], ["-"], [""], ["--help"], ["a", "b"]],
+        [Mode([], STRIP_ROWS, (b"\x1b[1mA\n", b"A\n"), STRIP_HOSTILE)],
     ),
 ]

@@ -52,6 +52,7 @@ pub mod LawfulCalls
 pub mod CanonTwice
 pub mod CanonBytes
 pub mod OutputLemmas
+pub mod EngineLemmas
 pub mod JoinLemmas
 pub mod CanonWriterLemmas
 pub mod Forgotten

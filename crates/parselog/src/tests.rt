@@ -325,7 +325,7 @@ fn canonical_texts(rt: HostRuntime) {
     assert_canonical(&rt, b"\x1bP1$qm\x1b\\", b"\x1bP1$qm\x9c\x1b\\");
     assert_canonical(&rt, b"\x1bPq\x18", b"\x1bP0q\x9c\x18");
     assert_canonical(&rt, b"\x1b !\"#0", b"\x1b ! 0");
-    assert_canonical(&rt, b"\xc3\x1b[m", b"\xef\xbf\xbd[m");
+    assert_canonical(&rt, b"\xc3\x1b[m", b"\xef\xbf\xbd\x1b[0m");
     assert_canonical(&rt, b"\xed\xa0\x80", b"\xef\xbf\xbd\x80");
 }
 

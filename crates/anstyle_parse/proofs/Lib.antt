@@ -51,6 +51,7 @@ pub mod LawfulCalls
 pub mod CanonTwice
 pub mod CanonBytes
 pub mod OutputLemmas
+pub mod EngineLemmas
 pub mod JoinLemmas
 pub mod CanonWriterLemmas
 pub mod Forgotten

@@ -24,3 +24,5 @@ pub mod Devices
 pub mod Output
 pub mod Buffer
 pub mod CanonWriter
+pub mod Adding
+pub mod Run

@@ -76,6 +76,11 @@ pub fn lawful_exactly()
     ensures { (calls : List Call) → (AreLawful calls ↔ AreMade calls) }
 {}
 
+/// The calls that any list of numbers makes, bytes or not, are lawful.
+pub fn calls_are_lawful()
+    ensures { (bytes : List ℕ) (calls : List Call) → AreCalls bytes calls → AreLawful calls }
+{}
+
 /// Replay: the canonical text of a lawful list of calls makes these calls, and no others.
 pub fn replay()
     ensures makes { (calls : List Call) → AreLawful calls → AreCalls (canon calls) calls }

@@ -1,10 +1,10 @@
 //! One line for each call of the parser.
-ghost use Rattle.std.specs.Prelude.{◌≡◌, ◌++◌, [], ◌∷◌, ℕ, None, OnOk, map};
-ghost use Rattle.parselog.specs.Lines.{line, hex_digit, hex_list, truth, parts_text, end_text, header_text, newline};
+ghost use Rattle.std.specs.Prelude.{◌≡◌, ◌++◌, [], ◌∷◌, ℕ, ⊤, None, OnOk, map, refl};
+ghost use Rattle.parselog.specs.Lines.{line, lines, hex_digit, hex_list, truth, parts_text, end_text, header_text, newline};
 ghost use Rattle.anstyle_parse.specs.Call.{Call, print, execute, hook, put, unhook, osc_dispatch, csi_dispatch, esc_dispatch};
 ghost use Rattle.anstyle_parse.specs.Output.{Adds, Finishes, writer_in, fault_in};
 
-use anstyle_parse::canon::{Fault, Output, Sink};
+use anstyle_parse::canon::{CallWriter, Fault, KeepsFault, Output, Sink};
 use anstyle_parse::{Params, Perform};
 
 /// Writes a line for each call.
@@ -137,6 +137,49 @@ impl<W: Sink> Perform for LogWriter<W> {
         self.output.put(b"esc_dispatch ");
         put_end(&mut self.output, intermediates, ignore, byte);
     }
+}
+
+impl<W: Sink> KeepsFault for LogWriter<W> {
+    ghost use Rattle.parselog.specs.Log.{output_of};
+
+    ghost kept = { λ performer. fault_in (output_of performer) };
+
+    fn kept_fault(&self) -> Option<Fault> {
+        self.fault()
+    }
+}
+
+/// The lines have no ending.
+impl<W: Sink> CallWriter<W> for LogWriter<W> {
+    ghost use Rattle.anstyle_parse.proofs.OutputLemmas.{Adds-calls};
+    ghost use Rattle.parselog.specs.Log.{output_of};
+
+    ghost output_in = { output_of };
+
+    ghost is_new = { λ _. ⊤ };
+
+    ghost text = { lines };
+
+    ghost ending = { λ _. [] };
+
+    ghost unwritten = { λ _. [] };
+
+    fn over(output: Output<W>) -> LogWriter<W>
+        ensures output { output_of result ≡ output }
+        ensures new { ⊤ }
+    {
+        LogWriter { output }
+    }
+
+    fn into_output(self) -> Output<W> {
+        self.output
+    }
+
+    ghost adds = { λ old calls new _ goes. Adds-calls W.contents W.has_failed output_of line calls old new goes };
+
+    ghost ends = { λ _ _ _ _ _ _. refl };
+
+    ghost keeps = { λ _. refl };
 }
 
 impl<W: Sink> LogWriter<W> {

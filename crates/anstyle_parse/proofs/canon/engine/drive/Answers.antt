@@ -6,7 +6,7 @@ use Rattle.anstyle_parse.specs.Machine.{machine_calls}
 use Rattle.anstyle_parse.specs.Parser.{machine_of}
 use Rattle.anstyle_parse.proofs.CanonItems.{AreCalls-nil}
 use Rattle.anstyle_parse.proofs.MachineLemmas.{Goes-append}
-use Rattle.parselog.proofs.run.drive.Goals as goal
+use Rattle.anstyle_parse.proofs.canon.engine.drive.Goals as goal
 
 pub loop-turn-init : goal.loop-turn-init
 loop-turn-init g c = record {
@@ -33,7 +33,7 @@ returns-then-is_some g c =
       consumed = Consumes-trans _ _ _ _ _ before.consumed c.in-Some.ensures.passed;
       are_calls = c.advance_all.ensures.stream before.read refl before.stands before.calls before.are_calls;
       performed = Goes-append g.P.Perform.means c.args.performer.now c.loop-turn.performer c.advance_all.new.performer before.calls more before.performed c.advance_all.ensures.calls;
-      ends = (sym (c.is_some.ensures ∙ ap is_some c.kept_fault.ensures) ∙ c.if-is_some.true, c.in-Some.ensures.not_failed ∙ before.not_failed);
+      stops = (sym (c.is_some.ensures ∙ ap is_some c.kept_fault.ensures) ∙ c.if-is_some.true, c.in-Some.ensures.not_failed ∙ before.not_failed);
     }
 
 -- an option that holds nothing is None

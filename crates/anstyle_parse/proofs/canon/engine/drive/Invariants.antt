@@ -5,7 +5,7 @@ use Rattle.anstyle_parse.specs.Accumulator.{front_of}
 use Rattle.anstyle_parse.specs.Call.{Call, Goes}
 use Rattle.anstyle_parse.specs.Calls.{AreCalls}
 use Rattle.anstyle_parse.specs.Parser.{IsAfter}
-use Rattle.parselog.proofs.run.drive.Given as goal
+use Rattle.anstyle_parse.proofs.canon.engine.drive.Given as goal
 
 abbrev pub invariant-loop-turn : goal.invariant-loop-turn
 invariant-loop-turn g l = record {

@@ -13,4 +13,5 @@ one_more count = min greatest (count + 1)
 
 -- the count is the number of the calls of the bytes, or the greatest u64 where there are more
 abbrev pub IsCountOfCalls : List ℕ → ℕ → Type 0
-IsCountOfCalls bytes count = (calls : List Call) × AreCalls bytes calls × (count ≡ min greatest (length calls))
+IsCountOfCalls bytes count =
+    (calls : List Call) × AreCalls bytes calls × (count ≡ min greatest (length calls))

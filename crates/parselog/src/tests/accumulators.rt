@@ -4,7 +4,7 @@ ghost use Rattle.std.proofs.lemmas.Bool.{false≢true};
 
 use crate::log::LogWriter;
 use anstyle_parse::canon::FromWrite;
-use anstyle_parse::{AsciiParser, CharAccumulator, Parser};
+use anstyle_parse::{AsciiParser, CharAccumulator, Parser, Taken};
 use test_streams::Paper;
 
 /// Answers `x` to every byte.
@@ -18,6 +18,8 @@ impl CharAccumulator for AlwaysX {
 
     ghost adds = { λ value _. (value, Some 0x78) };
 
+    ghost taken = { λ value _. (value, Taken.Char 0x78) };
+
     ghost decodes = { false };
 
     ghost default_holds_none = { λ _ _. refl };
@@ -26,6 +28,10 @@ impl CharAccumulator for AlwaysX {
 
     fn add(&mut self, _byte: u8) -> Option<char> {
         Some('x')
+    }
+
+    fn take(&mut self, _byte: u8) -> Taken {
+        Taken::Char('x')
     }
 }
 

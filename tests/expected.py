@@ -79,6 +79,7 @@ LOG_DIGEST, CANON_DIGEST = {
         "c05a13fefff40f87c445126e531c1f2f69cfea6bcd5a64bc3b0ba643cc09c535",
     ),
 }[HANDLED_AGAIN]
+STRIP_DIGEST = "f6c8a22f508312f4d16518933ef340758071857fed6130669459a0d43fe5f9ad"
 
 
 def lines(*them):
@@ -153,7 +154,7 @@ STRIP_HOSTILE = [
     (name, blocks, text(b"") if name != "lead bytes" else times(b"\xef\xbf\xbd", SIZE - 1))
     for name, blocks, _ in LOG_HOSTILE[:-1]
 ] + [
-    ("random bytes", random_bytes, "f6c8a22f508312f4d16518933ef340758071857fed6130669459a0d43fe5f9ad"),
+    ("random bytes", random_bytes, STRIP_DIGEST),
 ]
 
 PROGRAMS = [

@@ -415,11 +415,11 @@ fn parts_of<'a>(text: &'a [u8], lengths: &[usize]) -> [&'a [u8]; MAX_OSC_PARTS]
 
 /// One byte.
 impl<C: CharAccumulator> Parser<C> {
-    ghost use Rattle.std.specs.Prelude.{◌∷◌, []};
+    ghost use Rattle.std.specs.Prelude.{◌∷◌, [], IsTrue, ◌↔◌};
     ghost use Rattle.anstyle_parse.specs.Call.{print};
     ghost use Rattle.anstyle_parse.specs.Parser.{machine_of};
     ghost use Rattle.anstyle_parse.specs.Parser.{CanTake, CanTakeAll, ReachesAccumulator};
-    ghost use Rattle.anstyle_parse.specs.Machine.{after_action, action_calls, after_change, change_calls, step_from, step_calls_from, step, step_calls, machine_after, machine_calls};
+    ghost use Rattle.anstyle_parse.specs.Machine.{after_action, action_calls, after_change, change_calls, after_continuation, print_answer, IsBroken, step_from, step_calls_from, step, step_calls, machine_after, machine_calls};
 
     /// The command's last part is closed, and all of them are dispatched.
     fn osc_end<P: Perform>(&mut self, performer: &mut P, byte: u8)
@@ -433,6 +433,7 @@ impl<C: CharAccumulator> Parser<C> {
     }
 
     /// The first byte of a character.
+    #[inline]
     fn accumulate<P: Perform>(&mut self, performer: &mut P, byte: u8)
         requires { C.takes self.old.accumulator byte }
         ensures machine { machine_of self.new ≡ after_action C.taken Action.BeginUtf8 byte (machine_of self.old) }
@@ -524,19 +525,23 @@ impl<C: CharAccumulator> Parser<C> {
     }
 
     /// A byte inside a character: a character that the accumulator answers is printed, and leads
-    /// back to the ground state. There a byte that broke it is handled once more.
-    fn continue_character<P: Perform>(&mut self, performer: &mut P, byte: u8)
+    /// back to the ground state. Answers whether the byte broke it, and has to be handled there.
+    fn continue_character<P: Perform>(&mut self, performer: &mut P, byte: u8) -> bool
         requires inside { self.old.state ≡ State.Utf8 }
-        requires takes { CanTake C.takes C.taken self.old byte }
-        ensures machine { machine_of self.new ≡ step_from C.taken State.Utf8 byte (machine_of self.old) }
-        ensures calls { Goes P.means performer.old (step_calls_from C.taken State.Utf8 byte (machine_of self.old)) performer.new }
+        requires takes { C.takes self.old.accumulator byte }
+        ensures machine { machine_of self.new ≡ after_continuation C.taken byte (machine_of self.old) }
+        ensures calls { Goes P.means performer.old (print_answer (C.taken self.old.accumulator byte).1) performer.new }
+        ensures breaks { IsTrue result ↔ IsBroken (C.taken self.old.accumulator byte).1 }
     {
         match self.accumulator.take(byte) {
-            Taken::More => {}
-            Taken::Char(c) => self.end_character(performer, c),
+            Taken::More => false,
+            Taken::Char(c) => {
+                self.end_character(performer, c);
+                false
+            }
             Taken::Broken(c) => {
                 self.end_character(performer, c);
-                self.take_from(performer, State::Ground, byte);
+                true
             }
         }
     }
@@ -548,10 +553,16 @@ impl<C: CharAccumulator> Parser<C> {
         ensures machine { machine_of self.new ≡ step C.taken byte (machine_of self.old) }
         ensures calls { Goes P.means performer.old (step_calls C.taken byte (machine_of self.old)) performer.new }
     {
-        match self.state {
-            State::Utf8 => self.continue_character(performer, byte),
-            state => self.take_from(performer, state, byte),
-        }
+        let state = match self.state {
+            State::Utf8 => {
+                if !self.continue_character(performer, byte) {
+                    return;
+                }
+                State::Ground
+            }
+            state => state,
+        };
+        self.take_from(performer, state, byte);
     }
 
     /// Bytes, as the machine takes them one after another.

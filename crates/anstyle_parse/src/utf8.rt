@@ -182,7 +182,7 @@ fn scalar_value(number: u32) -> char
     requires { InScalarRange number }
     ensures { result ≡ number }
 {
-    char::from_u32(number).unwrap_or(char::REPLACEMENT_CHARACTER)
+    char::from_u32(number).unwrap()
 }
 
 #[cfg(test)]

@@ -1,6 +1,7 @@
 pub mod Classes
 pub mod Divide
 pub mod GroupLemmas
+pub mod GroupStarts
 pub mod DebugLemmas
 pub mod TextLaw
 pub mod MachineLemmas

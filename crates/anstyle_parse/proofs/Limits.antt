@@ -14,7 +14,8 @@ use Rattle.anstyle_parse.specs.Table.{change_at}
 use Rattle.anstyle_parse.specs.Machine.{Machine, IsWithinLimits, field_count, stored_count, pushed, extended, cleared, collecting, with_parameter, with_last_field, text_begun, with_part, storing, Adds, after_action, exit_action, entry_action, after_change, after_continuation, after_answer, step, step_from, machine_after}
 use Rattle.anstyle_parse.specs.Parser.{machine_of}
 use Rattle.anstyle_parse.proofs.Splits.{length-concat_push}
-use Rattle.anstyle_parse.proofs.GroupLemmas.{field_total, stored_total, length-cut}
+use Rattle.anstyle_parse.proofs.GroupLemmas.{stored_total, length-cut}
+use Rattle.anstyle_parse.proofs.GroupStarts.{field_total}
 
 -- a count within its limit that is not the limit leaves room for one more
 room_below : (count limit : ℕ) → count ≤ limit → eqb count limit ≡ false → count + 1 ≤ limit
@@ -157,7 +158,7 @@ IsWithinLimits-machine adds (b ∷ bytes) m h = IsWithinLimits-machine adds byte
 -- a parser is within the limits: its own conditions, and the size of its array of fields
 pub IsWithinLimits-parser : {C : Type 0} (p : Parser C) → length p.params.numbers ≡ 32 → IsWithinLimits (machine_of p)
 IsWithinLimits-parser p numbers = record {
-  fields = omega (arith, p.params.in_range, field_total p.params.numbers p.params.lengths p.params.closed_groups p.params.open_fields p.params.len p.params.summed (omega (arith, p.params.in_range, numbers)));
+  fields = omega (arith, p.params.in_range, field_total p.params.open_fields p.params.len p.params.starts p.params.numbers p.params.open_within (omega (arith, p.params.in_range, numbers)) p.params.first_starts);
   collected = omega (arith, length-take p.intermediate_count p.intermediates, p.few_intermediates);
   stored = omega (arith, p.text_fits, stored_total p.osc_text.items p.osc_lengths p.osc_parts p.osc_closed p.closed_parts p.parts_in_text);
   parts = omega (arith, length-cut (take p.osc_parts p.osc_lengths) p.osc_text.items, length-take p.osc_parts p.osc_lengths, p.few_parts);

@@ -8,10 +8,12 @@ BLOCK = 1 << 20
 
 
 class Program:
-    """A filter of standard input: its usage line, the words that it refuses, its modes."""
+    """A filter of standard input: its usage line, the words that it refuses, its modes; and the
+    words with which it writes a fragment or a whole page of HTML, if it does."""
 
-    def __init__(self, name, usage, refused, modes):
+    def __init__(self, name, usage, refused, modes, fragment=None, page=None):
         self.name, self.usage, self.refused, self.modes = name, usage, refused, modes
+        self.fragment, self.page = fragment, page
 
 
 class Mode:
@@ -157,6 +159,16 @@ STRIP_HOSTILE = [
     ("random bytes", random_bytes, STRIP_DIGEST),
 ]
 
+# (what has colours or markup in it is read by pages.py)
+HTML_ROWS = [
+    ("plain text", b"hi\t\r\n", b"hi\t\r\n"),
+    ("an operating system command", b"\x1b]0;x\x07a\n", b"a\n"),
+    ("colours of no text", b"\x1b[31m\x1b[1m", b""),
+    ("a broken character", b"\xc3(", b"\xef\xbf\xbd("),
+]
+
+HTML_HOSTILE = STRIP_HOSTILE[:-1]
+
 PROGRAMS = [
     Program(
         "parselog",
@@ -186,5 +198,13 @@ PROGRAMS = [
         b"usage: ansi2text",
         [["text"], ["-"], [""], ["--help"], ["a", "b"]],
         [Mode([], STRIP_ROWS, (b"\x1b[1mA\n", b"A\n"), STRIP_HOSTILE)],
+    ),
+    Program(
+        "ansi2html",
+        b"usage: ansi2html [page]",
+        [["fragment"], ["page", "page"], ["page", ""], ["-"], [""], ["--help"]],
+        [Mode([], HTML_ROWS, (b"\x1b[mA\n", b"A\n"), HTML_HOSTILE)],
+        fragment=[],
+        page=["page"],
     ),
 ]

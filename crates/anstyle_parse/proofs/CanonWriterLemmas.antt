@@ -1,14 +1,9 @@
 -- Canonical texts, as they are put together.
-use Rattle.std.proofs.Common.{◌≡◌, ℕ, Bool, List, [], ◌∷◌, ◌++◌, Option, refl, ap, ◌∙◌, sym, subst, append_assoc}
+use Rattle.std.proofs.Common.{◌≡◌, ℕ, Bool, List, [], ◌∷◌, ◌++◌, ap, ◌∙◌, sym, append_assoc}
 use Rattle.std.specs.Prelude.{if◌then◌else◌}
 use Rattle.anstyle_parse.specs.Arguments.{after_marker}
 use Rattle.anstyle_parse.specs.Groups.{groups_text}
-use Rattle.anstyle_parse.specs.declared.canon.writer.CanonWriter.{CanonWriter}
-use Rattle.anstyle_parse.specs.Call.{Call, Goes}
-use Rattle.anstyle_parse.specs.Canon.{leading_marker, one_more_field, one_more_intermediate, header_text, escape_text, call_text, canon}
-use Rattle.anstyle_parse.specs.CanonWriter.{output_of}
-use Rattle.anstyle_parse.specs.Output.{Adds, texts}
-use Rattle.anstyle_parse.proofs.OutputLemmas.{Adds-calls}
+use Rattle.anstyle_parse.specs.Canon.{leading_marker, one_more_field, one_more_intermediate, header_text, escape_text}
 
 -- the parts of a header, one after another, between what begins it and what ends it
 header_parts : (a m g f o i z : List ℕ) → (((((a ++ m) ++ g) ++ f) ++ o) ++ i) ++ z ≡ a ++ ((m ++ ((g ++ f) ++ (o ++ i))) ++ z)
@@ -29,16 +24,3 @@ escape_text-parts intermediates ignore a i z e =
     ∙ append_assoc a intermediates (i ++ z)
     ∙ ap (λ l. a ++ (intermediates ++ (l ++ z))) e
     ∙ ap (λ l. a ++ l) (sym (append_assoc intermediates (if ignore then 0x20 ∷ [] else []) z))
-
--- the texts of calls, joined, are their canonical text
-texts-call_text : (calls : List Call) → texts call_text calls ≡ canon calls
-texts-call_text [] = refl
-texts-call_text (call ∷ calls) = ap (λ t. call_text call ++ t) (texts-call_text calls)
-
--- what a canonical writer adds by a list of calls is their canonical text
-pub Adds-canon : {W : Type 0} (contents : W → Option (List ℕ)) (has_failed : W → Bool) (calls : List Call) (old new : CanonWriter W)
-    → Goes (λ a call b. Adds contents has_failed (call_text call) (output_of a) (output_of b)) old calls new
-    → Adds contents has_failed (canon calls) (output_of old) (output_of new)
-Adds-canon contents has_failed calls old new goes =
-    subst (λ t. Adds contents has_failed t (output_of old) (output_of new)) (texts-call_text calls)
-    (Adds-calls contents has_failed output_of call_text calls old new goes)

@@ -61,6 +61,11 @@ HaveFields-cut (l ∷ ls) ns e h =
       HaveFields-cut ls (drop l ns) (and_parts (ltb 0 l) (none_is_zero ls) e).1 (omega (arith, length-drop l ns)),
     )
 
+-- groups that have fields are no more than the fields
+pub length-have_fields : (groups : List (List ℕ)) → HaveFields groups → length groups ≤ length (concat groups)
+length-have_fields [] have = omega arith
+length-have_fields (group ∷ groups) have = omega (arith, have.0, length-have_fields groups have.1, length-append group (concat groups))
+
 HaveFields-push : (gs : List (List ℕ)) (x : ℕ) (xs : List ℕ) → HaveFields gs → HaveFields (gs ++ (x ∷ xs) ∷ [])
 HaveFields-push [] x xs h = (omega arith, tt)
 HaveFields-push (g ∷ gs) x xs h = (h.0, HaveFields-push gs x xs h.1)

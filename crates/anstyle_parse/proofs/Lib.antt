@@ -17,6 +17,7 @@ pub mod DivisionHeaders
 pub mod DivisionExists
 pub mod DivisionRuns
 pub mod DivisionOnly
+pub mod PackedTable
 pub mod StandTable
 pub mod Reaches
 pub mod StandActions
@@ -51,6 +52,7 @@ pub mod LawfulCalls
 pub mod CanonTwice
 pub mod CanonBytes
 pub mod OutputLemmas
+pub mod EngineLemmas
 pub mod JoinLemmas
 pub mod CanonWriterLemmas
 pub mod Forgotten

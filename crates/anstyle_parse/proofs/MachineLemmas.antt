@@ -8,7 +8,7 @@ use Rattle.anstyle_parse.specs.declared.state.definitions.State.TheVariants.{Any
 use Rattle.anstyle_parse.specs.declared.state.definitions.Action.{Action}
 use Rattle.anstyle_parse.specs.Call.{Call, Goes}
 use Rattle.anstyle_parse.specs.Table.{change_at}
-use Rattle.anstyle_parse.specs.Machine.{Machine, Adds, stored_count, with_part, storing, after_action, action_calls, exit_action, entry_action, after_change, change_calls, after_continuation, print_answer, step, step_calls, step_from, step_calls_from}
+use Rattle.anstyle_parse.specs.Machine.{Machine, Adds, stored_count, with_part, storing, after_action, action_calls, exit_action, entry_action, after_change, change_calls, step, step_calls, step_from, step_calls_from}
 
 module _ {A : Type 0} (m : Machine A) where
   -- the same text, cut into the same parts
@@ -63,25 +63,25 @@ module _ {A : Type 0} (add : Adds A) where
   accumulator-exit OscString b m = cond_both (eqb (length m.closed_parts) max_osc_parts) m (record m { closed_parts = m.closed_parts ++ m.open_part ∷ []; open_part = [] }) (λ n. n.accumulator ≡ m.accumulator) (λ _. refl) (λ _. refl)
   accumulator-exit state b m = refl
 
-  step_from-outside : (state : State) (b : ℕ) (m : Machine A) → (state ≡ Utf8 → ⊥) → step_from add state b m ≡ after_change add (change_at state b).state (change_at state b).action b m
+  pub step_from-outside : (state : State) (b : ℕ) (m : Machine A) → (state ≡ Utf8 → ⊥) → step_from add state b m ≡ after_change add (change_at state b).state (change_at state b).action b m
   step_from-outside Utf8 b m ne = absurd (ne refl)
   step_from-outside state b m ne = refl
 
-  step_calls_from-outside : (state : State) (b : ℕ) (m : Machine A) → (state ≡ Utf8 → ⊥) → step_calls_from add state b m ≡ change_calls add (change_at state b).state (change_at state b).action b m
+  pub step_calls_from-outside : (state : State) (b : ℕ) (m : Machine A) → (state ≡ Utf8 → ⊥) → step_calls_from add state b m ≡ change_calls add (change_at state b).state (change_at state b).action b m
   step_calls_from-outside Utf8 b m ne = absurd (ne refl)
   step_calls_from-outside state b m ne = refl
 
-  pub step-inside : (b : ℕ) (m : Machine A) → m.state ≡ Utf8 → step add b m ≡ after_continuation add b m
+  pub step-at : (state : State) (b : ℕ) (m : Machine A) → m.state ≡ state → step add b m ≡ step_from add state b m
   unfolding step
-  step-inside b m e = ap (λ s. step_from add s b m) e
+  step-at state b m e = ap (λ s. step_from add s b m) e
 
   pub step-outside : (b : ℕ) (m : Machine A) → (m.state ≡ Utf8 → ⊥) → step add b m ≡ after_change add (change_at m.state b).state (change_at m.state b).action b m
   unfolding step
   step-outside b m ne = step_from-outside m.state b m ne
 
-  pub step_calls-inside : (b : ℕ) (m : Machine A) → m.state ≡ Utf8 → step_calls add b m ≡ print_answer (add m.accumulator b).1
+  pub step_calls-at : (state : State) (b : ℕ) (m : Machine A) → m.state ≡ state → step_calls add b m ≡ step_calls_from add state b m
   unfolding step_calls
-  step_calls-inside b m e = ap (λ s. step_calls_from add s b m) e
+  step_calls-at state b m e = ap (λ s. step_calls_from add s b m) e
 
   pub step_calls-outside : (b : ℕ) (m : Machine A) → (m.state ≡ Utf8 → ⊥) → step_calls add b m ≡ change_calls add (change_at m.state b).state (change_at m.state b).action b m
   unfolding step_calls

@@ -1,6 +1,7 @@
 pub mod Bytes
 pub mod State
 pub mod Table
+pub mod Packed
 pub mod Call
 pub mod Characters
 pub mod Arguments
@@ -24,3 +25,5 @@ pub mod Devices
 pub mod Output
 pub mod Buffer
 pub mod CanonWriter
+pub mod Adding
+pub mod Run

@@ -3,6 +3,7 @@
 mod buffer;
 mod checkpoints;
 mod devices;
+mod engine;
 mod output;
 mod writer;
 
@@ -13,6 +14,7 @@ mod tests;
 
 pub use checkpoints::checkpoint;
 pub use devices::{FromRead, FromWrite, Sink, Source};
+pub use engine::{CallWriter, KeepsFault, Stop, drive, write_calls, write_calls_between};
 pub use output::Output;
 pub use writer::CanonWriter;
 

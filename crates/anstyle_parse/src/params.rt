@@ -36,12 +36,14 @@ pub struct Params {
 }
 
 impl Params {
+    ghost use Rattle.anstyle_parse.specs.Arguments.{max_fields};
     ghost use Rattle.anstyle_parse.specs.Groups.{HaveFields};
-    ghost use Rattle.anstyle_parse.specs.Params.{groups_shown, groups_left, closed_groups_of, open_group_of};
+    ghost use Rattle.anstyle_parse.specs.Params.{groups_shown, groups_left, closed_groups_of, open_group_of, AreFew};
 
-    /// How many fields there are, subparameters included.
+    /// How many fields there are, subparameters included: at most 32.
     pub fn len(&self) -> usize
-        ensures { result ≡ length (concat (groups_shown self.now)) }
+        ensures fields { result ≡ length (concat (groups_shown self.now)) }
+        ensures limit { result ≤ max_fields }
     {
         self.len
     }
@@ -53,10 +55,12 @@ impl Params {
         self.len == 0
     }
 
-    /// The groups in order, each a slice of these parameters. None of them is empty.
+    /// The groups in order, each a slice of these parameters. None of them is empty, and
+    /// there are at most 32 fields in all.
     pub fn iter(&self) -> ParamsIter<'_>
         ensures groups { groups_left result ≡ groups_shown self.now }
         ensures have_fields { HaveFields (groups_shown self.now) }
+        ensures limit { AreFew (groups_shown self.now) }
     {
         let groups = if self.open_fields == 0 {
             self.closed_groups
@@ -256,9 +260,10 @@ impl<'a> IntoIterator for &'a Params {
     type IntoIter = ParamsIter<'a>;
 
     ghost use Rattle.anstyle_parse.specs.Groups.{HaveFields};
-    ghost use Rattle.anstyle_parse.specs.Params.{groups_shown, groups_left};
+    ghost use Rattle.anstyle_parse.specs.Params.{groups_shown, groups_left, AreFew};
 
-    ghost into_iter_gives = { λ params iter. (groups_left iter ≡ groups_shown params.now) × HaveFields (groups_shown params.now) };
+    ghost into_iter_gives = { λ params iter. (groups_left iter ≡ groups_shown params.now)
+        × HaveFields (groups_shown params.now) × AreFew (groups_shown params.now) };
 
     /// The groups in order, as `iter` gives them.
     fn into_iter(self) -> ParamsIter<'a> {

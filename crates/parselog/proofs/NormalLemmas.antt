@@ -8,7 +8,8 @@ use Rattle.anstyle_parse.proofs.CanonReplay.{replay}
 use Rattle.anstyle_parse.proofs.CanonTwice.{canon_twice}
 use Rattle.anstyle_parse.proofs.DivisionOnly.{AreCalls-only}
 use Rattle.anstyle_parse.proofs.LawfulCalls.{lawful}
-use Rattle.parselog.specs.Run.{Runs, Normalises}
+use Rattle.anstyle_parse.specs.Run.{Runs}
+use Rattle.parselog.specs.Run.{Normalises}
 
 pub Normalises-run : (R W T : Type 0) (remaining : R → Option (List ℕ)) (reader_failed : R → Bool) (zero_is_end : Bool) (contents : W → Option (List ℕ)) (writer_failed : W → Bool)
     (reader reader_after : R) (writer writer_after : W) (answer : Result T Fault)

@@ -1,10 +1,10 @@
 //! One line for each call of the parser.
-ghost use Rattle.std.specs.Prelude.{◌≡◌, ◌++◌, [], ◌∷◌, ℕ, None, OnOk, map};
-ghost use Rattle.parselog.specs.Lines.{line, hex_digit, hex_list, truth, parts_text, end_text, header_text, newline};
+ghost use Rattle.std.specs.Prelude.{◌≡◌, ◌++◌, [], ◌∷◌, ℕ, ⊤, None, OnOk, map, refl};
+ghost use Rattle.parselog.specs.Lines.{line, lines, hex_digit, hex_list, truth, parts_text, end_text, header_text, newline};
 ghost use Rattle.anstyle_parse.specs.Call.{Call, print, execute, hook, put, unhook, osc_dispatch, csi_dispatch, esc_dispatch};
 ghost use Rattle.anstyle_parse.specs.Output.{Adds, Finishes, writer_in, fault_in};
 
-use anstyle_parse::canon::{Fault, Output, Sink};
+use anstyle_parse::canon::{CallWriter, Fault, KeepsFault, Output, Sink};
 use anstyle_parse::{Params, Perform};
 
 /// Writes a line for each call.
@@ -48,17 +48,15 @@ impl<W: Sink> LogWriter<W> {
     }
 }
 
+/// The hexadecimal digits.
+const DIGITS: [u8; 16] = *b"0123456789ABCDEF";
+
 /// The last hexadecimal digit of a number.
 #[inline(always)]
 fn digit(number: u32) -> u8
     ensures { result ≡ hex_digit number }
 {
-    let last = (number % 16) as u8;
-    if last < 10 {
-        b'0' + last
-    } else {
-        b'A' - 10 + last
-    }
+    DIGITS[(number % 16) as usize]
 }
 
 impl<W: Sink> Perform for LogWriter<W> {
@@ -68,44 +66,39 @@ impl<W: Sink> Perform for LogWriter<W> {
 
     fn print(&mut self, c: char) {
         let n = u32::from(c);
-        let (d5, d4, d3, d2, d1, d0) = (
-            digit(n / 0x10_0000),
-            digit(n / 0x1_0000),
-            digit(n / 0x1000),
-            digit(n / 0x100),
-            digit(n / 0x10),
-            digit(n),
-        );
         if n < 0x1_0000 {
-            self.output.put(&[
-                b'p', b'r', b'i', b'n', b't', b' ', b'U', b'+', d3, d2, d1, d0, b'\n',
-            ]);
+            let mut line = *b"print U+0000\n";
+            line[8] = digit(n / 0x1000);
+            line[9] = digit(n / 0x100);
+            line[10] = digit(n / 0x10);
+            line[11] = digit(n);
+            self.output.put(&line);
         } else if n < 0x10_0000 {
-            self.output.put(&[
-                b'p', b'r', b'i', b'n', b't', b' ', b'U', b'+', d4, d3, d2, d1, d0, b'\n',
-            ]);
+            let mut line = *b"print U+00000\n";
+            line[8] = digit(n / 0x1_0000);
+            line[9] = digit(n / 0x1000);
+            line[10] = digit(n / 0x100);
+            line[11] = digit(n / 0x10);
+            line[12] = digit(n);
+            self.output.put(&line);
         } else {
-            self.output.put(&[
-                b'p', b'r', b'i', b'n', b't', b' ', b'U', b'+', d5, d4, d3, d2, d1, d0, b'\n',
-            ]);
+            let mut line = *b"print U+000000\n";
+            line[8] = digit(n / 0x10_0000);
+            line[9] = digit(n / 0x1_0000);
+            line[10] = digit(n / 0x1000);
+            line[11] = digit(n / 0x100);
+            line[12] = digit(n / 0x10);
+            line[13] = digit(n);
+            self.output.put(&line);
         }
     }
 
     fn execute(&mut self, byte: u8) {
         let n = u32::from(byte);
-        self.output.put(&[
-            b'e',
-            b'x',
-            b'e',
-            b'c',
-            b'u',
-            b't',
-            b'e',
-            b' ',
-            digit(n / 16),
-            digit(n),
-            b'\n',
-        ]);
+        let mut line = *b"execute 00\n";
+        line[8] = digit(n / 16);
+        line[9] = digit(n);
+        self.output.put(&line);
     }
 
     fn hook(&mut self, params: &Params, intermediates: &[u8], ignore: bool, action: u8) {
@@ -114,8 +107,10 @@ impl<W: Sink> Perform for LogWriter<W> {
 
     fn put(&mut self, byte: u8) {
         let n = u32::from(byte);
-        self.output
-            .put(&[b'p', b'u', b't', b' ', digit(n / 16), digit(n), b'\n']);
+        let mut line = *b"put 00\n";
+        line[4] = digit(n / 16);
+        line[5] = digit(n);
+        self.output.put(&line);
     }
 
     fn unhook(&mut self) {
@@ -137,6 +132,49 @@ impl<W: Sink> Perform for LogWriter<W> {
         self.output.put(b"esc_dispatch ");
         put_end(&mut self.output, intermediates, ignore, byte);
     }
+}
+
+impl<W: Sink> KeepsFault for LogWriter<W> {
+    ghost use Rattle.parselog.specs.Log.{output_of};
+
+    ghost kept = { λ performer. fault_in (output_of performer) };
+
+    fn kept_fault(&self) -> Option<Fault> {
+        self.fault()
+    }
+}
+
+/// The lines have no ending.
+impl<W: Sink> CallWriter<W> for LogWriter<W> {
+    ghost use Rattle.anstyle_parse.proofs.OutputLemmas.{Adds-calls};
+    ghost use Rattle.parselog.specs.Log.{output_of};
+
+    ghost output_in = { output_of };
+
+    ghost is_new = { λ _. ⊤ };
+
+    ghost text = { lines };
+
+    ghost ending = { λ _. [] };
+
+    ghost unwritten = { λ _. [] };
+
+    fn over(output: Output<W>) -> LogWriter<W>
+        ensures output { output_of result ≡ output }
+        ensures new { ⊤ }
+    {
+        LogWriter { output }
+    }
+
+    fn into_output(self) -> Output<W> {
+        self.output
+    }
+
+    ghost adds = { λ old calls new _ goes. Adds-calls W.contents W.has_failed output_of line calls old new goes };
+
+    ghost ends = { λ _ _ _ _ _ _. refl };
+
+    ghost keeps = { λ _. refl };
 }
 
 impl<W: Sink> LogWriter<W> {

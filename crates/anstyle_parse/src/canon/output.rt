@@ -1,5 +1,5 @@
 //! The writing that performers share.
-ghost use Rattle.std.specs.Prelude.{◌≡◌, ◌∷◌, [], ℕ, List, decimal, if◌then◌else◌, None, Some, Ok, Err, IsNone, OnSome, OnOk, OnErr, IsTrue};
+ghost use Rattle.std.specs.Prelude.{◌≡◌, ◌∷◌, [], ℕ, List, decimal, if◌then◌else◌, None, Some, Ok, Err, IsNone, OnSome, OnOk, OnErr, IsTrue, encode_utf8};
 ghost use Rattle.std.specs.Io.KnownBytes.{Keeps};
 ghost use Rattle.anstyle_parse.specs.Groups.{fields_text, groups_text};
 ghost use Rattle.anstyle_parse.specs.Output.{Adds};
@@ -59,6 +59,26 @@ impl<W: Sink> Output<W> {
         if self.fault.is_none() && self.writer.write(&[byte]).is_none() {
             self.fault = Some(Fault::Write);
         }
+    }
+
+    /// The same with a character, in UTF-8.
+    #[inline(always)]
+    pub fn put_char(&mut self, c: char)
+        ensures { Adds W.contents W.has_failed (encode_utf8 c) self.old self.new }
+    {
+        if c.is_ascii() {
+            self.put_byte(c as u8);
+        } else {
+            self.put_encoded(c);
+        }
+    }
+
+    /// The same with a character of several bytes.
+    fn put_encoded(&mut self, c: char)
+        ensures { Adds W.contents W.has_failed (encode_utf8 c) self.old self.new }
+    {
+        let mut bytes = [0; 4];
+        self.put(c.encode_utf8(&mut bytes).as_bytes());
     }
 
     /// The fault that stopped it.

@@ -54,7 +54,7 @@ fn canonical_texts(rt: HostRuntime) -> Result<(), Fail> {
         (b"\xE2\x82\xAC", b"\xE2\x82\xAC"),
         (b"\xE2\x82", b""),
         (b"\xED\xA0\x80", b"\xEF\xBF\xBD\x80"),
-        (b"\xC3\x1B[m", b"\xEF\xBF\xBD[m"),
+        (b"\xC3\x1B[m", b"\xEF\xBF\xBD\x1B[0m"),
         (b"\x1B[4;m", b"\x1B[4;0m"),
         (b"\x1B[?1049h", b"\x1B[?1049h"),
         (b"\x1B([", b"\x1B(["),

@@ -1,12 +1,12 @@
 //! Canonical texts.
-ghost use Rattle.std.specs.Prelude.{◌≡◌, ◌++◌, ◌∷◌, [], None, OnOk, map, encode_utf8, if◌then◌else◌};
+ghost use Rattle.std.specs.Prelude.{◌≡◌, ◌++◌, ◌∷◌, [], ⊤, None, OnOk, map, refl, if◌then◌else◌};
 ghost use Rattle.std.specs.List.{join_with_byte};
 ghost use Rattle.anstyle_parse.specs.Bytes.{escape_byte, semicolon};
 ghost use Rattle.anstyle_parse.specs.Arguments.{after_marker};
-ghost use Rattle.anstyle_parse.specs.Canon.{is_full, call_text, header_text, leading_marker, one_more_field, one_more_intermediate, command_end};
+ghost use Rattle.anstyle_parse.specs.Canon.{is_full, call_text, canon, header_text, leading_marker, one_more_field, one_more_intermediate, command_end};
 ghost use Rattle.anstyle_parse.specs.Output.{writer_in, fault_in, Adds, Finishes};
 
-use super::{Fault, Output, Sink};
+use super::{CallWriter, Fault, KeepsFault, Output, Sink};
 use crate::params::Params;
 use crate::perform::Perform;
 
@@ -84,11 +84,7 @@ impl<W: Sink> Perform for CanonWriter<W> {
 
     #[inline(always)]
     fn print(&mut self, c: char) {
-        if c.is_ascii() {
-            self.output.put_byte(c as u8);
-        } else {
-            self.print_encoded(c);
-        }
+        self.output.put_char(c);
     }
 
     #[inline]
@@ -127,17 +123,52 @@ impl<W: Sink> Perform for CanonWriter<W> {
     }
 }
 
+impl<W: Sink> KeepsFault for CanonWriter<W> {
+    ghost use Rattle.anstyle_parse.specs.CanonWriter.{output_of};
+
+    ghost kept = { λ performer. fault_in (output_of performer) };
+
+    fn kept_fault(&self) -> Option<Fault> {
+        self.fault()
+    }
+}
+
+/// The canonical text has no ending.
+impl<W: Sink> CallWriter<W> for CanonWriter<W> {
+    ghost use Rattle.anstyle_parse.specs.Adding.{Adds-canon};
+    ghost use Rattle.anstyle_parse.specs.CanonWriter.{output_of};
+
+    ghost output_in = { output_of };
+
+    ghost is_new = { λ _. ⊤ };
+
+    ghost text = { canon };
+
+    ghost ending = { λ _. [] };
+
+    ghost unwritten = { λ _. [] };
+
+    fn over(output: Output<W>) -> CanonWriter<W>
+        ensures output { output_of result ≡ output }
+        ensures new { ⊤ }
+    {
+        CanonWriter { output }
+    }
+
+    fn into_output(self) -> Output<W> {
+        self.output
+    }
+
+    ghost adds = { λ old calls new _ goes. Adds-canon W.contents W.has_failed calls old new goes };
+
+    ghost ends = { λ _ _ _ _ _ _. refl };
+
+    ghost keeps = { λ _. refl };
+}
+
 impl<W: Sink> CanonWriter<W> {
     ghost use Rattle.anstyle_parse.specs.Params.{groups_shown};
     ghost use Rattle.anstyle_parse.specs.CanonWriter.{output_of};
-
-    /// A character of several bytes.
-    fn print_encoded(&mut self, c: char)
-        ensures { Adds W.contents W.has_failed (encode_utf8 c) (output_of self.old) (output_of self.new) }
-    {
-        let mut bytes = [0; 4];
-        self.output.put(c.encode_utf8(&mut bytes).as_bytes());
-    }
 
     /// A call with a header: the byte that begins it, what it shows, and the final byte.
     fn header(

@@ -2,7 +2,7 @@
 -- into the groups that are shown.
 use Rattle.std.proofs.Common.{take, drop, arith, ap, sym, ◌∙◌}
 use Rattle.anstyle_parse.specs.Groups.{total, cut, shown_groups}
-use Rattle.anstyle_parse.proofs.GroupLemmas.{cut_front, cut_front_open, sum_front, sum_front_open, shown-have_fields}
+use Rattle.anstyle_parse.proofs.GroupLemmas.{cut_front, cut_front_open, sum_front, sum_front_open, shown-have_fields, shown_total, length-have_fields}
 use Rattle.anstyle_parse.proofs.params.Params.iter.Goals as goal
 use Rattle.anstyle_parse.proofs.params.Params.iter.Goals.{then-self-eq0, else-self-eq0}
 
@@ -39,3 +39,9 @@ pub returns-clause-have_fields : goal.returns-clause-have_fields
 returns-clause-have_fields c =
     let p = c.args.self.now in
     shown-have_fields p.numbers p.lengths p.closed_groups p.open_fields p.len p.summed (omega arith) p.none_is_empty
+
+pub returns-clause-limit : goal.returns-clause-limit
+returns-clause-limit c =
+    let p = c.args.self.now in
+    let all = shown_total p.numbers p.lengths p.closed_groups p.open_fields p.len p.summed (omega arith) in
+    (omega (arith, all, length-have_fields _ (returns-clause-have_fields c)), omega (arith, all))

@@ -1,0 +1,22 @@
+-- What is read so far has gone to the performer, and nothing failed.
+use Rattle.std.proofs.Common.{◌≡◌, ◌≤◌, List, ℕ, None, length}
+use Rattle.std.specs.Io.KnownBytes.{Consumes}
+use Rattle.anstyle_parse.specs.Accumulator.{front_of}
+use Rattle.anstyle_parse.specs.Call.{Call, Goes}
+use Rattle.anstyle_parse.specs.Calls.{AreCalls}
+use Rattle.anstyle_parse.specs.Parser.{IsAfter}
+use Rattle.anstyle_parse.proofs.canon.engine.drive.Given as goal
+
+abbrev pub invariant-loop-turn : goal.invariant-loop-turn
+invariant-loop-turn g l = record {
+  read : List ℕ;
+  calls : List Call;
+  consumed : Consumes (g.R.Source.remaining l.initial.reader) (g.R.Source.remaining l.reader) read;
+  are_calls : AreCalls read calls;
+  performed : Goes g.P.Perform.means l.initial.performer calls l.performer;
+  stands : IsAfter front_of l.parser read;
+  no_fault : g.P.KeepsFault.kept l.performer ≡ None;
+  not_failed : g.R.Source.has_failed l.reader ≡ g.R.Source.has_failed l.initial.reader;
+  counted : l.turn ≤ length read;
+  room : length l.piece ≡ 4096;
+}

@@ -1,0 +1,5 @@
+use Rattle.anstyle_parse.proofs.LawfulCalls.{lawful}
+use Rattle.anstyle_parse.proofs.laws.calls_are_lawful.Goals as goal
+
+pub returns : goal.returns
+returns c = lawful

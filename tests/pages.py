@@ -5,7 +5,7 @@ import html.parser
 # What a program of colours writes, and what a stranger may put into a log. In the last ones a
 # reference, a tag or a character is cut, or stands where it is no text.
 STREAMS = {
-    "a compiler's error": b"\x1b[01m\x1b[Ka.c:1:\x1b[m\x1b[K \x1b[01;31m\x1b[Kno: \x1b[m\x1b[K'x'\n",
+    "a compiler's error": b"\x1b[01m\x1b[Ka.c:1:\x1b[m\x1b[K \x1b[01;31m\x1b[Kno: \x1b[m'x'\n",
     "a listing": b"\x1b[0m\x1b[01;34mbin\x1b[0m  \x1b[38;5;208mold\x1b[39m \x1b[30;42mt\x1b[0m\r\n",
     "a prompt": b"\x1b]0;me@here: ~\x07\x1b[1;32mme\x1b[0m:\x1b[38;2;1;2;3m~\x1b[0m$ \x1b[?2004l\r",
     "styles that are not ended": b"\x1b[1ma\x1b[4mb\x1b[7mc\x1b[31md\x1b[9me\n\n",

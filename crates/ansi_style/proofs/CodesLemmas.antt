@@ -6,14 +6,14 @@ use Rattle.std.specs.List.{concat, AllByRecursion}
 use Rattle.std.proofs.lemmas.Bool.{lt-ltb}
 use Rattle.std.proofs.lemmas.Grind.{flat_map-append}
 use Rattle.std.proofs.lemmas.List.{map_more}
-use Rattle.anstyle_parse.specs.Bytes.{semicolon, escape_byte, is_within}
-use Rattle.anstyle_parse.specs.Calls.{AreCalls}
-use Rattle.anstyle_parse.specs.Groups.{fields_text, groups_text}
-use Rattle.anstyle_parse.specs.Lawful.{IsGroup, AreLawful}
-use Rattle.anstyle_parse.specs.TextLaw.{AreSent}
-use Rattle.anstyle_parse.proofs.CanonReplay.{replay}
-use Rattle.anstyle_parse.proofs.GroupLemmas.{concat-append}
-use Rattle.anstyle_parse.proofs.TextLaw.{canon-csi_dispatch, IsHeaderCall-sent}
+use Rattle.anstyle_parse.specs.Stream.Bytes.{semicolon, escape_byte, is_within}
+use Rattle.anstyle_parse.specs.Stream.Calls.{AreCalls}
+use Rattle.anstyle_parse.specs.Stream.Groups.{fields_text, groups_text}
+use Rattle.anstyle_parse.specs.Laws.Lawful.{IsGroup, AreLawful}
+use Rattle.anstyle_parse.specs.Laws.TextLaw.{AreSent}
+use Rattle.anstyle_parse.proofs.Canonical.Replay.{replay}
+use Rattle.anstyle_parse.proofs.Arguments.Lengths.{concat-append}
+use Rattle.anstyle_parse.proofs.Canonical.DebugText.{canon-csi_dispatch, IsHeaderCall-sent}
 use Rattle.ansi_style.specs.declared.style.Style.{Style}
 use Rattle.ansi_style.specs.declared.style.Color.{Color}
 use Rattle.ansi_style.specs.declared.style.Color.TheVariants.{Default, Named, Bright, Indexed, Direct}

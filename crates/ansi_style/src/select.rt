@@ -2,7 +2,7 @@
 ghost use Rattle.std.specs.Prelude.{◌≡◌, ◌++◌, ◌∷◌, []};
 ghost use Rattle.ansi_style.specs.Style.{hue_at};
 ghost use Rattle.ansi_style.specs.Rendition.{with_code, with_underline, target_of, with_some_color, color_in, indexed, mixed, with_group, with_target, expected_for, expected_for_kind, expected_after, selected, is_selection, style_after};
-ghost use Rattle.anstyle_parse.specs.Params.{groups_shown};
+ghost use Rattle.anstyle_parse.specs.Fields.Params.{groups_shown};
 
 use crate::style::{Color, Hue, Style, Underline};
 use anstyle_parse::{Params, Perform};

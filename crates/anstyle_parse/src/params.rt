@@ -3,7 +3,7 @@
 ghost use Rattle.std.specs.Prelude.{◌≡◌, ◌<◌, ◌≤◌, ◌+◌, ◌-◌, ◌/◌, ◌%◌, ◌^◌, ◌++◌, ◌∷◌, [], ◌↔◌, ℕ, IsTrue, IfSome, ⊤, length};
 ghost use Rattle.std.specs.Bool.{OnFalse, OnTrue};
 ghost use Rattle.std.specs.List.{concat};
-ghost use Rattle.anstyle_parse.specs.Groups.{fields_text};
+ghost use Rattle.anstyle_parse.specs.Stream.Groups.{fields_text};
 ghost use Rattle.std.specs.Iterator.{YieldsFirstBy, item_count, UpTo};
 ghost use Rattle.std.specs.Iterator.SizeHint.{IsWithinCount};
 ghost use Rattle.std.specs.Fmt.{WritesOnOk};
@@ -34,9 +34,9 @@ pub struct Params {
 }
 
 impl Params {
-    ghost use Rattle.anstyle_parse.specs.Arguments.{max_fields};
-    ghost use Rattle.anstyle_parse.specs.Groups.{HaveFields};
-    ghost use Rattle.anstyle_parse.specs.Params.{groups_shown, groups_left, closed_groups_of, open_group_of, AreFew};
+    ghost use Rattle.anstyle_parse.specs.Stream.Arguments.{max_fields};
+    ghost use Rattle.anstyle_parse.specs.Stream.Groups.{HaveFields};
+    ghost use Rattle.anstyle_parse.specs.Fields.Params.{groups_shown, groups_left, closed_groups_of, open_group_of, AreFew};
 
     /// How many fields there are, subparameters included: at most 32.
     pub fn len(&self) -> usize
@@ -130,7 +130,7 @@ impl Params {
 }
 
 impl Default for Params {
-    ghost use Rattle.anstyle_parse.specs.Params.{groups_shown};
+    ghost use Rattle.anstyle_parse.specs.Fields.Params.{groups_shown};
 
     ghost is_default = { λ params. groups_shown params ≡ [] };
 
@@ -148,8 +148,8 @@ impl Default for Params {
 /// them, then `]`.
 impl fmt::Debug for Params {
     ghost use Rattle.std.specs.Prelude.{Some};
-    ghost use Rattle.anstyle_parse.specs.Params.{groups_shown};
-    ghost use Rattle.anstyle_parse.specs.DebugText.{debug_text};
+    ghost use Rattle.anstyle_parse.specs.Fields.Params.{groups_shown};
+    ghost use Rattle.anstyle_parse.specs.Laws.DebugText.{debug_text};
 
     ghost debug_output = { λ params. Some (debug_text (groups_shown params)) };
 
@@ -180,10 +180,10 @@ impl Clone for Params {
 impl Params {
     ghost use Rattle.std.specs.Prelude.{List};
     ghost use Rattle.std.specs.Cmp.{IsEquivalence};
-    ghost use Rattle.anstyle_parse.specs.Params.{groups_shown};
-    ghost use Rattle.anstyle_parse.specs.Call.{Call};
-    ghost use Rattle.anstyle_parse.specs.Calls.{AreCalls};
-    ghost use Rattle.anstyle_parse.specs.TextLaw.{AreSent, HandsOut, IsReadBack};
+    ghost use Rattle.anstyle_parse.specs.Fields.Params.{groups_shown};
+    ghost use Rattle.anstyle_parse.specs.Stream.Call.{Call};
+    ghost use Rattle.anstyle_parse.specs.Stream.Calls.{AreCalls};
+    ghost use Rattle.anstyle_parse.specs.Laws.TextLaw.{AreSent, HandsOut, IsReadBack};
 
     /// `==` is reflexive, symmetric and transitive, and equal parameters show equal groups.
     ///
@@ -222,7 +222,7 @@ pub struct ParamsIter<'a> {
 impl<'a> Iterator for ParamsIter<'a> {
     type Item = &'a [u16];
 
-    ghost use Rattle.anstyle_parse.specs.Params.{groups_left};
+    ghost use Rattle.anstyle_parse.specs.Fields.Params.{groups_left};
 
     ghost next_gives = { YieldsFirstBy (λ x. x.now) groups_left };
 
@@ -253,7 +253,7 @@ impl<'a> Iterator for ParamsIter<'a> {
 }
 
 impl<'a> ExactSizeIterator for ParamsIter<'a> {
-    ghost use Rattle.anstyle_parse.specs.Params.{groups_left};
+    ghost use Rattle.anstyle_parse.specs.Fields.Params.{groups_left};
 
     /// How many groups are left.
     fn len(&self) -> usize {
@@ -273,8 +273,8 @@ impl<'a> IntoIterator for &'a Params {
 
     type IntoIter = ParamsIter<'a>;
 
-    ghost use Rattle.anstyle_parse.specs.Groups.{HaveFields};
-    ghost use Rattle.anstyle_parse.specs.Params.{groups_shown, groups_left, AreFew};
+    ghost use Rattle.anstyle_parse.specs.Stream.Groups.{HaveFields};
+    ghost use Rattle.anstyle_parse.specs.Fields.Params.{groups_shown, groups_left, AreFew};
 
     ghost into_iter_gives = { λ params iter. (groups_left iter ≡ groups_shown params.now)
         × HaveFields (groups_shown params.now) × AreFew (groups_shown params.now) };
@@ -286,8 +286,8 @@ impl<'a> IntoIterator for &'a Params {
 }
 
 impl<'a> ParamsIter<'a> {
-    ghost use Rattle.anstyle_parse.specs.Params.{groups_left};
-    ghost use Rattle.anstyle_parse.specs.Groups.{groups_text};
+    ghost use Rattle.anstyle_parse.specs.Fields.Params.{groups_left};
+    ghost use Rattle.anstyle_parse.specs.Stream.Groups.{groups_text};
 
     /// Writes the groups that are left, with `;` between them.
     fn write_texts<W: fmt::Write>(mut self, f: &mut fmt::Formatter<W>) -> fmt::Result

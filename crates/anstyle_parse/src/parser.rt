@@ -1,8 +1,8 @@
 //! The parser: a state, what a sequence has said so far, and an accumulator of characters.
 ghost use Rattle.std.specs.Prelude.{◌≡◌, ◌≢◌, ◌≤◌, ◌<◌, ℕ, List, false, length, take, map};
-ghost use Rattle.anstyle_parse.specs.Groups.{total, cut};
-ghost use Rattle.anstyle_parse.specs.Call.{Goes};
-ghost use Rattle.anstyle_parse.specs.Machine.{exit_action as exit_of, entry_action as entry_of};
+ghost use Rattle.anstyle_parse.specs.Stream.Groups.{total, cut};
+ghost use Rattle.anstyle_parse.specs.Stream.Call.{Goes};
+ghost use Rattle.anstyle_parse.specs.Machine.Step.{exit_action as exit_of, entry_action as entry_of};
 ghost use Rattle.arrayvec.specs.ArrayVec.{array_vec_len};
 
 use crate::accumulator::{CharAccumulator, DefaultCharAccumulator, Taken, Utf8Parser};
@@ -50,7 +50,7 @@ pub struct Parser<C = DefaultCharAccumulator> {
 }
 
 impl<C: CharAccumulator> Default for Parser<C> {
-    ghost use Rattle.anstyle_parse.specs.Parser.{IsNew};
+    ghost use Rattle.anstyle_parse.specs.Fields.Parser.{IsNew};
 
     ghost is_default = { IsNew C.Default.is_default };
 
@@ -73,8 +73,8 @@ impl<C: CharAccumulator> Default for Parser<C> {
 }
 
 impl<C: Clone> Clone for Parser<C> {
-    ghost use Rattle.anstyle_parse.specs.Machine.{with_accumulator};
-    ghost use Rattle.anstyle_parse.specs.Parser.{machine_of, accumulator_of};
+    ghost use Rattle.anstyle_parse.specs.Machine.Step.{with_accumulator};
+    ghost use Rattle.anstyle_parse.specs.Fields.Parser.{machine_of, accumulator_of};
 
     ghost is_clone = { λ parser clone. C.is_clone (accumulator_of parser) (accumulator_of clone)
         × (machine_of clone ≡ with_accumulator (accumulator_of clone) (machine_of parser)) };
@@ -104,15 +104,15 @@ impl<C: Clone> Clone for Parser<C> {
 
 impl<C: CharAccumulator> Parser<C> {
     ghost use Rattle.std.specs.Prelude.{◌++◌, ◌∷◌, [], IsTrue, ◌↔◌, ◌⊎◌};
-    ghost use Rattle.anstyle_parse.specs.Bytes.{is_cancel, escape_byte};
-    ghost use Rattle.anstyle_parse.specs.Parser.{machine_of, IsNew, IsInCharacter, HasOpenString, BreaksCharacter, MayTake, MayTakeAll, IsAfter, IsAfterAscii, AreBelow};
-    ghost use Rattle.anstyle_parse.specs.Machine.{step, step_calls, machine_after, machine_calls, IsWithinLimits};
-    ghost use Rattle.anstyle_parse.specs.Calls.{Continues, AreCalls, HasReceived};
-    ghost use Rattle.anstyle_parse.specs.Call.{Call};
-    ghost use Rattle.anstyle_parse.specs.Canon.{canon};
-    ghost use Rattle.anstyle_parse.specs.Lawful.{AreLawful};
-    ghost use Rattle.anstyle_parse.specs.Stands.{EndsInCharacter};
-    ghost use Rattle.anstyle_parse.specs.Accumulator.{IsEmpty, front_of};
+    ghost use Rattle.anstyle_parse.specs.Stream.Bytes.{is_cancel, escape_byte};
+    ghost use Rattle.anstyle_parse.specs.Fields.Parser.{machine_of, IsNew, IsInCharacter, HasOpenString, BreaksCharacter, MayTake, MayTakeAll, IsAfter, IsAfterAscii, AreBelow};
+    ghost use Rattle.anstyle_parse.specs.Machine.Step.{step, step_calls, machine_after, machine_calls, IsWithinLimits};
+    ghost use Rattle.anstyle_parse.specs.Stream.Calls.{Continues, AreCalls, HasReceived};
+    ghost use Rattle.anstyle_parse.specs.Stream.Call.{Call};
+    ghost use Rattle.anstyle_parse.specs.Stream.Canon.{canon};
+    ghost use Rattle.anstyle_parse.specs.Laws.Lawful.{AreLawful};
+    ghost use Rattle.anstyle_parse.specs.Machine.Stands.{EndsInCharacter};
+    ghost use Rattle.anstyle_parse.specs.Fields.Accumulator.{IsEmpty, front_of};
 
     /// A new parser of UTF-8, whatever `C` is.
     pub fn new() -> Parser<Utf8Parser>
@@ -242,8 +242,8 @@ impl<C: CharAccumulator> Parser<C> {
 /// What the parser keeps, for a checkpoint.
 impl<C: CharAccumulator> Parser<C> {
     ghost use Rattle.std.specs.Prelude.{drop};
-    ghost use Rattle.anstyle_parse.specs.Params.{closed_groups_of, open_group_of};
-    ghost use Rattle.anstyle_parse.specs.Parser.{machine_of};
+    ghost use Rattle.anstyle_parse.specs.Fields.Params.{closed_groups_of, open_group_of};
+    ghost use Rattle.anstyle_parse.specs.Fields.Parser.{machine_of};
 
     pub(crate) fn state(&self) -> State
         ensures { result ≡ (machine_of self.now).state }
@@ -292,12 +292,12 @@ impl<C: CharAccumulator> Parser<C> {
 
 /// The actions of a sequence's header.
 impl<C: CharAccumulator> Parser<C> {
-    ghost use Rattle.anstyle_parse.specs.Parser.{machine_of};
-    ghost use Rattle.anstyle_parse.specs.Machine.{cleared, collecting, with_parameter, with_last_field};
+    ghost use Rattle.anstyle_parse.specs.Fields.Parser.{machine_of};
+    ghost use Rattle.anstyle_parse.specs.Machine.Step.{after_clear, after_collect, after_param, with_last_field};
 
     /// Forgets the header of the sequence before.
     fn clear(&mut self)
-        ensures { machine_of self.new ≡ cleared (machine_of self.old) }
+        ensures { machine_of self.new ≡ after_clear (machine_of self.old) }
     {
         self.intermediate_count = 0;
         self.ignoring = false;
@@ -307,7 +307,7 @@ impl<C: CharAccumulator> Parser<C> {
 
     /// Keeps a marker or an intermediate, up to two.
     fn collect(&mut self, byte: u8)
-        ensures { machine_of self.new ≡ collecting byte (machine_of self.old) }
+        ensures { machine_of self.new ≡ after_collect byte (machine_of self.old) }
     {
         if self.intermediate_count == MAX_INTERMEDIATES {
             self.ignoring = true;
@@ -319,7 +319,7 @@ impl<C: CharAccumulator> Parser<C> {
 
     /// A digit of a field, or the separator behind it.
     fn parameter(&mut self, byte: u8)
-        ensures { machine_of self.new ≡ with_parameter byte (machine_of self.old) }
+        ensures { machine_of self.new ≡ after_param byte (machine_of self.old) }
     {
         if self.params.is_full() {
             self.ignoring = true;
@@ -357,12 +357,12 @@ impl<C: CharAccumulator> Parser<C> {
 
 /// The actions of an operating system command.
 impl<C: CharAccumulator> Parser<C> {
-    ghost use Rattle.anstyle_parse.specs.Parser.{machine_of};
-    ghost use Rattle.anstyle_parse.specs.Machine.{with_part, storing, text_begun};
+    ghost use Rattle.anstyle_parse.specs.Fields.Parser.{machine_of};
+    ghost use Rattle.anstyle_parse.specs.Machine.Step.{with_part, after_osc_put, after_osc_start};
 
     /// No text, no parts.
     fn osc_start(&mut self)
-        ensures { machine_of self.new ≡ text_begun (machine_of self.old) }
+        ensures { machine_of self.new ≡ after_osc_start (machine_of self.old) }
     {
         self.osc_text.clear();
         self.osc_parts = 0;
@@ -371,7 +371,7 @@ impl<C: CharAccumulator> Parser<C> {
 
     /// Stores a byte of the text, or closes a part.
     fn osc_put(&mut self, byte: u8)
-        ensures { machine_of self.new ≡ storing byte (machine_of self.old) }
+        ensures { machine_of self.new ≡ after_osc_put byte (machine_of self.old) }
     {
         if self.osc_text.is_full() {
             return;
@@ -416,10 +416,10 @@ fn parts_of<'a>(text: &'a [u8], lengths: &[usize]) -> [&'a [u8]; MAX_OSC_PARTS]
 /// One byte.
 impl<C: CharAccumulator> Parser<C> {
     ghost use Rattle.std.specs.Prelude.{◌∷◌, [], IsTrue, ◌↔◌};
-    ghost use Rattle.anstyle_parse.specs.Call.{print};
-    ghost use Rattle.anstyle_parse.specs.Parser.{machine_of};
-    ghost use Rattle.anstyle_parse.specs.Parser.{CanTake, CanTakeAll, ReachesAccumulator};
-    ghost use Rattle.anstyle_parse.specs.Machine.{after_action, action_calls, after_change, change_calls, after_continuation, print_answer, IsBroken, step_from, step_calls_from, step, step_calls, machine_after, machine_calls};
+    ghost use Rattle.anstyle_parse.specs.Stream.Call.{print};
+    ghost use Rattle.anstyle_parse.specs.Fields.Parser.{machine_of};
+    ghost use Rattle.anstyle_parse.specs.Fields.Parser.{CanTake, CanTakeAll, ReachesAccumulator};
+    ghost use Rattle.anstyle_parse.specs.Machine.Step.{after_action, action_calls, after_change, change_calls, after_continuation, print_answer, IsBroken, step_from, step_calls_from, step, step_calls, machine_after, machine_calls};
 
     /// The command's last part is closed, and all of them are dispatched.
     fn osc_end<P: Perform>(&mut self, performer: &mut P, byte: u8)

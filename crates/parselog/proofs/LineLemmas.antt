@@ -3,7 +3,7 @@ use Rattle.std.proofs.Common.{◌≡◌, ℕ, ◌+◌, ◌/◌, ◌<◌, ◌≤�
 use Rattle.std.specs.Prelude.{if◌then◌else◌}
 use Rattle.std.specs.List.{flat_map}
 use Rattle.std.proofs.lemmas.Bool.{lt-ltb, le-ltb, agree_below_at, eqb-true}
-use Rattle.anstyle_parse.specs.Call.{print, execute}
+use Rattle.anstyle_parse.specs.Stream.Call.{print, execute}
 use Rattle.parselog.specs.Lines.{hex_digit, hex_byte, hex_list, four_digits, truth, end_text, line, newline}
 
 -- the digit that stands at its place among all sixteen

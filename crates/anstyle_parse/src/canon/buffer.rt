@@ -25,7 +25,7 @@ pub struct Buffer<W> {
 }
 
 impl<W: Sink> Buffer<W> {
-    ghost use Rattle.anstyle_parse.specs.Buffer.{writer_behind, held_back, is_by_line, buffer_contents, fault_behind};
+    ghost use Rattle.anstyle_parse.specs.Writing.Buffer.{writer_behind, held_back, is_by_line, buffer_contents, fault_behind};
 
     /// A buffer that holds nothing back, in front of the writer.
     pub fn new(writer: W) -> Buffer<W>
@@ -123,7 +123,7 @@ fn rest_of(bytes: &[u8], count: usize) -> ArrayVec<u8, CAPACITY>
 }
 
 impl<W: Sink> Sink for Buffer<W> {
-    ghost use Rattle.anstyle_parse.specs.Buffer.{writer_behind, held_back, buffer_contents, buffer_failed};
+    ghost use Rattle.anstyle_parse.specs.Writing.Buffer.{writer_behind, held_back, buffer_contents, buffer_failed};
 
     ghost contents = { buffer_contents W.contents };
 
@@ -147,7 +147,7 @@ impl<W: Sink> Sink for Buffer<W> {
 
 impl<W: Sink> Buffer<W> {
     ghost use Rattle.std.specs.Prelude.{IfSome, IfNone, OnSome};
-    ghost use Rattle.anstyle_parse.specs.Buffer.{writer_behind, held_back, is_by_line, buffer_contents};
+    ghost use Rattle.anstyle_parse.specs.Writing.Buffer.{writer_behind, held_back, is_by_line, buffer_contents};
 
     /// Takes bytes that are not held back as they are: those that end a line are handed on,
     /// and of others as many are taken as there is room for, once what is held back has been

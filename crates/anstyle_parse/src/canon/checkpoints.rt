@@ -1,16 +1,16 @@
 //! Parsers written down.
 ghost use Rattle.std.specs.Prelude.{◌≡◌, ◌≤◌, ◌++◌, ◌∷◌, [], ℕ, List, OnOk, length, map, drop, if◌then◌else◌};
 ghost use Rattle.std.specs.List.{flat_map};
-ghost use Rattle.anstyle_parse.specs.Bytes.{semicolon};
-ghost use Rattle.anstyle_parse.specs.Groups.{total, cut};
-ghost use Rattle.anstyle_parse.specs.Canon.{escape_text};
-ghost use Rattle.anstyle_parse.specs.Checkpoint.{checkpoint_text, last_separator, number_so_far, header_so_far, command_text};
-ghost use Rattle.anstyle_parse.specs.Accumulator.{front_of};
-ghost use Rattle.anstyle_parse.specs.Front.{bytes_of};
-ghost use Rattle.anstyle_parse.specs.Output.{Adds, Writes, Causes};
-ghost use Rattle.anstyle_parse.specs.Params.{closed_groups_of, open_group_of};
-ghost use Rattle.anstyle_parse.specs.Parser.{machine_of, IsAfter};
-ghost use Rattle.anstyle_parse.specs.Stands.{seen};
+ghost use Rattle.anstyle_parse.specs.Stream.Bytes.{semicolon};
+ghost use Rattle.anstyle_parse.specs.Stream.Groups.{total, cut};
+ghost use Rattle.anstyle_parse.specs.Stream.Canon.{escape_text};
+ghost use Rattle.anstyle_parse.specs.Laws.Checkpoint.{checkpoint_text, last_separator, number_so_far, header_so_far, command_text};
+ghost use Rattle.anstyle_parse.specs.Fields.Accumulator.{front_of};
+ghost use Rattle.anstyle_parse.specs.Fields.Front.{bytes_of};
+ghost use Rattle.anstyle_parse.specs.Writing.Output.{Adds, Writes, Causes};
+ghost use Rattle.anstyle_parse.specs.Fields.Params.{closed_groups_of, open_group_of};
+ghost use Rattle.anstyle_parse.specs.Fields.Parser.{machine_of, IsAfter};
+ghost use Rattle.anstyle_parse.specs.Machine.Stands.{seen};
 
 use super::writer::{split_marker, text_if};
 use super::{Fault, Output, Sink};

@@ -2,14 +2,14 @@
 use Rattle.std.proofs.Common.{ℕ, List, [], ◌∷◌, ◌∙◌, sym, ap, subst}
 use Rattle.std.specs.Prelude.{if◌then◌else◌}
 use Rattle.std.proofs.lemmas.Bool.{false≢true}
-use Rattle.anstyle_parse.specs.Arguments.{after_marker}
-use Rattle.anstyle_parse.specs.Bytes.{semicolon}
-use Rattle.anstyle_parse.specs.Canon.{leading_marker}
-use Rattle.anstyle_parse.specs.Params.{closed_groups_of, open_group_of}
-use Rattle.anstyle_parse.specs.Parser.{machine_of}
-use Rattle.anstyle_parse.specs.Output.{Adds}
-use Rattle.anstyle_parse.proofs.OutputLemmas.{Adds-append, Adds-append3}
-use Rattle.anstyle_parse.proofs.CheckpointParts.{header_so_far-full, header_so_far-room}
+use Rattle.anstyle_parse.specs.Stream.Arguments.{after_marker}
+use Rattle.anstyle_parse.specs.Stream.Bytes.{semicolon}
+use Rattle.anstyle_parse.specs.Stream.Canon.{leading_marker}
+use Rattle.anstyle_parse.specs.Fields.Params.{closed_groups_of, open_group_of}
+use Rattle.anstyle_parse.specs.Fields.Parser.{machine_of}
+use Rattle.anstyle_parse.specs.Writing.Output.{Adds}
+use Rattle.anstyle_parse.proofs.Written.Output.{Adds-append, Adds-append3}
+use Rattle.anstyle_parse.proofs.Written.Checkpoint.{header_so_far-full, header_so_far-room}
 use Rattle.anstyle_parse.proofs.canon.checkpoints.put_header.Goals as goal
 
 pub returns-then-is_full : goal.returns-then-is_full

@@ -1,4 +1,5 @@
 -- What the public calls say of streams, from what they say of the machine.
+use Rattle.std.specs.Bool.{OnFalse}
 use Rattle.std.proofs.Common.{◌≡◌, Bool, true, false, IsTrue, refl, ◌<◌, ℕ, List, [], ◌∷◌, ◌++◌, ⊎_elim, inl, inr, sym, ap, ◌∙◌, subst, arith, get_or, Option}
 use Rattle.std.proofs.lemmas.List.{get_or_default}
 use Rattle.std.proofs.lemmas.List.Elements.{recursion_from_All}
@@ -8,7 +9,7 @@ use Rattle.anstyle_parse.specs.Stream.Call.{Call}
 use Rattle.anstyle_parse.specs.Stream.Calls.{Continues}
 use Rattle.anstyle_parse.specs.Machine.Step.{Machine, AccumulatorStep, step, machine_after, machine_calls}
 use Rattle.anstyle_parse.specs.Machine.Stands.{StandsAfter, seen, unseen, Decodes}
-use Rattle.anstyle_parse.specs.Fields.Parser.{machine_of, CanTake, CanTakeAll, MayTake, MayTakeAll, AreBelow, IsAfter, IsAfterAscii}
+use Rattle.anstyle_parse.specs.Fields.Parser.{machine_of, CanTake, CanTakeAll, AreBelow, IsAfter, IsAfterAscii}
 use Rattle.anstyle_parse.proofs.Agreement.Whole.{StandsAfter-machine, Continues-machine}
 use Rattle.anstyle_parse.proofs.Machine.Seen.{Seen-machine}
 use Rattle.anstyle_parse.proofs.Machine.Unseen.{Unseen-step, Unseen-machine, StandsAfter-outside, reached-outside}
@@ -23,14 +24,14 @@ AreBelow-append limit (x ∷ xs) ys first second = (first.0, AreBelow-append lim
 
 -- an accumulator that decodes takes every byte
 pub CanTake-may : {C : Type 0} (front : C → List ℕ) (takes : C → ℕ → Type 0) (add : C → ℕ → C × Option ℕ) (adds : AccumulatorStep C) (decodes : Bool) → (IsTrue decodes → Decodes C front takes add adds)
-    → (parser : Parser C) (b : ℕ) → b < 256 → MayTake decodes takes adds parser b → CanTake takes adds parser b
+    → (parser : Parser C) (b : ℕ) → b < 256 → OnFalse decodes (CanTake takes adds parser b) → CanTake takes adds parser b
 CanTake-may front takes add adds true follows parser b small may =
     let all = (follows refl).takes_bytes in
     ((λ reaches. all parser.accumulator b small), (λ inside breaks reaches. all (adds parser.accumulator b).0 b small))
 CanTake-may front takes add adds false follows parser b small may = may
 
 pub CanTakeAll-may : {C : Type 0} (front : C → List ℕ) (takes : C → ℕ → Type 0) (add : C → ℕ → C × Option ℕ) (adds : AccumulatorStep C) (decodes : Bool) → (IsTrue decodes → Decodes C front takes add adds)
-    → (parser : Parser C) (bytes : List ℕ) → MayTakeAll decodes takes parser bytes → CanTakeAll takes parser bytes
+    → (parser : Parser C) (bytes : List ℕ) → OnFalse decodes (CanTakeAll takes parser bytes) → CanTakeAll takes parser bytes
 CanTakeAll-may front takes add adds true follows parser bytes may = inl (λ value b small. (follows refl).takes_bytes value b small)
 CanTakeAll-may front takes add adds false follows parser bytes may = may
 

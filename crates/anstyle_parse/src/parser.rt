@@ -105,7 +105,8 @@ impl<C: Clone> Clone for Parser<C> {
 impl<C: CharAccumulator> Parser<C> {
     ghost use Rattle.std.specs.Prelude.{◌++◌, ◌∷◌, [], IsTrue, ◌↔◌, ◌⊎◌};
     ghost use Rattle.anstyle_parse.specs.Stream.Bytes.{is_cancel, escape_byte};
-    ghost use Rattle.anstyle_parse.specs.Fields.Parser.{machine_of, IsNew, IsInCharacter, HasOpenString, BreaksCharacter, MayTake, MayTakeAll, IsAfter, IsAfterAscii, AreBelow};
+    ghost use Rattle.std.specs.Bool.{OnFalse};
+    ghost use Rattle.anstyle_parse.specs.Fields.Parser.{machine_of, IsNew, IsInCharacter, HasOpenString, BreaksCharacter, CanTake, CanTakeAll, IsAfter, IsAfterAscii, AreBelow};
     ghost use Rattle.anstyle_parse.specs.Machine.Step.{step, step_calls, machine_after, machine_calls, IsWithinLimits};
     ghost use Rattle.anstyle_parse.specs.Stream.Calls.{Continues, AreCalls, HasReceived};
     ghost use Rattle.anstyle_parse.specs.Stream.Call.{Call};
@@ -134,7 +135,7 @@ impl<C: CharAccumulator> Parser<C> {
     /// that is printed, and then the byte is handled in the ground state.
     #[inline]
     pub fn advance<P: Perform>(&mut self, performer: &mut P, byte: u8)
-        requires { MayTake C.decodes C.takes C.taken self.old byte }
+        requires { OnFalse C.decodes (CanTake C.takes C.taken self.old byte) }
 
         // The headline: the parser stands after all bytes, and a performer that has received
         // exactly the calls of the bytes before has received exactly those of all.
@@ -176,7 +177,7 @@ impl<C: CharAccumulator> Parser<C> {
     /// outside a character and every byte is below 80.
     #[inline]
     pub fn advance_all<P: Perform>(&mut self, performer: &mut P, bytes: &[u8])
-        requires { MayTakeAll C.decodes C.takes self.old bytes.now }
+        requires { OnFalse C.decodes (CanTakeAll C.takes self.old bytes.now) }
 
         // The headline: the parser stands after all bytes, and a performer that has received
         // exactly the calls of the bytes before has received exactly those of all.

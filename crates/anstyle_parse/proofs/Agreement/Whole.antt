@@ -25,7 +25,7 @@ use Rattle.anstyle_parse.proofs.Agreement.Strings.{hooked_grows, dropped_grows, 
 body_grows : (body : Body) (b : ℕ) → IsOpen (inside body) → Grows (body_value body) (open_calls (inside body)) (class_of b) b (grow_body body b (class_of b))
 body_grows (escape bytes) b is = escape_grows (list_any is_intermediate bytes) (class_of b) b bytes refl refl
 body_grows (csi lead header) b is = control_grows (phase_of (significant header)) (class_of b) b lead header refl refl
-body_grows (dcs_header lead header) b is = device_grows (phase_of (significant header)) (class_of b) b lead header refl (fits-phase_of (significant header) ∙ is.2) refl
+body_grows (dcs_header lead header) b is = device_grows (phase_of (significant header)) (class_of b) b lead header refl (fits-phase_of (significant header) ∙ is.shaped) refl
 body_grows (dcs lead header final text) b is = hooked_grows (class_of b) b lead header final text refl
 body_grows (dcs_ignored lead header byte text) b is = dropped_grows (class_of b) b lead header byte text
 body_grows (osc lead text) b is = command_grows (class_of b) b lead text refl

@@ -34,7 +34,11 @@ module _ (header : List ℕ) (groups : List (List ℕ)) (intermediates : List �
   hooked_calls text = hook groups intermediates ignore final ∷ map put text
 
   hooked-body : (text : List ℕ) → EachIs is_passed text → IsBody (dcs [] header final text)
-  hooked-body text h = (tt, IsHeader-each header shows.bytes_are, ap has_shape shows.all_significant ∙ shows.shaped, ends, EachIs-weaker is_passed (is_text_byte string_terminator) passed-text text h)
+  hooked-body text h = record {
+    begun = record { noise = tt; header_bytes = IsHeader-each header shows.bytes_are; shaped = ap has_shape shows.all_significant ∙ shows.shaped };
+    hooked = ends;
+    text_bytes = EachIs-weaker is_passed (is_text_byte string_terminator) passed-text text h;
+  }
 
   body_calls-hooked : (text : List ℕ) → EachIs is_passed text → body_calls (dcs [] header final text) ≡ hooked_calls text
   unfolding hooked_calls

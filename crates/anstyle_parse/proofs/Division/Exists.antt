@@ -103,15 +103,15 @@ Grown-header lead header b h byte counts inner =
     cond_both (has_shape (significant header ++ b ∷ [])) (into (dcs_header lead (header ++ b ∷ []))) (into (dcs_ignored lead header b []))
     (λ g. Grown (inside (dcs_header lead header)) b g)
     (λ fits. Grown-into (dcs_header lead header) (dcs_header lead (header ++ b ∷ [])) b
-    (h.0, EachIs-push (λ n. is_noise n || is_header_byte n) header b h.1 inner, ap has_shape (significant-push header b counts) ∙ fits)
+    record { noise = h.noise; header_bytes = EachIs-push (λ n. is_noise n || is_header_byte n) header b h.header_bytes inner; shaped = ap has_shape (significant-push header b counts) ∙ fits }
     (simp append_assoc))
     (λ unfit. Grown-into (dcs_header lead header) (dcs_ignored lead header b []) b
-    (h.0, h.1, h.2, byte, not_from_false (has_shape (significant header ++ b ∷ [])) unfit, tt) (simp append_assoc))
+    record { begun = h; header_byte = byte; unshaped = not_from_false (has_shape (significant header ++ b ∷ [])) unfit; text_bytes = tt } (simp append_assoc))
 
 -- a final byte behind a device control header
 Grown-hooked : (lead header : List ℕ) (b : ℕ) → IsBody (dcs_header lead header) → IsTrue (is_final b)
     → Grown (inside (dcs_header lead header)) b (into (dcs lead header b []))
-Grown-hooked lead header b h e = Grown-into (dcs_header lead header) (dcs lead header b []) b (h.0, h.1, h.2, e, tt) (simp append_assoc)
+Grown-hooked lead header b h e = Grown-into (dcs_header lead header) (dcs lead header b []) b record { begun = h; hooked = e; text_bytes = tt } (simp append_assoc)
 
 -- Each byte, by its class, behind each body.
 Grown-body : (body : Body) (b : ℕ) (c : Class) → class_of b ≡ c → IsBody body → Grown (inside body) b (grow_body body b c)
@@ -123,7 +123,7 @@ Grown-body (escape bytes) b semicolon_byte e h = Grown-final bytes b h (is_last-
 Grown-body (escape bytes) b marker_byte e h = Grown-final bytes b h (is_last-class b ∙ ap is_last_at e) (is_introducer-class b ∙ ap is_introducer_at e)
 Grown-body (escape bytes) b final_byte e h = Grown-final bytes b h (is_last-class b ∙ ap is_last_at e) (is_introducer-class b ∙ ap is_introducer_at e)
 Grown-body (escape bytes) b device_byte e h = Grown-introduce bytes b (dcs_header bytes []) h (is_last-class b ∙ ap is_last_at e)
-    (λ noise. Grown-into (escape bytes) (dcs_header bytes []) b (noise, tt, refl)
+    (λ noise. Grown-into (escape bytes) (dcs_header bytes []) b (record { noise = noise; header_bytes = tt; shaped = refl })
     (ap (λ n. escape_byte ∷ (bytes ++ n ∷ [])) (sym (eqb-true b 0x50 (is_device-class b ∙ ap is_device_at e)))))
 Grown-body (escape bytes) b string_byte e h = Grown-introduce bytes b (sos_pm_apc bytes b []) h (is_last-class b ∙ ap is_last_at e)
     (λ noise. Grown-into (escape bytes) (sos_pm_apc bytes b []) b (noise, is_string_kind-class b ∙ ap is_string_kind_at e, tt) refl)
@@ -152,17 +152,17 @@ Grown-body (dcs_header lead header) b digit_byte e h = Grown-header lead header 
 Grown-body (dcs_header lead header) b colon_byte e h = Grown-header lead header b h (is_header_byte-class b ∙ ap is_header_byte_at e) (is_significant-class b ∙ ap is_significant_at e) (is_in_header-class b ∙ ap is_in_header_at e)
 Grown-body (dcs_header lead header) b semicolon_byte e h = Grown-header lead header b h (is_header_byte-class b ∙ ap is_header_byte_at e) (is_significant-class b ∙ ap is_significant_at e) (is_in_header-class b ∙ ap is_in_header_at e)
 Grown-body (dcs_header lead header) b marker_byte e h = Grown-header lead header b h (is_header_byte-class b ∙ ap is_header_byte_at e) (is_significant-class b ∙ ap is_significant_at e) (is_in_header-class b ∙ ap is_in_header_at e)
-Grown-body (dcs_header lead header) b c e h = Grown-into (dcs_header lead header) (dcs_header lead (header ++ b ∷ [])) b (
-  h.0,
-  EachIs-push (λ n. is_noise n || is_header_byte n) header b h.1 (is_in_header-class b ∙ ap is_in_header_at e),
-  ap has_shape (significant_same header b (is_significant-class b ∙ ap is_significant_at e)) ∙ h.2,
-) (simp append_assoc)
+Grown-body (dcs_header lead header) b c e h = Grown-into (dcs_header lead header) (dcs_header lead (header ++ b ∷ [])) b (record {
+  noise = h.noise;
+  header_bytes = EachIs-push (λ n. is_noise n || is_header_byte n) header b h.header_bytes (is_in_header-class b ∙ ap is_in_header_at e);
+  shaped = ap has_shape (significant_same header b (is_significant-class b ∙ ap is_significant_at e)) ∙ h.shaped;
+}) (simp append_assoc)
 Grown-body (dcs lead header final text) b terminator_byte e h = Grown-ended (dcs lead header final text) b h (is_terminator-class b ∙ ap is_terminator_at e)
 Grown-body (dcs lead header final text) b c e h = Grown-into (dcs lead header final text) (dcs lead header final (text ++ b ∷ [])) b
-    (h.0, h.1, h.2, h.3, EachIs-push (is_text_byte string_terminator) text b h.4 (is_string_text-class b ∙ ap is_string_text_at e)) (simp append_assoc)
+    (record { begun = h.begun; hooked = h.hooked; text_bytes = EachIs-push (is_text_byte string_terminator) text b h.text_bytes (is_string_text-class b ∙ ap is_string_text_at e) }) (simp append_assoc)
 Grown-body (dcs_ignored lead header byte text) b terminator_byte e h = Grown-ended (dcs_ignored lead header byte text) b h (is_terminator-class b ∙ ap is_terminator_at e)
 Grown-body (dcs_ignored lead header byte text) b c e h = Grown-into (dcs_ignored lead header byte text) (dcs_ignored lead header byte (text ++ b ∷ [])) b
-    (h.0, h.1, h.2, h.3, h.4, EachIs-push (is_text_byte string_terminator) text b h.5 (is_string_text-class b ∙ ap is_string_text_at e)) (simp append_assoc)
+    (record { begun = h.begun; header_byte = h.header_byte; unshaped = h.unshaped; text_bytes = EachIs-push (is_text_byte string_terminator) text b h.text_bytes (is_string_text-class b ∙ ap is_string_text_at e) }) (simp append_assoc)
 Grown-body (osc lead text) b bell_byte e h = Grown-ended (osc lead text) b h (is_bell-class b ∙ ap is_bell_at e)
 Grown-body (osc lead text) b c e h = Grown-into (osc lead text) (osc lead (text ++ b ∷ [])) b
     (h.0, EachIs-push (is_text_byte bell) text b h.1 (is_command_text-class b ∙ ap is_command_text_at e)) (simp append_assoc)

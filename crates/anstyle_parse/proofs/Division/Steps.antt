@@ -177,7 +177,7 @@ Runs-lead lead b part first body noise begins r =
 Runs-device : (lead header : List ℕ) → IsBody (dcs_header lead header) → Runs (inside (dcs_header lead [])) header (inside (dcs_header lead header))
 Runs-device lead header h = Runs-each (λ x. inside (dcs_header lead x)) (λ b. is_noise b || is_header_byte b) (λ x. IsTrue (has_shape (significant x)))
     (λ a b s. has_shape-significant a b s)
-    (λ p b t s. grow-inside (dcs_header lead p) b ∙ into_device lead p b (class_of b) refl (sym (is_in_header-class b) ∙ t) s) [] header h.1 h.2
+    (λ p b t s. grow-inside (dcs_header lead p) b ∙ into_device lead p b (class_of b) refl (sym (is_in_header-class b) ∙ t) s) [] header h.header_bytes h.shaped
 
 -- a byte behind a device control header, and the text behind that
 Runs-behind : (lead header : List ℕ) (b : ℕ) (text : List ℕ) (first body : Body) → IsBody (dcs_header lead header)
@@ -194,19 +194,19 @@ Runs-body (escape bytes) h = Runs-escape bytes h
 Runs-body (csi lead header) h = Runs-lead lead 0x5B header (csi lead []) (csi lead header) h.0 (begin_control lead h.0)
     (Runs-free (λ x. inside (csi lead x)) (λ b. is_noise b || is_header_byte b)
     (λ p b t. grow-inside (csi lead p) b ∙ into_control lead p b (class_of b) (sym (is_in_header-class b) ∙ t)) header h.1)
-Runs-body (dcs_header lead header) h = Runs-lead lead 0x50 header (dcs_header lead []) (dcs_header lead header) h.0 (begin_device lead h.0) (Runs-device lead header h)
+Runs-body (dcs_header lead header) h = Runs-lead lead 0x50 header (dcs_header lead []) (dcs_header lead header) h.noise (begin_device lead h.noise) (Runs-device lead header h)
 Runs-body (dcs lead header final text) h =
-    Runs-lead lead 0x50 (header ++ final ∷ text) (dcs_header lead []) (dcs lead header final text) h.0 (begin_device lead h.0)
-    (Runs-behind lead header final text (dcs lead header final []) (dcs lead header final text) (h.0, h.1, h.2)
-    (final_device lead header final (class_of final) (sym (is_final-class final) ∙ h.3))
+    Runs-lead lead 0x50 (header ++ final ∷ text) (dcs_header lead []) (dcs lead header final text) h.begun.noise (begin_device lead h.begun.noise)
+    (Runs-behind lead header final text (dcs lead header final []) (dcs lead header final text) h.begun
+    (final_device lead header final (class_of final) (sym (is_final-class final) ∙ h.hooked))
     (Runs-free (λ x. inside (dcs lead header final x)) (is_text_byte string_terminator)
-    (λ p b t. grow-inside (dcs lead header final p) b ∙ into_hooked lead header final p b (class_of b) (sym (is_string_text-class b) ∙ t)) text h.4))
+    (λ p b t. grow-inside (dcs lead header final p) b ∙ into_hooked lead header final p b (class_of b) (sym (is_string_text-class b) ∙ t)) text h.text_bytes))
 Runs-body (dcs_ignored lead header byte text) h =
-    Runs-lead lead 0x50 (header ++ byte ∷ text) (dcs_header lead []) (dcs_ignored lead header byte text) h.0 (begin_device lead h.0)
-    (Runs-behind lead header byte text (dcs_ignored lead header byte []) (dcs_ignored lead header byte text) (h.0, h.1, h.2)
-    (unfit_device lead header byte (class_of byte) (sym (is_header_byte-class byte) ∙ h.3) (not-true (has_shape (significant header ++ byte ∷ [])) h.4))
+    Runs-lead lead 0x50 (header ++ byte ∷ text) (dcs_header lead []) (dcs_ignored lead header byte text) h.begun.noise (begin_device lead h.begun.noise)
+    (Runs-behind lead header byte text (dcs_ignored lead header byte []) (dcs_ignored lead header byte text) h.begun
+    (unfit_device lead header byte (class_of byte) (sym (is_header_byte-class byte) ∙ h.header_byte) (not-true (has_shape (significant header ++ byte ∷ [])) h.unshaped))
     (Runs-free (λ x. inside (dcs_ignored lead header byte x)) (is_text_byte string_terminator)
-    (λ p b t. grow-inside (dcs_ignored lead header byte p) b ∙ into_dropped lead header byte p b (class_of b) (sym (is_string_text-class b) ∙ t)) text h.5))
+    (λ p b t. grow-inside (dcs_ignored lead header byte p) b ∙ into_dropped lead header byte p b (class_of b) (sym (is_string_text-class b) ∙ t)) text h.text_bytes))
 Runs-body (osc lead text) h = Runs-lead lead 0x5D text (osc lead []) (osc lead text) h.0 (begin_command lead h.0)
     (Runs-free (λ x. inside (osc lead x)) (is_text_byte bell)
     (λ p b t. grow-inside (osc lead p) b ∙ into_command lead p b (class_of b) (sym (is_command_text-class b) ∙ t)) text h.1)

@@ -137,7 +137,7 @@ lawful-sequence (dcs lead header final text) end calls is ends rest last =
     let own = end_calls (dcs lead header final text) end in
     subst (λ l. AreLawful (l ++ calls)) (sym (append_assoc (executes lead) (hook_call ∷ puts) own))
     (after lead (hook_call ∷ (puts ++ own)) calls (
-      IsHeaderCall-header shown final is.2 is.3,
+      IsHeaderCall-header shown final is.begun.shaped is.hooked,
       subst (AreLawfulFrom true) (sym (append_assoc puts own calls))
           (lawful-puts (filter is_passed text) (own ++ calls) (EachIs-filter is_passed text) (lawful-hooked_end lead header final text end calls ends rest last)),
     ))

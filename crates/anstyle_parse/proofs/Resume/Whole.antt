@@ -167,7 +167,7 @@ Saves-device : (phase : Phase) (header : List ℕ) (m : Machine (List ℕ)) → 
     → Saves (escape_byte ∷ 0x50 ∷ header) (device_value phase (filled m.collected m.ignoring m.closed_groups m.open_group m.number))
 Saves-device phase header m fit replays =
     Saves-body (dcs_header [] header) (device_value phase (filled m.collected m.ignoring m.closed_groups m.open_group m.number))
-    (tt, IsHeader-each header replays.bytes_are, ap has_shape replays.all_significant ∙ (sym (fits-phase_of header) ∙ (ap fits replays.comes_to ∙ fit)))
+    (record { noise = tt; header_bytes = IsHeader-each header replays.bytes_are; shaped = ap has_shape replays.all_significant ∙ (sym (fits-phase_of header) ∙ (ap fits replays.comes_to ∙ fit)) })
     (value-replayed device_value phase header m replays) (omega (arith, replays.size))
 
 -- one that is ignored
@@ -177,7 +177,7 @@ saves_dropped = record { reaches = refl; short = omega arith }
 
 -- a device control string, by the phase of its header
 saves_device : (phase : Phase) (m : Machine (List ℕ)) → Held phase m → Saves (checkpoint_text (device_value phase m)) (device_value phase m)
-saves_device at_entry m h = Saves-body (dcs_header [] []) (device_value at_entry m) (tt, tt, refl) (ap (λ r. device_value at_entry r) (sym h)) (omega arith)
+saves_device at_entry m h = Saves-body (dcs_header [] []) (device_value at_entry m) (record { noise = tt; header_bytes = tt; shaped = refl }) (ap (λ r. device_value at_entry r) (sym h)) (omega arith)
 saves_device in_parameters m h = Saves-device in_parameters (header_so_far m) m refl (Replays-header in_parameters m h)
 saves_device in_intermediates m h = Saves-device in_intermediates (header_so_far m) m refl (Replays-header in_intermediates m h)
 saves_device misfit m h = saves_dropped

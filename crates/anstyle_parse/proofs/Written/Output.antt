@@ -7,8 +7,9 @@ use Rattle.std.specs.Io.KnownBytes.{Keeps, Appends}
 use Rattle.anstyle_parse.specs.declared.canon.Fault.{Fault}
 use Rattle.anstyle_parse.specs.declared.canon.Fault.TheVariants.{Read, Write, Flush}
 use Rattle.anstyle_parse.specs.declared.canon.output.Output.{Output}
+use Rattle.anstyle_parse.specs.Writing.Adding.{AddsAt, FinishesAt}
 pub use Rattle.anstyle_parse.specs.Writing.Adding.{Adds-stopped, Adds-nil, Adds-append, Adds-calls}
-use Rattle.anstyle_parse.specs.Writing.Output.{writer_in, fault_in, AddsAt, Adds, Flushes, FinishesAt, Finishes, Writes, Causes}
+use Rattle.anstyle_parse.specs.Writing.Output.{writer_in, fault_in, Adds, Flushes, Finishes, Writes, Causes}
 
 module _ {W : Type 0} (contents : W → Option (List ℕ)) (has_failed : W → Bool) where
   -- three texts, one after another

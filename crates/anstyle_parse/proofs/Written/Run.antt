@@ -9,7 +9,8 @@ use Rattle.anstyle_parse.specs.declared.canon.engine.Stop.{Stop}
 use Rattle.anstyle_parse.specs.declared.canon.engine.Stop.TheVariants.{AtEnd, AtFault, AtRead}
 use Rattle.anstyle_parse.specs.Stream.Call.{Call}
 use Rattle.anstyle_parse.specs.Stream.Calls.{AreCalls}
-use Rattle.anstyle_parse.specs.Writing.Output.{writer_in, fault_in, AddsAll, AddsAt, Adds, Finishes, FinishesAt}
+use Rattle.anstyle_parse.specs.Writing.Adding.{AddsAt, FinishesAt}
+use Rattle.anstyle_parse.specs.Writing.Output.{writer_in, fault_in, AddsAll, Adds, Finishes}
 use Rattle.anstyle_parse.proofs.Canonical.Items.{AreCalls-nil}
 use Rattle.anstyle_parse.proofs.Written.Output.{Adds-append}
 use Rattle.anstyle_parse.specs.Writing.Run.{most_reads, StopsAs, WritesText, WritesEnded, Runs, RunsToEnding}

@@ -1,6 +1,5 @@
 -- The parser's fields, as the machine that they stand for.
 use Rattle.std.specs.Prelude.{◌≡◌, ◌≢◌, ◌<◌, ◌⊎◌, ℕ, Bool, List, take, drop, ⊤, IsTrue}
-use Rattle.std.specs.Bool.{OnFalse}
 use Rattle.std.specs.List.{AllByRecursion}
 use Rattle.anstyle_parse.specs.declared.state.definitions.State.{State}
 use Rattle.anstyle_parse.specs.declared.state.definitions.State.TheVariants.{DcsPassthrough, Ground, OscString, Utf8}
@@ -70,13 +69,6 @@ CanTake takes taken parser b = HoldsWhereReached (λ value. takes value b) taken
 abbrev pub CanTakeAll : {C : Type 0} → (C → ℕ → Type 0) → Parser C → List ℕ → Type 0
 CanTakeAll {C} takes parser bytes =
     ((value : C) (b : ℕ) → b < 0x100 → takes value b) ⊎ ((parser.state ≢ Utf8) × AreBelow 0x80 bytes)
-
--- The condition of taking a byte, and bytes: none for an accumulator that decodes UTF-8.
-abbrev pub MayTake : {C : Type 0} → (decodes : Bool) → (C → ℕ → Type 0) → AccumulatorStep C → Parser C → ℕ → Type 0
-MayTake decodes takes taken parser b = OnFalse decodes (CanTake takes taken parser b)
-
-abbrev pub MayTakeAll : {C : Type 0} → (decodes : Bool) → (C → ℕ → Type 0) → Parser C → List ℕ → Type 0
-MayTakeAll decodes takes parser bytes = OnFalse decodes (CanTakeAll takes parser bytes)
 
 -- The parser, whose accumulator holds a front, stands after the bytes.
 abbrev pub IsAfter : {C : Type 0} → (C → List ℕ) → Parser C → List ℕ → Type 0

@@ -89,17 +89,31 @@ is_introducer b = is_string_kind b || b == 0x50 || b == 0x5B || b == 0x5D
 abbrev pub IsHeader : List ℕ → Type 0
 IsHeader header = EachIs (λ b. is_noise b || is_header_byte b) header
 
+-- the header of a device control string, and the noise before the byte that begins it
+pub record IsDcsHeader (lead header : List ℕ) : Type 0 where
+  pub noise : EachIs is_noise lead
+  pub header_bytes : IsHeader header
+  pub shaped : IsTrue (has_shape (significant header))
+
+-- a final byte hooks the string, and its text goes up to ST
+pub record IsDcs (lead header : List ℕ) (final : ℕ) (text : List ℕ) : Type 0 where
+  pub begun : IsDcsHeader lead header
+  pub hooked : IsTrue (is_final final)
+  pub text_bytes : EachIs (is_text_byte string_terminator) text
+
+-- a byte of a header that leaves it without the shape of one: the string is ignored up to ST
+pub record IsDcsIgnored (lead header : List ℕ) (byte : ℕ) (text : List ℕ) : Type 0 where
+  pub begun : IsDcsHeader lead header
+  pub header_byte : IsTrue (is_header_byte byte)
+  pub unshaped : IsTrue (not (has_shape (significant header ++ byte ∷ [])))
+  pub text_bytes : EachIs (is_text_byte string_terminator) text
+
 abbrev pub IsBody : Body → Type 0
 IsBody (escape bytes) = EachIs (λ b. is_noise b || is_intermediate b) bytes
 IsBody (csi lead header) = EachIs is_noise lead × IsHeader header
-IsBody (dcs_header lead header) = EachIs is_noise lead × IsHeader header × IsTrue (has_shape (significant header))
-IsBody (dcs lead header final text) =
-    EachIs is_noise lead × IsHeader header × IsTrue (has_shape (significant header))
-    × IsTrue (is_final final) × EachIs (is_text_byte string_terminator) text
-IsBody (dcs_ignored lead header byte text) =
-    EachIs is_noise lead × IsHeader header × IsTrue (has_shape (significant header))
-    × IsTrue (is_header_byte byte) × IsTrue (not (has_shape (significant header ++ byte ∷ [])))
-    × EachIs (is_text_byte string_terminator) text
+IsBody (dcs_header lead header) = IsDcsHeader lead header
+IsBody (dcs lead header final text) = IsDcs lead header final text
+IsBody (dcs_ignored lead header byte text) = IsDcsIgnored lead header byte text
 IsBody (osc lead text) = EachIs is_noise lead × EachIs (is_text_byte bell) text
 IsBody (sos_pm_apc lead kind text) = EachIs is_noise lead × IsTrue (is_string_kind kind) × EachIs (is_text_byte string_terminator) text
 

@@ -1,16 +1,27 @@
 -- No definition, but proofs: the language wants those of a trait's laws among the specs.
 -- Texts handed to an output one after another are one text, and so are those of a list of calls.
 use Rattle.std.specs.List.{flat_map}
-use Rattle.std.proofs.Common.{◌≡◌, ℕ, Bool, List, [], ◌∷◌, ◌++◌, Option, None, Some, inl, inr, refl, sym, ap, ◌∙◌, subst, append_assoc}
+use Rattle.std.proofs.Common.{◌≡◌, ℕ, Bool, List, [], ◌∷◌, ◌++◌, Option, None, Some, Result, Err, ◌⊎◌, inl, inr, refl, sym, ap, ◌∙◌, subst, append_assoc}
 use Rattle.std.proofs.KnownBytes.{Appends-nil, Appends-trans}
-use Rattle.std.specs.Io.KnownBytes.{Appends}
+use Rattle.std.specs.Prelude.{MatchOption}
+use Rattle.std.specs.Io.KnownBytes.{Keeps, Appends}
 use Rattle.anstyle_parse.specs.declared.canon.Fault.{Fault}
 use Rattle.anstyle_parse.specs.declared.canon.output.Output.{Output}
 use Rattle.anstyle_parse.specs.declared.canon.writer.CanonWriter.{CanonWriter}
 use Rattle.anstyle_parse.specs.Stream.Call.{Call, Goes}
 use Rattle.anstyle_parse.specs.Stream.Canon.{call_text, canon}
 use Rattle.anstyle_parse.specs.Writing.CanonWriter.{output_of}
-use Rattle.anstyle_parse.specs.Writing.Output.{writer_in, fault_in, AddsAll, AddsBeginning, AddsAt, Adds}
+use Rattle.anstyle_parse.specs.Writing.Output.{writer_in, fault_in, AddsAll, AddsBeginning, Adds, Flushes}
+
+-- what becomes of a text, and how an output ends, by the fault that is kept
+abbrev pub AddsAt : {W : Type 0} → Option Fault → (W → Option (List ℕ)) → (W → Bool) → List ℕ → Output W → Output W → Type 0
+AddsAt fault contents has_failed text old new =
+    MatchOption fault (AddsAll contents has_failed text old new ⊎ AddsBeginning contents has_failed text old new) (λ _. new ≡ old)
+
+abbrev pub FinishesAt : {W T : Type 0} → Option Fault → (W → Option (List ℕ)) → (W → Bool) → W → W → Result T Fault → Type 0
+FinishesAt fault contents has_failed old new answer =
+    MatchOption fault (Keeps (contents old) (contents new) × Flushes answer (has_failed old) (has_failed new))
+    (λ kept. (new ≡ old) × (answer ≡ Err kept))
 
 -- a list that is empty with another behind it is empty
 front_nil : (xs ys : List ℕ) → xs ++ ys ≡ [] → xs ≡ []

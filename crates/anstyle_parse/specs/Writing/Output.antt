@@ -1,5 +1,5 @@
 -- What a performer that writes adds to its writer.
-use Rattle.std.specs.Prelude.{◌≡◌, ◌≢◌, ℕ, Bool, List, [], ◌∷◌, ◌++◌, Option, None, Some, Result, Ok, Err, MatchResult, ◌⊎◌, IsTrue}
+use Rattle.std.specs.Prelude.{◌≡◌, ◌≢◌, ℕ, Bool, List, [], ◌∷◌, ◌++◌, Option, None, Some, Result, Ok, Err, MatchOption, MatchResult, ◌⊎◌, IsTrue}
 use Rattle.std.specs.Io.KnownBytes.{Keeps, Appends}
 use Rattle.anstyle_parse.specs.declared.canon.Fault.{Fault}
 use Rattle.anstyle_parse.specs.declared.canon.Fault.TheVariants.{Read, Write, Flush}
@@ -29,27 +29,23 @@ pub record AddsBeginning {W : Type 0} (contents : W → Option (List ℕ)) (has_
   pub fault : fault_in new ≡ Some Write
   pub failed : IsTrue (has_failed (writer_in new))
 
-abbrev pub AddsAt : {W : Type 0} → Option Fault → (W → Option (List ℕ)) → (W → Bool) → List ℕ → Output W → Output W → Type 0
-AddsAt (Some fault) contents has_failed text old new = new ≡ old
-AddsAt None contents has_failed text old new = AddsAll contents has_failed text old new ⊎ AddsBeginning contents has_failed text old new
-
 -- What becomes of a text. Where a fault is kept, nothing changes; else all of the text is
 -- written, or a proper beginning of it.
 abbrev pub Adds : {W : Type 0} → (W → Option (List ℕ)) → (W → Bool) → List ℕ → Output W → Output W → Type 0
-Adds contents has_failed text old new = AddsAt (fault_in old) contents has_failed text old new
+Adds contents has_failed text old new =
+    MatchOption (fault_in old) (AddsAll contents has_failed text old new ⊎ AddsBeginning contents has_failed text old new) (λ fault. new ≡ old)
 
 -- What comes of a flush: Ok, or the fault Flush where the writer failed.
 abbrev pub Flushes : {T : Type 0} → Result T Fault → (failed failed_after : Bool) → Type 0
 Flushes answer failed failed_after = MatchResult answer (λ _. failed_after ≡ failed) (λ fault. (fault ≡ Flush) × IsTrue failed_after)
 
-abbrev pub FinishesAt : {W T : Type 0} → Option Fault → (W → Option (List ℕ)) → (W → Bool) → W → W → Result T Fault → Type 0
-FinishesAt (Some fault) contents has_failed old new answer = (new ≡ old) × (answer ≡ Err fault)
-FinishesAt None contents has_failed old new answer = Keeps (contents old) (contents new) × Flushes answer (has_failed old) (has_failed new)
-
 -- The end of an output. Where a fault is kept, that is the answer; else the writer is
 -- flushed. Nothing is written.
 abbrev pub Finishes : {W T : Type 0} → (W → Option (List ℕ)) → (W → Bool) → Output W → W → Result T Fault → Type 0
-Finishes contents has_failed old new answer = FinishesAt (fault_in old) contents has_failed (writer_in old) new answer
+Finishes contents has_failed old new answer =
+    MatchOption (fault_in old)
+    (Keeps (contents (writer_in old)) (contents new) × Flushes answer (has_failed (writer_in old)) (has_failed new))
+    (λ fault. (new ≡ writer_in old) × (answer ≡ Err fault))
 
 -- A proper beginning of the text was appended.
 pub record AppendsBeginning (before after : Option (List ℕ)) (text : List ℕ) : Type 0 where

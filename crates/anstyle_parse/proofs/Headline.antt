@@ -1,4 +1,4 @@
--- What a performer has received, and the calls behind an ESC.
+-- What a performer has received, and the calls after an ESC.
 use Rattle.std.proofs.Common.{ℕ, List, [], ◌∷◌, ◌++◌, refl, subst, append_assoc}
 use Rattle.anstyle_parse.specs.Stream.Bytes.{escape_byte}
 use Rattle.anstyle_parse.specs.Stream.Call.{Call, Goes}

@@ -147,7 +147,7 @@ impl CharAccumulator for Utf8Parser {
     /// character of two to four bytes, and the answer is nothing; 80..C1 and F5..FF are
     /// answered with U+FFFD.
     ///
-    /// Behind a front the byte may complete the character, which is the answer, or go on
+    /// After a front the byte may complete the character, which is the answer, or go on
     /// with it, and the answer is nothing. Any other byte breaks the character: the answer
     /// is one U+FFFD for the front and this byte, which is used up.
     ///

@@ -66,7 +66,7 @@ fn take_piece<P: Perform>(parser: &mut Parser, performer: &mut P, piece: &[u8])
 }
 
 /// The front of a character: bytes pass the decoder's test over the table exactly if they are
-/// begun and some bytes behind them make them a well-formed sequence.
+/// begun and some bytes after them make them a well-formed sequence.
 pub fn front_of_a_character()
     ensures { (bytes : List ℕ) → (IsTrue (is_proper_front bytes) ↔ IsProperFront bytes) }
 {}

@@ -228,7 +228,7 @@ impl<'a> Iterator for ParamsIter<'a> {
 
     ghost remaining = { item_count groups_left };
 
-    /// The next group, or nothing where none is left: behind the last group every further
+    /// The next group, or nothing where none is left: after the last group every further
     /// call answers nothing.
     fn next(&mut self) -> Option<&'a [u16]> {
         let (_, rest) = self.numbers.split_at(self.place);
@@ -265,7 +265,7 @@ impl<'a> ExactSizeIterator for ParamsIter<'a> {
     }
 }
 
-/// Behind the last group every `next` answers nothing.
+/// After the last group every `next` answers nothing.
 impl<'a> FusedIterator for ParamsIter<'a> {}
 
 impl<'a> IntoIterator for &'a Params {

@@ -318,7 +318,7 @@ impl<C: CharAccumulator> Parser<C> {
         }
     }
 
-    /// A digit of a field, or the separator behind it.
+    /// A digit of a field, or the separator after it.
     fn parameter(&mut self, byte: u8)
         ensures { machine_of self.new ≡ after_param byte (machine_of self.old) }
     {
@@ -384,7 +384,7 @@ impl<C: CharAccumulator> Parser<C> {
         }
     }
 
-    /// The text behind the last closed part becomes a part, unless there are sixteen.
+    /// The text after the last closed part becomes a part, unless there are sixteen.
     fn close_part(&mut self)
         ensures { machine_of self.new ≡ with_part (machine_of self.old) }
     {
@@ -398,7 +398,7 @@ impl<C: CharAccumulator> Parser<C> {
 }
 
 /// The parts of an operating system command, as slices of its text: as many as there are
-/// lengths, and empty ones behind them.
+/// lengths, and empty ones after them.
 fn parts_of<'a>(text: &'a [u8], lengths: &[usize]) -> [&'a [u8]; MAX_OSC_PARTS]
     requires few { length lengths.now ≤ 16 }
     requires within { total lengths.now ≤ length text.now }

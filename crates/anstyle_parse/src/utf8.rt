@@ -56,7 +56,7 @@ fn first(a: u8) -> (Front, Taken)
     }
 }
 
-/// The same after the second byte, behind the first.
+/// The same after the second byte, after the first.
 #[inline(always)]
 #[tactic(auto, using(crate::proofs::Characters::Decoder::second_byte))]
 fn second(a: u8, b: u8) -> (Front, Taken)
@@ -71,7 +71,7 @@ fn second(a: u8, b: u8) -> (Front, Taken)
     }
 }
 
-/// After the third byte, behind two.
+/// After the third byte, after two.
 #[inline(always)]
 #[tactic(auto, using(crate::proofs::Characters::Decoder::third_byte))]
 fn third(a: u8, b: u8, c: u8) -> (Front, Taken)
@@ -88,7 +88,7 @@ fn third(a: u8, b: u8, c: u8) -> (Front, Taken)
     }
 }
 
-/// After the fourth byte, behind three: the last.
+/// After the fourth byte, after three: the last.
 #[inline(always)]
 #[tactic(auto, using(crate::proofs::Characters::Decoder::fourth_byte))]
 fn fourth(a: u8, b: u8, c: u8, d: u8) -> (Front, Taken)

@@ -46,7 +46,7 @@ execute_line b d1 d0 e1 e0 =
     let digits : d1 ∷ d0 ∷ [] ≡ hex_byte b = cc in
     ap (λ l. codes "execute " ++ (l ++ newline ∷ [])) digits
 
--- what stands behind a line stands behind its last part
+-- what stands after a line stands after its last part
 pub line_end : (a : List ℕ) (x : ℕ) (b c n : List ℕ) → (a ++ x ∷ (b ++ c)) ++ n ≡ a ++ x ∷ (b ++ (c ++ n))
 line_end a x b c n = append_assoc a (x ∷ (b ++ c)) n ∙ ap (λ l. a ++ x ∷ l) (append_assoc b c n)
 

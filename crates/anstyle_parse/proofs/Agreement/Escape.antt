@@ -22,7 +22,7 @@ use Rattle.anstyle_parse.proofs.Machine.Actions.{plain, headed, collecting-heade
 use Rattle.anstyle_parse.proofs.Machine.Counted.{after_answer_at, answer_calls_at, step_at, step_calls_at}
 use Rattle.anstyle_parse.proofs.Agreement.Values.{registers, escape_state, value_at, open_calls, executes-push, escape_value-push}
 
--- What a byte does to a machine for an open item is what it does to the item: behind the
+-- What a byte does to a machine for an open item is what it does to the item: after the
 -- calls so far, it makes those of the items that it makes whole and of what is open then.
 abbrev pub Grows : Machine (List ℕ) → List Call → Class → ℕ → Growth → Type 0
 Grows m before class b growth =
@@ -60,7 +60,7 @@ nothing_grows esc_byte b class = (refl, refl)
 nothing_grows lead_byte b class = (ap (λ (answer : List ℕ × Taken). plain Utf8 answer.0) (started-lead b class), ap (λ (answer : List ℕ × Taken). print_answer answer.1 ++ []) (started-lead b class))
 nothing_grows c b class = (refl, single_whole b c class)
 
--- a byte behind a front: the item and the accumulator by the same tests
+-- a byte after a front: the item and the accumulator by the same tests
 abbrev answer_by : Bool → Bool → List ℕ → List ℕ × Taken
 answer_by whole proper bytes = if whole then ([], Char (character_of bytes)) else if proper then (bytes, More) else ([], Broken replacement)
 
@@ -69,7 +69,7 @@ abbrev growth_by : Bool → Bool → List ℕ → ℕ → Class → Growth
 growth_by whole proper bytes b c =
     if whole then done (character (bytes ++ b ∷ [])) else if proper then more (front (bytes ++ b ∷ [])) else break_off bytes (start b c)
 
--- the machine behind an answer
+-- the machine after an answer
 abbrev answered : List ℕ × Taken → Machine (List ℕ)
 answered answer = record (new_machine answer.0) { state = state_after_answer answer.1 }
 
@@ -102,7 +102,7 @@ escape_dispatched bytes b =
     (escape_collected (filter is_intermediate bytes) (new_machine []) (EachIs-filter bytes))
     (escape_ignoring (filter is_intermediate bytes) (new_machine []) (EachIs-filter bytes))
 
--- a byte that ends the sequence, or behind no intermediate begins another body
+-- a byte that ends the sequence, or after no intermediate begins another body
 dispatches : (before : List Call) (bytes : List ℕ) (b : ℕ) → let m = registers (filter is_intermediate bytes) in
     before ++ (esc_dispatch m.collected m.ignoring b ∷ []) ≡ ((before ++ escape_dispatch bytes b ∷ []) ++ []) ++ []
 dispatches before bytes b = ap (λ calls. before ++ calls) (escape_dispatched bytes b) ∙ calls-ended before (escape_dispatch bytes b ∷ [])
@@ -117,7 +117,7 @@ introduces some m c b bytes body e grows =
 abbrev escape_at : Bool → List ℕ → Machine (List ℕ)
 escape_at some bytes = headed (escape_state some) [] (registers (filter is_intermediate bytes))
 
--- a byte of each class behind an escape sequence
+-- a byte of each class after an escape sequence
 pub escape_grows : (some : Bool) (c : Class) (b : ℕ) (bytes : List ℕ) → list_any is_intermediate bytes ≡ some → class_of b ≡ c
     → Grows (escape_at some bytes) (executes bytes) c b (grow_body (escape bytes) b c)
 escape_grows false intermediate_byte b bytes e class = (

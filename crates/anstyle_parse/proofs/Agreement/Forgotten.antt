@@ -72,7 +72,7 @@ unfolding is_cancel is_within
 cancel_stops b cancels =
     ⊎_elim (λ e. ap (is_within 0x80 0xBF) (eqb-true b 0x18 e)) (λ e. ap (is_within 0x80 0xBF) (eqb-true b 0x1A e)) (or_cases (b == 0x18) (b == 0x1A) cancels)
 
--- so nothing is open behind them, whatever was
+-- so nothing is open after them, whatever was
 cancel_ends : (o : Open) (b : ℕ) → IsTrue (is_cancel b) → IsOpen o → open_after o (b ∷ []) ≡ nothing
 unfolding grow
 cancel_ends o b cancels is =

@@ -70,7 +70,7 @@ control_misfit b lead header shape =
     ap (λ calls. body_calls (csi lead header) ++ calls) (sym (cond-false (has_shape (significant header)) _ [] shape))
     ∙ calls-ended (body_calls (csi lead header)) (control_dispatch (significant header) b)
 
--- a byte of each class behind a control sequence, for each phase of its header
+-- a byte of each class after a control sequence, for each phase of its header
 pub control_grows : (p : Phase) (c : Class) (b : ℕ) (lead header : List ℕ) → phase_of (significant header) ≡ p → class_of b ≡ c
     → Grows (control_value p (registers (significant header))) (body_calls (csi lead header)) c b (grow_body (csi lead header) b c)
 control_grows at_entry intermediate_byte b lead header e class =
@@ -138,7 +138,7 @@ device_final state b lead header shape = (
   ap (λ call. executes lead ++ call ∷ []) (shown hook state (significant header) b shape),
 )
 
--- a byte of each class behind a device control string, for each phase of its header
+-- a byte of each class after a device control string, for each phase of its header
 pub device_grows : (p : Phase) (c : Class) (b : ℕ) (lead header : List ℕ) → phase_of (significant header) ≡ p → fits p ≡ true → class_of b ≡ c
     → Grows (device_value p (registers (significant header))) (body_calls (dcs_header lead header)) c b (grow_body (dcs_header lead header) b c)
 device_grows at_entry intermediate_byte b lead header e fit class =

@@ -26,7 +26,7 @@ passed_more c b lead header final text class =
     ∙ ap (λ puts. executes lead ++ hook (groups_of (significant header)) (collected_of (significant header)) (ignore_of (significant header)) final ∷ puts)
     (sym (puts-push b c class text))
 
--- a byte of each class behind a string that is hooked, dropped, ignored
+-- a byte of each class after a string that is hooked, dropped, ignored
 pub hooked_grows : (c : Class) (b : ℕ) (lead header : List ℕ) (final : ℕ) (text : List ℕ) → class_of b ≡ c
     → Grows (plain DcsPassthrough []) (body_calls (dcs lead header final text)) c b (grow_body (dcs lead header final text) b c)
 hooked_grows esc_byte b lead header final text class = (refl, calls-ended (body_calls (dcs lead header final text)) (unhook ∷ []))
@@ -56,7 +56,7 @@ command_value text = texted OscString [] (text_after text (new_machine []))
 left_command : (next : State) (text : List ℕ) → plain next (with_part (command_value text)).accumulator ≡ plain next []
 left_command next text = ap (λ (r : Machine (List ℕ)). plain next r.accumulator) (with_part-texted OscString [] 0 (text_after text (new_machine [])))
 
--- behind what is called already
+-- after what is called already
 command_dispatched : (c : Class) (b : ℕ) (lead text : List ℕ) (more : List Call) → class_of b ≡ c
     → executes lead ++ osc_dispatch (with_part (command_value text)).closed_parts (b == bell) ∷ more
     ≡ ((executes lead ++ osc_dispatch (parts_of text) (is_bell_at c) ∷ more) ++ []) ++ []
@@ -66,7 +66,7 @@ command_dispatched c b lead text more class =
     ∙ ap (λ t. executes lead ++ osc_dispatch (parts_of text) t ∷ more) (is_bell-class b ∙ ap is_bell_at class)))
     ∙ calls-ended (executes lead) (osc_dispatch (parts_of text) (is_bell_at c) ∷ more)
 
--- a byte of each class behind a command
+-- a byte of each class after a command
 pub command_grows : (c : Class) (b : ℕ) (lead text : List ℕ) → class_of b ≡ c
     → Grows (body_value (osc lead text)) (body_calls (osc lead text)) c b (grow_body (osc lead text) b c)
 command_grows esc_byte b lead text class = (left_command Escape text, command_dispatched esc_byte b lead text [] class)

@@ -151,7 +151,7 @@ calls-push call test bytes b answer e =
     (ap (λ t. map call (cond t (b ∷ []) [])) e
     ∙ elim answer as (λ t. map call (cond t (b ∷ []) []) ≡ cond t (call b ∷ []) []) [ true ↦ refl | false ↦ refl ]))
 
--- the phase and the registers of a header behind one more byte
+-- the phase and the registers of a header after one more byte
 abbrev pub next_phase : Phase → Class → Phase
 next_phase phase class = if is_significant_at class then phase_at phase class else phase
 
@@ -159,7 +159,7 @@ next_phase phase class = if is_significant_at class then phase_at phase class el
 abbrev pub next_registers : ℕ → Class → Machine (List ℕ) → Machine (List ℕ)
 next_registers b class m = if is_significant_at class then (if is_parameter_at class then after_param b m else after_collect b m) else m
 
--- From here on c is the class of the byte b that is put behind.
+-- From here on c is the class of the byte b that is appended.
 module _ (b : ℕ) (c : Class) (class : class_of b ≡ c) where
   pub executes-push : (bytes : List ℕ) → executes (bytes ++ b ∷ []) ≡ executes bytes ++ cond (is_control_at c) (execute b ∷ []) []
   executes-push bytes = calls-push execute is_control bytes b (is_control_at c) (is_control-class b ∙ ap is_control_at class)

@@ -12,8 +12,8 @@ use Rattle.anstyle_parse.specs.Machine.Step.{Machine, field_count, pushed, after
 use Rattle.anstyle_parse.specs.Stream.Items.{EachIs}
 use Rattle.anstyle_parse.proofs.Lists.Splits.{length-concat_push}
 use Rattle.anstyle_parse.proofs.Bytes.Headers.{next_number, collectable, collectable-shaped, is_parameter-intermediate, collectable-intermediates, parameters-intermediates}
-use Rattle.anstyle_parse.proofs.Arguments.Groups.{groups_behind, groups_behind-semicolon, groups_behind-colon, groups_behind-digit, groups_behind-header}
-use Rattle.anstyle_parse.proofs.Arguments.Shown.{length-groups_behind, shown_behind, shown_behind-full, shown_behind-push}
+use Rattle.anstyle_parse.proofs.Arguments.Groups.{groups_after, groups_after-semicolon, groups_after-colon, groups_after-digit, groups_after-header}
+use Rattle.anstyle_parse.proofs.Arguments.Shown.{length-groups_after, shown_after, shown_after-full, shown_after-push}
 
 -- one byte of a header after another, from the left
 abbrev pub header_step : {A : Type 0} → ℕ → Machine A → Machine A
@@ -99,28 +99,28 @@ shown_at_end m = shown_groups (with_last_field m).closed_groups (with_last_field
 
 abbrev ShowsGroups : Type 0 → List ℕ → Type 0
 ShowsGroups A bytes = (m : Machine A) → field_count m ≤ max_fields
-    → shown_at_end (header_after bytes m) ≡ shown_behind m.closed_groups (groups_behind m.open_group m.number (filter is_parameter bytes))
+    → shown_at_end (header_after bytes m) ≡ shown_after m.closed_groups (groups_after m.open_group m.number (filter is_parameter bytes))
 
 -- one byte before bytes of which it holds
 shows_step : {A : Type 0} (b : ℕ) (bytes : List ℕ) (m : Machine A) (parameter full ends_group ends_field collected_full : Bool)
     → (field_count m == max_fields) ≡ full → (b == semicolon) ≡ ends_group → (b == colon) ≡ ends_field → field_count m ≤ max_fields → ShowsGroups A bytes
     → shown_at_end (header_after bytes (step_by parameter full ends_group ends_field collected_full b m))
-    ≡ shown_behind m.closed_groups (groups_behind m.open_group m.number (if parameter then b ∷ filter is_parameter bytes else filter is_parameter bytes))
+    ≡ shown_after m.closed_groups (groups_after m.open_group m.number (if parameter then b ∷ filter is_parameter bytes else filter is_parameter bytes))
 shows_step b bytes m true true ends_group ends_field collected_full e1 e2 e3 l rest =
     let count : field_count m ≡ max_fields = eqb-true (field_count m) max_fields e1 in
     rest _ l
-    ∙ (sym (shown_behind-full m.closed_groups m.open_group m.number (filter is_parameter bytes) count)
-    ∙ shown_behind-full m.closed_groups m.open_group m.number (b ∷ filter is_parameter bytes) count)
+    ∙ (sym (shown_after-full m.closed_groups m.open_group m.number (filter is_parameter bytes) count)
+    ∙ shown_after-full m.closed_groups m.open_group m.number (b ∷ filter is_parameter bytes) count)
 shows_step b bytes m true false true ends_field collected_full e1 e2 e3 l rest =
     let room : field_count m < max_fields = omega (arith, eqb-false (field_count m) max_fields e1) in
     rest _ (omega (arith, length-concat_push m.closed_groups (m.open_group ++ m.number ∷ []), length-append m.open_group (m.number ∷ [])))
-    ∙ (shown_behind-push m.closed_groups m.open_group m.number (groups_behind [] 0 (filter is_parameter bytes)) room
-    ∙ ap (shown_behind m.closed_groups) (sym (groups_behind-semicolon m.open_group m.number b (filter is_parameter bytes) e2)))
+    ∙ (shown_after-push m.closed_groups m.open_group m.number (groups_after [] 0 (filter is_parameter bytes)) room
+    ∙ ap (shown_after m.closed_groups) (sym (groups_after-semicolon m.open_group m.number b (filter is_parameter bytes) e2)))
 shows_step b bytes m true false false true collected_full e1 e2 e3 l rest =
     rest _ (omega (arith, eqb-false (field_count m) max_fields e1, length-append m.open_group (m.number ∷ [])))
-    ∙ ap (shown_behind m.closed_groups) (sym (groups_behind-colon m.open_group m.number b (filter is_parameter bytes) e2 e3))
+    ∙ ap (shown_after m.closed_groups) (sym (groups_after-colon m.open_group m.number b (filter is_parameter bytes) e2 e3))
 shows_step b bytes m true false false false collected_full e1 e2 e3 l rest =
-    rest _ l ∙ ap (shown_behind m.closed_groups) (sym (groups_behind-digit m.open_group m.number b (filter is_parameter bytes) e2 e3))
+    rest _ l ∙ ap (shown_after m.closed_groups) (sym (groups_after-digit m.open_group m.number b (filter is_parameter bytes) e2 e3))
 shows_step b bytes m false full ends_group ends_field true e1 e2 e3 l rest = rest _ l
 shows_step b bytes m false full ends_group ends_field false e1 e2 e3 l rest = rest _ l
 
@@ -131,11 +131,11 @@ last_by full m =
     else record m { closed_groups = m.closed_groups ++ (m.open_group ++ m.number ∷ []) ∷ []; open_group = [] }
 
 shows_last : {A : Type 0} (m : Machine A) (full : Bool) → (field_count m == max_fields) ≡ full → field_count m ≤ max_fields
-    → shown_groups (last_by full m).closed_groups (last_by full m).open_group ≡ shown_behind m.closed_groups ((m.open_group ++ m.number ∷ []) ∷ [])
-shows_last m true e l = shown_behind-full m.closed_groups m.open_group m.number [] (eqb-true (field_count m) max_fields e)
+    → shown_groups (last_by full m).closed_groups (last_by full m).open_group ≡ shown_after m.closed_groups ((m.open_group ++ m.number ∷ []) ∷ [])
+shows_last m true e l = shown_after-full m.closed_groups m.open_group m.number [] (eqb-true (field_count m) max_fields e)
 shows_last m false e l =
     sym (append-nil (m.closed_groups ++ (m.open_group ++ m.number ∷ []) ∷ []))
-    ∙ shown_behind-push m.closed_groups m.open_group m.number [] (omega (arith, eqb-false (field_count m) max_fields e))
+    ∙ shown_after-push m.closed_groups m.open_group m.number [] (omega (arith, eqb-false (field_count m) max_fields e))
 
 shows_each : (A : Type 0) (bytes : List ℕ) → ShowsGroups A bytes
 shows_each A [] m l = shows_last m (field_count m == max_fields) refl l
@@ -148,7 +148,7 @@ overflow fields bytes = nat_lt max_fields fields || nat_lt max_collected bytes
 
 -- the same, from a machine on
 abbrev overflow_from : {A : Type 0} → Machine A → List ℕ → List ℕ → Bool
-overflow_from m parameters others = overflow (length (concat m.closed_groups) + length (concat (groups_behind m.open_group m.number parameters))) (length m.collected + length others)
+overflow_from m parameters others = overflow (length (concat m.closed_groups) + length (concat (groups_after m.open_group m.number parameters))) (length m.collected + length others)
 
 -- what sets the flag, and what leaves it as it is
 overflow-fields : (flag : Bool) (fields bytes : ℕ) → max_fields < fields → (flag || overflow fields bytes) ≡ true
@@ -178,42 +178,42 @@ ignores_step : {A : Type 0} (b : ℕ) (bytes : List ℕ) (m : Machine A) (parame
 ignores_step b bytes m true true ends_group ends_field collected_full e1 e2 e3 e4 l1 l2 rest =
     rest _ l1 l2
     ∙ sym (overflow-fields m.ignoring
-    (length (concat m.closed_groups) + length (concat (groups_behind m.open_group m.number (b ∷ filter is_parameter bytes))))
+    (length (concat m.closed_groups) + length (concat (groups_after m.open_group m.number (b ∷ filter is_parameter bytes))))
     (length m.collected + length (collectable bytes))
-    (omega (arith, eqb-true (field_count m) max_fields e1, length-groups_behind m.open_group m.number (b ∷ filter is_parameter bytes))))
+    (omega (arith, eqb-true (field_count m) max_fields e1, length-groups_after m.open_group m.number (b ∷ filter is_parameter bytes))))
 ignores_step b bytes m true false true ends_field collected_full e1 e2 e3 e4 l1 l2 rest =
     let pushed : List ℕ = m.open_group ++ m.number ∷ [] in
-    let groups : List (List ℕ) = groups_behind [] 0 (filter is_parameter bytes) in
+    let groups : List (List ℕ) = groups_after [] 0 (filter is_parameter bytes) in
     rest _ (omega (arith, eqb-false (field_count m) max_fields e1, length-concat_push m.closed_groups pushed, length-append m.open_group (m.number ∷ []))) l2
     ∙ ap (λ n. m.ignoring || overflow n (length m.collected + length (collectable bytes)))
-    (omega (arith, length-concat_push m.closed_groups pushed, length-append pushed (concat groups), ap (λ list. length (concat list)) (groups_behind-semicolon m.open_group m.number b (filter is_parameter bytes) e2)))
+    (omega (arith, length-concat_push m.closed_groups pushed, length-append pushed (concat groups), ap (λ list. length (concat list)) (groups_after-semicolon m.open_group m.number b (filter is_parameter bytes) e2)))
 ignores_step b bytes m true false false true collected_full e1 e2 e3 e4 l1 l2 rest =
     rest _ (omega (arith, eqb-false (field_count m) max_fields e1, length-append m.open_group (m.number ∷ []))) l2
     ∙ ap (λ groups. m.ignoring || overflow (length (concat m.closed_groups) + length (concat groups)) (length m.collected + length (collectable bytes)))
-    (sym (groups_behind-colon m.open_group m.number b (filter is_parameter bytes) e2 e3))
+    (sym (groups_after-colon m.open_group m.number b (filter is_parameter bytes) e2 e3))
 ignores_step b bytes m true false false false collected_full e1 e2 e3 e4 l1 l2 rest =
     rest _ l1 l2
     ∙ ap (λ groups. m.ignoring || overflow (length (concat m.closed_groups) + length (concat groups)) (length m.collected + length (collectable bytes)))
-    (sym (groups_behind-digit m.open_group m.number b (filter is_parameter bytes) e2 e3))
+    (sym (groups_after-digit m.open_group m.number b (filter is_parameter bytes) e2 e3))
 ignores_step b bytes m false full ends_group ends_field true e1 e2 e3 e4 l1 l2 rest =
     rest _ l1 l2
     ∙ sym (overflow-bytes m.ignoring
-    (length (concat m.closed_groups) + length (concat (groups_behind m.open_group m.number (filter is_parameter bytes))))
+    (length (concat m.closed_groups) + length (concat (groups_after m.open_group m.number (filter is_parameter bytes))))
     (length m.collected + suc (length (collectable bytes)))
     (omega (arith, eqb-true (length m.collected) max_collected e4)))
 ignores_step b bytes m false full ends_group ends_field false e1 e2 e3 e4 l1 l2 rest =
     let more : length (m.collected ++ b ∷ []) ≡ length m.collected + 1 = length-append m.collected (b ∷ []) in
     rest _ l1 (omega (arith, eqb-false (length m.collected) max_collected e4))
-    ∙ ap (λ n. m.ignoring || overflow (length (concat m.closed_groups) + length (concat (groups_behind m.open_group m.number (filter is_parameter bytes)))) n) (omega arith)
+    ∙ ap (λ n. m.ignoring || overflow (length (concat m.closed_groups) + length (concat (groups_after m.open_group m.number (filter is_parameter bytes)))) n) (omega arith)
 
 -- at the end of the bytes
 ignores_last : {A : Type 0} (m : Machine A) (full : Bool) → (field_count m == max_fields) ≡ full → field_count m ≤ max_fields → length m.collected ≤ max_collected
     → (last_by full m).ignoring ≡ (m.ignoring || overflow_from m [] [])
 ignores_last m true e l1 l2 =
     sym (overflow-fields m.ignoring
-    (length (concat m.closed_groups) + length (concat (groups_behind m.open_group m.number [])))
+    (length (concat m.closed_groups) + length (concat (groups_after m.open_group m.number [])))
     (length m.collected + 0)
-    (omega (arith, eqb-true (field_count m) max_fields e, length-groups_behind m.open_group m.number [])))
+    (omega (arith, eqb-true (field_count m) max_fields e, length-groups_after m.open_group m.number [])))
 ignores_last m false e l1 l2 =
     let pushed : List ℕ = m.open_group ++ m.number ∷ [] in
     sym (overflow-none m.ignoring (length (concat m.closed_groups) + length (pushed ++ [])) (length m.collected + 0)
@@ -229,7 +229,7 @@ ignores_each A (b ∷ bytes) m l1 l2 =
 pub header_groups : {A : Type 0} (header : List ℕ) (m : Machine A)
     → shown_groups (with_last_field (header_after header (after_clear m))).closed_groups (with_last_field (header_after header (after_clear m))).open_group ≡ groups_of header
 unfolding groups_of
-header_groups {A} header m = shows_each A header (after_clear m) (omega arith) ∙ ap (first_fields max_fields) (groups_behind-header header)
+header_groups {A} header m = shows_each A header (after_clear m) (omega arith) ∙ ap (first_fields max_fields) (groups_after-header header)
 
 -- the bytes that the machine has collected are those of the header
 pub header_collected : {A : Type 0} (header : List ℕ) (m : Machine A)
@@ -244,7 +244,7 @@ unfolding ignore_of
 header_ignoring {A} header m shape =
     ignores_each A header (after_clear m) (omega arith) (omega arith)
     ∙ ap₂ overflow
-    (zero-add _ ∙ ap (λ groups. length (concat groups)) (groups_behind-header header))
+    (zero-add _ ∙ ap (λ groups. length (concat groups)) (groups_after-header header))
     (zero-add _ ∙ ap length (collectable-shaped header shape))
 
 -- the machine without what it has collected

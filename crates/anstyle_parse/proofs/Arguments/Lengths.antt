@@ -80,12 +80,12 @@ none_is_zero-push (l ∷ ls) n e =
     let parts = and_parts (ltb 0 l) (none_is_zero ls) e in
     ap₂ (λ a b. a && b) parts.0 (none_is_zero-push ls n parts.1)
 
--- A text that is cut into closed parts, and the part behind them.
+-- A text that is cut into closed parts, and the part after them.
 module _ (text lengths : List ℕ) (parts closed : ℕ) (summed : total (take parts lengths) ≡ closed) (within : closed ≤ length text) where
   stored_closed : length (concat (cut (take parts lengths) text)) ≡ closed
   stored_closed = length-concat-cut (take parts lengths) text (omega arith) ∙ summed
 
-  -- all of the text is in the parts and behind them
+  -- all of the text is in the parts and after them
   pub stored_total : length (concat (cut (take parts lengths) text)) + length (drop closed text) ≡ length text
   stored_total = omega (arith, stored_closed, length-drop closed text)
 

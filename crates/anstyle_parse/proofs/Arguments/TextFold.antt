@@ -51,24 +51,24 @@ text_after-without (b ∷ bytes) m =
     text_after-without bytes (text_step b m)
     ∙ text_step_by-without (is_kept b) (stored_count m == max_osc_bytes) (b == semicolon) (length m.closed_parts == max_osc_parts) b m
 
--- the parts of kept bytes, of which n are stored, behind an open part
-abbrev parts_behind : List ℕ → ℕ → List ℕ → List (List ℕ)
-parts_behind part n bytes = onto_front part (slice_split (λ b. b == semicolon) (through_stored n bytes))
+-- the parts of kept bytes, of which n are stored, after an open part
+abbrev parts_after : List ℕ → ℕ → List ℕ → List (List ℕ)
+parts_after part n bytes = onto_front part (slice_split (λ b. b == semicolon) (through_stored n bytes))
 
 through_stored-zero : (bytes : List ℕ) → through_stored 0 bytes ≡ []
 through_stored-zero [] = refl
 through_stored-zero (b ∷ bytes) = refl
 
 -- what each kind of byte does to them, and where no more bytes are stored
-parts_behind-full : (part : List ℕ) (n : ℕ) (first second : List ℕ) → n ≡ 0 → parts_behind part n first ≡ parts_behind part n second
-parts_behind-full part n first second e =
+parts_after-full : (part : List ℕ) (n : ℕ) (first second : List ℕ) → n ≡ 0 → parts_after part n first ≡ parts_after part n second
+parts_after-full part n first second e =
     let none : (bytes : List ℕ) → through_stored n bytes ≡ [] = λ bytes. ap (λ k. through_stored k bytes) e ∙ through_stored-zero bytes in
     ap (λ bytes. onto_front part (slice_split (λ b. b == semicolon) bytes)) (none first ∙ sym (none second))
 
-parts_behind-separator : (part : List ℕ) (n b : ℕ) (bytes : List ℕ)
-    → 0 < n → (b == semicolon) ≡ true → parts_behind part n (b ∷ bytes) ≡ part ∷ parts_behind [] n bytes
-parts_behind-separator part zero b bytes some is = absurd (omega arith)
-parts_behind-separator part (suc n) b bytes some is =
+parts_after-separator : (part : List ℕ) (n b : ℕ) (bytes : List ℕ)
+    → 0 < n → (b == semicolon) ≡ true → parts_after part n (b ∷ bytes) ≡ part ∷ parts_after [] n bytes
+parts_after-separator part zero b bytes some is = absurd (omega arith)
+parts_after-separator part (suc n) b bytes some is =
     let split : List ℕ → List (List ℕ) = slice_split (λ b. b == semicolon) in
     let stored : List ℕ = through_stored (suc n) bytes in
     ap (λ list. onto_front part (split (b ∷ list))) (cond-true (b == semicolon) stored (through_stored n bytes) is)
@@ -76,9 +76,9 @@ parts_behind-separator part (suc n) b bytes some is =
     ∙ (ap (λ list. list ∷ split stored) (append-nil part)
     ∙ ap (λ parts. part ∷ parts) (sym (onto_front-nil (λ b. b == semicolon) stored))))
 
-parts_behind-stored : (part : List ℕ) (n b : ℕ) (bytes : List ℕ)
-    → (b == semicolon) ≡ false → parts_behind part (suc n) (b ∷ bytes) ≡ parts_behind (part ++ b ∷ []) n bytes
-parts_behind-stored part n b bytes is =
+parts_after-stored : (part : List ℕ) (n b : ℕ) (bytes : List ℕ)
+    → (b == semicolon) ≡ false → parts_after part (suc n) (b ∷ bytes) ≡ parts_after (part ++ b ∷ []) n bytes
+parts_after-stored part n b bytes is =
     let split : List ℕ → List (List ℕ) = slice_split (λ b. b == semicolon) in
     let stored : List ℕ = through_stored n bytes in
     ap (λ list. onto_front part (split (b ∷ list))) (cond-false (b == semicolon) (through_stored (suc n) bytes) stored is)
@@ -111,7 +111,7 @@ kept_parts bytes m = (with_part (text_after bytes m)).closed_parts
 -- from every machine within the limits they are those of all the bytes
 abbrev KeepsParts : Type 0 → List ℕ → Type 0
 KeepsParts A bytes = (m : Machine A) → stored_count m ≤ max_osc_bytes → length m.closed_parts ≤ max_osc_parts
-    → kept_parts bytes m ≡ closing m.closed_parts (parts_behind m.open_part (max_osc_bytes - stored_count m) (filter is_kept bytes))
+    → kept_parts bytes m ≡ closing m.closed_parts (parts_after m.open_part (max_osc_bytes - stored_count m) (filter is_kept bytes))
 
 -- at the end of the bytes
 kept_last : {A : Type 0} (m : Machine A) (full : Bool) → (length m.closed_parts == max_osc_parts) ≡ full → length m.closed_parts ≤ max_osc_parts
@@ -128,11 +128,11 @@ kept_step : {A : Type 0} (b : ℕ) (bytes : List ℕ) (m : Machine A) (kept full
     → (stored_count m == max_osc_bytes) ≡ full → (b == semicolon) ≡ separator → (length m.closed_parts == max_osc_parts) ≡ parts_full
     → stored_count m ≤ max_osc_bytes → length m.closed_parts ≤ max_osc_parts → KeepsParts A bytes
     → kept_parts bytes (text_step_by kept full separator parts_full b m)
-    ≡ closing m.closed_parts (parts_behind m.open_part (max_osc_bytes - stored_count m) (if kept then b ∷ filter is_kept bytes else filter is_kept bytes))
+    ≡ closing m.closed_parts (parts_after m.open_part (max_osc_bytes - stored_count m) (if kept then b ∷ filter is_kept bytes else filter is_kept bytes))
 kept_step b bytes m false full separator parts_full e1 e2 e3 l1 l2 each = each m l1 l2
 kept_step b bytes m true true separator parts_full e1 e2 e3 l1 l2 each =
     each m l1 l2
-    ∙ ap (closing m.closed_parts) (parts_behind-full m.open_part (max_osc_bytes - stored_count m) (filter is_kept bytes) (b ∷ filter is_kept bytes) (omega (arith, eqb-true (stored_count m) max_osc_bytes e1)))
+    ∙ ap (closing m.closed_parts) (parts_after-full m.open_part (max_osc_bytes - stored_count m) (filter is_kept bytes) (b ∷ filter is_kept bytes) (omega (arith, eqb-true (stored_count m) max_osc_bytes e1)))
 kept_step b bytes m true false true true e1 e2 e3 l1 l2 each =
     each m l1 l2 ∙ closing-full m.closed_parts _ _ (eqb-true (length m.closed_parts) max_osc_parts e3)
 kept_step b bytes m true false true false e1 e2 e3 l1 l2 each =
@@ -141,16 +141,16 @@ kept_step b bytes m true false true false e1 e2 e3 l1 l2 each =
     let same : length (concat (m.closed_parts ++ m.open_part ∷ [])) + 0 ≡ stored_count m = omega (arith, length-concat_push m.closed_parts m.open_part) in
     each (record m { closed_parts = m.closed_parts ++ m.open_part ∷ []; open_part = [] }) (omega arith) (omega (arith, length-append m.closed_parts (m.open_part ∷ [])))
     ∙ (closing-more m.closed_parts m.open_part _ room
-    ∙ (ap (λ n. closing m.closed_parts (m.open_part ∷ parts_behind [] (max_osc_bytes - n) (filter is_kept bytes))) same
-    ∙ ap (closing m.closed_parts) (sym (parts_behind-separator m.open_part (max_osc_bytes - stored_count m) b (filter is_kept bytes) (omega arith) e2))))
+    ∙ (ap (λ n. closing m.closed_parts (m.open_part ∷ parts_after [] (max_osc_bytes - n) (filter is_kept bytes))) same
+    ∙ ap (closing m.closed_parts) (sym (parts_after-separator m.open_part (max_osc_bytes - stored_count m) b (filter is_kept bytes) (omega arith) e2))))
 kept_step b bytes m true false false parts_full e1 e2 e3 l1 l2 each =
     let some : stored_count m < max_osc_bytes = omega (arith, eqb-false (stored_count m) max_osc_bytes e1) in
     let more : length (concat m.closed_parts) + length (m.open_part ++ b ∷ []) ≡ stored_count m + 1 = omega (arith, length-append m.open_part (b ∷ [])) in
     let behind : max_osc_bytes - stored_count m ≡ suc (max_osc_bytes - (length (concat m.closed_parts) + length (m.open_part ++ b ∷ []))) = omega arith in
     each (record m { open_part = m.open_part ++ b ∷ [] }) (omega arith) l2
     ∙ ap (closing m.closed_parts)
-    (sym (ap (λ n. parts_behind m.open_part n (b ∷ filter is_kept bytes)) behind
-    ∙ parts_behind-stored m.open_part _ b (filter is_kept bytes) e2))
+    (sym (ap (λ n. parts_after m.open_part n (b ∷ filter is_kept bytes)) behind
+    ∙ parts_after-stored m.open_part _ b (filter is_kept bytes) e2))
 
 kept_each : (A : Type 0) (bytes : List ℕ) → KeepsParts A bytes
 kept_each A [] m l1 l2 = kept_last m (length m.closed_parts == max_osc_parts) refl l2

@@ -28,7 +28,7 @@ pub list_any-none : (test other : ℕ → Bool) → ((b : ℕ) → IsTrue (test 
 list_any-none test other excluded [] p = refl
 list_any-none test other excluded (x ∷ a) p = or_from (other x) (list_any other a) (excluded x p.0) (list_any-none test other excluded a p.1)
 
--- a significant byte behind a header, and one that is not
+-- a significant byte after a header, and one that is not
 pub significant-push : (header : List ℕ) (b : ℕ) → is_significant b ≡ true → significant (header ++ b ∷ []) ≡ significant header ++ b ∷ []
 significant-push header b e =
     filter-append is_significant header (b ∷ []) ∙ ap (λ bytes. significant header ++ bytes) (cond-true (is_significant b) (b ∷ []) [] e)
@@ -43,7 +43,7 @@ list_all-prefix : (a b : List ℕ) → list_all is_intermediate (a ++ b) ≡ tru
 list_all-prefix a b h =
     (and_parts (list_all is_intermediate a) (list_all is_intermediate b) (sym (list_all-append is_intermediate a b) ∙ h)).0
 
--- intermediates behind parameter bytes, in a beginning
+-- intermediates after parameter bytes, in a beginning
 after_parameters-prefix : (a b : List ℕ) → list_all is_intermediate (after_parameters (a ++ b)) ≡ true → list_all is_intermediate (after_parameters a) ≡ true
 after_parameters-prefix [] b h = refl
 after_parameters-prefix (x ∷ a) b h =

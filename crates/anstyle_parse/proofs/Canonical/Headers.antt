@@ -116,7 +116,7 @@ pub after_marker-unmarked : (bytes : List ℕ) → EachIs (λ b. not (is_marker 
 after_marker-unmarked [] h = refl
 after_marker-unmarked (b ∷ bytes) h = cond-false (is_marker b) bytes (b ∷ bytes) (not-true (is_marker b) h.0)
 
--- what is behind a marker
+-- what is after a marker
 pub after_marker-in_order : (marker bytes : List ℕ) → length marker ≤ 1 → EachIs is_marker marker → EachIs (λ b. not (is_marker b)) bytes → after_marker (marker ++ bytes) ≡ bytes
 after_marker-in_order [] bytes one h k = after_marker-unmarked bytes k
 after_marker-in_order (b ∷ []) bytes one h k = cond-true (is_marker b) bytes (b ∷ bytes) h.0

@@ -157,7 +157,7 @@ length-canon-dispatch header final =
     cond_both (has_shape shown) (csi_dispatch (groups_of shown) (collected_of shown) (ignore_of shown) final ∷ []) [] (λ l. length (canon l) ≤ 2 * length header + 8)
     (λ e. omega (arith, length-append (text_of ++ final ∷ []) [], length-header_call header (final ∷ []))) (λ e. omega arith)
 
--- an operating system command and calls behind it
+-- an operating system command and calls after it
 length-canon-osc : (text : List ℕ) (bell_terminated : Bool) (calls : List Call) → length (canon (osc_dispatch (parts_of text) bell_terminated ∷ calls)) ≤ length text + 2 + length (command_end bell_terminated) + length (canon calls)
 length-canon-osc text bell_terminated calls =
     let joined = join_with_byte semicolon (parts_of text) in

@@ -40,7 +40,7 @@ through_stored-part (suc n) (b ∷ part) h few =
     ap (λ l. b ∷ l) (cond-false (eqb b semicolon) (through_stored (suc n) part) (through_stored n part) (not-true (eqb b semicolon) (stored-no_semicolon b h.0))
     ∙ through_stored-part n part h.1 (omega arith))
 
--- behind a part and a separator, what is left of the store goes on
+-- after a part and a separator, what is left of the store goes on
 through_stored-append : (n k : ℕ) (part rest : List ℕ) → EachIs is_stored part → n ≡ length part + suc k → through_stored n (part ++ semicolon ∷ rest) ≡ part ++ semicolon ∷ through_stored (suc k) rest
 through_stored-append zero k part rest h e = absurd (omega arith)
 through_stored-append (suc n) k [] rest h e = ap (λ m. semicolon ∷ through_stored m rest) (e ∙ zero-add (suc k))

@@ -70,7 +70,7 @@ module _ (header : List ℕ) (groups : List (List ℕ)) (intermediates : List �
       (hooked-body text h, refl) tt rest))
 
 -- What is shown of a list of calls: outside a hooked string, that its text makes it; inside
--- one, that a hooked string with its text behind makes the hook, the bytes passed, and it.
+-- one, that a hooked string with its text after makes the hook, the bytes passed, and it.
 abbrev Replayed : Bool → List Call → Type 0
 Replayed false calls = AreCalls (canon calls) calls
 Replayed true calls =

@@ -45,7 +45,7 @@ split : (t : Bool) (b : ℕ) (bytes : List ℕ) → cond t (b ∷ []) [] ++ cond
 split true b bytes = refl
 split false b bytes = refl
 
--- the marker at the head and what is behind it are the list
+-- the marker at the head and what is after it are the list
 pub leading_marker-after_marker : (bytes : List ℕ) → leading_marker bytes ++ after_marker bytes ≡ bytes
 leading_marker-after_marker [] = refl
 leading_marker-after_marker (b ∷ bytes) = split (is_marker b) b bytes

@@ -61,7 +61,7 @@ abbrev pub RowSays : List Span → Type 0
 RowSays row = (a : ℕ) (x : List ℕ) → begins row (a ∷ x) ≡ true
     → (is_lead a ≡ true) × (length row ≡ character_length a) × EachIs (is_within 0x80 0xBF) x
 
--- a place behind the first takes a byte 80..BF
+-- a place after the first takes a byte 80..BF
 abbrev goes_on : Span → Bool
 goes_on place = leb 0x80 place.first && leb place.last 0xBF
 
@@ -127,12 +127,12 @@ front_says a x = from_some ((is_lead a ≡ true) × EachIs (is_within 0x80 0xBF)
 abbrev goes_beyond : List ℕ → List Span → Bool
 goes_beyond x row = begins row x && nat_lt (length x) (length row)
 
--- some row goes on behind a proper beginning
+-- some row goes on after a proper beginning
 proper_front-some : (x : List ℕ) → is_proper_front x ≡ true → list_any (goes_beyond x) rows ≡ true
 unfolding is_proper_front
 proper_front-some x h = (and_parts (nat_lt 0 (length x)) (list_any (goes_beyond x) rows) h).1
 
--- a list behind which a row goes on is a proper beginning, unless it is empty
+-- a list after which a row goes on is a proper beginning, unless it is empty
 proper_front-from_some : (a : ℕ) (x : List ℕ) → list_any (goes_beyond (a ∷ x)) rows ≡ true → is_proper_front (a ∷ x) ≡ true
 unfolding is_proper_front
 proper_front-from_some a x h =
@@ -142,7 +142,7 @@ proper_front-from_some a x h =
 pub is_lead-front : (a : ℕ) (x : List ℕ) → IsTrue (is_front (a ∷ x)) → IsTrue (is_lead a)
 is_lead-front a x h = (front_says a x h).0
 
--- the bytes of a beginning behind the first
+-- the bytes of a beginning after the first
 pub EachIs-front : (a : ℕ) (x : List ℕ) → IsTrue (is_front (a ∷ x)) → EachIs (is_within 0x80 0xBF) x
 EachIs-front a x h = (front_says a x h).1
 
@@ -208,7 +208,7 @@ is_well_formed-proper (a ∷ x) h = false_from_ne_true (is_well_formed (a ∷ x)
     let part : length (a ∷ x) < character_length a = length-proper_front a x h in
     absurd (omega arith))
 
--- a row that goes on behind a list goes on behind each beginning of it
+-- a row that goes on after a list goes on after each beginning of it
 goes_beyond-from : (row : List Span) (x y : List ℕ) → begins row (x ++ y) ≡ true → length x < length row → goes_beyond x row ≡ true
 goes_beyond-from row x y e below = and_from (begins row x) (nat_lt (length x) (length row)) (begins-prefix row x y e) (lt-ltb (length x) (length row) below)
 

@@ -1,4 +1,4 @@
--- The tests for the beginnings of a character agree with the words: some bytes behind them make
+-- The tests for the beginnings of a character agree with the words: some bytes after them make
 -- a well-formed sequence.
 use Rattle.std.proofs.Common.{◌≡◌, ◌≢◌, ◌≤◌, ℕ, suc, Bool, true, ◌&&◌, leb, List, [], ◌∷◌, ◌++◌, length, IsTrue, ◌↔◌, ⊎_elim, refl, sym, ap, ◌∙◌, append-nil, arith}
 use Rattle.std.specs.Prelude.{◌==◌}

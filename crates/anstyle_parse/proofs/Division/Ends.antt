@@ -16,7 +16,7 @@ same_last : (items others : List Item) (item other : Item) → items ++ item ∷
 same_last items others item other e =
     let turned = sym (reverse-append items (item ∷ [])) ∙ (ap reverse e ∙ reverse-append others (other ∷ [])) in cc
 
--- joined items: each may stand before those behind it
+-- joined items: each may stand before those after it
 MayPrecede-joined : (items : List Item) (item : Item) (others : List Item) → AreJoined (items ++ item ∷ others) → MayPrecede item (items_text others)
 MayPrecede-joined [] item others joined = joined.0
 MayPrecede-joined (first ∷ items) item others joined = MayPrecede-joined items item others joined.1

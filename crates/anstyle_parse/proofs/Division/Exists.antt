@@ -47,7 +47,7 @@ pub record Grown (o : Open) (b : ℕ) (g : Growth) : Type 0 where
 Grown-more : (o : Open) (b : ℕ) (next : Open) → IsOpen next → open_text next ≡ open_text o ++ b ∷ [] → Grown o b (more next)
 Grown-more o b next h e = record { each = tt; next = h; whole = e; joined = λ rest. tt }
 
--- an item is whole, and nothing is open behind it
+-- an item is whole, and nothing is open after it
 Grown-done : (o : Open) (b : ℕ) (item : Item) → IsItem item → item_text item ≡ open_text o ++ b ∷ [] → ((rest : List ℕ) → MayPrecede item rest)
     → Grown o b (done item)
 Grown-done o b item h e before = record {
@@ -108,12 +108,12 @@ Grown-header lead header b h byte counts inner =
     (λ unfit. Grown-into (dcs_header lead header) (dcs_ignored lead header b []) b
     record { begun = h; header_byte = byte; unshaped = not_from_false (has_shape (significant header ++ b ∷ [])) unfit; text_bytes = tt } (simp append_assoc))
 
--- a final byte behind a device control header
+-- a final byte after a device control header
 Grown-hooked : (lead header : List ℕ) (b : ℕ) → IsBody (dcs_header lead header) → IsTrue (is_final b)
     → Grown (inside (dcs_header lead header)) b (into (dcs lead header b []))
 Grown-hooked lead header b h e = Grown-into (dcs_header lead header) (dcs lead header b []) b record { begun = h; hooked = e; text_bytes = tt } (simp append_assoc)
 
--- Each byte, by its class, behind each body.
+-- Each byte, by its class, after each body.
 Grown-body : (body : Body) (b : ℕ) (c : Class) → class_of b ≡ c → IsBody body → Grown (inside body) b (grow_body body b c)
 Grown-body body b esc_byte e h = Grown-broken_off body b h (is_escape-class b ∙ ap is_escape_at e)
 Grown-body body b cancel_byte e h = Grown-done (inside body) b (sequence body (cancelled b)) (h, is_cancel-class b ∙ ap is_cancel_at e) refl (λ rest. tt)
@@ -200,7 +200,7 @@ Grown-broken bytes b g h breaks grown = record {
   );
 }
 
--- a byte behind the front of a character makes it whole, or longer, or breaks it
+-- a byte after the front of a character makes it whole, or longer, or breaks it
 Grown-front : (bytes : List ℕ) (b : ℕ) → IsTrue (is_proper_front bytes) → Grown (front bytes) b (grow_front bytes b (class_of b))
 Grown-front [] b h = absurd (both_ways (is_proper_front []) is_proper_front-nil h)
 Grown-front (a ∷ x) b h =
@@ -215,7 +215,7 @@ Grown-front (a ∷ x) b h =
     (λ neither. Grown-broken (a ∷ x) b (start b (class_of b)) h
     (not_front (a ∷ (x ++ b ∷ [])) other neither a (x ++ b ∷ []) refl) (Grown-start b (class_of b) refl)))
 
--- a byte behind any open item
+-- a byte after any open item
 pub Grown-grow : (o : Open) (b : ℕ) → IsOpen o → Grown o b (grow o b)
 unfolding grow
 Grown-grow nothing b h = Grown-start b (class_of b) refl
@@ -233,12 +233,12 @@ IsDivision-last nothing h = record { whole = refl; each = tt; joined = tt }
 IsDivision-last (front bytes) h = record { whole = append-nil bytes; each = ((IsProperFront-test bytes).0 h, tt); joined = (refl, tt) }
 IsDivision-last (inside body) h = record { whole = append-nil (body_text body ++ []) ∙ append-nil (body_text body); each = ((h, tt), tt); joined = (refl, tt) }
 
--- the bytes of an open item and those behind it are divided
-pub IsDivision-divide_behind : (o : Open) (bytes : List ℕ) → IsOpen o → IsDivision (divide o bytes) (open_text o ++ bytes)
-IsDivision-divide_behind o [] h = subst (λ text. IsDivision (last_items o) text) (sym (append-nil (open_text o))) (IsDivision-last o h)
-IsDivision-divide_behind o (b ∷ bytes) h =
+-- the bytes of an open item and those after it are divided
+pub IsDivision-divide_after : (o : Open) (bytes : List ℕ) → IsOpen o → IsDivision (divide o bytes) (open_text o ++ bytes)
+IsDivision-divide_after o [] h = subst (λ text. IsDivision (last_items o) text) (sym (append-nil (open_text o))) (IsDivision-last o h)
+IsDivision-divide_after o (b ∷ bytes) h =
     let g = Grown-grow o b h in
-    let after = IsDivision-divide_behind (grow o b).next bytes g.next in
+    let after = IsDivision-divide_after (grow o b).next bytes g.next in
     let all = IsDivision-append (grow o b).items (divide (grow o b).next bytes) (open_text (grow o b).next ++ bytes) g.each (g.joined bytes) after in
     subst (λ text. IsDivision (divide o (b ∷ bytes)) text)
     (sym (append_assoc (items_text (grow o b).items) (open_text (grow o b).next) bytes) ∙ (ap (λ text. text ++ bytes) g.whole ∙ append_assoc (open_text o) (b ∷ []) bytes))
@@ -246,4 +246,4 @@ IsDivision-divide_behind o (b ∷ bytes) h =
 
 -- so the bytes of a list are divided
 pub IsDivision-divide : (bytes : List ℕ) → IsDivision (divide nothing bytes) bytes
-IsDivision-divide bytes = IsDivision-divide_behind nothing bytes tt
+IsDivision-divide bytes = IsDivision-divide_after nothing bytes tt

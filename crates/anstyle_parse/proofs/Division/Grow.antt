@@ -47,7 +47,7 @@ into body = more (inside body)
 abbrev pub ended : Body → ℕ → Growth
 ended body b = done (sequence body (complete b))
 
--- behind intermediates the byte is a final, else it begins another body
+-- after intermediates the byte is a final, else it begins another body
 abbrev pub introduce : List ℕ → ℕ → Body → Growth
 introduce bytes b body = if list_any is_intermediate bytes then ended (escape bytes) b else into body
 
@@ -136,7 +136,7 @@ open_text nothing = []
 open_text (front bytes) = bytes
 open_text (inside body) = body_text body
 
--- the items of the bytes behind an open item, and what is open after the bytes
+-- the items of the bytes after an open item, and what is open after the bytes
 abbrev pub divide : Open → List ℕ → List Item
 divide open_item [] = last_items open_item
 divide open_item (b ∷ bytes) = (grow open_item b).items ++ divide (grow open_item b).next bytes

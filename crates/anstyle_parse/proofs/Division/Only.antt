@@ -16,7 +16,7 @@ use Rattle.anstyle_parse.proofs.Characters.Tests.{IsFront-test, IsProperFront-te
 use Rattle.anstyle_parse.proofs.Division.Exists.{IsOpen}
 use Rattle.anstyle_parse.proofs.Division.Steps.{Runs, Runs-open}
 
--- behind a run the division goes on from what is open
+-- after a run the division goes on from what is open
 divide-run : (o p : Open) (a rest : List ℕ) → Runs o a p → divide o (a ++ rest) ≡ divide p rest
 divide-run o p a rest r = divide-append o a rest ∙ (ap (λ items. items ++ divide (open_after o a) rest) r.none ∙ ap (λ x. divide x rest) r.reaches)
 
@@ -32,17 +32,17 @@ divide-whole o b rest item h e =
     ∙ (divide-run nothing o (open_text o) (b ∷ rest) (Runs-open o h) ∙ divide-done o b rest item e)
 
 -- the byte that completes a body
-introduce-behind : (bytes : List ℕ) (b : ℕ) (body : Body) → (list_any is_intermediate bytes || false) ≡ true → introduce bytes b body ≡ ended (escape bytes) b
-introduce-behind bytes b body t = cond-true (list_any is_intermediate bytes) (ended (escape bytes) b) (more (inside body))
+introduce-after : (bytes : List ℕ) (b : ℕ) (body : Body) → (list_any is_intermediate bytes || false) ≡ true → introduce bytes b body ≡ ended (escape bytes) b
+introduce-after bytes b body t = cond-true (list_any is_intermediate bytes) (ended (escape bytes) b) (more (inside body))
     (⊎_elim (λ some. some) (λ no. absurd (false≢true no)) (or_cases (list_any is_intermediate bytes) false t))
 
 -- a byte that completes an escape sequence ends it
 ended_escape : (bytes : List ℕ) (b : ℕ) (c : Class) → (is_last_at c && (list_any is_intermediate bytes || not (is_introducer_at c))) ≡ true
     → grow_body (escape bytes) b c ≡ ended (escape bytes) b
-ended_escape bytes b device_byte t = introduce-behind bytes b (dcs_header bytes []) t
-ended_escape bytes b string_byte t = introduce-behind bytes b (sos_pm_apc bytes b []) t
-ended_escape bytes b control_introducer t = introduce-behind bytes b (csi bytes []) t
-ended_escape bytes b command_byte t = introduce-behind bytes b (osc bytes []) t
+ended_escape bytes b device_byte t = introduce-after bytes b (dcs_header bytes []) t
+ended_escape bytes b string_byte t = introduce-after bytes b (sos_pm_apc bytes b []) t
+ended_escape bytes b control_introducer t = introduce-after bytes b (csi bytes []) t
+ended_escape bytes b command_byte t = introduce-after bytes b (osc bytes []) t
 ended_escape bytes b c t = cc
 
 -- and a control sequence
@@ -178,7 +178,7 @@ divide-broken bytes (b ∷ rest) h m =
     divide-run nothing (front bytes) bytes (b ∷ rest) (Runs-open (front bytes) h)
     ∙ ap (λ g. g.items ++ divide g.next rest) (grow-broken bytes b m)
 
--- An item's text is divided into that item, and what stands behind it by itself.
+-- An item's text is divided into that item, and what stands after it by itself.
 divide-item : (item : Item) (rest : List ℕ) → IsItem item → MayPrecede item rest → divide nothing (item_text item ++ rest) ≡ item ∷ divide nothing rest
 divide-item (single b) rest h m = divide-done nothing b rest (single b) (grow-single b h)
 divide-item (character bytes) rest h m = divide-character bytes rest h

@@ -21,7 +21,7 @@ done_items-append o (x ∷ a) b =
     ap (λ items. (grow o x).items ++ items) (done_items-append (grow o x).next a b)
     ∙ sym (append_assoc (grow o x).items (done_items (grow o x).next a) (done_items (open_after (grow o x).next a) b))
 
--- the items of the first part, and the division of the second behind what is open there
+-- the items of the first part, and the division of the second after what is open there
 pub divide-append : (o : Open) (a b : List ℕ) → divide o (a ++ b) ≡ done_items o a ++ divide (open_after o a) b
 divide-append o [] b = refl
 divide-append o (x ∷ a) b =

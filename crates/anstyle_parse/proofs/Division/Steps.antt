@@ -50,7 +50,7 @@ Runs-free : (f : List ℕ → Open) (test : ℕ → Bool) → ((p : List ℕ) (b
     → (bytes : List ℕ) → EachIs test bytes → Runs (f []) bytes (f bytes)
 Runs-free f test step bytes each = Runs-each f test (λ x. ⊤) (λ a b h. h) (λ p b t h. step p b t) [] bytes each tt
 
--- what a byte does behind a body, by its class
+-- what a byte does after a body, by its class
 into_escape : (p : List ℕ) (b : ℕ) (c : Class) → is_in_escape_at c ≡ true → grow_body (escape p) b c ≡ into (escape (p ++ b ∷ []))
 into_escape p b control_byte t = refl
 into_escape p b c t = cc
@@ -98,7 +98,7 @@ into_ignored : (lead : List ℕ) (kind : ℕ) (p : List ℕ) (b : ℕ) (c : Clas
 into_ignored lead kind p b terminator_byte t = cc
 into_ignored lead kind p b c t = cc
 
--- a final byte behind a device control header, and a byte that does not fit it
+-- a final byte after a device control header, and a byte that does not fit it
 final_device : (lead header : List ℕ) (b : ℕ) (c : Class) → is_final_at c ≡ true → grow_body (dcs_header lead header) b c ≡ into (dcs lead header b [])
 final_device lead header b final_byte t = refl
 final_device lead header b c t = cc
@@ -123,11 +123,11 @@ no_intermediate : (lead : List ℕ) → EachIs is_noise lead → list_any is_int
 no_intermediate lead noise = list_any-none is_noise is_intermediate
     (λ b t. is_intermediate-class b ∙ not_intermediate (class_of b) (sym (is_noise-class b) ∙ t)) lead noise
 
--- behind noise a byte that begins another body does so
+-- after noise a byte that begins another body does so
 introduce-noise : (lead : List ℕ) (b : ℕ) (body : Body) → EachIs is_noise lead → introduce lead b body ≡ into body
 introduce-noise lead b body noise = cond-false (list_any is_intermediate lead) (ended (escape lead) b) (into body) (no_intermediate lead noise)
 
--- 5B behind ESC and noise
+-- 5B after ESC and noise
 begin_control : (lead : List ℕ) → EachIs is_noise lead → grow (inside (escape lead)) 0x5B ≡ into (csi lead [])
 unfolding grow class_of class_below
 begin_control lead noise = introduce-noise lead 0x5B (csi lead []) noise
@@ -148,7 +148,7 @@ begin_ignored : (lead : List ℕ) (kind : ℕ) (c : Class) → is_string_kind_at
 begin_ignored lead kind string_byte t noise = introduce-noise lead kind (sos_pm_apc lead kind []) noise
 begin_ignored lead kind c t noise = cc
 
--- ESC behind nothing
+-- ESC after nothing
 begin_escape : grow nothing escape_byte ≡ into (escape [])
 unfolding grow class_of class_below
 begin_escape = refl
@@ -165,7 +165,7 @@ Runs-escape bytes each = Runs-append nothing (inside (escape [])) (inside (escap
     (Runs-free (λ x. inside (escape x)) (λ b. is_noise b || is_intermediate b)
     (λ p b t. grow-inside (escape p) b ∙ into_escape p b (class_of b) (sym (is_in_escape-class b) ∙ t)) bytes each)
 
--- behind ESC and noise comes a body of another kind
+-- after ESC and noise comes a body of another kind
 Runs-lead : (lead : List ℕ) (b : ℕ) (part : List ℕ) (first body : Body) → EachIs is_noise lead → grow (inside (escape lead)) b ≡ into first
     → Runs (inside first) part (inside body) → Runs nothing (escape_byte ∷ (lead ++ b ∷ part)) (inside body)
 Runs-lead lead b part first body noise begins r =
@@ -179,11 +179,11 @@ Runs-device lead header h = Runs-each (λ x. inside (dcs_header lead x)) (λ b. 
     (λ a b s. has_shape-significant a b s)
     (λ p b t s. grow-inside (dcs_header lead p) b ∙ into_device lead p b (class_of b) refl (sym (is_in_header-class b) ∙ t) s) [] header h.header_bytes h.shaped
 
--- a byte behind a device control header, and the text behind that
-Runs-behind : (lead header : List ℕ) (b : ℕ) (text : List ℕ) (first body : Body) → IsBody (dcs_header lead header)
+-- a byte after a device control header, and the text after that
+Runs-after : (lead header : List ℕ) (b : ℕ) (text : List ℕ) (first body : Body) → IsBody (dcs_header lead header)
     → grow_body (dcs_header lead header) b (class_of b) ≡ into first → Runs (inside first) text (inside body)
     → Runs (inside (dcs_header lead [])) (header ++ b ∷ text) (inside body)
-Runs-behind lead header b text first body h begins r =
+Runs-after lead header b text first body h begins r =
     Runs-append (inside (dcs_header lead [])) (inside (dcs_header lead header)) (inside body) header (b ∷ text) (Runs-device lead header h)
     (Runs-append (inside (dcs_header lead header)) (inside first) (inside body) (b ∷ []) text
     (Runs-one (inside (dcs_header lead header)) b (inside first) (grow-inside (dcs_header lead header) b ∙ begins)) r)
@@ -197,13 +197,13 @@ Runs-body (csi lead header) h = Runs-lead lead 0x5B header (csi lead []) (csi le
 Runs-body (dcs_header lead header) h = Runs-lead lead 0x50 header (dcs_header lead []) (dcs_header lead header) h.noise (begin_device lead h.noise) (Runs-device lead header h)
 Runs-body (dcs lead header final text) h =
     Runs-lead lead 0x50 (header ++ final ∷ text) (dcs_header lead []) (dcs lead header final text) h.begun.noise (begin_device lead h.begun.noise)
-    (Runs-behind lead header final text (dcs lead header final []) (dcs lead header final text) h.begun
+    (Runs-after lead header final text (dcs lead header final []) (dcs lead header final text) h.begun
     (final_device lead header final (class_of final) (sym (is_final-class final) ∙ h.hooked))
     (Runs-free (λ x. inside (dcs lead header final x)) (is_text_byte string_terminator)
     (λ p b t. grow-inside (dcs lead header final p) b ∙ into_hooked lead header final p b (class_of b) (sym (is_string_text-class b) ∙ t)) text h.text_bytes))
 Runs-body (dcs_ignored lead header byte text) h =
     Runs-lead lead 0x50 (header ++ byte ∷ text) (dcs_header lead []) (dcs_ignored lead header byte text) h.begun.noise (begin_device lead h.begun.noise)
-    (Runs-behind lead header byte text (dcs_ignored lead header byte []) (dcs_ignored lead header byte text) h.begun
+    (Runs-after lead header byte text (dcs_ignored lead header byte []) (dcs_ignored lead header byte text) h.begun
     (unfit_device lead header byte (class_of byte) (sym (is_header_byte-class byte) ∙ h.header_byte) (not-true (has_shape (significant header ++ byte ∷ [])) h.unshaped))
     (Runs-free (λ x. inside (dcs_ignored lead header byte x)) (is_text_byte string_terminator)
     (λ p b t. grow-inside (dcs_ignored lead header byte p) b ∙ into_dropped lead header byte p b (class_of b) (sym (is_string_text-class b) ∙ t)) text h.text_bytes))
@@ -220,7 +220,7 @@ start-lead : (b : ℕ) (c : Class) → is_lead_at c ≡ true → start b c ≡ m
 start-lead b lead_byte t = refl
 start-lead b c t = cc
 
--- a lead byte behind nothing
+-- a lead byte after nothing
 begin_front : (b : ℕ) → IsTrue (is_lead b) → grow nothing b ≡ more (front (b ∷ []))
 unfolding grow
 begin_front b t = start-lead b (class_of b) (sym (is_lead-class b) ∙ t)

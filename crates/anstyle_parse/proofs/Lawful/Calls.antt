@@ -83,7 +83,7 @@ lawful-dispatch header final calls ends rest =
     cond_both (has_shape header) (csi_dispatch (groups_of header) (collected_of header) (ignore_of header) final ∷ []) [] (λ l. AreLawful (l ++ calls))
     (λ e. (IsHeaderCall-header header final e ends, rest)) (λ e. rest)
 
--- what an end calls behind a hooked string, and elsewhere
+-- what an end calls after a hooked string, and elsewhere
 lawful-hooked_end : (lead header : List ℕ) (final : ℕ) (text : List ℕ) (end : End) (calls : List Call) → IsEnd (dcs lead header final text) end → AreLawful calls → (end ≡ unfinished → calls ≡ [])
     → AreLawfulFrom true (end_calls (dcs lead header final text) end ++ calls)
 lawful-hooked_end lead header final text (complete byte) calls ends rest last = rest
@@ -150,9 +150,9 @@ lawful-item (broken front) calls is rest last = (is_character-replacement, rest)
 lawful-item (begun front) calls is rest last = rest
 lawful-item (sequence body end) calls is rest last = lawful-sequence body end calls is.0 is.1 rest (λ e. last body (ap (sequence body) e))
 
--- nothing is called behind an item that is unfinished
-none_behind : (item : Item) (items : List Item) → AllByRecursion IsItem items → MayPrecede item (items_text items) → (body : Body) → item ≡ sequence body unfinished → items_calls items ≡ []
-none_behind item items each may body e =
+-- nothing is called after an item that is unfinished
+none_after : (item : Item) (items : List Item) → AllByRecursion IsItem items → MayPrecede item (items_text items) → (body : Body) → item ≡ sequence body unfinished → items_calls items ≡ []
+none_after item items each may body e =
     let empty : items_text items ≡ [] = subst (λ i. MayPrecede i (items_text items)) e may in
     let bound = length-items_calls items each in
     nil_from_length (items_calls items) (omega (arith, bound, ap length empty))
@@ -160,7 +160,7 @@ none_behind item items each may body e =
 lawful-items : (items : List Item) → AllByRecursion IsItem items → AreJoined items → AreLawful (items_calls items)
 lawful-items [] each joined = tt
 lawful-items (item ∷ items) each joined =
-    lawful-item item (items_calls items) each.0 (lawful-items items each.1 joined.1) (none_behind item items each.1 joined.0)
+    lawful-item item (items_calls items) each.0 (lawful-items items each.1 joined.1) (none_after item items each.1 joined.0)
 
 -- the calls of bytes are lawful
 pub lawful : (bytes : List ℕ) (calls : List Call) → AreCalls bytes calls → AreLawful calls

@@ -8,7 +8,7 @@ abbrev pub behind : ℕ → List (List ℕ) → List ℕ
 behind c [] = []
 behind c (x ∷ xs) = c ∷ (x ++ behind c xs)
 
--- what is left of lists that are joined by the byte: all of them, or those behind the first
+-- what is left of lists that are joined by the byte: all of them, or those after the first
 abbrev pub joined_rest : Bool → ℕ → List (List ℕ) → List ℕ
 joined_rest true c xs = join_with_byte c xs
 joined_rest false c xs = behind c xs

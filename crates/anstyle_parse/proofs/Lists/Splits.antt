@@ -10,7 +10,7 @@ abbrev pub onto_front : {X : Type 0} → List X → List (List X) → List (List
 onto_front front [] = front ∷ []
 onto_front front (part ∷ parts) = (front ++ part) ∷ parts
 
--- an element put before the first part stands behind what is put before it
+-- an element put before the first part stands after what is put before it
 pub onto_front-onto_first : {X : Type 0} (front : List X) (x : X) (parts : List (List X)) → onto_front front (onto_first x parts) ≡ onto_front (front ++ x ∷ []) parts
 onto_front-onto_first front x [] = refl
 onto_front-onto_first front x (part ∷ parts) = ap (λ list. list ∷ parts) (sym (append_assoc front (x ∷ []) part))

@@ -40,7 +40,7 @@ step_calls_at-ground add lead_byte b m = rw append-nil (length-print_answer (add
 step_calls_at-ground add esc_byte b m = lit≤ tt
 step_calls_at-ground add class b m = lit≤ tt
 
--- behind an answer there are more where the byte broke a character
+-- after an answer there are more where the byte broke a character
 answer_calls_at-most : {A : Type 0} (add : AccumulatorStep A) (answer : Taken) (class : Class) (b : ℕ) (accumulator : A) (m : Machine A)
     → length (answer_calls_at add answer class b (record m { accumulator = accumulator; state = state_after_answer answer })) ≤ most_calls Utf8 answer class
 unfolding most_calls calls_last

@@ -39,7 +39,7 @@ row_ground above_byte = kept
 row_ground beyond_byte = kept
 row_ground class = Anywhere by Print
 
--- directly behind ESC
+-- directly after ESC
 abbrev pub row_escape : Class → Change
 row_escape intermediate_byte = EscapeIntermediate by Collect
 row_escape digit_byte = Ground by EscDispatch

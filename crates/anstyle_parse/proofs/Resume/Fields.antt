@@ -90,7 +90,7 @@ module _ (collected : List ℕ) (ignoring : Bool) (groups : List (List ℕ)) (gr
       (Writes-digit (k % 10) (k / 10) k (omega arith) (omega arith)))
       n (below n small) small
 
-  -- 3A behind it, which stores it in the open group
+  -- 3A after it, which stores it in the open group
   Writes-colon : (n : ℕ) → Writes (colon ∷ []) (at_number n) (filled collected ignoring groups (group ++ n ∷ []) 0)
   Writes-colon n = Writes-one colon (at_number n) (filled collected ignoring groups (group ++ n ∷ []) 0) colon_is (with_parameter-room colon n)
 
@@ -148,7 +148,7 @@ module _ (collected : List ℕ) (ignoring : Bool) where
         size = omega (arith, length-append (decimal n) (semicolon ∷ []), length-field n small, length-concat_push groups (group ++ n ∷ []), length-append group (n ∷ []));
       }
 
-  -- the fields of a group that is closed behind them
+  -- the fields of a group that is closed after them
   Stores-rest : (groups : List (List ℕ)) (group : List ℕ) (n : ℕ) (rest : List ℕ) → length (concat groups) + length group + length (n ∷ rest) ≤ max_fields → AreFields (n ∷ rest)
       → Stores (group_so_far (n ∷ rest)) (holding groups group) (holding (groups ++ (group ++ n ∷ rest) ∷ []) [])
   Stores-rest groups group n [] few small = Stores-last groups group n (omega arith) small.0
@@ -194,14 +194,14 @@ module _ (collected : List ℕ) (ignoring : Bool) where
       Stores-append (flat_map group_so_far groups) (flat_map field_so_far group) (holding [] []) (holding groups []) (holding groups group)
       (Stores-groups [] groups (omega arith) closed) (Stores-open groups [] group (omega arith) opened)
 
--- lists that are joined, and the byte behind the last
+-- lists that are joined, and the byte after the last
 join_with_byte-each : (c : ℕ) (x : List ℕ) (xs : List (List ℕ)) → join_with_byte c (x ∷ xs) ++ c ∷ [] ≡ flat_map (λ list. list ++ c ∷ []) (x ∷ xs)
 join_with_byte-each c x [] = sym (append-nil (x ++ c ∷ []))
 join_with_byte-each c x (y ∷ xs) =
     append_assoc x (c ∷ join_with_byte c (y ∷ xs)) (c ∷ [])
     ∙ (ap (λ list. x ++ c ∷ list) (join_with_byte-each c y xs) ∙ sym (append_assoc x (c ∷ []) (flat_map (λ list. list ++ c ∷ []) (y ∷ xs))))
 
--- the lists before the last, each with the byte behind it
+-- the lists before the last, each with the byte after it
 join_with_byte-last : (c : ℕ) (xs : List (List ℕ)) (y : List ℕ) → join_with_byte c (xs ++ y ∷ []) ≡ flat_map (λ list. list ++ c ∷ []) xs ++ y
 join_with_byte-last c [] y = refl
 join_with_byte-last c (x ∷ []) y = sym (ap (λ list. list ++ y) (append-nil (x ++ c ∷ [])) ∙ append_assoc x (c ∷ []) y)

@@ -34,7 +34,7 @@ phase_from-append : (phase : Phase) (first second : List ℕ) → phase_from pha
 phase_from-append phase [] second = refl
 phase_from-append phase (b ∷ first) second = phase_from-append (phase_by phase (is_marker b) (is_parameter b) (is_intermediate b)) first second
 
--- parameter bytes behind parameter bytes
+-- parameter bytes after parameter bytes
 phase_from-parameters : (bytes : List ℕ) → EachIs is_parameter bytes → phase_from in_parameters bytes ≡ in_parameters
 phase_from-parameters [] each = refl
 phase_from-parameters (b ∷ bytes) each =
@@ -116,7 +116,7 @@ EachIs-ignored false = tt
 
 -- From here on m holds what a header of the phase leaves.
 module _ (phase : Phase) (m : Machine (List ℕ)) (h : HoldsHeader phase m) where
-  -- the intermediates stand behind the marker
+  -- the intermediates stand after the marker
   behind_marker : after_marker m.collected ≡ h.collected.others
   behind_marker =
       ap after_marker h.collected.whole
@@ -133,14 +133,14 @@ module _ (phase : Phase) (m : Machine (List ℕ)) (h : HoldsHeader phase m) wher
   both_fit : length h.collected.marker + length h.collected.others ≤ max_collected
   both_fit = omega (arith, h.collected.fit, ap length h.collected.whole, length-append h.collected.marker h.collected.others)
 
-  -- a third byte to collect comes behind an intermediate
-  comes_behind : (ignoring : Bool) → (ignoring ≡ true → length m.collected ≡ max_collected) → phase_from in_parameters (h.collected.others ++ cond ignoring (0x20 ∷ []) []) ≡ phase
-  comes_behind true long =
+  -- a third byte to collect comes after an intermediate
+  comes_after : (ignoring : Bool) → (ignoring ≡ true → length m.collected ≡ max_collected) → phase_from in_parameters (h.collected.others ++ cond ignoring (0x20 ∷ []) []) ≡ phase
+  comes_after true long =
       let some : 0 < length h.collected.others = omega (arith, long refl, h.collected.one, ap length h.collected.whole, length-append h.collected.marker h.collected.others) in
       phase_from-intermediates (h.collected.others ++ 0x20 ∷ [])
       (EachIs-append is_intermediate h.collected.others (0x20 ∷ []) h.collected.others_are (space_is, tt)) (omega (arith, length-append h.collected.others (0x20 ∷ [])))
       ∙ (sym (phase_from-intermediates h.collected.others h.collected.others_are some) ∙ h.comes)
-  comes_behind false long = ap (phase_from in_parameters) (append-nil h.collected.others) ∙ h.comes
+  comes_after false long = ap (phase_from in_parameters) (append-nil h.collected.others) ∙ h.comes
 
   -- a marker, parameter bytes and intermediates that lead there
   replays_by : (parameters intermediates : List ℕ) (mid : Machine (List ℕ)) → EachIs is_intermediate intermediates → 0 < length parameters → length parameters ≤ 197 → length intermediates ≤ 3
@@ -160,7 +160,7 @@ module _ (phase : Phase) (m : Machine (List ℕ)) (h : HoldsHeader phase m) wher
         size = omega (arith, h.collected.one, length-append h.collected.marker (parameters ++ intermediates), length-append parameters intermediates);
       }
 
-  -- The number and what is behind it, by whether all fields are stored.
+  -- The number and what is after it, by whether all fields are stored.
   replays_full : (full : Bool) → (field_count m == max_fields) ≡ full
       → Replays phase (leading_marker m.collected ++ (fields_so_far m ++ cond full (ignored_byte semicolon m ++ after_marker m.collected) (decimal m.number ++ (after_marker m.collected ++ ignored_byte 0x20 m)))) m
   replays_full true e =
@@ -201,7 +201,7 @@ module _ (phase : Phase) (m : Machine (List ℕ)) (h : HoldsHeader phase m) wher
       (omega (arith, length-append (fields_so_far m) (decimal m.number), decimal_nonempty m.number (lt_of_le_of_lt h.fields.number_fits (lit< tt))))
       (omega (arith, sized, few, length-append (fields_so_far m) (decimal m.number), length-field m.number h.fields.number_fits))
       (omega (arith, both_fit, length-append others (ignored_byte 0x20 m), length-ignored 0x20 m.ignoring))
-      (comes_behind m.ignoring long)
+      (comes_after m.ignoring long)
       (Writes-append (fields_so_far m) (decimal m.number) (filled marker false [] [] 0) (filled marker false m.closed_groups m.open_group 0) (filled marker false m.closed_groups m.open_group m.number)
       stores.writes (Writes-decimal marker false m.closed_groups m.open_group room m.number h.fields.number_fits))
       (header_after-append others (ignored_byte 0x20 m) (filled marker false m.closed_groups m.open_group m.number)

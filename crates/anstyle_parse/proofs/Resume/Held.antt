@@ -38,13 +38,13 @@ pub record HoldsCollected (bytes : List ℕ) : Type 0 where
   pub others_are : EachIs is_intermediate others
   pub fit : length bytes ≤ max_collected
 
--- intermediates behind intermediates
+-- intermediates after intermediates
 phase_from-in_intermediates : (others : List ℕ) → EachIs is_intermediate others → phase_from in_intermediates others ≡ in_intermediates
 phase_from-in_intermediates [] each = refl
 phase_from-in_intermediates (b ∷ others) each =
     ap (λ t. phase_from (cond t in_intermediates misfit) others) each.0 ∙ phase_from-in_intermediates others each.1
 
--- and behind parameter bytes
+-- and after parameter bytes
 pub phase_from-intermediates : (others : List ℕ) → EachIs is_intermediate others → 0 < length others → phase_from in_parameters others ≡ in_intermediates
 phase_from-intermediates [] each some = absurd (omega arith)
 phase_from-intermediates (b ∷ others) each some =

@@ -19,7 +19,7 @@ fields_text-parts group first others i e h =
     ap (λ ns. decimal first ++ flat_map (λ n. colon ∷ decimal n) ns) (take_all i others h)
     ∙ sym (ap fields_text e ∙ join_with_byte-map colon decimal first others)
 
--- the same of groups: rest are those behind the first, of which given have been written
+-- the same of groups: rest are those after the first, of which given have been written
 pub groups_text-parts : (groups : List (List ℕ)) (first : List ℕ) (rest given left : List (List ℕ)) → groups ≡ first ∷ rest → rest ≡ given ++ left → left ≡ []
     → fields_text first ++ flat_map (λ group. semicolon ∷ fields_text group) given ≡ groups_text groups
 groups_text-parts groups first rest given left e r none =

@@ -165,11 +165,11 @@ module _ (R W T : Type 0) (remaining : R → Option (List ℕ)) (reader_failed :
   WritesText-ended (Err Flush) failed before after text ending none written = subst (Appends before after) (ap (λ e. text ++ e) none ∙ append-nil text) written
   WritesText-ended (Err Write) failed before after text ending none written = subst (λ t. WritesText {T = T} (Err Write) before after t) (ap (λ e. text ++ e) none ∙ append-nil text) written
   WritesText-ended (Err Read) failed before after text ending none (inl written) = subst (Appends before after) (ap (λ e. text ++ e) none ∙ append-nil text) written
-  WritesText-ended (Err Read) failed before after text ending none (inr (part, _)) = absurd (part.proper (behind_nil part.beginning part.rest (sym part.joined ∙ none)))
+  WritesText-ended (Err Read) failed before after text ending none (inr (part, _)) = absurd (part.proper (after_nil part.beginning part.rest (sym part.joined ∙ none)))
     where
-      behind_nil : (xs ys : List ℕ) → xs ++ ys ≡ [] → ys ≡ []
-      behind_nil [] ys e = e
-      behind_nil (x ∷ xs) ys e = cc
+      after_nil : (xs ys : List ℕ) → xs ++ ys ≡ [] → ys ≡ []
+      after_nil [] ys e = e
+      after_nil (x ∷ xs) ys e = cc
 
   pub Runs-plain : (text ending : List Call → List ℕ) (reader reader_after : R) (writer writer_after : W) (answer : Result T Fault) → ((calls : List Call) → ending calls ≡ [])
       → RunsToEnding remaining reader_failed zero_is_end contents writer_failed text ending reader reader_after writer writer_after answer

@@ -52,7 +52,7 @@ checkpoint_in Utf8 m = m.accumulator
 -- ESC, and 20 for a third intermediate
 checkpoint_in Escape m = escape_byte ∷ []
 checkpoint_in EscapeIntermediate m = escape_byte ∷ escape_text m.collected m.ignoring
--- ESC [, and a marker behind a parameter byte has not the shape of a header
+-- ESC [, and a marker after a parameter byte has not the shape of a header
 checkpoint_in CsiEntry m = escape_byte ∷ 0x5B ∷ []
 checkpoint_in CsiParam m = escape_byte ∷ 0x5B ∷ header_so_far m
 checkpoint_in CsiIntermediate m = escape_byte ∷ 0x5B ∷ header_so_far m

@@ -25,7 +25,7 @@ begins (place ∷ row) (b ∷ bytes) = is_within place.first place.last b && beg
 unfoldable pub is_well_formed : List ℕ → Bool
 is_well_formed bytes = list_any (λ row. begins row bytes && length bytes == length row) rows
 
--- A beginning of a well-formed sequence, the whole included: some bytes behind it make it one.
+-- A beginning of a well-formed sequence, the whole included: some bytes after it make it one.
 abbrev pub IsFront : List ℕ → Type 0
 IsFront bytes = (rest : List ℕ) × IsTrue (is_well_formed (bytes ++ rest))
 

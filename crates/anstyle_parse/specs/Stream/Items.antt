@@ -81,7 +81,7 @@ is_text_byte end b = not (is_escape b || is_cancel b || b == end)
 unfoldable pub is_string_kind : ℕ → Bool
 is_string_kind b = b == 0x58 || b == 0x5E || b == 0x5F
 
--- the bytes that begin a sequence of another kind, directly behind ESC
+-- the bytes that begin a sequence of another kind, directly after ESC
 unfoldable pub is_introducer : ℕ → Bool
 is_introducer b = is_string_kind b || b == 0x50 || b == 0x5B || b == 0x5D
 

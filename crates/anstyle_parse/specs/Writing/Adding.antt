@@ -23,7 +23,7 @@ FinishesAt fault contents has_failed old new answer =
     MatchOption fault (Keeps (contents old) (contents new) × Flushes answer (has_failed old) (has_failed new))
     (λ kept. (new ≡ old) × (answer ≡ Err kept))
 
--- a list that is empty with another behind it is empty
+-- a list that is empty with another after it is empty
 front_nil : (xs ys : List ℕ) → xs ++ ys ≡ [] → xs ≡ []
 front_nil [] ys e = refl
 front_nil (x ∷ xs) ys e = cc

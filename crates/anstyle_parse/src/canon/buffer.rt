@@ -111,7 +111,7 @@ fn write_out<W: Sink>(writer: &mut W, bytes: &[u8]) -> usize
     written
 }
 
-/// The bytes behind the first `count`.
+/// The bytes after the first `count`.
 fn rest_of(bytes: &[u8], count: usize) -> ArrayVec<u8, CAPACITY>
     requires within { count ≤ length bytes.now }
     requires few { length bytes.now ≤ 8192 }

@@ -105,7 +105,7 @@ fn put_header<W: Sink>(output: &mut Output<W>, parser: &Parser)
     let params = parser.params();
     output.put(marker);
     output.put_groups(params);
-    output.put(separator_behind(params));
+    output.put(separator_after(params));
     if params.is_full() {
         output.put(text_if(parser.is_ignoring(), b";"));
         output.put(others);
@@ -117,7 +117,7 @@ fn put_header<W: Sink>(output: &mut Output<W>, parser: &Parser)
 }
 
 /// What stored the last field: `:` where its group is open, else `;`.
-fn separator_behind(params: &Params) -> &'static [u8]
+fn separator_after(params: &Params) -> &'static [u8]
     ensures { result.now ≡ last_separator (closed_groups_of params.now) (open_group_of params.now) }
 {
     if params.is_open() {
@@ -129,7 +129,7 @@ fn separator_behind(params: &Params) -> &'static [u8]
     }
 }
 
-/// Writes the text of an operating system command, with `;` behind each closed part.
+/// Writes the text of an operating system command, with `;` after each closed part.
 fn put_command<W: Sink>(output: &mut Output<W>, text: &[u8], lengths: &[usize])
     requires { total lengths.now ≤ length text.now }
     ensures { Adds W.contents W.has_failed (command_text (cut lengths.now text.now) (drop (total lengths.now) text.now)) output.old output.new }

@@ -33,7 +33,7 @@ const MAX_SHOWN: usize = 2;
 /// | `esc_dispatch` | ESC; the intermediates; a space if more came than are shown; the final byte |
 /// | `osc_dispatch` | ESC and `]`; the parts with `;` between them; BEL if BEL ended it, else 1B 58 9C |
 ///
-/// So a command that BEL ended keeps its BEL. Behind any other command stands a string that
+/// So a command that BEL ended keeps its BEL. After any other command stands a string that
 /// makes no call: its ESC ends the command, `X` begins a string that is ignored, and 9C ends
 /// that.
 ///
@@ -194,7 +194,7 @@ impl<W: Sink> CanonWriter<W> {
     }
 }
 
-/// The marker at the head, if one stands there, and what is behind it.
+/// The marker at the head, if one stands there, and what is after it.
 #[tactic(auto, unfolding(crate::specs::Stream::Bytes::is_marker, crate::specs::Stream::Bytes::is_within))]
 pub(super) fn split_marker(intermediates: &[u8]) -> (&[u8], &[u8])
     ensures marker { result.0.now ≡ leading_marker intermediates.now }

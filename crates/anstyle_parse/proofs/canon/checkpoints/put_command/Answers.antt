@@ -1,4 +1,4 @@
--- One part more is done, with the separator behind it.
+-- One part more is done, with the separator after it.
 use Rattle.std.proofs.Common.{◌≡◌, ◌++◌, ◌+◌, List, ℕ, [], ◌∷◌, get_or, drop, refl, subst, arith}
 use Rattle.std.proofs.lemmas.List.{at_drop_more, drop_all}
 use Rattle.anstyle_parse.specs.Stream.Bytes.{semicolon}

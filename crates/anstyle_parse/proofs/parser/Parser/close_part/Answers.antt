@@ -1,4 +1,4 @@
--- The bytes behind the closed parts become a part, where there are fewer than sixteen.
+-- The bytes after the closed parts become a part, where there are fewer than sixteen.
 use Rattle.std.proofs.Common.{◌≡◌, ◌+◌, ◌-◌, length, take, set, arith, ap, sym, ◌∙◌}
 use Rattle.std.proofs.lemmas.List.{drop_all}
 use Rattle.anstyle_parse.specs.Stream.Groups.{cut, total}

@@ -1,5 +1,6 @@
 //! The parameters of a control sequence or of a device control string: groups of fields.
 //! A list of fixed size, so that no byte of a stream takes memory.
+ghost use Rattle.anstyle_parse.specs.Stream.Arguments.{max_fields};
 ghost use Rattle.std.specs.Prelude.{◌≡◌, ◌<◌, ◌≤◌, ◌+◌, ◌-◌, ◌/◌, ◌%◌, ◌^◌, ◌++◌, ◌∷◌, [], ◌↔◌, ℕ, IsTrue, IfSome, ⊤, length};
 ghost use Rattle.std.specs.Bool.{OnFalse, OnTrue};
 ghost use Rattle.std.specs.List.{concat};
@@ -26,7 +27,7 @@ pub struct Params {
     open_fields: u8,
     /// How many fields there are.
     len: usize,
-    ghost in_range: { len ≤ 32 },
+    ghost in_range: { len ≤ max_fields },
     ghost none_above: { starts < 2 ^ len },
     ghost first_starts: { 0 < len → starts % 2 ≡ 1 },
     ghost open_within: { open_fields ≤ len },
@@ -34,7 +35,6 @@ pub struct Params {
 }
 
 impl Params {
-    ghost use Rattle.anstyle_parse.specs.Stream.Arguments.{max_fields};
     ghost use Rattle.anstyle_parse.specs.Stream.Groups.{HaveFields};
     ghost use Rattle.anstyle_parse.specs.Fields.Params.{groups_shown, groups_left, closed_groups_of, open_group_of, AreFew};
 
@@ -71,7 +71,7 @@ impl Params {
     /// Whether there is no room for another field.
     pub(crate) fn is_full(&self) -> bool
         ensures full { IsTrue result ↔ (length (concat (closed_groups_of self.now)) + length (open_group_of self.now) ≡ 32) }
-        ensures room { OnFalse result (length (concat (closed_groups_of self.now)) + length (open_group_of self.now) < 32) }
+        ensures room { OnFalse result (length (concat (closed_groups_of self.now)) + length (open_group_of self.now) < max_fields) }
     {
         self.len == MAX_PARAMS
     }
@@ -96,7 +96,7 @@ impl Params {
 
     /// Adds a field to the open group, or to a new one, and closes that group.
     pub(crate) fn push(&mut self, field: u16)
-        requires { length (concat (closed_groups_of self.old)) + length (open_group_of self.old) < 32 }
+        requires { length (concat (closed_groups_of self.old)) + length (open_group_of self.old) < max_fields }
         ensures closed { closed_groups_of self.new ≡ closed_groups_of self.old ++ (open_group_of self.old ++ field ∷ []) ∷ [] }
         ensures open { open_group_of self.new ≡ [] }
     {
@@ -113,7 +113,7 @@ impl Params {
 
     /// Adds a field to the open group, or to a new one, which stays open.
     pub(crate) fn extend(&mut self, field: u16)
-        requires { length (concat (closed_groups_of self.old)) + length (open_group_of self.old) < 32 }
+        requires { length (concat (closed_groups_of self.old)) + length (open_group_of self.old) < max_fields }
         ensures closed { closed_groups_of self.new ≡ closed_groups_of self.old }
         ensures open { open_group_of self.new ≡ open_group_of self.old ++ field ∷ [] }
     {
@@ -213,7 +213,7 @@ pub struct ParamsIter<'a> {
     starts: u32,
     /// The field where the next group begins.
     place: usize,
-    ghost in_range: { length numbers.now ≤ 32 },
+    ghost in_range: { length numbers.now ≤ max_fields },
     ghost none_above: { starts < 2 ^ length numbers.now },
     ghost place_within: { place ≤ length numbers.now },
     ghost place_starts: { place < length numbers.now → starts / 2 ^ place % 2 ≡ 1 },
@@ -306,7 +306,7 @@ impl<'a> ParamsIter<'a> {
 
 /// The bit of a field among the starts.
 fn start_bit(field: usize) -> u32
-    requires { field < 32 }
+    requires { field < max_fields }
     ensures { result ≡ 2 ^ field }
 {
     1 << field

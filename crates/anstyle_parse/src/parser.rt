@@ -1,6 +1,7 @@
 //! The parser: a state, what a sequence has said so far, and an accumulator of characters.
 ghost use Rattle.std.specs.Prelude.{◌≡◌, ◌≢◌, ◌≤◌, ◌<◌, ℕ, List, false, length, take, map};
 ghost use Rattle.anstyle_parse.specs.Stream.Groups.{total, cut};
+ghost use Rattle.anstyle_parse.specs.Stream.Arguments.{max_collected, max_osc_bytes, max_osc_parts};
 ghost use Rattle.anstyle_parse.specs.Stream.Call.{Goes};
 ghost use Rattle.anstyle_parse.specs.Machine.Step.{exit_action as exit_of, entry_action as entry_of};
 ghost use Rattle.arrayvec.specs.ArrayVec.{array_vec_len};
@@ -33,7 +34,7 @@ pub struct Parser<C = DefaultCharAccumulator> {
     ignoring: bool,
     params: Params,
     /// The field so far.
-    param: u16,
+    number: u16,
     /// The text of an operating system command, without its separators.
     osc_text: ArrayVec<u8, MAX_OSC_RAW>,
     /// How long each closed part of it is.
@@ -42,11 +43,11 @@ pub struct Parser<C = DefaultCharAccumulator> {
     osc_parts: usize,
     osc_closed: usize,
     accumulator: C,
-    ghost few_intermediates: { intermediate_count ≤ 2 },
-    ghost few_parts: { osc_parts ≤ 16 },
+    ghost few_intermediates: { intermediate_count ≤ max_collected },
+    ghost few_parts: { osc_parts ≤ max_osc_parts },
     ghost closed_parts: { total (take osc_parts osc_lengths) ≡ osc_closed },
     ghost parts_in_text: { osc_closed ≤ array_vec_len osc_text },
-    ghost text_fits: { array_vec_len osc_text ≤ 1024 },
+    ghost text_fits: { array_vec_len osc_text ≤ max_osc_bytes },
 }
 
 impl<C: CharAccumulator> Default for Parser<C> {
@@ -62,7 +63,7 @@ impl<C: CharAccumulator> Default for Parser<C> {
             intermediate_count: 0,
             ignoring: false,
             params: Params::default(),
-            param: 0,
+            number: 0,
             osc_text: ArrayVec::new(),
             osc_lengths: [0; MAX_OSC_PARTS],
             osc_parts: 0,
@@ -92,7 +93,7 @@ impl<C: Clone> Clone for Parser<C> {
             intermediate_count: self.intermediate_count,
             ignoring: self.ignoring,
             params: self.params.clone()?,
-            param: self.param,
+            number: self.number,
             osc_text,
             osc_lengths: self.osc_lengths,
             osc_parts: self.osc_parts,
@@ -240,54 +241,199 @@ impl<C: CharAccumulator> Parser<C> {
     }
 }
 
-/// What the parser keeps, for a checkpoint.
+/// Bytes, one byte, and a change of state.
 impl<C: CharAccumulator> Parser<C> {
-    ghost use Rattle.std.specs.Prelude.{drop};
-    ghost use Rattle.anstyle_parse.specs.Fields.Params.{closed_groups_of, open_group_of};
+    ghost use Rattle.std.specs.Prelude.{◌∷◌, [], IsTrue, ◌↔◌};
+    ghost use Rattle.anstyle_parse.specs.Stream.Call.{print};
     ghost use Rattle.anstyle_parse.specs.Fields.Parser.{machine_of};
+    ghost use Rattle.anstyle_parse.specs.Fields.Parser.{CanTake, CanTakeAll, ReachesAccumulator};
+    ghost use Rattle.anstyle_parse.specs.Machine.Step.{after_action, action_calls, after_change, change_calls, after_continuation, print_answer, IsBroken, step_from, step_calls_from, step, step_calls, machine_after, machine_calls};
 
-    pub(crate) fn state(&self) -> State
-        ensures { result ≡ (machine_of self.now).state }
+    /// Bytes, as the machine takes them one after another.
+    fn take_bytes<P: Perform>(&mut self, performer: &mut P, bytes: &[u8])
+        requires { CanTakeAll C.takes self.old bytes.now }
+        ensures machine { machine_of self.new ≡ machine_after C.taken bytes.now (machine_of self.old) }
+        ensures calls { Goes P.means performer.old (machine_calls C.taken bytes.now (machine_of self.old)) performer.new }
     {
-        self.state
+        for byte in bytes {
+            self.take_byte(performer, *byte);
+        }
     }
 
-    /// Whether more fields or intermediates came than are kept.
-    pub(crate) fn is_ignoring(&self) -> bool
-        ensures { result ≡ (machine_of self.now).ignoring }
+    /// One byte, as the machine takes it.
+    #[inline(always)]
+    fn take_byte<P: Perform>(&mut self, performer: &mut P, byte: u8)
+        requires { CanTake C.takes C.taken self.old byte }
+        ensures machine { machine_of self.new ≡ step C.taken byte (machine_of self.old) }
+        ensures calls { Goes P.means performer.old (step_calls C.taken byte (machine_of self.old)) performer.new }
     {
-        self.ignoring
+        let state = match self.state {
+            State::Utf8 => {
+                if !self.continue_character(performer, byte) {
+                    return;
+                }
+                State::Ground
+            }
+            state => state,
+        };
+        self.take_from(performer, state, byte);
     }
 
-    /// The fields, of which the last group may be open.
-    pub(crate) fn params(&self) -> &Params
-        ensures closed { closed_groups_of result.now ≡ (machine_of self.now).closed_groups }
-        ensures open { open_group_of result.now ≡ (machine_of self.now).open_group }
+    /// A byte inside a character: a character that the accumulator answers is printed, and leads
+    /// back to the ground state. Answers whether the byte broke it, and has to be handled there.
+    fn continue_character<P: Perform>(&mut self, performer: &mut P, byte: u8) -> bool
+        requires inside { self.old.state ≡ State.Utf8 }
+        requires takes { C.takes self.old.accumulator byte }
+        ensures machine { machine_of self.new ≡ after_continuation C.taken byte (machine_of self.old) }
+        ensures calls { Goes P.means performer.old (print_answer (C.taken self.old.accumulator byte).1) performer.new }
+        ensures breaks { IsTrue result ↔ IsBroken (C.taken self.old.accumulator byte).1 }
     {
-        &self.params
+        match self.accumulator.take(byte) {
+            Taken::More => false,
+            Taken::Char(c) => {
+                self.end_character(performer, c);
+                false
+            }
+            Taken::Broken(c) => {
+                self.end_character(performer, c);
+                true
+            }
+        }
     }
 
-    /// The field so far.
-    pub(crate) fn number(&self) -> u16
-        ensures { result ≡ (machine_of self.now).number }
+    /// A character is printed, and leads back to the ground state.
+    #[inline(always)]
+    fn end_character<P: Perform>(&mut self, performer: &mut P, c: char)
+        ensures machine { machine_of self.new ≡ record (machine_of self.old) { state = State.Ground } }
+        ensures calls { Goes P.means performer.old (print c ∷ []) performer.new }
     {
-        self.param
+        performer.print(c);
+        self.state = State::Ground;
     }
 
-    /// The text of an operating system command, and how long each closed part of it is.
-    pub(crate) fn command(&self) -> (&[u8], &[usize])
-        ensures within { total result.1.now ≤ length result.0.now }
-        ensures closed { cut result.1.now result.0.now ≡ (machine_of self.now).closed_parts }
-        ensures rest { drop (total result.1.now) result.0.now ≡ (machine_of self.now).open_part }
+    /// A byte outside a character, as the table has it.
+    #[inline(always)]
+    fn take_from<P: Perform>(&mut self, performer: &mut P, state: State, byte: u8)
+        requires is { self.old.state ≡ state }
+        requires outside { state ≢ State.Utf8 }
+        requires takes { ReachesAccumulator state byte → C.takes self.old.accumulator byte }
+        ensures machine { machine_of self.new ≡ step_from C.taken state byte (machine_of self.old) }
+        ensures calls { Goes P.means performer.old (step_calls_from C.taken state byte (machine_of self.old)) performer.new }
     {
+        let (state, action) = state_change(state, byte);
+        self.change_state(performer, state, action, byte);
+    }
+
+    /// A change of state: the exit action of the old state, the action, the entry action of
+    /// the new one. Anywhere keeps the state, with no exit and no entry.
+    #[inline(always)]
+    fn change_state<P: Perform>(
+        &mut self,
+        performer: &mut P,
+        state: State,
+        action: Action,
+        byte: u8,
+    )
+        requires { action ≡ Action.BeginUtf8 → C.takes self.old.accumulator byte }
+        ensures machine { machine_of self.new ≡ after_change C.taken state action byte (machine_of self.old) }
+        ensures calls { Goes P.means performer.old (change_calls C.taken state action byte (machine_of self.old)) performer.new }
+    {
+        match state {
+            State::Anywhere => self.perform_action(performer, action, byte),
+            state => {
+                self.perform_action(performer, exit_action(self.state), byte);
+                self.perform_action(performer, action, byte);
+                self.perform_action(performer, entry_action(state), byte);
+                self.state = state;
+            }
+        }
+    }
+}
+
+/// What is done on the way out of a state.
+fn exit_action(state: State) -> Action
+    ensures { result ≡ exit_of state }
+{
+    match state {
+        State::DcsPassthrough => Action::Unhook,
+        State::OscString => Action::OscEnd,
+        _ => Action::Nop,
+    }
+}
+
+/// What is done on the way into a state.
+fn entry_action(state: State) -> Action
+    ensures { result ≡ entry_of state }
+{
+    match state {
+        State::Escape | State::CsiEntry | State::DcsEntry => Action::Clear,
+        State::DcsPassthrough => Action::Hook,
+        State::OscString => Action::OscStart,
+        _ => Action::Nop,
+    }
+}
+
+/// An action, and the calls that it makes.
+impl<C: CharAccumulator> Parser<C> {
+    ghost use Rattle.std.specs.Prelude.{◌∷◌, [], IsTrue, ◌↔◌};
+    ghost use Rattle.anstyle_parse.specs.Stream.Call.{print};
+    ghost use Rattle.anstyle_parse.specs.Fields.Parser.{machine_of};
+    ghost use Rattle.anstyle_parse.specs.Fields.Parser.{CanTake, CanTakeAll, ReachesAccumulator};
+    ghost use Rattle.anstyle_parse.specs.Machine.Step.{after_action, action_calls, after_change, change_calls, after_continuation, print_answer, IsBroken, step_from, step_calls_from, step, step_calls, machine_after, machine_calls};
+
+    #[inline(always)]
+    fn perform_action<P: Perform>(&mut self, performer: &mut P, action: Action, byte: u8)
+        requires { action ≡ Action.BeginUtf8 → C.takes self.old.accumulator byte }
+        ensures machine { machine_of self.new ≡ after_action C.taken action byte (machine_of self.old) }
+        ensures calls { Goes P.means performer.old (action_calls C.taken action byte (machine_of self.old)) performer.new }
+    {
+        match action {
+            Action::Print => performer.print(char::from(byte)),
+            Action::Execute => performer.execute(byte),
+            Action::Hook => {
+                self.end_fields();
+                performer.hook(&self.params, self.collected(), self.ignoring, byte);
+            }
+            Action::Put => performer.put(byte),
+            Action::Unhook => performer.unhook(),
+            Action::OscStart => self.osc_start(),
+            Action::OscPut => self.osc_put(byte),
+            Action::OscEnd => self.osc_end(performer, byte),
+            Action::CsiDispatch => {
+                self.end_fields();
+                performer.csi_dispatch(&self.params, self.collected(), self.ignoring, byte);
+            }
+            Action::EscDispatch => performer.esc_dispatch(self.collected(), self.ignoring, byte),
+            Action::Collect => self.collect(byte),
+            Action::Param => self.param(byte),
+            Action::Clear => self.clear(),
+            Action::BeginUtf8 => self.accumulate(performer, byte),
+            Action::Ignore | Action::Nop => {}
+        }
+    }
+
+    /// The command's last part is closed, and all of them are dispatched.
+    fn osc_end<P: Perform>(&mut self, performer: &mut P, byte: u8)
+        ensures machine { machine_of self.new ≡ after_action C.taken Action.OscEnd byte (machine_of self.old) }
+        ensures calls { Goes P.means performer.old (action_calls C.taken Action.OscEnd byte (machine_of self.old)) performer.new }
+    {
+        self.close_part();
         let lengths = &self.osc_lengths[..];
-        (self.osc_text.as_slice(), &lengths[..self.osc_parts])
+        let parts = parts_of(self.osc_text.as_slice(), &lengths[..self.osc_parts]);
+        performer.osc_dispatch(&parts[..self.osc_parts], byte == BELL);
     }
 
-    pub(crate) fn accumulator(&self) -> &C
-        ensures { result.now ≡ (machine_of self.now).accumulator }
+    /// The first byte of a character.
+    #[inline]
+    fn accumulate<P: Perform>(&mut self, performer: &mut P, byte: u8)
+        requires { C.takes self.old.accumulator byte }
+        ensures machine { machine_of self.new ≡ after_action C.taken Action.BeginUtf8 byte (machine_of self.old) }
+        ensures calls { Goes P.means performer.old (action_calls C.taken Action.BeginUtf8 byte (machine_of self.old)) performer.new }
     {
-        &self.accumulator
+        match self.accumulator.take(byte) {
+            Taken::More => {}
+            Taken::Char(c) | Taken::Broken(c) => performer.print(c),
+        }
     }
 }
 
@@ -302,7 +448,7 @@ impl<C: CharAccumulator> Parser<C> {
     {
         self.intermediate_count = 0;
         self.ignoring = false;
-        self.param = 0;
+        self.number = 0;
         self.params.clear();
     }
 
@@ -319,20 +465,20 @@ impl<C: CharAccumulator> Parser<C> {
     }
 
     /// A digit of a field, or the separator after it.
-    fn parameter(&mut self, byte: u8)
+    fn param(&mut self, byte: u8)
         ensures { machine_of self.new ≡ after_param byte (machine_of self.old) }
     {
         if self.params.is_full() {
             self.ignoring = true;
         } else if byte == b';' {
-            self.params.push(self.param);
-            self.param = 0;
+            self.params.push(self.number);
+            self.number = 0;
         } else if byte == b':' {
-            self.params.extend(self.param);
-            self.param = 0;
+            self.params.extend(self.number);
+            self.number = 0;
         } else {
             let digit = u16::from(byte.saturating_sub(b'0'));
-            self.param = self.param.saturating_mul(10).saturating_add(digit);
+            self.number = self.number.saturating_mul(10).saturating_add(digit);
         }
     }
 
@@ -343,16 +489,8 @@ impl<C: CharAccumulator> Parser<C> {
         if self.params.is_full() {
             self.ignoring = true;
         } else {
-            self.params.push(self.param);
+            self.params.push(self.number);
         }
-    }
-
-    /// The markers and intermediates that are kept.
-    pub(crate) fn collected(&self) -> &[u8]
-        ensures { result.now ≡ (machine_of self.now).collected }
-    {
-        let all = &self.intermediates[..];
-        &all[..self.intermediate_count]
     }
 }
 
@@ -400,7 +538,7 @@ impl<C: CharAccumulator> Parser<C> {
 /// The parts of an operating system command, as slices of its text: as many as there are
 /// lengths, and empty ones after them.
 fn parts_of<'a>(text: &'a [u8], lengths: &[usize]) -> [&'a [u8]; MAX_OSC_PARTS]
-    requires few { length lengths.now ≤ 16 }
+    requires few { length lengths.now ≤ max_osc_parts }
     requires within { total lengths.now ≤ length text.now }
     ensures { map (λ part. part.now) (take (length lengths.now) result) ≡ cut lengths.now text.now }
 {
@@ -414,190 +552,62 @@ fn parts_of<'a>(text: &'a [u8], lengths: &[usize]) -> [&'a [u8]; MAX_OSC_PARTS]
     parts
 }
 
-/// One byte.
+/// What the parser keeps, for a dispatch and for a checkpoint.
 impl<C: CharAccumulator> Parser<C> {
-    ghost use Rattle.std.specs.Prelude.{◌∷◌, [], IsTrue, ◌↔◌};
-    ghost use Rattle.anstyle_parse.specs.Stream.Call.{print};
+    ghost use Rattle.std.specs.Prelude.{drop};
+    ghost use Rattle.anstyle_parse.specs.Fields.Params.{closed_groups_of, open_group_of};
     ghost use Rattle.anstyle_parse.specs.Fields.Parser.{machine_of};
-    ghost use Rattle.anstyle_parse.specs.Fields.Parser.{CanTake, CanTakeAll, ReachesAccumulator};
-    ghost use Rattle.anstyle_parse.specs.Machine.Step.{after_action, action_calls, after_change, change_calls, after_continuation, print_answer, IsBroken, step_from, step_calls_from, step, step_calls, machine_after, machine_calls};
 
-    /// The command's last part is closed, and all of them are dispatched.
-    fn osc_end<P: Perform>(&mut self, performer: &mut P, byte: u8)
-        ensures machine { machine_of self.new ≡ after_action C.taken Action.OscEnd byte (machine_of self.old) }
-        ensures calls { Goes P.means performer.old (action_calls C.taken Action.OscEnd byte (machine_of self.old)) performer.new }
+    pub(crate) fn state(&self) -> State
+        ensures { result ≡ (machine_of self.now).state }
     {
-        self.close_part();
+        self.state
+    }
+
+    /// The markers and intermediates that are kept.
+    pub(crate) fn collected(&self) -> &[u8]
+        ensures { result.now ≡ (machine_of self.now).collected }
+    {
+        let all = &self.intermediates[..];
+        &all[..self.intermediate_count]
+    }
+
+    /// Whether more fields or intermediates came than are kept.
+    pub(crate) fn is_ignoring(&self) -> bool
+        ensures { result ≡ (machine_of self.now).ignoring }
+    {
+        self.ignoring
+    }
+
+    /// The fields, of which the last group may be open.
+    pub(crate) fn params(&self) -> &Params
+        ensures closed { closed_groups_of result.now ≡ (machine_of self.now).closed_groups }
+        ensures open { open_group_of result.now ≡ (machine_of self.now).open_group }
+    {
+        &self.params
+    }
+
+    /// The field so far.
+    pub(crate) fn number(&self) -> u16
+        ensures { result ≡ (machine_of self.now).number }
+    {
+        self.number
+    }
+
+    /// The text of an operating system command, and how long each closed part of it is.
+    pub(crate) fn command(&self) -> (&[u8], &[usize])
+        ensures within { total result.1.now ≤ length result.0.now }
+        ensures closed { cut result.1.now result.0.now ≡ (machine_of self.now).closed_parts }
+        ensures rest { drop (total result.1.now) result.0.now ≡ (machine_of self.now).open_part }
+    {
         let lengths = &self.osc_lengths[..];
-        let parts = parts_of(self.osc_text.as_slice(), &lengths[..self.osc_parts]);
-        performer.osc_dispatch(&parts[..self.osc_parts], byte == BELL);
+        (self.osc_text.as_slice(), &lengths[..self.osc_parts])
     }
 
-    /// The first byte of a character.
-    #[inline]
-    fn accumulate<P: Perform>(&mut self, performer: &mut P, byte: u8)
-        requires { C.takes self.old.accumulator byte }
-        ensures machine { machine_of self.new ≡ after_action C.taken Action.BeginUtf8 byte (machine_of self.old) }
-        ensures calls { Goes P.means performer.old (action_calls C.taken Action.BeginUtf8 byte (machine_of self.old)) performer.new }
+    pub(crate) fn accumulator(&self) -> &C
+        ensures { result.now ≡ (machine_of self.now).accumulator }
     {
-        match self.accumulator.take(byte) {
-            Taken::More => {}
-            Taken::Char(c) | Taken::Broken(c) => performer.print(c),
-        }
-    }
-
-    #[inline(always)]
-    fn perform_action<P: Perform>(&mut self, performer: &mut P, action: Action, byte: u8)
-        requires { action ≡ Action.BeginUtf8 → C.takes self.old.accumulator byte }
-        ensures machine { machine_of self.new ≡ after_action C.taken action byte (machine_of self.old) }
-        ensures calls { Goes P.means performer.old (action_calls C.taken action byte (machine_of self.old)) performer.new }
-    {
-        match action {
-            Action::Print => performer.print(char::from(byte)),
-            Action::Execute => performer.execute(byte),
-            Action::Hook => {
-                self.end_fields();
-                performer.hook(&self.params, self.collected(), self.ignoring, byte);
-            }
-            Action::Put => performer.put(byte),
-            Action::Unhook => performer.unhook(),
-            Action::OscStart => self.osc_start(),
-            Action::OscPut => self.osc_put(byte),
-            Action::OscEnd => self.osc_end(performer, byte),
-            Action::CsiDispatch => {
-                self.end_fields();
-                performer.csi_dispatch(&self.params, self.collected(), self.ignoring, byte);
-            }
-            Action::EscDispatch => performer.esc_dispatch(self.collected(), self.ignoring, byte),
-            Action::Collect => self.collect(byte),
-            Action::Param => self.parameter(byte),
-            Action::Clear => self.clear(),
-            Action::BeginUtf8 => self.accumulate(performer, byte),
-            Action::Ignore | Action::Nop => {}
-        }
-    }
-
-    /// A change of state: the exit action of the old state, the action, the entry action of
-    /// the new one. Anywhere keeps the state, with no exit and no entry.
-    #[inline(always)]
-    fn change_state<P: Perform>(
-        &mut self,
-        performer: &mut P,
-        state: State,
-        action: Action,
-        byte: u8,
-    )
-        requires { action ≡ Action.BeginUtf8 → C.takes self.old.accumulator byte }
-        ensures machine { machine_of self.new ≡ after_change C.taken state action byte (machine_of self.old) }
-        ensures calls { Goes P.means performer.old (change_calls C.taken state action byte (machine_of self.old)) performer.new }
-    {
-        match state {
-            State::Anywhere => self.perform_action(performer, action, byte),
-            state => {
-                self.perform_action(performer, exit_action(self.state), byte);
-                self.perform_action(performer, action, byte);
-                self.perform_action(performer, entry_action(state), byte);
-                self.state = state;
-            }
-        }
-    }
-
-    /// A byte outside a character, as the table has it.
-    #[inline(always)]
-    fn take_from<P: Perform>(&mut self, performer: &mut P, state: State, byte: u8)
-        requires is { self.old.state ≡ state }
-        requires outside { state ≢ State.Utf8 }
-        requires takes { ReachesAccumulator state byte → C.takes self.old.accumulator byte }
-        ensures machine { machine_of self.new ≡ step_from C.taken state byte (machine_of self.old) }
-        ensures calls { Goes P.means performer.old (step_calls_from C.taken state byte (machine_of self.old)) performer.new }
-    {
-        let (state, action) = state_change(state, byte);
-        self.change_state(performer, state, action, byte);
-    }
-
-    /// A character is printed, and leads back to the ground state.
-    #[inline(always)]
-    fn end_character<P: Perform>(&mut self, performer: &mut P, c: char)
-        ensures machine { machine_of self.new ≡ record (machine_of self.old) { state = State.Ground } }
-        ensures calls { Goes P.means performer.old (print c ∷ []) performer.new }
-    {
-        performer.print(c);
-        self.state = State::Ground;
-    }
-
-    /// A byte inside a character: a character that the accumulator answers is printed, and leads
-    /// back to the ground state. Answers whether the byte broke it, and has to be handled there.
-    fn continue_character<P: Perform>(&mut self, performer: &mut P, byte: u8) -> bool
-        requires inside { self.old.state ≡ State.Utf8 }
-        requires takes { C.takes self.old.accumulator byte }
-        ensures machine { machine_of self.new ≡ after_continuation C.taken byte (machine_of self.old) }
-        ensures calls { Goes P.means performer.old (print_answer (C.taken self.old.accumulator byte).1) performer.new }
-        ensures breaks { IsTrue result ↔ IsBroken (C.taken self.old.accumulator byte).1 }
-    {
-        match self.accumulator.take(byte) {
-            Taken::More => false,
-            Taken::Char(c) => {
-                self.end_character(performer, c);
-                false
-            }
-            Taken::Broken(c) => {
-                self.end_character(performer, c);
-                true
-            }
-        }
-    }
-
-    /// One byte, as the machine takes it.
-    #[inline(always)]
-    fn take_byte<P: Perform>(&mut self, performer: &mut P, byte: u8)
-        requires { CanTake C.takes C.taken self.old byte }
-        ensures machine { machine_of self.new ≡ step C.taken byte (machine_of self.old) }
-        ensures calls { Goes P.means performer.old (step_calls C.taken byte (machine_of self.old)) performer.new }
-    {
-        let state = match self.state {
-            State::Utf8 => {
-                if !self.continue_character(performer, byte) {
-                    return;
-                }
-                State::Ground
-            }
-            state => state,
-        };
-        self.take_from(performer, state, byte);
-    }
-
-    /// Bytes, as the machine takes them one after another.
-    fn take_bytes<P: Perform>(&mut self, performer: &mut P, bytes: &[u8])
-        requires { CanTakeAll C.takes self.old bytes.now }
-        ensures machine { machine_of self.new ≡ machine_after C.taken bytes.now (machine_of self.old) }
-        ensures calls { Goes P.means performer.old (machine_calls C.taken bytes.now (machine_of self.old)) performer.new }
-    {
-        for byte in bytes {
-            self.take_byte(performer, *byte);
-        }
-    }
-}
-
-/// What is done on the way out of a state.
-fn exit_action(state: State) -> Action
-    ensures { result ≡ exit_of state }
-{
-    match state {
-        State::DcsPassthrough => Action::Unhook,
-        State::OscString => Action::OscEnd,
-        _ => Action::Nop,
-    }
-}
-
-/// What is done on the way into a state.
-fn entry_action(state: State) -> Action
-    ensures { result ≡ entry_of state }
-{
-    match state {
-        State::Escape | State::CsiEntry | State::DcsEntry => Action::Clear,
-        State::DcsPassthrough => Action::Hook,
-        State::OscString => Action::OscStart,
-        _ => Action::Nop,
+        &self.accumulator
     }
 }
 

@@ -27,7 +27,7 @@ same_params p q =
 abbrev pub same_fields : Parser Utf8Parser → Parser Utf8Parser → Bool
 same_fields a b =
     sameb the_type a.state b.state && (bytes_eq a.intermediates b.intermediates && (eqb a.intermediate_count b.intermediate_count && (beq a.ignoring b.ignoring
-    && (same_params a.params b.params && (eqb a.param b.param && (bytes_eq a.osc_text.items b.osc_text.items && (bytes_eq a.osc_lengths b.osc_lengths
+    && (same_params a.params b.params && (eqb a.number b.number && (bytes_eq a.osc_text.items b.osc_text.items && (bytes_eq a.osc_lengths b.osc_lengths
     && (eqb a.osc_parts b.osc_parts && (eqb a.osc_closed b.osc_closed && ghosts.eq a.accumulator.decoder b.accumulator.decoder)))))))))
 
 -- an equivalence at each field is one of the whole
@@ -38,7 +38,7 @@ same_fields-equivalence =
     (and_equiv (on_equiv (λ p. p.intermediate_count) nat_eq_equiv)
     (and_equiv (on_equiv (λ p. p.ignoring) bool_eq_equiv)
     (and_equiv (on_equiv (λ p. p.params) params_laws)
-    (and_equiv (on_equiv (λ p. p.param) nat_eq_equiv)
+    (and_equiv (on_equiv (λ p. p.number) nat_eq_equiv)
     (and_equiv (on_equiv (λ p. p.osc_text.items) nat_list_eq_equiv)
     (and_equiv (on_equiv (λ p. p.osc_lengths) nat_list_eq_equiv)
     (and_equiv (on_equiv (λ p. p.osc_parts) nat_eq_equiv)
@@ -90,7 +90,7 @@ machine_of-same a b same =
     let starts : a.params.starts ≡ b.params.starts = eqb-true _ _ p1.0 in
     let open_fields : a.params.open_fields ≡ b.params.open_fields = eqb-true _ _ p2.0 in
     let len : a.params.len ≡ b.params.len = eqb-true _ _ p2.1 in
-    let param : a.param ≡ b.param = eqb-true _ _ h5.0 in
+    let number : a.number ≡ b.number = eqb-true _ _ h5.0 in
     let osc_text : a.osc_text.items ≡ b.osc_text.items = (bytes_eq-Decides a.osc_text.items b.osc_text.items).0 h6.0 in
     let osc_lengths : a.osc_lengths ≡ b.osc_lengths = (bytes_eq-Decides a.osc_lengths b.osc_lengths).0 h7.0 in
     let osc_parts : a.osc_parts ≡ b.osc_parts = eqb-true _ _ h8.0 in

@@ -70,6 +70,10 @@ checkpoint_in SosPmApcString m = escape_byte ∷ 0x58 ∷ []
 -- no parser is in this state
 checkpoint_in Anywhere m = []
 
+-- the bytes that it has at most
+abbrev pub max_checkpoint : ℕ
+max_checkpoint = 1042
+
 -- What a new parser has to take to stand where the machine stands.
 abbrev pub checkpoint_text : Machine (List ℕ) → List ℕ
 checkpoint_text m = checkpoint_in m.state m

@@ -5,6 +5,10 @@ use Rattle.anstyle_parse.specs.declared.canon.Fault.{Fault}
 use Rattle.anstyle_parse.specs.declared.canon.Fault.TheVariants.{Write, Flush}
 use Rattle.anstyle_parse.specs.declared.canon.buffer.Buffer.{Buffer}
 
+-- the bytes that are held back at most
+abbrev pub buffer_capacity : ℕ
+buffer_capacity = 8192
+
 -- the writer behind it
 abbrev pub writer_behind : {W : Type 0} → Buffer W → W
 writer_behind buffer = buffer.writer

@@ -2,6 +2,7 @@
 ghost use Rattle.std.specs.Prelude.{◌≡◌, ◌<◌, ◌≤◌, true, false, [], length, take, drop, IsTrue};
 ghost use Rattle.std.specs.Bool.{OnTrue, OnFalse};
 ghost use Rattle.std.specs.Io.KnownBytes.{Keeps, Appends};
+ghost use Rattle.anstyle_parse.specs.Writing.Buffer.{buffer_capacity};
 
 use super::{Fault, Sink};
 use arrayvec::ArrayVec;
@@ -114,7 +115,7 @@ fn write_out<W: Sink>(writer: &mut W, bytes: &[u8]) -> usize
 /// The bytes after the first `count`.
 fn rest_of(bytes: &[u8], count: usize) -> ArrayVec<u8, CAPACITY>
     requires within { count ≤ length bytes.now }
-    requires few { length bytes.now ≤ 8192 }
+    requires few { length bytes.now ≤ buffer_capacity }
     ensures { result.items ≡ drop count bytes.now }
 {
     let mut rest = ArrayVec::new();

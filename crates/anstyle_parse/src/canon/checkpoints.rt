@@ -4,7 +4,7 @@ ghost use Rattle.std.specs.List.{flat_map};
 ghost use Rattle.anstyle_parse.specs.Stream.Bytes.{semicolon};
 ghost use Rattle.anstyle_parse.specs.Stream.Groups.{total, cut};
 ghost use Rattle.anstyle_parse.specs.Stream.Canon.{escape_text};
-ghost use Rattle.anstyle_parse.specs.Laws.Checkpoint.{checkpoint_text, last_separator, number_so_far, header_so_far, command_text};
+ghost use Rattle.anstyle_parse.specs.Laws.Checkpoint.{max_checkpoint, checkpoint_text, last_separator, number_so_far, header_so_far, command_text};
 ghost use Rattle.anstyle_parse.specs.Fields.Accumulator.{front_of};
 ghost use Rattle.anstyle_parse.specs.Fields.Front.{bytes_of};
 ghost use Rattle.anstyle_parse.specs.Writing.Output.{Adds, Writes, Causes};
@@ -36,7 +36,7 @@ pub fn checkpoint<W: Sink>(parser: &Parser, writer: W) -> (W, Result<(), Fault>)
     requires { (before : List ℕ) × IsAfter front_of parser.now before }
 
     // A text after which the parser stands is written, or a proper beginning of one.
-    ensures written { (text : List ℕ) × IsAfter front_of parser.now text × (length text ≤ 1042)
+    ensures written { (text : List ℕ) × IsAfter front_of parser.now text × (length text ≤ max_checkpoint)
         × Writes text (W.contents writer) (W.contents result.0) result.1 }
 
     // With Ok nothing of it is held back.

@@ -142,8 +142,3 @@ Continues-forgotten g bytes more =
       Continues-same m (escape_byte ∷ []) (g ++ escape_byte ∷ escape_byte ∷ []) bytes more (forgotten m g refl) refl,
       Continues-same m (g ++ escape_byte ∷ escape_byte ∷ []) (escape_byte ∷ []) bytes more refl (forgotten m g refl),
     )
-
--- so after any two histories and two ESC bytes the calls for all further bytes are the same
-pub forgotten_calls : (m n : Machine (List ℕ)) (g h : List ℕ) → StandsAfter m (g ++ escape_byte ∷ escape_byte ∷ []) → StandsAfter n (h ++ escape_byte ∷ escape_byte ∷ [])
-    → (bytes : List ℕ) → machine_calls decoded bytes m ≡ machine_calls decoded bytes n
-forgotten_calls m n g h first second = same_calls m n (forgotten m g first ∙ sym (forgotten n h second))

@@ -1,6 +1,6 @@
 -- What a buffer holds back, and what of it counts as taken.
-use Rattle.std.specs.Prelude.{Bool, ℕ, List, ◌∷◌, Option}
-use Rattle.std.specs.Io.KnownBytes.{append_known}
+use Rattle.std.specs.Prelude.{◌≡◌, Bool, ℕ, List, ◌∷◌, ◌++◌, Option}
+use Rattle.std.specs.Io.KnownBytes.{append_known, Appends}
 use Rattle.anstyle_parse.specs.declared.canon.Fault.{Fault}
 use Rattle.anstyle_parse.specs.declared.canon.Fault.TheVariants.{Write, Flush}
 use Rattle.anstyle_parse.specs.declared.canon.buffer.Buffer.{Buffer}
@@ -28,6 +28,10 @@ buffer_contents contents buffer = append_known (contents (writer_behind buffer))
 -- whether the writer behind it has failed
 abbrev pub buffer_failed : {W : Type 0} → (W → Bool) → Buffer W → Bool
 buffer_failed has_failed buffer = has_failed (writer_behind buffer)
+
+-- A beginning of what was held back was handed on, and the rest is still held back.
+abbrev pub HandsOn : {W : Type 0} → (W → Option (List ℕ)) → Buffer W → Buffer W → Type 0
+HandsOn contents old new = (handed : List ℕ) × (held_back old ≡ handed ++ held_back new) × Appends (contents (writer_behind old)) (contents (writer_behind new)) handed
 
 -- what a fault was at the writer behind it: a flush that left bytes held back is a write
 abbrev pub fault_behind : Fault → (held : List ℕ) → Fault

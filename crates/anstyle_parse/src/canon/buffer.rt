@@ -26,7 +26,7 @@ pub struct Buffer<W> {
 }
 
 impl<W: Sink> Buffer<W> {
-    ghost use Rattle.anstyle_parse.specs.Writing.Buffer.{writer_behind, held_back, is_by_line, buffer_contents, fault_behind};
+    ghost use Rattle.anstyle_parse.specs.Writing.Buffer.{writer_behind, held_back, is_by_line, buffer_contents, fault_behind, HandsOn};
 
     /// A buffer that holds nothing back, in front of the writer.
     pub fn new(writer: W) -> Buffer<W>
@@ -79,6 +79,7 @@ impl<W: Sink> Buffer<W> {
     /// not take stays held back.
     fn hand_on(&mut self) -> bool
         ensures kept { Keeps (buffer_contents W.contents self.old) (buffer_contents W.contents self.new) }
+        ensures from_the_front { HandsOn W.contents self.old self.new }
         ensures emptied { OnTrue result (held_back self.new ≡ []) }
         ensures not_failed { OnTrue result (W.has_failed (writer_behind self.new) ≡ W.has_failed (writer_behind self.old)) }
         ensures failed { OnFalse result (IsTrue (W.has_failed (writer_behind self.new))) }
@@ -124,7 +125,7 @@ fn rest_of(bytes: &[u8], count: usize) -> ArrayVec<u8, CAPACITY>
 }
 
 impl<W: Sink> Sink for Buffer<W> {
-    ghost use Rattle.anstyle_parse.specs.Writing.Buffer.{writer_behind, held_back, buffer_contents, buffer_failed};
+    ghost use Rattle.anstyle_parse.specs.Writing.Buffer.{writer_behind, held_back, buffer_contents, buffer_failed, HandsOn};
 
     ghost contents = { buffer_contents W.contents };
 
@@ -141,7 +142,16 @@ impl<W: Sink> Sink for Buffer<W> {
         self.write_through(bytes)
     }
 
-    fn flush(&mut self) -> bool {
+    /// Hands on what is held back, and flushes the writer behind it where that went well. What
+    /// the writer did not take stays held back, as [`fault_behind`](Buffer::fault_behind) says
+    /// afterwards.
+    fn flush(&mut self) -> bool
+        ensures nothing_passed { Keeps (buffer_contents W.contents self.old) (buffer_contents W.contents self.new) }
+        ensures from_the_front { HandsOn W.contents self.old self.new }
+        ensures handed_on { OnTrue result ((held_back self.new ≡ []) × W.holds_nothing (writer_behind self.new)) }
+        ensures not_failed { OnTrue result (W.has_failed (writer_behind self.new) ≡ W.has_failed (writer_behind self.old)) }
+        ensures failed { OnFalse result (IsTrue (W.has_failed (writer_behind self.new))) }
+    {
         self.hand_on() && self.writer.flush()
     }
 }

@@ -1,6 +1,6 @@
 //! Writers behind a buffer: few writes, and faults in turn. Nothing is lost, doubled or out of
 //! order, and a fault has the name of the call that failed at the writer behind.
-use super::{TITLE, TITLE_TEXTS, TROUBLES};
+use super::{TITLE, TITLE_TEXTS, TROUBLES, narrow_papers};
 use crate::run::{Mode, run};
 use anstyle_parse::canon::{Buffer, Fault, FromRead, FromWrite, Sink};
 use std::alloc::Global;
@@ -41,15 +41,19 @@ fn few_writes(rt: HostRuntime) -> Result<(), Fail> {
     Ok(())
 }
 
-/// Both kinds of buffers before such a writer.
+/// Both kinds of buffers before such writers.
 fn buffers(
     alloc: Global,
     room: usize,
     trouble: Option<ErrorKind>,
-) -> [Buffer<FromWrite<Paper>>; 2] {
+) -> [Buffer<FromWrite<Paper>>; 4] {
+    let [narrow, once] = narrow_papers(alloc, room, trouble);
+    let [narrow_again, once_again] = narrow_papers(alloc, room, trouble);
     [
-        Buffer::new(FromWrite::new(Paper::narrow(alloc, room, trouble))),
-        Buffer::by_line(FromWrite::new(Paper::narrow(alloc, room, trouble))),
+        Buffer::new(FromWrite::new(narrow)),
+        Buffer::new(FromWrite::new(once)),
+        Buffer::by_line(FromWrite::new(narrow_again)),
+        Buffer::by_line(FromWrite::new(once_again)),
     ]
 }
 

@@ -1,6 +1,7 @@
 ghost use Rattle.std.specs.Prelude.{None};
 
 mod checkpoints;
+mod engine;
 
 use crate::canon::{CanonWriter, Fault, FromWrite, Sink};
 use crate::{Parser, Perform, Utf8Parser};

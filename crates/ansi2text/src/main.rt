@@ -17,10 +17,10 @@ fn main(rt: HostRuntime) -> ExitCode {
         Ok(true) => misused(&rt, "usage: ansi2text"),
         Ok(false) => {
             let mut reader = FromRead::new(rt.stdin());
-            let (_writer, answer) = strip(&mut reader, buffered(rt.stdout()));
+            let (writer, answer) = strip(&mut reader, buffered(rt.stdout()));
             match answer {
                 Ok(()) => ExitCode::SUCCESS,
-                Err(fault) => failed(&rt, message(fault)),
+                Err(fault) => failed(&rt, message(writer.fault_behind(fault))),
             }
         }
     }

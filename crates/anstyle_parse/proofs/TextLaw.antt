@@ -14,7 +14,7 @@ use Rattle.anstyle_parse.proofs.CanonReplay.{replay}
 use Rattle.anstyle_parse.proofs.LawfulCalls.{lawful}
 
 -- the text of one such call
-canon-csi_dispatch : (groups : List (List ℕ)) → canon (csi_dispatch groups [] false 0x6D ∷ []) ≡ escape_byte ∷ 0x5B ∷ (groups_text groups ++ 0x6D ∷ [])
+pub canon-csi_dispatch : (groups : List (List ℕ)) → canon (csi_dispatch groups [] false 0x6D ∷ []) ≡ escape_byte ∷ 0x5B ∷ (groups_text groups ++ 0x6D ∷ [])
 unfolding header_text
 canon-csi_dispatch groups =
     let text = groups_text groups in
@@ -26,7 +26,7 @@ without_last-debug_text groups =
     let e : length (debug_text groups) - 1 ≡ length (0x5B ∷ groups_text groups) = omega (arith, length-append (groups_text groups) (0x5D ∷ [])) in
     ap (λ n. take n (debug_text groups)) e ∙ take-append_seam (0x5B ∷ groups_text groups) (0x5D ∷ [])
 
-IsHeaderCall-sent : (groups : List (List ℕ)) → AreSent groups → IsHeaderCall groups [] false 0x6D
+pub IsHeaderCall-sent : (groups : List (List ℕ)) → AreSent groups → IsHeaderCall groups [] false 0x6D
 unfolding is_final is_within
 IsHeaderCall-sent groups sent = record {
   groups_fit = sent.each;

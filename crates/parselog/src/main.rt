@@ -23,10 +23,10 @@ fn main(rt: HostRuntime) -> ExitCode {
         return misused(&rt, "usage: parselog [log|canon]");
     };
     let mut reader = FromRead::new(rt.stdin());
-    let (_writer, answer) = run(mode, &mut reader, buffered(rt.stdout()));
+    let (writer, answer) = run(mode, &mut reader, buffered(rt.stdout()));
     match answer {
         Ok(()) => ExitCode::SUCCESS,
-        Err(fault) => failed(&rt, message(fault)),
+        Err(fault) => failed(&rt, message(writer.fault_behind(fault))),
     }
 }
 

@@ -1,0 +1,3 @@
+pub mod RenditionLemmas
+pub mod CodesLemmas
+pub mod EqualityLemmas

@@ -1,0 +1,207 @@
+-- Select Graphic Rendition: what a control sequence with the final byte 6D (m) does to the
+-- style of the text that follows. Its parameters are groups of fields: 3B separates groups,
+-- and 3A the fields of a group.
+--
+-- Sources: ECMA-48 (5th edition), 8.3.117 SGR, for the codes up to 65; ITU-T T.416, 13.1.8,
+-- for 38 and 48 with a colour; xterm's ctlseqs, "Character Attributes (SGR)", for the colours
+-- with 3B, for 90 to 107, and for 58 and 59; kitty's "Colored and styled underlines" for 4:3
+-- to 4:5.
+use Rattle.std.specs.Prelude.{◌≡◌, ℕ, ◌+◌, ◌-◌, Bool, true, false, ◌&&◌, ◌||◌, not, nat_lt, ◌==◌, List, [], ◌∷◌, length, if◌then◌else◌, Option, None, Some}
+use Rattle.ansi_style.specs.declared.style.Style.{Style}
+use Rattle.ansi_style.specs.declared.style.Color.{Color}
+use Rattle.ansi_style.specs.declared.style.Color.TheVariants.{Default, Named, Bright, Indexed, Direct}
+use Rattle.ansi_style.specs.declared.style.Underline.TheVariants.{Off, Single, Double, Curly, Dotted, Dashed}
+use Rattle.ansi_style.specs.declared.style.Hue.{Hue}
+use Rattle.ansi_style.specs.declared.select.Target.{Target}
+use Rattle.ansi_style.specs.declared.select.Target.TheVariants.{Foreground, Background, Line}
+use Rattle.ansi_style.specs.declared.select.Expected.{Expected}
+use Rattle.ansi_style.specs.declared.select.Expected.TheVariants.{Code, Kind, Index, RedValue, GreenValue, BlueValue}
+use Rattle.anstyle_parse.specs.Bytes.{is_within}
+use Rattle.anstyle_parse.specs.Call.{Call, csi_dispatch}
+use Rattle.ansi_style.specs.Style.{plain, hue_at}
+
+-- A row of the table: the codes from first to last, and what each does, by its place among
+-- them.
+pub record Row : Type 0 where
+  pub first : ℕ
+  pub last : ℕ
+  pub selects : ℕ → Style → Style
+
+infix 50 ◌⇒◌
+-- one code
+abbrev pub ◌⇒◌ : ℕ → (Style → Style) → Row
+code ⇒ change = record { first = code; last = code; selects = λ place. change }
+
+infix 50 ◌⇉◌
+-- eight codes, one for each hue
+abbrev pub ◌⇉◌ : ℕ → (Hue → Style → Style) → Row
+first ⇉ change = record { first = first; last = first + 7; selects = λ place. change (hue_at place) }
+
+-- What a code says alone, row by row, in the standard's words.
+abbrev pub rows : List Row
+rows =
+    -- default rendition, cancels the effect of any preceding SGR
+    (0 ⇒ (λ style. plain)) ∷
+    -- bold or increased intensity; faint
+    (1 ⇒ (λ style. record style { bold = true })) ∷
+    (2 ⇒ (λ style. record style { dim = true })) ∷
+    -- italicized
+    (3 ⇒ (λ style. record style { italic = true })) ∷
+    -- singly underlined
+    (4 ⇒ (λ style. record style { underline = Single })) ∷
+    -- slowly blinking; rapidly blinking
+    (5 ⇒ (λ style. record style { blink = true })) ∷
+    (6 ⇒ (λ style. record style { blink = true })) ∷
+    -- negative image
+    (7 ⇒ (λ style. record style { reverse = true })) ∷
+    -- concealed characters
+    (8 ⇒ (λ style. record style { hidden = true })) ∷
+    -- crossed-out
+    (9 ⇒ (λ style. record style { struck_out = true })) ∷
+    -- doubly underlined
+    (21 ⇒ (λ style. record style { underline = Double })) ∷
+    -- neither bold nor faint
+    (22 ⇒ (λ style. record style { bold = false; dim = false })) ∷
+    -- not italicized
+    (23 ⇒ (λ style. record style { italic = false })) ∷
+    -- not underlined
+    (24 ⇒ (λ style. record style { underline = Off })) ∷
+    -- steady (not blinking)
+    (25 ⇒ (λ style. record style { blink = false })) ∷
+    -- positive image
+    (27 ⇒ (λ style. record style { reverse = false })) ∷
+    -- revealed characters
+    (28 ⇒ (λ style. record style { hidden = false })) ∷
+    -- not crossed out
+    (29 ⇒ (λ style. record style { struck_out = false })) ∷
+    -- black display to white display; default display colour
+    (30 ⇉ (λ hue style. record style { foreground = Named hue })) ∷
+    (39 ⇒ (λ style. record style { foreground = Default })) ∷
+    -- black background to white background; default background colour
+    (40 ⇉ (λ hue style. record style { background = Named hue })) ∷
+    (49 ⇒ (λ style. record style { background = Default })) ∷
+    -- overlined; not overlined
+    (53 ⇒ (λ style. record style { overlined = true })) ∷
+    (55 ⇒ (λ style. record style { overlined = false })) ∷
+    -- xterm: the bright colours, of the text and of the background
+    (90 ⇉ (λ hue style. record style { foreground = Bright hue })) ∷
+    (100 ⇉ (λ hue style. record style { background = Bright hue })) ∷ []
+
+-- the row that has the code decides; a code in no row changes nothing
+abbrev pub look_up : List Row → ℕ → Style → Style
+look_up [] code style = style
+look_up (row ∷ rows) code style =
+    if is_within row.first row.last code then row.selects (code - row.first) style
+    else look_up rows code style
+
+unfoldable pub with_code : ℕ → Style → Style
+with_code code style = look_up rows code style
+
+-- 4:0 to 4:5; any other kind changes nothing
+unfoldable pub with_underline : ℕ → Style → Style
+with_underline kind style =
+    if kind == 0 then record style { underline = Off }
+    else if kind == 1 then record style { underline = Single }
+    else if kind == 2 then record style { underline = Double }
+    else if kind == 3 then record style { underline = Curly }
+    else if kind == 4 then record style { underline = Dotted }
+    else if kind == 5 then record style { underline = Dashed }
+    else style
+
+-- What a colour is for. The underline's is not kept: its fields are read and dropped.
+unfoldable pub target_of : ℕ → Option Target
+target_of code =
+    if code == 38 then Some Foreground
+    else if code == 48 then Some Background
+    else if code == 58 then Some Line
+    else None
+
+abbrev pub with_color : Target → Color → Style → Style
+with_color Foreground color style = record style { foreground = color }
+with_color Background color style = record style { background = color }
+with_color Line color style = style
+
+-- a colour that is none changes nothing
+abbrev pub with_some_color : Target → Option Color → Style → Style
+with_some_color target None style = style
+with_some_color target (Some color) style = with_color target color style
+
+-- one of 256; red, green and blue; a number above 255 makes no colour
+abbrev pub indexed : ℕ → Option Color
+indexed n = if nat_lt n 256 then Some (Indexed n) else None
+
+abbrev pub mixed : ℕ → ℕ → ℕ → Option Color
+mixed red green blue =
+    if nat_lt red 256 && (nat_lt green 256 && nat_lt blue 256) then Some (Direct red green blue) else None
+
+-- The colour that a group says after its first field: 5:n; 2:red:green:blue, as xterm takes it
+-- too; 2:space:red:green:blue, as T.416 writes it, with whatever follows (its tolerances).
+abbrev pub color_in : List ℕ → Option Color
+color_in (kind ∷ n ∷ []) = if kind == 5 then indexed n else None
+color_in (kind ∷ red ∷ green ∷ blue ∷ []) = if kind == 2 then mixed red green blue else None
+color_in (kind ∷ space ∷ red ∷ green ∷ blue ∷ more) = if kind == 2 then mixed red green blue else None
+color_in _ = None
+
+-- a group of several fields where a code is expected: a colour, or 4 and the kind of underline
+abbrev pub with_target : Option Target → ℕ → List ℕ → Style → Style
+with_target (Some target) lead fields style = with_some_color target (color_in fields) style
+with_target None lead (kind ∷ []) style = if lead == 4 then with_underline kind style else style
+with_target None lead fields style = style
+
+-- What a group does to the style, by what is expected.
+abbrev pub with_group : Expected → List ℕ → Style → Style
+with_group Code (code ∷ []) style = with_code code style
+with_group Code (lead ∷ field ∷ fields) style = with_target (target_of lead) lead (field ∷ fields) style
+with_group (Index target) (n ∷ []) style = with_some_color target (indexed n) style
+with_group (BlueValue target red green) (blue ∷ []) style = with_some_color target (mixed red green blue) style
+with_group expected group style = style
+
+-- 38, 48 or 58 alone: the kind of its colour comes next
+abbrev pub expected_for : Option Target → Expected
+expected_for (Some target) = Kind target
+expected_for None = Code
+
+-- a kind: 5 and then a number, or 2 and then red, green and blue; another kind has no colour
+abbrev pub expected_for_kind : Target → ℕ → Expected
+expected_for_kind target kind = if kind == 5 then Index target else if kind == 2 then RedValue target else Code
+
+-- What is expected after a group. Inside a colour each group is one field; a group of several
+-- fields there ends the colour, of which nothing is selected.
+abbrev pub expected_after : Expected → List ℕ → Expected
+expected_after Code (code ∷ []) = expected_for (target_of code)
+expected_after (Kind target) (kind ∷ []) = expected_for_kind target kind
+expected_after (RedValue target) (red ∷ []) = GreenValue target red
+expected_after (GreenValue target red) (green ∷ []) = BlueValue target red green
+expected_after expected group = Code
+
+-- the codes that begin a colour
+abbrev pub is_color_code : ℕ → Bool
+is_color_code code = code == 38 || code == 48 || code == 58
+
+-- the groups, one after another
+abbrev pub selected_from : Expected → List (List ℕ) → Style → Style
+selected_from expected [] style = style
+selected_from expected (group ∷ groups) style = selected_from (expected_after expected group) groups (with_group expected group style)
+
+-- The style that these groups make of a style.
+abbrev pub selected : List (List ℕ) → Style → Style
+selected groups style = selected_from Code groups style
+
+-- what is expected after the groups
+abbrev pub expected_at_end : Expected → List (List ℕ) → Expected
+expected_at_end expected [] = expected
+expected_at_end expected (group ∷ groups) = expected_at_end (expected_after expected group) groups
+
+-- no colour is begun that is not ended
+abbrev pub AreWhole : List (List ℕ) → Type 0
+AreWhole groups = expected_at_end Code groups ≡ Code
+
+-- a control sequence that selects: final byte 6D, no intermediates, and no more than is shown
+unfoldable pub is_selection : List ℕ → Bool → ℕ → Bool
+is_selection intermediates ignore final = length intermediates == 0 && (not ignore && final == 0x6D)
+
+-- The style after a call.
+abbrev pub style_after : Call → Style → Style
+style_after (csi_dispatch groups intermediates ignore final) style =
+    if is_selection intermediates ignore final then selected groups style else style
+style_after call style = style

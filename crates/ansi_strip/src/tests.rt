@@ -7,7 +7,7 @@ use devices::{Paper, Tape};
 use std::process::Abort;
 
 /// Inputs with what is left of them.
-const ROWS: [(&[u8], &[u8]); 14] = [
+const ROWS: [(&[u8], &[u8]); 17] = [
     (b"\x1b[31mhi\x07\x1b[0m\n", b"hi\n"),
     (b"", b""),
     (b"\x1b]0;x\x07a\r\n", b"a\r\n"),
@@ -25,6 +25,9 @@ const ROWS: [(&[u8], &[u8]); 14] = [
     (b"\x1b_a\x9c\x1b^b\x9c\x1bXc\x9cd", b"d"),
     (b"\x1b(B\x1b7\x1bM.", b"."),
     (b"text\x1b[3", b"text"),
+    (b"\xc3(", b"\xef\xbf\xbd("),
+    (b"\xc3\x1b[mA", b"\xef\xbf\xbdA"),
+    (b"\xe2\x82\x1b]0;x\x07\n", b"\xef\xbf\xbd\n"),
 ];
 
 /// What is left of the bytes; and of that, all is left.

@@ -1,6 +1,7 @@
 ghost use Rattle.std.specs.Prelude.{None};
 
 mod checkpoints;
+mod engine;
 
 use crate::canon::Sink;
 use arrayvec::ArrayVec;

@@ -424,6 +424,7 @@ impl<C: CharAccumulator> Parser<C> {
     }
 
     /// A byte of a character.
+    #[inline(always)]
     fn accumulate<P: Perform>(&mut self, performer: &mut P, byte: u8)
         requires { C.takes self.old.accumulator byte }
         ensures machine { machine_of self.new ≡ after_action C.adds Action.BeginUtf8 byte (machine_of self.old) }

@@ -1,10 +1,9 @@
 -- Groups that are cut from fields by their lengths.
-use Rattle.std.proofs.Common.{length-append, ◌≡◌, ℕ, true, ltb, ◌&&◌, suc, ◌+◌, ◌-◌, ◌<◌, ◌≤◌, List, [], ◌∷◌, ◌++◌, length, take, drop, set, refl, sym, ap, ap₂, ◌∙◌, arith, append_assoc, length-drop, add_assoc, zero-add}
+use Rattle.std.proofs.Common.{length-append, ◌≡◌, ℕ, suc, ◌+◌, ◌-◌, ◌<◌, ◌≤◌, List, [], ◌∷◌, ◌++◌, length, take, drop, set, refl, sym, ap, ◌∙◌, arith, length-drop, add_assoc, zero-add}
 use Rattle.std.specs.List.{concat}
 use Rattle.std.proofs.Math.Seq.{take-add}
-use Rattle.std.proofs.lemmas.Bool.{and_parts, ltb-true, lt-ltb}
-use Rattle.std.proofs.lemmas.List.{append-nil, take_more_set, length-take-le, take-take, drop-drop, drop-take, take-append-le, drop-append-le, take_rest}
-use Rattle.anstyle_parse.specs.Stream.Groups.{total, none_is_zero, cut, shown_groups, HaveFields}
+use Rattle.std.proofs.lemmas.List.{take_more_set, length-take-le, take-take, drop-drop, drop-take, take-append-le, drop-append-le, take_rest}
+use Rattle.anstyle_parse.specs.Stream.Groups.{total, cut, shown_groups, HaveFields}
 
 pub total-append : (xs ys : List ℕ) → total (xs ++ ys) ≡ total xs + total ys
 total-append [] ys = sym (zero-add (total ys))
@@ -43,44 +42,12 @@ pub shown_groups-open : (gs : List (List ℕ)) (xs : List ℕ) → 0 < length xs
 shown_groups-open gs [] h = absurd (omega arith)
 shown_groups-open gs (x ∷ xs) h = refl
 
-pub concat-append : (xss yss : List (List ℕ)) → concat (xss ++ yss) ≡ concat xss ++ concat yss
-concat-append [] yss = refl
-concat-append (xs ∷ xss) yss = ap (λ zs. xs ++ zs) (concat-append xss yss) ∙ sym (append_assoc xs (concat xss) (concat yss))
-
--- the fields of all groups are those of the closed ones and of the open one
-pub concat-shown_groups : (gs : List (List ℕ)) (xs : List ℕ) → concat (shown_groups gs xs) ≡ concat gs ++ xs
-concat-shown_groups gs [] = sym (append-nil (concat gs))
-concat-shown_groups gs (x ∷ xs) = concat-append gs ((x ∷ xs) ∷ []) ∙ ap (λ ys. concat gs ++ ys) (append-nil (x ∷ xs))
-
--- groups that are cut by lengths above 0 have fields
-pub HaveFields-cut : (ls ns : List ℕ) → none_is_zero ls ≡ true → total ls ≤ length ns → HaveFields (cut ls ns)
-HaveFields-cut [] ns e h = tt
-HaveFields-cut (l ∷ ls) ns e h =
-    let some : 0 < l = ltb-true 0 l (and_parts (ltb 0 l) (none_is_zero ls) e).0 in (
-      omega (arith, length-take-le l ns (omega arith)),
-      HaveFields-cut ls (drop l ns) (and_parts (ltb 0 l) (none_is_zero ls) e).1 (omega (arith, length-drop l ns)),
-    )
-
 -- groups that have fields are no more than the fields
 pub length-have_fields : (groups : List (List ℕ)) → HaveFields groups → length groups ≤ length (concat groups)
 length-have_fields [] have = omega arith
 length-have_fields (group ∷ groups) have = omega (arith, have.0, length-have_fields groups have.1, length-append group (concat groups))
 
-HaveFields-push : (gs : List (List ℕ)) (x : ℕ) (xs : List ℕ) → HaveFields gs → HaveFields (gs ++ (x ∷ xs) ∷ [])
-HaveFields-push [] x xs h = (omega arith, tt)
-HaveFields-push (g ∷ gs) x xs h = (h.0, HaveFields-push gs x xs h.1)
-
-pub HaveFields-shown_groups : (gs : List (List ℕ)) (xs : List ℕ) → HaveFields gs → HaveFields (shown_groups gs xs)
-HaveFields-shown_groups gs [] h = h
-HaveFields-shown_groups gs (x ∷ xs) h = HaveFields-push gs x xs h
-
-none_is_zero-push : (ls : List ℕ) (n : ℕ) → none_is_zero ls ≡ true → none_is_zero (ls ++ (n + 1) ∷ []) ≡ true
-none_is_zero-push [] n e = ap (λ b. b && true) (lt-ltb 0 (n + 1) (omega arith))
-none_is_zero-push (l ∷ ls) n e =
-    let parts = and_parts (ltb 0 l) (none_is_zero ls) e in
-    ap₂ (λ a b. a && b) parts.0 (none_is_zero-push ls n parts.1)
-
--- A text that is cut into closed parts, and the part after them.
+-- A text that is cut into closed parts, and the part behind them.
 module _ (text lengths : List ℕ) (parts closed : ℕ) (summed : total (take parts lengths) ≡ closed) (within : closed ≤ length text) where
   stored_closed : length (concat (cut (take parts lengths) text)) ≡ closed
   stored_closed = length-concat-cut (take parts lengths) text (omega arith) ∙ summed

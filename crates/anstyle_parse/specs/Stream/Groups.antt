@@ -1,16 +1,12 @@
 -- Groups of fields, as lists.
-use Rattle.std.specs.Prelude.{ℕ, suc, ◌+◌, ◌<◌, Bool, true, false, not, nat_lt, List, [], ◌∷◌, ◌++◌, length, take, drop, map, decimal}
-use Rattle.std.specs.List.{AllByRecursion, list_all, join_with_byte, prefix_len}
+use Rattle.std.specs.Prelude.{ℕ, suc, ◌+◌, ◌<◌, Bool, true, false, not, List, [], ◌∷◌, ◌++◌, length, take, drop, map, decimal}
+use Rattle.std.specs.List.{AllByRecursion, join_with_byte, prefix_len}
 use Rattle.anstyle_parse.specs.Stream.Bytes.{colon, semicolon}
 
 -- the sum of the numbers
 abbrev pub total : List ℕ → ℕ
 total [] = 0
 total (number ∷ numbers) = number + total numbers
-
--- whether none of the numbers is 0
-abbrev pub none_is_zero : List ℕ → Bool
-none_is_zero numbers = list_all (nat_lt 0) numbers
 
 -- numbers cut into groups of these lengths
 abbrev pub cut : List ℕ → List ℕ → List (List ℕ)

@@ -83,7 +83,7 @@ impl Style {
     }
 
     /// Does what a code says alone.
-    #[tactic(auto, unfolding(crate::specs::Rendition::with_code, anstyle_parse::specs::Bytes::is_within))]
+    #[tactic(auto, unfolding(crate::specs::Rendition::with_code, anstyle_parse::specs::Stream::Bytes::is_within))]
     fn select_code(&mut self, code: u16)
         ensures { self.new ≡ with_code code self.old }
     {

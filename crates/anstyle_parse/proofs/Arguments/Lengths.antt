@@ -1,5 +1,5 @@
 -- Groups that are cut from fields by their lengths.
-use Rattle.std.proofs.Common.{length-append, ◌≡◌, ℕ, suc, ◌+◌, ◌-◌, ◌<◌, ◌≤◌, List, [], ◌∷◌, ◌++◌, length, take, drop, set, refl, sym, ap, ◌∙◌, arith, length-drop, add_assoc, zero-add}
+use Rattle.std.proofs.Common.{length-append, append_assoc, ◌≡◌, ℕ, suc, ◌+◌, ◌-◌, ◌<◌, ◌≤◌, List, [], ◌∷◌, ◌++◌, length, take, drop, set, refl, sym, ap, ◌∙◌, arith, length-drop, add_assoc, zero-add}
 use Rattle.std.specs.List.{concat}
 use Rattle.std.proofs.Math.Seq.{take-add}
 use Rattle.std.proofs.lemmas.List.{take_more_set, length-take-le, take-take, drop-drop, drop-take, take-append-le, drop-append-le, take_rest}
@@ -41,6 +41,11 @@ length-concat-cut ls ns h = ap length (concat-cut ls ns) ∙ length-take-le (tot
 pub shown_groups-open : (gs : List (List ℕ)) (xs : List ℕ) → 0 < length xs → shown_groups gs xs ≡ gs ++ xs ∷ []
 shown_groups-open gs [] h = absurd (omega arith)
 shown_groups-open gs (x ∷ xs) h = refl
+
+-- the fields of two lists of groups are those of the one and then those of the other
+pub concat-append : (xss yss : List (List ℕ)) → concat (xss ++ yss) ≡ concat xss ++ concat yss
+concat-append [] yss = refl
+concat-append (xs ∷ xss) yss = ap (λ zs. xs ++ zs) (concat-append xss yss) ∙ sym (append_assoc xs (concat xss) (concat yss))
 
 -- groups that have fields are no more than the fields
 pub length-have_fields : (groups : List (List ℕ)) → HaveFields groups → length groups ≤ length (concat groups)

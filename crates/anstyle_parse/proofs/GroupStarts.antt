@@ -297,7 +297,7 @@ run-stops (suc k) m h = by_digit (m % 2) refl h (run-stops k (m / 2))
 pow-join : (m a b : ℕ) → m / 2 ^ a / 2 ^ b ≡ m / 2 ^ (a + b)
 pow-join m a b = div-div-eq-div-mul m (2 ^ a) (2 ^ b) ∙ ap (λ d. m / d) (sym (pow-add 2 a b))
 
--- An iterator over ns, of the mask m, at the place of a group. Behind the place stand k
+-- An iterator over ns, of the mask m, at the place of a group. After the place stand k
 -- numbers, of which the first more belong to the group too.
 module _ (ns : List ℕ) (m place k : ℕ) (whole : length ns ≡ place + suc k) where
   abbrev others : List Bool

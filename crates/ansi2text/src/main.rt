@@ -1,6 +1,8 @@
 //! Strips standard input of its escapes, to standard output.
 #![tactic(auto)]
 
+#[cfg(test)]
+mod tests;
 mod words;
 
 use ansi_strip::strip;

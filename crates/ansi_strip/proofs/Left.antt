@@ -1,0 +1,66 @@
+-- The calls of which something is left are a lawful list, whose canonical text is what is left.
+use Rattle.std.proofs.Common.{◌≡◌, ℕ, Bool, true, false, List, [], ◌∷◌, ◌++◌, filter, IsTrue, encode_utf8, refl, ap, ◌∙◌}
+use Rattle.std.specs.Prelude.{if◌then◌else◌}
+use Rattle.anstyle_parse.specs.Call.{Call, print, execute, hook, put, unhook, osc_dispatch, csi_dispatch, esc_dispatch}
+use Rattle.anstyle_parse.specs.Calls.{is_executed}
+use Rattle.anstyle_parse.specs.Canon.{canon}
+use Rattle.anstyle_parse.specs.Lawful.{AreLawfulFrom, AreLawful}
+use Rattle.ansi_strip.specs.Strip.{is_layout, is_left, stripped}
+
+-- a control, where it is left
+canon-execute : (t : Bool) (byte : ℕ) (left : List Call) (text : List ℕ) → text ≡ canon left → (if t then byte ∷ [] else []) ++ text ≡ canon (if t then execute byte ∷ left else left)
+canon-execute true byte left text same = ap (λ l. byte ∷ l) same
+canon-execute false byte left text same = same
+
+left-execute : (t : Bool) (byte : ℕ) → is_layout byte ≡ t → (left : List Call) (text : List ℕ) → stripped left ≡ text
+    → stripped (if t then execute byte ∷ left else left) ≡ (if t then byte ∷ [] else []) ++ text
+left-execute true byte e left text same = ap (λ b. (if b then byte ∷ [] else []) ++ stripped left) e ∙ ap (λ l. byte ∷ l) same
+left-execute false byte e left text same = same
+
+-- what is left of calls is the canonical text of those of which something is left
+pub stripped-canon : (calls : List Call) → stripped calls ≡ canon (filter is_left calls)
+stripped-canon [] = refl
+stripped-canon (print character ∷ calls) = ap (λ t. encode_utf8 character ++ t) (stripped-canon calls)
+stripped-canon (execute byte ∷ calls) = canon-execute (is_layout byte) byte (filter is_left calls) (stripped calls) (stripped-canon calls)
+stripped-canon (hook groups intermediates ignore final ∷ calls) = stripped-canon calls
+stripped-canon (put byte ∷ calls) = stripped-canon calls
+stripped-canon (unhook ∷ calls) = stripped-canon calls
+stripped-canon (osc_dispatch parts bell_terminated ∷ calls) = stripped-canon calls
+stripped-canon (csi_dispatch groups intermediates ignore final ∷ calls) = stripped-canon calls
+stripped-canon (esc_dispatch intermediates ignore final ∷ calls) = stripped-canon calls
+
+-- of what is left, all is left
+pub stripped-left : (calls : List Call) → stripped (filter is_left calls) ≡ stripped calls
+stripped-left [] = refl
+stripped-left (print character ∷ calls) = ap (λ t. encode_utf8 character ++ t) (stripped-left calls)
+stripped-left (execute byte ∷ calls) = left-execute (is_layout byte) byte refl (filter is_left calls) (stripped calls) (stripped-left calls)
+stripped-left (hook groups intermediates ignore final ∷ calls) = stripped-left calls
+stripped-left (put byte ∷ calls) = stripped-left calls
+stripped-left (unhook ∷ calls) = stripped-left calls
+stripped-left (osc_dispatch parts bell_terminated ∷ calls) = stripped-left calls
+stripped-left (csi_dispatch groups intermediates ignore final ∷ calls) = stripped-left calls
+stripped-left (esc_dispatch intermediates ignore final ∷ calls) = stripped-left calls
+
+lawful-execute : (t : Bool) (byte : ℕ) (left : List Call) → IsTrue (is_executed byte) → AreLawful left → AreLawful (if t then execute byte ∷ left else left)
+lawful-execute true byte left is lawful = (is, lawful)
+lawful-execute false byte left is lawful = lawful
+
+-- what is left of a list that may follow, inside a hooked string too, is lawful
+pub lawful-left : (hooked : Bool) (calls : List Call) → AreLawfulFrom hooked calls → AreLawful (filter is_left calls)
+lawful-left hooked [] lawful = tt
+lawful-left false (print character ∷ calls) lawful = (lawful.0, lawful-left false calls lawful.1)
+lawful-left false (execute byte ∷ calls) lawful = lawful-execute (is_layout byte) byte (filter is_left calls) lawful.0 (lawful-left false calls lawful.1)
+lawful-left false (hook groups intermediates ignore final ∷ calls) lawful = lawful-left true calls lawful.1
+lawful-left false (osc_dispatch parts bell_terminated ∷ calls) lawful = lawful-left false calls lawful.1
+lawful-left false (csi_dispatch groups intermediates ignore final ∷ calls) lawful = lawful-left false calls lawful.1
+lawful-left false (esc_dispatch intermediates ignore final ∷ calls) lawful = lawful-left false calls lawful.1
+lawful-left true (put byte ∷ calls) lawful = lawful-left true calls lawful.1
+lawful-left true (unhook ∷ calls) lawful = lawful-left false calls lawful
+lawful-left false (put byte ∷ calls) lawful = absurd lawful
+lawful-left false (unhook ∷ calls) lawful = absurd lawful
+lawful-left true (print character ∷ calls) lawful = absurd lawful
+lawful-left true (execute byte ∷ calls) lawful = absurd lawful
+lawful-left true (hook groups intermediates ignore final ∷ calls) lawful = absurd lawful
+lawful-left true (osc_dispatch parts bell_terminated ∷ calls) lawful = absurd lawful
+lawful-left true (csi_dispatch groups intermediates ignore final ∷ calls) lawful = absurd lawful
+lawful-left true (esc_dispatch intermediates ignore final ∷ calls) lawful = absurd lawful

@@ -1,0 +1,25 @@
+-- Stripped text: what is left of the calls of a stream.
+use Rattle.std.specs.Prelude.{ℕ, Bool, true, false, ◌||◌, ◌==◌, List, [], ◌∷◌, encode_utf8, if◌then◌else◌}
+use Rattle.anstyle_parse.specs.Call.{Call, print, execute, hook, put, unhook, osc_dispatch, csi_dispatch, esc_dispatch}
+use Rattle.anstyle_parse.specs.Output.{texts}
+
+-- the controls that are left: tab, line feed and carriage return (HT, LF and CR of ECMA-48)
+abbrev pub is_layout : ℕ → Bool
+is_layout byte = byte == 0x09 || byte == 0x0A || byte == 0x0D
+
+-- whether something is left of a call
+abbrev pub is_left : Call → Bool
+is_left (print character) = true
+is_left (execute byte) = is_layout byte
+is_left call = false
+
+-- What is left of a call: a printed character in UTF-8, a control that is left, and of all
+-- others nothing.
+abbrev pub stripped_call : Call → List ℕ
+stripped_call (print character) = encode_utf8 character
+stripped_call (execute byte) = if is_layout byte then byte ∷ [] else []
+stripped_call call = []
+
+-- what is left of the calls, joined
+abbrev pub stripped : List Call → List ℕ
+stripped calls = texts stripped_call calls

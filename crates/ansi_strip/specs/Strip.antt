@@ -1,6 +1,6 @@
 -- Stripped text: what is left of the calls of a stream.
 use Rattle.std.specs.Prelude.{ℕ, Bool, true, false, ◌||◌, ◌==◌, List, [], ◌∷◌, encode_utf8, if◌then◌else◌}
-use Rattle.anstyle_parse.specs.Call.{Call, print, execute, hook, put, unhook, osc_dispatch, csi_dispatch, esc_dispatch}
+use Rattle.anstyle_parse.specs.Call.{Call, print, execute}
 use Rattle.anstyle_parse.specs.Output.{texts}
 
 -- the controls that are left: tab, line feed and carriage return (HT, LF and CR of ECMA-48)

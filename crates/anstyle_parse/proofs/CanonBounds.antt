@@ -10,6 +10,7 @@ use Rattle.anstyle_parse.specs.Arguments.{significant, has_shape, groups_of, col
 use Rattle.anstyle_parse.specs.Call.{Call, print, execute, hook, put, csi_dispatch}
 use Rattle.anstyle_parse.specs.Items.{Body, escape, control, device, hooked, dropped, command, ignored, End, complete, cancelled, broken_off, unfinished, Item, single, character, broken, begun, sequence, body_text, end_text, item_text, texts, IsItem}
 use Rattle.anstyle_parse.specs.Calls.{is_executed, is_printed, single_calls, is_passed, executes, control_dispatch, body_calls, end_calls, item_calls, items_calls, AreCalls}
+use Rattle.anstyle_parse.proofs.CharacterFronts.{length-IsProperFront}
 use Rattle.anstyle_parse.proofs.LawfulLists.{length-filter_le}
 use Rattle.anstyle_parse.proofs.LawfulCharacters.{well_formed-AreOfCharacter, length-encode-some}
 
@@ -83,7 +84,7 @@ length-single_calls b =
 pub length-item_calls : (item : Item) → IsItem item → length (item_calls item) ≤ length (item_text item)
 length-item_calls (single byte) is = length-single_calls byte
 length-item_calls (character bytes) is = omega (arith, (well_formed-AreOfCharacter bytes is).1, length-encode-some (character_of bytes))
-length-item_calls (broken front byte) is = omega (arith, length-append front (byte ∷ []))
+length-item_calls (broken front) is = omega (arith, length-IsProperFront front is)
 length-item_calls (begun front) is = omega arith
 length-item_calls (sequence body end) is =
     omega (arith, length-append (body_calls body) (end_calls body end), length-append (body_text body) (end_text end), length-body_calls body, length-end_calls body end)

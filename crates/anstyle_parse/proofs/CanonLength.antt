@@ -12,6 +12,7 @@ use Rattle.anstyle_parse.specs.Items.{Body, escape, control, device, hooked, dro
 use Rattle.anstyle_parse.specs.Calls.{is_executed, is_printed, single_calls, is_passed, executes, control_dispatch, body_calls, end_calls, item_calls, items_calls, AreCalls}
 use Rattle.anstyle_parse.specs.Canon.{leading_marker, is_full, one_more_field, one_more_intermediate, header_text, escape_text, command_end, call_text, canon}
 use Rattle.anstyle_parse.specs.Groups.{groups_text}
+use Rattle.anstyle_parse.proofs.CharacterFronts.{length-IsProperFront}
 use Rattle.anstyle_parse.proofs.CanonCharacters.{within_parts, encode_one}
 use Rattle.anstyle_parse.proofs.CanonShown.{leading_marker-after_marker}
 use Rattle.anstyle_parse.proofs.LawfulLists.{length-take_le, length-filter_le}
@@ -215,7 +216,7 @@ length-canon-item : (item : Item) → IsItem item → length (canon (item_calls 
 length-canon-item (single byte) is = omega (arith, length-canon-single byte)
 length-canon-item (character bytes) is =
     omega (arith, (well_formed-AreOfCharacter bytes is).1, length-append (encode_utf8 (character_of bytes)) [])
-length-canon-item (broken front byte) is = omega (arith, length-append front (byte ∷ []), length-canon-replacement)
+length-canon-item (broken front) is = omega (arith, length-IsProperFront front is, length-canon-replacement)
 length-canon-item (begun front) is = omega arith
 length-canon-item (sequence body end) is =
     omega (arith, length-canon-append (body_calls body) (end_calls body end), length-append (body_text body) (end_text end), length-canon-body body, length-canon-end body end)

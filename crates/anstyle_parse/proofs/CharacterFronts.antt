@@ -1,6 +1,6 @@
 -- The tests for the beginnings of a character agree with the words: some bytes behind them make
 -- a well-formed sequence.
-use Rattle.std.proofs.Common.{◌≡◌, ◌≢◌, ℕ, suc, Bool, true, ◌&&◌, leb, List, [], ◌∷◌, ◌++◌, length, IsTrue, ◌↔◌, ⊎_elim, refl, sym, ap, ◌∙◌, append-nil, arith}
+use Rattle.std.proofs.Common.{◌≡◌, ◌≢◌, ◌≤◌, ℕ, suc, Bool, true, ◌&&◌, leb, List, [], ◌∷◌, ◌++◌, length, IsTrue, ◌↔◌, ⊎_elim, refl, sym, ap, ◌∙◌, append-nil, arith}
 use Rattle.std.specs.Prelude.{◌==◌}
 use Rattle.std.specs.List.{list_any, list_all}
 use Rattle.std.proofs.lemmas.Bool.{false≢true, and_parts, and_from, or_cases, or_left, or_right, eq-eqb, both_ways}
@@ -79,6 +79,11 @@ test-from_IsProperFront : (bytes rest : List ℕ) → bytes ≢ [] → rest ≢ 
 test-from_IsProperFront [] rest begun proper whole = absurd (begun refl)
 test-from_IsProperFront (a ∷ x) [] begun proper whole = absurd (proper refl)
 test-from_IsProperFront (a ∷ x) (b ∷ rest) begun proper whole = is_proper_front-before a x b rest whole
+
+-- a proper beginning has a byte
+pub length-IsProperFront : (bytes : List ℕ) → IsProperFront bytes → 1 ≤ length bytes
+length-IsProperFront [] is = absurd (is.begun refl)
+length-IsProperFront (a ∷ x) is = omega arith
 
 -- The test for a proper beginning agrees with the words.
 pub IsProperFront-test : (bytes : List ℕ) → IsTrue (is_proper_front bytes) ↔ IsProperFront bytes

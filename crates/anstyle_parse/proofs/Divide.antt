@@ -31,11 +31,15 @@ start b esc_byte = more (inside (escape []))
 start b lead_byte = more (front (b ∷ []))
 start b class = done (single b)
 
-abbrev pub grow_front : List ℕ → ℕ → Growth
-grow_front bytes b =
+-- the byte before which a front is broken begins the next item
+abbrev pub break_off : List ℕ → Growth → Growth
+break_off bytes growth = record { items = broken bytes ∷ growth.items; next = growth.next }
+
+abbrev pub grow_front : List ℕ → ℕ → Class → Growth
+grow_front bytes b class =
     if is_well_formed (bytes ++ b ∷ []) then done (character (bytes ++ b ∷ []))
     else if is_proper_front (bytes ++ b ∷ []) then more (front (bytes ++ b ∷ []))
-    else done (broken bytes b)
+    else break_off bytes (start b class)
 
 abbrev pub into : Body → Growth
 into body = more (inside body)
@@ -118,7 +122,7 @@ grow_body body b class = grow_within body b class
 
 unfoldable pub grow : Open → ℕ → Growth
 grow nothing b = start b (class_of b)
-grow (front bytes) b = grow_front bytes b
+grow (front bytes) b = grow_front bytes b (class_of b)
 grow (inside body) b = grow_body body b (class_of b)
 
 -- what is open at the end of the list, as items

@@ -6,9 +6,9 @@ use Rattle.std.proofs.lemmas.Bool.{and_from, or_from, or_left, or_right, eqb-tru
 use Rattle.anstyle_parse.specs.Bytes.{is_within, is_escape, is_intermediate, is_final, is_significant, is_noise, bell, string_terminator, escape_byte}
 use Rattle.anstyle_parse.specs.Characters.{is_lead, is_well_formed, is_proper_front, IsFront}
 use Rattle.anstyle_parse.specs.Arguments.{significant, has_shape}
-use Rattle.anstyle_parse.specs.Items.{Body, escape, control, device, hooked, dropped, command, ignored, complete, cancelled, broken_off, Item, single, character, broken, sequence, body_text, item_text, texts, EachIs, IsBody, completes, IsItem, MayPrecede, IsDivision, is_introducer, is_header_byte, is_text_byte}
+use Rattle.anstyle_parse.specs.Items.{Body, escape, control, device, hooked, dropped, command, ignored, complete, cancelled, broken_off, Item, single, character, sequence, body_text, item_text, texts, EachIs, IsBody, completes, IsItem, BeginsWithBreak, MayPrecede, IsDivision, is_introducer, is_header_byte, is_text_byte}
 use Rattle.anstyle_parse.proofs.Classes.{Class, bell_byte, cancel_byte, esc_byte, intermediate_byte, digit_byte, colon_byte, semicolon_byte, marker_byte, device_byte, string_byte, control_introducer, command_byte, final_byte, terminator_byte, lead_byte, class_of, is_cancel_at, is_escape_at, is_final_at, is_significant_at, is_lead_at, is_header_byte_at, is_string_kind_at, is_introducer_at, is_string_text_at, is_command_text_at, is_last_at, is_terminator_at, is_bell_at, is_device_at, is_control_introducer_at, is_command_at, is_cancel-class, is_escape-class, is_final-class, is_significant-class, is_lead-class, is_header_byte-class, is_string_kind-class, is_introducer-class, is_string_text-class, is_command_text-class, is_last-class, is_terminator-class, is_bell-class, is_device-class, is_control_introducer-class, is_command-class}
-use Rattle.anstyle_parse.proofs.Divide.{Open, nothing, front, inside, Growth, more, done, start, grow_front, into, ended, introduce, grow_header, grow_body, grow, divide, open_after, last_items, open_text}
+use Rattle.anstyle_parse.proofs.Divide.{Open, nothing, front, inside, Growth, more, done, start, break_off, grow_front, into, ended, introduce, grow_header, grow_body, grow, divide, open_after, last_items, open_text}
 use Rattle.anstyle_parse.proofs.CharacterLemmas.{is_front, front_cases, is_proper_front-nil, is_proper_front-lead}
 use Rattle.anstyle_parse.proofs.CharacterFronts.{IsFront-test, IsProperFront-test}
 use Rattle.anstyle_parse.proofs.DivisionHeaders.{EachIs-push, significant-push, significant_same, is_in_escape_at, is_in_header_at, is_in_escape-class, is_in_header-class, EachIs-noise}
@@ -178,20 +178,6 @@ not_front bytes whole part a x e f =
     (λ p. both_ways (is_proper_front (a ∷ x)) (sym (ap is_proper_front e) ∙ part) p)
     (front_cases a x (sym (ap is_front e) ∙ (IsFront-test bytes).1 f))
 
--- a byte behind the front of a character makes it whole, or longer, or breaks it
-Grown-front : (bytes : List ℕ) (b : ℕ) → IsTrue (is_proper_front bytes) → Grown (front bytes) b (grow_front bytes b)
-Grown-front [] b h = absurd (both_ways (is_proper_front []) is_proper_front-nil h)
-Grown-front (a ∷ x) b h =
-    cond_both (is_well_formed (a ∷ (x ++ b ∷ []))) (done (character (a ∷ (x ++ b ∷ []))))
-    (if is_proper_front (a ∷ (x ++ b ∷ [])) then more (front (a ∷ (x ++ b ∷ []))) else done (broken (a ∷ x) b))
-    (λ g. Grown (front (a ∷ x)) b g)
-    (λ whole. Grown-done (front (a ∷ x)) b (character (a ∷ (x ++ b ∷ []))) whole refl (λ rest. tt))
-    (λ other. cond_both (is_proper_front (a ∷ (x ++ b ∷ []))) (more (front (a ∷ (x ++ b ∷ [])))) (done (broken (a ∷ x) b))
-    (λ g. Grown (front (a ∷ x)) b g)
-    (λ part. Grown-more (front (a ∷ x)) b (front (a ∷ (x ++ b ∷ []))) part refl)
-    (λ neither. Grown-done (front (a ∷ x)) b (broken (a ∷ x) b)
-    ((IsProperFront-test (a ∷ x)).0 h, not_front (a ∷ (x ++ b ∷ [])) other neither a (x ++ b ∷ []) refl) refl (λ rest. tt)))
-
 -- a byte where no item is open
 Grown-start : (b : ℕ) (c : Class) → class_of b ≡ c → Grown nothing b (start b c)
 Grown-start b esc_byte e = Grown-more nothing b (inside (escape [])) tt (ap (λ n. n ∷ []) (sym (is_escape-true b (is_escape-class b ∙ ap is_escape_at e))))
@@ -199,6 +185,35 @@ Grown-start b lead_byte e = Grown-more nothing b (front (b ∷ [])) (is_proper_f
 Grown-start b c e = Grown-done nothing b (single b)
     (not_from_false (is_escape b || is_lead b) (or_from (is_escape b) (is_lead b) (is_escape-class b ∙ ap is_escape_at e) (is_lead-class b ∙ ap is_lead_at e)))
     refl (λ rest. tt)
+
+-- a byte that breaks the front of a character begins what it begins where no item is open
+Grown-broken : (bytes : List ℕ) (b : ℕ) (g : Growth) → IsTrue (is_proper_front bytes) → ¬ IsFront (bytes ++ b ∷ []) → Grown nothing b g
+    → Grown (front bytes) b (break_off bytes g)
+Grown-broken bytes b g h breaks grown = record {
+  each = ((IsProperFront-test bytes).0 h, grown.each);
+  next = grown.next;
+  whole = append_assoc bytes (texts g.items) (open_text g.next) ∙ ap (λ text. bytes ++ text) grown.whole;
+  joined = λ rest. (
+    subst (λ text. BeginsWithBreak bytes text)
+        (sym (sym (append_assoc (texts g.items) (open_text g.next) rest) ∙ ap (λ text. text ++ rest) grown.whole)) breaks,
+    grown.joined rest,
+  );
+}
+
+-- a byte behind the front of a character makes it whole, or longer, or breaks it
+Grown-front : (bytes : List ℕ) (b : ℕ) → IsTrue (is_proper_front bytes) → Grown (front bytes) b (grow_front bytes b (class_of b))
+Grown-front [] b h = absurd (both_ways (is_proper_front []) is_proper_front-nil h)
+Grown-front (a ∷ x) b h =
+    let breaks : Growth = break_off (a ∷ x) (start b (class_of b)) in
+    cond_both (is_well_formed (a ∷ (x ++ b ∷ []))) (done (character (a ∷ (x ++ b ∷ []))))
+    (if is_proper_front (a ∷ (x ++ b ∷ [])) then more (front (a ∷ (x ++ b ∷ []))) else breaks)
+    (λ g. Grown (front (a ∷ x)) b g)
+    (λ whole. Grown-done (front (a ∷ x)) b (character (a ∷ (x ++ b ∷ []))) whole refl (λ rest. tt))
+    (λ other. cond_both (is_proper_front (a ∷ (x ++ b ∷ []))) (more (front (a ∷ (x ++ b ∷ [])))) breaks
+    (λ g. Grown (front (a ∷ x)) b g)
+    (λ part. Grown-more (front (a ∷ x)) b (front (a ∷ (x ++ b ∷ []))) part refl)
+    (λ neither. Grown-broken (a ∷ x) b (start b (class_of b)) h
+    (not_front (a ∷ (x ++ b ∷ [])) other neither a (x ++ b ∷ []) refl) (Grown-start b (class_of b) refl)))
 
 -- a byte behind any open item
 pub Grown-grow : (o : Open) (b : ℕ) → IsOpen o → Grown o b (grow o b)

@@ -5,11 +5,11 @@ use Rattle.std.specs.List.{AllByRecursion, list_any}
 use Rattle.std.proofs.lemmas.Bool.{false≢true, not-true, or_parts, or_cases, cond-true, cond-false, both_ways, false_from_ne_true}
 use Rattle.anstyle_parse.specs.Bytes.{is_cancel, is_escape, is_intermediate}
 use Rattle.anstyle_parse.specs.Characters.{is_lead, is_well_formed, is_proper_front, IsFront}
-use Rattle.anstyle_parse.specs.Items.{Body, escape, control, device, hooked, dropped, command, ignored, complete, cancelled, broken_off, unfinished, Item, single, character, broken, begun, sequence, body_text, item_text, texts, IsBody, completes, IsItem, BeginsWithEscape, MayPrecede, AreJoined, IsDivision, is_introducer}
+use Rattle.anstyle_parse.specs.Items.{Body, escape, control, device, hooked, dropped, command, ignored, complete, cancelled, broken_off, unfinished, Item, single, character, broken, begun, sequence, body_text, item_text, texts, IsBody, completes, IsItem, BeginsWithEscape, BeginsWithBreak, MayPrecede, AreJoined, IsDivision, is_introducer}
 use Rattle.anstyle_parse.specs.Call.{Call}
 use Rattle.anstyle_parse.specs.Calls.{items_calls, AreCalls}
 use Rattle.anstyle_parse.proofs.Classes.{Class, bell_byte, cancel_byte, esc_byte, device_byte, string_byte, control_introducer, command_byte, final_byte, terminator_byte, lead_byte, class_of, is_cancel_at, is_escape_at, is_final_at, is_lead_at, is_introducer_at, is_last_at, is_terminator_at, is_bell_at, is_cancel-class, is_escape-class, is_final-class, is_lead-class, is_introducer-class, is_last-class, is_terminator-class, is_bell-class}
-use Rattle.anstyle_parse.proofs.Divide.{Open, nothing, front, inside, more, done, start, ended, introduce, grow_body, grow, divide, last_items, open_text, open_after}
+use Rattle.anstyle_parse.proofs.Divide.{Open, nothing, front, inside, more, done, start, break_off, ended, introduce, grow_body, grow, divide, last_items, open_text, open_after}
 use Rattle.anstyle_parse.proofs.DivisionSplit.{divide-append}
 use Rattle.anstyle_parse.proofs.CharacterLemmas.{is_front-well_formed, is_front-proper, is_proper_front-before, is_proper_front-lead, is_lead-front, is_well_formed-nil, is_well_formed-proper}
 use Rattle.anstyle_parse.proofs.CharacterFronts.{IsFront-test, IsProperFront-test}
@@ -119,21 +119,21 @@ grow-single b h =
     let parts = or_parts (is_escape b) (is_lead b) (not-true (is_escape b || is_lead b) h) in
     start-single b (class_of b) (sym (is_escape-class b) ∙ parts.0) (sym (is_lead-class b) ∙ parts.1)
 
--- the last byte of a character, and the byte that breaks one
+-- the last byte of a character
 grow-whole : (bytes : List ℕ) (b : ℕ) → IsTrue (is_well_formed (bytes ++ b ∷ [])) → grow (front bytes) b ≡ done (character (bytes ++ b ∷ []))
 unfolding grow
 grow-whole bytes b h = cond-true (is_well_formed (bytes ++ b ∷ [])) (done (character (bytes ++ b ∷ [])))
-    (if is_proper_front (bytes ++ b ∷ []) then more (front (bytes ++ b ∷ [])) else done (broken bytes b)) h
+    (if is_proper_front (bytes ++ b ∷ []) then more (front (bytes ++ b ∷ [])) else break_off bytes (grow nothing b)) h
 
--- a byte with which no character begins breaks the front
-pub grow-broken : (bytes : List ℕ) (b : ℕ) → ¬ IsFront (bytes ++ b ∷ []) → grow (front bytes) b ≡ done (broken bytes b)
+-- a byte with which no character begins breaks the front, and begins what it begins after nothing
+pub grow-broken : (bytes : List ℕ) (b : ℕ) → ¬ IsFront (bytes ++ b ∷ []) → grow (front bytes) b ≡ break_off bytes (grow nothing b)
 unfolding grow
 grow-broken bytes b h =
     let is = IsFront-test (bytes ++ b ∷ []) in
     cond-false (is_well_formed (bytes ++ b ∷ [])) (done (character (bytes ++ b ∷ [])))
-    (if is_proper_front (bytes ++ b ∷ []) then more (front (bytes ++ b ∷ [])) else done (broken bytes b))
+    (if is_proper_front (bytes ++ b ∷ []) then more (front (bytes ++ b ∷ [])) else break_off bytes (grow nothing b))
     (false_from_ne_true (is_well_formed (bytes ++ b ∷ [])) (λ w. h (is.0 (is_front-well_formed (bytes ++ b ∷ []) w))))
-    ∙ cond-false (is_proper_front (bytes ++ b ∷ [])) (more (front (bytes ++ b ∷ []))) (done (broken bytes b))
+    ∙ cond-false (is_proper_front (bytes ++ b ∷ [])) (more (front (bytes ++ b ∷ []))) (break_off bytes (grow nothing b))
     (false_from_ne_true (is_proper_front (bytes ++ b ∷ [])) (λ p. h (is.0 (is_front-proper (bytes ++ b ∷ []) p))))
 
 -- a list that is not empty, as what stands before its last byte, and that byte
@@ -170,12 +170,19 @@ divide-broken_off body (b ∷ rest) h m =
     ap (λ text. divide nothing (text ++ b ∷ rest)) (append-nil (body_text body))
     ∙ (divide-run nothing (inside body) (body_text body) (b ∷ rest) (Runs-open (inside body) h) ∙ divide-escape body b rest m)
 
+-- a character that is broken, and what breaks it
+divide-broken : (bytes rest : List ℕ) → IsTrue (is_proper_front bytes) → BeginsWithBreak bytes rest
+    → divide nothing (bytes ++ rest) ≡ broken bytes ∷ divide nothing rest
+divide-broken bytes [] h m = absurd m
+divide-broken bytes (b ∷ rest) h m =
+    divide-run nothing (front bytes) bytes (b ∷ rest) (Runs-open (front bytes) h)
+    ∙ ap (λ g. g.items ++ divide g.next rest) (grow-broken bytes b m)
+
 -- An item's text is divided into that item, and what stands behind it by itself.
 divide-item : (item : Item) (rest : List ℕ) → IsItem item → MayPrecede item rest → divide nothing (item_text item ++ rest) ≡ item ∷ divide nothing rest
 divide-item (single b) rest h m = divide-done nothing b rest (single b) (grow-single b h)
 divide-item (character bytes) rest h m = divide-character bytes rest h
-divide-item (broken bytes b) rest h m =
-    divide-whole (front bytes) b rest (broken bytes b) ((IsProperFront-test bytes).1 h.0) (grow-broken bytes b h.1)
+divide-item (broken bytes) rest h m = divide-broken bytes rest ((IsProperFront-test bytes).1 h) m
 divide-item (begun bytes) rest h m =
     subst (λ r. divide nothing (bytes ++ r) ≡ begun bytes ∷ divide nothing r) (sym m)
     (ap (λ text. divide nothing text) (append-nil bytes) ∙ divide-last (front bytes) ((IsProperFront-test bytes).1 h))

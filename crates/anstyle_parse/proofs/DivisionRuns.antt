@@ -7,9 +7,9 @@ use Rattle.std.proofs.lemmas.Bool.{not-true, or_left, cond-true, cond-false, bot
 use Rattle.anstyle_parse.specs.Bytes.{is_within, is_intermediate, is_significant, is_noise, bell, string_terminator, escape_byte}
 use Rattle.anstyle_parse.specs.Characters.{is_lead, is_well_formed, is_proper_front}
 use Rattle.anstyle_parse.specs.Arguments.{significant, has_shape}
-use Rattle.anstyle_parse.specs.Items.{Body, escape, control, device, hooked, dropped, command, ignored, character, broken, body_text, EachIs, IsBody, is_header_byte, is_text_byte}
+use Rattle.anstyle_parse.specs.Items.{Body, escape, control, device, hooked, dropped, command, ignored, character, body_text, EachIs, IsBody, is_header_byte, is_text_byte}
 use Rattle.anstyle_parse.proofs.Classes.{Class, control_byte, bell_byte, intermediate_byte, digit_byte, colon_byte, semicolon_byte, marker_byte, string_byte, final_byte, terminator_byte, lead_byte, class_below, class_of, is_noise_at, is_intermediate_at, is_final_at, is_significant_at, is_lead_at, is_header_byte_at, is_string_kind_at, is_string_text_at, is_command_text_at, is_noise-class, is_intermediate-class, is_final-class, is_significant-class, is_lead-class, is_header_byte-class, is_string_kind-class, is_string_text-class, is_command_text-class}
-use Rattle.anstyle_parse.proofs.Divide.{Open, nothing, front, inside, more, done, start, into, ended, introduce, grow_header, grow_body, grow, open_text, open_after, done_items}
+use Rattle.anstyle_parse.proofs.Divide.{Open, nothing, front, inside, more, done, start, break_off, into, ended, introduce, grow_header, grow_body, grow, open_text, open_after, done_items}
 use Rattle.anstyle_parse.proofs.DivisionSplit.{open_after-append, done_items-append}
 use Rattle.anstyle_parse.proofs.CharacterLemmas.{is_lead-front, EachIs-front, is_front-proper, is_well_formed-proper, is_proper_front-prefix, is_proper_front-nil}
 use Rattle.anstyle_parse.proofs.DivisionHeaders.{EachIs-weaker, list_any-none, significant-push, has_shape-significant, is_in_escape_at, is_in_header_at, is_in_escape-class, is_in_header-class}
@@ -230,8 +230,8 @@ grow-front_part : (bytes : List ℕ) (b : ℕ) → IsTrue (is_proper_front (byte
 unfolding grow
 grow-front_part bytes b h =
     cond-false (is_well_formed (bytes ++ b ∷ [])) (done (character (bytes ++ b ∷ [])))
-    (if is_proper_front (bytes ++ b ∷ []) then more (front (bytes ++ b ∷ [])) else done (broken bytes b)) (is_well_formed-proper (bytes ++ b ∷ []) h)
-    ∙ cond-true (is_proper_front (bytes ++ b ∷ [])) (more (front (bytes ++ b ∷ []))) (done (broken bytes b)) h
+    (if is_proper_front (bytes ++ b ∷ []) then more (front (bytes ++ b ∷ [])) else break_off bytes (start b (class_of b))) (is_well_formed-proper (bytes ++ b ∷ []) h)
+    ∙ cond-true (is_proper_front (bytes ++ b ∷ [])) (more (front (bytes ++ b ∷ []))) (break_off bytes (start b (class_of b))) h
 
 -- a proper beginning runs to the front of a character
 pub Runs-front : (bytes : List ℕ) → IsTrue (is_proper_front bytes) → Runs nothing bytes (front bytes)

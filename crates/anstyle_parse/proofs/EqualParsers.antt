@@ -22,7 +22,7 @@ use Rattle.anstyle_parse.specs.Parser.{machine_of}
 -- what `==` compares: every field
 abbrev same_params : Params → Params → Bool
 same_params p q =
-    bytes_eq p.numbers q.numbers && (bytes_eq p.lengths q.lengths && (eqb p.closed_groups q.closed_groups && (eqb p.open_fields q.open_fields && eqb p.len q.len)))
+    bytes_eq p.numbers q.numbers && (eqb p.starts q.starts && (eqb p.open_fields q.open_fields && eqb p.len q.len))
 
 abbrev pub same_fields : Parser Utf8Parser → Parser Utf8Parser → Bool
 same_fields a b =
@@ -82,15 +82,14 @@ machine_of-same a b same =
     let p0 = and_parts _ _ h4.0 in
     let p1 = and_parts _ _ p0.1 in
     let p2 = and_parts _ _ p1.1 in
-    let p3 = and_parts _ _ p2.1 in
     let state : a.state ≡ b.state = same_true the_type (search rules) a.state b.state h0.0 in
     let intermediates : a.intermediates ≡ b.intermediates = (bytes_eq-Decides a.intermediates b.intermediates).0 h1.0 in
     let intermediate_count : a.intermediate_count ≡ b.intermediate_count = eqb-true _ _ h2.0 in
     let ignoring : a.ignoring ≡ b.ignoring = flag_same a.ignoring b.ignoring h3.0 in
     let numbers : a.params.numbers ≡ b.params.numbers = (bytes_eq-Decides a.params.numbers b.params.numbers).0 p0.0 in
-    let lengths : a.params.lengths ≡ b.params.lengths = (bytes_eq-Decides a.params.lengths b.params.lengths).0 p1.0 in
-    let closed_groups : a.params.closed_groups ≡ b.params.closed_groups = eqb-true _ _ p2.0 in
-    let open_fields : a.params.open_fields ≡ b.params.open_fields = eqb-true _ _ p3.0 in
+    let starts : a.params.starts ≡ b.params.starts = eqb-true _ _ p1.0 in
+    let open_fields : a.params.open_fields ≡ b.params.open_fields = eqb-true _ _ p2.0 in
+    let len : a.params.len ≡ b.params.len = eqb-true _ _ p2.1 in
     let param : a.param ≡ b.param = eqb-true _ _ h5.0 in
     let osc_text : a.osc_text.items ≡ b.osc_text.items = (bytes_eq-Decides a.osc_text.items b.osc_text.items).0 h6.0 in
     let osc_lengths : a.osc_lengths ≡ b.osc_lengths = (bytes_eq-Decides a.osc_lengths b.osc_lengths).0 h7.0 in

@@ -1,9 +1,9 @@
 -- Groups that are cut from fields by their lengths.
-use Rattle.std.proofs.Common.{◌≡◌, ℕ, true, ltb, ◌&&◌, suc, ◌+◌, ◌-◌, ◌<◌, ◌≤◌, List, [], ◌∷◌, ◌++◌, length, take, drop, set, get_or, refl, sym, ap, ap₂, ◌∙◌, arith, append_assoc, length-append, length-drop, add_assoc, zero-add}
+use Rattle.std.proofs.Common.{length-append, ◌≡◌, ℕ, true, ltb, ◌&&◌, suc, ◌+◌, ◌-◌, ◌<◌, ◌≤◌, List, [], ◌∷◌, ◌++◌, length, take, drop, set, refl, sym, ap, ap₂, ◌∙◌, arith, append_assoc, length-drop, add_assoc, zero-add}
 use Rattle.std.specs.List.{concat}
 use Rattle.std.proofs.Math.Seq.{take-add}
 use Rattle.std.proofs.lemmas.Bool.{and_parts, ltb-true, lt-ltb}
-use Rattle.std.proofs.lemmas.List.{append-nil, take_more, take_more_set, take-set, drop-set-add, length-take-le, take-take, drop-drop, drop-take, take-set-le, take-append-le, drop-append-le, take_rest}
+use Rattle.std.proofs.lemmas.List.{append-nil, take_more_set, length-take-le, take-take, drop-drop, drop-take, take-append-le, drop-append-le, take_rest}
 use Rattle.anstyle_parse.specs.Groups.{total, none_is_zero, cut, shown_groups, HaveFields}
 
 pub total-append : (xs ys : List ℕ) → total (xs ++ ys) ≡ total xs + total ys
@@ -61,6 +61,11 @@ HaveFields-cut (l ∷ ls) ns e h =
       HaveFields-cut ls (drop l ns) (and_parts (ltb 0 l) (none_is_zero ls) e).1 (omega (arith, length-drop l ns)),
     )
 
+-- groups that have fields are no more than the fields
+pub length-have_fields : (groups : List (List ℕ)) → HaveFields groups → length groups ≤ length (concat groups)
+length-have_fields [] have = omega arith
+length-have_fields (group ∷ groups) have = omega (arith, have.0, length-have_fields groups have.1, length-append group (concat groups))
+
 HaveFields-push : (gs : List (List ℕ)) (x : ℕ) (xs : List ℕ) → HaveFields gs → HaveFields (gs ++ (x ∷ xs) ∷ [])
 HaveFields-push [] x xs h = (omega arith, tt)
 HaveFields-push (g ∷ gs) x xs h = (h.0, HaveFields-push gs x xs h.1)
@@ -74,93 +79,6 @@ none_is_zero-push [] n e = ap (λ b. b && true) (lt-ltb 0 (n + 1) (omega arith))
 none_is_zero-push (l ∷ ls) n e =
     let parts = and_parts (ltb 0 l) (none_is_zero ls) e in
     ap₂ (λ a b. a && b) parts.0 (none_is_zero-push ls n parts.1)
-
-module _ (numbers lengths : List ℕ) (closed fields len : ℕ)
-    (summed : total (take closed lengths) + fields ≡ len) (within : len ≤ length numbers) where
-  -- the closed groups have so many fields, and the open one the others
-  pub closed_count : length (concat (cut (take closed lengths) numbers)) ≡ total (take closed lengths)
-  closed_count = length-concat-cut (take closed lengths) numbers (omega arith)
-
-  pub open_count : length (take fields (drop (total (take closed lengths)) numbers)) ≡ fields
-  open_count = length-take-le fields (drop (total (take closed lengths)) numbers) (omega (arith, length-drop (total (take closed lengths)) numbers))
-
-  pub field_total : length (concat (cut (take closed lengths) numbers)) + length (take fields (drop (total (take closed lengths)) numbers)) ≡ len
-  field_total = omega (arith, closed_count, open_count)
-
-  pub shown_total : length (concat (shown_groups (cut (take closed lengths) numbers) (take fields (drop (total (take closed lengths)) numbers)))) ≡ len
-  shown_total =
-      ap length (concat-shown_groups (cut (take closed lengths) numbers) (take fields (drop (total (take closed lengths)) numbers)))
-      ∙ length-append (concat (cut (take closed lengths) numbers)) (take fields (drop (total (take closed lengths)) numbers)) ∙ field_total
-
-  -- the lengths at the arrays' front count the fields at their front
-  pub sum_front : fields ≡ 0 → total (take closed lengths) ≡ length (take len numbers)
-  sum_front none = omega (arith, length-take-le len numbers within)
-
-  pub sum_front_open : closed < length lengths → get_or lengths closed 0 ≡ fields → total (take (closed + 1) lengths) ≡ length (take len numbers)
-  sum_front_open lt is =
-      ap total (take_more lengths closed 0 lt ∙ ap (λ n. take closed lengths ++ n ∷ []) is)
-      ∙ omega (arith, total-append (take closed lengths) (fields ∷ []), length-take-le len numbers within)
-
-  -- the groups from the arrays' front
-  pub cut_front : cut (take closed lengths) (take len numbers) ≡ cut (take closed lengths) numbers
-  cut_front = cut_same (take closed lengths) (take len numbers) numbers (take-take (total (take closed lengths)) len numbers (omega arith))
-
-  pub cut_front_open : closed < length lengths → 0 < fields → get_or lengths closed 0 ≡ fields
-      → cut (take (closed + 1) lengths) (take len numbers) ≡ shown_groups (cut (take closed lengths) numbers) (take fields (drop (total (take closed lengths)) numbers))
-  cut_front_open lt some is =
-      let some_open : 0 < length (take fields (drop (total (take closed lengths)) numbers)) = omega (arith, open_count) in
-      let split : take (closed + 1) lengths ≡ take closed lengths ++ fields ∷ [] = take_more lengths closed 0 lt ∙ ap (λ n. take closed lengths ++ n ∷ []) is in
-      let last : take fields (drop (total (take closed lengths)) (take len numbers)) ≡ take fields (drop (total (take closed lengths)) numbers)
-      = ap (λ n. take fields (drop (total (take closed lengths)) (take n numbers))) (sym summed)
-      ∙ ap (take fields) (drop-take (total (take closed lengths)) fields numbers) ∙ take-take fields fields _ (omega arith) in
-      ap (λ ls. cut ls (take len numbers)) split
-      ∙ cut-append (take closed lengths) (fields ∷ []) (take len numbers)
-      ∙ ap (λ gs. gs ++ take fields (drop (total (take closed lengths)) (take len numbers)) ∷ []) cut_front
-      ∙ ap (λ xs. cut (take closed lengths) numbers ++ xs ∷ []) last
-      ∙ sym (shown_groups-open (cut (take closed lengths) numbers) (take fields (drop (total (take closed lengths)) numbers)) some_open)
-
-  -- groups that are shown have fields
-  pub shown-have_fields : none_is_zero (take closed lengths) ≡ true
-      → HaveFields (shown_groups (cut (take closed lengths) numbers) (take fields (drop (total (take closed lengths)) numbers)))
-  shown-have_fields e = HaveFields-shown_groups (cut (take closed lengths) numbers) (take fields (drop (total (take closed lengths)) numbers)) (HaveFields-cut (take closed lengths) numbers e (omega arith))
-
-  module _ (item : ℕ) (room : len < length numbers) (lt : closed < length lengths) where
-    -- the length of the open group with one more field, written behind the closed ones
-    take_longer : take (closed + 1) (set lengths closed (fields + 1)) ≡ take closed lengths ++ (fields + 1) ∷ []
-    take_longer = take_more_set lengths closed (fields + 1) lt
-
-    open_longer : take (fields + 1) (drop (total (take closed lengths)) (set numbers len item)) ≡ take fields (drop (total (take closed lengths)) numbers) ++ item ∷ []
-    open_longer =
-        ap (λ n. take (fields + 1) (drop (total (take closed lengths)) (set numbers n item))) (sym summed)
-        ∙ ap (take (fields + 1)) (drop-set-add (total (take closed lengths)) numbers fields item)
-        ∙ take_more_set (drop (total (take closed lengths)) numbers) fields item (omega (arith, length-drop (total (take closed lengths)) numbers))
-
-    closed_same : cut (take closed lengths) (set numbers len item) ≡ cut (take closed lengths) numbers
-    closed_same = cut_same (take closed lengths) (set numbers len item) numbers (take-set-le (total (take closed lengths)) numbers len item (omega arith))
-
-    pub sum_pushed : total (take (closed + 1) (set lengths closed (fields + 1))) ≡ len + 1
-    sum_pushed = ap total take_longer ∙ omega (arith, total-append (take closed lengths) ((fields + 1) ∷ []))
-
-    pub none_is_zero-pushed : none_is_zero (take closed lengths) ≡ true → none_is_zero (take (closed + 1) (set lengths closed (fields + 1))) ≡ true
-    none_is_zero-pushed e = ap none_is_zero take_longer ∙ none_is_zero-push (take closed lengths) fields e
-
-    pub cut_pushed : cut (take (closed + 1) (set lengths closed (fields + 1))) (set numbers len item)
-        ≡ cut (take closed lengths) numbers ++ (take fields (drop (total (take closed lengths)) numbers) ++ item ∷ []) ∷ []
-    cut_pushed =
-        ap (λ ls. cut ls (set numbers len item)) take_longer
-        ∙ cut-append (take closed lengths) ((fields + 1) ∷ []) (set numbers len item)
-        ∙ ap (λ gs. gs ++ take (fields + 1) (drop (total (take closed lengths)) (set numbers len item)) ∷ []) closed_same
-        ∙ ap (λ xs. cut (take closed lengths) numbers ++ xs ∷ []) open_longer
-
-    pub sum_extended : total (take closed (set lengths closed (fields + 1))) ≡ total (take closed lengths)
-    sum_extended = ap total (take-set lengths closed (fields + 1))
-
-    pub cut_extended : cut (take closed (set lengths closed (fields + 1))) (set numbers len item) ≡ cut (take closed lengths) numbers
-    cut_extended = ap (λ ls. cut ls (set numbers len item)) (take-set lengths closed (fields + 1)) ∙ closed_same
-
-    pub open_extended : take (fields + 1) (drop (total (take closed (set lengths closed (fields + 1)))) (set numbers len item))
-        ≡ take fields (drop (total (take closed lengths)) numbers) ++ item ∷ []
-    open_extended = ap (λ n. take (fields + 1) (drop n (set numbers len item))) sum_extended ∙ open_longer
 
 -- A text that is cut into closed parts, and the part behind them.
 module _ (text lengths : List ℕ) (parts closed : ℕ) (summed : total (take parts lengths) ≡ closed) (within : closed ≤ length text) where

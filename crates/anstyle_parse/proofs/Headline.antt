@@ -13,11 +13,11 @@ use Rattle.anstyle_parse.proofs.MachineLemmas.{Goes-append}
 pub AreCalls-escape : AreCalls (escape_byte ∷ []) []
 AreCalls-escape = (sequence (escape []) unfinished ∷ [], record { whole = refl; each = ((tt, tt), tt); joined = (refl, tt) }, refl)
 
--- Behind two ESC bytes the calls are those of one ESC and what follows.
-pub AreCalls-forgotten : (before bytes : List ℕ) (first more : List Call) → AreCalls (before ++ escape_byte ∷ escape_byte ∷ []) first → AreCalls (escape_byte ∷ bytes) more
-    → AreCalls (before ++ escape_byte ∷ escape_byte ∷ bytes) (first ++ more)
+-- After one ESC byte the calls are those of ESC and what follows.
+pub AreCalls-forgotten : (before bytes : List ℕ) (first more : List Call) → AreCalls (before ++ escape_byte ∷ []) first → AreCalls (escape_byte ∷ bytes) more
+    → AreCalls (before ++ escape_byte ∷ bytes) (first ++ more)
 AreCalls-forgotten before bytes first more are follow =
-    subst (λ l. AreCalls l (first ++ more)) (append_assoc before (escape_byte ∷ escape_byte ∷ []) bytes)
+    subst (λ l. AreCalls l (first ++ more)) (append_assoc before (escape_byte ∷ []) bytes)
     ((Continues-forgotten before bytes more).0
     (λ calls escape. subst (λ l. AreCalls (escape_byte ∷ bytes) (l ++ more)) (AreCalls-only (escape_byte ∷ []) [] calls AreCalls-escape escape) follow) first are)
 

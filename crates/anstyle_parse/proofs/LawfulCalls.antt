@@ -146,7 +146,7 @@ lawful-sequence (hooked lead header final text) end calls is ends rest last =
 lawful-item : (item : Item) (calls : List Call) → IsItem item → AreLawful calls → ((body : Body) → item ≡ sequence body unfinished → calls ≡ []) → AreLawful (item_calls item ++ calls)
 lawful-item (single byte) calls is rest last = lawful-single byte calls rest
 lawful-item (character bytes) calls is rest last = ((well_formed-AreOfCharacter bytes is).0, rest)
-lawful-item (broken front byte) calls is rest last = (is_character-replacement, rest)
+lawful-item (broken front) calls is rest last = (is_character-replacement, rest)
 lawful-item (begun front) calls is rest last = rest
 lawful-item (sequence body end) calls is rest last = lawful-sequence body end calls is.0 is.1 rest (λ e. last body (ap (sequence body) e))
 

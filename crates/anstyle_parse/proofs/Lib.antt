@@ -1,6 +1,7 @@
 pub mod Classes
 pub mod Divide
 pub mod GroupLemmas
+pub mod GroupStarts
 pub mod DebugLemmas
 pub mod TextLaw
 pub mod MachineLemmas
@@ -17,6 +18,7 @@ pub mod DivisionHeaders
 pub mod DivisionExists
 pub mod DivisionRuns
 pub mod DivisionOnly
+pub mod PackedTable
 pub mod StandTable
 pub mod Reaches
 pub mod StandActions

@@ -1,18 +1,21 @@
 -- What the parser keeps stays within its limits, whatever the bytes are.
 use Rattle.std.proofs.Common.{◌≡◌, ℕ, ◌+◌, ◌≤◌, false, List, [], ◌∷◌, ◌++◌, length, take, eqb, arith, length-append, length-take, lit≤}
 use Rattle.std.proofs.lemmas.Bool.{cond_both, eqb-false}
+use Rattle.anstyle_parse.specs.declared.accumulator.Taken.{Taken}
+use Rattle.anstyle_parse.specs.declared.accumulator.Taken.TheVariants.{Broken}
 use Rattle.anstyle_parse.specs.declared.state.definitions.State.{State}
-use Rattle.anstyle_parse.specs.declared.state.definitions.State.TheVariants.{Anywhere, Utf8}
+use Rattle.anstyle_parse.specs.declared.state.definitions.State.TheVariants.{Anywhere, Ground, Utf8}
 use Rattle.anstyle_parse.specs.declared.state.definitions.Action.{Action}
 use Rattle.anstyle_parse.specs.declared.state.definitions.Action.TheVariants.{Clear, Collect, CsiDispatch, Hook, OscEnd, OscPut, OscStart, Param}
 use Rattle.anstyle_parse.specs.declared.parser.Parser.{Parser}
 use Rattle.anstyle_parse.specs.Bytes.{colon, semicolon}
 use Rattle.anstyle_parse.specs.Arguments.{max_fields, max_collected, max_osc_bytes, max_osc_parts}
 use Rattle.anstyle_parse.specs.Table.{change_at}
-use Rattle.anstyle_parse.specs.Machine.{Machine, IsWithinLimits, field_count, stored_count, pushed, extended, cleared, collecting, with_parameter, with_last_field, text_begun, with_part, storing, Adds, after_action, exit_action, entry_action, after_change, step, step_from, machine_after}
+use Rattle.anstyle_parse.specs.Machine.{Machine, IsWithinLimits, field_count, stored_count, pushed, extended, cleared, collecting, with_parameter, with_last_field, text_begun, with_part, storing, Adds, after_action, exit_action, entry_action, after_change, after_continuation, after_answer, step, step_from, machine_after}
 use Rattle.anstyle_parse.specs.Parser.{machine_of}
 use Rattle.anstyle_parse.proofs.Splits.{length-concat_push}
-use Rattle.anstyle_parse.proofs.GroupLemmas.{field_total, stored_total, length-cut}
+use Rattle.anstyle_parse.proofs.GroupLemmas.{stored_total, length-cut}
+use Rattle.anstyle_parse.proofs.GroupStarts.{field_total}
 
 -- a count within its limit that is not the limit leaves room for one more
 room_below : (count limit : ℕ) → count ≤ limit → eqb count limit ≡ false → count + 1 ≤ limit
@@ -130,9 +133,16 @@ module _ {A : Type 0} (adds : Adds A) where
       (IsWithinLimits-action action b left (IsWithinLimits-action (exit_action m.state) b m h)) in
       record { fields = entered.fields; collected = entered.collected; stored = entered.stored; parts = entered.parts }
 
+  -- an answer of the accumulator, after which the byte may be handled once more
+  IsWithinLimits-answer : (answer : Taken) (b : ℕ) (m : Machine A) → IsWithinLimits m → IsWithinLimits (after_answer adds answer b m)
+  IsWithinLimits-answer (Broken c) b m h = IsWithinLimits-change (change_at Ground b).state (change_at Ground b).action b m h
+  IsWithinLimits-answer answer b m h = h
+
   -- a byte in each state
   IsWithinLimits-from : (state : State) (b : ℕ) (m : Machine A) → IsWithinLimits m → IsWithinLimits (step_from adds state b m)
-  IsWithinLimits-from Utf8 b m h = record { fields = h.fields; collected = h.collected; stored = h.stored; parts = h.parts }
+  IsWithinLimits-from Utf8 b m h =
+      IsWithinLimits-answer (adds m.accumulator b).1 b (after_continuation adds b m)
+      (record { fields = h.fields; collected = h.collected; stored = h.stored; parts = h.parts })
   IsWithinLimits-from state b m h = IsWithinLimits-change (change_at state b).state (change_at state b).action b m h
 
 -- one byte keeps the limits
@@ -148,7 +158,7 @@ IsWithinLimits-machine adds (b ∷ bytes) m h = IsWithinLimits-machine adds byte
 -- a parser is within the limits: its own conditions, and the size of its array of fields
 pub IsWithinLimits-parser : {C : Type 0} (p : Parser C) → length p.params.numbers ≡ 32 → IsWithinLimits (machine_of p)
 IsWithinLimits-parser p numbers = record {
-  fields = omega (arith, p.params.in_range, field_total p.params.numbers p.params.lengths p.params.closed_groups p.params.open_fields p.params.len p.params.summed (omega (arith, p.params.in_range, numbers)));
+  fields = omega (arith, p.params.in_range, field_total p.params.open_fields p.params.len p.params.starts p.params.numbers p.params.open_within (omega (arith, p.params.in_range, numbers)) p.params.first_starts);
   collected = omega (arith, length-take p.intermediate_count p.intermediates, p.few_intermediates);
   stored = omega (arith, p.text_fits, stored_total p.osc_text.items p.osc_lengths p.osc_parts p.osc_closed p.closed_parts p.parts_in_text);
   parts = omega (arith, length-cut (take p.osc_parts p.osc_lengths) p.osc_text.items, length-take p.osc_parts p.osc_lengths, p.few_parts);

@@ -3,12 +3,14 @@ use Rattle.std.proofs.Common.{◌≡◌, ℕ, List, refl, [], ◌∷◌, ◌++�
 use Rattle.std.proofs.lemmas.Bool.{cond-true, cond-false, cond_both, ne_eqb}
 use Rattle.anstyle_parse.specs.Bytes.{semicolon}
 use Rattle.anstyle_parse.specs.Arguments.{max_osc_bytes, max_osc_parts}
+use Rattle.anstyle_parse.specs.declared.accumulator.Taken.{Taken}
+use Rattle.anstyle_parse.specs.declared.accumulator.Taken.TheVariants.{Broken}
 use Rattle.anstyle_parse.specs.declared.state.definitions.State.{State}
-use Rattle.anstyle_parse.specs.declared.state.definitions.State.TheVariants.{Anywhere, OscString, Utf8}
+use Rattle.anstyle_parse.specs.declared.state.definitions.State.TheVariants.{Anywhere, Ground, OscString, Utf8}
 use Rattle.anstyle_parse.specs.declared.state.definitions.Action.{Action}
 use Rattle.anstyle_parse.specs.Call.{Call, Goes}
 use Rattle.anstyle_parse.specs.Table.{change_at}
-use Rattle.anstyle_parse.specs.Machine.{Machine, Adds, stored_count, with_part, storing, after_action, action_calls, exit_action, entry_action, after_change, change_calls, after_continuation, print_answer, step, step_calls, step_from, step_calls_from}
+use Rattle.anstyle_parse.specs.Machine.{Machine, Adds, IsBroken, stored_count, with_part, storing, after_action, action_calls, exit_action, entry_action, after_change, change_calls, after_continuation, print_answer, after_answer, answer_calls, step, step_calls, step_from, step_calls_from}
 
 module _ {A : Type 0} (m : Machine A) where
   -- the same text, cut into the same parts
@@ -63,29 +65,58 @@ module _ {A : Type 0} (add : Adds A) where
   accumulator-exit OscString b m = cond_both (eqb (length m.closed_parts) max_osc_parts) m (record m { closed_parts = m.closed_parts ++ m.open_part ∷ []; open_part = [] }) (λ n. n.accumulator ≡ m.accumulator) (λ _. refl) (λ _. refl)
   accumulator-exit state b m = refl
 
-  step_from-outside : (state : State) (b : ℕ) (m : Machine A) → (state ≡ Utf8 → ⊥) → step_from add state b m ≡ after_change add (change_at state b).state (change_at state b).action b m
+  -- after an answer the byte is handled in Ground, if it broke a character
+  after_answer-broken : (answer : Taken) (b : ℕ) (m : Machine A) → IsBroken answer → after_answer add answer b m ≡ step_from add Ground b m
+  after_answer-broken (Broken c) b m breaks = refl
+  after_answer-broken answer b m breaks = absurd breaks
+
+  answer_calls-broken : (answer : Taken) (b : ℕ) (m : Machine A) → IsBroken answer → answer_calls add answer b m ≡ print_answer answer ++ step_calls_from add Ground b m
+  answer_calls-broken (Broken c) b m breaks = refl
+  answer_calls-broken answer b m breaks = absurd breaks
+
+  -- and else not
+  after_answer-whole : (answer : Taken) (b : ℕ) (m : Machine A) → (IsBroken answer → ⊥) → after_answer add answer b m ≡ m
+  after_answer-whole (Broken c) b m whole = absurd (whole tt)
+  after_answer-whole answer b m whole = refl
+
+  answer_calls-whole : (answer : Taken) (b : ℕ) (m : Machine A) → (IsBroken answer → ⊥) → answer_calls add answer b m ≡ print_answer answer
+  answer_calls-whole (Broken c) b m whole = absurd (whole tt)
+  answer_calls-whole answer b m whole = refl
+
+  pub step_from-outside : (state : State) (b : ℕ) (m : Machine A) → (state ≡ Utf8 → ⊥) → step_from add state b m ≡ after_change add (change_at state b).state (change_at state b).action b m
   step_from-outside Utf8 b m ne = absurd (ne refl)
   step_from-outside state b m ne = refl
 
-  step_calls_from-outside : (state : State) (b : ℕ) (m : Machine A) → (state ≡ Utf8 → ⊥) → step_calls_from add state b m ≡ change_calls add (change_at state b).state (change_at state b).action b m
+  pub step_calls_from-outside : (state : State) (b : ℕ) (m : Machine A) → (state ≡ Utf8 → ⊥) → step_calls_from add state b m ≡ change_calls add (change_at state b).state (change_at state b).action b m
   step_calls_from-outside Utf8 b m ne = absurd (ne refl)
   step_calls_from-outside state b m ne = refl
 
-  pub step-inside : (b : ℕ) (m : Machine A) → m.state ≡ Utf8 → step add b m ≡ after_continuation add b m
+  pub step-at : (state : State) (b : ℕ) (m : Machine A) → m.state ≡ state → step add b m ≡ step_from add state b m
   unfolding step
-  step-inside b m e = ap (λ s. step_from add s b m) e
+  step-at state b m e = ap (λ s. step_from add s b m) e
 
   pub step-outside : (b : ℕ) (m : Machine A) → (m.state ≡ Utf8 → ⊥) → step add b m ≡ after_change add (change_at m.state b).state (change_at m.state b).action b m
   unfolding step
   step-outside b m ne = step_from-outside m.state b m ne
 
-  pub step_calls-inside : (b : ℕ) (m : Machine A) → m.state ≡ Utf8 → step_calls add b m ≡ print_answer (add m.accumulator b).1
+  pub step_calls-at : (state : State) (b : ℕ) (m : Machine A) → m.state ≡ state → step_calls add b m ≡ step_calls_from add state b m
   unfolding step_calls
-  step_calls-inside b m e = ap (λ s. step_calls_from add s b m) e
+  step_calls-at state b m e = ap (λ s. step_calls_from add s b m) e
 
-  pub step_calls-outside : (b : ℕ) (m : Machine A) → (m.state ≡ Utf8 → ⊥) → step_calls add b m ≡ change_calls add (change_at m.state b).state (change_at m.state b).action b m
-  unfolding step_calls
-  step_calls-outside b m ne = step_calls_from-outside m.state b m ne
+  -- inside a character: a byte that breaks it, and one that does not
+  module _ (b : ℕ) (m : Machine A) (inside : m.state ≡ Utf8) where
+    pub step-broken : IsBroken (add m.accumulator b).1 → step add b m ≡ step_from add Ground b (after_continuation add b m)
+    step-broken breaks = step-at Utf8 b m inside ∙ after_answer-broken (add m.accumulator b).1 b (after_continuation add b m) breaks
+
+    pub step_calls-broken : IsBroken (add m.accumulator b).1
+        → step_calls add b m ≡ print_answer (add m.accumulator b).1 ++ step_calls_from add Ground b (after_continuation add b m)
+    step_calls-broken breaks = step_calls-at Utf8 b m inside ∙ answer_calls-broken (add m.accumulator b).1 b (after_continuation add b m) breaks
+
+    pub step-whole : (IsBroken (add m.accumulator b).1 → ⊥) → step add b m ≡ after_continuation add b m
+    step-whole whole = step-at Utf8 b m inside ∙ after_answer-whole (add m.accumulator b).1 b (after_continuation add b m) whole
+
+    pub step_calls-whole : (IsBroken (add m.accumulator b).1 → ⊥) → step_calls add b m ≡ print_answer (add m.accumulator b).1
+    step_calls-whole whole = step_calls-at Utf8 b m inside ∙ answer_calls-whole (add m.accumulator b).1 b (after_continuation add b m) whole
 
 -- three actions in turn are a change of state
 module _ {A P : Type 0} (add : Adds A) (means : P → Call → P → Type 0) (state : State) (action exit entry : Action) (b : ℕ)

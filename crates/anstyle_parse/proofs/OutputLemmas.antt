@@ -7,8 +7,9 @@ use Rattle.std.specs.Io.KnownBytes.{Keeps, Appends}
 use Rattle.anstyle_parse.specs.declared.canon.Fault.{Fault}
 use Rattle.anstyle_parse.specs.declared.canon.Fault.TheVariants.{Read, Write, Flush}
 use Rattle.anstyle_parse.specs.declared.canon.output.Output.{Output}
+use Rattle.anstyle_parse.specs.Call.{Call, Goes}
 pub use Rattle.anstyle_parse.specs.Adding.{Adds-stopped, Adds-nil, Adds-append, Adds-calls}
-use Rattle.anstyle_parse.specs.Output.{writer_in, fault_in, AddsAt, Adds, Flushes, FinishesAt, Finishes, Writes, Causes}
+use Rattle.anstyle_parse.specs.Output.{writer_in, fault_in, AddsAt, Adds, texts_from, state_after, Flushes, FinishesAt, Finishes, Writes, Causes}
 
 module _ {W : Type 0} (contents : W → Option (List ℕ)) (has_failed : W → Bool) where
   -- three texts, one after another
@@ -27,6 +28,20 @@ module _ {W : Type 0} (contents : W → Option (List ℕ)) (has_failed : W → B
       → Adds contents has_failed ((48 + n % 10) ∷ []) b c → Adds contents has_failed (decimal n) a c
   Adds-decimal_step n a b c large fits first last =
       subst (λ t. Adds contents has_failed t a c) (sym (decimal_step n large fits)) (Adds-append contents has_failed (decimal (n / 10)) ((48 + n % 10) ∷ []) a b c first last)
+
+  -- What a list of calls adds where their texts depend on a state of the performer, and its
+  -- state after them.
+  pub Adds-calls_from : {P S : Type 0} (output_of : P → Output W) (state_of : P → S) (text : S → Call → List ℕ) (next : S → Call → S) (calls : List Call) (a b : P)
+      → Goes (λ old call new. Adds contents has_failed (text (state_of old) call) (output_of old) (output_of new) × (state_of new ≡ next (state_of old) call)) a calls b
+      → Adds contents has_failed (texts_from text next (state_of a) calls) (output_of a) (output_of b) × (state_of b ≡ state_after next (state_of a) calls)
+  Adds-calls_from output_of state_of text next [] a b same =
+      (subst (λ o. Adds contents has_failed [] (output_of a) (output_of o)) (sym same) (Adds-nil contents has_failed (output_of a)), ap state_of same)
+  Adds-calls_from output_of state_of text next (call ∷ calls) a b (mid, first, others) =
+      let rest = Adds-calls_from output_of state_of text next calls mid b others in (
+        Adds-append contents has_failed (text (state_of a) call) (texts_from text next (next (state_of a) call) calls) (output_of a) (output_of mid) (output_of b) first.0
+            (subst (λ s. Adds contents has_failed (texts_from text next s calls) (output_of mid) (output_of b)) first.1 rest.0),
+        rest.1 ∙ ap (λ s. state_after next s calls) first.1,
+      )
 
   -- a text is written, and then the writer is flushed
   Writes-flushed : {T : Type 0} (text : List ℕ) (before : Option (List ℕ)) (old new : W) (answer : Result T Fault) → Appends before (contents old) text → Keeps (contents old) (contents new)

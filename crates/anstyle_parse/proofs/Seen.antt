@@ -1,18 +1,20 @@
 -- A machine over any accumulator goes as the one over fronts, where a byte that reaches the accumulator does.
-use Rattle.std.proofs.Common.{◌≡◌, ℕ, ◌<◌, Bool, true, false, List, [], ◌∷◌, ◌++◌, length, refl, sym, ap, ◌∙◌, cond}
+use Rattle.std.proofs.Common.{◌≡◌, ℕ, ◌<◌, Bool, true, false, List, [], ◌∷◌, ◌++◌, length, refl, sym, ap, ◌∙◌, cond, Option}
 use Rattle.std.specs.Prelude.{⊤, ◌==◌}
 use Rattle.std.specs.List.{AllByRecursion}
+use Rattle.anstyle_parse.specs.declared.accumulator.Taken.{Taken}
+use Rattle.anstyle_parse.specs.declared.accumulator.Taken.TheVariants.{Broken}
 use Rattle.anstyle_parse.specs.declared.state.definitions.State.{State}
-use Rattle.anstyle_parse.specs.declared.state.definitions.State.TheVariants.{Anywhere, DcsPassthrough, Escape, Utf8}
+use Rattle.anstyle_parse.specs.declared.state.definitions.State.TheVariants.{Anywhere, DcsPassthrough, Escape, Ground, Utf8}
 use Rattle.anstyle_parse.specs.declared.state.definitions.Action.{Action}
 use Rattle.anstyle_parse.specs.declared.state.definitions.Action.TheVariants.{Collect, CsiDispatch, Hook, OscEnd, OscPut, Param, BeginUtf8}
 use Rattle.anstyle_parse.specs.Bytes.{colon, semicolon, bell}
 use Rattle.anstyle_parse.specs.Arguments.{max_fields, max_collected, max_osc_bytes, max_osc_parts}
-use Rattle.anstyle_parse.specs.Call.{hook, csi_dispatch, osc_dispatch}
+use Rattle.anstyle_parse.specs.Call.{print, hook, csi_dispatch, osc_dispatch}
 use Rattle.anstyle_parse.specs.Table.{change_at}
 use Rattle.anstyle_parse.specs.Decoder.{decoded}
-use Rattle.anstyle_parse.specs.Machine.{Machine, Adds, field_count, stored_count, pushed, collecting, with_parameter, with_last_field, with_part, storing, dispatched, print_answer, state_after_answer, exit_action, entry_action, after_action, action_calls, after_change, change_calls, step_from, step_calls_from, step, step_calls, machine_after, machine_calls}
-use Rattle.anstyle_parse.specs.Parser.{ReachesAccumulator}
+use Rattle.anstyle_parse.specs.Machine.{Machine, Adds, IsBroken, field_count, stored_count, pushed, collecting, with_parameter, with_last_field, with_part, storing, dispatched, print_answer, state_after_answer, exit_action, entry_action, after_action, action_calls, after_change, change_calls, after_continuation, after_answer, answer_calls, step_from, step_calls_from, step, step_calls, machine_after, machine_calls}
+use Rattle.anstyle_parse.specs.Parser.{ReachesAccumulator, HoldsWhereReached}
 use Rattle.anstyle_parse.specs.Stands.{seen, Decodes}
 use Rattle.anstyle_parse.proofs.MachineLemmas.{accumulator-exit}
 use Rattle.anstyle_parse.proofs.Reaches.{ReachesAccumulator-begin}
@@ -20,6 +22,10 @@ use Rattle.anstyle_parse.proofs.Reaches.{ReachesAccumulator-begin}
 -- the accumulator does with the byte as the decoder does with the front that it is seen as
 abbrev pub AddsAs : {A : Type 0} → (A → List ℕ) → Adds A → A → ℕ → Type 0
 AddsAs front adds value b = decoded (front value) b ≡ (front (adds value b).0, (adds value b).1)
+
+-- each time that the byte reaches it
+abbrev pub AddsAsWhereReached : {A : Type 0} → (A → List ℕ) → Adds A → State → A → ℕ → Type 0
+AddsAsWhereReached front adds state value b = HoldsWhereReached (λ value. AddsAs front adds value b) adds state value b
 
 -- on the way out of a state no byte goes to the accumulator
 exit_action-begin : (state : State) → exit_action state ≡ BeginUtf8 → ⊥
@@ -121,29 +127,52 @@ module _ {A : Type 0} (front : A → List ℕ) (adds : Adds A) (b : ℕ) where
       let enters = action_calls-seen (entry_action state) acted (λ e. absurd (entry_action-begin state e)) ∙ ap (action_calls decoded (entry_action state) b) (seen-acted action m as_front) in
       cc
 
-  -- one byte in each state
-  seen-step_from : (state : State) (m : Machine A) → (ReachesAccumulator state b → AddsAs front adds m.accumulator b)
-      → seen front (step_from adds state b m) ≡ step_from decoded state b (seen front m)
-  seen-step_from Utf8 m as_front = ap (λ answer. let r : Machine (List ℕ) = record (seen front m) { accumulator = answer.0; state = state_after_answer answer.1 } in r) (sym (as_front tt))
-  seen-step_from state m as_front =
-      seen-after_change (change_at state b).state (change_at state b).action m (λ e. as_front (ReachesAccumulator-begin state b e))
+  -- an answer, after which the byte may be handled once more
+  seen-after_answer : (answer : Taken) (m : Machine A) → (IsBroken answer → ReachesAccumulator Ground b → AddsAs front adds m.accumulator b)
+      → seen front (after_answer adds answer b m) ≡ after_answer decoded answer b (seen front m)
+  seen-after_answer (Broken c) m as_front =
+      seen-after_change (change_at Ground b).state (change_at Ground b).action m (λ e. as_front tt (ReachesAccumulator-begin Ground b e))
+  seen-after_answer answer m as_front = refl
 
   -- its calls
-  step_calls_from-seen : (state : State) (m : Machine A) → (ReachesAccumulator state b → AddsAs front adds m.accumulator b)
+  answer_calls-seen : (answer : Taken) (m : Machine A) → (IsBroken answer → ReachesAccumulator Ground b → AddsAs front adds m.accumulator b)
+      → answer_calls adds answer b m ≡ answer_calls decoded answer b (seen front m)
+  answer_calls-seen (Broken c) m as_front =
+      ap (λ calls. print c ∷ calls)
+      (change_calls-seen (change_at Ground b).state (change_at Ground b).action m (λ e. as_front tt (ReachesAccumulator-begin Ground b e)))
+  answer_calls-seen answer m as_front = refl
+
+  -- the machine as it is seen, after what the decoder answers
+  abbrev seen-answered : Machine A → List ℕ × Taken → Machine (List ℕ)
+  seen-answered m answer = record (seen front m) { accumulator = answer.0; state = state_after_answer answer.1 }
+
+  -- one byte in each state
+  seen-step_from : (state : State) (m : Machine A) → AddsAsWhereReached front adds state m.accumulator b
+      → seen front (step_from adds state b m) ≡ step_from decoded state b (seen front m)
+  seen-step_from Utf8 m as_front =
+      seen-after_answer (adds m.accumulator b).1 (after_continuation adds b m) (as_front.1 refl)
+      ∙ ap (λ answer. after_answer decoded answer.1 b (seen-answered m answer)) (sym (as_front.0 tt))
+  seen-step_from state m as_front =
+      seen-after_change (change_at state b).state (change_at state b).action m (λ e. as_front.0 (ReachesAccumulator-begin state b e))
+
+  -- its calls
+  step_calls_from-seen : (state : State) (m : Machine A) → AddsAsWhereReached front adds state m.accumulator b
       → step_calls_from adds state b m ≡ step_calls_from decoded state b (seen front m)
-  step_calls_from-seen Utf8 m as_front = ap (λ answer. print_answer answer.1) (sym (as_front tt))
+  step_calls_from-seen Utf8 m as_front =
+      answer_calls-seen (adds m.accumulator b).1 (after_continuation adds b m) (as_front.1 refl)
+      ∙ ap (λ answer. answer_calls decoded answer.1 b (seen-answered m answer)) (sym (as_front.0 tt))
   step_calls_from-seen state m as_front =
-      change_calls-seen (change_at state b).state (change_at state b).action m (λ e. as_front (ReachesAccumulator-begin state b e))
+      change_calls-seen (change_at state b).state (change_at state b).action m (λ e. as_front.0 (ReachesAccumulator-begin state b e))
 
   -- one byte does to a machine what it does to the machine as it is seen, with the same calls
-  pub Seen-byte : (m : Machine A) → (ReachesAccumulator m.state b → AddsAs front adds m.accumulator b)
+  pub Seen-byte : (m : Machine A) → AddsAsWhereReached front adds m.state m.accumulator b
       → (seen front (step adds b m) ≡ step decoded b (seen front m)) × (step_calls adds b m ≡ step_calls decoded b (seen front m))
   unfolding step step_calls
   Seen-byte m as_front = (seen-step_from m.state m as_front, step_calls_from-seen m.state m as_front)
 
 -- so does each byte of a list that keeps the machine to what the lemma on one byte asks
 pub Seen-bytes : {A : Type 0} (front : A → List ℕ) (adds : Adds A) (Takes : ℕ → Type 0) (Keeps : Machine A → Type 0)
-    → ((b : ℕ) → Takes b → (m : Machine A) → Keeps m → (ReachesAccumulator m.state b → AddsAs front adds m.accumulator b) × Keeps (step adds b m))
+    → ((b : ℕ) → Takes b → (m : Machine A) → Keeps m → AddsAsWhereReached front adds m.state m.accumulator b × Keeps (step adds b m))
     → (bytes : List ℕ) → AllByRecursion Takes bytes → (m : Machine A) → Keeps m
     → (seen front (machine_after adds bytes m) ≡ machine_after decoded bytes (seen front m))
     × (machine_calls adds bytes m ≡ machine_calls decoded bytes (seen front m))
@@ -160,16 +189,20 @@ Seen-bytes front adds Takes Keeps one (b ∷ bytes) all m keeps =
     )
 
 -- From here on: an accumulator that decodes, and any bytes.
-module _ {A : Type 0} (front : A → List ℕ) (takes : A → ℕ → Type 0) (adds : Adds A) (decodes : Decodes A front takes adds) where
+module _ {A : Type 0} (front : A → List ℕ) (takes : A → ℕ → Type 0) (add : A → ℕ → A × Option ℕ) (adds : Adds A) (decodes : Decodes A front takes add adds) where
+  -- it adds as the decoder does, each time
+  adds_as : {state : State} (value : A) (b : ℕ) → b < 256 → AddsAsWhereReached front adds state value b
+  adds_as value b small = ((λ reaches. decodes.steps value b small), (λ inside breaks reaches. decodes.steps (adds value b).0 b small))
+
   -- the machine as it is seen takes one byte
   pub Seen-step : (b : ℕ) → b < 256 → (m : Machine A)
       → (seen front (step adds b m) ≡ step decoded b (seen front m)) × (step_calls adds b m ≡ step_calls decoded b (seen front m))
-  Seen-step b small m = Seen-byte front adds b m (λ reaches. decodes.steps m.accumulator b small)
+  Seen-step b small m = Seen-byte front adds b m (adds_as m.accumulator b small)
 
   -- and a list of bytes
   pub Seen-machine : (bytes : List ℕ) → AllByRecursion (λ b. b < 256) bytes → (m : Machine A)
       → (seen front (machine_after adds bytes m) ≡ machine_after decoded bytes (seen front m))
       × (machine_calls adds bytes m ≡ machine_calls decoded bytes (seen front m))
   Seen-machine bytes small m =
-      let all = Seen-bytes front adds (λ b. b < 256) (λ r. ⊤) (λ b lt r keeps. ((λ reaches. decodes.steps r.accumulator b lt), tt)) bytes small m tt in
+      let all = Seen-bytes front adds (λ b. b < 256) (λ r. ⊤) (λ b lt r keeps. (adds_as r.accumulator b lt, tt)) bytes small m tt in
       (all.0, all.1)

@@ -1,14 +1,16 @@
 -- What doesn't count of a machine has no effect: not on its calls, nor on what counts after.
-use Rattle.std.proofs.Common.{◌≡◌, ℕ, true, List, [], ◌∷◌, ◌++◌, refl, sym, ap, ◌∙◌, Option, None, Some}
+use Rattle.std.proofs.Common.{◌≡◌, ℕ, true, List, [], ◌∷◌, ◌++◌, refl, sym, ap, ◌∙◌}
 use Rattle.std.specs.Prelude.{◌==◌}
+use Rattle.anstyle_parse.specs.declared.accumulator.Taken.{Taken}
+use Rattle.anstyle_parse.specs.declared.accumulator.Taken.TheVariants.{More, Char, Broken}
 use Rattle.anstyle_parse.specs.declared.state.definitions.State.{State}
 use Rattle.anstyle_parse.specs.declared.state.definitions.State.TheVariants.{Anywhere, CsiEntry, CsiIntermediate, CsiParam, DcsEntry, DcsIntermediate, DcsParam, DcsPassthrough, Escape, EscapeIntermediate, Ground, OscString, Utf8}
 use Rattle.anstyle_parse.specs.declared.state.definitions.Action.{Action}
 use Rattle.anstyle_parse.specs.declared.state.definitions.Action.TheVariants.{Nop, Hook}
 use Rattle.anstyle_parse.specs.Bytes.{bell}
-use Rattle.anstyle_parse.specs.Call.{Call, execute, osc_dispatch}
+use Rattle.anstyle_parse.specs.Call.{Call, print, execute, osc_dispatch}
 use Rattle.anstyle_parse.specs.Table.{Change}
-use Rattle.anstyle_parse.specs.Machine.{Machine, with_part, storing, Adds, after_action, action_calls, exit_action, entry_action, after_change, change_calls, state_after_answer, after_continuation, step_from, step_calls_from, step, step_calls, machine_after, machine_calls, print_answer}
+use Rattle.anstyle_parse.specs.Machine.{Machine, with_part, storing, Adds, after_action, action_calls, exit_action, entry_action, after_change, change_calls, state_after_answer, after_continuation, after_answer, answer_calls, step_from, step_calls_from, step, step_calls, machine_after, machine_calls, print_answer}
 use Rattle.anstyle_parse.specs.Stands.{bare, with_header, counted_in, counted}
 use Rattle.anstyle_parse.specs.Decoder.{decoded}
 use Rattle.anstyle_parse.proofs.Classes.{Class, control_byte, bell_byte, cancel_byte, esc_byte, beyond_byte, class_of}
@@ -16,24 +18,46 @@ use Rattle.anstyle_parse.proofs.TextFold.{without_text}
 use Rattle.anstyle_parse.proofs.StandTable.{change_of, change_at-class}
 use Rattle.anstyle_parse.proofs.StandActions.{plain, headed, texted, is_of_header, after_action-headed, after_action-cleared, action_calls-headed, with_last_field-headed, with_last_field-cleared, with_part-texted, with_part-without_text, storing-texted, storing-without_text}
 
+-- where the byte broke a character, it is handled once more, in Ground
+abbrev pub after_answer_at : {A : Type 0} → Adds A → Taken → Class → ℕ → Machine A → Machine A
+after_answer_at add (Broken c) class b m = after_change add (change_of Ground class).state (change_of Ground class).action b m
+after_answer_at add answer class b m = m
+
+-- its calls
+abbrev pub answer_calls_at : {A : Type 0} → Adds A → Taken → Class → ℕ → Machine A → List Call
+answer_calls_at add (Broken c) class b m = print c ∷ change_calls add (change_of Ground class).state (change_of Ground class).action b m
+answer_calls_at add answer class b m = print_answer answer
+
 -- one byte of a class: the machine after it, and its calls
 abbrev pub step_at : {A : Type 0} → Adds A → State → Class → ℕ → Machine A → Machine A
-step_at add Utf8 class b m = after_continuation add b m
+step_at add Utf8 class b m = after_answer_at add (add m.accumulator b).1 class b (after_continuation add b m)
 step_at add state class b m = after_change add (change_of state class).state (change_of state class).action b m
 
 -- its calls
 abbrev pub step_calls_at : {A : Type 0} → Adds A → State → Class → ℕ → Machine A → List Call
-step_calls_at add Utf8 class b m = print_answer (add m.accumulator b).1
+step_calls_at add Utf8 class b m = answer_calls_at add (add m.accumulator b).1 class b (after_continuation add b m)
 step_calls_at add state class b m = change_calls add (change_of state class).state (change_of state class).action b m
 
--- the table is asked for the class alone
+-- the table is asked for the class alone, a second time too
+after_answer-class : {A : Type 0} (add : Adds A) (answer : Taken) (b : ℕ) (m : Machine A) → after_answer add answer b m ≡ after_answer_at add answer (class_of b) b m
+after_answer-class add More b m = refl
+after_answer-class add (Char c) b m = refl
+after_answer-class add (Broken c) b m = ap (λ (change : Change). after_change add change.state change.action b m) (change_at-class Ground b)
+
+-- for the calls too
+answer_calls-class : {A : Type 0} (add : Adds A) (answer : Taken) (b : ℕ) (m : Machine A) → answer_calls add answer b m ≡ answer_calls_at add answer (class_of b) b m
+answer_calls-class add More b m = refl
+answer_calls-class add (Char c) b m = refl
+answer_calls-class add (Broken c) b m = ap (λ (change : Change). print c ∷ change_calls add change.state change.action b m) (change_at-class Ground b)
+
+-- each state is asked so
 step_from-class : {A : Type 0} (add : Adds A) (state : State) (b : ℕ) (m : Machine A) → step_from add state b m ≡ step_at add state (class_of b) b m
-step_from-class add Utf8 b m = refl
+step_from-class add Utf8 b m = after_answer-class add (add m.accumulator b).1 b (after_continuation add b m)
 step_from-class add state b m = ap (λ (change : Change). after_change add change.state change.action b m) (change_at-class state b)
 
 -- for the calls too
 step_calls_from-class : {A : Type 0} (add : Adds A) (state : State) (b : ℕ) (m : Machine A) → step_calls_from add state b m ≡ step_calls_at add state (class_of b) b m
-step_calls_from-class add Utf8 b m = refl
+step_calls_from-class add Utf8 b m = answer_calls-class add (add m.accumulator b).1 b (after_continuation add b m)
 step_calls_from-class add state b m = ap (λ (change : Change). change_calls add change.state change.action b m) (change_at-class state b)
 
 -- a step goes by the class of the byte
@@ -158,11 +182,27 @@ step_at-command add cancel_byte b m = (text_left Ground b (record m { state = Os
 step_at-command add esc_byte b m = (text_left Escape b (record m { state = OscString }), text_dispatched b [] (record m { state = OscString }))
 step_at-command add class b m = (text_stored b (record m { state = OscString }) refl, refl)
 
--- behind an answer of the accumulator nothing else counts
-answered : {A : Type 0} (accumulator : A) (answer : Option ℕ) (m n : Machine A)
-    → counted (record m { accumulator = accumulator; state = state_after_answer answer }) ≡ counted (record n { accumulator = accumulator; state = state_after_answer answer })
-answered accumulator None m n = refl
-answered accumulator (Some c) m n = refl
+-- a byte of each class in Ground
+step_at-ground : {A : Type 0} (add : Adds A) (class : Class) (b : ℕ) (m : Machine A)
+    → Same (step_at add Ground class b (record m { state = Ground })) (step_at add Ground class b (bare (record m { state = Ground })))
+    (step_calls_at add Ground class b (record m { state = Ground })) (step_calls_at add Ground class b (bare (record m { state = Ground })))
+step_at-ground add control_byte b m = (refl, refl)
+step_at-ground add class b m = (refl, refl)
+
+-- the machine after an answer of its accumulator
+abbrev with_answer : {A : Type 0} → A → Taken → Machine A → Machine A
+with_answer accumulator answer m = record m { accumulator = accumulator; state = state_after_answer answer }
+
+-- of it nothing else counts
+answered : {A : Type 0} (add : Adds A) (class : Class) (b : ℕ) (accumulator : A) (answer : Taken) (m n : Machine A)
+    → Same (after_answer_at add answer class b (with_answer accumulator answer m)) (after_answer_at add answer class b (with_answer accumulator answer n))
+    (answer_calls_at add answer class b (with_answer accumulator answer m)) (answer_calls_at add answer class b (with_answer accumulator answer n))
+answered add class b accumulator More m n = (refl, refl)
+answered add class b accumulator (Char c) m n = (refl, refl)
+answered add class b accumulator (Broken c) m n =
+    let left = step_at-ground add class b (with_answer accumulator (Broken c) m) in
+    let right = step_at-ground add class b (with_answer accumulator (Broken c) n) in
+    (left.0 ∙ sym right.0, ap (λ calls. print c ∷ calls) (left.1 ∙ sym right.1))
 
 -- a byte of each class in each state
 step_at-counted : {A : Type 0} (add : Adds A) (class : Class) (state : State) (b : ℕ) (m : Machine A)
@@ -178,7 +218,7 @@ step_at-counted add class DcsEntry b m = changed-header add DcsEntry refl (λ r.
 step_at-counted add class DcsParam b m = changed-header add DcsParam refl (λ r. refl) (change_of DcsParam class) b (record m { state = DcsParam }) refl refl
 step_at-counted add class DcsIntermediate b m = changed-header add DcsIntermediate refl (λ r. refl) (change_of DcsIntermediate class) b (record m { state = DcsIntermediate }) refl refl
 step_at-counted add class OscString b m = step_at-command add class b m
-step_at-counted add class Utf8 b m = (answered (add m.accumulator b).0 (add m.accumulator b).1 m (bare m), refl)
+step_at-counted add class Utf8 b m = answered add class b (add m.accumulator b).0 (add m.accumulator b).1 m (bare m)
 step_at-counted add class state b m = (refl, refl)
 
 -- what counts of a machine has its state

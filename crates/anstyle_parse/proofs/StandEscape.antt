@@ -1,23 +1,25 @@
 -- One byte at a machine for an open item that is no header: nothing, a character, an escape
 -- sequence.
 use Rattle.std.proofs.Common.{◌≡◌, ℕ, Bool, true, false, cond, List, [], ◌∷◌, ◌++◌, filter, refl, sym, ap, ap₂, ◌∙◌, subst, append-nil}
-use Rattle.std.specs.Prelude.{if◌then◌else◌, IsTrue, Option, None, Some}
+use Rattle.std.specs.Prelude.{if◌then◌else◌, IsTrue}
 use Rattle.std.specs.List.{list_any}
 use Rattle.std.proofs.lemmas.Bool.{false≢true}
+use Rattle.anstyle_parse.specs.declared.accumulator.Taken.{Taken}
+use Rattle.anstyle_parse.specs.declared.accumulator.Taken.TheVariants.{More, Char, Broken}
 use Rattle.anstyle_parse.specs.declared.state.definitions.State.TheVariants.{Escape, EscapeIntermediate, Utf8}
 use Rattle.anstyle_parse.specs.Bytes.{is_intermediate}
 use Rattle.anstyle_parse.specs.Characters.{is_lead, is_well_formed, is_proper_front, character_of, replacement}
 use Rattle.anstyle_parse.specs.Call.{Call, print, execute, esc_dispatch}
 use Rattle.anstyle_parse.specs.Calls.{is_executed, single_calls, executes, escape_dispatch, items_calls}
-use Rattle.anstyle_parse.specs.Items.{Body, escape, control, device, command, ignored, EachIs, character, broken}
+use Rattle.anstyle_parse.specs.Items.{Body, escape, control, device, command, ignored, EachIs, character}
 use Rattle.anstyle_parse.specs.Decoder.{decoded, started}
 use Rattle.anstyle_parse.specs.Machine.{Machine, new_machine, print_answer, state_after_answer}
 use Rattle.anstyle_parse.specs.Stands.{counted}
 use Rattle.anstyle_parse.proofs.Classes.{Class, cancel_byte, esc_byte, intermediate_byte, digit_byte, colon_byte, semicolon_byte, marker_byte, device_byte, string_byte, control_introducer, command_byte, final_byte, lead_byte, class_of, is_printed_at, is_executed_at, is_lead_at, is_ascii_at, is_printed-class, is_executed-class, is_lead-class, is_ascii-class}
-use Rattle.anstyle_parse.proofs.Divide.{front, Growth, more, done, start, grow_front, into, ended, introduce, grow_body}
+use Rattle.anstyle_parse.proofs.Divide.{front, Growth, more, done, start, break_off, grow_front, into, ended, introduce, grow_body}
 use Rattle.anstyle_parse.proofs.HeaderFold.{escape_collected, escape_ignoring}
 use Rattle.anstyle_parse.proofs.StandActions.{plain, headed, collecting-headed}
-use Rattle.anstyle_parse.proofs.StandCounted.{step_at, step_calls_at}
+use Rattle.anstyle_parse.proofs.StandCounted.{after_answer_at, answer_calls_at, step_at, step_calls_at}
 use Rattle.anstyle_parse.proofs.StandValues.{registers, escape_state, value_at, open_calls, executes-push, escape_value-push}
 
 -- What a byte does to a machine for an open item is what it does to the item: behind the
@@ -47,43 +49,43 @@ single_whole : (b : ℕ) (c : Class) → class_of b ≡ c → (single_calls_at b
 single_whole b c class = ap (λ calls. (calls ++ []) ++ []) (sym (single_calls-class b c class))
 
 -- a lead byte begins a front
-started-lead : (b : ℕ) → class_of b ≡ lead_byte → started b ≡ (b ∷ [], None)
+started-lead : (b : ℕ) → class_of b ≡ lead_byte → started b ≡ (b ∷ [], More)
 started-lead b class =
-    ap (λ t. cond t ([], Some b) (cond (is_lead b) (b ∷ [], None) ([], Some replacement))) (is_ascii-class b ∙ ap is_ascii_at class)
-    ∙ ap (λ t. cond t (b ∷ [], None) ([], Some replacement)) (is_lead-class b ∙ ap is_lead_at class)
+    ap (λ t. cond t ([], Char b) (cond (is_lead b) (b ∷ [], More) ([], Char replacement))) (is_ascii-class b ∙ ap is_ascii_at class)
+    ∙ ap (λ t. cond t (b ∷ [], More) ([], Char replacement)) (is_lead-class b ∙ ap is_lead_at class)
 
 -- a byte where nothing is open
 pub nothing_grows : (c : Class) (b : ℕ) → class_of b ≡ c → Grows (new_machine []) [] c b (start b c)
 nothing_grows esc_byte b class = (refl, refl)
-nothing_grows lead_byte b class = (ap (λ (answer : List ℕ × Option ℕ). plain Utf8 answer.0) (started-lead b class), ap (λ (answer : List ℕ × Option ℕ). print_answer answer.1 ++ []) (started-lead b class))
+nothing_grows lead_byte b class = (ap (λ (answer : List ℕ × Taken). plain Utf8 answer.0) (started-lead b class), ap (λ (answer : List ℕ × Taken). print_answer answer.1 ++ []) (started-lead b class))
 nothing_grows c b class = (refl, single_whole b c class)
 
 -- a byte behind a front: the item and the accumulator by the same tests
-abbrev answer_by : Bool → Bool → List ℕ → List ℕ × Option ℕ
-answer_by whole proper bytes = if whole then ([], Some (character_of bytes)) else if proper then (bytes, None) else ([], Some replacement)
+abbrev answer_by : Bool → Bool → List ℕ → List ℕ × Taken
+answer_by whole proper bytes = if whole then ([], Char (character_of bytes)) else if proper then (bytes, More) else ([], Broken replacement)
 
 -- the item, and what is open then
-abbrev growth_by : Bool → Bool → List ℕ → ℕ → Growth
-growth_by whole proper bytes b =
-    if whole then done (character (bytes ++ b ∷ [])) else if proper then more (front (bytes ++ b ∷ [])) else done (broken bytes b)
+abbrev growth_by : Bool → Bool → List ℕ → ℕ → Class → Growth
+growth_by whole proper bytes b c =
+    if whole then done (character (bytes ++ b ∷ [])) else if proper then more (front (bytes ++ b ∷ [])) else break_off bytes (start b c)
 
 -- the machine behind an answer
-abbrev answered : List ℕ × Option ℕ → Machine (List ℕ)
+abbrev answered : List ℕ × Taken → Machine (List ℕ)
 answered answer = record (new_machine answer.0) { state = state_after_answer answer.1 }
 
 -- for each answer of the tests
-front_by : (whole proper : Bool) (bytes : List ℕ) (b : ℕ)
-    → (counted (answered (answer_by whole proper (bytes ++ b ∷ []))) ≡ value_at (growth_by whole proper bytes b).next)
-    × (print_answer (answer_by whole proper (bytes ++ b ∷ [])).1 ≡ items_calls (growth_by whole proper bytes b).items ++ open_calls (growth_by whole proper bytes b).next)
-front_by true proper bytes b = (refl, refl)
-front_by false true bytes b = (refl, refl)
-front_by false false bytes b = (refl, refl)
+front_by : (whole proper : Bool) (bytes : List ℕ) (c : Class) (b : ℕ) → class_of b ≡ c → let answer = answer_by whole proper (bytes ++ b ∷ []) in
+    (counted (after_answer_at decoded answer.1 c b (answered answer)) ≡ value_at (growth_by whole proper bytes b c).next)
+    × (answer_calls_at decoded answer.1 c b (answered answer) ≡ items_calls (growth_by whole proper bytes b c).items ++ open_calls (growth_by whole proper bytes b c).next)
+front_by true proper bytes c b class = (refl, refl)
+front_by false true bytes c b class = (refl, refl)
+front_by false false bytes c b class = let starts = nothing_grows c b class in (starts.0, ap (λ calls. print replacement ∷ calls) starts.1)
 
 -- a front is not empty
-pub front_grows : (bytes : List ℕ) (c : Class) (b : ℕ) → IsTrue (is_proper_front bytes) → Grows (plain Utf8 bytes) [] c b (grow_front bytes b)
+pub front_grows : (bytes : List ℕ) (c : Class) (b : ℕ) → class_of b ≡ c → IsTrue (is_proper_front bytes) → Grows (plain Utf8 bytes) [] c b (grow_front bytes b c)
 unfolding is_proper_front
-front_grows [] c b proper = absurd (false≢true proper)
-front_grows (a ∷ bytes) c b proper = front_by (is_well_formed (a ∷ (bytes ++ b ∷ []))) (is_proper_front (a ∷ (bytes ++ b ∷ []))) (a ∷ bytes) b
+front_grows [] c b class proper = absurd (false≢true proper)
+front_grows (a ∷ bytes) c b class proper = front_by (is_well_formed (a ∷ (bytes ++ b ∷ []))) (is_proper_front (a ∷ (bytes ++ b ∷ []))) (a ∷ bytes) c b class
 
 -- the dispatch of an escape sequence from its registers
 EachIs-filter : (bytes : List ℕ) → EachIs is_intermediate (filter is_intermediate bytes)

@@ -35,7 +35,7 @@ body_grows (ignored lead kind text) b is = ignored_grows (class_of b) b lead kin
 open_grows : (o : Open) (b : ℕ) → IsOpen o → Grows (value_at o) (open_calls o) (class_of b) b (grow o b)
 unfolding grow
 open_grows nothing b is = nothing_grows (class_of b) b refl
-open_grows (front bytes) b is = front_grows bytes (class_of b) b is
+open_grows (front bytes) b is = front_grows bytes (class_of b) b refl is
 open_grows (inside body) b is = body_grows body b is
 
 -- the machine for an open item goes over to the machine for what the byte leaves open

@@ -1,5 +1,5 @@
 -- What the public calls say of streams, from what they say of the machine.
-use Rattle.std.proofs.Common.{◌≡◌, Bool, true, false, IsTrue, refl, ◌<◌, ℕ, List, [], ◌∷◌, ◌++◌, ⊎_elim, inl, inr, sym, ap, ◌∙◌, subst, arith, get_or}
+use Rattle.std.proofs.Common.{◌≡◌, Bool, true, false, IsTrue, refl, ◌<◌, ℕ, List, [], ◌∷◌, ◌++◌, ⊎_elim, inl, inr, sym, ap, ◌∙◌, subst, arith, get_or, Option}
 use Rattle.std.proofs.lemmas.List.{get_or_default}
 use Rattle.std.proofs.lemmas.List.Elements.{recursion_from_All}
 use Rattle.anstyle_parse.specs.declared.state.definitions.State.TheVariants.{Utf8}
@@ -11,7 +11,7 @@ use Rattle.anstyle_parse.specs.Stands.{StandsAfter, seen, unseen, Decodes}
 use Rattle.anstyle_parse.specs.Parser.{machine_of, CanTake, CanTakeAll, MayTake, MayTakeAll, AreBelow, IsAfter, IsAfterAscii}
 use Rattle.anstyle_parse.proofs.Stands.{StandsAfter-machine, Continues-machine}
 use Rattle.anstyle_parse.proofs.Seen.{Seen-machine}
-use Rattle.anstyle_parse.proofs.Unseen.{Unseen-step, Unseen-machine, StandsAfter-outside, takes-outside}
+use Rattle.anstyle_parse.proofs.Unseen.{Unseen-step, Unseen-machine, StandsAfter-outside, reached-outside}
 
 -- the bytes of a slice are below 256
 pub bytes_below : (bytes : List ℕ) → ((i : ℕ) → get_or bytes i 0 < 256) → AreBelow 256 bytes
@@ -22,23 +22,25 @@ AreBelow-append limit [] ys first second = second
 AreBelow-append limit (x ∷ xs) ys first second = (first.0, AreBelow-append limit xs ys first.1 second)
 
 -- an accumulator that decodes takes every byte
-pub CanTake-may : {C : Type 0} (front : C → List ℕ) (takes : C → ℕ → Type 0) (adds : Adds C) (decodes : Bool) → (IsTrue decodes → Decodes C front takes adds)
-    → (parser : Parser C) (b : ℕ) → b < 256 → MayTake decodes takes parser b → CanTake takes parser b
-CanTake-may front takes adds true follows parser b small may = λ reaches. (follows refl).takes_bytes parser.accumulator b small
-CanTake-may front takes adds false follows parser b small may = may
+pub CanTake-may : {C : Type 0} (front : C → List ℕ) (takes : C → ℕ → Type 0) (add : C → ℕ → C × Option ℕ) (adds : Adds C) (decodes : Bool) → (IsTrue decodes → Decodes C front takes add adds)
+    → (parser : Parser C) (b : ℕ) → b < 256 → MayTake decodes takes adds parser b → CanTake takes adds parser b
+CanTake-may front takes add adds true follows parser b small may =
+    let all = (follows refl).takes_bytes in
+    ((λ reaches. all parser.accumulator b small), (λ inside breaks reaches. all (adds parser.accumulator b).0 b small))
+CanTake-may front takes add adds false follows parser b small may = may
 
-pub CanTakeAll-may : {C : Type 0} (front : C → List ℕ) (takes : C → ℕ → Type 0) (adds : Adds C) (decodes : Bool) → (IsTrue decodes → Decodes C front takes adds)
+pub CanTakeAll-may : {C : Type 0} (front : C → List ℕ) (takes : C → ℕ → Type 0) (add : C → ℕ → C × Option ℕ) (adds : Adds C) (decodes : Bool) → (IsTrue decodes → Decodes C front takes add adds)
     → (parser : Parser C) (bytes : List ℕ) → MayTakeAll decodes takes parser bytes → CanTakeAll takes parser bytes
-CanTakeAll-may front takes adds true follows parser bytes may = inl (λ value b small. (follows refl).takes_bytes value b small)
-CanTakeAll-may front takes adds false follows parser bytes may = may
+CanTakeAll-may front takes add adds true follows parser bytes may = inl (λ value b small. (follows refl).takes_bytes value b small)
+CanTakeAll-may front takes add adds false follows parser bytes may = may
 
 module _ {C : Type 0} (takes : C → ℕ → Type 0) where
   -- the first of some bytes can be taken
-  pub CanTake-first : (parser : Parser C) (b : ℕ) (bytes : List ℕ) → b < 256 → CanTakeAll takes parser (b ∷ bytes) → CanTake takes parser b
-  CanTake-first parser b bytes small can =
+  pub CanTake-first : (adds : Adds C) (parser : Parser C) (b : ℕ) (bytes : List ℕ) → b < 256 → CanTakeAll takes parser (b ∷ bytes) → CanTake takes adds parser b
+  CanTake-first adds parser b bytes small can =
       ⊎_elim
-      (λ all _. all parser.accumulator b small)
-      (λ ascii reaches. absurd (takes-outside parser.state b ascii.1.0 ascii.0 reaches))
+      (λ all. ((λ reaches. all parser.accumulator b small), (λ inside breaks reaches. all (adds parser.accumulator b).0 b small)))
+      (λ ascii. reached-outside (λ value. takes value b) adds parser.state parser.accumulator b ascii.1.0 ascii.0)
       can
 
   -- and then the others
@@ -50,19 +52,19 @@ module _ {C : Type 0} (takes : C → ℕ → Type 0) where
       (λ ascii. inr ((λ inside. (Unseen-step adds b ascii.1.0 (machine_of old) ascii.0).2 (sym (ap (λ (m : Machine C). m.state) stepped) ∙ inside)), ascii.1.1))
       can
 
-module _ {C : Type 0} (front : C → List ℕ) (takes : C → ℕ → Type 0) (adds : Adds C) (decodes : Decodes C front takes adds)
+module _ {C : Type 0} (front : C → List ℕ) (takes : C → ℕ → Type 0) (add : C → ℕ → C × Option ℕ) (adds : Adds C) (decodes : Decodes C front takes add adds)
     (old new : Parser C) (bytes : List ℕ) (below : AreBelow 256 bytes) (taken : machine_of new ≡ machine_after adds bytes (machine_of old))
     (before : List ℕ) (stands : IsAfter front old before) where
   pub IsAfter-taken : IsAfter front new (before ++ bytes)
   IsAfter-taken =
       let Q : Machine (List ℕ) → Type 0 = λ m. StandsAfter m (before ++ bytes) in
-      subst Q (sym (ap (seen front) taken ∙ (Seen-machine front takes adds decodes bytes below (machine_of old)).0))
+      subst Q (sym (ap (seen front) taken ∙ (Seen-machine front takes add adds decodes bytes below (machine_of old)).0))
       (StandsAfter-machine (seen front (machine_of old)) before bytes stands)
 
   pub Continues-taken : Continues before bytes (machine_calls adds bytes (machine_of old))
   Continues-taken =
       let Q : List Call → Type 0 = λ calls. Continues before bytes calls in
-      subst Q (sym (Seen-machine front takes adds decodes bytes below (machine_of old)).1) (Continues-machine (seen front (machine_of old)) before bytes stands)
+      subst Q (sym (Seen-machine front takes add adds decodes bytes below (machine_of old)).1) (Continues-machine (seen front (machine_of old)) before bytes stands)
 
 module _ {C : Type 0} (adds : Adds C)
     (old new : Parser C) (bytes : List ℕ) (below : AreBelow 0x80 bytes) (taken : machine_of new ≡ machine_after adds bytes (machine_of old))

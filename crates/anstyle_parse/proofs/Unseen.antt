@@ -9,14 +9,14 @@ use Rattle.anstyle_parse.specs.declared.state.definitions.Action.TheVariants.{Os
 use Rattle.anstyle_parse.specs.Table.{Change, change_at}
 use Rattle.anstyle_parse.specs.Decoder.{decoded}
 use Rattle.anstyle_parse.specs.Machine.{Machine, Adds, new_machine, after_action, after_change, step, step_calls, machine_after, machine_calls}
-use Rattle.anstyle_parse.specs.Parser.{ReachesAccumulator}
+use Rattle.anstyle_parse.specs.Parser.{ReachesAccumulator, HoldsWhereReached}
 use Rattle.anstyle_parse.specs.Stands.{unseen, StandsAfter}
 use Rattle.anstyle_parse.proofs.Classes.{Class, lead_byte, class_of, is_lead_at, is_lead-class, is_ascii_at, is_ascii-class}
 use Rattle.anstyle_parse.proofs.MachineLemmas.{step-outside}
 use Rattle.anstyle_parse.proofs.StandTable.{change_of, change_at-class}
 use Rattle.anstyle_parse.proofs.StandActions.{after_action-cleared, with_part-without_text, storing-without_text}
 use Rattle.anstyle_parse.proofs.StandCounted.{counted_in-state}
-use Rattle.anstyle_parse.proofs.Seen.{Seen-byte, Seen-bytes}
+use Rattle.anstyle_parse.proofs.Seen.{AddsAs, Seen-byte, Seen-bytes}
 
 -- a byte of ASCII is of a class of ASCII
 is_ascii_at-below : (b : ℕ) → b < 0x80 → is_ascii_at (class_of b) ≡ true
@@ -28,10 +28,16 @@ lead_not_ascii lead_byte ascii lead = cc
 lead_not_ascii class ascii lead = cc
 
 -- so a byte of ASCII reaches the accumulator only inside a character
-pub takes-outside : (state : State) (b : ℕ) → b < 0x80 → (state ≡ Utf8 → ⊥) → ReachesAccumulator state b → ⊥
+takes-outside : (state : State) (b : ℕ) → b < 0x80 → (state ≡ Utf8 → ⊥) → ReachesAccumulator state b → ⊥
 takes-outside Utf8 b low outside reaches = outside refl
 takes-outside Ground b low outside reaches = lead_not_ascii (class_of b) (is_ascii_at-below b low) (sym (is_lead-class b) ∙ reaches)
 takes-outside state b low outside reaches = reaches
+
+-- and of what is asked of the accumulator where a byte reaches it nothing is asked
+pub reached-outside : {A : Type 0} (holds : A → Type 0) (adds : Adds A) (state : State) (value : A) (b : ℕ) → b < 0x80 → (state ≡ Utf8 → ⊥)
+    → HoldsWhereReached holds adds state value b
+reached-outside holds adds state value b low outside =
+    ((λ reaches. absurd (takes-outside state b low outside reaches)), (λ inside breaks reaches. absurd (outside inside)))
 
 -- no state goes over into a character at a class of ASCII. A line for each state, so that its answers compute.
 change_of-outside : (state : State) (class : Class) → is_ascii_at class ≡ true → (change_of state class).state ≡ Utf8 → ⊥
@@ -84,7 +90,7 @@ module _ {A : Type 0} (adds : Adds A) (b : ℕ) where
   pub Unseen-step : b < 0x80 → (m : Machine A) → (m.state ≡ Utf8 → ⊥)
       → (unseen (step adds b m) ≡ step decoded b (unseen m)) × (step_calls adds b m ≡ step_calls decoded b (unseen m)) × ((step adds b m).state ≡ Utf8 → ⊥)
   Unseen-step low m outside =
-      let same = Seen-byte (λ value. []) adds b m (λ reaches. absurd (takes-outside m.state b low outside reaches)) in
+      let same = Seen-byte (λ value. []) adds b m (reached-outside (λ value. AddsAs (λ value. []) adds value b) adds m.state m.accumulator b low outside) in
       (same.0, same.1, step-stays_outside low m outside)
 
 -- and so does a list of such bytes
@@ -94,7 +100,7 @@ pub Unseen-machine : {A : Type 0} (adds : Adds A) (bytes : List ℕ) → AllByRe
     × ((machine_after adds bytes m).state ≡ Utf8 → ⊥)
 Unseen-machine adds bytes low m outside =
     Seen-bytes (λ value. []) adds (λ b. b < 0x80) (λ r. r.state ≡ Utf8 → ⊥)
-    (λ b lt r keeps. ((λ reaches. absurd (takes-outside r.state b lt keeps reaches)), step-stays_outside adds b lt r keeps)) bytes low m outside
+    (λ b lt r keeps. (reached-outside (λ value. AddsAs (λ value. []) adds value b) adds r.state r.accumulator b lt keeps, step-stays_outside adds b lt r keeps)) bytes low m outside
 
 -- a machine that stands after bytes of ASCII is outside a character
 pub StandsAfter-outside : (m : Machine (List ℕ)) (before : List ℕ) → AllByRecursion (λ b. b < 0x80) before → StandsAfter m before → m.state ≡ Utf8 → ⊥

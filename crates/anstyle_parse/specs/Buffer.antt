@@ -1,6 +1,8 @@
 -- What a buffer holds back, and what of it counts as taken.
-use Rattle.std.specs.Prelude.{Bool, ℕ, List, Option}
+use Rattle.std.specs.Prelude.{Bool, ℕ, List, ◌∷◌, Option}
 use Rattle.std.specs.Io.KnownBytes.{append_known}
+use Rattle.anstyle_parse.specs.declared.canon.Fault.{Fault}
+use Rattle.anstyle_parse.specs.declared.canon.Fault.TheVariants.{Write, Flush}
 use Rattle.anstyle_parse.specs.declared.canon.buffer.Buffer.{Buffer}
 
 -- the writer behind it
@@ -22,3 +24,8 @@ buffer_contents contents buffer = append_known (contents (writer_behind buffer))
 -- whether the writer behind it has failed
 abbrev pub buffer_failed : {W : Type 0} → (W → Bool) → Buffer W → Bool
 buffer_failed has_failed buffer = has_failed (writer_behind buffer)
+
+-- what a fault was at the writer behind it: a flush that left bytes held back is a write
+abbrev pub fault_behind : Fault → (held : List ℕ) → Fault
+fault_behind Flush (byte ∷ held) = Write
+fault_behind fault held = fault

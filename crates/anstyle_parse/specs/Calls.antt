@@ -63,7 +63,7 @@ end_calls body end = []
 abbrev pub item_calls : Item → List Call
 item_calls (single byte) = single_calls byte
 item_calls (character bytes) = print (character_of bytes) ∷ []
-item_calls (broken front byte) = print replacement ∷ []
+item_calls (broken front) = print replacement ∷ []
 item_calls (begun front) = []
 item_calls (sequence body end) = body_calls body ++ end_calls body end
 

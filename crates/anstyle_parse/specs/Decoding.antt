@@ -1,14 +1,15 @@
 -- No definition, but a proof: the language wants that of a trait's law among the specs.
 -- The steps of a Utf8Parser go over the fronts that it holds as the decoder's do.
 use Rattle.std.proofs.Common.{◌≡◌, ◌<◌, ℕ, true, List, [], ◌∷◌, ◌++◌, length, refl, ap, sym, ⊎_elim, arith}
-use Rattle.std.specs.Prelude.{◌&&◌, nat_lt, nat_le, ⊤, Option}
+use Rattle.std.specs.Prelude.{◌&&◌, nat_lt, nat_le, ⊤}
 use Rattle.std.specs.List.{list_any, list_all}
 use Rattle.std.proofs.lemmas.Bool.{and_parts, or_cases, cond_both, ltb-true, leb-true}
+use Rattle.anstyle_parse.specs.declared.accumulator.Taken.{Taken}
 use Rattle.anstyle_parse.specs.declared.accumulator.Utf8Parser.{Utf8Parser}
 use Rattle.anstyle_parse.specs.Characters.{Place, rows, begins, is_well_formed, is_proper_front, is_lead}
 use Rattle.anstyle_parse.specs.Decoder.{started, continued, decoded}
 use Rattle.anstyle_parse.specs.Front.{bytes_of, front_with}
-use Rattle.anstyle_parse.specs.Accumulator.{front_of, parser_after}
+use Rattle.anstyle_parse.specs.Accumulator.{front_of, parser_after, parser_added}
 use Rattle.anstyle_parse.specs.Stands.{Decodes}
 
 -- a list that is shorter than some row is shorter than the longest
@@ -31,18 +32,18 @@ length-proper_front-lt bytes h =
     shorter_than_row bytes 4 rows refl (and_parts (nat_lt 0 (length bytes)) _ h).1
 
 -- the decoder never holds more than three bytes
-abbrev IsShort : List ℕ × Option ℕ → Type 0
+abbrev IsShort : List ℕ × Taken → Type 0
 IsShort step = length step.0 < 4
 
 pub length-started-lt : (b : ℕ) → length (started b).0 < 4
 length-started-lt b =
-    cond_both {A = List ℕ × Option ℕ} (nat_lt b 0x80) _ _ IsShort (λ _. omega arith)
-    (λ _. cond_both {A = List ℕ × Option ℕ} (is_lead b) _ _ IsShort (λ _. omega arith) (λ _. omega arith))
+    cond_both {A = List ℕ × Taken} (nat_lt b 0x80) _ _ IsShort (λ _. omega arith)
+    (λ _. cond_both {A = List ℕ × Taken} (is_lead b) _ _ IsShort (λ _. omega arith) (λ _. omega arith))
 
 pub length-continued-lt : (bytes : List ℕ) → length (continued bytes).0 < 4
 length-continued-lt bytes =
-    cond_both {A = List ℕ × Option ℕ} (is_well_formed bytes) _ _ IsShort (λ _. omega arith)
-    (λ _. cond_both {A = List ℕ × Option ℕ} (is_proper_front bytes) _ _ IsShort (length-proper_front-lt bytes) (λ _. omega arith))
+    cond_both {A = List ℕ × Taken} (is_well_formed bytes) _ _ IsShort (λ _. omega arith)
+    (λ _. cond_both {A = List ℕ × Taken} (is_proper_front bytes) _ _ IsShort (length-proper_front-lt bytes) (λ _. omega arith))
 
 pub length-decoded-lt : (front : List ℕ) (b : ℕ) → length (decoded front b).0 < 4
 length-decoded-lt [] b = length-started-lt b
@@ -59,8 +60,9 @@ bytes_of-front_with (a ∷ b ∷ c ∷ d ∷ bytes) short = absurd (omega arith)
 pub front_of-parser_after : (parser : Utf8Parser) (b : ℕ) → front_of (parser_after parser b).0 ≡ (decoded (front_of parser) b).0
 front_of-parser_after parser b = bytes_of-front_with (decoded (front_of parser) b).0 (length-decoded-lt (front_of parser) b)
 
-pub Decodes-parser_after : Decodes Utf8Parser front_of (λ _ _. ⊤) parser_after
+pub Decodes-parser_after : Decodes Utf8Parser front_of (λ _ _. ⊤) parser_added parser_after
 Decodes-parser_after = record {
   takes_bytes = λ parser b small. tt;
   steps = λ parser b small. ap (λ front. (front, (decoded (front_of parser) b).1)) (sym (front_of-parser_after parser b));
+  characters = λ parser b small. (front_of-parser_after parser b, refl);
 }

@@ -1,6 +1,7 @@
 -- The front of a character, as the decoder keeps it, and its bytes.
-use Rattle.std.specs.Prelude.{◌≡◌, ℕ, Bool, ◌&&◌, ◌==◌, List, [], ◌∷◌, length, Option}
+use Rattle.std.specs.Prelude.{◌≡◌, ℕ, Bool, ◌&&◌, ◌==◌, List, [], ◌∷◌, length}
 use Rattle.std.specs.List.{list_any}
+use Rattle.anstyle_parse.specs.declared.accumulator.Taken.{Taken}
 use Rattle.anstyle_parse.specs.declared.utf8.Front.{Front}
 use Rattle.anstyle_parse.specs.declared.utf8.Front.TheVariants.{Empty, One, Two, Three}
 use Rattle.anstyle_parse.specs.Characters.{rows, begins}
@@ -24,5 +25,5 @@ unfoldable pub is_front_of : ℕ → List ℕ → Bool
 is_front_of size bytes = list_any (λ row. begins row bytes && size == length row) rows
 
 -- the decoder's answer, as the code gives it
-abbrev pub IsStep : List ℕ × Option ℕ → Front × Option ℕ → Type 0
+abbrev pub IsStep : List ℕ × Taken → Front × Taken → Type 0
 IsStep step answer = (answer.0 ≡ front_with step.0) × (answer.1 ≡ step.1)

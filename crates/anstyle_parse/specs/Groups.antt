@@ -1,6 +1,6 @@
 -- Groups of fields, as lists.
-use Rattle.std.specs.Prelude.{ℕ, ◌+◌, ◌<◌, Bool, nat_lt, List, [], ◌∷◌, ◌++◌, length, take, drop, map, decimal}
-use Rattle.std.specs.List.{AllByRecursion, list_all, join_with_byte}
+use Rattle.std.specs.Prelude.{ℕ, suc, ◌+◌, ◌<◌, Bool, true, false, not, nat_lt, List, [], ◌∷◌, ◌++◌, length, take, drop, map, decimal}
+use Rattle.std.specs.List.{AllByRecursion, list_all, join_with_byte, prefix_len}
 use Rattle.anstyle_parse.specs.Bytes.{colon, semicolon}
 
 -- the sum of the numbers
@@ -16,6 +16,12 @@ none_is_zero numbers = list_all (nat_lt 0) numbers
 abbrev pub cut : List ℕ → List ℕ → List (List ℕ)
 cut [] numbers = []
 cut (length ∷ lengths) numbers = take length numbers ∷ cut lengths (drop length numbers)
+
+-- numbers cut into groups, each from a start to the number before the next start
+abbrev pub cut_at : List Bool → List ℕ → List (List ℕ)
+cut_at [] numbers = []
+cut_at (true ∷ starts) numbers = take (suc (prefix_len not starts)) numbers ∷ cut_at starts (drop 1 numbers)
+cut_at (false ∷ starts) numbers = cut_at starts (drop 1 numbers)
 
 -- the closed groups, then the open one, if it has a field
 abbrev pub shown_groups : List (List ℕ) → List ℕ → List (List ℕ)

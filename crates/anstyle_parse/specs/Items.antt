@@ -34,8 +34,8 @@ pub data Item : Type 0 where
   single : (byte : ℕ) → Item
   -- a well-formed character of two to four bytes
   character : (bytes : List ℕ) → Item
-  -- a character begun, and the byte that breaks it, whatever it is
-  broken : (front : List ℕ) (byte : ℕ) → Item
+  -- a character begun, which the byte after it, whatever it is, does not go on with
+  broken : (front : List ℕ) → Item
   -- a character begun, where the list ends
   begun : (front : List ℕ) → Item
   sequence : (body : Body) (end : End) → Item
@@ -58,7 +58,7 @@ end_text unfinished = []
 abbrev pub item_text : Item → List ℕ
 item_text (single byte) = byte ∷ []
 item_text (character bytes) = bytes
-item_text (broken front byte) = front ++ byte ∷ []
+item_text (broken front) = front
 item_text (begun front) = front
 item_text (sequence body end) = body_text body ++ end_text end
 
@@ -123,7 +123,7 @@ IsEnd body unfinished = ⊤
 abbrev pub IsItem : Item → Type 0
 IsItem (single byte) = IsTrue (not (is_escape byte || is_lead byte))
 IsItem (character bytes) = IsTrue (is_well_formed bytes)
-IsItem (broken front byte) = IsProperFront front × ¬ IsFront (front ++ byte ∷ [])
+IsItem (broken front) = IsProperFront front
 IsItem (begun front) = IsProperFront front
 IsItem (sequence body end) = IsBody body × IsEnd body end
 
@@ -132,8 +132,13 @@ abbrev pub BeginsWithEscape : List ℕ → Type 0
 BeginsWithEscape [] = ⊥
 BeginsWithEscape (b ∷ bytes) = IsTrue (is_escape b)
 
--- What may follow an item: nothing behind one that is unfinished, and ESC behind a
--- sequence that is broken off.
+-- the list begins with a byte with which the front is a front of no well-formed sequence
+abbrev pub BeginsWithBreak : List ℕ → List ℕ → Type 0
+BeginsWithBreak front [] = ⊥
+BeginsWithBreak front (b ∷ bytes) = ¬ IsFront (front ++ b ∷ [])
+
+-- What may follow an item: nothing after one that is unfinished, ESC after a sequence that is
+-- broken off, and after a broken character a byte that breaks it.
 abbrev pub MayPrecede : Item → List ℕ → Type 0
 MayPrecede (begun front) rest = rest ≡ []
 MayPrecede (sequence body unfinished) rest = rest ≡ []
@@ -142,7 +147,7 @@ MayPrecede (sequence body (complete byte)) rest = ⊤
 MayPrecede (sequence body (cancelled byte)) rest = ⊤
 MayPrecede (single byte) rest = ⊤
 MayPrecede (character bytes) rest = ⊤
-MayPrecede (broken front byte) rest = ⊤
+MayPrecede (broken front) rest = BeginsWithBreak front rest
 
 -- each item may stand before those that follow it
 abbrev pub AreJoined : List Item → Type 0

@@ -1,6 +1,7 @@
 pub mod Bytes
 pub mod State
 pub mod Table
+pub mod Packed
 pub mod Call
 pub mod Characters
 pub mod Arguments

@@ -1,7 +1,9 @@
 -- What one byte does to the parser, and which calls it makes: Williams' machine with its
 -- entry and exit actions, over the table.
-use Rattle.std.specs.Prelude.{◌≤◌, ℕ, ◌+◌, ◌-◌, ◌*◌, Bool, true, false, ◌==◌, List, [], ◌∷◌, ◌++◌, length, min, if◌then◌else◌, Option, None, Some}
+use Rattle.std.specs.Prelude.{◌≤◌, ℕ, ◌+◌, ◌-◌, ◌*◌, Bool, true, false, ◌==◌, List, [], ◌∷◌, ◌++◌, length, min, if◌then◌else◌, ⊤}
 use Rattle.std.specs.List.{concat}
+use Rattle.anstyle_parse.specs.declared.accumulator.Taken.{Taken}
+use Rattle.anstyle_parse.specs.declared.accumulator.Taken.TheVariants.{More, Char, Broken}
 use Rattle.anstyle_parse.specs.declared.state.definitions.State.{State}
 use Rattle.anstyle_parse.specs.declared.state.definitions.State.TheVariants.{Anywhere, CsiEntry, DcsEntry, DcsPassthrough, Escape, Ground, OscString, Utf8}
 use Rattle.anstyle_parse.specs.declared.state.definitions.Action.{Action}
@@ -109,13 +111,15 @@ storing b m =
     else if b == semicolon then with_part m
     else record m { open_part = m.open_part ++ b ∷ [] }
 
-abbrev pub print_answer : Option ℕ → List Call
-print_answer None = []
-print_answer (Some c) = print c ∷ []
+-- a character that an accumulator answers is printed, whether it is whole or broken
+abbrev pub print_answer : Taken → List Call
+print_answer More = []
+print_answer (Char c) = print c ∷ []
+print_answer (Broken c) = print c ∷ []
 
--- What an accumulator does with a byte: its value after it, and the character it answers.
+-- What an accumulator does with a byte that it takes: its value after it, and what it answers.
 abbrev pub Adds : Type 0 → Type 0
-Adds A = A → ℕ → A × Option ℕ
+Adds A = A → ℕ → A × Taken
 
 -- the machine after an action
 abbrev pub after_action : {A : Type 0} → Adds A → Action → ℕ → Machine A → Machine A
@@ -183,21 +187,36 @@ change_calls add state action b m =
     action_calls add (exit_action m.state) b m
     ++ (action_calls add action b left ++ action_calls add (entry_action state) b (after_action add action b left))
 
--- in the state Utf8 the byte is the accumulator's, and an answer leads back to Ground
-abbrev pub state_after_answer : Option ℕ → State
-state_after_answer None = Utf8
-state_after_answer (Some c) = Ground
+-- in the state Utf8 the byte is the accumulator's, and a character leads back to Ground
+abbrev pub state_after_answer : Taken → State
+state_after_answer More = Utf8
+state_after_answer (Char c) = Ground
+state_after_answer (Broken c) = Ground
 
 abbrev pub after_continuation : {A : Type 0} → Adds A → ℕ → Machine A → Machine A
 after_continuation add b m = record m { accumulator = (add m.accumulator b).0; state = state_after_answer (add m.accumulator b).1 }
 
+-- the byte broke a character
+abbrev pub IsBroken : Taken → Type 0
+IsBroken (Broken c) = ⊤
+IsBroken answer = ⊥
+
+-- then it is handled once more, in Ground
+abbrev pub after_answer : {A : Type 0} → Adds A → Taken → ℕ → Machine A → Machine A
+after_answer add (Broken c) b m = after_change add (change_at Ground b).state (change_at Ground b).action b m
+after_answer add answer b m = m
+
+abbrev pub answer_calls : {A : Type 0} → Adds A → Taken → ℕ → Machine A → List Call
+answer_calls add (Broken c) b m = print c ∷ change_calls add (change_at Ground b).state (change_at Ground b).action b m
+answer_calls add answer b m = print_answer answer
+
 -- one byte
 abbrev pub step_from : {A : Type 0} → Adds A → State → ℕ → Machine A → Machine A
-step_from add Utf8 b m = after_continuation add b m
+step_from add Utf8 b m = after_answer add (add m.accumulator b).1 b (after_continuation add b m)
 step_from add state b m = after_change add (change_at state b).state (change_at state b).action b m
 
 abbrev pub step_calls_from : {A : Type 0} → Adds A → State → ℕ → Machine A → List Call
-step_calls_from add Utf8 b m = print_answer (add m.accumulator b).1
+step_calls_from add Utf8 b m = answer_calls add (add m.accumulator b).1 b (after_continuation add b m)
 step_calls_from add state b m = change_calls add (change_at state b).state (change_at state b).action b m
 
 unfoldable pub step : {A : Type 0} → Adds A → ℕ → Machine A → Machine A

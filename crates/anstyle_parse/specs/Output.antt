@@ -43,6 +43,16 @@ abbrev pub texts : (Call → List ℕ) → List Call → List ℕ
 texts text [] = []
 texts text (call ∷ calls) = text call ++ texts text calls
 
+-- The texts of the calls, joined, where they depend on a state, which each call changes,
+abbrev pub texts_from : {S : Type 0} → (text : S → Call → List ℕ) → (next : S → Call → S) → S → List Call → List ℕ
+texts_from text next state [] = []
+texts_from text next state (call ∷ calls) = text state call ++ texts_from text next (next state call) calls
+
+-- and the state after the calls
+abbrev pub state_after : {S : Type 0} → (next : S → Call → S) → S → List Call → S
+state_after next state [] = state
+state_after next state (call ∷ calls) = state_after next (next state call) calls
+
 -- What comes of a flush: Ok, or the fault Flush where the writer failed.
 abbrev pub Flushes : {T : Type 0} → Result T Fault → (failed failed_after : Bool) → Type 0
 Flushes answer failed failed_after = MatchResult answer (λ _. failed_after ≡ failed) (λ fault. (fault ≡ Flush) × IsTrue failed_after)

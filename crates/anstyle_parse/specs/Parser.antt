@@ -8,7 +8,7 @@ use Rattle.anstyle_parse.specs.declared.parser.Parser.{Parser}
 use Rattle.anstyle_parse.specs.Characters.{is_lead}
 use Rattle.anstyle_parse.specs.Groups.{cut}
 use Rattle.anstyle_parse.specs.Params.{closed_groups_of, open_group_of}
-use Rattle.anstyle_parse.specs.Machine.{Machine, new_machine}
+use Rattle.anstyle_parse.specs.Machine.{Machine, Adds, IsBroken, new_machine}
 use Rattle.anstyle_parse.specs.Stands.{StandsAfter, seen, unseen}
 
 abbrev pub machine_of : {C : Type 0} → Parser C → Machine C
@@ -23,6 +23,10 @@ machine_of parser = record {
   open_part = drop parser.osc_closed parser.osc_text.items;
   accumulator = parser.accumulator;
 }
+
+-- the accumulator that the parser has
+abbrev pub accumulator_of : {C : Type 0} → Parser C → C
+accumulator_of parser = parser.accumulator
 
 -- the byte goes to the accumulator
 abbrev pub ReachesAccumulator : State → ℕ → Type 0
@@ -46,9 +50,20 @@ HasOpenString parser = (parser.state ≡ OscString) ⊎ (parser.state ≡ DcsPas
 abbrev pub AreBelow : ℕ → List ℕ → Type 0
 AreBelow limit bytes = AllByRecursion (λ b. b < limit) bytes
 
--- The accumulator takes the byte, if the byte reaches it.
-abbrev pub CanTake : {C : Type 0} → (C → ℕ → Type 0) → Parser C → ℕ → Type 0
-CanTake takes parser b = ReachesAccumulator parser.state b → takes parser.accumulator b
+-- the byte breaks the character that the parser is inside
+abbrev pub BreaksCharacter : {C : Type 0} → Adds C → Parser C → ℕ → Type 0
+BreaksCharacter taken parser b = (parser.state ≡ Utf8) × IsBroken (taken parser.accumulator b).1
+
+-- This holds of each value of the accumulator at which the byte reaches it: as it stands, and
+-- once more after the byte has broken a character, where it may begin another.
+abbrev pub HoldsWhereReached : {A : Type 0} → (A → Type 0) → Adds A → State → A → ℕ → Type 0
+HoldsWhereReached holds taken state value b =
+    (ReachesAccumulator state b → holds value)
+    × (state ≡ Utf8 → IsBroken (taken value b).1 → ReachesAccumulator Ground b → holds (taken value b).0)
+
+-- The accumulator takes the byte, each time that the byte reaches it.
+abbrev pub CanTake : {C : Type 0} → (C → ℕ → Type 0) → Adds C → Parser C → ℕ → Type 0
+CanTake takes taken parser b = HoldsWhereReached (λ value. takes value b) taken parser.state parser.accumulator b
 
 -- The accumulator takes every byte whatever it holds, or none of the bytes reaches it:
 -- the parser is outside a character, and all of them are ASCII.
@@ -57,8 +72,8 @@ CanTakeAll {C} takes parser bytes =
     ((value : C) (b : ℕ) → b < 0x100 → takes value b) ⊎ ((parser.state ≢ Utf8) × AreBelow 0x80 bytes)
 
 -- The condition of taking a byte, and bytes: none for an accumulator that decodes UTF-8.
-abbrev pub MayTake : {C : Type 0} → (decodes : Bool) → (C → ℕ → Type 0) → Parser C → ℕ → Type 0
-MayTake decodes takes parser b = OnFalse decodes (CanTake takes parser b)
+abbrev pub MayTake : {C : Type 0} → (decodes : Bool) → (C → ℕ → Type 0) → Adds C → Parser C → ℕ → Type 0
+MayTake decodes takes taken parser b = OnFalse decodes (CanTake takes taken parser b)
 
 abbrev pub MayTakeAll : {C : Type 0} → (decodes : Bool) → (C → ℕ → Type 0) → Parser C → List ℕ → Type 0
 MayTakeAll decodes takes parser bytes = OnFalse decodes (CanTakeAll takes parser bytes)

@@ -1,9 +1,9 @@
 -- When a parser stands after a list of bytes: what of it counts is as a new parser's that
 -- took them.
-use Rattle.std.specs.Prelude.{◌≡◌, ◌<◌, ℕ, List, [], ◌∷◌, ◌++◌}
+use Rattle.std.specs.Prelude.{◌≡◌, ◌<◌, ℕ, List, [], ◌∷◌, ◌++◌, Option}
 use Rattle.anstyle_parse.specs.declared.state.definitions.State.{State}
 use Rattle.anstyle_parse.specs.declared.state.definitions.State.TheVariants.{CsiEntry, CsiIntermediate, CsiParam, DcsEntry, DcsIntermediate, DcsParam, Escape, EscapeIntermediate, OscString}
-use Rattle.anstyle_parse.specs.Decoder.{decoded}
+use Rattle.anstyle_parse.specs.Decoder.{decoded, character_in}
 use Rattle.anstyle_parse.specs.Machine.{Machine, Adds, new_machine, with_accumulator, machine_after}
 use Rattle.anstyle_parse.specs.Items.{Item, begun, IsDivision}
 
@@ -48,10 +48,12 @@ abbrev pub unseen : {A : Type 0} → Machine A → Machine (List ℕ)
 unseen m = with_accumulator [] m
 
 -- The accumulator is the decoder of UTF-8: it takes every byte, and its steps go over the
--- fronts that it holds, and answer, as the decoder's do.
-pub record Decodes (A : Type 0) (front : A → List ℕ) (takes : A → ℕ → Type 0) (adds : Adds A) : Type 0 where
+-- fronts that it holds, and answer, as the decoder's do; those of `add` answer its characters.
+pub record Decodes (A : Type 0) (front : A → List ℕ) (takes : A → ℕ → Type 0) (adds : A → ℕ → A × Option ℕ) (taken : Adds A) : Type 0 where
   pub takes_bytes : (value : A) (b : ℕ) → b < 256 → takes value b
-  pub steps : (value : A) (b : ℕ) → b < 256 → decoded (front value) b ≡ (front (adds value b).0, (adds value b).1)
+  pub steps : (value : A) (b : ℕ) → b < 256 → decoded (front value) b ≡ (front (taken value b).0, (taken value b).1)
+  pub characters : (value : A) (b : ℕ) → b < 256
+      → (front (adds value b).0 ≡ (decoded (front value) b).0) × ((adds value b).1 ≡ character_in (decoded (front value) b).1)
 
 -- the list ends inside a character: its last item is one that is begun
 abbrev pub EndsInCharacter : List ℕ → Type 0

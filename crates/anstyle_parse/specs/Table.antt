@@ -1,8 +1,8 @@
 -- The transition table, row by row: for which bytes of a state there is which answer.
 -- It is Paul Williams' (vt100.net/emu/dec_ansi_parser), with these differences: UTF-8
 -- begins in Ground, 07 ends an operating system command, 8-bit codes begin no sequence,
--- 3A separates fields. docs/DECISIONS.md names them all.
-use Rattle.std.specs.Prelude.{◌≡◌, ℕ, List, [], ◌∷◌, if◌then◌else◌}
+-- 3A separates fields. docs/DIFFERENCES.md names each cell that differs.
+use Rattle.std.specs.Prelude.{ℕ, List, [], ◌∷◌, if◌then◌else◌}
 use Rattle.std.specs.List.{list_any}
 use Rattle.anstyle_parse.specs.declared.state.definitions.State.{State}
 use Rattle.anstyle_parse.specs.declared.state.definitions.State.TheVariants.{Anywhere, CsiEntry, CsiIgnore, CsiIntermediate, CsiParam, DcsEntry, DcsIgnore, DcsIntermediate, DcsParam, DcsPassthrough, Escape, EscapeIntermediate, Ground, OscString, SosPmApcString, Utf8}
@@ -140,7 +140,3 @@ looked_up (entry ∷ entries) b other =
 -- The row Anywhere comes before the state's own. A byte that neither names changes nothing.
 unfoldable pub change_at : State → ℕ → Change
 change_at state b = looked_up (row Anywhere) b (looked_up (row state) b (Anywhere by Nop))
-
--- the answer, as the code gives it
-abbrev pub IsAnswer : State → ℕ → State × Action → Type 0
-IsAnswer state b answer = (answer.0 ≡ (change_at state b).state) × (answer.1 ≡ (change_at state b).action)

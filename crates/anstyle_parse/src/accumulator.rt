@@ -2,14 +2,28 @@
 ghost use Rattle.std.specs.Prelude.{◌≡◌, ◌<◌, ℕ, List, [], Option, Some, Bool, true, false, IsTrue, refl, ⊤};
 ghost use Rattle.std.proofs.Common.{ap};
 ghost use Rattle.std.proofs.lemmas.Bool.{false≢true};
+ghost use Rattle.anstyle_parse.specs.declared.accumulator.Taken.{Taken};
 ghost use Rattle.anstyle_parse.specs.Stands.{Decodes};
 
 use crate::utf8::Front;
 
+/// What an accumulator answers to a byte that it takes.
+#[derive(Debug, Clone, Copy, PartialEq, Eq)]
+pub enum Taken {
+    /// No character yet: more bytes have to come.
+    More,
+    /// A character, which this byte ends. The next byte is at the start of another.
+    Char(char),
+    /// What stands for a character that was begun, and that this byte breaks. The byte is no
+    /// part of it, and may itself begin another.
+    Broken(char),
+}
+
 /// Puts together the characters that have more than one byte.
 ///
-/// The parser gives it the bytes of such a character, from the first on. It answers with
-/// the character at its last byte, and with nothing before.
+/// The parser gives it the bytes of such a character, from the first on, by `take`. It answers
+/// with the character at its last byte, and with nothing before. A byte that breaks a character
+/// is given to it once more where it may begin another.
 pub trait CharAccumulator: Default {
     // The bytes of the character that is begun, none at the start of one.
     ghost front: { Self → List ℕ };
@@ -17,8 +31,10 @@ pub trait CharAccumulator: Default {
     // Which bytes it takes as it stands.
     ghost takes: { Self → ℕ → Type 0 };
 
-    // The value after a byte, and what is answered.
+    // The value after a byte, and what is answered, by `add` and by `take`.
     ghost adds: { Self → ℕ → Self × Option ℕ };
+
+    ghost taken: { Self → ℕ → Self × Taken };
 
     // Whether it is the decoder of UTF-8.
     ghost decodes: { Bool };
@@ -30,11 +46,19 @@ pub trait CharAccumulator: Default {
         ensures after { self.new ≡ (adds self.old byte).0 }
         ensures answer { result ≡ (adds self.old byte).1 };
 
+    /// Takes the next byte, as `add` does, and tells a character that it ends from one that it
+    /// breaks. `Broken` is for a byte inside a character: the parser prints what stands for the
+    /// character, and handles the byte once more. At the start of a character it is as `Char`.
+    fn take(&mut self, byte: u8) -> Taken
+        requires { takes self.old byte }
+        ensures after { self.new ≡ (taken self.old byte).0 }
+        ensures answer { result ≡ (taken self.old byte).1 };
+
     // A default value is at the start of a character.
     ghost default_holds_none: { (value : Self) → Self.is_default value → front value ≡ [] };
 
     // The decoder takes every byte, and its steps are those of The Unicode Standard, Table 3-7.
-    ghost follows: { IsTrue decodes → Decodes Self front takes adds };
+    ghost follows: { IsTrue decodes → Decodes Self front takes adds taken };
 }
 
 /// The accumulator of a parser for which none is named.
@@ -55,6 +79,8 @@ impl CharAccumulator for AsciiParser {
 
     ghost adds = { λ value b. (value, Some b) };
 
+    ghost taken = { λ value b. (value, Taken.Char b) };
+
     ghost decodes = { false };
 
     ghost default_holds_none = { λ _ _. refl };
@@ -65,6 +91,12 @@ impl CharAccumulator for AsciiParser {
     #[inline]
     fn add(&mut self, byte: u8) -> Option<char> {
         Some(char::from(byte))
+    }
+
+    /// Answers the byte's character, U+0000 to U+007F.
+    #[inline]
+    fn take(&mut self, byte: u8) -> Taken {
+        Taken::Char(char::from(byte))
     }
 }
 
@@ -92,14 +124,16 @@ impl Utf8Parser {
 
 impl CharAccumulator for Utf8Parser {
     ghost use Rattle.anstyle_parse.specs.Front.{bytes_of};
-    ghost use Rattle.anstyle_parse.specs.Accumulator.{front_of, parser_after};
+    ghost use Rattle.anstyle_parse.specs.Accumulator.{front_of, parser_after, parser_added};
     ghost use Rattle.anstyle_parse.specs.Decoding.{Decodes-parser_after};
 
     ghost front = { front_of };
 
     ghost takes = { λ _ _. ⊤ };
 
-    ghost adds = { parser_after };
+    ghost adds = { parser_added };
+
+    ghost taken = { parser_after };
 
     ghost decodes = { true };
 
@@ -120,6 +154,16 @@ impl CharAccumulator for Utf8Parser {
     /// After an answer the next byte is at the start of a character.
     #[inline(always)]
     fn add(&mut self, byte: u8) -> Option<char> {
-        self.decoder.add(byte)
+        match self.decoder.take(byte) {
+            Taken::More => None,
+            Taken::Char(c) | Taken::Broken(c) => Some(c),
+        }
+    }
+
+    /// Takes the next byte, and answers as `add` does, but for a byte that breaks a character
+    /// that was begun: the answer is `Broken(U+FFFD)`, for the front alone.
+    #[inline(always)]
+    fn take(&mut self, byte: u8) -> Taken {
+        self.decoder.take(byte)
     }
 }

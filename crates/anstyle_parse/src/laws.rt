@@ -1,7 +1,7 @@
 //! Laws of streams, calls and canonical texts.
 //!
-//! They hold of all bytes and all calls. The first is what the crate promises; each other one
-//! speaks of definitions alone, and is the contract of a function that does nothing.
+//! They hold of all bytes and all calls. The first is what the crate promises; of the others
+//! nearly each speaks of definitions alone, and is the contract of a function that does nothing.
 ghost use Rattle.std.specs.Prelude.{◌≡◌, ◌≤◌, ◌*◌, ◌↔◌, ℕ, List, [], ◌∷◌, ◌++◌, length, IsTrue};
 ghost use Rattle.std.specs.Cmp.{IsEquivalence};
 ghost use Rattle.std.specs.List.{flat_map};
@@ -17,17 +17,18 @@ ghost use Rattle.anstyle_parse.specs.Lawful.{AreLawful, AreMade};
 ghost use Rattle.anstyle_parse.specs.Output.{Adds};
 ghost use Rattle.anstyle_parse.specs.Machine.{machine_calls};
 ghost use Rattle.anstyle_parse.specs.Parser.{machine_of, IsAfter, IsAfterAscii};
-ghost use Rattle.anstyle_parse.specs.Stands.{EndsInCharacter};
+ghost use Rattle.anstyle_parse.specs.State.{state_number, action_number};
 
 use crate::accumulator::{AsciiParser, CharAccumulator, Utf8Parser};
-use crate::canon::{CanonWriter, Sink};
+use crate::canon::{CanonWriter, Fault, Sink};
 use crate::parser::Parser;
 use crate::perform::Perform;
+use crate::state::{Action, State};
 
 /// The headline: for a new parser of UTF-8 and every list of bytes, in whatever pieces it is
 /// handed on, the performer receives exactly the calls of the one division of the bytes into
-/// items; the canonical text of these calls makes the same calls again; and after two ESC
-/// bytes the calls for what follows depend on nothing before them.
+/// items; the canonical text of these calls makes the same calls again; and after one ESC byte
+/// the calls for what follows depend on nothing before it.
 ///
 /// The body hands the pieces on by a mixture of both calls, [`Parser::advance`] and
 /// [`Parser::advance_all`], whose clauses `received` and `stands` hold of any mixture.
@@ -42,9 +43,9 @@ pub fn headline<P: Perform>(performer: &mut P, pieces: &[&[u8]])
     // The canonical text of these calls makes the same calls again.
     ensures again { (bytes : List ℕ) (calls : List Call) → AreCalls bytes calls → AreCalls (canon calls) calls }
 
-    // Behind two ESC bytes the calls are those of one ESC and what follows.
-    ensures forgotten { (before bytes : List ℕ) (first more : List Call) → AreCalls (before ++ escape_byte ∷ escape_byte ∷ []) first
-        → AreCalls (escape_byte ∷ bytes) more → AreCalls (before ++ escape_byte ∷ escape_byte ∷ bytes) (first ++ more) }
+    // After one ESC byte the calls are those of ESC and what follows.
+    ensures forgotten { (before bytes : List ℕ) (first more : List Call) → AreCalls (before ++ escape_byte ∷ []) first
+        → AreCalls (escape_byte ∷ bytes) more → AreCalls (before ++ escape_byte ∷ bytes) (first ++ more) }
 {
     let mut parser = Parser::<Utf8Parser>::new();
     for piece in pieces {
@@ -114,27 +115,28 @@ pub fn canonical_text<W: Sink>()
         → Adds W.contents W.has_failed (canon calls) (output_of old) (output_of new) }
 {}
 
-/// Forgotten: after two ESC bytes nothing counts that came before.
+/// Forgotten: after one ESC byte nothing counts that came before.
 ///
-/// A parser that stands after any bytes and two ESC stands after one ESC. So after any two
-/// histories and two ESC bytes the calls of all further bytes are the same, although what is
+/// A parser that stands after any bytes and ESC stands after ESC alone. So after any two
+/// histories and one ESC byte the calls of all further bytes are the same, although what is
 /// still stored may differ.
 pub fn forgotten<C: CharAccumulator>()
-    ensures stands { (parser : Parser C) (before : List ℕ) → IsAfter C.front parser (before ++ escape_byte ∷ escape_byte ∷ [])
+    ensures stands { (parser : Parser C) (before : List ℕ) → IsAfter C.front parser (before ++ escape_byte ∷ [])
         → IsAfter C.front parser (escape_byte ∷ []) }
-    ensures ascii { (parser : Parser C) (before : List ℕ) → IsAfterAscii parser (before ++ escape_byte ∷ escape_byte ∷ [])
+    ensures ascii { (parser : Parser C) (before : List ℕ) → IsAfterAscii parser (before ++ escape_byte ∷ [])
         → IsAfterAscii parser (escape_byte ∷ []) }
     ensures calls { (before bytes : List ℕ) (more : List Call)
-        → (Continues (escape_byte ∷ []) bytes more ↔ Continues (before ++ escape_byte ∷ escape_byte ∷ []) bytes more) }
+        → (Continues (escape_byte ∷ []) bytes more ↔ Continues (before ++ escape_byte ∷ []) bytes more) }
 {}
 
-/// One byte is enough outside a character: after ESC a parser stands as after ESC alone, and
-/// after 18 or 1A as a new one.
-pub fn forgotten_outside_a_character<C: CharAccumulator>()
-    ensures escape { (parser : Parser C) (before : List ℕ) → ¬ EndsInCharacter before → IsAfter C.front parser (before ++ escape_byte ∷ [])
-        → IsAfter C.front parser (escape_byte ∷ []) }
-    ensures cancel { (parser : Parser C) (before : List ℕ) (byte : ℕ) → IsTrue (is_cancel byte) → ¬ EndsInCharacter before
+/// After 18 or 1A a parser stands as a new one, whatever came before.
+pub fn cancelled<C: CharAccumulator>()
+    ensures stands { (parser : Parser C) (before : List ℕ) (byte : ℕ) → IsTrue (is_cancel byte)
         → IsAfter C.front parser (before ++ byte ∷ []) → IsAfter C.front parser [] }
+    ensures ascii { (parser : Parser C) (before : List ℕ) (byte : ℕ) → IsTrue (is_cancel byte)
+        → IsAfterAscii parser (before ++ byte ∷ []) → IsAfterAscii parser [] }
+    ensures calls { (before bytes : List ℕ) (byte : ℕ) (more : List Call) → IsTrue (is_cancel byte)
+        → (Continues [] bytes more ↔ Continues (before ++ byte ∷ []) bytes more) }
 {}
 
 /// `==` of parsers is reflexive, symmetric and transitive. Equal parsers stand after the same
@@ -156,4 +158,31 @@ pub fn equal_accumulators()
     ensures equivalence { IsEquivalence ⟦<Utf8Parser as PartialEq>⟧.eq }
     ensures fronts { (a b : Utf8Parser) → (IsTrue (⟦<Utf8Parser as PartialEq>⟧.eq a b) ↔ (front_of a ≡ front_of b)) }
     ensures ascii { (a b : AsciiParser) → IsTrue (⟦<AsciiParser as PartialEq>⟧.eq a b) }
+{}
+
+/// `==` of states, of actions and of faults holds exactly between equal variants.
+pub fn equal_variants()
+    ensures states { (a b : State) → (IsTrue (⟦<State as PartialEq>⟧.eq a b) ↔ (a ≡ b)) }
+    ensures actions { (a b : Action) → (IsTrue (⟦<Action as PartialEq>⟧.eq a b) ↔ (a ≡ b)) }
+    ensures faults { (a b : Fault) → (IsTrue (⟦<Fault as PartialEq>⟧.eq a b) ↔ (a ≡ b)) }
+{}
+
+/// `as u8` gives the number of a state.
+pub fn state_as_number(state: State) -> u8
+    ensures { result ≡ state_number state }
+{
+    state as u8
+}
+
+/// `as u8` gives the number of an action.
+pub fn action_as_number(action: Action) -> u8
+    ensures { result ≡ action_number action }
+{
+    action as u8
+}
+
+/// The default state is Ground, and the default action Nop.
+pub fn default_variants()
+    ensures state { (value : State) → (⟦<State as Default>⟧.is_default value ↔ (value ≡ State.Ground)) }
+    ensures action { (value : Action) → (⟦<Action as Default>⟧.is_default value ↔ (value ≡ Action.Nop)) }
 {}

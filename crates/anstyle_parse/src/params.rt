@@ -1,9 +1,9 @@
 //! The parameters of a control sequence or of a device control string: groups of fields.
 //! A list of fixed size, so that no byte of a stream takes memory.
-ghost use Rattle.std.specs.Prelude.{◌≡◌, ◌≢◌, ◌<◌, ◌≤◌, ◌+◌, ◌++◌, ◌∷◌, [], ◌↔◌, ℕ, IsTrue, IfSome, ⊤, length, take, slice_index};
+ghost use Rattle.std.specs.Prelude.{◌≡◌, ◌<◌, ◌≤◌, ◌+◌, ◌-◌, ◌/◌, ◌%◌, ◌^◌, ◌++◌, ◌∷◌, [], ◌↔◌, ℕ, IsTrue, IfSome, ⊤, length};
 ghost use Rattle.std.specs.Bool.{OnFalse, OnTrue};
 ghost use Rattle.std.specs.List.{concat};
-ghost use Rattle.anstyle_parse.specs.Groups.{total, none_is_zero, fields_text};
+ghost use Rattle.anstyle_parse.specs.Groups.{fields_text};
 ghost use Rattle.std.specs.Iterator.{YieldsFirstBy, item_count, UpTo};
 ghost use Rattle.std.specs.Iterator.SizeHint.{IsWithinCount};
 ghost use Rattle.std.specs.Fmt.{WritesOnOk};
@@ -20,28 +20,28 @@ pub const MAX_PARAMS: usize = 32;
 pub struct Params {
     /// All fields, group after group.
     numbers: [u16; MAX_PARAMS],
-    /// How many fields each closed group has, and behind them the open one.
-    lengths: [u8; MAX_PARAMS],
-    /// How many groups are closed.
-    closed_groups: usize,
+    /// Bit i is set exactly if a group begins at field i.
+    starts: u32,
     /// How many fields the open group has; 0 where no group is open.
     open_fields: u8,
     /// How many fields there are.
     len: usize,
-    ghost summed: { total (take closed_groups lengths) + open_fields ≡ len },
     ghost in_range: { len ≤ 32 },
-    ghost none_is_empty: { IsTrue (none_is_zero (take closed_groups lengths)) },
-    ghost each_has_a_field: { closed_groups + open_fields ≤ len },
-    ghost open_length: { 0 < open_fields → slice_index lengths closed_groups ≡ open_fields },
+    ghost none_above: { starts < 2 ^ len },
+    ghost first_starts: { 0 < len → starts % 2 ≡ 1 },
+    ghost open_within: { open_fields ≤ len },
+    ghost open_is_last: { 0 < open_fields → starts / 2 ^ (len - open_fields) ≡ 1 },
 }
 
 impl Params {
+    ghost use Rattle.anstyle_parse.specs.Arguments.{max_fields};
     ghost use Rattle.anstyle_parse.specs.Groups.{HaveFields};
-    ghost use Rattle.anstyle_parse.specs.Params.{groups_shown, groups_left, closed_groups_of, open_group_of};
+    ghost use Rattle.anstyle_parse.specs.Params.{groups_shown, groups_left, closed_groups_of, open_group_of, AreFew};
 
-    /// How many fields there are, subparameters included.
+    /// How many fields there are, subparameters included: at most 32.
     pub fn len(&self) -> usize
-        ensures { result ≡ length (concat (groups_shown self.now)) }
+        ensures fields { result ≡ length (concat (groups_shown self.now)) }
+        ensures limit { result ≤ max_fields }
     {
         self.len
     }
@@ -53,21 +53,18 @@ impl Params {
         self.len == 0
     }
 
-    /// The groups in order, each a slice of these parameters. None of them is empty.
+    /// The groups in order, each a slice of these parameters. None of them is empty, and
+    /// there are at most 32 fields in all.
     pub fn iter(&self) -> ParamsIter<'_>
         ensures groups { groups_left result ≡ groups_shown self.now }
         ensures have_fields { HaveFields (groups_shown self.now) }
+        ensures limit { AreFew (groups_shown self.now) }
     {
-        let groups = if self.open_fields == 0 {
-            self.closed_groups
-        } else {
-            self.closed_groups + 1
-        };
-        let lengths = &self.lengths[..];
         let numbers = &self.numbers[..];
         ParamsIter {
-            lengths: &lengths[..groups],
             numbers: &numbers[..self.len],
+            starts: self.starts,
+            place: 0,
         }
     }
 
@@ -92,7 +89,7 @@ impl Params {
         ensures closed { closed_groups_of self.new ≡ [] }
         ensures open { open_group_of self.new ≡ [] }
     {
-        self.closed_groups = 0;
+        self.starts = 0;
         self.open_fields = 0;
         self.len = 0;
     }
@@ -103,9 +100,13 @@ impl Params {
         ensures closed { closed_groups_of self.new ≡ closed_groups_of self.old ++ (open_group_of self.old ++ field ∷ []) ∷ [] }
         ensures open { open_group_of self.new ≡ [] }
     {
-        self.lengths[self.closed_groups] = self.open_fields + 1;
+        let starts = if self.open_fields == 0 {
+            self.starts | start_bit(self.len)
+        } else {
+            self.starts
+        };
+        self.starts = starts;
         self.numbers[self.len] = field;
-        self.closed_groups += 1;
         self.open_fields = 0;
         self.len += 1;
     }
@@ -116,7 +117,12 @@ impl Params {
         ensures closed { closed_groups_of self.new ≡ closed_groups_of self.old }
         ensures open { open_group_of self.new ≡ open_group_of self.old ++ field ∷ [] }
     {
-        self.lengths[self.closed_groups] = self.open_fields + 1;
+        let starts = if self.open_fields == 0 {
+            self.starts | start_bit(self.len)
+        } else {
+            self.starts
+        };
+        self.starts = starts;
         self.numbers[self.len] = field;
         self.open_fields += 1;
         self.len += 1;
@@ -131,8 +137,7 @@ impl Default for Params {
     fn default() -> Params {
         Params {
             numbers: [0; MAX_PARAMS],
-            lengths: [0; MAX_PARAMS],
-            closed_groups: 0,
+            starts: 0,
             open_fields: 0,
             len: 0,
         }
@@ -164,8 +169,7 @@ impl Clone for Params {
     fn clone(&self) -> Result<Params, AllocError> {
         Ok(Params {
             numbers: self.numbers,
-            lengths: self.lengths,
-            closed_groups: self.closed_groups,
+            starts: self.starts,
             open_fields: self.open_fields,
             len: self.len,
         })
@@ -203,9 +207,16 @@ impl Params {
 /// The groups of a `Params`, in order.
 #[derive(Drop)]
 pub struct ParamsIter<'a> {
-    lengths: &'a [u8],
+    /// All fields.
     numbers: &'a [u16],
-    ghost summed: { total lengths.now ≡ length numbers.now },
+    /// Bit i is set exactly if a group begins at field i.
+    starts: u32,
+    /// The field where the next group begins.
+    place: usize,
+    ghost in_range: { length numbers.now ≤ 32 },
+    ghost none_above: { starts < 2 ^ length numbers.now },
+    ghost place_within: { place ≤ length numbers.now },
+    ghost place_starts: { place < length numbers.now → starts / 2 ^ place % 2 ≡ 1 },
 }
 
 impl<'a> Iterator for ParamsIter<'a> {
@@ -220,10 +231,13 @@ impl<'a> Iterator for ParamsIter<'a> {
     /// The next group, or nothing where none is left: behind the last group every further
     /// call answers nothing.
     fn next(&mut self) -> Option<&'a [u16]> {
-        let (length, lengths) = self.lengths.split_first()?;
-        let (group, numbers) = self.numbers.split_at(*length as usize);
-        self.lengths = lengths;
-        self.numbers = numbers;
+        let (_, rest) = self.numbers.split_at(self.place);
+        let (_, others) = rest.split_first()?;
+        // The group goes on to where another one begins, or to the last field.
+        let starts = self.starts >> self.place >> 1;
+        let more = (starts.trailing_zeros() as usize).min(others.len());
+        let (group, _) = rest.split_at(1 + more);
+        self.place += group.len();
         Some(group)
     }
 
@@ -243,7 +257,11 @@ impl<'a> ExactSizeIterator for ParamsIter<'a> {
 
     /// How many groups are left.
     fn len(&self) -> usize {
-        self.lengths.len()
+        if self.place < MAX_PARAMS {
+            (self.starts >> self.place).count_ones() as usize
+        } else {
+            0
+        }
     }
 }
 
@@ -256,9 +274,10 @@ impl<'a> IntoIterator for &'a Params {
     type IntoIter = ParamsIter<'a>;
 
     ghost use Rattle.anstyle_parse.specs.Groups.{HaveFields};
-    ghost use Rattle.anstyle_parse.specs.Params.{groups_shown, groups_left};
+    ghost use Rattle.anstyle_parse.specs.Params.{groups_shown, groups_left, AreFew};
 
-    ghost into_iter_gives = { λ params iter. (groups_left iter ≡ groups_shown params.now) × HaveFields (groups_shown params.now) };
+    ghost into_iter_gives = { λ params iter. (groups_left iter ≡ groups_shown params.now)
+        × HaveFields (groups_shown params.now) × AreFew (groups_shown params.now) };
 
     /// The groups in order, as `iter` gives them.
     fn into_iter(self) -> ParamsIter<'a> {
@@ -283,6 +302,14 @@ impl<'a> ParamsIter<'a> {
         }
         Ok(())
     }
+}
+
+/// The bit of a field among the starts.
+fn start_bit(field: usize) -> u32
+    requires { field < 32 }
+    ensures { result ≡ 2 ^ field }
+{
+    1 << field
 }
 
 /// Writes the fields of a group in decimal, with `:` between them.

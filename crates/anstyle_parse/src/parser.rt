@@ -1,11 +1,11 @@
 //! The parser: a state, what a sequence has said so far, and an accumulator of characters.
-ghost use Rattle.std.specs.Prelude.{◌≡◌, ◌≤◌, ◌<◌, ℕ, List, false, length, take, map};
+ghost use Rattle.std.specs.Prelude.{◌≡◌, ◌≢◌, ◌≤◌, ◌<◌, ℕ, List, false, length, take, map};
 ghost use Rattle.anstyle_parse.specs.Groups.{total, cut};
 ghost use Rattle.anstyle_parse.specs.Call.{Goes};
 ghost use Rattle.anstyle_parse.specs.Machine.{exit_action as exit_of, entry_action as entry_of};
 ghost use Rattle.arrayvec.specs.ArrayVec.{array_vec_len};
 
-use crate::accumulator::{CharAccumulator, DefaultCharAccumulator, Utf8Parser};
+use crate::accumulator::{CharAccumulator, DefaultCharAccumulator, Taken, Utf8Parser};
 use crate::params::Params;
 use crate::perform::Perform;
 use crate::state::{Action, State, state_change};
@@ -74,12 +74,12 @@ impl<C: CharAccumulator> Default for Parser<C> {
 
 impl<C: Clone> Clone for Parser<C> {
     ghost use Rattle.anstyle_parse.specs.Machine.{with_accumulator};
-    ghost use Rattle.anstyle_parse.specs.Parser.{machine_of};
+    ghost use Rattle.anstyle_parse.specs.Parser.{machine_of, accumulator_of};
 
-    ghost is_clone = { λ parser clone. C.is_clone parser.accumulator clone.accumulator
-        × (machine_of clone ≡ with_accumulator clone.accumulator (machine_of parser)) };
+    ghost is_clone = { λ parser clone. C.is_clone (accumulator_of parser) (accumulator_of clone)
+        × (machine_of clone ≡ with_accumulator (accumulator_of clone) (machine_of parser)) };
 
-    ghost is_infallible = { λ parser. C.is_infallible parser.accumulator };
+    ghost is_infallible = { λ parser. C.is_infallible (accumulator_of parser) };
 
     /// A parser that stands where this one stands. It fails only where the clone of the
     /// accumulator does.
@@ -103,9 +103,9 @@ impl<C: Clone> Clone for Parser<C> {
 }
 
 impl<C: CharAccumulator> Parser<C> {
-    ghost use Rattle.std.specs.Prelude.{◌++◌, ◌∷◌, [], IsTrue, ◌↔◌};
+    ghost use Rattle.std.specs.Prelude.{◌++◌, ◌∷◌, [], IsTrue, ◌↔◌, ◌⊎◌};
     ghost use Rattle.anstyle_parse.specs.Bytes.{is_cancel, escape_byte};
-    ghost use Rattle.anstyle_parse.specs.Parser.{machine_of, IsNew, IsInCharacter, HasOpenString, MayTake, MayTakeAll, IsAfter, IsAfterAscii, AreBelow};
+    ghost use Rattle.anstyle_parse.specs.Parser.{machine_of, IsNew, IsInCharacter, HasOpenString, BreaksCharacter, MayTake, MayTakeAll, IsAfter, IsAfterAscii, AreBelow};
     ghost use Rattle.anstyle_parse.specs.Machine.{step, step_calls, machine_after, machine_calls, IsWithinLimits};
     ghost use Rattle.anstyle_parse.specs.Calls.{Continues, AreCalls, HasReceived};
     ghost use Rattle.anstyle_parse.specs.Call.{Call};
@@ -126,13 +126,15 @@ impl<C: CharAccumulator> Parser<C> {
     ///
     /// With `Utf8Parser` there is no condition. With an accumulator that does not decode UTF-8
     /// it is that the accumulator takes the byte if it reaches it: inside a character, or in
-    /// the ground state where the byte is C2..F4.
+    /// the ground state where the byte is C2..F4. Where the accumulator answers `Broken` inside
+    /// a character and the byte is C2..F4, it reaches it once more, as it stands then.
     ///
     /// At most two calls are made, and two only where 18 or 1A ends an operating system command
-    /// or a hooked device control string.
+    /// or a hooked device control string, or where the byte breaks a character that was begun:
+    /// that is printed, and then the byte is handled in the ground state.
     #[inline]
     pub fn advance<P: Perform>(&mut self, performer: &mut P, byte: u8)
-        requires { MayTake C.decodes C.takes self.old byte }
+        requires { MayTake C.decodes C.takes C.taken self.old byte }
 
         // The headline: the parser stands after all bytes, and a performer that has received
         // exactly the calls of the bytes before has received exactly those of all.
@@ -142,23 +144,24 @@ impl<C: CharAccumulator> Parser<C> {
             → HasReceived P.means first before performer.old → HasReceived P.means first (before ++ byte ∷ []) performer.new }
 
         // One byte does what the machine does with it.
-        ensures machine { machine_of self.new ≡ step C.adds byte (machine_of self.old) }
-        ensures calls { Goes P.means performer.old (step_calls C.adds byte (machine_of self.old)) performer.new }
+        ensures machine { machine_of self.new ≡ step C.taken byte (machine_of self.old) }
+        ensures calls { Goes P.means performer.old (step_calls C.taken byte (machine_of self.old)) performer.new }
         ensures limits { IsWithinLimits (machine_of self.new) }
 
-        // Two calls are made only where a cancel ends a command or a hooked string.
-        ensures few { length (step_calls C.adds byte (machine_of self.old)) ≤ 2 }
-        ensures two { length (step_calls C.adds byte (machine_of self.old)) ≡ 2
-            → IsTrue (is_cancel byte) × HasOpenString self.old }
+        // Two calls are made only where a cancel ends a command or a hooked string, or where
+        // the byte breaks a character that was begun.
+        ensures few { length (step_calls C.taken byte (machine_of self.old)) ≤ 2 }
+        ensures two { length (step_calls C.taken byte (machine_of self.old)) ≡ 2
+            → (IsTrue (is_cancel byte) × HasOpenString self.old) ⊎ BreaksCharacter C.taken self.old byte }
 
         // These calls continue those of the bytes before; over ASCII this is so for any
         // accumulator.
         ensures stream { (before : List ℕ) → IsTrue C.decodes → IsAfter C.front self.old before
-            → Continues before (byte ∷ []) (step_calls C.adds byte (machine_of self.old)) }
+            → Continues before (byte ∷ []) (step_calls C.taken byte (machine_of self.old)) }
         ensures ascii_stands { (before : List ℕ) → byte < 0x80 → IsAfterAscii self.old before
             → IsAfterAscii self.new (before ++ byte ∷ []) }
         ensures ascii_stream { (before : List ℕ) → byte < 0x80 → IsAfterAscii self.old before
-            → Continues before (byte ∷ []) (step_calls C.adds byte (machine_of self.old)) }
+            → Continues before (byte ∷ []) (step_calls C.taken byte (machine_of self.old)) }
     {
         self.take_byte(performer, byte);
     }
@@ -183,36 +186,40 @@ impl<C: CharAccumulator> Parser<C> {
             → HasReceived P.means first before performer.old → HasReceived P.means first (before ++ bytes.now) performer.new }
 
         // The bytes do what the machine does with each in turn.
-        ensures machine { machine_of self.new ≡ machine_after C.adds bytes.now (machine_of self.old) }
-        ensures calls { Goes P.means performer.old (machine_calls C.adds bytes.now (machine_of self.old)) performer.new }
+        ensures machine { machine_of self.new ≡ machine_after C.taken bytes.now (machine_of self.old) }
+        ensures calls { Goes P.means performer.old (machine_calls C.taken bytes.now (machine_of self.old)) performer.new }
         ensures limits { IsWithinLimits (machine_of self.new) }
 
         // These calls continue those of the bytes before; over ASCII this is so for any
         // accumulator.
         ensures stream { (before : List ℕ) → IsTrue C.decodes → IsAfter C.front self.old before
-            → Continues before bytes.now (machine_calls C.adds bytes.now (machine_of self.old)) }
+            → Continues before bytes.now (machine_calls C.taken bytes.now (machine_of self.old)) }
         ensures ascii_stands { (before : List ℕ) → AreBelow 0x80 bytes.now → IsAfterAscii self.old before
             → IsAfterAscii self.new (before ++ bytes.now) }
         ensures ascii_stream { (before : List ℕ) → AreBelow 0x80 bytes.now → IsAfterAscii self.old before
-            → Continues before bytes.now (machine_calls C.adds bytes.now (machine_of self.old)) }
+            → Continues before bytes.now (machine_calls C.taken bytes.now (machine_of self.old)) }
 
         // All calls so far are a lawful list: so hooks exceed unhooks by at most one, and
         // between the two only put is called.
         ensures lawful { (before : List ℕ) (first : List Call) → IsTrue C.decodes → IsAfter C.front self.old before
-            → AreCalls before first → AreLawful (first ++ machine_calls C.adds bytes.now (machine_of self.old)) }
+            → AreCalls before first → AreLawful (first ++ machine_calls C.taken bytes.now (machine_of self.old)) }
 
-        // Behind two ESC bytes, and outside a character behind one, the calls are those of one
-        // ESC and these bytes; behind 18 or 1A outside a character, those of these bytes.
-        // Nothing before counts.
+        // After one ESC byte the calls are those of ESC and these bytes; after 18 or 1A, those of
+        // these bytes. Nothing before counts.
         ensures forgotten { (before : List ℕ) → IsTrue C.decodes
-            → IsAfter C.front self.old (before ++ escape_byte ∷ escape_byte ∷ [])
-            → AreCalls (escape_byte ∷ bytes.now) (machine_calls C.adds bytes.now (machine_of self.old)) }
-        ensures forgotten_once { (before : List ℕ) → IsTrue C.decodes → ¬ EndsInCharacter before
             → IsAfter C.front self.old (before ++ escape_byte ∷ [])
-            → AreCalls (escape_byte ∷ bytes.now) (machine_calls C.adds bytes.now (machine_of self.old)) }
+            → AreCalls (escape_byte ∷ bytes.now) (machine_calls C.taken bytes.now (machine_of self.old)) }
         ensures cancelled { (before : List ℕ) (cancel : ℕ) → IsTrue C.decodes → IsTrue (is_cancel cancel)
-            → ¬ EndsInCharacter before → IsAfter C.front self.old (before ++ cancel ∷ [])
-            → AreCalls bytes.now (machine_calls C.adds bytes.now (machine_of self.old)) }
+            → IsAfter C.front self.old (before ++ cancel ∷ [])
+            → AreCalls bytes.now (machine_calls C.taken bytes.now (machine_of self.old)) }
+
+        // Over ASCII one ESC, 18 or 1A is always enough, for any accumulator.
+        ensures ascii_escape { (before : List ℕ) → AreBelow 0x80 bytes.now
+            → IsAfterAscii self.old (before ++ escape_byte ∷ [])
+            → AreCalls (escape_byte ∷ bytes.now) (machine_calls C.taken bytes.now (machine_of self.old)) }
+        ensures ascii_cancel { (before : List ℕ) (cancel : ℕ) → AreBelow 0x80 bytes.now → IsTrue (is_cancel cancel)
+            → IsAfterAscii self.old (before ++ cancel ∷ [])
+            → AreCalls bytes.now (machine_calls C.taken bytes.now (machine_of self.old)) }
 
         // A new parser makes of the canonical text of lawful calls exactly these calls.
         ensures replay { (calls : List Call) → IsTrue C.decodes → IsAfter C.front self.old [] → AreLawful calls
@@ -408,14 +415,16 @@ fn parts_of<'a>(text: &'a [u8], lengths: &[usize]) -> [&'a [u8]; MAX_OSC_PARTS]
 
 /// One byte.
 impl<C: CharAccumulator> Parser<C> {
+    ghost use Rattle.std.specs.Prelude.{◌∷◌, [], IsTrue, ◌↔◌};
+    ghost use Rattle.anstyle_parse.specs.Call.{print};
     ghost use Rattle.anstyle_parse.specs.Parser.{machine_of};
-    ghost use Rattle.anstyle_parse.specs.Parser.{CanTake, CanTakeAll};
-    ghost use Rattle.anstyle_parse.specs.Machine.{after_action, action_calls, after_change, change_calls, after_continuation, print_answer, step, step_calls, machine_after, machine_calls};
+    ghost use Rattle.anstyle_parse.specs.Parser.{CanTake, CanTakeAll, ReachesAccumulator};
+    ghost use Rattle.anstyle_parse.specs.Machine.{after_action, action_calls, after_change, change_calls, after_continuation, print_answer, IsBroken, step_from, step_calls_from, step, step_calls, machine_after, machine_calls};
 
     /// The command's last part is closed, and all of them are dispatched.
     fn osc_end<P: Perform>(&mut self, performer: &mut P, byte: u8)
-        ensures machine { machine_of self.new ≡ after_action C.adds Action.OscEnd byte (machine_of self.old) }
-        ensures calls { Goes P.means performer.old (action_calls C.adds Action.OscEnd byte (machine_of self.old)) performer.new }
+        ensures machine { machine_of self.new ≡ after_action C.taken Action.OscEnd byte (machine_of self.old) }
+        ensures calls { Goes P.means performer.old (action_calls C.taken Action.OscEnd byte (machine_of self.old)) performer.new }
     {
         self.close_part();
         let lengths = &self.osc_lengths[..];
@@ -423,22 +432,24 @@ impl<C: CharAccumulator> Parser<C> {
         performer.osc_dispatch(&parts[..self.osc_parts], byte == BELL);
     }
 
-    /// A byte of a character.
+    /// The first byte of a character.
+    #[inline]
     fn accumulate<P: Perform>(&mut self, performer: &mut P, byte: u8)
         requires { C.takes self.old.accumulator byte }
-        ensures machine { machine_of self.new ≡ after_action C.adds Action.BeginUtf8 byte (machine_of self.old) }
-        ensures calls { Goes P.means performer.old (action_calls C.adds Action.BeginUtf8 byte (machine_of self.old)) performer.new }
+        ensures machine { machine_of self.new ≡ after_action C.taken Action.BeginUtf8 byte (machine_of self.old) }
+        ensures calls { Goes P.means performer.old (action_calls C.taken Action.BeginUtf8 byte (machine_of self.old)) performer.new }
     {
-        if let Some(c) = self.accumulator.add(byte) {
-            performer.print(c);
+        match self.accumulator.take(byte) {
+            Taken::More => {}
+            Taken::Char(c) | Taken::Broken(c) => performer.print(c),
         }
     }
 
     #[inline(always)]
     fn perform_action<P: Perform>(&mut self, performer: &mut P, action: Action, byte: u8)
         requires { action ≡ Action.BeginUtf8 → C.takes self.old.accumulator byte }
-        ensures machine { machine_of self.new ≡ after_action C.adds action byte (machine_of self.old) }
-        ensures calls { Goes P.means performer.old (action_calls C.adds action byte (machine_of self.old)) performer.new }
+        ensures machine { machine_of self.new ≡ after_action C.taken action byte (machine_of self.old) }
+        ensures calls { Goes P.means performer.old (action_calls C.taken action byte (machine_of self.old)) performer.new }
     {
         match action {
             Action::Print => performer.print(char::from(byte)),
@@ -476,8 +487,8 @@ impl<C: CharAccumulator> Parser<C> {
         byte: u8,
     )
         requires { action ≡ Action.BeginUtf8 → C.takes self.old.accumulator byte }
-        ensures machine { machine_of self.new ≡ after_change C.adds state action byte (machine_of self.old) }
-        ensures calls { Goes P.means performer.old (change_calls C.adds state action byte (machine_of self.old)) performer.new }
+        ensures machine { machine_of self.new ≡ after_change C.taken state action byte (machine_of self.old) }
+        ensures calls { Goes P.means performer.old (change_calls C.taken state action byte (machine_of self.old)) performer.new }
     {
         match state {
             State::Anywhere => self.perform_action(performer, action, byte),
@@ -490,41 +501,75 @@ impl<C: CharAccumulator> Parser<C> {
         }
     }
 
-    /// A byte inside a character: an answer of the accumulator is printed, and leads back
-    /// to the ground state.
-    fn continue_character<P: Perform>(&mut self, performer: &mut P, byte: u8)
+    /// A byte outside a character, as the table has it.
+    #[inline(always)]
+    fn take_from<P: Perform>(&mut self, performer: &mut P, state: State, byte: u8)
+        requires is { self.old.state ≡ state }
+        requires outside { state ≢ State.Utf8 }
+        requires takes { ReachesAccumulator state byte → C.takes self.old.accumulator byte }
+        ensures machine { machine_of self.new ≡ step_from C.taken state byte (machine_of self.old) }
+        ensures calls { Goes P.means performer.old (step_calls_from C.taken state byte (machine_of self.old)) performer.new }
+    {
+        let (state, action) = state_change(state, byte);
+        self.change_state(performer, state, action, byte);
+    }
+
+    /// A character is printed, and leads back to the ground state.
+    #[inline(always)]
+    fn end_character<P: Perform>(&mut self, performer: &mut P, c: char)
+        ensures machine { machine_of self.new ≡ record (machine_of self.old) { state = State.Ground } }
+        ensures calls { Goes P.means performer.old (print c ∷ []) performer.new }
+    {
+        performer.print(c);
+        self.state = State::Ground;
+    }
+
+    /// A byte inside a character: a character that the accumulator answers is printed, and leads
+    /// back to the ground state. Answers whether the byte broke it, and has to be handled there.
+    fn continue_character<P: Perform>(&mut self, performer: &mut P, byte: u8) -> bool
         requires inside { self.old.state ≡ State.Utf8 }
         requires takes { C.takes self.old.accumulator byte }
-        ensures machine { machine_of self.new ≡ after_continuation C.adds byte (machine_of self.old) }
-        ensures calls { Goes P.means performer.old (print_answer (C.adds self.old.accumulator byte).1) performer.new }
+        ensures machine { machine_of self.new ≡ after_continuation C.taken byte (machine_of self.old) }
+        ensures calls { Goes P.means performer.old (print_answer (C.taken self.old.accumulator byte).1) performer.new }
+        ensures breaks { IsTrue result ↔ IsBroken (C.taken self.old.accumulator byte).1 }
     {
-        if let Some(c) = self.accumulator.add(byte) {
-            performer.print(c);
-            self.state = State::Ground;
+        match self.accumulator.take(byte) {
+            Taken::More => false,
+            Taken::Char(c) => {
+                self.end_character(performer, c);
+                false
+            }
+            Taken::Broken(c) => {
+                self.end_character(performer, c);
+                true
+            }
         }
     }
 
     /// One byte, as the machine takes it.
     #[inline(always)]
     fn take_byte<P: Perform>(&mut self, performer: &mut P, byte: u8)
-        requires { CanTake C.takes self.old byte }
-        ensures machine { machine_of self.new ≡ step C.adds byte (machine_of self.old) }
-        ensures calls { Goes P.means performer.old (step_calls C.adds byte (machine_of self.old)) performer.new }
+        requires { CanTake C.takes C.taken self.old byte }
+        ensures machine { machine_of self.new ≡ step C.taken byte (machine_of self.old) }
+        ensures calls { Goes P.means performer.old (step_calls C.taken byte (machine_of self.old)) performer.new }
     {
-        match self.state {
-            State::Utf8 => self.continue_character(performer, byte),
-            state => {
-                let (state, action) = state_change(state, byte);
-                self.change_state(performer, state, action, byte);
+        let state = match self.state {
+            State::Utf8 => {
+                if !self.continue_character(performer, byte) {
+                    return;
+                }
+                State::Ground
             }
-        }
+            state => state,
+        };
+        self.take_from(performer, state, byte);
     }
 
     /// Bytes, as the machine takes them one after another.
     fn take_bytes<P: Perform>(&mut self, performer: &mut P, bytes: &[u8])
         requires { CanTakeAll C.takes self.old bytes.now }
-        ensures machine { machine_of self.new ≡ machine_after C.adds bytes.now (machine_of self.old) }
-        ensures calls { Goes P.means performer.old (machine_calls C.adds bytes.now (machine_of self.old)) performer.new }
+        ensures machine { machine_of self.new ≡ machine_after C.taken bytes.now (machine_of self.old) }
+        ensures calls { Goes P.means performer.old (machine_calls C.taken bytes.now (machine_of self.old)) performer.new }
     {
         for byte in bytes {
             self.take_byte(performer, *byte);

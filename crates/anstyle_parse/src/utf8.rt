@@ -2,11 +2,14 @@
 //!
 //! What it holds of a character is the bytes that have come, and nothing beside them: at
 //! each further byte it looks at these again, so that the answer is right whatever it holds.
-ghost use Rattle.std.specs.Prelude.{◌≡◌, ◌∷◌, [], Some, IsTrue};
+ghost use Rattle.std.specs.Prelude.{◌≡◌, ◌∷◌, [], IsTrue};
+ghost use Rattle.std.specs.Char.{InScalarRange};
 ghost use Rattle.anstyle_parse.specs.Bytes.{is_within};
 ghost use Rattle.anstyle_parse.specs.Characters.{character_of};
 ghost use Rattle.anstyle_parse.specs.Decoder.{started, continued, decoded};
 ghost use Rattle.anstyle_parse.specs.Front.{bytes_of, front_with, is_front_of, IsStep};
+
+use crate::accumulator::Taken;
 
 /// The front of a character: those of its bytes that have come, none at the start of one.
 #[derive(Debug, Clone, Copy, PartialEq, Eq, Default)]
@@ -22,7 +25,7 @@ impl Front {
     /// Takes the next byte: answers the character that it completes, U+FFFD where it breaks
     /// one or begins none, and nothing where more bytes have to come.
     #[inline(always)]
-    pub fn add(&mut self, byte: u8) -> Option<char>
+    pub fn take(&mut self, byte: u8) -> Taken
         ensures after { self.new ≡ front_with (decoded (bytes_of self.old) byte).0 }
         ensures answer { result ≡ (decoded (bytes_of self.old) byte).1 }
     {
@@ -37,32 +40,32 @@ impl Front {
     }
 }
 
-/// The answer to a byte that breaks a character. The byte is used up.
-const BROKEN: (Front, Option<char>) = (Front::Empty, Some(char::REPLACEMENT_CHARACTER));
+/// The answer to a byte that breaks a character.
+const BROKEN: (Front, Taken) = (Front::Empty, Taken::Broken(char::REPLACEMENT_CHARACTER));
 
 /// The front after the first byte of a character, and the answer.
 #[inline(always)]
 #[tactic(auto, unfolding(crate::specs::Bytes::is_within, crate::specs::Characters::is_lead))]
-fn first(a: u8) -> (Front, Option<char>)
+fn first(a: u8) -> (Front, Taken)
     ensures { IsStep (started a) result }
 {
     match a {
-        0x00..=0x7F => (Front::Empty, Some(char::from(a))),
-        0xC2..=0xF4 => (Front::One(a), None),
-        _ => BROKEN,
+        0x00..=0x7F => (Front::Empty, Taken::Char(char::from(a))),
+        0xC2..=0xF4 => (Front::One(a), Taken::More),
+        _ => (Front::Empty, Taken::Char(char::REPLACEMENT_CHARACTER)),
     }
 }
 
 /// The same after the second byte, behind the first.
 #[inline(always)]
 #[tactic(auto, using(crate::proofs::Fronts::second_byte))]
-fn second(a: u8, b: u8) -> (Front, Option<char>)
+fn second(a: u8, b: u8) -> (Front, Taken)
     ensures { IsStep (continued (a ∷ b ∷ [])) result }
 {
     if is_two(a, b) {
-        (Front::Empty, character_of_two(a, b))
+        (Front::Empty, Taken::Char(character_of_two(a, b)))
     } else if begins_three(a, b) || begins_four(a, b) {
-        (Front::Two(a, b), None)
+        (Front::Two(a, b), Taken::More)
     } else {
         BROKEN
     }
@@ -71,15 +74,15 @@ fn second(a: u8, b: u8) -> (Front, Option<char>)
 /// After the third byte, behind two.
 #[inline(always)]
 #[tactic(auto, using(crate::proofs::Fronts::third_byte))]
-fn third(a: u8, b: u8, c: u8) -> (Front, Option<char>)
+fn third(a: u8, b: u8, c: u8) -> (Front, Taken)
     ensures { IsStep (continued (a ∷ b ∷ c ∷ [])) result }
 {
     if !is_continuation(c) {
         BROKEN
     } else if begins_three(a, b) {
-        (Front::Empty, character_of_three(a, b, c))
+        (Front::Empty, Taken::Char(character_of_three(a, b, c)))
     } else if begins_four(a, b) {
-        (Front::Three(a, b, c), None)
+        (Front::Three(a, b, c), Taken::More)
     } else {
         BROKEN
     }
@@ -88,11 +91,11 @@ fn third(a: u8, b: u8, c: u8) -> (Front, Option<char>)
 /// After the fourth byte, behind three: the last.
 #[inline(always)]
 #[tactic(auto, using(crate::proofs::Fronts::fourth_byte))]
-fn fourth(a: u8, b: u8, c: u8, d: u8) -> (Front, Option<char>)
+fn fourth(a: u8, b: u8, c: u8, d: u8) -> (Front, Taken)
     ensures { IsStep (continued (a ∷ b ∷ c ∷ d ∷ [])) result }
 {
     if begins_four(a, b) && is_continuation(c) && is_continuation(d) {
-        (Front::Empty, character_of_four(a, b, c, d))
+        (Front::Empty, Taken::Char(character_of_four(a, b, c, d)))
     } else {
         BROKEN
     }
@@ -144,33 +147,42 @@ fn begins_four(a: u8, b: u8) -> bool
     }
 }
 
-/// The character of two bytes, by their low five and six bits; never nothing.
+/// The character of two bytes, by their low five and six bits.
 #[inline(always)]
 #[tactic(auto, using(crate::proofs::Fronts::scalar_values))]
-fn character_of_two(a: u8, b: u8) -> Option<char>
-    ensures { result ≡ Some (character_of (a ∷ b ∷ [])) }
+fn character_of_two(a: u8, b: u8) -> char
+    ensures { result ≡ character_of (a ∷ b ∷ []) }
 {
-    char::from_u32(a as u32 % 32 * 64 + b as u32 % 64)
+    scalar_value(a as u32 % 32 * 64 + b as u32 % 64)
 }
 
-/// The character of three bytes, by their low four, six and six bits; never nothing.
+/// The character of three bytes, by their low four, six and six bits.
 #[inline(always)]
 #[tactic(auto, using(crate::proofs::Fronts::scalar_values))]
-fn character_of_three(a: u8, b: u8, c: u8) -> Option<char>
+fn character_of_three(a: u8, b: u8, c: u8) -> char
     requires { IsTrue (is_front_of 3 (a ∷ b ∷ [])) }
-    ensures { result ≡ Some (character_of (a ∷ b ∷ c ∷ [])) }
+    ensures { result ≡ character_of (a ∷ b ∷ c ∷ []) }
 {
-    char::from_u32((a as u32 % 16 * 64 + b as u32 % 64) * 64 + c as u32 % 64)
+    scalar_value((a as u32 % 16 * 64 + b as u32 % 64) * 64 + c as u32 % 64)
 }
 
-/// The character of four bytes, by their low three and three times six bits; never nothing.
+/// The character of four bytes, by their low three and three times six bits.
 #[inline(always)]
 #[tactic(auto, using(crate::proofs::Fronts::scalar_values))]
-fn character_of_four(a: u8, b: u8, c: u8, d: u8) -> Option<char>
+fn character_of_four(a: u8, b: u8, c: u8, d: u8) -> char
     requires { IsTrue (is_front_of 4 (a ∷ b ∷ [])) }
-    ensures { result ≡ Some (character_of (a ∷ b ∷ c ∷ d ∷ [])) }
+    ensures { result ≡ character_of (a ∷ b ∷ c ∷ d ∷ []) }
 {
-    char::from_u32(((a as u32 % 8 * 64 + b as u32 % 64) * 64 + c as u32 % 64) * 64 + d as u32 % 64)
+    scalar_value(((a as u32 % 8 * 64 + b as u32 % 64) * 64 + c as u32 % 64) * 64 + d as u32 % 64)
+}
+
+/// The character of a number that is one.
+#[inline(always)]
+fn scalar_value(number: u32) -> char
+    requires { InScalarRange number }
+    ensures { result ≡ number }
+{
+    char::from_u32(number).unwrap()
 }
 
 #[cfg(test)]

@@ -1,10 +1,15 @@
 -- The lines, as they are put together.
-use Rattle.std.proofs.Common.{◌≡◌, ℕ, ◌/◌, ◌<◌, ◌≤◌, Bool, List, [], ◌∷◌, ◌++◌, codes, nat_lt, ◌≢◌, length, refl, sym, ap, ◌∙◌, append_assoc}
+use Rattle.std.proofs.Common.{◌≡◌, ℕ, ◌+◌, ◌/◌, ◌<◌, ◌≤◌, Bool, true, eqb, slice_index_or, List, [], ◌∷◌, ◌++◌, codes, nat_lt, ◌≢◌, length, refl, sym, ap, ◌∙◌, append_assoc}
 use Rattle.std.specs.Prelude.{if◌then◌else◌}
 use Rattle.std.specs.List.{flat_map}
-use Rattle.std.proofs.lemmas.Bool.{lt-ltb, le-ltb}
-use Rattle.anstyle_parse.specs.Call.{print}
+use Rattle.std.proofs.lemmas.Bool.{lt-ltb, le-ltb, agree_below_at, eqb-true}
+use Rattle.anstyle_parse.specs.Call.{print, execute}
 use Rattle.parselog.specs.Lines.{hex_digit, hex_byte, hex_list, four_digits, truth, end_text, line, newline}
+
+-- the digit that stands at its place among all sixteen
+pub digit_at : (d : ℕ) → d < 16 → slice_index_or {A = ℕ} (codes "0123456789ABCDEF") d 0 ≡ (if nat_lt d 10 then 0x30 + d else 0x37 + d)
+digit_at d small =
+    eqb-true _ _ (agree_below_at (λ n. eqb (slice_index_or {A = ℕ} (codes "0123456789ABCDEF") n 0) (if nat_lt n 10 then 0x30 + n else 0x37 + n)) (λ _. true) 16 d refl small)
 
 -- a character below 10000 (hexadecimal), from its digits
 pub character_number-four : (c d3 d2 d1 d0 : ℕ) → c < 0x10000 → d3 ≡ hex_digit (c / 0x1000) → d2 ≡ hex_digit (c / 0x100) → d1 ≡ hex_digit (c / 0x10) → d0 ≡ hex_digit c
@@ -33,6 +38,13 @@ character_number-six c d5 d4 d3 d2 d1 d0 large larger e5 e4 e3 e2 e1 e0 =
     ap (λ l. codes "print U+" ++ (l ++ newline ∷ [])) digits
     ∙ sym (ap (λ t. codes "print U+" ++ ((if t then hex_digit (c / 0x10000) ∷ four_digits c else hex_digit (c / 0x100000) ∷ hex_digit (c / 0x10000) ∷ four_digits c) ++ newline ∷ [])) (le-ltb c 0x100000 larger))
     ∙ sym (ap (λ t. codes "print U+" ++ ((if t then four_digits c else if nat_lt c 0x100000 then hex_digit (c / 0x10000) ∷ four_digits c else hex_digit (c / 0x100000) ∷ hex_digit (c / 0x10000) ∷ four_digits c) ++ newline ∷ [])) (le-ltb c 0x10000 large))
+
+-- the line of a control, from the digits of its byte
+pub execute_line : (b d1 d0 : ℕ) → d1 ≡ hex_digit (b / 16) → d0 ≡ hex_digit b
+    → codes "execute " ++ (d1 ∷ d0 ∷ newline ∷ []) ≡ line (execute b)
+execute_line b d1 d0 e1 e0 =
+    let digits : d1 ∷ d0 ∷ [] ≡ hex_byte b = cc in
+    ap (λ l. codes "execute " ++ (l ++ newline ∷ [])) digits
 
 -- what stands behind a line stands behind its last part
 pub line_end : (a : List ℕ) (x : ℕ) (b c n : List ℕ) → (a ++ x ∷ (b ++ c)) ++ n ≡ a ++ x ∷ (b ++ (c ++ n))

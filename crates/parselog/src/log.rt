@@ -48,17 +48,15 @@ impl<W: Sink> LogWriter<W> {
     }
 }
 
+/// The hexadecimal digits.
+const DIGITS: [u8; 16] = *b"0123456789ABCDEF";
+
 /// The last hexadecimal digit of a number.
 #[inline(always)]
 fn digit(number: u32) -> u8
     ensures { result ≡ hex_digit number }
 {
-    let last = (number % 16) as u8;
-    if last < 10 {
-        b'0' + last
-    } else {
-        b'A' - 10 + last
-    }
+    DIGITS[(number % 16) as usize]
 }
 
 impl<W: Sink> Perform for LogWriter<W> {
@@ -68,44 +66,39 @@ impl<W: Sink> Perform for LogWriter<W> {
 
     fn print(&mut self, c: char) {
         let n = u32::from(c);
-        let (d5, d4, d3, d2, d1, d0) = (
-            digit(n / 0x10_0000),
-            digit(n / 0x1_0000),
-            digit(n / 0x1000),
-            digit(n / 0x100),
-            digit(n / 0x10),
-            digit(n),
-        );
         if n < 0x1_0000 {
-            self.output.put(&[
-                b'p', b'r', b'i', b'n', b't', b' ', b'U', b'+', d3, d2, d1, d0, b'\n',
-            ]);
+            let mut line = *b"print U+0000\n";
+            line[8] = digit(n / 0x1000);
+            line[9] = digit(n / 0x100);
+            line[10] = digit(n / 0x10);
+            line[11] = digit(n);
+            self.output.put(&line);
         } else if n < 0x10_0000 {
-            self.output.put(&[
-                b'p', b'r', b'i', b'n', b't', b' ', b'U', b'+', d4, d3, d2, d1, d0, b'\n',
-            ]);
+            let mut line = *b"print U+00000\n";
+            line[8] = digit(n / 0x1_0000);
+            line[9] = digit(n / 0x1000);
+            line[10] = digit(n / 0x100);
+            line[11] = digit(n / 0x10);
+            line[12] = digit(n);
+            self.output.put(&line);
         } else {
-            self.output.put(&[
-                b'p', b'r', b'i', b'n', b't', b' ', b'U', b'+', d5, d4, d3, d2, d1, d0, b'\n',
-            ]);
+            let mut line = *b"print U+000000\n";
+            line[8] = digit(n / 0x10_0000);
+            line[9] = digit(n / 0x1_0000);
+            line[10] = digit(n / 0x1000);
+            line[11] = digit(n / 0x100);
+            line[12] = digit(n / 0x10);
+            line[13] = digit(n);
+            self.output.put(&line);
         }
     }
 
     fn execute(&mut self, byte: u8) {
         let n = u32::from(byte);
-        self.output.put(&[
-            b'e',
-            b'x',
-            b'e',
-            b'c',
-            b'u',
-            b't',
-            b'e',
-            b' ',
-            digit(n / 16),
-            digit(n),
-            b'\n',
-        ]);
+        let mut line = *b"execute 00\n";
+        line[8] = digit(n / 16);
+        line[9] = digit(n);
+        self.output.put(&line);
     }
 
     fn hook(&mut self, params: &Params, intermediates: &[u8], ignore: bool, action: u8) {
@@ -114,8 +107,10 @@ impl<W: Sink> Perform for LogWriter<W> {
 
     fn put(&mut self, byte: u8) {
         let n = u32::from(byte);
-        self.output
-            .put(&[b'p', b'u', b't', b' ', digit(n / 16), digit(n), b'\n']);
+        let mut line = *b"put 00\n";
+        line[4] = digit(n / 16);
+        line[5] = digit(n);
+        self.output.put(&line);
     }
 
     fn unhook(&mut self) {

@@ -15,6 +15,15 @@ pub enum Mode {
     Canon,
 }
 
+impl Mode {
+    ghost use Rattle.std.specs.Prelude.{IsTrue, ◌↔◌};
+
+    /// Law: `==` holds exactly between equal modes.
+    pub fn equality_law()
+        ensures { (a b : Mode) → (IsTrue (⟦<Mode as PartialEq>⟧.eq a b) ↔ (a ≡ b)) }
+    {}
+}
+
 /// Writes the text of the calls of all bytes that the reader gives.
 ///
 /// The bytes are read in pieces of at most 4096 and go to a new parser; no memory is taken.

@@ -3,7 +3,7 @@ ghost use Rattle.std.specs.Prelude.{◌≡◌, ◌<◌, ◌≤◌, true, false, 
 ghost use Rattle.std.specs.Bool.{OnTrue, OnFalse};
 ghost use Rattle.std.specs.Io.KnownBytes.{Keeps, Appends};
 
-use super::Sink;
+use super::{Fault, Sink};
 use arrayvec::ArrayVec;
 
 /// The bytes that are held back at most.
@@ -25,7 +25,7 @@ pub struct Buffer<W> {
 }
 
 impl<W: Sink> Buffer<W> {
-    ghost use Rattle.anstyle_parse.specs.Buffer.{writer_behind, held_back, is_by_line, buffer_contents};
+    ghost use Rattle.anstyle_parse.specs.Buffer.{writer_behind, held_back, is_by_line, buffer_contents, fault_behind};
 
     /// A buffer that holds nothing back, in front of the writer.
     pub fn new(writer: W) -> Buffer<W>
@@ -50,6 +50,20 @@ impl<W: Sink> Buffer<W> {
             writer,
             held: ArrayVec::new(),
             by_line: true,
+        }
+    }
+
+    /// What a fault that came of this buffer was at the writer behind it.
+    ///
+    /// A flush hands on first. Where that fails, bytes are still held back and nothing was
+    /// flushed: then a [`Fault::Flush`] was a write, [`Fault::Write`]. Any other fault is
+    /// what it is.
+    pub fn fault_behind(&self, fault: Fault) -> Fault
+        ensures { result ≡ fault_behind fault (held_back self.now) }
+    {
+        match fault {
+            Fault::Flush if !self.held.is_empty() => Fault::Write,
+            _ => fault,
         }
     }
 

@@ -83,7 +83,8 @@ pub trait CallWriter<W: Sink>: Perform + KeepsFault {
     fn into_output(self) -> Output<W>
         ensures { Adds W.contents W.has_failed (unwritten self) (output_in self) result };
 
-    // By a list of calls it writes their text.
+    // By a list of calls it writes their text. (`Adds-calls` of `proofs/OutputLemmas.antt` shows
+    // it of texts of single calls, `Adds-calls_from` of texts that depend on a state too.)
     ghost adds: { (old : Self) (calls : List Call) (new : Self) → is_new old → Goes Self.means old calls new
         → Adds W.contents W.has_failed (text calls) (output_in old) (output_in new) };
 

@@ -1,8 +1,9 @@
 ghost use Rattle.std.specs.Prelude.{◌≡◌, List, [], Some, false, true, IsTrue, refl, ⊤};
 ghost use Rattle.std.proofs.lemmas.Bool.{false≢true};
+ghost use Rattle.anstyle_parse.specs.declared.accumulator.Taken.{Taken};
 
 use crate::lines::{lines_of, parser_after};
-use crate::{AsciiParser, CharAccumulator, Params, Parser, Perform, Utf8Parser};
+use crate::{AsciiParser, CharAccumulator, Params, Parser, Perform, Taken, Utf8Parser};
 use std::test::Fail;
 
 /// Answers `x` to every byte.
@@ -16,6 +17,8 @@ impl CharAccumulator for AlwaysX {
 
     ghost adds = { λ value _. (value, Some 0x78) };
 
+    ghost taken = { λ value _. (value, Taken.Char 0x78) };
+
     ghost decodes = { false };
 
     ghost default_holds_none = { λ _ _. refl };
@@ -24,6 +27,38 @@ impl CharAccumulator for AlwaysX {
 
     fn add(&mut self, _byte: u8) -> Option<char> {
         Some('x')
+    }
+
+    fn take(&mut self, _byte: u8) -> Taken {
+        Taken::Char('x')
+    }
+}
+
+/// Answers to every byte that it breaks a character, for which `x` stands.
+#[derive(Default, Drop)]
+struct AlwaysBroken;
+
+impl CharAccumulator for AlwaysBroken {
+    ghost front = { λ _. [] };
+
+    ghost takes = { λ _ _. ⊤ };
+
+    ghost adds = { λ value _. (value, Some 0x78) };
+
+    ghost taken = { λ value _. (value, Taken.Broken 0x78) };
+
+    ghost decodes = { false };
+
+    ghost default_holds_none = { λ _ _. refl };
+
+    ghost follows = { λ h. absurd (false≢true h) };
+
+    fn add(&mut self, _byte: u8) -> Option<char> {
+        Some('x')
+    }
+
+    fn take(&mut self, _byte: u8) -> Taken {
+        Taken::Broken('x')
     }
 }
 
@@ -83,6 +118,25 @@ fn accumulator_that_answers_at_once(rt: HostRuntime) {
     assert_eq!(rt; (counter.x, counter.other), (2, 1));
 }
 
+// On a first byte such an answer is that of a character; after it the byte is handled again.
+#[test]
+fn accumulator_that_always_breaks(rt: HostRuntime) {
+    let mut parser = Parser::<AlwaysBroken>::default();
+    let mut counter = Counter::default();
+    parser.advance(&mut counter, 0xC2);
+    assert!(rt; parser.is_in_char());
+    assert_eq!(rt; (counter.x, counter.other), (1, 0));
+    parser.advance(&mut counter, 0x41);
+    assert!(rt; !parser.is_in_char());
+    assert_eq!(rt; (counter.x, counter.other), (2, 1));
+
+    let mut parser = Parser::<AlwaysBroken>::default();
+    let mut counter = Counter::default();
+    parser.advance_all(&mut counter, b"\xC2\xC2");
+    assert!(rt; parser.is_in_char());
+    assert_eq!(rt; (counter.x, counter.other), (3, 0));
+}
+
 #[test]
 fn unfinished_character(rt: HostRuntime) {
     let mut parser = Parser::<Utf8Parser>::new();
@@ -105,13 +159,13 @@ fn ascii_alone(rt: HostRuntime) {
     assert_eq!(rt; counter.commands, 1);
 }
 
-// After two ESC nothing counts that came before, and yet `==` tells these parsers apart, since
+// After ESC nothing counts that came before, and yet `==` tells these parsers apart, since
 // the one still stores the text of a command.
 #[test]
 fn unequal_parsers_with_equal_calls(rt: HostRuntime) {
-    let mut character = parser_after(b"\xC3\x1B\x1B");
-    let mut command = parser_after(b"\x1B]a\x1B\x1B");
-    assert!(rt; character == parser_after(b"\xC3\x1B\x1B"));
+    let mut character = parser_after(b"\xC3\x1B");
+    let mut command = parser_after(b"\x1B]a\x1B");
+    assert!(rt; character == parser_after(b"\xC3\x1B"));
     assert!(rt; character != command);
     let want = "csi_dispatch [0] - false 6D\n";
     assert!(rt; lines_of(&mut character, b"[m").as_str() == want);

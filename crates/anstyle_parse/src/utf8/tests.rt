@@ -1,4 +1,4 @@
-use crate::{AsciiParser, CharAccumulator, DefaultCharAccumulator};
+use crate::{AsciiParser, CharAccumulator, DefaultCharAccumulator, Taken};
 
 // The last byte of each row answers the character, and the bytes before it nothing. After
 // it the next byte is at the start of a character.
@@ -29,8 +29,31 @@ fn answers_at_the_last_byte(rt: HostRuntime) {
     }
 }
 
+// `take` tells a character that its last byte ends from one that it breaks.
+#[test]
+fn broken_characters_are_told_apart(rt: HostRuntime) {
+    let rows: [(&[u8], Taken); 7] = [
+        (b"\x41", Taken::Char('A')),
+        (b"\x80", Taken::Char('\u{FFFD}')),
+        (b"\xC3", Taken::More),
+        (b"\xEF\xBF\xBD", Taken::Char('\u{FFFD}')),
+        (b"\xC3\xC3", Taken::Broken('\u{FFFD}')),
+        (b"\xE0\x80", Taken::Broken('\u{FFFD}')),
+        (b"\xF0\x9F\x98\x1B", Taken::Broken('\u{FFFD}')),
+    ];
+    for (bytes, want) in rows {
+        let mut parser = DefaultCharAccumulator::default();
+        let mut answer = Taken::More;
+        for byte in bytes {
+            answer = parser.take(*byte);
+        }
+        assert_eq!(rt; answer, want, "after {bytes:?}");
+    }
+}
+
 #[test]
 fn ascii_is_answered_at_once(rt: HostRuntime) {
     assert_eq!(rt; AsciiParser.add(b'\0'), Some('\0'));
     assert_eq!(rt; AsciiParser.add(b'\x7F'), Some('\x7F'));
+    assert_eq!(rt; AsciiParser.take(b'\x7F'), Taken::Char('\x7F'));
 }

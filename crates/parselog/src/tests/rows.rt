@@ -2,7 +2,7 @@
 //! and calls.
 
 /// The bytes, and their lines.
-pub const ROWS: [(&[u8], &str); 78] = [
+pub const ROWS: [(&[u8], &str); 80] = [
     (b"", ""),
     (b"A\x7f\n", "print U+0041\nprint U+007F\nexecute 0A\n"),
     (b"\x1b[m", "csi_dispatch [0] - false 6D\n"),
@@ -44,7 +44,7 @@ pub const ROWS: [(&[u8], &str); 78] = [
     (b"\xe2\x82\xac", "print U+20AC\n"),
     (b"\xe2\x82", ""),
     (b"\xed\xa0\x80", "print U+FFFD\nexecute 80\n"),
-    (b"\xc3\x1b[m", "print U+FFFD\nprint U+005B\nprint U+006D\n"),
+    (b"\xc3\x1b[m", "print U+FFFD\ncsi_dispatch [0] - false 6D\n"),
     (
         b"\xc3\x1b\x1b[m",
         "print U+FFFD\ncsi_dispatch [0] - false 6D\n",
@@ -101,8 +101,8 @@ pub const ROWS: [(&[u8], &str); 78] = [
     (b"\x1bP1\x18", "execute 18\n"),
     (b"\x1b_a\x18", "execute 18\n"),
     (b"\x1bP1\x9cqA", "hook [1] - false 71\nput 41\n"),
-    (b"\xc2\x18A", "print U+FFFD\nprint U+0041\n"),
-    (b"\xe2\x82\x1bc", "print U+FFFD\nprint U+0063\n"),
+    (b"\xc2\x18A", "print U+FFFD\nexecute 18\nprint U+0041\n"),
+    (b"\xe2\x82\x1bc", "print U+FFFD\nesc_dispatch - false 63\n"),
     (b"\x1b\xc3c", "esc_dispatch - false 63\n"),
     (b"\x1b]\xc3\xa9\x07", "osc_dispatch true C3A9\n"),
     (
@@ -122,19 +122,24 @@ pub const ROWS: [(&[u8], &str); 78] = [
         b"\x1b[::::::::::::::::::::::::::::::;m",
         "csi_dispatch [0:0:0:0:0:0:0:0:0:0:0:0:0:0:0:0:0:0:0:0:0:0:0:0:0:0:0:0:0:0:0;0] - false 6D\n",
     ),
-    (b"\xf0\x1b[A", "print U+FFFD\nprint U+005B\nprint U+0041\n"),
-    (b"\xf0\x9f\x18A", "print U+FFFD\nprint U+0041\n"),
+    (b"\xf0\x1b[A", "print U+FFFD\ncsi_dispatch [0] - false 41\n"),
+    (b"\xf0\x9f\x18A", "print U+FFFD\nexecute 18\nprint U+0041\n"),
+    (
+        b"\xf0\x9f\x98\x1b]a\x07",
+        "print U+FFFD\nosc_dispatch true 61\n",
+    ),
     (b"\xc2\x80", "print U+0080\n"),
     (b"\xdf\xbf", "print U+07FF\n"),
     (b"\xe0\xa0\x80", "print U+0800\n"),
-    (b"\xe0\x80", "print U+FFFD\n"),
+    (b"\xe0\x80", "print U+FFFD\nexecute 80\n"),
     (b"\xef\xbf\xbd", "print U+FFFD\n"),
     (b"\xf0\x90\x80\x80", "print U+10000\n"),
     (b"\xf4\x8f\xbf\xbf", "print U+10FFFF\n"),
     (b"\xf4\x90", "print U+FFFD\n"),
     (b"\xc0A", "print U+0041\n"),
     (b"\xf5A", "print U+0041\n"),
-    (b"\xc3\xc3\xa9", "print U+FFFD\n"),
+    (b"\xc3\xc3\xa9", "print U+FFFD\nprint U+00E9\n"),
+    (b"\xc3\xe2\x82\xac", "print U+FFFD\nprint U+20AC\n"),
     (
         b"\xe2\x82\xac\xf0\x9f\x98\x80\x90\x9c",
         "print U+20AC\nprint U+1F600\nexecute 9C\n",

@@ -1,6 +1,5 @@
 -- Stripped text is the canonical text of a lawful list.
 use Rattle.std.proofs.Common.{false, List, ℕ, filter, sym, ap, ◌∙◌, subst}
-use Rattle.anstyle_parse.specs.Call.{Call}
 use Rattle.anstyle_parse.specs.Calls.{AreCalls}
 use Rattle.ansi_strip.specs.Strip.{is_left, stripped}
 use Rattle.ansi_strip.proofs.Left.{stripped-canon, stripped-left, lawful-left}

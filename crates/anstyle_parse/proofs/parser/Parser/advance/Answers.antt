@@ -13,46 +13,46 @@ use Rattle.anstyle_parse.proofs.parser.Parser.advance.Goals as goal
 pub take_byte-requires : goal.take_byte-requires
 take_byte-requires g c =
     let n = g.C.CharAccumulator in
-    CanTake-may n.front n.takes n.adds n.decodes g.met.C.CharAccumulator.follows c.args.self.now c.args.byte (omega arith) c.requires
+    CanTake-may n.front n.takes n.adds n.taken n.decodes g.met.C.CharAccumulator.follows c.args.self.now c.args.byte (omega arith) c.requires
 
 pub returns-clause-stands : goal.returns-clause-stands
 returns-clause-stands g c = λ before decodes stands.
     let n = g.C.CharAccumulator in
-    IsAfter-taken n.front n.takes n.adds (g.met.C.CharAccumulator.follows decodes) c.args.self.now c.take_byte.new.self (c.args.byte ∷ []) (omega arith, tt) c.take_byte.ensures.machine before stands
+    IsAfter-taken n.front n.takes n.adds n.taken (g.met.C.CharAccumulator.follows decodes) c.args.self.now c.take_byte.new.self (c.args.byte ∷ []) (omega arith, tt) c.take_byte.ensures.machine before stands
 
 pub returns-clause-stream : goal.returns-clause-stream
 returns-clause-stream g c = λ before decodes stands.
     let n = g.C.CharAccumulator in
     let Q : List Call → Type 0 = λ calls. Continues before (c.args.byte ∷ []) calls in
-    subst Q (append-nil (step_calls n.adds c.args.byte (machine_of c.args.self.now)))
-    (Continues-taken n.front n.takes n.adds (g.met.C.CharAccumulator.follows decodes) c.args.self.now c.take_byte.new.self (c.args.byte ∷ []) (omega arith, tt) c.take_byte.ensures.machine before stands)
+    subst Q (append-nil (step_calls n.taken c.args.byte (machine_of c.args.self.now)))
+    (Continues-taken n.front n.takes n.adds n.taken (g.met.C.CharAccumulator.follows decodes) c.args.self.now c.take_byte.new.self (c.args.byte ∷ []) (omega arith, tt) c.take_byte.ensures.machine before stands)
 
 pub returns-clause-received : goal.returns-clause-received
 returns-clause-received g c = λ first before decodes stands.
     HasReceived-more g.P.Perform.means first c.args.performer.now c.take_byte.new.performer before (c.args.byte ∷ [])
-    (step_calls g.C.CharAccumulator.adds c.args.byte (machine_of c.args.self.now))
+    (step_calls g.C.CharAccumulator.taken c.args.byte (machine_of c.args.self.now))
     (returns-clause-stream g c before decodes stands) c.take_byte.ensures.calls
 
 pub returns-clause-ascii_stands : goal.returns-clause-ascii_stands
 returns-clause-ascii_stands g c = λ before below stands.
-    IsAfterAscii-taken g.C.CharAccumulator.adds c.args.self.now c.take_byte.new.self (c.args.byte ∷ []) (below, tt) c.take_byte.ensures.machine before stands
+    IsAfterAscii-taken g.C.CharAccumulator.taken c.args.self.now c.take_byte.new.self (c.args.byte ∷ []) (below, tt) c.take_byte.ensures.machine before stands
 
 pub returns-clause-ascii_stream : goal.returns-clause-ascii_stream
 returns-clause-ascii_stream g c = λ before below stands.
-    let adds = g.C.CharAccumulator.adds in
+    let adds = g.C.CharAccumulator.taken in
     let Q : List Call → Type 0 = λ calls. Continues before (c.args.byte ∷ []) calls in
     subst Q (append-nil (step_calls adds c.args.byte (machine_of c.args.self.now)))
     (Continues-ascii adds c.args.self.now c.take_byte.new.self (c.args.byte ∷ []) (below, tt) c.take_byte.ensures.machine before stands)
 
 pub returns-clause-few : goal.returns-clause-few
-returns-clause-few g c = step_calls-few g.C.CharAccumulator.adds c.args.byte (machine_of c.args.self.now)
+returns-clause-few g c = step_calls-few g.C.CharAccumulator.taken c.args.byte (machine_of c.args.self.now)
 
 pub returns-clause-two : goal.returns-clause-two
-returns-clause-two g c = step_calls-two g.C.CharAccumulator.adds c.args.byte (machine_of c.args.self.now)
+returns-clause-two g c = step_calls-two g.C.CharAccumulator.taken c.args.byte (machine_of c.args.self.now)
 
 pub returns-clause-limits : goal.returns-clause-limits
 returns-clause-limits g c =
     let P : Machine g.row.C.Denot → Type 0 = λ m. IsWithinLimits m in
     subst P (sym c.take_byte.ensures.machine)
-    (IsWithinLimits-step g.C.CharAccumulator.adds c.args.byte (machine_of c.args.self.now)
+    (IsWithinLimits-step g.C.CharAccumulator.taken c.args.byte (machine_of c.args.self.now)
     (IsWithinLimits-parser c.args.self.now (omega arith)))

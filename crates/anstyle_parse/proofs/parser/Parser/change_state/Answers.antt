@@ -5,7 +5,7 @@ use Rattle.anstyle_parse.proofs.parser.Parser.change_state.Goals as goal
 
 pub returns-in_default : goal.returns-in_default
 returns-in_default g c =
-    let add = g.C.CharAccumulator.adds in
+    let add = g.C.CharAccumulator.taken in
     let means = g.P.Perform.means in
     let m = machine_of c.args.self.now in
     let m1 = machine_of c.perform_action-in_default.new.self in

@@ -13,7 +13,7 @@ take_byte-requires g c =
     let i = c.loop-byte.byte-index in
     let takes = g.C.CharAccumulator.takes in
     let Q : List ℕ → Type 0 = λ left. CanTakeAll takes c.loop-byte.self left in
-    CanTake-first takes c.loop-byte.self (get_or bytes i 0) (drop (i + 1) bytes) (omega (arith, c.type_inv.bytes i))
+    CanTake-first takes g.C.CharAccumulator.taken c.loop-byte.self (get_or bytes i 0) (drop (i + 1) bytes) (omega (arith, c.type_inv.bytes i))
     (subst Q (drop_more bytes i 0 c.loop-byte-test.true) c.loop-byte.invariant.can)
 
 pub loop-byte-preserved : goal.loop-byte-preserved
@@ -23,7 +23,7 @@ loop-byte-preserved g c =
     let b = get_or bytes i 0 in
     let rest = drop (i + 1) bytes in
     let takes = g.C.CharAccumulator.takes in
-    let adds = g.C.CharAccumulator.adds in
+    let adds = g.C.CharAccumulator.taken in
     let means = g.P.Perform.means in
     let m = machine_of c.loop-byte.self in
     let split = drop_more bytes i 0 c.loop-byte-test.true in

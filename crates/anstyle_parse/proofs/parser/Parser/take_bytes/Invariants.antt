@@ -8,7 +8,7 @@ use Rattle.anstyle_parse.proofs.parser.Parser.take_bytes.Given as goal
 
 abbrev pub invariant-loop-byte : goal.invariant-loop-byte
 invariant-loop-byte g l =
-    let adds = g.C.CharAccumulator.adds in
+    let adds = g.C.CharAccumulator.taken in
     let means = g.P.Perform.means in
     let left = drop l.byte-index l.bytes in
     record {

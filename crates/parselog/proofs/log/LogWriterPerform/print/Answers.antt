@@ -10,7 +10,7 @@ pub returns-then-n-lt65536 : goal.returns-then-n-lt65536
 returns-then-n-lt65536 g c =
     let Q : List ℕ → Type 0 = λ t. Adds {W = g.row.W.Denot} g.W.Sink.contents g.W.Sink.has_failed t (output_of c.args.self.now) c.put.new.self in
     subst Q
-    (character_number-four c.from-n.result _ _ _ _ c.if-n-lt65536.true c.digit-d3.ensures c.digit-d2.ensures c.digit-d1.ensures c.digit-d0.ensures
+    (character_number-four c.from-n.result _ _ _ _ c.if-n-lt65536.true c.digit.ensures c.digit-then-n-lt65536.ensures c.digit-then-n-lt65536-2.ensures c.digit-then-n-lt65536-3.ensures
     ∙ ap (λ n. line (print n)) c.from-n.ensures)
     c.put.ensures
 
@@ -18,7 +18,7 @@ pub returns-then-n-lt1048576 : goal.returns-then-n-lt1048576
 returns-then-n-lt1048576 g c =
     let Q : List ℕ → Type 0 = λ t. Adds {W = g.row.W.Denot} g.W.Sink.contents g.W.Sink.has_failed t (output_of c.args.self.now) c.put-then-n-lt1048576.new.self in
     subst Q
-    (character_number-five c.from-n.result _ _ _ _ _ c.if-n-lt65536.false c.if-n-lt1048576.true c.digit-d4.ensures c.digit-d3.ensures c.digit-d2.ensures c.digit-d1.ensures c.digit-d0.ensures
+    (character_number-five c.from-n.result _ _ _ _ _ c.if-n-lt65536.false c.if-n-lt1048576.true c.digit-then-n-lt1048576.ensures c.digit-then-n-lt1048576-2.ensures c.digit-then-n-lt1048576-3.ensures c.digit-then-n-lt1048576-4.ensures c.digit-then-n-lt1048576-5.ensures
     ∙ ap (λ n. line (print n)) c.from-n.ensures)
     c.put-then-n-lt1048576.ensures
 
@@ -26,6 +26,6 @@ pub returns-else-n-lt1048576 : goal.returns-else-n-lt1048576
 returns-else-n-lt1048576 g c =
     let Q : List ℕ → Type 0 = λ t. Adds {W = g.row.W.Denot} g.W.Sink.contents g.W.Sink.has_failed t (output_of c.args.self.now) c.put-else-n-lt1048576.new.self in
     subst Q
-    (character_number-six c.from-n.result _ _ _ _ _ _ c.if-n-lt65536.false c.if-n-lt1048576.false c.digit-d5.ensures c.digit-d4.ensures c.digit-d3.ensures c.digit-d2.ensures c.digit-d1.ensures c.digit-d0.ensures
+    (character_number-six c.from-n.result _ _ _ _ _ _ c.if-n-lt65536.false c.if-n-lt1048576.false c.digit-else-n-lt1048576.ensures c.digit-else-n-lt1048576-2.ensures c.digit-else-n-lt1048576-3.ensures c.digit-else-n-lt1048576-4.ensures c.digit-else-n-lt1048576-5.ensures c.digit-else-n-lt1048576-6.ensures
     ∙ ap (λ n. line (print n)) c.from-n.ensures)
     c.put-else-n-lt1048576.ensures

@@ -1,0 +1,14 @@
+//! Code as users write it. README.md shows `plain_text` and `counter`, word for word.
+#![tactic(auto)]
+
+mod call_counter;
+mod counter;
+mod plain_text;
+mod quiet;
+#[cfg(test)]
+mod tests;
+
+pub use call_counter::calls_made;
+pub use counter::printed;
+pub use plain_text::plain;
+pub use quiet::{Quiet, stay_quiet};

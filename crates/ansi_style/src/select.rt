@@ -31,8 +31,8 @@ enum Expected {
 }
 
 impl Hue {
-    /// The hue of a number, 0 to 7.
-    fn at(number: u16) -> Hue
+    /// The hue of a number, 0 to 7; what is above 7 is white.
+    pub fn at(number: u16) -> Hue
         ensures { result ≡ hue_at number }
     {
         match number {

@@ -3,8 +3,8 @@ use Rattle.std.proofs.Common.{◌≡◌, ◌≤◌, ◌+◌, ℕ, List, [], ◌�
 use Rattle.std.proofs.Math.Seq.{take-append_seam, drop-append_seam}
 use Rattle.std.proofs.lemmas.List.{take_at}
 use Rattle.std.proofs.lemmas.Slice.{drop-append-drop}
-use Rattle.anstyle_parse.specs.Call.{Call, Goes}
-use Rattle.anstyle_parse.specs.Output.{texts}
+use Rattle.anstyle_parse.specs.Stream.Call.{Call, Goes}
+use Rattle.anstyle_parse.specs.Writing.Output.{texts}
 use Rattle.strip_pieces.specs.declared.room.Room.{Room}
 use Rattle.strip_pieces.specs.Room.{with_text, Puts}
 

@@ -1,19 +1,21 @@
 #!/usr/bin/env python3
-"""Counts what parselog costs for each input byte, on five kinds of streams.
+"""Counts what parselog or ansi2text costs for each input byte, on five kinds of streams.
 
-Usage: bench/measure.py [--peer COMMAND] [--mode log|canon] [--bytes N] [PROGRAM]
+Usage: bench/measure.py [--peer COMMAND].. [--mode log|canon|strip] [--bytes N] [PROGRAM]
 
-PROGRAM is the built parselog (default: crates/parselog/out/parselog). Instructions are
-those of `valgrind --tool=callgrind`, less those of an empty input; the wall time is the
-least of three runs without valgrind. A peer, such as a build of the Rust crate with the
-same words `log` and `canon`, is measured in the same run, and the ratio is printed. Both
-must write the same bytes.
+PROGRAM is the built program (default: crates/parselog/out/parselog, and in mode strip
+crates/ansi2text/out/ansi2text). Instructions are those of `valgrind --tool=callgrind`, less
+those of an empty input; the wall time is the least of three runs without valgrind. Peers are
+measured in the same run, and the ratio is printed. In log and canon a peer, such as a build
+of the Rust crate, is called with that word, and must write the same bytes. In strip it is
+called as it stands, and `differs` is printed where it writes other bytes.
 """
 
 import argparse
 import os
 import random
 import re
+import shlex
 import subprocess
 import sys
 import tempfile
@@ -100,16 +102,32 @@ def measure(command, path, empty, size):
     return (instructions(command, path) - instructions(command, empty)) / size, seconds(command, path)
 
 
+def row_of(ours, peers, path, empty, options):
+    cost, wall = measure(ours, path, empty, options.bytes)
+    row = "%12.1f %9.3f" % (cost, wall)
+    for peer in peers:
+        other, other_wall = measure(peer, path, empty, options.bytes)
+        row += "   %12.1f %9.3f %7.2f" % (other, other_wall, cost / other)
+        if output(ours, path) != output(peer, path):
+            if options.mode != "strip":
+                sys.exit("measure.py: the outputs differ on " + os.path.basename(path))
+            row += " differs"
+    return row
+
+
 def main():
     parser = argparse.ArgumentParser(description=__doc__, formatter_class=argparse.RawDescriptionHelpFormatter)
-    parser.add_argument("--peer")
-    parser.add_argument("--mode", choices=["log", "canon"], default="log")
+    parser.add_argument("--peer", action="append", default=[])
+    parser.add_argument("--mode", choices=["log", "canon", "strip"], default="log")
     parser.add_argument("--bytes", type=int, default=1 << 20)
-    parser.add_argument("program", nargs="?", default=os.path.join(HERE, "../crates/parselog/out/parselog"))
+    parser.add_argument("program", nargs="?")
     options = parser.parse_args()
-    ours = [options.program, options.mode]
-    peer = [options.peer, options.mode] if options.peer else None
-    print("%-12s %12s %9s" % (options.mode, "instr/byte", "seconds") + ("   %12s %9s %7s" % ("peer", "seconds", "ratio") if peer else ""))
+    built = "../crates/ansi2text/out/ansi2text" if options.mode == "strip" else "../crates/parselog/out/parselog"
+    words = [] if options.mode == "strip" else [options.mode]
+    ours = [options.program or os.path.join(HERE, built)] + words
+    peers = [shlex.split(peer) + words for peer in options.peer]
+    heading = "   %12s %9s %7s" % ("peer", "seconds", "ratio")
+    print("%-12s %12s %9s" % (options.mode, "instr/byte", "seconds") + heading * len(peers))
     with tempfile.TemporaryDirectory() as folder:
         empty = os.path.join(folder, "empty")
         open(empty, "wb").close()
@@ -117,14 +135,7 @@ def main():
             path = os.path.join(folder, make_line.__name__)
             with open(path, "wb") as file:
                 file.write(corpus(make_line, options.bytes))
-            cost, wall = measure(ours, path, empty, options.bytes)
-            row = "%-12s %12.1f %9.3f" % (make_line.__name__, cost, wall)
-            if peer:
-                if output(ours, path) != output(peer, path):
-                    sys.exit("measure.py: the outputs differ on " + make_line.__name__)
-                other, other_wall = measure(peer, path, empty, options.bytes)
-                row += "   %12.1f %9.3f %7.2f" % (other, other_wall, cost / other)
-            print(row, flush=True)
+            print("%-12s " % make_line.__name__ + row_of(ours, peers, path, empty, options), flush=True)
 
 
 if __name__ == "__main__":

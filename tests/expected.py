@@ -8,10 +8,12 @@ BLOCK = 1 << 20
 
 
 class Program:
-    """A filter of standard input: its usage line, the words that it refuses, its modes."""
+    """A filter of standard input: its usage line, the words that it refuses, its modes; and the
+    words with which it writes a fragment or a whole page of HTML, if it does."""
 
-    def __init__(self, name, usage, refused, modes):
+    def __init__(self, name, usage, refused, modes, fragment=None, page=None):
         self.name, self.usage, self.refused, self.modes = name, usage, refused, modes
+        self.fragment, self.page = fragment, page
 
 
 class Mode:
@@ -65,20 +67,13 @@ ESCAPES = stream(b"", b"\x1b", b"c")
 LEADS = stream(b"", b"\xf0")
 ZEROS = b";".join([b"0"] * 32)
 
-# Whether a byte that breaks a character is handled again, or used up: then two leads make one
-# U+FFFD. The digests are those of what the Rust crate's sources make of random_bytes.
-HANDLED_AGAIN = False
-BROKEN = SIZE - 1 if HANDLED_AGAIN else SIZE // 2
-LOG_DIGEST, CANON_DIGEST = {
-    False: (
-        "e11e58c0d0dce2df655eeaf4b9c762a10624be6a3fed86c30efc160435cb3771",
-        "cca937da293802c1d8ca310d7db61273bee399dfbb3a15ad7659a2b729341ffc",
-    ),
-    True: (
-        "5c1b5f4578fd31fa299e2a1796cde637ca24e4d72537ed3385a279dda09c02a1",
-        "c05a13fefff40f87c445126e531c1f2f69cfea6bcd5a64bc3b0ba643cc09c535",
-    ),
-}[HANDLED_AGAIN]
+# Each lead byte but the last breaks the one before it.
+BROKEN = SIZE - 1
+# Of what the Rust crate's sources, with the byte that breaks a character handled again, make of
+# random_bytes: its lines, its canonical text, its stripped text.
+LOG_DIGEST = "5c1b5f4578fd31fa299e2a1796cde637ca24e4d72537ed3385a279dda09c02a1"
+CANON_DIGEST = "c05a13fefff40f87c445126e531c1f2f69cfea6bcd5a64bc3b0ba643cc09c535"
+STRIP_DIGEST = "f6c8a22f508312f4d16518933ef340758071857fed6130669459a0d43fe5f9ad"
 
 
 def lines(*them):
@@ -105,6 +100,11 @@ LOG_ROWS = [
     ),
     ("a character", b"\xe2\x82\xac", lines(b"print U+20AC")),
     ("an unfinished character", b"\xe2\x82", b""),
+    (
+        "a character broken by a sequence",
+        b"\xc3\x1b[m",
+        lines(b"print U+FFFD", b"csi_dispatch [0] - false 6D"),
+    ),
 ]
 
 CANON_ROWS = [
@@ -115,6 +115,7 @@ CANON_ROWS = [
     ("a device control string", b"\x1bP1$qm\x1b\\", b"\x1bP1$qm\x9c\x1b\\"),
     ("a character", b"\xe2\x82\xac", b"\xe2\x82\xac"),
     ("an unfinished character", b"\xe2\x82", b""),
+    ("a character broken by a sequence", b"\xc3\x1b[m", b"\xef\xbf\xbd\x1b[0m"),
 ]
 
 LOG_HOSTILE = [
@@ -150,11 +151,21 @@ STRIP_ROWS = [
 ]
 
 STRIP_HOSTILE = [
-    (name, blocks, text(b"") if name != "lead bytes" else times(b"\xef\xbf\xbd", SIZE - 1))
+    (name, blocks, text(b"") if name != "lead bytes" else times(b"\xef\xbf\xbd", BROKEN))
     for name, blocks, _ in LOG_HOSTILE[:-1]
 ] + [
-    ("random bytes", random_bytes, "f6c8a22f508312f4d16518933ef340758071857fed6130669459a0d43fe5f9ad"),
+    ("random bytes", random_bytes, STRIP_DIGEST),
 ]
+
+# (what has colours or markup in it is read by pages.py)
+HTML_ROWS = [
+    ("plain text", b"hi\t\r\n", b"hi\t\r\n"),
+    ("an operating system command", b"\x1b]0;x\x07a\n", b"a\n"),
+    ("colours of no text", b"\x1b[31m\x1b[1m", b""),
+    ("a broken character", b"\xc3(", b"\xef\xbf\xbd("),
+]
+
+HTML_HOSTILE = STRIP_HOSTILE[:-1]
 
 PROGRAMS = [
     Program(
@@ -185,5 +196,13 @@ PROGRAMS = [
         b"usage: ansi2text",
         [["text"], ["-"], [""], ["--help"], ["a", "b"]],
         [Mode([], STRIP_ROWS, (b"\x1b[1mA\n", b"A\n"), STRIP_HOSTILE)],
+    ),
+    Program(
+        "ansi2html",
+        b"usage: ansi2html [page]",
+        [["fragment"], ["page", "page"], ["page", ""], ["-"], [""], ["--help"]],
+        [Mode([], HTML_ROWS, (b"\x1b[mA\n", b"A\n"), HTML_HOSTILE)],
+        fragment=[],
+        page=["page"],
     ),
 ]

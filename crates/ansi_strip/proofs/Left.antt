@@ -1,11 +1,11 @@
 -- The calls of which something is left are a lawful list, whose canonical text is what is left.
-use Rattle.std.proofs.Common.{◌≡◌, ℕ, Bool, true, false, List, [], ◌∷◌, ◌++◌, filter, IsTrue, encode_utf8, refl, ap, ◌∙◌}
+use Rattle.std.proofs.Common.{◌≡◌, ℕ, Bool, true, false, List, [], ◌∷◌, ◌++◌, ◌≤◌, length, filter, IsTrue, encode_utf8, refl, ap, ◌∙◌, arith, length-append}
 use Rattle.std.specs.Prelude.{if◌then◌else◌}
-use Rattle.anstyle_parse.specs.Call.{Call, print, execute, hook, put, unhook, osc_dispatch, csi_dispatch, esc_dispatch}
-use Rattle.anstyle_parse.specs.Calls.{is_executed}
-use Rattle.anstyle_parse.specs.Canon.{canon}
-use Rattle.anstyle_parse.specs.Lawful.{AreLawfulFrom, AreLawful}
-use Rattle.ansi_strip.specs.Strip.{is_layout, is_left, stripped}
+use Rattle.anstyle_parse.specs.Stream.Call.{Call, print, execute, hook, put, unhook, osc_dispatch, csi_dispatch, esc_dispatch}
+use Rattle.anstyle_parse.specs.Stream.Calls.{is_executed}
+use Rattle.anstyle_parse.specs.Stream.Canon.{call_text, canon}
+use Rattle.anstyle_parse.specs.Laws.Lawful.{AreLawfulFrom, AreLawful}
+use Rattle.ansi_strip.specs.Strip.{is_layout, is_left, stripped_call, stripped}
 
 -- a control, where it is left
 canon-execute : (t : Bool) (byte : ℕ) (left : List Call) (text : List ℕ) → text ≡ canon left → (if t then byte ∷ [] else []) ++ text ≡ canon (if t then execute byte ∷ left else left)
@@ -64,3 +64,23 @@ lawful-left true (hook groups intermediates ignore final ∷ calls) lawful = abs
 lawful-left true (osc_dispatch parts bell_terminated ∷ calls) lawful = absurd lawful
 lawful-left true (csi_dispatch groups intermediates ignore final ∷ calls) lawful = absurd lawful
 lawful-left true (esc_dispatch intermediates ignore final ∷ calls) lawful = absurd lawful
+
+-- the text that is left of one call is no longer than its canonical text
+length-stripped_call : (call : Call) → length (stripped_call call) ≤ length (call_text call)
+length-stripped_call (print character) = omega arith
+length-stripped_call (execute byte) = by_test (is_layout byte)
+  where
+    by_test : (t : Bool) → length (if t then byte ∷ [] else []) ≤ 1
+    by_test true = omega arith
+    by_test false = omega arith
+length-stripped_call (hook groups intermediates ignore final) = omega arith
+length-stripped_call (put byte) = omega arith
+length-stripped_call unhook = omega arith
+length-stripped_call (osc_dispatch parts bell_terminated) = omega arith
+length-stripped_call (csi_dispatch groups intermediates ignore final) = omega arith
+length-stripped_call (esc_dispatch intermediates ignore final) = omega arith
+
+pub length-stripped : (calls : List Call) → length (stripped calls) ≤ length (canon calls)
+length-stripped [] = omega arith
+length-stripped (call ∷ calls) =
+    omega (arith, length-stripped_call call, length-stripped calls, length-append (stripped_call call) (stripped calls), length-append (call_text call) (canon calls))

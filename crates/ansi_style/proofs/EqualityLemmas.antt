@@ -8,6 +8,7 @@ use Rattle.ansi_style.specs.declared.style.Color.{Color}
 use Rattle.ansi_style.specs.declared.style.Color.TheVariants.{Default, Named, Bright, Indexed, Direct}
 use Rattle.ansi_style.specs.declared.style.Hue.{Hue}
 use Rattle.ansi_style.specs.declared.style.Underline.{Underline}
+use Rattle.ansi_style.specs.Style.{are_equal}
 use Rattle.ansi_style.specs.contracts.style.Hue.{the_type as hue_type}
 use Rattle.ansi_style.specs.contracts.style.Underline.{the_type as underline_type}
 use Rattle.ansi_style.specs.contracts.style.ColorPartialEq.TheImpl.{ghosts as color_ghosts}
@@ -82,3 +83,12 @@ style_same a b same =
 
 pub equality : (a b : Style) → (IsTrue (ghosts.eq a b) ↔ (a ≡ b))
 equality a b = (style_same a b, λ e. subst (λ x. IsTrue (ghosts.eq a x)) e (laws-law.refl a))
+
+-- the same of what `==` answers
+pub are_equal-same : (a b : Style) → are_equal a b ≡ true → a ≡ b
+unfolding are_equal
+are_equal-same a b h = style_same a b h
+
+pub are_equal-refl : (a : Style) → are_equal a a ≡ true
+unfolding are_equal
+are_equal-refl a = laws-law.refl a

@@ -1,10 +1,11 @@
 -- The plain style, and the hues by their numbers.
-use Rattle.std.specs.Prelude.{ℕ, ◌<◌, false, if◌then◌else◌, ◌==◌, ⊤}
+use Rattle.std.specs.Prelude.{ℕ, ◌<◌, Bool, false, if◌then◌else◌, ◌==◌, ⊤}
 use Rattle.ansi_style.specs.declared.style.Style.{Style}
 use Rattle.ansi_style.specs.declared.style.Color.{Color}
 use Rattle.ansi_style.specs.declared.style.Color.TheVariants.{Default, Named, Bright, Indexed, Direct}
 use Rattle.ansi_style.specs.declared.style.Underline.TheVariants.{Off}
 use Rattle.ansi_style.specs.declared.style.Hue.{Hue}
+use Rattle.ansi_style.specs.contracts.style.StylePartialEq.TheImpl.{ghosts}
 use Rattle.ansi_style.specs.declared.style.Hue.TheVariants.{Black, Red, Green, Yellow, Blue, Magenta, Cyan, White}
 
 -- default colours, and nothing else
@@ -53,3 +54,7 @@ HasBytes (Named hue) = ⊤
 HasBytes (Bright hue) = ⊤
 HasBytes (Indexed n) = n < 256
 HasBytes (Direct red green blue) = (red < 256) × (green < 256) × (blue < 256)
+
+-- what `==` of styles answers
+unfoldable pub are_equal : Style → Style → Bool
+are_equal a b = ghosts.eq a b

@@ -1,9 +1,10 @@
 //! The parameters of a control sequence or of a device control string: groups of fields.
 //! A list of fixed size, so that no byte of a stream takes memory.
-ghost use Rattle.std.specs.Prelude.{◌≡◌, ◌≢◌, ◌<◌, ◌≤◌, ◌+◌, ◌++◌, ◌∷◌, [], ◌↔◌, ℕ, IsTrue, IfSome, ⊤, length, take, slice_index};
+ghost use Rattle.anstyle_parse.specs.Stream.Arguments.{max_fields};
+ghost use Rattle.std.specs.Prelude.{◌≡◌, ◌<◌, ◌≤◌, ◌+◌, ◌-◌, ◌/◌, ◌%◌, ◌^◌, ◌++◌, ◌∷◌, [], ◌↔◌, ℕ, IsTrue, IfSome, ⊤, length};
 ghost use Rattle.std.specs.Bool.{OnFalse, OnTrue};
 ghost use Rattle.std.specs.List.{concat};
-ghost use Rattle.anstyle_parse.specs.Groups.{total, none_is_zero, fields_text};
+ghost use Rattle.anstyle_parse.specs.Stream.Groups.{fields_text};
 ghost use Rattle.std.specs.Iterator.{YieldsFirstBy, item_count, UpTo};
 ghost use Rattle.std.specs.Iterator.SizeHint.{IsWithinCount};
 ghost use Rattle.std.specs.Fmt.{WritesOnOk};
@@ -20,25 +21,22 @@ pub const MAX_PARAMS: usize = 32;
 pub struct Params {
     /// All fields, group after group.
     numbers: [u16; MAX_PARAMS],
-    /// How many fields each closed group has, and behind them the open one.
-    lengths: [u8; MAX_PARAMS],
-    /// How many groups are closed.
-    closed_groups: usize,
+    /// Bit i is set exactly if a group begins at field i.
+    starts: u32,
     /// How many fields the open group has; 0 where no group is open.
     open_fields: u8,
     /// How many fields there are.
     len: usize,
-    ghost summed: { total (take closed_groups lengths) + open_fields ≡ len },
-    ghost in_range: { len ≤ 32 },
-    ghost none_is_empty: { IsTrue (none_is_zero (take closed_groups lengths)) },
-    ghost each_has_a_field: { closed_groups + open_fields ≤ len },
-    ghost open_length: { 0 < open_fields → slice_index lengths closed_groups ≡ open_fields },
+    ghost in_range: { len ≤ max_fields },
+    ghost none_above: { starts < 2 ^ len },
+    ghost first_starts: { 0 < len → starts % 2 ≡ 1 },
+    ghost open_within: { open_fields ≤ len },
+    ghost open_is_last: { 0 < open_fields → starts / 2 ^ (len - open_fields) ≡ 1 },
 }
 
 impl Params {
-    ghost use Rattle.anstyle_parse.specs.Arguments.{max_fields};
-    ghost use Rattle.anstyle_parse.specs.Groups.{HaveFields};
-    ghost use Rattle.anstyle_parse.specs.Params.{groups_shown, groups_left, closed_groups_of, open_group_of, AreFew};
+    ghost use Rattle.anstyle_parse.specs.Stream.Groups.{HaveFields};
+    ghost use Rattle.anstyle_parse.specs.Fields.Params.{groups_shown, groups_left, closed_groups_of, open_group_of, AreFew};
 
     /// How many fields there are, subparameters included: at most 32.
     pub fn len(&self) -> usize
@@ -62,23 +60,18 @@ impl Params {
         ensures have_fields { HaveFields (groups_shown self.now) }
         ensures limit { AreFew (groups_shown self.now) }
     {
-        let groups = if self.open_fields == 0 {
-            self.closed_groups
-        } else {
-            self.closed_groups + 1
-        };
-        let lengths = &self.lengths[..];
         let numbers = &self.numbers[..];
         ParamsIter {
-            lengths: &lengths[..groups],
             numbers: &numbers[..self.len],
+            starts: self.starts,
+            place: 0,
         }
     }
 
     /// Whether there is no room for another field.
     pub(crate) fn is_full(&self) -> bool
         ensures full { IsTrue result ↔ (length (concat (closed_groups_of self.now)) + length (open_group_of self.now) ≡ 32) }
-        ensures room { OnFalse result (length (concat (closed_groups_of self.now)) + length (open_group_of self.now) < 32) }
+        ensures room { OnFalse result (length (concat (closed_groups_of self.now)) + length (open_group_of self.now) < max_fields) }
     {
         self.len == MAX_PARAMS
     }
@@ -96,31 +89,40 @@ impl Params {
         ensures closed { closed_groups_of self.new ≡ [] }
         ensures open { open_group_of self.new ≡ [] }
     {
-        self.closed_groups = 0;
+        self.starts = 0;
         self.open_fields = 0;
         self.len = 0;
     }
 
     /// Adds a field to the open group, or to a new one, and closes that group.
     pub(crate) fn push(&mut self, field: u16)
-        requires { length (concat (closed_groups_of self.old)) + length (open_group_of self.old) < 32 }
+        requires { length (concat (closed_groups_of self.old)) + length (open_group_of self.old) < max_fields }
         ensures closed { closed_groups_of self.new ≡ closed_groups_of self.old ++ (open_group_of self.old ++ field ∷ []) ∷ [] }
         ensures open { open_group_of self.new ≡ [] }
     {
-        self.lengths[self.closed_groups] = self.open_fields + 1;
+        let starts = if self.open_fields == 0 {
+            self.starts | start_bit(self.len)
+        } else {
+            self.starts
+        };
+        self.starts = starts;
         self.numbers[self.len] = field;
-        self.closed_groups += 1;
         self.open_fields = 0;
         self.len += 1;
     }
 
     /// Adds a field to the open group, or to a new one, which stays open.
     pub(crate) fn extend(&mut self, field: u16)
-        requires { length (concat (closed_groups_of self.old)) + length (open_group_of self.old) < 32 }
+        requires { length (concat (closed_groups_of self.old)) + length (open_group_of self.old) < max_fields }
         ensures closed { closed_groups_of self.new ≡ closed_groups_of self.old }
         ensures open { open_group_of self.new ≡ open_group_of self.old ++ field ∷ [] }
     {
-        self.lengths[self.closed_groups] = self.open_fields + 1;
+        let starts = if self.open_fields == 0 {
+            self.starts | start_bit(self.len)
+        } else {
+            self.starts
+        };
+        self.starts = starts;
         self.numbers[self.len] = field;
         self.open_fields += 1;
         self.len += 1;
@@ -128,15 +130,14 @@ impl Params {
 }
 
 impl Default for Params {
-    ghost use Rattle.anstyle_parse.specs.Params.{groups_shown};
+    ghost use Rattle.anstyle_parse.specs.Fields.Params.{groups_shown};
 
     ghost is_default = { λ params. groups_shown params ≡ [] };
 
     fn default() -> Params {
         Params {
             numbers: [0; MAX_PARAMS],
-            lengths: [0; MAX_PARAMS],
-            closed_groups: 0,
+            starts: 0,
             open_fields: 0,
             len: 0,
         }
@@ -147,8 +148,8 @@ impl Default for Params {
 /// them, then `]`.
 impl fmt::Debug for Params {
     ghost use Rattle.std.specs.Prelude.{Some};
-    ghost use Rattle.anstyle_parse.specs.Params.{groups_shown};
-    ghost use Rattle.anstyle_parse.specs.DebugText.{debug_text};
+    ghost use Rattle.anstyle_parse.specs.Fields.Params.{groups_shown};
+    ghost use Rattle.anstyle_parse.specs.Laws.DebugText.{debug_text};
 
     ghost debug_output = { λ params. Some (debug_text (groups_shown params)) };
 
@@ -168,8 +169,7 @@ impl Clone for Params {
     fn clone(&self) -> Result<Params, AllocError> {
         Ok(Params {
             numbers: self.numbers,
-            lengths: self.lengths,
-            closed_groups: self.closed_groups,
+            starts: self.starts,
             open_fields: self.open_fields,
             len: self.len,
         })
@@ -180,10 +180,10 @@ impl Clone for Params {
 impl Params {
     ghost use Rattle.std.specs.Prelude.{List};
     ghost use Rattle.std.specs.Cmp.{IsEquivalence};
-    ghost use Rattle.anstyle_parse.specs.Params.{groups_shown};
-    ghost use Rattle.anstyle_parse.specs.Call.{Call};
-    ghost use Rattle.anstyle_parse.specs.Calls.{AreCalls};
-    ghost use Rattle.anstyle_parse.specs.TextLaw.{AreSent, HandsOut, IsReadBack};
+    ghost use Rattle.anstyle_parse.specs.Fields.Params.{groups_shown};
+    ghost use Rattle.anstyle_parse.specs.Stream.Call.{Call};
+    ghost use Rattle.anstyle_parse.specs.Stream.Calls.{AreCalls};
+    ghost use Rattle.anstyle_parse.specs.Laws.TextLaw.{AreSent, HandsOut, IsReadBack};
 
     /// `==` is reflexive, symmetric and transitive, and equal parameters show equal groups.
     ///
@@ -207,27 +207,37 @@ impl Params {
 /// The groups of a `Params`, in order.
 #[derive(Drop)]
 pub struct ParamsIter<'a> {
-    lengths: &'a [u8],
+    /// All fields.
     numbers: &'a [u16],
-    ghost summed: { total lengths.now ≡ length numbers.now },
+    /// Bit i is set exactly if a group begins at field i.
+    starts: u32,
+    /// The field where the next group begins.
+    place: usize,
+    ghost in_range: { length numbers.now ≤ max_fields },
+    ghost none_above: { starts < 2 ^ length numbers.now },
+    ghost place_within: { place ≤ length numbers.now },
+    ghost place_starts: { place < length numbers.now → starts / 2 ^ place % 2 ≡ 1 },
 }
 
 impl<'a> Iterator for ParamsIter<'a> {
     type Item = &'a [u16];
 
-    ghost use Rattle.anstyle_parse.specs.Params.{groups_left};
+    ghost use Rattle.anstyle_parse.specs.Fields.Params.{groups_left};
 
     ghost next_gives = { YieldsFirstBy (λ x. x.now) groups_left };
 
     ghost remaining = { item_count groups_left };
 
-    /// The next group, or nothing where none is left: behind the last group every further
+    /// The next group, or nothing where none is left: after the last group every further
     /// call answers nothing.
     fn next(&mut self) -> Option<&'a [u16]> {
-        let (length, lengths) = self.lengths.split_first()?;
-        let (group, numbers) = self.numbers.split_at(*length as usize);
-        self.lengths = lengths;
-        self.numbers = numbers;
+        let (_, rest) = self.numbers.split_at(self.place);
+        let (_, others) = rest.split_first()?;
+        // The group goes on to where another one begins, or to the last field.
+        let starts = self.starts >> self.place >> 1;
+        let more = (starts.trailing_zeros() as usize).min(others.len());
+        let (group, _) = rest.split_at(1 + more);
+        self.place += group.len();
         Some(group)
     }
 
@@ -243,15 +253,19 @@ impl<'a> Iterator for ParamsIter<'a> {
 }
 
 impl<'a> ExactSizeIterator for ParamsIter<'a> {
-    ghost use Rattle.anstyle_parse.specs.Params.{groups_left};
+    ghost use Rattle.anstyle_parse.specs.Fields.Params.{groups_left};
 
     /// How many groups are left.
     fn len(&self) -> usize {
-        self.lengths.len()
+        if self.place < MAX_PARAMS {
+            (self.starts >> self.place).count_ones() as usize
+        } else {
+            0
+        }
     }
 }
 
-/// Behind the last group every `next` answers nothing.
+/// After the last group every `next` answers nothing.
 impl<'a> FusedIterator for ParamsIter<'a> {}
 
 impl<'a> IntoIterator for &'a Params {
@@ -259,8 +273,8 @@ impl<'a> IntoIterator for &'a Params {
 
     type IntoIter = ParamsIter<'a>;
 
-    ghost use Rattle.anstyle_parse.specs.Groups.{HaveFields};
-    ghost use Rattle.anstyle_parse.specs.Params.{groups_shown, groups_left, AreFew};
+    ghost use Rattle.anstyle_parse.specs.Stream.Groups.{HaveFields};
+    ghost use Rattle.anstyle_parse.specs.Fields.Params.{groups_shown, groups_left, AreFew};
 
     ghost into_iter_gives = { λ params iter. (groups_left iter ≡ groups_shown params.now)
         × HaveFields (groups_shown params.now) × AreFew (groups_shown params.now) };
@@ -272,8 +286,8 @@ impl<'a> IntoIterator for &'a Params {
 }
 
 impl<'a> ParamsIter<'a> {
-    ghost use Rattle.anstyle_parse.specs.Params.{groups_left};
-    ghost use Rattle.anstyle_parse.specs.Groups.{groups_text};
+    ghost use Rattle.anstyle_parse.specs.Fields.Params.{groups_left};
+    ghost use Rattle.anstyle_parse.specs.Stream.Groups.{groups_text};
 
     /// Writes the groups that are left, with `;` between them.
     fn write_texts<W: fmt::Write>(mut self, f: &mut fmt::Formatter<W>) -> fmt::Result
@@ -288,6 +302,14 @@ impl<'a> ParamsIter<'a> {
         }
         Ok(())
     }
+}
+
+/// The bit of a field among the starts.
+fn start_bit(field: usize) -> u32
+    requires { field < max_fields }
+    ensures { result ≡ 2 ^ field }
+{
+    1 << field
 }
 
 /// Writes the fields of a group in decimal, with `:` between them.

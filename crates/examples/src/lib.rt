@@ -1,12 +1,14 @@
-//! Performers as a user of the parser writes them. The first is the one that README.md shows.
+//! Code as users write it. README.md shows `plain_text` and `counter`, word for word.
 #![tactic(auto)]
 
 mod call_counter;
 mod counter;
+mod plain_text;
 mod quiet;
 #[cfg(test)]
 mod tests;
 
 pub use call_counter::calls_made;
 pub use counter::printed;
+pub use plain_text::plain;
 pub use quiet::{Quiet, stay_quiet};

@@ -7,37 +7,26 @@ mod run;
 mod tests;
 mod words;
 
-use anstyle_parse::canon::{Buffer, FromRead, FromWrite};
+use anstyle_parse::canon::FromRead;
 use run::{Mode, run};
+use standard_streams::{buffered, failed, misused};
 use std::io;
-use std::io::IsTerminal;
 use std::process::ExitCode;
 use std::rt::Env;
 use words::{message, mode};
 
 fn main(rt: HostRuntime) -> ExitCode {
     let Ok(mode) = chosen_mode(&rt) else {
-        let _ = eprintln!(rt; "parselog: arguments not read");
-        return ExitCode::from(1);
+        return failed(&rt, "parselog: arguments not read");
     };
     let Some(mode) = mode else {
-        let _ = eprintln!(rt; "usage: parselog [log|canon]");
-        return ExitCode::from(2);
+        return misused(&rt, "usage: parselog [log|canon]");
     };
     let mut reader = FromRead::new(rt.stdin());
-    let output = rt.stdout();
-    let writer = if output.is_terminal() {
-        Buffer::by_line(FromWrite::new(output))
-    } else {
-        Buffer::new(FromWrite::new(output))
-    };
-    let (writer, answer) = run(mode, &mut reader, writer);
+    let (writer, answer) = run(mode, &mut reader, buffered(rt.stdout()));
     match answer {
         Ok(()) => ExitCode::SUCCESS,
-        Err(fault) => {
-            let _ = eprintln!(rt; "{}", message(writer.fault_behind(fault)));
-            ExitCode::from(1)
-        }
+        Err(fault) => failed(&rt, message(writer.fault_behind(fault))),
     }
 }
 

@@ -2,15 +2,15 @@
 use Rattle.std.proofs.Common.{◌≡◌, ◌≤◌, ◌+◌, ◌*◌, ℕ, List, [], ◌∷◌, ◌++◌, length, take, drop, refl, sym, ap, ◌∙◌, subst, append_assoc, append-nil, length-append, arith, lit≤}
 use Rattle.std.specs.Prelude.{if◌then◌else◌, Bool, true, false}
 use Rattle.std.proofs.lemmas.Str.{length-encode, len_utf8_bounds}
-use Rattle.anstyle_parse.specs.Call.{Call, print, execute, hook, put, unhook, osc_dispatch, csi_dispatch, esc_dispatch}
-use Rattle.anstyle_parse.specs.Calls.{AreCalls, Continues}
-use Rattle.anstyle_parse.specs.Machine.{Machine, Adds, step, step_calls, machine_calls}
-use Rattle.anstyle_parse.proofs.CallCounts.{step_calls-few}
+use Rattle.anstyle_parse.specs.Stream.Call.{Call, print, execute, hook, put, unhook, osc_dispatch, csi_dispatch, esc_dispatch}
+use Rattle.anstyle_parse.specs.Stream.Calls.{AreCalls, Continues}
+use Rattle.anstyle_parse.specs.Machine.Step.{Machine, AccumulatorStep, step, step_calls, machine_calls}
+use Rattle.anstyle_parse.proofs.Machine.CallCounts.{step_calls-few}
 use Rattle.ansi_strip.specs.Strip.{is_layout, stripped_call, stripped}
 use Rattle.anstyle_parse.specs.declared.accumulator.Utf8Parser.{Utf8Parser}
 use Rattle.anstyle_parse.specs.declared.parser.Parser.{Parser}
-use Rattle.anstyle_parse.specs.Accumulator.{front_of}
-use Rattle.anstyle_parse.specs.Parser.{IsAfter}
+use Rattle.anstyle_parse.specs.Fields.Accumulator.{front_of}
+use Rattle.anstyle_parse.specs.Fields.Parser.{IsAfter}
 use Rattle.strip_pieces.specs.declared.room.Room.{Room}
 use Rattle.strip_pieces.specs.declared.state.StreamState.{StreamState}
 use Rattle.strip_pieces.specs.Feed.{most_text, Feeds, IsTaken}
@@ -49,7 +49,7 @@ stripped-few [] = lit≤ tt
 stripped-few (call ∷ calls) = omega (arith, length-append (stripped_call call) (stripped calls), stripped_call-few call, stripped-few calls)
 
 -- a byte makes at most two calls
-pub stripped-machine_calls : {A : Type 0} (adds : Adds A) (bytes : List ℕ) (m : Machine A) → length (stripped (machine_calls adds bytes m)) ≤ most_text * length bytes
+pub stripped-machine_calls : {A : Type 0} (adds : AccumulatorStep A) (bytes : List ℕ) (m : Machine A) → length (stripped (machine_calls adds bytes m)) ≤ most_text * length bytes
 stripped-machine_calls adds [] m = lit≤ tt
 stripped-machine_calls adds (b ∷ bytes) m =
     let more = machine_calls adds bytes (step adds b m) in

@@ -3,8 +3,8 @@ use Rattle.std.proofs.Common.{◌≡◌, ◌≤◌, ◌+◌, ℕ, List, [], ◌�
 use Rattle.std.proofs.Math.Seq.{take-append_seam, drop-append_seam}
 use Rattle.std.proofs.lemmas.List.{take_at}
 use Rattle.std.proofs.lemmas.Slice.{drop-append-drop}
-use Rattle.anstyle_parse.specs.Call.{Call, Goes}
-use Rattle.anstyle_parse.specs.Output.{texts}
+use Rattle.anstyle_parse.specs.Stream.Call.{Call, Goes}
+use Rattle.std.specs.List.{flat_map}
 use Rattle.strip_pieces.specs.declared.room.Room.{Room}
 use Rattle.strip_pieces.specs.Room.{with_text, Puts}
 
@@ -55,9 +55,9 @@ Puts-append first second a b c one two =
     }
 
 -- by a list of calls their texts are put
-pub Puts-calls : (text : Call → List ℕ) (calls : List Call) (old new : Room) → Goes (λ a call b. Puts (text call) a b) old calls new → Puts (texts text calls) old new
+pub Puts-calls : (text : Call → List ℕ) (calls : List Call) (old new : Room) → Goes (λ a call b. Puts (text call) a b) old calls new → Puts (flat_map text calls) old new
 Puts-calls text [] old new goes = subst (λ r. Puts [] old r) (sym goes) (Puts-nil old)
-Puts-calls text (call ∷ calls) old new (mid, puts, goes) = Puts-append (text call) (texts text calls) old mid new puts (Puts-calls text calls mid new goes)
+Puts-calls text (call ∷ calls) old new (mid, puts, goes) = Puts-append (text call) (flat_map text calls) old mid new puts (Puts-calls text calls mid new goes)
 
 -- a text that fits leaves the room as long as it was
 pub Puts-length : (text : List ℕ) (old new : Room) → old.written + length text ≤ length old.into.now → Puts text old new → length new.into.now ≡ length old.into.now

@@ -2,10 +2,10 @@
 use Rattle.std.specs.Prelude.{◌≡◌, ◌<◌, ◌≤◌, ◌+◌, ◌*◌, ℕ, List, ◌++◌, length, take, drop}
 use Rattle.anstyle_parse.specs.declared.accumulator.Utf8Parser.{Utf8Parser}
 use Rattle.anstyle_parse.specs.declared.parser.Parser.{Parser}
-use Rattle.anstyle_parse.specs.Accumulator.{front_of}
-use Rattle.anstyle_parse.specs.Call.{Call}
-use Rattle.anstyle_parse.specs.Calls.{Continues}
-use Rattle.anstyle_parse.specs.Parser.{IsAfter}
+use Rattle.anstyle_parse.specs.Fields.Accumulator.{front_of}
+use Rattle.anstyle_parse.specs.Stream.Call.{Call}
+use Rattle.anstyle_parse.specs.Stream.Calls.{Continues}
+use Rattle.anstyle_parse.specs.Fields.Parser.{IsAfter}
 use Rattle.ansi_strip.specs.Strip.{stripped}
 use Rattle.strip_pieces.specs.declared.room.Room.{Room}
 use Rattle.strip_pieces.specs.declared.state.StreamState.{StreamState}

@@ -1,8 +1,8 @@
 -- What a state of a stream stands for.
 use Rattle.std.specs.Prelude.{ℕ, List, [], take}
-use Rattle.anstyle_parse.specs.Decoder.{decoded}
-use Rattle.anstyle_parse.specs.Machine.{new_machine, machine_after}
-use Rattle.anstyle_parse.specs.Stands.{StandsAfter}
+use Rattle.anstyle_parse.specs.Machine.Decoder.{decoded}
+use Rattle.anstyle_parse.specs.Machine.Step.{new_machine, machine_after}
+use Rattle.anstyle_parse.specs.Machine.Stands.{StandsAfter}
 use Rattle.strip_pieces.specs.declared.state.StreamState.{StreamState}
 
 -- the bytes that a state holds: any number in `length` counts for as many as there are

@@ -1,7 +1,7 @@
 //! The state of a stream between its pieces.
 ghost use Rattle.std.specs.Prelude.{◌≡◌, [], ℕ, List};
-ghost use Rattle.anstyle_parse.specs.Accumulator.{front_of};
-ghost use Rattle.anstyle_parse.specs.Parser.{IsAfter};
+ghost use Rattle.anstyle_parse.specs.Fields.Accumulator.{front_of};
+ghost use Rattle.anstyle_parse.specs.Fields.Parser.{IsAfter};
 ghost use Rattle.strip_pieces.specs.State.{pending_of, StandsFor};
 
 use crate::saved::Saved;

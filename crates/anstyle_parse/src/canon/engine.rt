@@ -2,9 +2,9 @@
 ghost use Rattle.std.specs.Prelude.{◌≡◌, ◌++◌, [], ℕ, List, None, Option, OnOk};
 ghost use Rattle.anstyle_parse.specs.declared.canon.Fault.{Fault as AFault};
 ghost use Rattle.anstyle_parse.specs.declared.canon.output.Output.{Output as AnOutput};
-ghost use Rattle.anstyle_parse.specs.Call.{Call, Goes};
-ghost use Rattle.anstyle_parse.specs.Output.{fault_in, Adds};
-ghost use Rattle.anstyle_parse.specs.Run.{Drives, Runs, RunsToEnding};
+ghost use Rattle.anstyle_parse.specs.Stream.Call.{Call, Goes};
+ghost use Rattle.anstyle_parse.specs.Writing.Output.{fault_in, Adds};
+ghost use Rattle.anstyle_parse.specs.Writing.Run.{Drives, Runs, RunsToEnding};
 
 use super::{Fault, Output, Sink, Source};
 use crate::accumulator::Utf8Parser;
@@ -83,7 +83,8 @@ pub trait CallWriter<W: Sink>: Perform + KeepsFault {
     fn into_output(self) -> Output<W>
         ensures { Adds W.contents W.has_failed (unwritten self) (output_in self) result };
 
-    // By a list of calls it writes their text.
+    // By a list of calls it writes their text. (`Adds-calls` of `proofs/OutputLemmas.antt` shows
+    // it of texts of single calls, `Adds-calls_from` of texts that depend on a state too.)
     ghost adds: { (old : Self) (calls : List Call) (new : Self) → is_new old → Goes Self.means old calls new
         → Adds W.contents W.has_failed (text calls) (output_in old) (output_in new) };
 

@@ -79,16 +79,30 @@ fn hint_is_the_groups_left(rt: HostRuntime) -> Result<(), Fail> {
     Ok(())
 }
 
+// As many fields as are kept: the bit of each that begins a group is set.
 #[test]
-fn hint_at_the_limit(rt: HostRuntime) {
-    let one_group = b"\x1B[0:0:0:0:0:0:0:0:0:0:0:0:0:0:0:0:0:0:0:0:0:0:0:0:0:0:0:0:0:0:0:0m";
-    let params = handed_out(one_group);
-    assert_eq!(rt; params.len(), 32);
-    assert_eq!(rt; params.iter().size_hint(), (1, Some(1)));
-    let each_a_group = b"\x1B[;;;;;;;;;;;;;;;;;;;;;;;;;;;;;;;m";
-    let params = handed_out(each_a_group);
-    assert_eq!(rt; params.len(), 32);
-    assert_eq!(rt; params.iter().size_hint(), (32, Some(32)));
+fn groups_at_the_limit(rt: HostRuntime) {
+    let rows: [(&[u8], u32, usize); 3] = [
+        (
+            b"\x1B[0:0:0:0:0:0:0:0:0:0:0:0:0:0:0:0:0:0:0:0:0:0:0:0:0:0:0:0:0:0:0:0m",
+            0x00000001,
+            1,
+        ),
+        (b"\x1B[;;;;;;;;;;;;;;;;;;;;;;;;;;;;;;;m", 0xFFFFFFFF, 32),
+        (b"\x1B[::::::::::::::::::::::::::::::;m", 0x80000001, 2),
+    ];
+    for (bytes, starts, count) in rows {
+        let params = handed_out(bytes);
+        assert_eq!(rt; params.len(), 32);
+        assert_eq!(rt; params.starts, starts);
+        let mut groups = params.iter();
+        assert_eq!(rt; groups.size_hint(), (count, Some(count)));
+        for _ in 0..count {
+            assert!(rt; groups.next().is_some());
+        }
+        assert_eq!(rt; groups.size_hint(), (0, Some(0)));
+        assert!(rt; groups.next().is_none());
+    }
 }
 
 // What a parser hands out is handed out again from its Debug text.

@@ -1,6 +1,7 @@
 //! Parsers over other accumulators, with a log.
 ghost use Rattle.std.specs.Prelude.{[], Some, false, refl, ⊤};
 ghost use Rattle.std.proofs.lemmas.Bool.{false≢true};
+ghost use Rattle.anstyle_parse.specs.declared.accumulator.Taken.{Taken};
 
 use crate::log::LogWriter;
 use anstyle_parse::canon::FromWrite;

@@ -1,10 +1,10 @@
 -- The next bytes continue the calls, and what is left of them fits.
 use Rattle.std.proofs.Common.{◌≡◌, ◌+◌, ◌-◌, ℕ, List, [], ◌++◌, length, take, drop, refl, sym, ap, ◌∙◌, subst, arith, lit≤, append-nil, append_assoc, length-append, length-take}
 use Rattle.std.proofs.Math.Seq.{take-add}
-use Rattle.anstyle_parse.specs.Accumulator.{front_of, parser_after}
-use Rattle.anstyle_parse.specs.Calls.{Continues}
-use Rattle.anstyle_parse.specs.Machine.{machine_calls}
-use Rattle.anstyle_parse.specs.Parser.{IsAfter, machine_of}
+use Rattle.anstyle_parse.specs.Fields.Accumulator.{front_of, parser_after}
+use Rattle.anstyle_parse.specs.Stream.Calls.{Continues}
+use Rattle.anstyle_parse.specs.Machine.Step.{machine_calls}
+use Rattle.anstyle_parse.specs.Fields.Parser.{IsAfter, machine_of}
 use Rattle.ansi_strip.specs.Strip.{stripped_call, stripped}
 use Rattle.strip_pieces.specs.Room.{Puts}
 use Rattle.strip_pieces.proofs.RoomLemmas.{Puts-nil, Puts-append, Puts-calls, Puts-length}

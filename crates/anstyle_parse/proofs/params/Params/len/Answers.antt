@@ -1,8 +1,10 @@
-use Rattle.std.proofs.Common.{arith, sym}
-use Rattle.anstyle_parse.proofs.GroupLemmas.{shown_total}
+use Rattle.std.proofs.Common.{arith, ap, sym, ◌∙◌, length, ◌-◌}
+use Rattle.std.specs.List.{concat}
+use Rattle.anstyle_parse.proofs.Arguments.Starts.{cut_at-shown, field_count}
 use Rattle.anstyle_parse.proofs.params.Params.len.Goals as goal
 
 pub returns-clause-fields : goal.returns-clause-fields
 returns-clause-fields c =
     let p = c.args.self.now in
-    sym (shown_total p.numbers p.lengths p.closed_groups p.open_fields p.len p.summed (omega arith))
+    sym (field_count p.len p.starts p.numbers (omega arith) p.first_starts)
+    ∙ ap (λ groups. length (concat groups)) (cut_at-shown p.open_fields (p.len - p.open_fields) p.len p.starts p.numbers (omega arith) p.open_is_last (omega arith))

@@ -1,8 +1,8 @@
 -- A parser that took what the state holds stands where the stream does.
 use Rattle.std.proofs.Common.{◌≡◌, ℕ, List, [], length, take, min, refl, sym, ap, ◌∙◌, subst, arith}
 use Rattle.std.proofs.lemmas.List.{take_min}
-use Rattle.anstyle_parse.specs.Accumulator.{front_of}
-use Rattle.anstyle_parse.specs.Parser.{IsAfter}
+use Rattle.anstyle_parse.specs.Fields.Accumulator.{front_of}
+use Rattle.anstyle_parse.specs.Fields.Parser.{IsAfter}
 use Rattle.strip_pieces.specs.State.{pending_of}
 use Rattle.strip_pieces.proofs.state.StreamState.resume.Goals as goal
 

@@ -1,0 +1,36 @@
+-- What a writer of HTML shows, and what a call does to it.
+use Rattle.std.specs.Prelude.{◌≡◌, ℕ, Bool, List, Option}
+use Rattle.anstyle_parse.specs.declared.canon.output.Output.{Output}
+use Rattle.anstyle_parse.specs.Stream.Call.{Call}
+use Rattle.anstyle_parse.specs.Writing.Output.{Adds}
+use Rattle.ansi_strip.specs.Strip.{stripped_call}
+use Rattle.ansi_style.specs.declared.style.Style.{Style}
+use Rattle.ansi_style.specs.Style.{plain}
+use Rattle.ansi_style.specs.Rendition.{style_after}
+use Rattle.ansi_html.specs.declared.performer.HtmlWriter.{HtmlWriter}
+use Rattle.ansi_html.specs.Page.{text_html, shown_after, span_end}
+
+-- the output that it writes to; the style that is selected; the style of the last text
+abbrev pub output_of : {W : Type 0} → HtmlWriter W → Output W
+output_of performer = performer.output
+
+abbrev pub style_of : {W : Type 0} → HtmlWriter W → Style
+style_of performer = performer.style
+
+abbrev pub shown_of : {W : Type 0} → HtmlWriter W → Style
+shown_of performer = performer.shown
+
+-- plain text, and no span is open
+pub record IsNew {W : Type 0} (performer : HtmlWriter W) : Type 0 where
+  pub style : style_of performer ≡ plain
+  pub shown : shown_of performer ≡ plain
+
+-- the end of the span that is open
+abbrev pub unwritten : {W : Type 0} → HtmlWriter W → List ℕ
+unwritten performer = span_end (shown_of performer)
+
+-- A call selects a style, or its text is written.
+pub record Takes {W : Type 0} (contents : W → Option (List ℕ)) (has_failed : W → Bool) (old : HtmlWriter W) (call : Call) (new : HtmlWriter W) : Type 0 where
+  pub style : style_of new ≡ style_after call (style_of old)
+  pub shown : shown_of new ≡ shown_after (shown_of old) (style_of old) (stripped_call call)
+  pub added : Adds contents has_failed (text_html (shown_of old) (style_of old) (stripped_call call)) (output_of old) (output_of new)

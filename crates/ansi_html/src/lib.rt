@@ -1,0 +1,72 @@
+//! From a terminal's colours to HTML: the text of a stream, escaped, in spans that give each
+//! part its style. No input brings in markup.
+#![tactic(auto)]
+
+ghost use Rattle.std.specs.Prelude.{◌≡◌, ◌≤◌, ◌+◌, ◌*◌, ◌++◌, ℕ, List, OnOk, length, map};
+ghost use Rattle.std.specs.Str.{IsUtf8};
+ghost use Rattle.anstyle_parse.specs.Stream.Call.{Call};
+ghost use Rattle.anstyle_parse.specs.Stream.Calls.{AreCalls};
+ghost use Rattle.anstyle_parse.specs.Writing.Run.{RunsToEnding};
+ghost use Rattle.ansi_strip.specs.Strip.{stripped};
+ghost use Rattle.ansi_style.specs.Style.{plain};
+ghost use Rattle.ansi_html.specs.Page.{html_text, html_ending, html};
+ghost use Rattle.ansi_html.specs.Reader.{byte_of, read, shown_from};
+ghost use Rattle.ansi_html.specs.Grammar.{IsFragment};
+
+mod css;
+mod performer;
+#[cfg(test)]
+mod tests;
+
+use anstyle_parse::canon::{Fault, Sink, Source, write_calls_between};
+pub use performer::HtmlWriter;
+
+/// Writes the text of all bytes that the reader gives as HTML, in the styles that the stream
+/// selects: a fragment for a `<pre>`. `head` is written before it and `tail` after it, as they
+/// are, such as the two ends of a page.
+///
+/// The text is the stripped text: each printed character in UTF-8, tab, line feed and carriage
+/// return. `& < > " '` are written as character references, and text that is not plain stands
+/// in `<span style="…">…</span>`, one for each run of equal style. Nothing else is written, so
+/// no input brings in markup.
+///
+/// The bytes are read in pieces of at most 4096; no memory is taken. The writer is always
+/// handed back. The answer is
+///
+/// - `Ok(())` where a read gave 0, and the flush that followed went well;
+/// - `Err(Fault::Flush)` where that flush failed;
+/// - `Err(Fault::Read)` where a read failed, or 2^64 - 1 reads all gave bytes: the HTML of the
+///   bytes read by then is written, its last span is closed and the tail is written, as far as
+///   the writer takes these, and the writer is flushed once, whatever that answers;
+/// - `Err(Fault::Write)` where a write failed: what is written is a proper beginning of head,
+///   HTML and tail, and nothing was read or written after the fault.
+pub fn convert<R: Source, W: Sink>(
+    head: &[u8],
+    reader: &mut R,
+    writer: W,
+    tail: &[u8],
+) -> (W, Result<(), Fault>)
+    // What is written is the head, the HTML of the calls of what was read, and the tail.
+    ensures runs { RunsToEnding R.remaining R.Source.has_failed R.zero_is_end W.contents W.Sink.has_failed
+        (λ calls. head.now ++ html_text calls) (λ calls. html_ending calls ++ tail.now) reader.old reader.new writer result.0 result.1 }
+
+    // With Ok nothing of it is held back.
+    ensures handed_on { OnOk result.1 (W.holds_nothing result.0) }
+
+    // The headline: reading the HTML gives exactly the bytes of the stripped text, each with
+    // the declarations of the style that the stream has selected there.
+    ensures read_back { (calls : List Call) → read (html calls) ≡ shown_from plain calls }
+    ensures text { (calls : List Call) → map byte_of (read (html calls)) ≡ stripped calls }
+
+    // No markup comes in: it is text and spans that do not nest, with declarations from a
+    // fixed vocabulary.
+    ensures grammar { (bytes : List ℕ) (calls : List Call) → AreCalls bytes calls → IsFragment (html calls) }
+
+    // It is UTF-8, whatever was read.
+    ensures utf8 { (bytes : List ℕ) (calls : List Call) → AreCalls bytes calls → IsUtf8 (html calls) }
+
+    // It has at most 278 bytes for each byte that was read, and 7 more.
+    ensures bound { (bytes : List ℕ) (calls : List Call) → AreCalls bytes calls → length (html calls) ≤ 278 * length bytes + 7 }
+{
+    write_calls_between::<HtmlWriter<W>, R, W>(head, reader, writer, tail)
+}

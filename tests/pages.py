@@ -1,0 +1,84 @@
+"""Reads the HTML that a program writes with Python's own reader, which knows nothing of ours."""
+
+import html.parser
+
+# What a program of colours writes, and what a stranger may put into a log. In the last ones a
+# reference, a tag or a character is cut, or stands where it is no text.
+STREAMS = {
+    "a compiler's error": b"\x1b[01m\x1b[Ka.c:1:\x1b[m\x1b[K \x1b[01;31m\x1b[Kno: \x1b[m'x'\n",
+    "a listing": b"\x1b[0m\x1b[01;34mbin\x1b[0m  \x1b[38;5;208mold\x1b[39m \x1b[30;42mt\x1b[0m\r\n",
+    "a prompt": b"\x1b]0;me@here: ~\x07\x1b[1;32mme\x1b[0m:\x1b[38;2;1;2;3m~\x1b[0m$ \x1b[?2004l\r",
+    "styles that are not ended": b"\x1b[1ma\x1b[4mb\x1b[7mc\x1b[31md\x1b[9me\n\n",
+    "colons": b"\x1b[4:3ma\x1b[38:2::255:0:1mb\x1b[38:5:9mc\x1b[58:5:1md\x1b[0me",
+    "markup": b"<b>bold</b> <script>alert(1)</script> <!-- no --> </pre></span></body>",
+    "quotes": b"\"' onclick=\"x\" style='y' \x1b[31m\" onmouseover=\"z\x1b[0m'",
+    "references": b"&lt;b&gt; &amp;amp; &#60;i&#62; &copy &nbsp; & && &#x3C;",
+    "markup in colours": b"\x1b[31m<\x1b[32mscript\x1b[33m>\x1b[0m&\x1b[1mlt;",
+    "a title with a script": b"\x1b]0;<script>alert(1)</script>\x07\x1b]2;</pre>\x1b\\text",
+    "a link with a script": b"\x1b]8;;javascript:alert(1)\x1b\\press\x1b]8;;\x1b\\",
+    "a link with markup": b"\x1b]8;;\"><b>\x07it\x1b]8;;\x07 \x1b]8;<i>;' x='\x07too\x1b]8;;\x07",
+    "a device control string": b"\x1bPq<script>\x1b\\\x1b_<b>\x1b\\\x1b^<i>\x1b\\\x1bX<u>\x1b\\end",
+    "broken characters": b"\xc3<\xe2\x82<b>\xf0\x9f\x98\x1b[31m\xed\xa0\x80\xff\xe0\x80\xbcx",
+    "characters": "ä € 😀 \u202e\u2028\ufeff\x00\x7f".encode(),
+    "controls": b"a\x00b\x08c\x0bd\x0ce\x1af\tg\rh\n<\x18>\n",
+    "a sequence that is cut": b"<i>\x1b[38;2;1;2",
+    "a string that is cut": b"&\x1b]0;<b>",
+    "a newline first": b"\n\nafter",
+    "nothing": b"",
+}
+# A page as a whole may have these elements besides spans; a fragment has none.
+OF_A_PAGE = ["html", "head", "meta", "title", "style", "body", "pre"]
+WITH_NO_END = ["meta"]
+
+
+class Reader(html.parser.HTMLParser):
+    """Keeps the text, inside <pre> where there is one, and what may not stand in such HTML."""
+
+    def __init__(self, is_page):
+        super().__init__()
+        self.is_page, self.open, self.text, self.faults = is_page, [], "", []
+
+    def handle_starttag(self, tag, attributes):
+        if tag == "span":
+            if "span" in self.open:
+                self.faults.append("a span stands in a span")
+            if [name for name, _ in attributes] != ["style"]:
+                self.faults.append("a span has the attributes %s" % attributes)
+        elif not self.is_page or tag not in OF_A_PAGE or "pre" in self.open:
+            self.faults.append("an element %s" % tag)
+        if tag not in WITH_NO_END:
+            self.open.append(tag)
+
+    def handle_endtag(self, tag):
+        if self.open[-1:] != [tag]:
+            self.faults.append("%s is ended, with %s open" % (tag, self.open))
+        else:
+            self.open.pop()
+
+    def handle_data(self, data):
+        if not self.is_page or "pre" in self.open:
+            self.text += data
+
+    def handle_decl(self, declaration):
+        if not self.is_page or declaration != "DOCTYPE html":
+            self.faults.append("a declaration %r" % declaration)
+
+    def handle_comment(self, data):
+        self.faults.append("a comment %r" % data)
+
+
+def differs(written, stripped, is_page):
+    """Says how this HTML is not that of the stripped text, or answers None."""
+    reader = Reader(is_page)
+    try:
+        reader.feed(written.decode())
+        reader.close()
+    except UnicodeDecodeError as error:
+        return "it is no UTF-8: %s" % error
+    # (a reader drops a newline right after <pre>)
+    found = reader.text[1:] if is_page and reader.text[:1] == "\n" else reader.text
+    if found != stripped.decode():
+        return "its text is %r, and not %r" % (found, stripped.decode())
+    if reader.open:
+        return "it leaves %s open" % ", ".join(reader.open)
+    return reader.faults[0] if reader.faults else None

@@ -1,0 +1,14 @@
+//! Laws of texts of pieces, as the contract of a function that does nothing.
+ghost use Rattle.std.specs.Prelude.{◌≡◌, ℕ, List, [], ◌++◌};
+ghost use Rattle.anstyle_parse.specs.Call.{Call};
+ghost use Rattle.anstyle_parse.specs.Calls.{AreCalls};
+ghost use Rattle.ansi_strip.specs.Strip.{stripped};
+ghost use Rattle.strip_pieces.specs.Feed.{IsTextOf};
+
+/// The texts of pieces, one after another, are the text of the whole; and the text of all bytes
+/// of a stream is what is left of their calls.
+pub fn texts_joined()
+    ensures pieces { (before bytes more text rest : List ℕ) → IsTextOf before bytes text → IsTextOf (before ++ bytes) more rest
+        → IsTextOf before (bytes ++ more) (text ++ rest) }
+    ensures whole { (bytes text : List ℕ) → IsTextOf [] bytes text → (calls : List Call) × AreCalls bytes calls × (text ≡ stripped calls) }
+{}

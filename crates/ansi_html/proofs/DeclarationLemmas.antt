@@ -3,8 +3,8 @@ use Rattle.std.proofs.Common.{◌≡◌, ◌<◌, ◌≤◌, ℕ, ◌+◌, ◌-�
 use Rattle.std.specs.Prelude.{not, nat_lt, if◌then◌else◌}
 use Rattle.std.specs.List.{list_all}
 use Rattle.std.proofs.lemmas.Bool.{lt-ltb, and_from, and_parts, or_left, or_right, or_cases, cases_lt, ne_eqb, le-ltb, ltb-true}
-use Rattle.anstyle_parse.specs.Bytes.{is_within}
-use Rattle.anstyle_parse.proofs.CanonCharacters.{within, within_parts}
+use Rattle.anstyle_parse.specs.Stream.Bytes.{is_within}
+use Rattle.anstyle_parse.proofs.Characters.Encoding.{within, within_parts}
 use Rattle.ansi_style.specs.declared.style.Style.{Style}
 use Rattle.ansi_style.specs.declared.style.Color.{Color}
 use Rattle.ansi_style.specs.declared.style.Color.TheVariants.{Default, Named, Bright, Indexed, Direct}

@@ -3,10 +3,10 @@ use Rattle.std.proofs.Common.{◌≡◌, ◌≤◌, ℕ, Bool, true, false, ◌|
 use Rattle.std.specs.Prelude.{encode_utf8, nat_le, if◌then◌else◌}
 use Rattle.std.specs.List.{AllByRecursion}
 use Rattle.std.proofs.lemmas.Bool.{le-leb, or_left, or_cases, eqb-true, cases_lt}
-use Rattle.anstyle_parse.specs.Bytes.{is_within}
-use Rattle.anstyle_parse.specs.Call.{Call, print, execute, hook, put, unhook, osc_dispatch, csi_dispatch, esc_dispatch}
-use Rattle.anstyle_parse.specs.Lawful.{is_character, AreLawfulFrom}
-use Rattle.anstyle_parse.proofs.CanonCharacters.{encode_one, within_parts}
+use Rattle.anstyle_parse.specs.Stream.Bytes.{is_within}
+use Rattle.anstyle_parse.specs.Stream.Call.{Call, print, execute, hook, put, unhook, osc_dispatch, csi_dispatch, esc_dispatch}
+use Rattle.anstyle_parse.specs.Laws.Lawful.{is_character, AreLawfulFrom}
+use Rattle.anstyle_parse.proofs.Characters.Encoding.{encode_one, within_parts}
 use Rattle.ansi_strip.specs.Strip.{is_layout, stripped_call}
 use Rattle.ansi_html.proofs.PageLemmas.{AreHigh, AreHigh-encode}
 

@@ -3,8 +3,8 @@ use Rattle.std.proofs.Common.{◌≡◌, ◌≢◌, ◌<◌, ◌≤◌, ℕ, Boo
 use Rattle.std.specs.Prelude.{not, encode_utf8}
 use Rattle.std.specs.List.{AllByRecursion}
 use Rattle.std.proofs.lemmas.Bool.{ne_eqb, eqb-true, cases_lt, or_parts, or_cases}
-use Rattle.anstyle_parse.proofs.LawfulCharacters.{length-encode-some}
-use Rattle.anstyle_parse.proofs.CanonCharacters.{encode_one, encode_two, encode_three, encode_four}
+use Rattle.anstyle_parse.proofs.Characters.Scalars.{length-encode-some}
+use Rattle.anstyle_parse.proofs.Characters.Encoding.{encode_one, encode_two, encode_three, encode_four}
 use Rattle.ansi_strip.specs.Strip.{is_layout}
 use Rattle.ansi_style.specs.declared.style.Style.{Style}
 use Rattle.ansi_html.specs.Page.{escaped, escaped_text, change, text_html, shown_after}

@@ -1,9 +1,9 @@
 -- No definition, but proofs: the language wants those of a trait's laws among the specs.
 -- A writer of HTML writes the HTML of the calls that it takes.
 use Rattle.std.proofs.Common.{◌≡◌, ℕ, Bool, List, [], ◌∷◌, ◌++◌, Option, sym, ap, ap₂, ◌∙◌, subst}
-use Rattle.anstyle_parse.specs.Call.{Call, Goes}
-use Rattle.anstyle_parse.specs.Output.{Adds}
-use Rattle.anstyle_parse.proofs.OutputLemmas.{Adds-nil, Adds-append}
+use Rattle.anstyle_parse.specs.Stream.Call.{Call, Goes}
+use Rattle.anstyle_parse.specs.Writing.Output.{Adds}
+use Rattle.anstyle_parse.proofs.Written.Output.{Adds-nil, Adds-append}
 use Rattle.ansi_strip.specs.Strip.{stripped_call}
 use Rattle.ansi_html.specs.declared.performer.HtmlWriter.{HtmlWriter}
 use Rattle.ansi_html.specs.Page.{text_html, html_from, shown_at_end, span_end, html_text, html_ending}

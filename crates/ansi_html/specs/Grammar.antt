@@ -1,7 +1,7 @@
 -- The grammar of the HTML that is written. A fragment is text and spans, which do not nest; a
 -- span has one attribute, of declarations from a fixed vocabulary. Nothing else is in it.
 use Rattle.std.specs.Prelude.{ℕ, Bool, ◌||◌, ◌&&◌, nat_le, ◌==◌, not, List, [], ◌∷◌, ◌++◌, codes, IsTrue}
-use Rattle.anstyle_parse.specs.Bytes.{is_within}
+use Rattle.anstyle_parse.specs.Stream.Bytes.{is_within}
 
 -- A byte of text: 20 and above, or 09, 0A, 0D; and none with a meaning in HTML.
 unfoldable pub is_special : ℕ → Bool

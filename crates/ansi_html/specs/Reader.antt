@@ -3,7 +3,7 @@
 -- meets: data (13.2.5.1), character reference (13.2.5.72), tag (13.2.5.6 to 8 and 32 to 40),
 -- attribute value, double-quoted (13.2.5.36).
 use Rattle.std.specs.Prelude.{ℕ, ◌==◌, bytes_eq, List, [], ◌∷◌, ◌++◌, codes, map, if◌then◌else◌}
-use Rattle.anstyle_parse.specs.Call.{Call}
+use Rattle.anstyle_parse.specs.Stream.Call.{Call}
 use Rattle.ansi_strip.specs.Strip.{stripped_call}
 use Rattle.ansi_style.specs.declared.style.Style.{Style}
 use Rattle.ansi_style.specs.Rendition.{style_after}

@@ -1,6 +1,6 @@
 //! A style as CSS declarations.
 ghost use Rattle.std.specs.Prelude.{◌≡◌, ◌<◌, ◌++◌, ◌||◌, [], codes};
-ghost use Rattle.anstyle_parse.specs.Output.{Adds};
+ghost use Rattle.anstyle_parse.specs.Writing.Output.{Adds};
 ghost use Rattle.ansi_html.specs.Palette.{hex_digit, hex, shades, named_shades, bright_shades, light_dark, shade, level, indexed, color_value};
 ghost use Rattle.ansi_html.specs.Css.{color_css, role_by, colors_css, text_if, is_underlined, lines_css, underline_css, css};
 

@@ -4,9 +4,9 @@
 
 ghost use Rattle.std.specs.Prelude.{◌≡◌, ◌≤◌, ◌+◌, ◌*◌, ◌++◌, ℕ, List, OnOk, length, map};
 ghost use Rattle.std.specs.Str.{IsUtf8};
-ghost use Rattle.anstyle_parse.specs.Call.{Call};
-ghost use Rattle.anstyle_parse.specs.Calls.{AreCalls};
-ghost use Rattle.anstyle_parse.specs.Run.{RunsToEnding};
+ghost use Rattle.anstyle_parse.specs.Stream.Call.{Call};
+ghost use Rattle.anstyle_parse.specs.Stream.Calls.{AreCalls};
+ghost use Rattle.anstyle_parse.specs.Writing.Run.{RunsToEnding};
 ghost use Rattle.ansi_strip.specs.Strip.{stripped};
 ghost use Rattle.ansi_style.specs.Style.{plain};
 ghost use Rattle.ansi_html.specs.Page.{html_text, html_ending, html};

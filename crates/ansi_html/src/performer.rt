@@ -1,6 +1,6 @@
 //! The performer that writes HTML.
 ghost use Rattle.std.specs.Prelude.{◌≡◌, [], refl, encode_utf8};
-ghost use Rattle.anstyle_parse.specs.Output.{fault_in, Adds};
+ghost use Rattle.anstyle_parse.specs.Writing.Output.{fault_in, Adds};
 ghost use Rattle.ansi_style.specs.Style.{plain};
 ghost use Rattle.ansi_strip.specs.Strip.{is_layout};
 ghost use Rattle.ansi_html.specs.Css.{css};

@@ -1,10 +1,10 @@
 -- The calls of which something is left are a lawful list, whose canonical text is what is left.
 use Rattle.std.proofs.Common.{◌≡◌, ℕ, Bool, true, false, List, [], ◌∷◌, ◌++◌, ◌≤◌, length, filter, IsTrue, encode_utf8, refl, ap, ◌∙◌, arith, length-append}
 use Rattle.std.specs.Prelude.{if◌then◌else◌}
-use Rattle.anstyle_parse.specs.Call.{Call, print, execute, hook, put, unhook, osc_dispatch, csi_dispatch, esc_dispatch}
-use Rattle.anstyle_parse.specs.Calls.{is_executed}
-use Rattle.anstyle_parse.specs.Canon.{call_text, canon}
-use Rattle.anstyle_parse.specs.Lawful.{AreLawfulFrom, AreLawful}
+use Rattle.anstyle_parse.specs.Stream.Call.{Call, print, execute, hook, put, unhook, osc_dispatch, csi_dispatch, esc_dispatch}
+use Rattle.anstyle_parse.specs.Stream.Calls.{is_executed}
+use Rattle.anstyle_parse.specs.Stream.Canon.{call_text, canon}
+use Rattle.anstyle_parse.specs.Laws.Lawful.{AreLawfulFrom, AreLawful}
 use Rattle.ansi_strip.specs.Strip.{is_layout, is_left, stripped_call, stripped}
 
 -- a control, where it is left

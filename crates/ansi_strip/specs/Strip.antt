@@ -1,7 +1,7 @@
 -- Stripped text: what is left of the calls of a stream.
+use Rattle.std.specs.List.{flat_map}
 use Rattle.std.specs.Prelude.{ℕ, Bool, true, false, ◌||◌, ◌==◌, List, [], ◌∷◌, encode_utf8, if◌then◌else◌}
-use Rattle.anstyle_parse.specs.Call.{Call, print, execute}
-use Rattle.anstyle_parse.specs.Output.{texts}
+use Rattle.anstyle_parse.specs.Stream.Call.{Call, print, execute}
 
 -- the controls that are left: tab, line feed and carriage return (HT, LF and CR of ECMA-48)
 abbrev pub is_layout : ℕ → Bool
@@ -22,4 +22,4 @@ stripped_call call = []
 
 -- what is left of the calls, joined
 abbrev pub stripped : List Call → List ℕ
-stripped calls = texts stripped_call calls
+stripped calls = flat_map stripped_call calls

@@ -1,7 +1,7 @@
 //! Laws of stripped text. Each is the contract of a function that does nothing.
 ghost use Rattle.std.specs.Prelude.{◌≡◌, ◌≤◌, ◌*◌, ℕ, List, length, filter};
-ghost use Rattle.anstyle_parse.specs.Call.{Call};
-ghost use Rattle.anstyle_parse.specs.Calls.{AreCalls};
+ghost use Rattle.anstyle_parse.specs.Stream.Call.{Call};
+ghost use Rattle.anstyle_parse.specs.Stream.Calls.{AreCalls};
 ghost use Rattle.ansi_strip.specs.Strip.{is_left, stripped};
 
 use anstyle_parse::laws::{bounds, calls_are_lawful, replay};

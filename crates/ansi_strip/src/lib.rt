@@ -3,7 +3,7 @@
 #![tactic(auto)]
 
 ghost use Rattle.std.specs.Prelude.{OnOk};
-ghost use Rattle.anstyle_parse.specs.Run.{Runs};
+ghost use Rattle.anstyle_parse.specs.Writing.Run.{Runs};
 ghost use Rattle.ansi_strip.specs.Strip.{stripped};
 
 pub mod laws;

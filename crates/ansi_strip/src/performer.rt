@@ -1,6 +1,6 @@
 //! The performer that writes stripped text.
 ghost use Rattle.std.specs.Prelude.{◌≡◌, [], ⊤, refl};
-ghost use Rattle.anstyle_parse.specs.Output.{fault_in, Adds};
+ghost use Rattle.anstyle_parse.specs.Writing.Output.{fault_in, Adds};
 ghost use Rattle.ansi_strip.specs.Strip.{stripped_call, stripped};
 
 use anstyle_parse::canon::{CallWriter, Fault, KeepsFault, Output, Sink};
@@ -66,7 +66,7 @@ impl<W: Sink> KeepsFault for Stripper<W> {
 
 /// Stripped text has no ending.
 impl<W: Sink> CallWriter<W> for Stripper<W> {
-    ghost use Rattle.anstyle_parse.proofs.OutputLemmas.{Adds-calls};
+    ghost use Rattle.anstyle_parse.proofs.Written.Output.{Adds-calls};
     ghost use Rattle.ansi_strip.specs.Stripper.{output_of};
 
     ghost output_in = { output_of };

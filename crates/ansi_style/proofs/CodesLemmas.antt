@@ -6,14 +6,14 @@ use Rattle.std.specs.List.{concat, AllByRecursion}
 use Rattle.std.proofs.lemmas.Bool.{lt-ltb}
 use Rattle.std.proofs.lemmas.Grind.{flat_map-append}
 use Rattle.std.proofs.lemmas.List.{map_more}
-use Rattle.anstyle_parse.specs.Bytes.{semicolon, escape_byte, is_within}
-use Rattle.anstyle_parse.specs.Calls.{AreCalls}
-use Rattle.anstyle_parse.specs.Groups.{fields_text, groups_text}
-use Rattle.anstyle_parse.specs.Lawful.{IsGroup, AreLawful}
-use Rattle.anstyle_parse.specs.TextLaw.{AreSent}
-use Rattle.anstyle_parse.proofs.CanonReplay.{replay}
-use Rattle.anstyle_parse.proofs.GroupLemmas.{concat-append}
-use Rattle.anstyle_parse.proofs.TextLaw.{canon-csi_dispatch, IsHeaderCall-sent}
+use Rattle.anstyle_parse.specs.Stream.Bytes.{semicolon, escape_byte, is_within}
+use Rattle.anstyle_parse.specs.Stream.Calls.{AreCalls}
+use Rattle.anstyle_parse.specs.Stream.Groups.{fields_text, groups_text}
+use Rattle.anstyle_parse.specs.Laws.Lawful.{IsGroup, AreLawful}
+use Rattle.anstyle_parse.specs.Laws.TextLaw.{AreSent}
+use Rattle.anstyle_parse.proofs.Canonical.Replay.{replay}
+use Rattle.anstyle_parse.proofs.Arguments.Lengths.{concat-append}
+use Rattle.anstyle_parse.proofs.Canonical.DebugText.{canon-csi_dispatch, IsHeaderCall-sent}
 use Rattle.ansi_style.specs.declared.style.Style.{Style}
 use Rattle.ansi_style.specs.declared.style.Color.{Color}
 use Rattle.ansi_style.specs.declared.style.Color.TheVariants.{Default, Named, Bright, Indexed, Direct}
@@ -192,29 +192,29 @@ coloured (Indexed n) others style bytes off =
 coloured (Direct red green blue) others style bytes off =
     ap (λ t. selected others (with_some_color Foreground (if t then Some (Direct red green blue) else None) style)) (all_below red green blue bytes.0 bytes.1 bytes.2)
 
-coloured_behind : (color : Color) (style : Style) → HasBytes color → style ≡ record style { background = Default }
+coloured_after : (color : Color) (style : Style) → HasBytes color → style ≡ record style { background = Default }
     → selected (color_codes 40 color) style ≡ record style { background = color }
 unfolding with_code target_of is_within
-coloured_behind Default style bytes off = off
-coloured_behind (Named Black) style bytes off = refl
-coloured_behind (Named Red) style bytes off = refl
-coloured_behind (Named Green) style bytes off = refl
-coloured_behind (Named Yellow) style bytes off = refl
-coloured_behind (Named Blue) style bytes off = refl
-coloured_behind (Named Magenta) style bytes off = refl
-coloured_behind (Named Cyan) style bytes off = refl
-coloured_behind (Named White) style bytes off = refl
-coloured_behind (Bright Black) style bytes off = refl
-coloured_behind (Bright Red) style bytes off = refl
-coloured_behind (Bright Green) style bytes off = refl
-coloured_behind (Bright Yellow) style bytes off = refl
-coloured_behind (Bright Blue) style bytes off = refl
-coloured_behind (Bright Magenta) style bytes off = refl
-coloured_behind (Bright Cyan) style bytes off = refl
-coloured_behind (Bright White) style bytes off = refl
-coloured_behind (Indexed n) style bytes off =
+coloured_after Default style bytes off = off
+coloured_after (Named Black) style bytes off = refl
+coloured_after (Named Red) style bytes off = refl
+coloured_after (Named Green) style bytes off = refl
+coloured_after (Named Yellow) style bytes off = refl
+coloured_after (Named Blue) style bytes off = refl
+coloured_after (Named Magenta) style bytes off = refl
+coloured_after (Named Cyan) style bytes off = refl
+coloured_after (Named White) style bytes off = refl
+coloured_after (Bright Black) style bytes off = refl
+coloured_after (Bright Red) style bytes off = refl
+coloured_after (Bright Green) style bytes off = refl
+coloured_after (Bright Yellow) style bytes off = refl
+coloured_after (Bright Blue) style bytes off = refl
+coloured_after (Bright Magenta) style bytes off = refl
+coloured_after (Bright Cyan) style bytes off = refl
+coloured_after (Bright White) style bytes off = refl
+coloured_after (Indexed n) style bytes off =
     ap (λ t. with_some_color Background (if t then Some (Indexed n) else None) style) (lt-ltb n 256 bytes)
-coloured_behind (Direct red green blue) style bytes off =
+coloured_after (Direct red green blue) style bytes off =
     ap (λ t. with_some_color Background (if t then Some (Direct red green blue) else None) style) (all_below red green blue bytes.0 bytes.1 bytes.2)
 
 -- From any style the codes lead to theirs.
@@ -243,4 +243,4 @@ selected-codes_of style old foreground_bytes background_bytes =
     ∙ flag style.struck_out 9 _ s7 (λ b. record s7 { struck_out = b }) refl refl refl
     ∙ flag style.overlined 53 _ s8 (λ b. record s8 { overlined = b }) refl refl refl
     ∙ coloured style.foreground _ s9 foreground_bytes refl
-    ∙ coloured_behind style.background s10 background_bytes refl
+    ∙ coloured_after style.background s10 background_bytes refl

@@ -1,7 +1,7 @@
 -- Sequences of selections.
 use Rattle.std.proofs.Common.{◌≡◌, ℕ, true, eqb, List, [], ◌∷◌, ◌++◌, ◌||◌, refl, sym, ap, ◌∙◌, subst, ⊎_elim}
 use Rattle.std.proofs.lemmas.Bool.{or_cases, eqb-true}
-use Rattle.anstyle_parse.specs.Bytes.{is_within}
+use Rattle.anstyle_parse.specs.Stream.Bytes.{is_within}
 use Rattle.ansi_style.specs.declared.style.Style.{Style}
 use Rattle.ansi_style.specs.declared.select.Expected.{Expected}
 use Rattle.ansi_style.specs.declared.select.Expected.TheVariants.{Code}

@@ -1,10 +1,10 @@
 -- The control sequence that leads from any style to a given one.
 use Rattle.std.specs.Prelude.{ℕ, ◌+◌, Bool, false, List, [], ◌∷◌, ◌++◌, if◌then◌else◌}
 use Rattle.std.specs.List.{flat_map}
-use Rattle.anstyle_parse.specs.Bytes.{semicolon}
-use Rattle.anstyle_parse.specs.Call.{Call, csi_dispatch}
-use Rattle.anstyle_parse.specs.Canon.{canon}
-use Rattle.anstyle_parse.specs.Groups.{fields_text}
+use Rattle.anstyle_parse.specs.Stream.Bytes.{semicolon}
+use Rattle.anstyle_parse.specs.Stream.Call.{Call, csi_dispatch}
+use Rattle.anstyle_parse.specs.Stream.Canon.{canon}
+use Rattle.anstyle_parse.specs.Stream.Groups.{fields_text}
 use Rattle.ansi_style.specs.declared.style.Style.{Style}
 use Rattle.ansi_style.specs.declared.style.Color.{Color}
 use Rattle.ansi_style.specs.declared.style.Color.TheVariants.{Default, Named, Bright, Indexed, Direct}

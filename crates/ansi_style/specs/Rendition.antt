@@ -16,8 +16,8 @@ use Rattle.ansi_style.specs.declared.select.Target.{Target}
 use Rattle.ansi_style.specs.declared.select.Target.TheVariants.{Foreground, Background, Line}
 use Rattle.ansi_style.specs.declared.select.Expected.{Expected}
 use Rattle.ansi_style.specs.declared.select.Expected.TheVariants.{Code, Kind, Index, RedValue, GreenValue, BlueValue}
-use Rattle.anstyle_parse.specs.Bytes.{is_within}
-use Rattle.anstyle_parse.specs.Call.{Call, csi_dispatch}
+use Rattle.anstyle_parse.specs.Stream.Bytes.{is_within}
+use Rattle.anstyle_parse.specs.Stream.Call.{Call, csi_dispatch}
 use Rattle.ansi_style.specs.Style.{plain, hue_at}
 
 -- A row of the table: the codes from first to last, and what each does, by its place among

@@ -1,8 +1,8 @@
 //! The control sequence that leads from any style to a given one.
 ghost use Rattle.std.specs.Prelude.{◌≡◌, ℕ, ◌+◌, ◌<◌, ◌∷◌, [], map};
-ghost use Rattle.anstyle_parse.specs.Output.{Adds};
-ghost use Rattle.anstyle_parse.specs.Calls.{AreCalls};
-ghost use Rattle.anstyle_parse.specs.Lawful.{AreLawful};
+ghost use Rattle.anstyle_parse.specs.Writing.Output.{Adds};
+ghost use Rattle.anstyle_parse.specs.Stream.Calls.{AreCalls};
+ghost use Rattle.anstyle_parse.specs.Laws.Lawful.{AreLawful};
 ghost use Rattle.ansi_style.specs.Style.{hue_number, HasBytes};
 ghost use Rattle.ansi_style.specs.Rendition.{selected};
 ghost use Rattle.ansi_style.specs.Codes.{one, code_if, color_codes, underline_codes, other_codes, codes_of, codes_text, selection, more_text};

@@ -14,7 +14,7 @@ pub enum Hue {
     White,
 }
 
-/// The colour of text, or of what is behind it.
+/// The colour of text, or of what is after it.
 #[derive(Debug, Clone, Copy, PartialEq, Eq)]
 pub enum Color {
     /// The terminal's own.

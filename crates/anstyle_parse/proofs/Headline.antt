@@ -1,13 +1,13 @@
--- What a performer has received, and the calls behind an ESC.
+-- What a performer has received, and the calls after an ESC.
 use Rattle.std.proofs.Common.{ℕ, List, [], ◌∷◌, ◌++◌, refl, subst, append_assoc}
-use Rattle.anstyle_parse.specs.Bytes.{escape_byte}
-use Rattle.anstyle_parse.specs.Call.{Call, Goes}
-use Rattle.anstyle_parse.specs.Calls.{AreCalls, Continues, HasReceived}
-use Rattle.anstyle_parse.specs.Items.{escape, unfinished, sequence}
-use Rattle.anstyle_parse.proofs.CanonItems.{AreCalls-nil}
-use Rattle.anstyle_parse.proofs.DivisionOnly.{AreCalls-only}
-use Rattle.anstyle_parse.proofs.Forgotten.{Continues-forgotten}
-use Rattle.anstyle_parse.proofs.MachineLemmas.{Goes-append}
+use Rattle.anstyle_parse.specs.Stream.Bytes.{escape_byte}
+use Rattle.anstyle_parse.specs.Stream.Call.{Call, Goes}
+use Rattle.anstyle_parse.specs.Stream.Calls.{AreCalls, Continues, HasReceived}
+use Rattle.anstyle_parse.specs.Stream.Items.{escape, unfinished, sequence}
+use Rattle.anstyle_parse.proofs.Canonical.Items.{AreCalls-nil}
+use Rattle.anstyle_parse.proofs.Division.Only.{AreCalls-only}
+use Rattle.anstyle_parse.proofs.Agreement.Forgotten.{Continues-forgotten}
+use Rattle.anstyle_parse.proofs.Machine.Steps.{Goes-append}
 
 -- ESC alone is an escape sequence that is unfinished, and calls nothing
 pub AreCalls-escape : AreCalls (escape_byte ∷ []) []

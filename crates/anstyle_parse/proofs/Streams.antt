@@ -1,17 +1,18 @@
 -- What the public calls say of streams, from what they say of the machine.
+use Rattle.std.specs.Bool.{OnFalse}
 use Rattle.std.proofs.Common.{◌≡◌, Bool, true, false, IsTrue, refl, ◌<◌, ℕ, List, [], ◌∷◌, ◌++◌, ⊎_elim, inl, inr, sym, ap, ◌∙◌, subst, arith, get_or, Option}
 use Rattle.std.proofs.lemmas.List.{get_or_default}
 use Rattle.std.proofs.lemmas.List.Elements.{recursion_from_All}
 use Rattle.anstyle_parse.specs.declared.state.definitions.State.TheVariants.{Utf8}
 use Rattle.anstyle_parse.specs.declared.parser.Parser.{Parser}
-use Rattle.anstyle_parse.specs.Call.{Call}
-use Rattle.anstyle_parse.specs.Calls.{Continues}
-use Rattle.anstyle_parse.specs.Machine.{Machine, Adds, step, machine_after, machine_calls}
-use Rattle.anstyle_parse.specs.Stands.{StandsAfter, seen, unseen, Decodes}
-use Rattle.anstyle_parse.specs.Parser.{machine_of, CanTake, CanTakeAll, MayTake, MayTakeAll, AreBelow, IsAfter, IsAfterAscii}
-use Rattle.anstyle_parse.proofs.Stands.{StandsAfter-machine, Continues-machine}
-use Rattle.anstyle_parse.proofs.Seen.{Seen-machine}
-use Rattle.anstyle_parse.proofs.Unseen.{Unseen-step, Unseen-machine, StandsAfter-outside, reached-outside}
+use Rattle.anstyle_parse.specs.Stream.Call.{Call}
+use Rattle.anstyle_parse.specs.Stream.Calls.{Continues}
+use Rattle.anstyle_parse.specs.Machine.Step.{Machine, AccumulatorStep, step, machine_after, machine_calls}
+use Rattle.anstyle_parse.specs.Machine.Stands.{StandsAfter, seen, unseen, Decodes}
+use Rattle.anstyle_parse.specs.Fields.Parser.{machine_of, CanTake, CanTakeAll, AreBelow, IsAfter, IsAfterAscii}
+use Rattle.anstyle_parse.proofs.Agreement.Whole.{StandsAfter-machine, Continues-machine}
+use Rattle.anstyle_parse.proofs.Machine.Seen.{Seen-machine}
+use Rattle.anstyle_parse.proofs.Machine.Unseen.{Unseen-step, Unseen-machine, StandsAfter-outside, reached-outside}
 
 -- the bytes of a slice are below 256
 pub bytes_below : (bytes : List ℕ) → ((i : ℕ) → get_or bytes i 0 < 256) → AreBelow 256 bytes
@@ -22,21 +23,21 @@ AreBelow-append limit [] ys first second = second
 AreBelow-append limit (x ∷ xs) ys first second = (first.0, AreBelow-append limit xs ys first.1 second)
 
 -- an accumulator that decodes takes every byte
-pub CanTake-may : {C : Type 0} (front : C → List ℕ) (takes : C → ℕ → Type 0) (add : C → ℕ → C × Option ℕ) (adds : Adds C) (decodes : Bool) → (IsTrue decodes → Decodes C front takes add adds)
-    → (parser : Parser C) (b : ℕ) → b < 256 → MayTake decodes takes adds parser b → CanTake takes adds parser b
+pub CanTake-may : {C : Type 0} (front : C → List ℕ) (takes : C → ℕ → Type 0) (add : C → ℕ → C × Option ℕ) (adds : AccumulatorStep C) (decodes : Bool) → (IsTrue decodes → Decodes C front takes add adds)
+    → (parser : Parser C) (b : ℕ) → b < 256 → OnFalse decodes (CanTake takes adds parser b) → CanTake takes adds parser b
 CanTake-may front takes add adds true follows parser b small may =
     let all = (follows refl).takes_bytes in
     ((λ reaches. all parser.accumulator b small), (λ inside breaks reaches. all (adds parser.accumulator b).0 b small))
 CanTake-may front takes add adds false follows parser b small may = may
 
-pub CanTakeAll-may : {C : Type 0} (front : C → List ℕ) (takes : C → ℕ → Type 0) (add : C → ℕ → C × Option ℕ) (adds : Adds C) (decodes : Bool) → (IsTrue decodes → Decodes C front takes add adds)
-    → (parser : Parser C) (bytes : List ℕ) → MayTakeAll decodes takes parser bytes → CanTakeAll takes parser bytes
+pub CanTakeAll-may : {C : Type 0} (front : C → List ℕ) (takes : C → ℕ → Type 0) (add : C → ℕ → C × Option ℕ) (adds : AccumulatorStep C) (decodes : Bool) → (IsTrue decodes → Decodes C front takes add adds)
+    → (parser : Parser C) (bytes : List ℕ) → OnFalse decodes (CanTakeAll takes parser bytes) → CanTakeAll takes parser bytes
 CanTakeAll-may front takes add adds true follows parser bytes may = inl (λ value b small. (follows refl).takes_bytes value b small)
 CanTakeAll-may front takes add adds false follows parser bytes may = may
 
 module _ {C : Type 0} (takes : C → ℕ → Type 0) where
   -- the first of some bytes can be taken
-  pub CanTake-first : (adds : Adds C) (parser : Parser C) (b : ℕ) (bytes : List ℕ) → b < 256 → CanTakeAll takes parser (b ∷ bytes) → CanTake takes adds parser b
+  pub CanTake-first : (adds : AccumulatorStep C) (parser : Parser C) (b : ℕ) (bytes : List ℕ) → b < 256 → CanTakeAll takes parser (b ∷ bytes) → CanTake takes adds parser b
   CanTake-first adds parser b bytes small can =
       ⊎_elim
       (λ all. ((λ reaches. all parser.accumulator b small), (λ inside breaks reaches. all (adds parser.accumulator b).0 b small)))
@@ -44,7 +45,7 @@ module _ {C : Type 0} (takes : C → ℕ → Type 0) where
       can
 
   -- and then the others
-  pub CanTakeAll-rest : (adds : Adds C) (old new : Parser C) (b : ℕ) (bytes : List ℕ) → machine_of new ≡ step adds b (machine_of old)
+  pub CanTakeAll-rest : (adds : AccumulatorStep C) (old new : Parser C) (b : ℕ) (bytes : List ℕ) → machine_of new ≡ step adds b (machine_of old)
       → CanTakeAll takes old (b ∷ bytes) → CanTakeAll takes new bytes
   CanTakeAll-rest adds old new b bytes stepped can =
       ⊎_elim
@@ -52,7 +53,7 @@ module _ {C : Type 0} (takes : C → ℕ → Type 0) where
       (λ ascii. inr ((λ inside. (Unseen-step adds b ascii.1.0 (machine_of old) ascii.0).2 (sym (ap (λ (m : Machine C). m.state) stepped) ∙ inside)), ascii.1.1))
       can
 
-module _ {C : Type 0} (front : C → List ℕ) (takes : C → ℕ → Type 0) (add : C → ℕ → C × Option ℕ) (adds : Adds C) (decodes : Decodes C front takes add adds)
+module _ {C : Type 0} (front : C → List ℕ) (takes : C → ℕ → Type 0) (add : C → ℕ → C × Option ℕ) (adds : AccumulatorStep C) (decodes : Decodes C front takes add adds)
     (old new : Parser C) (bytes : List ℕ) (below : AreBelow 256 bytes) (taken : machine_of new ≡ machine_after adds bytes (machine_of old))
     (before : List ℕ) (stands : IsAfter front old before) where
   pub IsAfter-taken : IsAfter front new (before ++ bytes)
@@ -66,7 +67,7 @@ module _ {C : Type 0} (front : C → List ℕ) (takes : C → ℕ → Type 0) (a
       let Q : List Call → Type 0 = λ calls. Continues before bytes calls in
       subst Q (sym (Seen-machine front takes add adds decodes bytes below (machine_of old)).1) (Continues-machine (seen front (machine_of old)) before bytes stands)
 
-module _ {C : Type 0} (adds : Adds C)
+module _ {C : Type 0} (adds : AccumulatorStep C)
     (old new : Parser C) (bytes : List ℕ) (below : AreBelow 0x80 bytes) (taken : machine_of new ≡ machine_after adds bytes (machine_of old))
     (before : List ℕ) (stands : IsAfterAscii old before) where
   outside : old.state ≡ Utf8 → ⊥

@@ -3,7 +3,7 @@ ghost use Rattle.std.specs.Prelude.{◌≡◌, ◌<◌, ℕ, List, [], Option, S
 ghost use Rattle.std.proofs.Common.{ap};
 ghost use Rattle.std.proofs.lemmas.Bool.{false≢true};
 ghost use Rattle.anstyle_parse.specs.declared.accumulator.Taken.{Taken};
-ghost use Rattle.anstyle_parse.specs.Stands.{Decodes};
+ghost use Rattle.anstyle_parse.specs.Machine.Stands.{Decodes};
 
 use crate::utf8::Front;
 
@@ -111,8 +111,8 @@ pub struct Utf8Parser {
 }
 
 impl Utf8Parser {
-    ghost use Rattle.anstyle_parse.specs.Front.{bytes_of};
-    ghost use Rattle.anstyle_parse.specs.Accumulator.{front_of};
+    ghost use Rattle.anstyle_parse.specs.Fields.Front.{bytes_of};
+    ghost use Rattle.anstyle_parse.specs.Fields.Accumulator.{front_of};
 
     /// What has come of a character.
     pub(crate) fn front(&self) -> Front
@@ -123,9 +123,9 @@ impl Utf8Parser {
 }
 
 impl CharAccumulator for Utf8Parser {
-    ghost use Rattle.anstyle_parse.specs.Front.{bytes_of};
-    ghost use Rattle.anstyle_parse.specs.Accumulator.{front_of, parser_after, parser_added};
-    ghost use Rattle.anstyle_parse.specs.Decoding.{Decodes-parser_after};
+    ghost use Rattle.anstyle_parse.specs.Fields.Front.{bytes_of};
+    ghost use Rattle.anstyle_parse.specs.Fields.Accumulator.{front_of, parser_after, parser_added};
+    ghost use Rattle.anstyle_parse.specs.Fields.Decoding.{Decodes-parser_after};
 
     ghost front = { front_of };
 
@@ -147,7 +147,7 @@ impl CharAccumulator for Utf8Parser {
     /// character of two to four bytes, and the answer is nothing; 80..C1 and F5..FF are
     /// answered with U+FFFD.
     ///
-    /// Behind a front the byte may complete the character, which is the answer, or go on
+    /// After a front the byte may complete the character, which is the answer, or go on
     /// with it, and the answer is nothing. Any other byte breaks the character: the answer
     /// is one U+FFFD for the front and this byte, which is used up.
     ///

@@ -5,19 +5,19 @@
 ghost use Rattle.std.specs.Prelude.{◌≡◌, ◌≤◌, ◌*◌, ◌↔◌, ℕ, List, [], ◌∷◌, ◌++◌, length, IsTrue};
 ghost use Rattle.std.specs.Cmp.{IsEquivalence};
 ghost use Rattle.std.specs.List.{flat_map};
-ghost use Rattle.anstyle_parse.specs.Accumulator.{front_of, parser_after};
-ghost use Rattle.anstyle_parse.specs.Bytes.{escape_byte, is_cancel};
-ghost use Rattle.anstyle_parse.specs.Call.{Call, Goes};
-ghost use Rattle.anstyle_parse.specs.Calls.{AreCalls, Continues, HasReceived};
-ghost use Rattle.anstyle_parse.specs.Canon.{canon};
-ghost use Rattle.anstyle_parse.specs.CanonWriter.{output_of};
-ghost use Rattle.anstyle_parse.specs.Characters.{is_proper_front, IsProperFront};
-ghost use Rattle.anstyle_parse.specs.Items.{Item, IsDivision};
-ghost use Rattle.anstyle_parse.specs.Lawful.{AreLawful, AreMade};
-ghost use Rattle.anstyle_parse.specs.Output.{Adds};
-ghost use Rattle.anstyle_parse.specs.Machine.{machine_calls};
-ghost use Rattle.anstyle_parse.specs.Parser.{machine_of, IsAfter, IsAfterAscii};
-ghost use Rattle.anstyle_parse.specs.State.{state_number, action_number};
+ghost use Rattle.anstyle_parse.specs.Fields.Accumulator.{front_of, parser_after};
+ghost use Rattle.anstyle_parse.specs.Stream.Bytes.{escape_byte, is_cancel};
+ghost use Rattle.anstyle_parse.specs.Stream.Call.{Call, Goes};
+ghost use Rattle.anstyle_parse.specs.Stream.Calls.{AreCalls, Continues, HasReceived};
+ghost use Rattle.anstyle_parse.specs.Stream.Canon.{canon};
+ghost use Rattle.anstyle_parse.specs.Writing.CanonWriter.{output_of};
+ghost use Rattle.anstyle_parse.specs.Stream.Characters.{is_proper_front, IsProperFront};
+ghost use Rattle.anstyle_parse.specs.Stream.Items.{Item, IsDivision};
+ghost use Rattle.anstyle_parse.specs.Laws.Lawful.{AreLawful, AreMade};
+ghost use Rattle.anstyle_parse.specs.Writing.Output.{Adds};
+ghost use Rattle.anstyle_parse.specs.Machine.Step.{machine_calls};
+ghost use Rattle.anstyle_parse.specs.Fields.Parser.{machine_of, IsAfter, IsAfterAscii};
+ghost use Rattle.anstyle_parse.specs.Machine.State.{state_number, action_number};
 
 use crate::accumulator::{AsciiParser, CharAccumulator, Utf8Parser};
 use crate::canon::{CanonWriter, Fault, Sink};
@@ -66,7 +66,7 @@ fn take_piece<P: Perform>(parser: &mut Parser, performer: &mut P, piece: &[u8])
 }
 
 /// The front of a character: bytes pass the decoder's test over the table exactly if they are
-/// begun and some bytes behind them make them a well-formed sequence.
+/// begun and some bytes after them make them a well-formed sequence.
 pub fn front_of_a_character()
     ensures { (bytes : List ℕ) → (IsTrue (is_proper_front bytes) ↔ IsProperFront bytes) }
 {}

@@ -1,7 +1,7 @@
 //! For tests: the calls of a parser, as lines.
 ghost use Rattle.std.specs.Prelude.{⊤};
-ghost use Rattle.anstyle_parse.specs.Accumulator.{front_of};
-ghost use Rattle.anstyle_parse.specs.Parser.{IsAfter};
+ghost use Rattle.anstyle_parse.specs.Fields.Accumulator.{front_of};
+ghost use Rattle.anstyle_parse.specs.Fields.Parser.{IsAfter};
 
 use crate::{Params, Parser, Perform, Utf8Parser};
 use arrayvec::ArrayString;

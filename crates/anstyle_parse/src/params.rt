@@ -1,9 +1,10 @@
 //! The parameters of a control sequence or of a device control string: groups of fields.
 //! A list of fixed size, so that no byte of a stream takes memory.
+ghost use Rattle.anstyle_parse.specs.Stream.Arguments.{max_fields};
 ghost use Rattle.std.specs.Prelude.{◌≡◌, ◌<◌, ◌≤◌, ◌+◌, ◌-◌, ◌/◌, ◌%◌, ◌^◌, ◌++◌, ◌∷◌, [], ◌↔◌, ℕ, IsTrue, IfSome, ⊤, length};
 ghost use Rattle.std.specs.Bool.{OnFalse, OnTrue};
 ghost use Rattle.std.specs.List.{concat};
-ghost use Rattle.anstyle_parse.specs.Groups.{fields_text};
+ghost use Rattle.anstyle_parse.specs.Stream.Groups.{fields_text};
 ghost use Rattle.std.specs.Iterator.{YieldsFirstBy, item_count, UpTo};
 ghost use Rattle.std.specs.Iterator.SizeHint.{IsWithinCount};
 ghost use Rattle.std.specs.Fmt.{WritesOnOk};
@@ -26,7 +27,7 @@ pub struct Params {
     open_fields: u8,
     /// How many fields there are.
     len: usize,
-    ghost in_range: { len ≤ 32 },
+    ghost in_range: { len ≤ max_fields },
     ghost none_above: { starts < 2 ^ len },
     ghost first_starts: { 0 < len → starts % 2 ≡ 1 },
     ghost open_within: { open_fields ≤ len },
@@ -34,9 +35,8 @@ pub struct Params {
 }
 
 impl Params {
-    ghost use Rattle.anstyle_parse.specs.Arguments.{max_fields};
-    ghost use Rattle.anstyle_parse.specs.Groups.{HaveFields};
-    ghost use Rattle.anstyle_parse.specs.Params.{groups_shown, groups_left, closed_groups_of, open_group_of, AreFew};
+    ghost use Rattle.anstyle_parse.specs.Stream.Groups.{HaveFields};
+    ghost use Rattle.anstyle_parse.specs.Fields.Params.{groups_shown, groups_left, closed_groups_of, open_group_of, AreFew};
 
     /// How many fields there are, subparameters included: at most 32.
     pub fn len(&self) -> usize
@@ -71,7 +71,7 @@ impl Params {
     /// Whether there is no room for another field.
     pub(crate) fn is_full(&self) -> bool
         ensures full { IsTrue result ↔ (length (concat (closed_groups_of self.now)) + length (open_group_of self.now) ≡ 32) }
-        ensures room { OnFalse result (length (concat (closed_groups_of self.now)) + length (open_group_of self.now) < 32) }
+        ensures room { OnFalse result (length (concat (closed_groups_of self.now)) + length (open_group_of self.now) < max_fields) }
     {
         self.len == MAX_PARAMS
     }
@@ -96,7 +96,7 @@ impl Params {
 
     /// Adds a field to the open group, or to a new one, and closes that group.
     pub(crate) fn push(&mut self, field: u16)
-        requires { length (concat (closed_groups_of self.old)) + length (open_group_of self.old) < 32 }
+        requires { length (concat (closed_groups_of self.old)) + length (open_group_of self.old) < max_fields }
         ensures closed { closed_groups_of self.new ≡ closed_groups_of self.old ++ (open_group_of self.old ++ field ∷ []) ∷ [] }
         ensures open { open_group_of self.new ≡ [] }
     {
@@ -113,7 +113,7 @@ impl Params {
 
     /// Adds a field to the open group, or to a new one, which stays open.
     pub(crate) fn extend(&mut self, field: u16)
-        requires { length (concat (closed_groups_of self.old)) + length (open_group_of self.old) < 32 }
+        requires { length (concat (closed_groups_of self.old)) + length (open_group_of self.old) < max_fields }
         ensures closed { closed_groups_of self.new ≡ closed_groups_of self.old }
         ensures open { open_group_of self.new ≡ open_group_of self.old ++ field ∷ [] }
     {
@@ -130,7 +130,7 @@ impl Params {
 }
 
 impl Default for Params {
-    ghost use Rattle.anstyle_parse.specs.Params.{groups_shown};
+    ghost use Rattle.anstyle_parse.specs.Fields.Params.{groups_shown};
 
     ghost is_default = { λ params. groups_shown params ≡ [] };
 
@@ -148,8 +148,8 @@ impl Default for Params {
 /// them, then `]`.
 impl fmt::Debug for Params {
     ghost use Rattle.std.specs.Prelude.{Some};
-    ghost use Rattle.anstyle_parse.specs.Params.{groups_shown};
-    ghost use Rattle.anstyle_parse.specs.DebugText.{debug_text};
+    ghost use Rattle.anstyle_parse.specs.Fields.Params.{groups_shown};
+    ghost use Rattle.anstyle_parse.specs.Laws.DebugText.{debug_text};
 
     ghost debug_output = { λ params. Some (debug_text (groups_shown params)) };
 
@@ -180,10 +180,10 @@ impl Clone for Params {
 impl Params {
     ghost use Rattle.std.specs.Prelude.{List};
     ghost use Rattle.std.specs.Cmp.{IsEquivalence};
-    ghost use Rattle.anstyle_parse.specs.Params.{groups_shown};
-    ghost use Rattle.anstyle_parse.specs.Call.{Call};
-    ghost use Rattle.anstyle_parse.specs.Calls.{AreCalls};
-    ghost use Rattle.anstyle_parse.specs.TextLaw.{AreSent, HandsOut, IsReadBack};
+    ghost use Rattle.anstyle_parse.specs.Fields.Params.{groups_shown};
+    ghost use Rattle.anstyle_parse.specs.Stream.Call.{Call};
+    ghost use Rattle.anstyle_parse.specs.Stream.Calls.{AreCalls};
+    ghost use Rattle.anstyle_parse.specs.Laws.TextLaw.{AreSent, HandsOut, IsReadBack};
 
     /// `==` is reflexive, symmetric and transitive, and equal parameters show equal groups.
     ///
@@ -213,7 +213,7 @@ pub struct ParamsIter<'a> {
     starts: u32,
     /// The field where the next group begins.
     place: usize,
-    ghost in_range: { length numbers.now ≤ 32 },
+    ghost in_range: { length numbers.now ≤ max_fields },
     ghost none_above: { starts < 2 ^ length numbers.now },
     ghost place_within: { place ≤ length numbers.now },
     ghost place_starts: { place < length numbers.now → starts / 2 ^ place % 2 ≡ 1 },
@@ -222,13 +222,13 @@ pub struct ParamsIter<'a> {
 impl<'a> Iterator for ParamsIter<'a> {
     type Item = &'a [u16];
 
-    ghost use Rattle.anstyle_parse.specs.Params.{groups_left};
+    ghost use Rattle.anstyle_parse.specs.Fields.Params.{groups_left};
 
     ghost next_gives = { YieldsFirstBy (λ x. x.now) groups_left };
 
     ghost remaining = { item_count groups_left };
 
-    /// The next group, or nothing where none is left: behind the last group every further
+    /// The next group, or nothing where none is left: after the last group every further
     /// call answers nothing.
     fn next(&mut self) -> Option<&'a [u16]> {
         let (_, rest) = self.numbers.split_at(self.place);
@@ -253,7 +253,7 @@ impl<'a> Iterator for ParamsIter<'a> {
 }
 
 impl<'a> ExactSizeIterator for ParamsIter<'a> {
-    ghost use Rattle.anstyle_parse.specs.Params.{groups_left};
+    ghost use Rattle.anstyle_parse.specs.Fields.Params.{groups_left};
 
     /// How many groups are left.
     fn len(&self) -> usize {
@@ -265,7 +265,7 @@ impl<'a> ExactSizeIterator for ParamsIter<'a> {
     }
 }
 
-/// Behind the last group every `next` answers nothing.
+/// After the last group every `next` answers nothing.
 impl<'a> FusedIterator for ParamsIter<'a> {}
 
 impl<'a> IntoIterator for &'a Params {
@@ -273,8 +273,8 @@ impl<'a> IntoIterator for &'a Params {
 
     type IntoIter = ParamsIter<'a>;
 
-    ghost use Rattle.anstyle_parse.specs.Groups.{HaveFields};
-    ghost use Rattle.anstyle_parse.specs.Params.{groups_shown, groups_left, AreFew};
+    ghost use Rattle.anstyle_parse.specs.Stream.Groups.{HaveFields};
+    ghost use Rattle.anstyle_parse.specs.Fields.Params.{groups_shown, groups_left, AreFew};
 
     ghost into_iter_gives = { λ params iter. (groups_left iter ≡ groups_shown params.now)
         × HaveFields (groups_shown params.now) × AreFew (groups_shown params.now) };
@@ -286,8 +286,8 @@ impl<'a> IntoIterator for &'a Params {
 }
 
 impl<'a> ParamsIter<'a> {
-    ghost use Rattle.anstyle_parse.specs.Params.{groups_left};
-    ghost use Rattle.anstyle_parse.specs.Groups.{groups_text};
+    ghost use Rattle.anstyle_parse.specs.Fields.Params.{groups_left};
+    ghost use Rattle.anstyle_parse.specs.Stream.Groups.{groups_text};
 
     /// Writes the groups that are left, with `;` between them.
     fn write_texts<W: fmt::Write>(mut self, f: &mut fmt::Formatter<W>) -> fmt::Result
@@ -306,7 +306,7 @@ impl<'a> ParamsIter<'a> {
 
 /// The bit of a field among the starts.
 fn start_bit(field: usize) -> u32
-    requires { field < 32 }
+    requires { field < max_fields }
     ensures { result ≡ 2 ^ field }
 {
     1 << field

@@ -1,6 +1,6 @@
 //! What a parser calls.
 ghost use Rattle.std.specs.Prelude.{map};
-ghost use Rattle.anstyle_parse.specs.Call.{Call, print, execute, hook, put, unhook, osc_dispatch, csi_dispatch, esc_dispatch};
+ghost use Rattle.anstyle_parse.specs.Stream.Call.{Call, print, execute, hook, put, unhook, osc_dispatch, csi_dispatch, esc_dispatch};
 
 use crate::params::Params;
 
@@ -12,7 +12,7 @@ use crate::params::Params;
 /// keeps its part of that, and the parser's contracts say by which calls a performer goes
 /// from one value to another.
 pub trait Perform {
-    ghost use Rattle.anstyle_parse.specs.Params.{groups_shown};
+    ghost use Rattle.anstyle_parse.specs.Fields.Params.{groups_shown};
 
     // What a call means: the performer before, the call, the performer after.
     ghost means: { Self → Call → Self → Type 0 };

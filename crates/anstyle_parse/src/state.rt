@@ -5,9 +5,9 @@ mod table;
 mod tests;
 
 ghost use Rattle.std.specs.Prelude.{◌≡◌, ◌<◌};
-ghost use Rattle.anstyle_parse.specs.State.{state_number, action_number};
-ghost use Rattle.anstyle_parse.specs.Table.{change_at};
-ghost use Rattle.anstyle_parse.specs.Packed.{packed};
+ghost use Rattle.anstyle_parse.specs.Machine.State.{state_number, action_number};
+ghost use Rattle.anstyle_parse.specs.Machine.Table.{change_at};
+ghost use Rattle.anstyle_parse.specs.Machine.Packed.{packed};
 
 pub use definitions::{Action, State};
 

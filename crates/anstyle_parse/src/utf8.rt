@@ -4,10 +4,10 @@
 //! each further byte it looks at these again, so that the answer is right whatever it holds.
 ghost use Rattle.std.specs.Prelude.{◌≡◌, ◌∷◌, [], IsTrue};
 ghost use Rattle.std.specs.Char.{InScalarRange};
-ghost use Rattle.anstyle_parse.specs.Bytes.{is_within};
-ghost use Rattle.anstyle_parse.specs.Characters.{character_of};
-ghost use Rattle.anstyle_parse.specs.Decoder.{started, continued, decoded};
-ghost use Rattle.anstyle_parse.specs.Front.{bytes_of, front_with, is_front_of, IsStep};
+ghost use Rattle.anstyle_parse.specs.Stream.Bytes.{is_within};
+ghost use Rattle.anstyle_parse.specs.Stream.Characters.{character_of};
+ghost use Rattle.anstyle_parse.specs.Machine.Decoder.{started, continued, decoded};
+ghost use Rattle.anstyle_parse.specs.Fields.Front.{bytes_of, front_with, is_front_of, IsStep};
 
 use crate::accumulator::Taken;
 
@@ -45,7 +45,7 @@ const BROKEN: (Front, Taken) = (Front::Empty, Taken::Broken(char::REPLACEMENT_CH
 
 /// The front after the first byte of a character, and the answer.
 #[inline(always)]
-#[tactic(auto, unfolding(crate::specs::Bytes::is_within, crate::specs::Characters::is_lead))]
+#[tactic(auto, unfolding(crate::specs::Stream::Bytes::is_within, crate::specs::Stream::Characters::is_lead))]
 fn first(a: u8) -> (Front, Taken)
     ensures { IsStep (started a) result }
 {
@@ -56,9 +56,9 @@ fn first(a: u8) -> (Front, Taken)
     }
 }
 
-/// The same after the second byte, behind the first.
+/// The same after the second byte, after the first.
 #[inline(always)]
-#[tactic(auto, using(crate::proofs::Fronts::second_byte))]
+#[tactic(auto, using(crate::proofs::Characters::Decoder::second_byte))]
 fn second(a: u8, b: u8) -> (Front, Taken)
     ensures { IsStep (continued (a ∷ b ∷ [])) result }
 {
@@ -71,9 +71,9 @@ fn second(a: u8, b: u8) -> (Front, Taken)
     }
 }
 
-/// After the third byte, behind two.
+/// After the third byte, after two.
 #[inline(always)]
-#[tactic(auto, using(crate::proofs::Fronts::third_byte))]
+#[tactic(auto, using(crate::proofs::Characters::Decoder::third_byte))]
 fn third(a: u8, b: u8, c: u8) -> (Front, Taken)
     ensures { IsStep (continued (a ∷ b ∷ c ∷ [])) result }
 {
@@ -88,9 +88,9 @@ fn third(a: u8, b: u8, c: u8) -> (Front, Taken)
     }
 }
 
-/// After the fourth byte, behind three: the last.
+/// After the fourth byte, after three: the last.
 #[inline(always)]
-#[tactic(auto, using(crate::proofs::Fronts::fourth_byte))]
+#[tactic(auto, using(crate::proofs::Characters::Decoder::fourth_byte))]
 fn fourth(a: u8, b: u8, c: u8, d: u8) -> (Front, Taken)
     ensures { IsStep (continued (a ∷ b ∷ c ∷ d ∷ [])) result }
 {
@@ -103,7 +103,7 @@ fn fourth(a: u8, b: u8, c: u8, d: u8) -> (Front, Taken)
 
 /// 80..BF, the bytes that may follow the first, where the table does not name fewer.
 #[inline(always)]
-#[tactic(auto, unfolding(crate::specs::Bytes::is_within))]
+#[tactic(auto, unfolding(crate::specs::Stream::Bytes::is_within))]
 fn is_continuation(b: u8) -> bool
     ensures { result ≡ is_within 0x80 0xBF b }
 {
@@ -112,7 +112,7 @@ fn is_continuation(b: u8) -> bool
 
 /// Whether these are the bytes of a character of two.
 #[inline(always)]
-#[tactic(auto, unfolding(crate::specs::Bytes::is_within, crate::specs::Front::is_front_of))]
+#[tactic(auto, unfolding(crate::specs::Stream::Bytes::is_within, crate::specs::Fields::Front::is_front_of))]
 fn is_two(a: u8, b: u8) -> bool
     ensures { result ≡ is_front_of 2 (a ∷ b ∷ []) }
 {
@@ -121,7 +121,7 @@ fn is_two(a: u8, b: u8) -> bool
 
 /// Whether a character of three bytes begins with these.
 #[inline(always)]
-#[tactic(auto, unfolding(crate::specs::Bytes::is_within, crate::specs::Front::is_front_of))]
+#[tactic(auto, unfolding(crate::specs::Stream::Bytes::is_within, crate::specs::Fields::Front::is_front_of))]
 fn begins_three(a: u8, b: u8) -> bool
     ensures { result ≡ is_front_of 3 (a ∷ b ∷ []) }
 {
@@ -135,7 +135,7 @@ fn begins_three(a: u8, b: u8) -> bool
 
 /// Whether a character of four bytes begins with these.
 #[inline(always)]
-#[tactic(auto, unfolding(crate::specs::Bytes::is_within, crate::specs::Front::is_front_of))]
+#[tactic(auto, unfolding(crate::specs::Stream::Bytes::is_within, crate::specs::Fields::Front::is_front_of))]
 fn begins_four(a: u8, b: u8) -> bool
     ensures { result ≡ is_front_of 4 (a ∷ b ∷ []) }
 {
@@ -149,7 +149,7 @@ fn begins_four(a: u8, b: u8) -> bool
 
 /// The character of two bytes, by their low five and six bits.
 #[inline(always)]
-#[tactic(auto, using(crate::proofs::Fronts::scalar_values))]
+#[tactic(auto, using(crate::proofs::Characters::Decoder::scalar_values))]
 fn character_of_two(a: u8, b: u8) -> char
     ensures { result ≡ character_of (a ∷ b ∷ []) }
 {
@@ -158,7 +158,7 @@ fn character_of_two(a: u8, b: u8) -> char
 
 /// The character of three bytes, by their low four, six and six bits.
 #[inline(always)]
-#[tactic(auto, using(crate::proofs::Fronts::scalar_values))]
+#[tactic(auto, using(crate::proofs::Characters::Decoder::scalar_values))]
 fn character_of_three(a: u8, b: u8, c: u8) -> char
     requires { IsTrue (is_front_of 3 (a ∷ b ∷ [])) }
     ensures { result ≡ character_of (a ∷ b ∷ c ∷ []) }
@@ -168,7 +168,7 @@ fn character_of_three(a: u8, b: u8, c: u8) -> char
 
 /// The character of four bytes, by their low three and three times six bits.
 #[inline(always)]
-#[tactic(auto, using(crate::proofs::Fronts::scalar_values))]
+#[tactic(auto, using(crate::proofs::Characters::Decoder::scalar_values))]
 fn character_of_four(a: u8, b: u8, c: u8, d: u8) -> char
     requires { IsTrue (is_front_of 4 (a ∷ b ∷ [])) }
     ensures { result ≡ character_of (a ∷ b ∷ c ∷ d ∷ []) }

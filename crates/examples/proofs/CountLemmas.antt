@@ -1,6 +1,6 @@
 -- What a chain of calls does to each performer.
 use Rattle.std.proofs.Common.{◌≡◌, ℕ, ◌+◌, ◌≤◌, List, [], ◌∷◌, length, ap, ◌∙◌, arith, min}
-use Rattle.anstyle_parse.specs.Call.{Call, Goes}
+use Rattle.anstyle_parse.specs.Stream.Call.{Call, Goes}
 use Rattle.examples.specs.Counting.{greatest, one_more}
 
 -- where a value never changes it is at last what it was at first

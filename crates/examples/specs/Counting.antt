@@ -1,7 +1,7 @@
 -- What the counting performer counts.
 use Rattle.std.specs.Prelude.{◌≡◌, ℕ, ◌+◌, ◌-◌, ◌^◌, List, length, min}
-use Rattle.anstyle_parse.specs.Call.{Call}
-use Rattle.anstyle_parse.specs.Calls.{AreCalls}
+use Rattle.anstyle_parse.specs.Stream.Call.{Call}
+use Rattle.anstyle_parse.specs.Stream.Calls.{AreCalls}
 
 -- the greatest u64
 abbrev pub greatest : ℕ

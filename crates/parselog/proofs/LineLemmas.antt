@@ -3,7 +3,7 @@ use Rattle.std.proofs.Common.{◌≡◌, ℕ, ◌+◌, ◌/◌, ◌<◌, ◌≤�
 use Rattle.std.specs.Prelude.{if◌then◌else◌}
 use Rattle.std.specs.List.{flat_map}
 use Rattle.std.proofs.lemmas.Bool.{lt-ltb, le-ltb, agree_below_at, eqb-true}
-use Rattle.anstyle_parse.specs.Call.{print, execute}
+use Rattle.anstyle_parse.specs.Stream.Call.{print, execute}
 use Rattle.parselog.specs.Lines.{hex_digit, hex_byte, hex_list, four_digits, truth, end_text, line, newline}
 
 -- the digit that stands at its place among all sixteen
@@ -46,7 +46,7 @@ execute_line b d1 d0 e1 e0 =
     let digits : d1 ∷ d0 ∷ [] ≡ hex_byte b = cc in
     ap (λ l. codes "execute " ++ (l ++ newline ∷ [])) digits
 
--- what stands behind a line stands behind its last part
+-- what stands after a line stands after its last part
 pub line_end : (a : List ℕ) (x : ℕ) (b c n : List ℕ) → (a ++ x ∷ (b ++ c)) ++ n ≡ a ++ x ∷ (b ++ (c ++ n))
 line_end a x b c n = append_assoc a (x ∷ (b ++ c)) n ∙ ap (λ l. a ++ x ∷ l) (append_assoc b c n)
 

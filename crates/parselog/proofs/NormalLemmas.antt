@@ -1,14 +1,14 @@
 -- What is written canonically makes the calls of what was read.
 use Rattle.std.proofs.Common.{ℕ, Bool, List, Option, Result, sym, subst}
 use Rattle.anstyle_parse.specs.declared.canon.Fault.{Fault}
-use Rattle.anstyle_parse.specs.Calls.{AreCalls}
-use Rattle.anstyle_parse.specs.Canon.{canon}
-use Rattle.anstyle_parse.proofs.CanonLength.{length-canon}
-use Rattle.anstyle_parse.proofs.CanonReplay.{replay}
-use Rattle.anstyle_parse.proofs.CanonTwice.{canon_twice}
-use Rattle.anstyle_parse.proofs.DivisionOnly.{AreCalls-only}
-use Rattle.anstyle_parse.proofs.LawfulCalls.{lawful}
-use Rattle.anstyle_parse.specs.Run.{Runs}
+use Rattle.anstyle_parse.specs.Stream.Calls.{AreCalls}
+use Rattle.anstyle_parse.specs.Stream.Canon.{canon}
+use Rattle.anstyle_parse.proofs.Canonical.Length.{length-canon}
+use Rattle.anstyle_parse.proofs.Canonical.Replay.{replay}
+use Rattle.anstyle_parse.proofs.Canonical.Twice.{canon_twice}
+use Rattle.anstyle_parse.proofs.Division.Only.{AreCalls-only}
+use Rattle.anstyle_parse.proofs.Lawful.Calls.{lawful}
+use Rattle.anstyle_parse.specs.Writing.Run.{Runs}
 use Rattle.parselog.specs.Run.{Normalises}
 
 pub Normalises-run : (R W T : Type 0) (remaining : R → Option (List ℕ)) (reader_failed : R → Bool) (zero_is_end : Bool) (contents : W → Option (List ℕ)) (writer_failed : W → Bool)

@@ -1,9 +1,8 @@
 -- The lines of a log: for each call one line, which is ended by 0A.
 use Rattle.std.specs.Prelude.{ℕ, ◌+◌, ◌/◌, ◌%◌, Bool, true, false, nat_lt, List, [], ◌∷◌, ◌++◌, codes, if◌then◌else◌}
 use Rattle.std.specs.List.{flat_map}
-use Rattle.anstyle_parse.specs.Call.{Call, print, execute, hook, put, unhook, osc_dispatch, csi_dispatch, esc_dispatch}
-use Rattle.anstyle_parse.specs.Groups.{groups_text}
-use Rattle.anstyle_parse.specs.Output.{texts}
+use Rattle.anstyle_parse.specs.Stream.Call.{Call, print, execute, hook, put, unhook, osc_dispatch, csi_dispatch, esc_dispatch}
+use Rattle.anstyle_parse.specs.Stream.Groups.{groups_text}
 
 abbrev pub newline : ℕ
 newline = 0x0A
@@ -44,23 +43,23 @@ abbrev pub end_text : List ℕ → Bool → ℕ → List ℕ
 end_text intermediates ignore final = hex_list intermediates ++ (codes " " ++ (truth ignore ++ (codes " " ++ hex_byte final)))
 
 -- the groups of a header, and these
-abbrev pub header_text : List (List ℕ) → List ℕ → Bool → ℕ → List ℕ
-header_text groups intermediates ignore final = codes "[" ++ (groups_text groups ++ (codes "] " ++ end_text intermediates ignore final))
+abbrev pub line_header : List (List ℕ) → List ℕ → Bool → ℕ → List ℕ
+line_header groups intermediates ignore final = codes "[" ++ (groups_text groups ++ (codes "] " ++ end_text intermediates ignore final))
 
 -- the line of a call, without its end
-abbrev pub call_text : Call → List ℕ
-call_text (print character) = codes "print U+" ++ character_number character
-call_text (execute byte) = codes "execute " ++ hex_byte byte
-call_text (hook groups intermediates ignore final) = codes "hook " ++ header_text groups intermediates ignore final
-call_text (put byte) = codes "put " ++ hex_byte byte
-call_text unhook = codes "unhook"
-call_text (osc_dispatch parts bell_terminated) = codes "osc_dispatch " ++ (truth bell_terminated ++ parts_text parts)
-call_text (csi_dispatch groups intermediates ignore final) = codes "csi_dispatch " ++ header_text groups intermediates ignore final
-call_text (esc_dispatch intermediates ignore final) = codes "esc_dispatch " ++ end_text intermediates ignore final
+abbrev pub line_text : Call → List ℕ
+line_text (print character) = codes "print U+" ++ character_number character
+line_text (execute byte) = codes "execute " ++ hex_byte byte
+line_text (hook groups intermediates ignore final) = codes "hook " ++ line_header groups intermediates ignore final
+line_text (put byte) = codes "put " ++ hex_byte byte
+line_text unhook = codes "unhook"
+line_text (osc_dispatch parts bell_terminated) = codes "osc_dispatch " ++ (truth bell_terminated ++ parts_text parts)
+line_text (csi_dispatch groups intermediates ignore final) = codes "csi_dispatch " ++ line_header groups intermediates ignore final
+line_text (esc_dispatch intermediates ignore final) = codes "esc_dispatch " ++ end_text intermediates ignore final
 
 abbrev pub line : Call → List ℕ
-line call = call_text call ++ newline ∷ []
+line call = line_text call ++ newline ∷ []
 
 -- the lines of the calls, joined
 abbrev pub lines : List Call → List ℕ
-lines calls = texts line calls
+lines calls = flat_map line calls

@@ -2,10 +2,10 @@
 use Rattle.std.specs.Prelude.{◌≤◌, ◌*◌, ◌↔◌, ℕ, List, length, Option, Result}
 use Rattle.std.specs.Io.KnownBytes.{Consumes}
 use Rattle.anstyle_parse.specs.declared.canon.Fault.{Fault}
-use Rattle.anstyle_parse.specs.Call.{Call}
-use Rattle.anstyle_parse.specs.Calls.{AreCalls}
-use Rattle.anstyle_parse.specs.Canon.{canon}
-use Rattle.anstyle_parse.specs.Run.{WritesText}
+use Rattle.anstyle_parse.specs.Stream.Call.{Call}
+use Rattle.anstyle_parse.specs.Stream.Calls.{AreCalls}
+use Rattle.anstyle_parse.specs.Stream.Canon.{canon}
+use Rattle.anstyle_parse.specs.Writing.Run.{WritesText}
 use Rattle.parselog.specs.Lines.{lines}
 use Rattle.parselog.specs.declared.run.Mode.{Mode}
 use Rattle.parselog.specs.declared.run.Mode.TheVariants.{Log, Canon}

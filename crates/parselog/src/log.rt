@@ -1,8 +1,8 @@
 //! One line for each call of the parser.
 ghost use Rattle.std.specs.Prelude.{◌≡◌, ◌++◌, [], ◌∷◌, ℕ, ⊤, None, OnOk, map, refl};
-ghost use Rattle.parselog.specs.Lines.{line, lines, hex_digit, hex_list, truth, parts_text, end_text, header_text, newline};
-ghost use Rattle.anstyle_parse.specs.Call.{Call, print, execute, hook, put, unhook, osc_dispatch, csi_dispatch, esc_dispatch};
-ghost use Rattle.anstyle_parse.specs.Output.{Adds, Finishes, writer_in, fault_in};
+ghost use Rattle.parselog.specs.Lines.{line, lines, hex_digit, hex_list, truth, parts_text, end_text, line_header, newline};
+ghost use Rattle.anstyle_parse.specs.Stream.Call.{Call, print, execute, hook, put, unhook, osc_dispatch, csi_dispatch, esc_dispatch};
+ghost use Rattle.anstyle_parse.specs.Writing.Output.{Adds, Finishes, writer_in, fault_in};
 
 use anstyle_parse::canon::{CallWriter, Fault, KeepsFault, Output, Sink};
 use anstyle_parse::{Params, Perform};
@@ -146,7 +146,7 @@ impl<W: Sink> KeepsFault for LogWriter<W> {
 
 /// The lines have no ending.
 impl<W: Sink> CallWriter<W> for LogWriter<W> {
-    ghost use Rattle.anstyle_parse.proofs.OutputLemmas.{Adds-calls};
+    ghost use Rattle.anstyle_parse.proofs.Written.Output.{Adds-calls};
     ghost use Rattle.parselog.specs.Log.{output_of};
 
     ghost output_in = { output_of };
@@ -178,7 +178,7 @@ impl<W: Sink> CallWriter<W> for LogWriter<W> {
 }
 
 impl<W: Sink> LogWriter<W> {
-    ghost use Rattle.anstyle_parse.specs.Params.{groups_shown};
+    ghost use Rattle.anstyle_parse.specs.Fields.Params.{groups_shown};
     ghost use Rattle.parselog.specs.Log.{output_of};
 
     /// The line of a call with a header.
@@ -190,7 +190,7 @@ impl<W: Sink> LogWriter<W> {
         ignore: bool,
         action: u8,
     )
-        ensures { Adds W.contents W.has_failed ((name.now ++ header_text (groups_shown params.now) intermediates.now ignore action) ++ newline ∷ []) (output_of self.old) (output_of self.new) }
+        ensures { Adds W.contents W.has_failed ((name.now ++ line_header (groups_shown params.now) intermediates.now ignore action) ++ newline ∷ []) (output_of self.old) (output_of self.new) }
     {
         self.output.put(name);
         self.output.put_byte(b'[');

@@ -1,6 +1,6 @@
 //! From a reader to a writer: the bytes, their calls, the text of the calls.
 ghost use Rattle.std.specs.Prelude.{◌≡◌, OnOk};
-ghost use Rattle.anstyle_parse.specs.Run.{Runs};
+ghost use Rattle.anstyle_parse.specs.Writing.Run.{Runs};
 ghost use Rattle.parselog.specs.Run.{Normalises, text_of};
 
 use crate::log::LogWriter;

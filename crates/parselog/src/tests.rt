@@ -12,6 +12,7 @@ use crate::run::{Mode, run};
 use crate::words::{message, mode};
 use anstyle_parse::canon::{Fault, FromRead, FromWrite};
 use rows::ROWS;
+use std::alloc::Global;
 use std::io::ErrorKind;
 use std::process::Abort;
 use test_streams::{Paper, Tape};
@@ -36,6 +37,15 @@ const TROUBLES: [Option<ErrorKind>; 3] = [
     Some(ErrorKind::Interrupted),
     None,
 ];
+
+/// Writers that take so many bytes, one a write, and then have trouble, for good or once.
+fn narrow_papers(alloc: Global, room: usize, trouble: Option<ErrorKind>) -> [Paper; 2] {
+    let fails_at = (room as u64).saturating_add(1);
+    [
+        Paper::narrow(alloc, room, trouble),
+        Paper::failing_once(alloc, fails_at, trouble),
+    ]
+}
 
 /// What a run answers, and its reader and writer afterwards.
 fn run_over<'a>(mode: Mode, tape: Tape<'a>, paper: Paper) -> (Tape<'a>, Paper, Result<(), Fault>) {

@@ -3,8 +3,8 @@
 
 ghost use Rattle.std.specs.Prelude.{◌≡◌, [], false};
 ghost use Rattle.std.specs.Process.{exit_status};
-ghost use Rattle.anstyle_parse.specs.Buffer.{writer_behind, held_back};
-ghost use Rattle.anstyle_parse.specs.Devices.{writer_of, writer_failed};
+ghost use Rattle.anstyle_parse.specs.Writing.Buffer.{writer_behind, held_back};
+ghost use Rattle.anstyle_parse.specs.Writing.Devices.{writer_of, writer_failed};
 
 use anstyle_parse::canon::{Buffer, FromWrite};
 use std::io::{IsTerminal, Write};

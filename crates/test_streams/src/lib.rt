@@ -98,6 +98,13 @@ impl Paper {
         paper.trouble = trouble;
         paper
     }
+
+    /// Takes one byte a write, and has trouble at its write number `fails_at` alone.
+    pub fn failing_once(alloc: Global, fails_at: u64, trouble: Option<ErrorKind>) -> Paper {
+        let mut paper = Paper::narrow(alloc, usize::MAX, trouble);
+        paper.fails_at = fails_at;
+        paper
+    }
 }
 
 impl Write for Paper {

@@ -2,6 +2,7 @@
 ghost use Rattle.std.specs.Prelude.{◌≡◌, ◌<◌, ◌≤◌, true, false, [], length, take, drop, IsTrue};
 ghost use Rattle.std.specs.Bool.{OnTrue, OnFalse};
 ghost use Rattle.std.specs.Io.KnownBytes.{Keeps, Appends};
+ghost use Rattle.anstyle_parse.specs.Writing.Buffer.{buffer_capacity};
 
 use super::{Fault, Sink};
 use arrayvec::ArrayVec;
@@ -25,7 +26,7 @@ pub struct Buffer<W> {
 }
 
 impl<W: Sink> Buffer<W> {
-    ghost use Rattle.anstyle_parse.specs.Buffer.{writer_behind, held_back, is_by_line, buffer_contents, fault_behind};
+    ghost use Rattle.anstyle_parse.specs.Writing.Buffer.{writer_behind, held_back, is_by_line, buffer_contents, fault_behind, HandsOn};
 
     /// A buffer that holds nothing back, in front of the writer.
     pub fn new(writer: W) -> Buffer<W>
@@ -78,6 +79,7 @@ impl<W: Sink> Buffer<W> {
     /// not take stays held back.
     fn hand_on(&mut self) -> bool
         ensures kept { Keeps (buffer_contents W.contents self.old) (buffer_contents W.contents self.new) }
+        ensures from_the_front { HandsOn W.contents self.old self.new }
         ensures emptied { OnTrue result (held_back self.new ≡ []) }
         ensures not_failed { OnTrue result (W.has_failed (writer_behind self.new) ≡ W.has_failed (writer_behind self.old)) }
         ensures failed { OnFalse result (IsTrue (W.has_failed (writer_behind self.new))) }
@@ -111,10 +113,10 @@ fn write_out<W: Sink>(writer: &mut W, bytes: &[u8]) -> usize
     written
 }
 
-/// The bytes behind the first `count`.
+/// The bytes after the first `count`.
 fn rest_of(bytes: &[u8], count: usize) -> ArrayVec<u8, CAPACITY>
     requires within { count ≤ length bytes.now }
-    requires few { length bytes.now ≤ 8192 }
+    requires few { length bytes.now ≤ buffer_capacity }
     ensures { result.items ≡ drop count bytes.now }
 {
     let mut rest = ArrayVec::new();
@@ -123,7 +125,7 @@ fn rest_of(bytes: &[u8], count: usize) -> ArrayVec<u8, CAPACITY>
 }
 
 impl<W: Sink> Sink for Buffer<W> {
-    ghost use Rattle.anstyle_parse.specs.Buffer.{writer_behind, held_back, buffer_contents, buffer_failed};
+    ghost use Rattle.anstyle_parse.specs.Writing.Buffer.{writer_behind, held_back, buffer_contents, buffer_failed, HandsOn};
 
     ghost contents = { buffer_contents W.contents };
 
@@ -140,14 +142,23 @@ impl<W: Sink> Sink for Buffer<W> {
         self.write_through(bytes)
     }
 
-    fn flush(&mut self) -> bool {
+    /// Hands on what is held back, and flushes the writer behind it where that went well. What
+    /// the writer did not take stays held back, as [`fault_behind`](Buffer::fault_behind) says
+    /// afterwards.
+    fn flush(&mut self) -> bool
+        ensures nothing_passed { Keeps (buffer_contents W.contents self.old) (buffer_contents W.contents self.new) }
+        ensures from_the_front { HandsOn W.contents self.old self.new }
+        ensures handed_on { OnTrue result ((held_back self.new ≡ []) × W.holds_nothing (writer_behind self.new)) }
+        ensures not_failed { OnTrue result (W.has_failed (writer_behind self.new) ≡ W.has_failed (writer_behind self.old)) }
+        ensures failed { OnFalse result (IsTrue (W.has_failed (writer_behind self.new))) }
+    {
         self.hand_on() && self.writer.flush()
     }
 }
 
 impl<W: Sink> Buffer<W> {
     ghost use Rattle.std.specs.Prelude.{IfSome, IfNone, OnSome};
-    ghost use Rattle.anstyle_parse.specs.Buffer.{writer_behind, held_back, is_by_line, buffer_contents};
+    ghost use Rattle.anstyle_parse.specs.Writing.Buffer.{writer_behind, held_back, is_by_line, buffer_contents};
 
     /// Takes bytes that are not held back as they are: those that end a line are handed on,
     /// and of others as many are taken as there is room for, once what is held back has been

@@ -1,16 +1,16 @@
 //! Parsers written down.
 ghost use Rattle.std.specs.Prelude.{◌≡◌, ◌≤◌, ◌++◌, ◌∷◌, [], ℕ, List, OnOk, length, map, drop, if◌then◌else◌};
 ghost use Rattle.std.specs.List.{flat_map};
-ghost use Rattle.anstyle_parse.specs.Bytes.{semicolon};
-ghost use Rattle.anstyle_parse.specs.Groups.{total, cut};
-ghost use Rattle.anstyle_parse.specs.Canon.{escape_text};
-ghost use Rattle.anstyle_parse.specs.Checkpoint.{checkpoint_text, last_separator, number_so_far, header_so_far, command_text};
-ghost use Rattle.anstyle_parse.specs.Accumulator.{front_of};
-ghost use Rattle.anstyle_parse.specs.Front.{bytes_of};
-ghost use Rattle.anstyle_parse.specs.Output.{Adds, Writes, Causes};
-ghost use Rattle.anstyle_parse.specs.Params.{closed_groups_of, open_group_of};
-ghost use Rattle.anstyle_parse.specs.Parser.{machine_of, IsAfter};
-ghost use Rattle.anstyle_parse.specs.Stands.{seen};
+ghost use Rattle.anstyle_parse.specs.Stream.Bytes.{semicolon};
+ghost use Rattle.anstyle_parse.specs.Stream.Groups.{total, cut};
+ghost use Rattle.anstyle_parse.specs.Stream.Canon.{escape_text};
+ghost use Rattle.anstyle_parse.specs.Laws.Checkpoint.{max_checkpoint, checkpoint_text, last_separator, number_so_far, header_so_far, command_text};
+ghost use Rattle.anstyle_parse.specs.Fields.Accumulator.{front_of};
+ghost use Rattle.anstyle_parse.specs.Fields.Front.{bytes_of};
+ghost use Rattle.anstyle_parse.specs.Writing.Output.{Adds, Writes, Causes};
+ghost use Rattle.anstyle_parse.specs.Fields.Params.{closed_groups_of, open_group_of};
+ghost use Rattle.anstyle_parse.specs.Fields.Parser.{machine_of, IsAfter};
+ghost use Rattle.anstyle_parse.specs.Machine.Stands.{seen};
 
 use super::writer::{split_marker, text_if};
 use super::{Fault, Output, Sink};
@@ -36,7 +36,7 @@ pub fn checkpoint<W: Sink>(parser: &Parser, writer: W) -> (W, Result<(), Fault>)
     requires { (before : List ℕ) × IsAfter front_of parser.now before }
 
     // A text after which the parser stands is written, or a proper beginning of one.
-    ensures written { (text : List ℕ) × IsAfter front_of parser.now text × (length text ≤ 1042)
+    ensures written { (text : List ℕ) × IsAfter front_of parser.now text × (length text ≤ max_checkpoint)
         × Writes text (W.contents writer) (W.contents result.0) result.1 }
 
     // With Ok nothing of it is held back.
@@ -105,7 +105,7 @@ fn put_header<W: Sink>(output: &mut Output<W>, parser: &Parser)
     let params = parser.params();
     output.put(marker);
     output.put_groups(params);
-    output.put(separator_behind(params));
+    output.put(separator_after(params));
     if params.is_full() {
         output.put(text_if(parser.is_ignoring(), b";"));
         output.put(others);
@@ -117,7 +117,7 @@ fn put_header<W: Sink>(output: &mut Output<W>, parser: &Parser)
 }
 
 /// What stored the last field: `:` where its group is open, else `;`.
-fn separator_behind(params: &Params) -> &'static [u8]
+fn separator_after(params: &Params) -> &'static [u8]
     ensures { result.now ≡ last_separator (closed_groups_of params.now) (open_group_of params.now) }
 {
     if params.is_open() {
@@ -129,7 +129,7 @@ fn separator_behind(params: &Params) -> &'static [u8]
     }
 }
 
-/// Writes the text of an operating system command, with `;` behind each closed part.
+/// Writes the text of an operating system command, with `;` after each closed part.
 fn put_command<W: Sink>(output: &mut Output<W>, text: &[u8], lengths: &[usize])
     requires { total lengths.now ≤ length text.now }
     ensures { Adds W.contents W.has_failed (command_text (cut lengths.now text.now) (drop (total lengths.now) text.now)) output.old output.new }

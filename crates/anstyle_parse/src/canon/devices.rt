@@ -71,7 +71,7 @@ pub struct FromRead<R> {
 }
 
 impl<R: Read> FromRead<R> {
-    ghost use Rattle.anstyle_parse.specs.Devices.{reader_of, reader_failed};
+    ghost use Rattle.anstyle_parse.specs.Writing.Devices.{reader_of, reader_failed};
 
     /// The reader, which has not failed so far.
     pub fn new(inner: R) -> FromRead<R>
@@ -93,7 +93,7 @@ impl<R: Read> FromRead<R> {
 }
 
 impl<R: Read> Source for FromRead<R> {
-    ghost use Rattle.anstyle_parse.specs.Devices.{reader_of, reader_failed};
+    ghost use Rattle.anstyle_parse.specs.Writing.Devices.{reader_of, reader_failed};
 
     ghost remaining = { λ source. R.remaining (reader_of source) };
 
@@ -121,7 +121,7 @@ pub struct FromWrite<W> {
 }
 
 impl<W: Write> FromWrite<W> {
-    ghost use Rattle.anstyle_parse.specs.Devices.{writer_of, writer_failed};
+    ghost use Rattle.anstyle_parse.specs.Writing.Devices.{writer_of, writer_failed};
 
     /// The writer, which has not failed so far.
     pub fn new(inner: W) -> FromWrite<W>
@@ -143,7 +143,7 @@ impl<W: Write> FromWrite<W> {
 }
 
 impl<W: Write> Sink for FromWrite<W> {
-    ghost use Rattle.anstyle_parse.specs.Devices.{writer_of, writer_failed};
+    ghost use Rattle.anstyle_parse.specs.Writing.Devices.{writer_of, writer_failed};
 
     ghost contents = { λ sink. W.contents (writer_of sink) };
 

@@ -2,9 +2,9 @@
 ghost use Rattle.std.specs.Prelude.{◌≡◌, ◌++◌, [], ℕ, List, None, Option, OnOk};
 ghost use Rattle.anstyle_parse.specs.declared.canon.Fault.{Fault as AFault};
 ghost use Rattle.anstyle_parse.specs.declared.canon.output.Output.{Output as AnOutput};
-ghost use Rattle.anstyle_parse.specs.Call.{Call, Goes};
-ghost use Rattle.anstyle_parse.specs.Output.{fault_in, Adds};
-ghost use Rattle.anstyle_parse.specs.Run.{Drives, Runs, RunsToEnding};
+ghost use Rattle.anstyle_parse.specs.Stream.Call.{Call, Goes};
+ghost use Rattle.anstyle_parse.specs.Writing.Output.{fault_in, Adds};
+ghost use Rattle.anstyle_parse.specs.Writing.Run.{Drives, Runs, RunsToEnding};
 
 use super::{Fault, Output, Sink, Source};
 use crate::accumulator::Utf8Parser;

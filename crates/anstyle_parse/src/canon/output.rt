@@ -1,8 +1,8 @@
 //! The writing that performers share.
 ghost use Rattle.std.specs.Prelude.{◌≡◌, ◌∷◌, [], ℕ, List, decimal, if◌then◌else◌, None, Some, Ok, Err, IsNone, OnSome, OnOk, OnErr, IsTrue, encode_utf8};
 ghost use Rattle.std.specs.Io.KnownBytes.{Keeps};
-ghost use Rattle.anstyle_parse.specs.Groups.{fields_text, groups_text};
-ghost use Rattle.anstyle_parse.specs.Output.{Adds};
+ghost use Rattle.anstyle_parse.specs.Stream.Groups.{fields_text, groups_text};
+ghost use Rattle.anstyle_parse.specs.Writing.Output.{Adds};
 
 use super::{Fault, Sink};
 use crate::params::Params;
@@ -18,7 +18,7 @@ pub struct Output<W> {
 }
 
 impl<W: Sink> Output<W> {
-    ghost use Rattle.anstyle_parse.specs.Output.{writer_in, fault_in, Finishes};
+    ghost use Rattle.anstyle_parse.specs.Writing.Output.{writer_in, fault_in, Finishes};
 
     /// An output with no fault, which has written nothing.
     pub fn new(writer: W) -> Output<W>
@@ -111,7 +111,7 @@ impl<W: Sink> Output<W> {
 
 /// Numbers and the parameters of a sequence.
 impl<W: Sink> Output<W> {
-    ghost use Rattle.anstyle_parse.specs.Params.{groups_shown};
+    ghost use Rattle.anstyle_parse.specs.Fields.Params.{groups_shown};
 
     /// Writes a number in decimal, without leading zeros.
     pub fn put_decimal(&mut self, number: u16)

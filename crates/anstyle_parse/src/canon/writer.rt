@@ -1,10 +1,10 @@
 //! Canonical texts.
 ghost use Rattle.std.specs.Prelude.{◌≡◌, ◌++◌, ◌∷◌, [], ⊤, None, OnOk, map, refl, if◌then◌else◌};
 ghost use Rattle.std.specs.List.{join_with_byte};
-ghost use Rattle.anstyle_parse.specs.Bytes.{escape_byte, semicolon};
-ghost use Rattle.anstyle_parse.specs.Arguments.{after_marker};
-ghost use Rattle.anstyle_parse.specs.Canon.{is_full, call_text, canon, header_text, leading_marker, one_more_field, one_more_intermediate, command_end};
-ghost use Rattle.anstyle_parse.specs.Output.{writer_in, fault_in, Adds, Finishes};
+ghost use Rattle.anstyle_parse.specs.Stream.Bytes.{escape_byte, semicolon};
+ghost use Rattle.anstyle_parse.specs.Stream.Arguments.{after_marker};
+ghost use Rattle.anstyle_parse.specs.Stream.Canon.{shows_no_more_intermediates, call_text, canon, header_text, leading_marker, one_more_field, one_more_intermediate, command_end};
+ghost use Rattle.anstyle_parse.specs.Writing.Output.{writer_in, fault_in, Adds, Finishes};
 
 use super::{CallWriter, Fault, KeepsFault, Output, Sink};
 use crate::params::Params;
@@ -33,7 +33,7 @@ const MAX_SHOWN: usize = 2;
 /// | `esc_dispatch` | ESC; the intermediates; a space if more came than are shown; the final byte |
 /// | `osc_dispatch` | ESC and `]`; the parts with `;` between them; BEL if BEL ended it, else 1B 58 9C |
 ///
-/// So a command that BEL ended keeps its BEL. Behind any other command stands a string that
+/// So a command that BEL ended keeps its BEL. After any other command stands a string that
 /// makes no call: its ESC ends the command, `X` begins a string that is ignored, and 9C ends
 /// that.
 ///
@@ -46,7 +46,7 @@ pub struct CanonWriter<W> {
 }
 
 impl<W: Sink> CanonWriter<W> {
-    ghost use Rattle.anstyle_parse.specs.CanonWriter.{output_of};
+    ghost use Rattle.anstyle_parse.specs.Writing.CanonWriter.{output_of};
 
     /// A canonical text of no calls so far, and no fault. Nothing is written.
     pub fn new(writer: W) -> CanonWriter<W>
@@ -77,7 +77,7 @@ impl<W: Sink> CanonWriter<W> {
 }
 
 impl<W: Sink> Perform for CanonWriter<W> {
-    ghost use Rattle.anstyle_parse.specs.CanonWriter.{output_of};
+    ghost use Rattle.anstyle_parse.specs.Writing.CanonWriter.{output_of};
 
     // It adds the call's canonical text.
     ghost means = { λ old call new. Adds W.contents W.has_failed (call_text call) (output_of old) (output_of new) };
@@ -124,7 +124,7 @@ impl<W: Sink> Perform for CanonWriter<W> {
 }
 
 impl<W: Sink> KeepsFault for CanonWriter<W> {
-    ghost use Rattle.anstyle_parse.specs.CanonWriter.{output_of};
+    ghost use Rattle.anstyle_parse.specs.Writing.CanonWriter.{output_of};
 
     ghost kept = { λ performer. fault_in (output_of performer) };
 
@@ -135,8 +135,8 @@ impl<W: Sink> KeepsFault for CanonWriter<W> {
 
 /// The canonical text has no ending.
 impl<W: Sink> CallWriter<W> for CanonWriter<W> {
-    ghost use Rattle.anstyle_parse.specs.Adding.{Adds-canon};
-    ghost use Rattle.anstyle_parse.specs.CanonWriter.{output_of};
+    ghost use Rattle.anstyle_parse.specs.Writing.Adding.{Adds-canon};
+    ghost use Rattle.anstyle_parse.specs.Writing.CanonWriter.{output_of};
 
     ghost output_in = { output_of };
 
@@ -167,8 +167,8 @@ impl<W: Sink> CallWriter<W> for CanonWriter<W> {
 }
 
 impl<W: Sink> CanonWriter<W> {
-    ghost use Rattle.anstyle_parse.specs.Params.{groups_shown};
-    ghost use Rattle.anstyle_parse.specs.CanonWriter.{output_of};
+    ghost use Rattle.anstyle_parse.specs.Fields.Params.{groups_shown};
+    ghost use Rattle.anstyle_parse.specs.Writing.CanonWriter.{output_of};
 
     /// A call with a header: the byte that begins it, what it shows, and the final byte.
     fn header(
@@ -194,8 +194,8 @@ impl<W: Sink> CanonWriter<W> {
     }
 }
 
-/// The marker at the head, if one stands there, and what is behind it.
-#[tactic(auto, unfolding(crate::specs::Bytes::is_marker, crate::specs::Bytes::is_within))]
+/// The marker at the head, if one stands there, and what is after it.
+#[tactic(auto, unfolding(crate::specs::Stream::Bytes::is_marker, crate::specs::Stream::Bytes::is_within))]
 pub(super) fn split_marker(intermediates: &[u8]) -> (&[u8], &[u8])
     ensures marker { result.0.now ≡ leading_marker intermediates.now }
     ensures others { result.1.now ≡ after_marker intermediates.now }
@@ -207,9 +207,9 @@ pub(super) fn split_marker(intermediates: &[u8]) -> (&[u8], &[u8])
 }
 
 /// Whether there are as many intermediates as a header shows.
-#[tactic(auto, unfolding(crate::specs::Canon::is_full))]
+#[tactic(auto, unfolding(crate::specs::Stream::Canon::shows_no_more_intermediates))]
 fn is_full(intermediates: &[u8]) -> bool
-    ensures { result ≡ is_full intermediates.now }
+    ensures { result ≡ shows_no_more_intermediates intermediates.now }
 {
     intermediates.len() >= MAX_SHOWN
 }

@@ -28,7 +28,7 @@ pub enum State {
 impl TryFrom<u8> for State {
     type Error = u8;
 
-    ghost use Rattle.anstyle_parse.specs.State.{HasNumber, state_number};
+    ghost use Rattle.anstyle_parse.specs.Machine.State.{HasNumber, state_number};
 
     ghost try_from_gives = { HasNumber state_number };
 
@@ -83,7 +83,7 @@ pub enum Action {
 impl TryFrom<u8> for Action {
     type Error = u8;
 
-    ghost use Rattle.anstyle_parse.specs.State.{HasNumber, action_number};
+    ghost use Rattle.anstyle_parse.specs.Machine.State.{HasNumber, action_number};
 
     ghost try_from_gives = { HasNumber action_number };
 

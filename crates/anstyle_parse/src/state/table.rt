@@ -3,7 +3,7 @@
 //! is no change. Line by line a row has the cells of the bytes 00..0F, 10..1F, .., F0..FF.
 
 ghost use Rattle.std.specs.Prelude.{◌≡◌};
-ghost use Rattle.anstyle_parse.specs.Packed.{cells};
+ghost use Rattle.anstyle_parse.specs.Machine.Packed.{cells};
 
 use crate::state::State;
 

@@ -1,6 +1,6 @@
 //! Writers behind a buffer: few writes, and faults in turn. Nothing is lost, doubled or out of
 //! order, and a fault has the name of the call that failed at the writer behind.
-use super::{TITLE, TITLE_TEXTS, TROUBLES};
+use super::{TITLE, TITLE_TEXTS, TROUBLES, narrow_papers};
 use crate::run::{Mode, run};
 use anstyle_parse::canon::{Buffer, Fault, FromRead, FromWrite, Sink};
 use std::alloc::Global;
@@ -11,7 +11,7 @@ use test_streams::{Paper, Tape, repeated};
 
 /// What a run answers whose output goes through the buffer, by the fault at the writer behind
 /// it, and this writer afterwards.
-fn run_behind(
+fn run_after(
     mode: Mode,
     tape: Tape<'_>,
     buffer: Buffer<FromWrite<Paper>>,
@@ -32,7 +32,7 @@ fn few_writes(rt: HostRuntime) -> Result<(), Fail> {
     let all = Buffer::new(FromWrite::new(Paper::new(rt.alloc())));
     let lines = Buffer::by_line(FromWrite::new(Paper::new(rt.alloc())));
     for (buffer, writes) in [(all, 2), (lines, 1000)] {
-        let (paper, answer) = run_behind(Mode::Log, Tape::new(input.as_slice()), buffer);
+        let (paper, answer) = run_after(Mode::Log, Tape::new(input.as_slice()), buffer);
         assert_eq!(rt; answer, Ok(()));
         assert_eq!(rt; paper.text.as_slice(), text.as_slice());
         assert_eq!(rt; paper.writes, writes);
@@ -41,15 +41,19 @@ fn few_writes(rt: HostRuntime) -> Result<(), Fail> {
     Ok(())
 }
 
-/// Both kinds of buffers before such a writer.
+/// Both kinds of buffers before such writers.
 fn buffers(
     alloc: Global,
     room: usize,
     trouble: Option<ErrorKind>,
-) -> [Buffer<FromWrite<Paper>>; 2] {
+) -> [Buffer<FromWrite<Paper>>; 4] {
+    let [narrow, once] = narrow_papers(alloc, room, trouble);
+    let [narrow_again, once_again] = narrow_papers(alloc, room, trouble);
     [
-        Buffer::new(FromWrite::new(Paper::narrow(alloc, room, trouble))),
-        Buffer::by_line(FromWrite::new(Paper::narrow(alloc, room, trouble))),
+        Buffer::new(FromWrite::new(narrow)),
+        Buffer::new(FromWrite::new(once)),
+        Buffer::by_line(FromWrite::new(narrow_again)),
+        Buffer::by_line(FromWrite::new(once_again)),
     ]
 }
 
@@ -62,7 +66,7 @@ fn writes_of_little_that_fail(rt: HostRuntime) {
             for room in 0..text.len() {
                 let writes = (room as u64).saturating_add(1);
                 for buffer in buffers(rt.alloc(), room, trouble) {
-                    let (paper, answer) = run_behind(mode, Tape::by_byte(TITLE), buffer);
+                    let (paper, answer) = run_after(mode, Tape::by_byte(TITLE), buffer);
                     assert_eq!(rt; answer, Err(Fault::Write), "{mode:?}, room {room}");
                     assert_eq!(rt; paper.text.as_slice(), &text[..room], "{mode:?}");
                     assert_eq!(rt; paper.writes, writes, "{mode:?}, room {room}");
@@ -70,7 +74,7 @@ fn writes_of_little_that_fail(rt: HostRuntime) {
                 }
             }
             for buffer in buffers(rt.alloc(), text.len(), trouble) {
-                let (paper, answer) = run_behind(mode, Tape::by_byte(TITLE), buffer);
+                let (paper, answer) = run_after(mode, Tape::by_byte(TITLE), buffer);
                 assert_eq!(rt; answer, Ok(()), "{mode:?}");
                 assert_eq!(rt; paper.text.as_slice(), text, "{mode:?}");
                 assert_eq!(rt; paper.flushes, 1, "{mode:?}");
@@ -90,7 +94,7 @@ fn reads_and_flushes_that_fail(rt: HostRuntime) {
                 tape.fails_at = fails_at;
                 let mut paper = Paper::new(rt.alloc());
                 paper.flush_error = flush_error;
-                let (paper, answer) = run_behind(mode, tape, Buffer::new(FromWrite::new(paper)));
+                let (paper, answer) = run_after(mode, tape, Buffer::new(FromWrite::new(paper)));
                 let (written, want) = match fails_at {
                     1..=6 => (0, Err(Fault::Read)),
                     7 => (command, Err(Fault::Read)),
@@ -118,7 +122,7 @@ fn text_of(alloc: Global, length: usize) -> Result<Vec<u8>, Fail> {
 
 /// A run over text that is its own canonical text, before a writer that has trouble.
 fn assert_front(rt: &impl Abort, text: &[u8], paper: Paper, want: Result<(), Fault>) -> usize {
-    let (paper, answer) = run_behind(
+    let (paper, answer) = run_after(
         Mode::Canon,
         Tape::new(text),
         Buffer::new(FromWrite::new(paper)),

@@ -1,5 +1,5 @@
 //! Each read, write and flush fails in turn, over bytes that come one a read.
-use super::{TITLE, TITLE_TEXTS, TROUBLES, run_over};
+use super::{TITLE, TITLE_TEXTS, TROUBLES, narrow_papers, run_over};
 use crate::log::LogWriter;
 use crate::run::Mode;
 use anstyle_parse::canon::{CanonWriter, Fault, FromWrite};
@@ -48,17 +48,15 @@ fn writes_that_fail(rt: HostRuntime) {
         for trouble in TROUBLES {
             for room in 0..text.len() {
                 let writes = (room as u64).saturating_add(1);
-                let paper = Paper::narrow(rt.alloc(), room, trouble);
-                let (tape, paper, answer) = run_over(mode, Tape::by_byte(TITLE), paper);
-                assert_eq!(rt; answer, Err(Fault::Write), "{mode:?}, room {room}");
-                assert_eq!(rt; paper.text.as_slice(), &text[..room], "{mode:?}");
-                assert_eq!(rt; paper.writes, writes, "{mode:?}, room {room}");
-                assert_eq!(rt; paper.flushes, 0, "{mode:?}, room {room}");
-                assert_eq!(rt;
-                    tape.reads,
-                    if room < command { 6 } else { 7 },
-                    "{mode:?}, room {room}"
-                );
+                for paper in narrow_papers(rt.alloc(), room, trouble) {
+                    let (tape, paper, answer) = run_over(mode, Tape::by_byte(TITLE), paper);
+                    assert_eq!(rt; answer, Err(Fault::Write), "{mode:?}, room {room}");
+                    assert_eq!(rt; paper.text.as_slice(), &text[..room], "{mode:?}");
+                    assert_eq!(rt; paper.writes, writes, "{mode:?}, room {room}");
+                    assert_eq!(rt; paper.flushes, 0, "{mode:?}, room {room}");
+                    let reads = if room < command { 6 } else { 7 };
+                    assert_eq!(rt; tape.reads, reads, "{mode:?}, room {room}");
+                }
             }
             let paper = Paper::narrow(rt.alloc(), text.len(), trouble);
             let (_, paper, answer) = run_over(mode, Tape::by_byte(TITLE), paper);
@@ -68,15 +66,9 @@ fn writes_that_fail(rt: HostRuntime) {
     }
 }
 
-/// A write that fails alone, and a writer that takes ten bytes in few writes.
+/// A writer that takes ten bytes, in few writes.
 #[test]
 fn writes_that_fail_in_a_line(rt: HostRuntime) {
-    let mut third = Paper::narrow(rt.alloc(), 49, Some(ErrorKind::Other));
-    third.fails_at = 3;
-    let (_, paper, answer) = run_over(Mode::Log, Tape::by_byte(TITLE), third);
-    assert_eq!(rt; answer, Err(Fault::Write));
-    assert_eq!(rt; paper.text.as_slice(), b"os".as_slice());
-
     let rows: [(&[u8], &[u8]); 2] = [(TITLE, b"osc_dispat"), (b"A", b"print U+00")];
     for (input, written) in rows {
         let mut paper = Paper::new(rt.alloc());
@@ -131,19 +123,19 @@ fn a_stopped_log_stays_stopped(rt: HostRuntime) {
     let (_, text, _) = TITLE_TEXTS[0];
     for trouble in TROUBLES {
         for room in 0..text.len() {
-            let paper = Paper::narrow(rt.alloc(), room, trouble);
-            let mut log = LogWriter::new(FromWrite::new(paper));
-            assert_eq!(rt; log.fault(), None);
-            let mut parser = Parser::<Utf8Parser>::new();
-            parser.advance_all(&mut log, TITLE);
-            assert_eq!(rt; log.fault(), Some(Fault::Write), "room {room}");
-            make_all_calls(&mut log);
-            assert_eq!(rt; log.fault(), Some(Fault::Write), "room {room}");
-            let (writer, answer) = log.finish();
-            let paper = writer.into_inner();
-            assert_eq!(rt; answer, Err(Fault::Write), "room {room}");
-            assert_eq!(rt; paper.text.as_slice(), &text[..room]);
-            assert_eq!(rt; paper.flushes, 0, "room {room}");
+            for paper in narrow_papers(rt.alloc(), room, trouble) {
+                let mut log = LogWriter::new(FromWrite::new(paper));
+                assert_eq!(rt; log.fault(), None);
+                Parser::<Utf8Parser>::new().advance_all(&mut log, TITLE);
+                assert_eq!(rt; log.fault(), Some(Fault::Write), "room {room}");
+                make_all_calls(&mut log);
+                assert_eq!(rt; log.fault(), Some(Fault::Write), "room {room}");
+                let (writer, answer) = log.finish();
+                let paper = writer.into_inner();
+                assert_eq!(rt; answer, Err(Fault::Write), "room {room}");
+                assert_eq!(rt; paper.text.as_slice(), &text[..room]);
+                assert_eq!(rt; paper.flushes, 0, "room {room}");
+            }
         }
     }
 }
@@ -153,19 +145,19 @@ fn a_stopped_canonical_text_stays_stopped(rt: HostRuntime) {
     let (_, text, _) = TITLE_TEXTS[1];
     for trouble in TROUBLES {
         for room in 0..text.len() {
-            let paper = Paper::narrow(rt.alloc(), room, trouble);
-            let mut canon = CanonWriter::new(FromWrite::new(paper));
-            assert_eq!(rt; canon.fault(), None);
-            let mut parser = Parser::<Utf8Parser>::new();
-            parser.advance_all(&mut canon, TITLE);
-            assert_eq!(rt; canon.fault(), Some(Fault::Write), "room {room}");
-            make_all_calls(&mut canon);
-            assert_eq!(rt; canon.fault(), Some(Fault::Write), "room {room}");
-            let (writer, answer) = canon.finish();
-            let paper = writer.into_inner();
-            assert_eq!(rt; answer, Err(Fault::Write), "room {room}");
-            assert_eq!(rt; paper.text.as_slice(), &text[..room]);
-            assert_eq!(rt; paper.flushes, 0, "room {room}");
+            for paper in narrow_papers(rt.alloc(), room, trouble) {
+                let mut canon = CanonWriter::new(FromWrite::new(paper));
+                assert_eq!(rt; canon.fault(), None);
+                Parser::<Utf8Parser>::new().advance_all(&mut canon, TITLE);
+                assert_eq!(rt; canon.fault(), Some(Fault::Write), "room {room}");
+                make_all_calls(&mut canon);
+                assert_eq!(rt; canon.fault(), Some(Fault::Write), "room {room}");
+                let (writer, answer) = canon.finish();
+                let paper = writer.into_inner();
+                assert_eq!(rt; answer, Err(Fault::Write), "room {room}");
+                assert_eq!(rt; paper.text.as_slice(), &text[..room]);
+                assert_eq!(rt; paper.flushes, 0, "room {room}");
+            }
         }
     }
 }

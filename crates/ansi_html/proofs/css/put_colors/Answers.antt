@@ -1,6 +1,6 @@
 use Rattle.std.proofs.Common.{[], Bool, codes, sym, subst}
-use Rattle.anstyle_parse.specs.Output.{Adds}
-use Rattle.anstyle_parse.proofs.OutputLemmas.{Adds-append}
+use Rattle.anstyle_parse.specs.Writing.Output.{Adds}
+use Rattle.anstyle_parse.proofs.Written.Output.{Adds-append}
 use Rattle.ansi_html.specs.declared.css.Role.{Role}
 use Rattle.ansi_html.specs.declared.css.Role.TheVariants.{Text, Ground}
 use Rattle.ansi_html.specs.Css.{color_css, role_by, colors_css}

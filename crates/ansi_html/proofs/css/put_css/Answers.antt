@@ -1,6 +1,6 @@
 use Rattle.std.proofs.Common.{◌++◌, Bool, List, ℕ, codes, subst}
-use Rattle.anstyle_parse.specs.Output.{Adds}
-use Rattle.anstyle_parse.proofs.OutputLemmas.{Adds-append}
+use Rattle.anstyle_parse.specs.Writing.Output.{Adds}
+use Rattle.anstyle_parse.proofs.Written.Output.{Adds-append}
 use Rattle.ansi_html.specs.Css.{colors_css, text_if, is_underlined, lines_css, underline_css}
 use Rattle.ansi_html.proofs.css.put_css.Goals as goal
 

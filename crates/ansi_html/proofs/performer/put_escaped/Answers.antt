@@ -1,6 +1,6 @@
 use Rattle.std.proofs.Common.{sym, subst, arith}
 use Rattle.std.specs.Prelude.{encode_utf8}
-use Rattle.anstyle_parse.specs.Output.{Adds}
+use Rattle.anstyle_parse.specs.Writing.Output.{Adds}
 use Rattle.ansi_html.proofs.PageLemmas.{is_special-other, AreClear-encode, escaped_text-clear}
 use Rattle.ansi_html.proofs.performer.put_escaped.Goals as goal
 

@@ -1,7 +1,7 @@
 use Rattle.std.proofs.Common.{[], Bool, codes, sym, ap, ◌∙◌, subst}
 use Rattle.std.specs.Prelude.{if◌then◌else◌}
-use Rattle.anstyle_parse.specs.Output.{Adds}
-use Rattle.anstyle_parse.proofs.OutputLemmas.{Adds-nil}
+use Rattle.anstyle_parse.specs.Writing.Output.{Adds}
+use Rattle.anstyle_parse.proofs.Written.Output.{Adds-nil}
 use Rattle.ansi_style.specs.Style.{are_equal}
 use Rattle.ansi_html.proofs.PageLemmas.{false-from_not, true-from_not}
 use Rattle.ansi_html.proofs.performer.put_span_end.Goals as goal

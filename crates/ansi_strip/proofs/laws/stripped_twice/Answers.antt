@@ -1,6 +1,6 @@
 -- Stripped text is the canonical text of a lawful list.
 use Rattle.std.proofs.Common.{false, List, ℕ, filter, sym, ap, ◌∙◌, subst}
-use Rattle.anstyle_parse.specs.Calls.{AreCalls}
+use Rattle.anstyle_parse.specs.Stream.Calls.{AreCalls}
 use Rattle.ansi_strip.specs.Strip.{is_left, stripped}
 use Rattle.ansi_strip.proofs.Left.{stripped-canon, stripped-left, lawful-left}
 use Rattle.ansi_strip.proofs.laws.stripped_twice.Goals as goal

@@ -1,9 +1,9 @@
 -- One number more is written, after its separator.
 use Rattle.std.proofs.Common.{◌∷◌, [], take, map, get_or, subst, sym}
 use Rattle.std.specs.Prelude.{decimal}
-use Rattle.anstyle_parse.specs.Bytes.{semicolon}
-use Rattle.anstyle_parse.specs.Output.{Adds}
-use Rattle.anstyle_parse.proofs.OutputLemmas.{Adds-append3}
+use Rattle.anstyle_parse.specs.Stream.Bytes.{semicolon}
+use Rattle.anstyle_parse.specs.Writing.Output.{Adds}
+use Rattle.anstyle_parse.proofs.Written.Output.{Adds-append3}
 use Rattle.ansi_style.specs.Codes.{one, more_text}
 use Rattle.ansi_style.proofs.CodesLemmas.{more_text-number}
 use Rattle.ansi_style.proofs.codes.put_numbers.Goals as goal

@@ -1,6 +1,6 @@
 -- The numbers so far are written.
 use Rattle.std.proofs.Common.{take, map}
-use Rattle.anstyle_parse.specs.Output.{Adds}
+use Rattle.anstyle_parse.specs.Writing.Output.{Adds}
 use Rattle.ansi_style.specs.Codes.{one, more_text}
 use Rattle.ansi_style.proofs.codes.put_numbers.Given as goal
 

@@ -1,5 +1,5 @@
-use Rattle.anstyle_parse.proofs.CanonBounds.{length-calls}
-use Rattle.anstyle_parse.proofs.CanonLength.{length-canon}
+use Rattle.anstyle_parse.proofs.Canonical.Bounds.{length-calls}
+use Rattle.anstyle_parse.proofs.Canonical.Length.{length-canon}
 use Rattle.anstyle_parse.proofs.laws.bounds.Goals as goal
 
 pub returns-clause-calls : goal.returns-clause-calls

@@ -1,4 +1,4 @@
-use Rattle.anstyle_parse.proofs.LawfulCalls.{lawful}
+use Rattle.anstyle_parse.proofs.Lawful.Calls.{lawful}
 use Rattle.anstyle_parse.proofs.laws.calls_are_lawful.Goals as goal
 
 pub returns : goal.returns

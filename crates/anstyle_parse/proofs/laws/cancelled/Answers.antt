@@ -1,6 +1,6 @@
-use Rattle.anstyle_parse.specs.Parser.{machine_of}
-use Rattle.anstyle_parse.specs.Stands.{seen, unseen}
-use Rattle.anstyle_parse.proofs.Forgotten.{cancelled_is_new, Continues-cancelled}
+use Rattle.anstyle_parse.specs.Fields.Parser.{machine_of}
+use Rattle.anstyle_parse.specs.Machine.Stands.{seen, unseen}
+use Rattle.anstyle_parse.proofs.Agreement.Forgotten.{cancelled_is_new, Continues-cancelled}
 use Rattle.anstyle_parse.proofs.laws.cancelled.Goals as goal
 
 pub returns-clause-stands : goal.returns-clause-stands

@@ -1,4 +1,4 @@
-use Rattle.anstyle_parse.proofs.CanonTwice.{canon_twice, canon-canon}
+use Rattle.anstyle_parse.proofs.Canonical.Twice.{canon_twice, canon-canon}
 use Rattle.anstyle_parse.proofs.laws.canonical_again.Goals as goal
 
 pub returns-clause-calls : goal.returns-clause-calls

@@ -1,4 +1,4 @@
-use Rattle.anstyle_parse.specs.Adding.{Adds-canon}
+use Rattle.anstyle_parse.specs.Writing.Adding.{Adds-canon}
 use Rattle.anstyle_parse.proofs.laws.canonical_text.Goals as goal
 
 pub returns : goal.returns

@@ -1,7 +1,7 @@
 use Rattle.std.proofs.Common.{ap}
-use Rattle.anstyle_parse.specs.Canon.{canon}
-use Rattle.anstyle_parse.proofs.CanonTwice.{canon_injective}
-use Rattle.anstyle_parse.proofs.LawfulCalls.{lawful}
+use Rattle.anstyle_parse.specs.Stream.Canon.{canon}
+use Rattle.anstyle_parse.proofs.Canonical.Twice.{canon_injective}
+use Rattle.anstyle_parse.proofs.Lawful.Calls.{lawful}
 use Rattle.anstyle_parse.proofs.laws.equal_texts.Goals as goal
 
 pub returns : goal.returns

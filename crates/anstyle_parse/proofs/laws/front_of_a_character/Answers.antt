@@ -1,4 +1,4 @@
-use Rattle.anstyle_parse.proofs.CharacterFronts.{IsProperFront-test}
+use Rattle.anstyle_parse.proofs.Characters.Tests.{IsProperFront-test}
 use Rattle.anstyle_parse.proofs.laws.front_of_a_character.Goals as goal
 
 pub returns : goal.returns

@@ -2,14 +2,14 @@ use Rattle.std.proofs.Common.{List, ℕ, ◌≡◌, ◌++◌, [], ◌∷◌, ◌
 use Rattle.std.specs.List.{flat_map}
 use Rattle.std.proofs.lemmas.List.{take_more, take_all}
 use Rattle.std.proofs.lemmas.Grind.{flat_map-append}
-use Rattle.anstyle_parse.specs.Accumulator.{front_of}
-use Rattle.anstyle_parse.specs.Calls.{HasReceived}
-use Rattle.anstyle_parse.specs.Parser.{IsAfter}
-use Rattle.anstyle_parse.proofs.CanonReplay.{replay}
-use Rattle.anstyle_parse.proofs.Divide.{nothing, divide}
-use Rattle.anstyle_parse.proofs.DivisionExists.{IsDivision-divide}
-use Rattle.anstyle_parse.proofs.DivisionOnly.{IsDivision-only}
-use Rattle.anstyle_parse.proofs.LawfulCalls.{lawful}
+use Rattle.anstyle_parse.specs.Fields.Accumulator.{front_of}
+use Rattle.anstyle_parse.specs.Stream.Calls.{HasReceived}
+use Rattle.anstyle_parse.specs.Fields.Parser.{IsAfter}
+use Rattle.anstyle_parse.proofs.Canonical.Replay.{replay}
+use Rattle.anstyle_parse.proofs.Division.Grow.{nothing, divide}
+use Rattle.anstyle_parse.proofs.Division.Exists.{IsDivision-divide}
+use Rattle.anstyle_parse.proofs.Division.Only.{IsDivision-only}
+use Rattle.anstyle_parse.proofs.Lawful.Calls.{lawful}
 use Rattle.anstyle_parse.proofs.Headline.{HasReceived-none, AreCalls-forgotten}
 use Rattle.anstyle_parse.proofs.laws.headline.Goals as goal
 

@@ -1,5 +1,5 @@
-use Rattle.anstyle_parse.proofs.CanonReplay.{replay}
-use Rattle.anstyle_parse.proofs.CanonTwice.{replay-only}
+use Rattle.anstyle_parse.proofs.Canonical.Replay.{replay}
+use Rattle.anstyle_parse.proofs.Canonical.Twice.{replay-only}
 use Rattle.anstyle_parse.proofs.laws.replay.Goals as goal
 
 pub returns-clause-makes : goal.returns-clause-makes

@@ -1,6 +1,6 @@
 -- A piece of one byte is that byte.
 use Rattle.std.proofs.Common.{List, ℕ, ◌≡◌, ◌≤◌, ◌<◌, [], ◌∷◌, ◌++◌, length, get_or, refl, subst, arith}
-use Rattle.anstyle_parse.specs.Calls.{HasReceived}
+use Rattle.anstyle_parse.specs.Stream.Calls.{HasReceived}
 use Rattle.anstyle_parse.proofs.laws.take_piece.Goals as goal
 
 one_byte : (bytes : List ℕ) → 1 ≤ length bytes → length bytes < 2 → get_or bytes 0 0 ∷ [] ≡ bytes

@@ -1,4 +1,4 @@
-use Rattle.anstyle_parse.proofs.GroupStarts.{bit_below}
+use Rattle.anstyle_parse.proofs.Arguments.Starts.{bit_below}
 use Rattle.anstyle_parse.proofs.params.start_bit.Goals as goal
 
 pub returns : goal.returns

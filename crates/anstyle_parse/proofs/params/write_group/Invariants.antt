@@ -1,7 +1,7 @@
 use Rattle.std.proofs.Common.{◌∷◌, take}
 use Rattle.std.specs.List.{flat_map}
 use Rattle.std.specs.Fmt.{HasWritten, IsPlainFormatter, decimal}
-use Rattle.anstyle_parse.specs.Bytes.{colon}
+use Rattle.anstyle_parse.specs.Stream.Bytes.{colon}
 use Rattle.anstyle_parse.proofs.params.write_group.Given as goal
 
 -- a colon and the field, for each field so far

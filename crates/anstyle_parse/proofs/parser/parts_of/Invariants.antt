@@ -1,6 +1,6 @@
 -- the parts so far, then those of the rest, are all parts
 use Rattle.std.proofs.Common.{◌≡◌, ◌≤◌, ◌++◌, length, take, drop, map}
-use Rattle.anstyle_parse.specs.Groups.{total, cut}
+use Rattle.anstyle_parse.specs.Stream.Groups.{total, cut}
 use Rattle.anstyle_parse.proofs.parser.parts_of.Given as goal
 
 abbrev pub invariant-loop-i : goal.invariant-loop-i

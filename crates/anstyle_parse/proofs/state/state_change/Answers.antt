@@ -1,7 +1,7 @@
 use Rattle.std.proofs.Common.{◌≡◌, ◌≢◌, ◌<◌, get_or, sym, ◌∙◌, arith}
-use Rattle.anstyle_parse.specs.Table.{change_at}
-use Rattle.anstyle_parse.specs.Packed.{packed, cells}
-use Rattle.anstyle_parse.proofs.PackedTable.{own_decides, anywhere_decides, same_state, same_action}
+use Rattle.anstyle_parse.specs.Machine.Table.{change_at}
+use Rattle.anstyle_parse.specs.Machine.Packed.{packed, cells}
+use Rattle.anstyle_parse.proofs.Machine.Packed.{own_decides, anywhere_decides, same_state, same_action}
 use Rattle.anstyle_parse.proofs.state.state_change.Goals as goal
 use Rattle.anstyle_parse.proofs.state.state_change.Goals.{then-own-eq-NO_CHANGE, else-own-eq-NO_CHANGE}
 

@@ -2,7 +2,7 @@
 use Rattle.std.proofs.Common.{◌++◌, ◌+◌, [], ◌∷◌, get_or, drop, refl, sym, ap, ◌∙◌}
 use Rattle.std.specs.List.{flat_map}
 use Rattle.std.proofs.lemmas.List.{at_drop_more}
-use Rattle.anstyle_parse.proofs.OutputLemmas.{Adds-nil, Adds-append}
+use Rattle.anstyle_parse.proofs.Written.Output.{Adds-nil, Adds-append}
 use Rattle.parselog.specs.Lines.{hex_byte}
 use Rattle.parselog.proofs.LineLemmas.{hex_byte-digits, done_more}
 use Rattle.parselog.proofs.log.put_hex.Goals as goal

@@ -1,7 +1,7 @@
 -- The digits so far, and those of the bytes that are left, are all digits.
 use Rattle.std.proofs.Common.{◌≡◌, ◌++◌, List, ℕ, drop}
 use Rattle.std.specs.List.{flat_map}
-use Rattle.anstyle_parse.specs.Output.{Adds}
+use Rattle.anstyle_parse.specs.Writing.Output.{Adds}
 use Rattle.parselog.specs.Lines.{hex_byte}
 use Rattle.parselog.proofs.log.put_hex.Given as goal
 

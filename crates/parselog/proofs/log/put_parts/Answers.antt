@@ -2,7 +2,7 @@
 use Rattle.std.proofs.Common.{◌++◌, ◌+◌, List, ℕ, [], ◌∷◌, get_or, drop, map, refl, ap, ◌∙◌, append_assoc}
 use Rattle.std.specs.Borrow.{Bor}
 use Rattle.std.proofs.lemmas.List.{at_drop_more}
-use Rattle.anstyle_parse.proofs.OutputLemmas.{Adds-nil, Adds-append3}
+use Rattle.anstyle_parse.proofs.Written.Output.{Adds-nil, Adds-append3}
 use Rattle.parselog.specs.Lines.{parts_text, hex_list}
 use Rattle.parselog.proofs.LineLemmas.{done_more}
 use Rattle.parselog.proofs.log.put_parts.Goals as goal

@@ -1,6 +1,6 @@
 -- The parts so far, and those that are left, are all parts.
 use Rattle.std.proofs.Common.{◌≡◌, ◌++◌, List, ℕ, drop, map}
-use Rattle.anstyle_parse.specs.Output.{Adds}
+use Rattle.anstyle_parse.specs.Writing.Output.{Adds}
 use Rattle.parselog.specs.Lines.{parts_text}
 use Rattle.parselog.proofs.log.put_parts.Given as goal
 

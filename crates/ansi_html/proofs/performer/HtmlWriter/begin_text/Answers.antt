@@ -1,7 +1,7 @@
 use Rattle.std.proofs.Common.{[], ◌++◌, Bool, sym, ◌∙◌, subst}
 use Rattle.std.specs.Prelude.{if◌then◌else◌}
-use Rattle.anstyle_parse.specs.Output.{Adds}
-use Rattle.anstyle_parse.proofs.OutputLemmas.{Adds-nil, Adds-append}
+use Rattle.anstyle_parse.specs.Writing.Output.{Adds}
+use Rattle.anstyle_parse.proofs.Written.Output.{Adds-nil, Adds-append}
 use Rattle.ansi_style.specs.Style.{are_equal}
 use Rattle.ansi_style.proofs.EqualityLemmas.{are_equal-same}
 use Rattle.ansi_html.specs.Page.{span_begin, span_end}

@@ -1,5 +1,5 @@
 use Rattle.std.proofs.Common.{refl}
-use Rattle.anstyle_parse.proofs.OutputLemmas.{Adds-nil}
+use Rattle.anstyle_parse.proofs.Written.Output.{Adds-nil}
 use Rattle.ansi_html.specs.Page.{text_html}
 use Rattle.ansi_html.specs.Writer.{output_of}
 use Rattle.ansi_html.proofs.performer.HtmlWriterPerform.csi_dispatch.Goals as goal

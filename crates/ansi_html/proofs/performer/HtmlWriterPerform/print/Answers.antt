@@ -1,7 +1,7 @@
 use Rattle.std.proofs.Common.{sym, subst, ◌∙◌}
 use Rattle.std.specs.Prelude.{encode_utf8}
-use Rattle.anstyle_parse.specs.Output.{Adds}
-use Rattle.anstyle_parse.proofs.OutputLemmas.{Adds-append}
+use Rattle.anstyle_parse.specs.Writing.Output.{Adds}
+use Rattle.anstyle_parse.proofs.Written.Output.{Adds-append}
 use Rattle.ansi_html.specs.Page.{change, escaped_text}
 use Rattle.ansi_html.specs.Writer.{output_of, style_of, shown_of}
 use Rattle.ansi_html.proofs.PageLemmas.{text_html-encode, shown_after-encode}

@@ -1,6 +1,6 @@
 -- The groups that are left make the same style as all of them did.
 use Rattle.std.proofs.Common.{◌≡◌}
-use Rattle.anstyle_parse.specs.Params.{groups_shown, groups_left}
+use Rattle.anstyle_parse.specs.Fields.Params.{groups_shown, groups_left}
 use Rattle.ansi_style.specs.Rendition.{selected, selected_from}
 use Rattle.ansi_style.proofs.style.Style.select.Given as goal
 

@@ -1,8 +1,8 @@
 -- The sequence goes out part by part.
 use Rattle.std.proofs.Common.{[], ◌∷◌, ◌++◌, List, ℕ, sym, subst}
-use Rattle.anstyle_parse.specs.Bytes.{escape_byte}
-use Rattle.anstyle_parse.specs.Output.{Adds}
-use Rattle.anstyle_parse.proofs.OutputLemmas.{Adds-append}
+use Rattle.anstyle_parse.specs.Stream.Bytes.{escape_byte}
+use Rattle.anstyle_parse.specs.Writing.Output.{Adds}
+use Rattle.anstyle_parse.proofs.Written.Output.{Adds-append}
 use Rattle.ansi_style.specs.Codes.{code_if, color_codes, underline_codes, more_text}
 use Rattle.ansi_style.proofs.CodesLemmas.{codes_text-parts, selected-codes_of, AreLawful-selection, AreCalls-codes_text}
 use Rattle.ansi_style.proofs.style.Style.write_codes.Goals as goal

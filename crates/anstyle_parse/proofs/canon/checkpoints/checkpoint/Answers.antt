@@ -1,12 +1,12 @@
 -- The text is the parser's checkpoint.
 use Rattle.std.proofs.Common.{subst}
-use Rattle.anstyle_parse.specs.Accumulator.{front_of}
-use Rattle.anstyle_parse.specs.Checkpoint.{checkpoint_text}
-use Rattle.anstyle_parse.specs.Output.{Writes, Causes}
-use Rattle.anstyle_parse.specs.Parser.{machine_of}
-use Rattle.anstyle_parse.specs.Stands.{seen}
-use Rattle.anstyle_parse.proofs.Checkpoint.{checkpoint_stands, length-checkpoint}
-use Rattle.anstyle_parse.proofs.OutputLemmas.{Writes-finish, Causes-finish}
+use Rattle.anstyle_parse.specs.Fields.Accumulator.{front_of}
+use Rattle.anstyle_parse.specs.Laws.Checkpoint.{checkpoint_text}
+use Rattle.anstyle_parse.specs.Writing.Output.{Writes, Causes}
+use Rattle.anstyle_parse.specs.Fields.Parser.{machine_of}
+use Rattle.anstyle_parse.specs.Machine.Stands.{seen}
+use Rattle.anstyle_parse.proofs.Resume.Whole.{checkpoint_stands, length-checkpoint}
+use Rattle.anstyle_parse.proofs.Written.Output.{Writes-finish, Causes-finish}
 use Rattle.anstyle_parse.proofs.canon.checkpoints.checkpoint.Goals as goal
 
 pub returns-clause-written : goal.returns-clause-written

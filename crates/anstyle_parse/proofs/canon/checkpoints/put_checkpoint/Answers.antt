@@ -2,14 +2,14 @@
 use Rattle.std.proofs.Common.{ℕ, List, [], ◌∷◌, ⊎_elim, ◌∙◌, sym, ap, ap₂, subst}
 use Rattle.std.specs.Prelude.{if◌then◌else◌}
 use Rattle.anstyle_parse.specs.declared.state.definitions.State.{State}
-use Rattle.anstyle_parse.specs.Accumulator.{front_of}
-use Rattle.anstyle_parse.specs.Bytes.{escape_byte}
-use Rattle.anstyle_parse.specs.Checkpoint.{checkpoint_in, command_text}
-use Rattle.anstyle_parse.specs.Parser.{machine_of}
-use Rattle.anstyle_parse.specs.Output.{Adds}
-use Rattle.anstyle_parse.specs.Stands.{seen}
-use Rattle.anstyle_parse.proofs.OutputLemmas.{Adds-nil, Adds-append, Adds-append3}
-use Rattle.anstyle_parse.proofs.CheckpointParts.{escape_text-begun}
+use Rattle.anstyle_parse.specs.Fields.Accumulator.{front_of}
+use Rattle.anstyle_parse.specs.Stream.Bytes.{escape_byte}
+use Rattle.anstyle_parse.specs.Laws.Checkpoint.{checkpoint_in, command_text}
+use Rattle.anstyle_parse.specs.Fields.Parser.{machine_of}
+use Rattle.anstyle_parse.specs.Writing.Output.{Adds}
+use Rattle.anstyle_parse.specs.Machine.Stands.{seen}
+use Rattle.anstyle_parse.proofs.Written.Output.{Adds-nil, Adds-append, Adds-append3}
+use Rattle.anstyle_parse.proofs.Written.Checkpoint.{escape_text-begun}
 use Rattle.anstyle_parse.proofs.canon.checkpoints.put_checkpoint.Goals as goal
 
 pub returns-in-Ground : goal.returns-in-Ground

@@ -1,12 +1,12 @@
--- One part more is done, with the separator behind it.
+-- One part more is done, with the separator after it.
 use Rattle.std.proofs.Common.{◌≡◌, ◌++◌, ◌+◌, List, ℕ, [], ◌∷◌, get_or, drop, refl, subst, arith}
 use Rattle.std.proofs.lemmas.List.{at_drop_more, drop_all}
-use Rattle.anstyle_parse.specs.Bytes.{semicolon}
-use Rattle.anstyle_parse.specs.Checkpoint.{command_text}
-use Rattle.anstyle_parse.specs.Groups.{total, cut}
-use Rattle.anstyle_parse.specs.Output.{Adds}
-use Rattle.anstyle_parse.proofs.OutputLemmas.{Adds-nil, Adds-append, Adds-append3}
-use Rattle.anstyle_parse.proofs.CheckpointParts.{command_text-more, command_text-none}
+use Rattle.anstyle_parse.specs.Stream.Bytes.{semicolon}
+use Rattle.anstyle_parse.specs.Laws.Checkpoint.{command_text}
+use Rattle.anstyle_parse.specs.Stream.Groups.{total, cut}
+use Rattle.anstyle_parse.specs.Writing.Output.{Adds}
+use Rattle.anstyle_parse.proofs.Written.Output.{Adds-nil, Adds-append, Adds-append3}
+use Rattle.anstyle_parse.proofs.Written.Checkpoint.{command_text-more, command_text-none}
 use Rattle.anstyle_parse.proofs.canon.checkpoints.put_command.Goals as goal
 
 pub loop-length-init : goal.loop-length-init

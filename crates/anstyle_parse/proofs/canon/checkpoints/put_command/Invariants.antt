@@ -1,8 +1,8 @@
 -- The text so far, and that of the parts that are left, are the whole text.
 use Rattle.std.proofs.Common.{◌≡◌, ◌≤◌, ◌++◌, List, ℕ, length, drop}
-use Rattle.anstyle_parse.specs.Checkpoint.{command_text}
-use Rattle.anstyle_parse.specs.Groups.{total, cut}
-use Rattle.anstyle_parse.specs.Output.{Adds}
+use Rattle.anstyle_parse.specs.Laws.Checkpoint.{command_text}
+use Rattle.anstyle_parse.specs.Stream.Groups.{total, cut}
+use Rattle.anstyle_parse.specs.Writing.Output.{Adds}
 use Rattle.anstyle_parse.proofs.canon.checkpoints.put_command.Given as goal
 
 abbrev pub invariant-loop-length : goal.invariant-loop-length

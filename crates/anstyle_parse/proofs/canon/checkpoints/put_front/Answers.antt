@@ -1,8 +1,8 @@
 use Rattle.std.proofs.Common.{sym, subst}
 use Rattle.anstyle_parse.specs.declared.utf8.Front.{Front}
-use Rattle.anstyle_parse.specs.Front.{bytes_of}
-use Rattle.anstyle_parse.specs.Output.{Adds}
-use Rattle.anstyle_parse.proofs.OutputLemmas.{Adds-nil}
+use Rattle.anstyle_parse.specs.Fields.Front.{bytes_of}
+use Rattle.anstyle_parse.specs.Writing.Output.{Adds}
+use Rattle.anstyle_parse.proofs.Written.Output.{Adds-nil}
 use Rattle.anstyle_parse.proofs.canon.checkpoints.put_front.Goals as goal
 
 pub returns-in-Empty : goal.returns-in-Empty

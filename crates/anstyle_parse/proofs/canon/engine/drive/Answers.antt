@@ -1,11 +1,11 @@
 -- A piece more is read, and its calls are made.
 use Rattle.std.proofs.Common.{◌≡◌, ◌++◌, [], false, Option, None, Some, is_some, take, refl, sym, ap, ◌∙◌, arith, length-append, length-take}
 use Rattle.std.proofs.KnownBytes.{Consumes-nil, Consumes-trans}
-use Rattle.anstyle_parse.specs.Accumulator.{parser_after}
-use Rattle.anstyle_parse.specs.Machine.{machine_calls}
-use Rattle.anstyle_parse.specs.Parser.{machine_of}
-use Rattle.anstyle_parse.proofs.CanonItems.{AreCalls-nil}
-use Rattle.anstyle_parse.proofs.MachineLemmas.{Goes-append}
+use Rattle.anstyle_parse.specs.Fields.Accumulator.{parser_after}
+use Rattle.anstyle_parse.specs.Machine.Step.{machine_calls}
+use Rattle.anstyle_parse.specs.Fields.Parser.{machine_of}
+use Rattle.anstyle_parse.proofs.Canonical.Items.{AreCalls-nil}
+use Rattle.anstyle_parse.proofs.Machine.Steps.{Goes-append}
 use Rattle.anstyle_parse.proofs.canon.engine.drive.Goals as goal
 
 pub loop-turn-init : goal.loop-turn-init

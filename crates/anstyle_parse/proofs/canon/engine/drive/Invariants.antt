@@ -1,10 +1,10 @@
 -- What is read so far has gone to the performer, and nothing failed.
 use Rattle.std.proofs.Common.{◌≡◌, ◌≤◌, List, ℕ, None, length}
 use Rattle.std.specs.Io.KnownBytes.{Consumes}
-use Rattle.anstyle_parse.specs.Accumulator.{front_of}
-use Rattle.anstyle_parse.specs.Call.{Call, Goes}
-use Rattle.anstyle_parse.specs.Calls.{AreCalls}
-use Rattle.anstyle_parse.specs.Parser.{IsAfter}
+use Rattle.anstyle_parse.specs.Fields.Accumulator.{front_of}
+use Rattle.anstyle_parse.specs.Stream.Call.{Call, Goes}
+use Rattle.anstyle_parse.specs.Stream.Calls.{AreCalls}
+use Rattle.anstyle_parse.specs.Fields.Parser.{IsAfter}
 use Rattle.anstyle_parse.proofs.canon.engine.drive.Given as goal
 
 abbrev pub invariant-loop-turn : goal.invariant-loop-turn

@@ -1,7 +1,7 @@
 -- With no head and no tail.
 use Rattle.std.proofs.Common.{[], ◌++◌, List, ℕ, ◌∙◌, append-nil}
-use Rattle.anstyle_parse.specs.Call.{Call}
-use Rattle.anstyle_parse.proofs.EngineLemmas.{Runs-plain, Runs-same_ending}
+use Rattle.anstyle_parse.specs.Stream.Call.{Call}
+use Rattle.anstyle_parse.proofs.Written.Run.{Runs-plain, Runs-same_ending}
 use Rattle.anstyle_parse.proofs.canon.engine.write_calls.Goals as goal
 
 pub returns-clause-runs : goal.returns-clause-runs

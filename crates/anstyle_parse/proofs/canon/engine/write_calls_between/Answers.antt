@@ -2,11 +2,11 @@
 use Rattle.std.proofs.Common.{◌++◌, [], ℕ, List, is_some, Err, IsTrue, refl, sym, ap, ◌∙◌, subst}
 use Rattle.std.specs.Io.KnownBytes.{IsAtEnd}
 use Rattle.anstyle_parse.specs.declared.canon.Fault.TheVariants.{Read}
-use Rattle.anstyle_parse.specs.Call.{Call}
-use Rattle.anstyle_parse.specs.Output.{Adds}
-use Rattle.anstyle_parse.specs.Run.{RunsToEnding}
-use Rattle.anstyle_parse.proofs.EngineLemmas.{StopsAs-no_read, Adds-unless_stopped, Adds-no_fault, Runs-ended, Runs-failed, Runs-stopped}
-use Rattle.anstyle_parse.proofs.OutputLemmas.{Adds-append}
+use Rattle.anstyle_parse.specs.Stream.Call.{Call}
+use Rattle.anstyle_parse.specs.Writing.Output.{Adds}
+use Rattle.anstyle_parse.specs.Writing.Run.{RunsToEnding}
+use Rattle.anstyle_parse.proofs.Written.Run.{StopsAs-no_read, Adds-unless_stopped, Adds-no_fault, Runs-ended, Runs-failed, Runs-stopped}
+use Rattle.anstyle_parse.proofs.Written.Output.{Adds-append}
 use Rattle.anstyle_parse.proofs.canon.engine.write_calls_between.Goals as goal
 
 pub returns-then-is_some-clause-runs : goal.returns-then-is_some-clause-runs

@@ -3,9 +3,9 @@ use Rattle.std.proofs.Common.{◌++◌, ◌+◌, List, ℕ, [], ◌∷◌, get_o
 use Rattle.std.specs.Prelude.{if◌then◌else◌}
 use Rattle.std.specs.List.{join_with_byte}
 use Rattle.std.proofs.lemmas.List.{at_drop_more}
-use Rattle.anstyle_parse.specs.Bytes.{semicolon}
-use Rattle.anstyle_parse.proofs.JoinLemmas.{joined_rest-more}
-use Rattle.anstyle_parse.proofs.OutputLemmas.{Adds-nil, Adds-append3}
+use Rattle.anstyle_parse.specs.Stream.Bytes.{semicolon}
+use Rattle.anstyle_parse.proofs.Lists.Joins.{joined_rest-more}
+use Rattle.anstyle_parse.proofs.Written.Output.{Adds-nil, Adds-append3}
 use Rattle.anstyle_parse.proofs.canon.writer.put_parts.Goals as goal
 
 pub loop-part-init : goal.loop-part-init

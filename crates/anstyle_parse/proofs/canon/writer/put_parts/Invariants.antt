@@ -1,9 +1,9 @@
 -- The text so far, and that of the parts that are left, are the whole text.
 use Rattle.std.proofs.Common.{◌≡◌, ◌++◌, List, ℕ, drop, map}
 use Rattle.std.specs.List.{join_with_byte}
-use Rattle.anstyle_parse.specs.Bytes.{semicolon}
-use Rattle.anstyle_parse.specs.Output.{Adds}
-use Rattle.anstyle_parse.proofs.JoinLemmas.{joined_rest}
+use Rattle.anstyle_parse.specs.Stream.Bytes.{semicolon}
+use Rattle.anstyle_parse.specs.Writing.Output.{Adds}
+use Rattle.anstyle_parse.proofs.Lists.Joins.{joined_rest}
 use Rattle.anstyle_parse.proofs.canon.writer.put_parts.Given as goal
 
 abbrev pub invariant-loop-part : goal.invariant-loop-part

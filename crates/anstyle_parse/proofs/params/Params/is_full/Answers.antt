@@ -1,6 +1,6 @@
 use Rattle.std.proofs.Common.{◌≡◌, arith, sym, ◌∙◌, eq-eqb, eqb-true}
 use Rattle.std.proofs.lemmas.Bool.{OnFalse_from, eqb-false}
-use Rattle.anstyle_parse.proofs.GroupStarts.{field_total}
+use Rattle.anstyle_parse.proofs.Arguments.Starts.{field_total}
 use Rattle.anstyle_parse.proofs.params.Params.is_full.Goals as goal
 
 pub returns-clause-full : goal.returns-clause-full

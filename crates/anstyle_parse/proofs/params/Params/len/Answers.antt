@@ -1,6 +1,6 @@
 use Rattle.std.proofs.Common.{arith, ap, sym, ◌∙◌, length, ◌-◌}
 use Rattle.std.specs.List.{concat}
-use Rattle.anstyle_parse.proofs.GroupStarts.{cut_at-shown, field_count}
+use Rattle.anstyle_parse.proofs.Arguments.Starts.{cut_at-shown, field_count}
 use Rattle.anstyle_parse.proofs.params.Params.len.Goals as goal
 
 pub returns-clause-fields : goal.returns-clause-fields

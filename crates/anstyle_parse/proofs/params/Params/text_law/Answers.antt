@@ -1,4 +1,4 @@
-use Rattle.anstyle_parse.proofs.TextLaw.{IsReadBack-sent, IsReadBack-handed_out}
+use Rattle.anstyle_parse.proofs.Canonical.DebugText.{IsReadBack-sent, IsReadBack-handed_out}
 use Rattle.anstyle_parse.proofs.params.Params.text_law.Goals as goal
 
 pub returns-clause-handed_out : goal.returns-clause-handed_out

@@ -1,5 +1,5 @@
 use Rattle.std.proofs.Common.{◌-◌, ◌/◌, ◌^◌, length, drop}
-use Rattle.anstyle_parse.proofs.GroupStarts.{group_count, high_below}
+use Rattle.anstyle_parse.proofs.Arguments.Starts.{group_count, high_below}
 use Rattle.anstyle_parse.proofs.params.ParamsIterExactSizeIterator.len.Goals as goal
 
 pub returns-then-self-lt-MAX_PARAMS-clause-value : goal.returns-then-self-lt-MAX_PARAMS-clause-value

@@ -1,12 +1,12 @@
 use Rattle.std.proofs.Common.{List, ◌∷◌, [], subst, sym, arith}
 use Rattle.std.proofs.lemmas.List.{append-nil}
-use Rattle.anstyle_parse.specs.Call.{Call}
-use Rattle.anstyle_parse.specs.Calls.{Continues}
-use Rattle.anstyle_parse.specs.Machine.{Machine, IsWithinLimits, step_calls}
-use Rattle.anstyle_parse.specs.Parser.{machine_of}
-use Rattle.anstyle_parse.proofs.CallCounts.{step_calls-few, step_calls-two}
+use Rattle.anstyle_parse.specs.Stream.Call.{Call}
+use Rattle.anstyle_parse.specs.Stream.Calls.{Continues}
+use Rattle.anstyle_parse.specs.Machine.Step.{Machine, IsWithinLimits, step_calls}
+use Rattle.anstyle_parse.specs.Fields.Parser.{machine_of}
+use Rattle.anstyle_parse.proofs.Machine.CallCounts.{step_calls-few, step_calls-two}
 use Rattle.anstyle_parse.proofs.Headline.{HasReceived-more}
-use Rattle.anstyle_parse.proofs.Limits.{IsWithinLimits-step, IsWithinLimits-parser}
+use Rattle.anstyle_parse.proofs.Machine.Limits.{IsWithinLimits-step, IsWithinLimits-parser}
 use Rattle.anstyle_parse.proofs.Streams.{CanTake-may, IsAfter-taken, Continues-taken, IsAfterAscii-taken, Continues-ascii}
 use Rattle.anstyle_parse.proofs.parser.Parser.advance.Goals as goal
 

@@ -1,15 +1,15 @@
 use Rattle.std.proofs.Common.{arith, subst, sym, List, [], ◌∷◌, ◌++◌}
-use Rattle.anstyle_parse.specs.Bytes.{escape_byte}
-use Rattle.anstyle_parse.specs.Machine.{Machine, IsWithinLimits, machine_calls}
-use Rattle.anstyle_parse.specs.Parser.{machine_of}
-use Rattle.anstyle_parse.proofs.Limits.{IsWithinLimits-machine, IsWithinLimits-parser}
+use Rattle.anstyle_parse.specs.Stream.Bytes.{escape_byte}
+use Rattle.anstyle_parse.specs.Machine.Step.{Machine, IsWithinLimits, machine_calls}
+use Rattle.anstyle_parse.specs.Fields.Parser.{machine_of}
+use Rattle.anstyle_parse.proofs.Machine.Limits.{IsWithinLimits-machine, IsWithinLimits-parser}
 use Rattle.anstyle_parse.proofs.Streams.{CanTakeAll-may, bytes_below, IsAfter-taken, Continues-taken, IsAfterAscii-taken, Continues-ascii}
-use Rattle.anstyle_parse.specs.Call.{Call, Goes}
-use Rattle.anstyle_parse.proofs.CanonTwice.{Continues-replay}
-use Rattle.anstyle_parse.specs.Stands.{seen, unseen}
-use Rattle.anstyle_parse.proofs.LawfulCalls.{lawful}
-use Rattle.anstyle_parse.proofs.CanonItems.{AreCalls-nil}
-use Rattle.anstyle_parse.proofs.Forgotten.{forgotten, cancelled_is_new}
+use Rattle.anstyle_parse.specs.Stream.Call.{Call, Goes}
+use Rattle.anstyle_parse.proofs.Canonical.Twice.{Continues-replay}
+use Rattle.anstyle_parse.specs.Machine.Stands.{seen, unseen}
+use Rattle.anstyle_parse.proofs.Lawful.Calls.{lawful}
+use Rattle.anstyle_parse.proofs.Canonical.Items.{AreCalls-nil}
+use Rattle.anstyle_parse.proofs.Agreement.Forgotten.{forgotten, cancelled_is_new}
 use Rattle.anstyle_parse.proofs.Headline.{AreCalls-escape, HasReceived-more}
 use Rattle.anstyle_parse.proofs.parser.Parser.advance_all.Goals as goal
 

@@ -1,10 +1,10 @@
--- The bytes behind the closed parts become a part, where there are fewer than sixteen.
+-- The bytes after the closed parts become a part, where there are fewer than sixteen.
 use Rattle.std.proofs.Common.{◌≡◌, ◌+◌, ◌-◌, length, take, set, arith, ap, sym, ◌∙◌}
 use Rattle.std.proofs.lemmas.List.{drop_all}
-use Rattle.anstyle_parse.specs.Groups.{cut, total}
-use Rattle.anstyle_parse.specs.Parser.{machine_of}
-use Rattle.anstyle_parse.proofs.GroupLemmas.{total_closed, cut_closed, parts_count}
-use Rattle.anstyle_parse.proofs.MachineLemmas.{same_parts, with_part-room}
+use Rattle.anstyle_parse.specs.Stream.Groups.{cut, total}
+use Rattle.anstyle_parse.specs.Fields.Parser.{machine_of}
+use Rattle.anstyle_parse.proofs.Arguments.Lengths.{total_closed, cut_closed, parts_count}
+use Rattle.anstyle_parse.proofs.Machine.Steps.{same_parts, with_part-room}
 use Rattle.anstyle_parse.proofs.parser.Parser.close_part.Goals as goal
 
 pub invariant_of-self : goal.invariant_of-self

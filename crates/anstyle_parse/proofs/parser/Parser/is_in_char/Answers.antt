@@ -1,9 +1,9 @@
 use Rattle.std.proofs.Common.{refl}
 use Rattle.std.proofs.lemmas.Bool.{false≢true}
-use Rattle.anstyle_parse.specs.Parser.{machine_of}
-use Rattle.anstyle_parse.specs.Stands.{seen, unseen}
-use Rattle.anstyle_parse.proofs.CharacterEnds.{EndsInCharacter-state}
-use Rattle.anstyle_parse.proofs.Unseen.{StandsAfter-outside}
+use Rattle.anstyle_parse.specs.Fields.Parser.{machine_of}
+use Rattle.anstyle_parse.specs.Machine.Stands.{seen, unseen}
+use Rattle.anstyle_parse.proofs.Division.Ends.{EndsInCharacter-state}
+use Rattle.anstyle_parse.proofs.Machine.Unseen.{StandsAfter-outside}
 use Rattle.anstyle_parse.proofs.parser.Parser.is_in_char.Goals as goal
 
 pub returns-in-Utf8-clause-stream : goal.returns-in-Utf8-clause-stream

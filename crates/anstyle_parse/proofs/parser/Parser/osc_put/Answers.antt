@@ -1,10 +1,10 @@
 -- The text is full at 1024 bytes, closed parts included.
 use Rattle.std.proofs.Common.{◌≡◌, length, take, drop, ap, sym, ◌∙◌, eqb-true}
 use Rattle.std.proofs.lemmas.Bool.{eqb-false}
-use Rattle.anstyle_parse.specs.Groups.{cut}
-use Rattle.anstyle_parse.specs.Parser.{machine_of}
-use Rattle.anstyle_parse.proofs.GroupLemmas.{stored_total, cut_stored, drop_stored}
-use Rattle.anstyle_parse.proofs.MachineLemmas.{same_parts, storing-full, storing-separator, storing-other}
+use Rattle.anstyle_parse.specs.Stream.Groups.{cut}
+use Rattle.anstyle_parse.specs.Fields.Parser.{machine_of}
+use Rattle.anstyle_parse.proofs.Arguments.Lengths.{stored_total, cut_stored, drop_stored}
+use Rattle.anstyle_parse.proofs.Machine.Steps.{same_parts, storing-full, storing-separator, storing-other}
 use Rattle.anstyle_parse.proofs.parser.Parser.osc_put.Goals as goal
 
 pub returns-then-is_full : goal.returns-then-is_full

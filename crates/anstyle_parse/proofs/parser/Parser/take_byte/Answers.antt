@@ -2,10 +2,10 @@
 use Rattle.std.proofs.Common.{refl, ap, sym, ◌∙◌, subst, List}
 use Rattle.std.proofs.lemmas.Bool.{both_ways}
 use Rattle.anstyle_parse.specs.declared.state.definitions.State.TheVariants.{Ground}
-use Rattle.anstyle_parse.specs.Call.{Call, Goes}
-use Rattle.anstyle_parse.specs.Parser.{machine_of}
-use Rattle.anstyle_parse.specs.Machine.{IsBroken, after_continuation, print_answer, step_from, step_calls_from}
-use Rattle.anstyle_parse.proofs.MachineLemmas.{Goes-append, step-at, step_calls-at, step-broken, step_calls-broken, step-whole, step_calls-whole}
+use Rattle.anstyle_parse.specs.Stream.Call.{Call, Goes}
+use Rattle.anstyle_parse.specs.Fields.Parser.{machine_of}
+use Rattle.anstyle_parse.specs.Machine.Step.{IsBroken, after_continuation, print_answer, step_from, step_calls_from}
+use Rattle.anstyle_parse.proofs.Machine.Steps.{Goes-append, step-at, step_calls-at, step-broken, step_calls-broken, step-whole, step_calls-whole}
 use Rattle.anstyle_parse.proofs.parser.Parser.take_byte.Goals as goal
 use Rattle.anstyle_parse.proofs.parser.Parser.take_byte.Goals.{in-Utf8+else-not-continue_character, in_default}
 

@@ -1,9 +1,9 @@
 use Rattle.std.proofs.Common.{◌+◌, List, ℕ, get_or, drop, ap, sym, ◌∙◌, subst, arith}
 use Rattle.std.proofs.lemmas.List.{drop_more}
-use Rattle.anstyle_parse.specs.Call.{Call, Goes}
-use Rattle.anstyle_parse.specs.Machine.{step, step_calls, machine_after, machine_calls}
-use Rattle.anstyle_parse.specs.Parser.{machine_of, CanTakeAll}
-use Rattle.anstyle_parse.proofs.MachineLemmas.{Goes-append}
+use Rattle.anstyle_parse.specs.Stream.Call.{Call, Goes}
+use Rattle.anstyle_parse.specs.Machine.Step.{step, step_calls, machine_after, machine_calls}
+use Rattle.anstyle_parse.specs.Fields.Parser.{machine_of, CanTakeAll}
+use Rattle.anstyle_parse.proofs.Machine.Steps.{Goes-append}
 use Rattle.anstyle_parse.proofs.Streams.{CanTake-first, CanTakeAll-rest}
 use Rattle.anstyle_parse.proofs.parser.Parser.take_bytes.Goals as goal
 

@@ -1,9 +1,9 @@
 -- Going on from here with what is left is going from the start with all bytes; and what
 -- is left can be taken.
 use Rattle.std.proofs.Common.{◌≡◌, drop}
-use Rattle.anstyle_parse.specs.Call.{Goes}
-use Rattle.anstyle_parse.specs.Parser.{machine_of, CanTakeAll}
-use Rattle.anstyle_parse.specs.Machine.{machine_after, machine_calls}
+use Rattle.anstyle_parse.specs.Stream.Call.{Goes}
+use Rattle.anstyle_parse.specs.Fields.Parser.{machine_of, CanTakeAll}
+use Rattle.anstyle_parse.specs.Machine.Step.{machine_after, machine_calls}
 use Rattle.anstyle_parse.proofs.parser.Parser.take_bytes.Given as goal
 
 abbrev pub invariant-loop-byte : goal.invariant-loop-byte

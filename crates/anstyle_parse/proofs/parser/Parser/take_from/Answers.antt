@@ -1,10 +1,10 @@
 use Rattle.std.proofs.Common.{ap, sym, ◌∙◌, subst, List}
-use Rattle.anstyle_parse.specs.Call.{Call, Goes}
-use Rattle.anstyle_parse.specs.Table.{change_at}
-use Rattle.anstyle_parse.specs.Parser.{machine_of}
-use Rattle.anstyle_parse.specs.Machine.{after_change, change_calls}
-use Rattle.anstyle_parse.proofs.MachineLemmas.{step_from-outside, step_calls_from-outside}
-use Rattle.anstyle_parse.proofs.Reaches.{ReachesAccumulator-begin}
+use Rattle.anstyle_parse.specs.Stream.Call.{Call, Goes}
+use Rattle.anstyle_parse.specs.Machine.Table.{change_at}
+use Rattle.anstyle_parse.specs.Fields.Parser.{machine_of}
+use Rattle.anstyle_parse.specs.Machine.Step.{after_change, change_calls}
+use Rattle.anstyle_parse.proofs.Machine.Steps.{step_from-outside, step_calls_from-outside}
+use Rattle.anstyle_parse.proofs.Machine.Reaches.{ReachesAccumulator-begin}
 use Rattle.anstyle_parse.proofs.parser.Parser.take_from.Goals as goal
 
 pub change_state-requires : goal.change_state-requires

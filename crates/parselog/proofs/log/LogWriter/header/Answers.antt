@@ -1,8 +1,8 @@
 use Rattle.std.proofs.Common.{List, ℕ, [], ◌∷◌, sym, subst}
-use Rattle.anstyle_parse.specs.Groups.{groups_text}
-use Rattle.anstyle_parse.specs.Params.{groups_shown}
-use Rattle.anstyle_parse.specs.Output.{Adds}
-use Rattle.anstyle_parse.proofs.OutputLemmas.{Adds-append}
+use Rattle.anstyle_parse.specs.Stream.Groups.{groups_text}
+use Rattle.anstyle_parse.specs.Fields.Params.{groups_shown}
+use Rattle.anstyle_parse.specs.Writing.Output.{Adds}
+use Rattle.anstyle_parse.proofs.Written.Output.{Adds-append}
 use Rattle.parselog.specs.Lines.{end_text, newline}
 use Rattle.parselog.specs.Log.{output_of}
 use Rattle.parselog.proofs.LineLemmas.{line_end}

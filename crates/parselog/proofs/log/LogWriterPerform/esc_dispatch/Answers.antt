@@ -1,4 +1,4 @@
-use Rattle.anstyle_parse.proofs.OutputLemmas.{Adds-append}
+use Rattle.anstyle_parse.proofs.Written.Output.{Adds-append}
 use Rattle.parselog.specs.Log.{output_of}
 use Rattle.parselog.proofs.log.LogWriterPerform.esc_dispatch.Goals as goal
 

@@ -1,6 +1,6 @@
 use Rattle.std.proofs.Common.{◌++◌, List, ℕ, [], ◌∷◌, map, codes, sym, ap, ◌∙◌, subst, append_assoc}
-use Rattle.anstyle_parse.specs.Output.{Adds}
-use Rattle.anstyle_parse.proofs.OutputLemmas.{Adds-append}
+use Rattle.anstyle_parse.specs.Writing.Output.{Adds}
+use Rattle.anstyle_parse.proofs.Written.Output.{Adds-append}
 use Rattle.parselog.specs.Lines.{truth, parts_text, newline}
 use Rattle.parselog.specs.Log.{output_of}
 use Rattle.parselog.proofs.log.LogWriterPerform.osc_dispatch.Goals as goal

@@ -1,6 +1,6 @@
 use Rattle.std.proofs.Common.{List, ℕ, ap, ◌∙◌, subst}
-use Rattle.anstyle_parse.specs.Call.{print}
-use Rattle.anstyle_parse.specs.Output.{Adds}
+use Rattle.anstyle_parse.specs.Stream.Call.{print}
+use Rattle.anstyle_parse.specs.Writing.Output.{Adds}
 use Rattle.parselog.specs.Lines.{line}
 use Rattle.parselog.specs.Log.{output_of}
 use Rattle.parselog.proofs.LineLemmas.{character_number-four, character_number-five, character_number-six}

@@ -1,8 +1,8 @@
 -- The digits before the last are written first, if there are any.
 use Rattle.std.proofs.Common.{◌/◌, decimal, arith, sym, subst}
 use Rattle.anstyle_parse.specs.declared.canon.output.Output.{Output}
-use Rattle.anstyle_parse.specs.Output.{Adds}
-use Rattle.anstyle_parse.proofs.OutputLemmas.{Adds-decimal_digit, Adds-decimal_step}
+use Rattle.anstyle_parse.specs.Writing.Output.{Adds}
+use Rattle.anstyle_parse.proofs.Written.Output.{Adds-decimal_digit, Adds-decimal_step}
 use Rattle.anstyle_parse.proofs.canon.output.Output.+put_decimal.Goals as goal
 use Rattle.anstyle_parse.proofs.canon.output.Output.+put_decimal.Goals.{then-number-ge10, else-number-ge10}
 

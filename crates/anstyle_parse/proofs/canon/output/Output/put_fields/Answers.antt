@@ -2,10 +2,10 @@
 use Rattle.std.proofs.Common.{◌++◌, ◌+◌, [], ◌∷◌, get_or, drop, map, decimal, refl}
 use Rattle.std.specs.Prelude.{if◌then◌else◌}
 use Rattle.std.proofs.lemmas.List.{at_drop_more}
-use Rattle.anstyle_parse.specs.Bytes.{colon}
-use Rattle.anstyle_parse.specs.Groups.{fields_text}
-use Rattle.anstyle_parse.proofs.JoinLemmas.{joined_rest-more}
-use Rattle.anstyle_parse.proofs.OutputLemmas.{Adds-nil, Adds-append3}
+use Rattle.anstyle_parse.specs.Stream.Bytes.{colon}
+use Rattle.anstyle_parse.specs.Stream.Groups.{fields_text}
+use Rattle.anstyle_parse.proofs.Lists.Joins.{joined_rest-more}
+use Rattle.anstyle_parse.proofs.Written.Output.{Adds-nil, Adds-append3}
 use Rattle.anstyle_parse.proofs.canon.output.Output.put_fields.Goals as goal
 
 pub loop-field-init : goal.loop-field-init

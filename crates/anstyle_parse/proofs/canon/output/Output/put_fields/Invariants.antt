@@ -1,9 +1,9 @@
 -- The text so far, and that of the fields that are left, are the whole text.
 use Rattle.std.proofs.Common.{◌≡◌, ◌++◌, List, ℕ, drop, map, decimal}
-use Rattle.anstyle_parse.specs.Bytes.{colon}
-use Rattle.anstyle_parse.specs.Groups.{fields_text}
-use Rattle.anstyle_parse.specs.Output.{Adds}
-use Rattle.anstyle_parse.proofs.JoinLemmas.{joined_rest}
+use Rattle.anstyle_parse.specs.Stream.Bytes.{colon}
+use Rattle.anstyle_parse.specs.Stream.Groups.{fields_text}
+use Rattle.anstyle_parse.specs.Writing.Output.{Adds}
+use Rattle.anstyle_parse.proofs.Lists.Joins.{joined_rest}
 use Rattle.anstyle_parse.proofs.canon.output.Output.put_fields.Given as goal
 
 abbrev pub invariant-loop-field : goal.invariant-loop-field

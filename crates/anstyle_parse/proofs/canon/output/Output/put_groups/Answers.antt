@@ -1,11 +1,11 @@
 -- One group more is done, with the separator before it.
 use Rattle.std.proofs.Common.{◌++◌, [], ◌∷◌, map, ap, ◌∙◌}
 use Rattle.std.specs.Prelude.{if◌then◌else◌}
-use Rattle.anstyle_parse.specs.Bytes.{semicolon}
-use Rattle.anstyle_parse.specs.Groups.{fields_text, groups_text}
-use Rattle.anstyle_parse.specs.Params.{groups_shown, groups_left}
-use Rattle.anstyle_parse.proofs.JoinLemmas.{joined_rest-more}
-use Rattle.anstyle_parse.proofs.OutputLemmas.{Adds-nil, Adds-append3}
+use Rattle.anstyle_parse.specs.Stream.Bytes.{semicolon}
+use Rattle.anstyle_parse.specs.Stream.Groups.{fields_text, groups_text}
+use Rattle.anstyle_parse.specs.Fields.Params.{groups_shown, groups_left}
+use Rattle.anstyle_parse.proofs.Lists.Joins.{joined_rest-more}
+use Rattle.anstyle_parse.proofs.Written.Output.{Adds-nil, Adds-append3}
 use Rattle.anstyle_parse.proofs.canon.output.Output.put_groups.Goals as goal
 
 pub loop-group-init : goal.loop-group-init

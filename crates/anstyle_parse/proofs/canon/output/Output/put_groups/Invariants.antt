@@ -1,10 +1,10 @@
 -- The text so far, and that of the groups that are left, are the whole text.
 use Rattle.std.proofs.Common.{◌≡◌, ◌++◌, List, ℕ, map}
-use Rattle.anstyle_parse.specs.Bytes.{semicolon}
-use Rattle.anstyle_parse.specs.Groups.{fields_text, groups_text}
-use Rattle.anstyle_parse.specs.Params.{groups_shown, groups_left}
-use Rattle.anstyle_parse.specs.Output.{Adds}
-use Rattle.anstyle_parse.proofs.JoinLemmas.{joined_rest}
+use Rattle.anstyle_parse.specs.Stream.Bytes.{semicolon}
+use Rattle.anstyle_parse.specs.Stream.Groups.{fields_text, groups_text}
+use Rattle.anstyle_parse.specs.Fields.Params.{groups_shown, groups_left}
+use Rattle.anstyle_parse.specs.Writing.Output.{Adds}
+use Rattle.anstyle_parse.proofs.Lists.Joins.{joined_rest}
 use Rattle.anstyle_parse.proofs.canon.output.Output.put_groups.Given as goal
 
 abbrev pub invariant-loop-group : goal.invariant-loop-group

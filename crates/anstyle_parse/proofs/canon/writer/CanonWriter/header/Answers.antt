@@ -1,11 +1,11 @@
 -- The parts of the header are written one after another.
 use Rattle.std.proofs.Common.{List, ℕ, [], ◌∷◌, subst}
-use Rattle.anstyle_parse.specs.Bytes.{escape_byte}
-use Rattle.anstyle_parse.specs.CanonWriter.{output_of}
-use Rattle.anstyle_parse.specs.Output.{Adds}
-use Rattle.anstyle_parse.specs.Params.{groups_shown}
-use Rattle.anstyle_parse.proofs.OutputLemmas.{Adds-append3}
-use Rattle.anstyle_parse.proofs.CanonWriterLemmas.{header_text-parts}
+use Rattle.anstyle_parse.specs.Stream.Bytes.{escape_byte}
+use Rattle.anstyle_parse.specs.Writing.CanonWriter.{output_of}
+use Rattle.anstyle_parse.specs.Writing.Output.{Adds}
+use Rattle.anstyle_parse.specs.Fields.Params.{groups_shown}
+use Rattle.anstyle_parse.proofs.Written.Output.{Adds-append3}
+use Rattle.anstyle_parse.proofs.Written.Canonical.{header_text-parts}
 use Rattle.anstyle_parse.proofs.canon.writer.CanonWriter.header.Goals as goal
 
 pub returns : goal.returns

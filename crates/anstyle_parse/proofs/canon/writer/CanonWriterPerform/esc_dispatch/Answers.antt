@@ -1,10 +1,10 @@
 -- The parts of the sequence are written one after another.
 use Rattle.std.proofs.Common.{List, ℕ, [], ◌∷◌, subst}
-use Rattle.anstyle_parse.specs.Bytes.{escape_byte}
-use Rattle.anstyle_parse.specs.CanonWriter.{output_of}
-use Rattle.anstyle_parse.specs.Output.{Adds}
-use Rattle.anstyle_parse.proofs.OutputLemmas.{Adds-append, Adds-append3}
-use Rattle.anstyle_parse.proofs.CanonWriterLemmas.{escape_text-parts}
+use Rattle.anstyle_parse.specs.Stream.Bytes.{escape_byte}
+use Rattle.anstyle_parse.specs.Writing.CanonWriter.{output_of}
+use Rattle.anstyle_parse.specs.Writing.Output.{Adds}
+use Rattle.anstyle_parse.proofs.Written.Output.{Adds-append, Adds-append3}
+use Rattle.anstyle_parse.proofs.Written.Canonical.{escape_text-parts}
 use Rattle.anstyle_parse.proofs.canon.writer.CanonWriterPerform.esc_dispatch.Goals as goal
 
 pub returns : goal.returns

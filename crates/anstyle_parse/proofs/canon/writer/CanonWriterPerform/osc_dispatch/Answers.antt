@@ -1,10 +1,10 @@
 -- The parts of the command are written one after another.
 use Rattle.std.proofs.Common.{List, ℕ, ◌∷◌, ◌++◌, map, ap, subst}
 use Rattle.std.specs.List.{join_with_byte}
-use Rattle.anstyle_parse.specs.Bytes.{escape_byte, semicolon}
-use Rattle.anstyle_parse.specs.CanonWriter.{output_of}
-use Rattle.anstyle_parse.specs.Output.{Adds}
-use Rattle.anstyle_parse.proofs.OutputLemmas.{Adds-append3}
+use Rattle.anstyle_parse.specs.Stream.Bytes.{escape_byte, semicolon}
+use Rattle.anstyle_parse.specs.Writing.CanonWriter.{output_of}
+use Rattle.anstyle_parse.specs.Writing.Output.{Adds}
+use Rattle.anstyle_parse.proofs.Written.Output.{Adds-append3}
 use Rattle.anstyle_parse.proofs.canon.writer.CanonWriterPerform.osc_dispatch.Goals as goal
 
 pub returns : goal.returns

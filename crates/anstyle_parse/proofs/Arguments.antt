@@ -1,0 +1,8 @@
+-- Headers and texts, byte by byte and whole.
+pub mod Decimals
+pub mod Lengths
+pub mod Groups
+pub mod Starts
+pub mod Shown
+pub mod HeaderFold
+pub mod TextFold

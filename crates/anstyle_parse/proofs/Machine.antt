@@ -1,0 +1,12 @@
+-- The machine alone: its steps, its limits, and machines that count as the same.
+pub mod Steps
+pub mod Table
+pub mod Packed
+pub mod Reaches
+pub mod Actions
+pub mod Counted
+pub mod CallCounts
+pub mod Limits
+pub mod Seen
+pub mod Unseen
+pub mod Equal

@@ -1,0 +1,6 @@
+-- What the further laws speak of: lawful lists of calls, the text of a checkpoint, the Debug
+-- text of parameters and its law.
+pub mod Lawful
+pub mod Checkpoint
+pub mod DebugText
+pub mod TextLaw

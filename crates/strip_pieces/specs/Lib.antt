@@ -1,0 +1,4 @@
+pub mod Room
+pub mod State
+pub mod Feed
+pub mod Saved

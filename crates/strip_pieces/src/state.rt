@@ -1,0 +1,58 @@
+//! The state of a stream between its pieces.
+ghost use Rattle.std.specs.Prelude.{◌≡◌, [], ℕ, List};
+ghost use Rattle.anstyle_parse.specs.Fields.Accumulator.{front_of};
+ghost use Rattle.anstyle_parse.specs.Fields.Parser.{IsAfter};
+ghost use Rattle.strip_pieces.specs.State.{pending_of, StandsFor};
+
+use crate::saved::Saved;
+use crate::silent::Silent;
+use anstyle_parse::canon::checkpoint;
+use anstyle_parse::{Parser, Utf8Parser};
+
+/// The bytes that a state holds at most: those of the longest checkpoint.
+pub(crate) const MAX_PENDING: usize = 1042;
+
+/// Where a stream stands between two pieces.
+///
+/// It holds bytes after which a new parser stands there. So any bytes in it are a valid state,
+/// and zero bytes are one that begins a stream. It owns nothing, and may be copied or
+/// written down.
+#[repr(C)]
+#[derive(Clone, Copy)]
+pub struct StreamState {
+    /// How many bytes are pending; a number above 1,042 counts for 1,042.
+    pub length: usize,
+    pub pending: [u8; MAX_PENDING],
+}
+
+impl StreamState {
+    /// A state that begins a stream.
+    pub fn new() -> StreamState
+        ensures empty { pending_of result ≡ [] }
+        ensures begins { StandsFor result [] }
+    {
+        StreamState {
+            length: 0,
+            pending: [0; MAX_PENDING],
+        }
+    }
+
+    /// A parser that stands where the stream stands.
+    pub(crate) fn resume(&self) -> Parser
+        ensures { (before : List ℕ) → StandsFor self.now before → IsAfter front_of result before }
+    {
+        let mut parser = Parser::<Utf8Parser>::new();
+        let length = self.length.min(MAX_PENDING);
+        parser.advance_all(&mut Silent, &self.pending[..length]);
+        parser
+    }
+
+    /// Stands where the parser stands.
+    pub(crate) fn save(&mut self, parser: &Parser)
+        requires { (before : List ℕ) × IsAfter front_of parser.now before }
+        ensures { (before : List ℕ) → IsAfter front_of parser.now before → StandsFor self.new before }
+    {
+        let (saved, _) = checkpoint(parser, Saved::new());
+        *self = saved.into_state();
+    }
+}

@@ -163,9 +163,14 @@ impl<W: Sink> CallWriter<W> for HtmlWriter<W> {
         }
     }
 
-    fn into_output(mut self) -> Output<W> {
-        put_span_end(&mut self.output, self.shown);
-        self.output
+    fn into_output(self) -> Output<W> {
+        let HtmlWriter {
+            mut output,
+            shown,
+            ..
+        } = self;
+        put_span_end(&mut output, shown);
+        output
     }
 
     ghost adds = { Adds-html W.contents W.has_failed };

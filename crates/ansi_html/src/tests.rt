@@ -1,0 +1,155 @@
+use crate::convert;
+use anstyle_parse::canon::{FromRead, FromWrite};
+use std::alloc::Global;
+use std::process::Abort;
+
+// The HTML of these bytes.
+fn html(alloc: Global, bytes: &[u8]) -> Vec<u8> {
+    let mut reader = FromRead::new(bytes);
+    let (sink, _answer) = convert(b"", &mut reader, FromWrite::new(Vec::new(alloc)), b"");
+    sink.into_inner()
+}
+
+fn assert_rows(rt: &(impl Abort + AllocGlobal), rows: &[(&[u8], &[u8])]) {
+    for (bytes, expected) in rows {
+        let written = html(rt.alloc(), bytes);
+        assert_eq!(rt; written.as_slice(), *expected, "{bytes:?}");
+    }
+}
+
+// Text is escaped, and nothing but text is written.
+#[test]
+fn text(rt: HostRuntime) {
+    assert_rows(
+        &rt,
+        &[
+            (b"", b""),
+            (b"plain\tx\r\n", b"plain\tx\r\n"),
+            (b"<b>&\"'</b>", b"&lt;b&gt;&amp;&quot;&#39;&lt;/b&gt;"),
+            (b"&amp;&#60;", b"&amp;amp;&amp;#60;"),
+            (
+                "n\u{e4}\u{ef}ve \u{20ac} \u{1f600}".as_bytes(),
+                "n\u{e4}\u{ef}ve \u{20ac} \u{1f600}".as_bytes(),
+            ),
+            // A character that is broken off by `<`; bytes that begin no character.
+            (b"\xC3<b", "\u{FFFD}&lt;b".as_bytes()),
+            (b"\xFFa\x80\x9Bb", b"ab"),
+            (b"a\x00\x07\x08\x0Bb", b"ab"),
+            (b"\x1B]0;<script>alert(1)</script>\x07x", b"x"),
+            (
+                b"\x1B]8;;javascript:alert(1)\x1B\\link\x1B]8;;\x1B\\",
+                b"link",
+            ),
+            (b"\x1BPq<b>\x1B\\\x1B_<b>\x9C\x1B[2J\x1B[?25lx", b"x"),
+        ],
+    );
+}
+
+// One span for each run of equal style, opened before text and closed at the end.
+#[test]
+fn spans(rt: HostRuntime) {
+    assert_rows(
+        &rt,
+        &[
+            (
+                b"\x1B[1mb\x1B[m.",
+                b"<span style=\"font-weight:bold;\">b</span>.",
+            ),
+            (b"\x1B[1mb", b"<span style=\"font-weight:bold;\">b</span>"),
+            (b"\x1B[1m\x1B[m\x1B[1m", b""),
+            (
+                b"\x1B[1ma\x1B[22;1mb",
+                b"<span style=\"font-weight:bold;\">ab</span>",
+            ),
+            (
+                b"\x1B[1ma\x1B[3mb",
+                b"<span style=\"font-weight:bold;\">a</span><span style=\"font-weight:bold;font-style:italic;\">b</span>",
+            ),
+            (
+                b"\x1B[1ma\nb",
+                b"<span style=\"font-weight:bold;\">a\nb</span>",
+            ),
+            (b"\x1B[8mx", b"<span style=\"visibility:hidden;\">x</span>"),
+            (b"\x1B[2mx", b"<span style=\"opacity:.7;\">x</span>"),
+            (
+                b"\x1B[4:3;53;9;5mx",
+                b"<span style=\"text-decoration-line: underline overline line-through blink;text-decoration-style:wavy;\">x</span>",
+            ),
+            (
+                b"\x1B[4mx",
+                b"<span style=\"text-decoration-line: underline;\">x</span>",
+            ),
+        ],
+    );
+}
+
+#[test]
+fn colours(rt: HostRuntime) {
+    assert_rows(
+        &rt,
+        &[
+            (
+                b"\x1B[31mx",
+                b"<span style=\"color:light-dark(#cf222e,#ff7b72);\">x</span>",
+            ),
+            (
+                b"\x1B[97mx",
+                b"<span style=\"color:light-dark(#656d76,#ffffff);\">x</span>",
+            ),
+            (
+                b"\x1B[41mx",
+                b"<span style=\"background-color:light-dark(#ff7b72,#cf222e);\">x</span>",
+            ),
+            // On a ground that the stream coloured, xterm's red and yellow.
+            (
+                b"\x1B[33;41mx",
+                b"<span style=\"color:#cdcd00;background-color:#cd0000;\">x</span>",
+            ),
+            (
+                b"\x1B[38;2;1;171;255mx",
+                b"<span style=\"color:#01abff;\">x</span>",
+            ),
+            // xterm's cube and greys: 16, 196, 231, 232, 255.
+            (
+                b"\x1B[38;5;16mx",
+                b"<span style=\"color:#000000;\">x</span>",
+            ),
+            (
+                b"\x1B[38;5;196mx",
+                b"<span style=\"color:#ff0000;\">x</span>",
+            ),
+            (
+                b"\x1B[38;5;67mx",
+                b"<span style=\"color:#5f87af;\">x</span>",
+            ),
+            (
+                b"\x1B[38;5;231mx",
+                b"<span style=\"color:#ffffff;\">x</span>",
+            ),
+            (
+                b"\x1B[38;5;232mx",
+                b"<span style=\"color:#080808;\">x</span>",
+            ),
+            (
+                b"\x1B[38;5;255mx",
+                b"<span style=\"color:#eeeeee;\">x</span>",
+            ),
+            (
+                b"\x1B[38;5;9mx",
+                b"<span style=\"color:light-dark(#a40e26,#ffa198);\">x</span>",
+            ),
+            (
+                b"\x1B[7mx",
+                b"<span style=\"color:Canvas;background-color:CanvasText;\">x</span>",
+            ),
+            (
+                b"\x1B[7;31mx",
+                b"<span style=\"color:Canvas;background-color:light-dark(#cf222e,#ff7b72);\">x</span>",
+            ),
+            (
+                b"\x1B[7;33;41mx",
+                b"<span style=\"color:#cd0000;background-color:#cdcd00;\">x</span>",
+            ),
+        ],
+    );
+}

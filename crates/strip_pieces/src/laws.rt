@@ -1,7 +1,7 @@
 //! Laws of texts of pieces, as the contract of a function that does nothing.
 ghost use Rattle.std.specs.Prelude.{◌≡◌, ℕ, List, [], ◌++◌};
-ghost use Rattle.anstyle_parse.specs.Call.{Call};
-ghost use Rattle.anstyle_parse.specs.Calls.{AreCalls};
+ghost use Rattle.anstyle_parse.specs.Stream.Call.{Call};
+ghost use Rattle.anstyle_parse.specs.Stream.Calls.{AreCalls};
 ghost use Rattle.ansi_strip.specs.Strip.{stripped};
 ghost use Rattle.strip_pieces.specs.Feed.{IsTextOf};
 

@@ -1,13 +1,14 @@
 -- Text as HTML.
 use Rattle.std.proofs.Common.{◌≡◌, ◌≢◌, ◌<◌, ◌≤◌, ℕ, Bool, true, false, ⊎_elim, ◌||◌, eqb, List, [], ◌∷◌, ◌++◌, length, refl, sym, ap, ◌∙◌, subst, arith}
-use Rattle.std.specs.Prelude.{not, encode_utf8}
+use Rattle.std.specs.Prelude.{not, encode_utf8, if◌then◌else◌}
 use Rattle.std.specs.List.{AllByRecursion}
 use Rattle.std.proofs.lemmas.Bool.{ne_eqb, eqb-true, cases_lt, or_parts, or_cases}
 use Rattle.anstyle_parse.proofs.Characters.Scalars.{length-encode-some}
 use Rattle.anstyle_parse.proofs.Characters.Encoding.{encode_one, encode_two, encode_three, encode_four}
 use Rattle.ansi_strip.specs.Strip.{is_layout}
 use Rattle.ansi_style.specs.declared.style.Style.{Style}
-use Rattle.ansi_html.specs.Page.{escaped, escaped_text, change, text_html, shown_after}
+use Rattle.ansi_style.proofs.EqualityLemmas.{are_equal-refl}
+use Rattle.ansi_html.specs.Page.{escaped, escaped_text, change, text_html, shown_after, span_begin, span_end}
 use Rattle.ansi_html.specs.Grammar.{is_special}
 
 pub false-from_not : (b : Bool) → not b ≡ true → b ≡ false
@@ -104,3 +105,7 @@ AreClear-layout b is = (layout_clear b is, tt)
 pub text_html-layout : (shown style : Style) (b : ℕ) → is_layout b ≡ true → text_html shown style (b ∷ []) ≡ change shown style ++ (b ∷ [])
 text_html-layout shown style b is =
     text_html-some shown style (b ∷ []) (omega arith) ∙ ap (λ l. change shown style ++ l) (escaped_text-clear (b ∷ []) (AreClear-layout b is))
+
+-- where the style stays nothing changes
+pub change-same : (style : Style) → change style style ≡ []
+change-same style = ap (λ (same : Bool). if same then [] else span_end style ++ span_begin style) (are_equal-refl style)

@@ -1,5 +1,5 @@
 -- What a writer of HTML shows, and what a call does to it.
-use Rattle.std.specs.Prelude.{◌≡◌, ℕ, Bool, List, Option}
+use Rattle.std.specs.Prelude.{◌≡◌, ℕ, Bool, List, Option, unwrap_or}
 use Rattle.anstyle_parse.specs.declared.canon.output.Output.{Output}
 use Rattle.anstyle_parse.specs.Stream.Call.{Call}
 use Rattle.anstyle_parse.specs.Writing.Output.{Adds}
@@ -10,15 +10,19 @@ use Rattle.ansi_style.specs.Rendition.{style_after}
 use Rattle.ansi_html.specs.declared.performer.HtmlWriter.{HtmlWriter}
 use Rattle.ansi_html.specs.Page.{text_html, shown_after, span_end}
 
--- the output that it writes to; the style that is selected; the style of the last text
+-- the output that it writes to; the style of the last text; the style that is selected, which is
+-- that one where no other has been selected since
 abbrev pub output_of : {W : Type 0} → HtmlWriter W → Output W
 output_of performer = performer.output
 
-abbrev pub style_of : {W : Type 0} → HtmlWriter W → Style
-style_of performer = performer.style
-
 abbrev pub shown_of : {W : Type 0} → HtmlWriter W → Style
 shown_of performer = performer.shown
+
+abbrev pub next_of : {W : Type 0} → HtmlWriter W → Option Style
+next_of performer = performer.next
+
+abbrev pub style_of : {W : Type 0} → HtmlWriter W → Style
+style_of performer = unwrap_or (next_of performer) (shown_of performer)
 
 -- plain text, and no span is open
 pub record IsNew {W : Type 0} (performer : HtmlWriter W) : Type 0 where

@@ -24,15 +24,15 @@ use anstyle_parse::{Params, Perform};
 #[derive(Drop)]
 pub struct HtmlWriter<W> {
     output: Output<W>,
-    /// The style that is selected for what comes.
-    style: Style,
     /// The style of the last text; plain where no span is open.
     shown: Style,
+    /// The style that is selected for what comes, where a sequence has selected one since.
+    next: Option<Style>,
 }
 
 impl<W: Sink> HtmlWriter<W> {
-    ghost use Rattle.std.specs.Prelude.{◌∷◌};
-    ghost use Rattle.ansi_html.specs.Writer.{output_of, style_of, shown_of};
+    ghost use Rattle.std.specs.Prelude.{◌∷◌, None};
+    ghost use Rattle.ansi_html.specs.Writer.{output_of, style_of, shown_of, next_of};
 
     /// Text of the selected style may follow.
     #[inline]
@@ -41,10 +41,22 @@ impl<W: Sink> HtmlWriter<W> {
         ensures shown { shown_of self.new ≡ style_of self.old }
         ensures added { Adds W.contents W.has_failed (change (shown_of self.old) (style_of self.old)) (output_of self.old) (output_of self.new) }
     {
-        if self.shown != self.style {
+        if let Some(style) = self.next {
+            self.change_to(style);
+        }
+    }
+
+    /// Text of this style may follow.
+    fn change_to(&mut self, style: Style)
+        ensures next { next_of self.new ≡ None }
+        ensures shown { shown_of self.new ≡ style }
+        ensures added { Adds W.contents W.has_failed (change (shown_of self.old) style) (output_of self.old) (output_of self.new) }
+    {
+        self.next = None;
+        if self.shown != style {
             put_span_end(&mut self.output, self.shown);
-            put_span_begin(&mut self.output, self.style);
-            self.shown = self.style;
+            put_span_begin(&mut self.output, style);
+            self.shown = style;
         }
     }
 }
@@ -120,8 +132,9 @@ impl<W: Sink> Perform for HtmlWriter<W> {
     fn osc_dispatch(&mut self, _params: &[&[u8]], _bell_terminated: bool) {}
 
     fn csi_dispatch(&mut self, params: &Params, intermediates: &[u8], ignore: bool, action: u8) {
-        self.style
-            .csi_dispatch(params, intermediates, ignore, action);
+        let mut style = self.next.unwrap_or(self.shown);
+        style.csi_dispatch(params, intermediates, ignore, action);
+        self.next = Some(style);
     }
 
     fn esc_dispatch(&mut self, _intermediates: &[u8], _ignore: bool, _byte: u8) {}
@@ -158,8 +171,8 @@ impl<W: Sink> CallWriter<W> for HtmlWriter<W> {
     {
         HtmlWriter {
             output,
-            style: Style::default(),
             shown: Style::default(),
+            next: None,
         }
     }
 

@@ -1,33 +1,24 @@
-use Rattle.std.proofs.Common.{[], ◌++◌, Bool, sym, ◌∙◌, subst}
-use Rattle.std.specs.Prelude.{if◌then◌else◌}
+use Rattle.std.proofs.Common.{Option, sym, ap, ◌∙◌, subst}
+use Rattle.std.specs.Prelude.{unwrap_or}
 use Rattle.anstyle_parse.specs.Writing.Output.{Adds}
-use Rattle.anstyle_parse.proofs.Written.Output.{Adds-nil, Adds-append}
-use Rattle.ansi_style.specs.Style.{are_equal}
-use Rattle.ansi_style.proofs.EqualityLemmas.{are_equal-same}
-use Rattle.ansi_html.specs.Page.{span_begin, span_end}
-use Rattle.ansi_html.proofs.PageLemmas.{false-from_not, true-from_not}
+use Rattle.anstyle_parse.proofs.Written.Output.{Adds-nil}
+use Rattle.ansi_style.specs.declared.style.Style.{Style}
+use Rattle.ansi_html.specs.Page.{change}
+use Rattle.ansi_html.specs.Writer.{output_of, shown_of}
+use Rattle.ansi_html.proofs.PageLemmas.{change-same}
 use Rattle.ansi_html.proofs.performer.HtmlWriter.begin_text.Goals as goal
 
-pub returns-then-ne-clause-added : goal.returns-then-ne-clause-added
-unfolding are_equal
-returns-then-ne-clause-added g c =
+pub returns-in-Some-clause-added : goal.returns-in-Some-clause-added
+returns-in-Some-clause-added g c =
     let before = c.args.self.now in
-    let text = span_end before.shown ++ span_begin before.style in
-    let other = false-from_not (are_equal before.shown before.style) (sym c.ne.ensures ∙ c.if-ne.true) in
-    subst (λ (same : Bool). Adds g.W.Sink.contents g.W.Sink.has_failed (if same then [] else text) before.output c.put_span_begin.new.output) (sym other)
-    (Adds-append g.W.Sink.contents g.W.Sink.has_failed (span_end before.shown) (span_begin before.style) before.output c.put_span_end.new.output c.put_span_begin.new.output c.put_span_end.ensures c.put_span_begin.ensures)
+    let shown = shown_of before in
+    subst (λ (next : Option Style). Adds g.W.Sink.contents g.W.Sink.has_failed (change shown (unwrap_or next shown)) (output_of before) (output_of c.change_to.new.self)) (sym c.in-Some.is)
+    c.change_to.ensures.added
 
-pub returns-else-ne-clause-shown : goal.returns-else-ne-clause-shown
-unfolding are_equal
-returns-else-ne-clause-shown g c =
+pub returns-in_default-clause-added : goal.returns-in_default-clause-added
+returns-in_default-clause-added g c =
     let before = c.args.self.now in
-    are_equal-same before.shown before.style (true-from_not (are_equal before.shown before.style) (sym c.ne.ensures ∙ c.if-ne.false))
-
-pub returns-else-ne-clause-added : goal.returns-else-ne-clause-added
-unfolding are_equal
-returns-else-ne-clause-added g c =
-    let before = c.args.self.now in
-    let text = span_end before.shown ++ span_begin before.style in
-    let same = true-from_not (are_equal before.shown before.style) (sym c.ne.ensures ∙ c.if-ne.false) in
-    subst (λ (same : Bool). Adds g.W.Sink.contents g.W.Sink.has_failed (if same then [] else text) before.output before.output) (sym same)
-    (Adds-nil g.W.Sink.contents g.W.Sink.has_failed before.output)
+    let shown = shown_of before in
+    let none = ap (λ (next : Option Style). change shown (unwrap_or next shown)) c.in_default.is ∙ change-same shown in
+    subst (λ text. Adds g.W.Sink.contents g.W.Sink.has_failed text (output_of before) (output_of before)) (sym none)
+    (Adds-nil g.W.Sink.contents g.W.Sink.has_failed (output_of before))

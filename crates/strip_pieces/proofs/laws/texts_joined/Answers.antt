@@ -1,6 +1,6 @@
 -- Calls that continue one another.
 use Rattle.std.proofs.Common.{[], ◌++◌, ap, sym, ◌∙◌}
-use Rattle.anstyle_parse.proofs.CanonItems.{AreCalls-nil}
+use Rattle.anstyle_parse.proofs.Canonical.Items.{AreCalls-nil}
 use Rattle.ansi_strip.specs.Strip.{stripped}
 use Rattle.strip_pieces.proofs.FeedLemmas.{Continues-append, stripped-append}
 use Rattle.strip_pieces.proofs.laws.texts_joined.Goals as goal

@@ -28,16 +28,18 @@ fn assert_stripped(
 ) {
     let mut state = StreamState::new();
     let mut text = Vec::new(rt.alloc());
-    let mut at = 0;
-    while at < stream.len() {
-        let end = stream.len().min(at.saturating_add(size));
+    let mut rest = stream;
+    assert!(rt; room <= 64);
+    // (each call takes at least one byte of some)
+    for _ in 0..stream.len() {
         let mut bytes = [0x7e; 64];
-        let fed = state.feed(&stream[at..end], &mut bytes[..room]);
+        let count = rest.len().min(size);
+        let fed = state.feed(&rest[..count], &mut bytes[..room]);
         let fed = fed.expect(rt, "there is room");
         text.extend_from_slice(&bytes[..fed.written])
             .expect(rt, "memory");
         assert!(rt; bytes[fed.written..].iter().all(|byte| *byte == 0x7e));
-        at += fed.taken;
+        rest = &rest[fed.taken..];
     }
     assert_eq!(rt; text.as_slice(), left, "{size}, {room}");
 }

@@ -55,7 +55,7 @@ pub trait CharAccumulator: Default {
         ensures after { self.new ≡ (taken self.old byte).0 }
         ensures answer { result ≡ (taken self.old byte).1 };
 
-    /// The whole character that begins with `first` and goes on in `after`, and what is after
+    /// The whole character that begins with `first` and goes on in `behind`, and what comes after
     /// it: what `take` would answer if it were given these bytes one by one, after which the value
     /// would be as it is. Nothing may always be the answer.
     fn whole<'a>(&self, _first: u8, _behind: &'a [u8]) -> Option<(char, &'a [u8])>

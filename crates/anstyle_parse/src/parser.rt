@@ -413,7 +413,7 @@ impl<C: CharAccumulator> Parser<C> {
     }
 
     /// The first byte of a character.
-    #[inline(always)]
+    #[inline]
     fn accumulate<P: Perform>(&mut self, performer: &mut P, byte: u8)
         requires { C.takes self.old.accumulator byte }
         ensures machine { machine_of self.new ≡ after_action C.taken Action.BeginUtf8 byte (machine_of self.old) }

@@ -40,7 +40,7 @@ impl Front {
     }
 }
 
-/// The whole character that begins with `a` and goes on in `after`, and what is after it.
+/// The whole character that begins with `a` and goes on in `behind`, and what comes after it.
 #[inline(always)]
 pub fn whole<'a>(a: u8, behind: &'a [u8]) -> Option<(char, &'a [u8])>
     ensures { IfSome result (λ answer. BeginWithWhole (a ∷ behind.now) answer.0 answer.1.now) }

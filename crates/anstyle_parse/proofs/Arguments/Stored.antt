@@ -1,7 +1,6 @@
 -- The text of an operating system command, stored at once.
-use Rattle.std.proofs.Common.{◌≡◌, ◌≢◌, ℕ, ◌+◌, ◌<◌, ◌≤◌, Bool, true, false, IsTrue, List, [], ◌∷◌, ◌++◌, length, take, drop, ⊎_elim, inl, inr, refl, ap, sym, ◌∙◌, subst, arith, append_assoc, length-append}
+use Rattle.std.proofs.Common.{◌≡◌, ℕ, ◌+◌, ◌<◌, ◌≤◌, IsTrue, List, [], ◌∷◌, ◌++◌, length, take, drop, ⊎_elim, inl, inr, ap, sym, ◌∙◌, arith, append_assoc, length-append}
 use Rattle.std.specs.Prelude.{nat_le, not, ◌==◌, Result, Ok, Err}
-use Rattle.std.specs.List.{concat}
 use Rattle.std.specs.Result.{IsOk, OnOk}
 use Rattle.std.proofs.lemmas.Bool.{and_parts, leb-true, eqb-false, not-true}
 use Rattle.std.proofs.lemmas.List.{append-nil, take-append-le, drop-append-le}
@@ -9,7 +8,7 @@ use Rattle.anstyle_parse.specs.declared.state.definitions.State.TheVariants.{Osc
 use Rattle.anstyle_parse.specs.Stream.Bytes.{is_within, semicolon}
 use Rattle.anstyle_parse.specs.Stream.Arguments.{max_osc_bytes}
 use Rattle.anstyle_parse.specs.Stream.Groups.{cut, total}
-use Rattle.anstyle_parse.specs.Machine.Step.{Machine, AccumulatorStep, stored_count, after_osc_put, step, step_calls, machine_after, machine_calls}
+use Rattle.anstyle_parse.specs.Machine.Step.{Machine, AccumulatorStep, stored_count, step, step_calls, machine_after, machine_calls}
 use Rattle.anstyle_parse.specs.declared.parser.Parser.{Parser}
 use Rattle.anstyle_parse.specs.Fields.Parser.{CanTakeAll, AreBelow}
 use Rattle.anstyle_parse.specs.Fields.Runs.{ArePassing, is_plain_text}

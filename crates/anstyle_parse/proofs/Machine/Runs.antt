@@ -1,5 +1,5 @@
 -- Runs one after another, and the runs of each kind of bytes.
-use Rattle.std.proofs.Common.{◌≡◌, ℕ, ◌<◌, ◌≤◌, ◌⊎◌, arith, Bool, true, IsTrue, cond, eqb, refl, List, length, [], ◌∷◌, ◌++◌, ⊎_elim, inl, inr, map, take, drop, ap, sym, ◌∙◌, subst}
+use Rattle.std.proofs.Common.{◌≡◌, ℕ, ◌<◌, ◌≤◌, ◌⊎◌, arith, Bool, IsTrue, cond, eqb, refl, List, length, [], ◌∷◌, ◌++◌, ⊎_elim, inl, map, take, drop, ap, sym, ◌∙◌, subst}
 use Rattle.std.specs.Prelude.{nat_le}
 use Rattle.std.specs.List.{range_with_len}
 use Rattle.std.proofs.lemmas.List.{take-append-drop}
@@ -18,7 +18,7 @@ use Rattle.anstyle_parse.specs.Stream.Characters.{is_lead}
 use Rattle.anstyle_parse.specs.Stream.Arguments.{max_fields, max_osc_bytes, max_osc_parts}
 use Rattle.anstyle_parse.specs.Stream.Call.{Call, Goes, print}
 use Rattle.anstyle_parse.specs.Machine.Table.{Change, ◌by◌, change_at}
-use Rattle.anstyle_parse.specs.Machine.Step.{Machine, AccumulatorStep, Completes, IsWhole, print_answer, state_after_answer, after_answer, answer_calls, after_change, change_calls, after_action, action_calls, field_count, after_param, stored_count, after_osc_put, step, step_calls, machine_after, machine_calls}
+use Rattle.anstyle_parse.specs.Machine.Step.{Machine, AccumulatorStep, Completes, IsWhole, print_answer, state_after_answer, after_answer, answer_calls, after_change, change_calls, field_count, after_param, stored_count, after_osc_put, step, step_calls, machine_after, machine_calls}
 use Rattle.anstyle_parse.specs.Fields.Parser.{machine_of, CanTakeAll}
 use Rattle.anstyle_parse.specs.Fields.Runs.{LeadsTo, LeadsQuietlyTo, KeepsTo, passes, passed_action, passed_calls, ArePassing, ArePassedOn}
 use Rattle.anstyle_parse.proofs.Machine.Steps.{Goes-append, after_change-moves, step-at, step_calls-at, step-outside, step_calls_from-outside}

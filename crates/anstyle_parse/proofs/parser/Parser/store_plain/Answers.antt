@@ -1,9 +1,9 @@
-use Rattle.std.proofs.Common.{◌≡◌, ◌≤◌, ◌+◌, ◌++◌, List, ℕ, length, take, drop, refl, ap, arith, sym, subst, ◌∙◌}
+use Rattle.std.proofs.Common.{◌≡◌, ◌≤◌, ◌+◌, ◌++◌, List, ℕ, length, take, drop, ap, arith, sym, subst, ◌∙◌}
 use Rattle.std.proofs.lemmas.List.{take-take}
 use Rattle.anstyle_parse.specs.Stream.Groups.{cut}
 use Rattle.anstyle_parse.specs.Fields.Parser.{machine_of, CanTakeAll}
 use Rattle.anstyle_parse.specs.Machine.Step.{Machine, machine_after, machine_calls}
-use Rattle.anstyle_parse.specs.Fields.Runs.{ArePassing, LeadsQuietlyTo, is_plain_text}
+use Rattle.anstyle_parse.specs.Fields.Runs.{ArePassing, is_plain_text}
 use Rattle.anstyle_parse.proofs.Arguments.Lengths.{stored_total}
 use Rattle.anstyle_parse.proofs.Machine.Steps.{same_parts}
 use Rattle.anstyle_parse.proofs.Arguments.Stored.{on_ok, cut_longer, drop_longer, CanTakeAll-later, stored_run}

@@ -1,4 +1,3 @@
-use Rattle.std.proofs.Common.{sym, ◌∙◌}
 use Rattle.anstyle_parse.proofs.Machine.Runs.{KeepsTo-printed, change_at-control, length-Completes, LeadsTo-byte, LeadsTo-whole}
 use Rattle.anstyle_parse.proofs.parser.Parser.take_in_ground.Goals as goal
 

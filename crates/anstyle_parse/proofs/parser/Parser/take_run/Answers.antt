@@ -1,4 +1,3 @@
-use Rattle.std.proofs.Common.{inl, inr}
 use Rattle.anstyle_parse.proofs.Machine.Runs.{KeepsTo-passed, KeepsTo-string, KeepsTo-header}
 use Rattle.anstyle_parse.proofs.parser.Parser.take_run.Goals as goal
 

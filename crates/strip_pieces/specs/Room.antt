@@ -6,7 +6,7 @@ use Rattle.strip_pieces.specs.declared.room.Room.{Room}
 abbrev pub with_text : ℕ → List ℕ → List ℕ → List ℕ
 with_text place text bytes = take place bytes ++ text ++ drop (place + length text) bytes
 
--- The text is put behind what is written, where there is room for it.
+-- The text is put after what is written, where there is room for it.
 pub record Puts (text : List ℕ) (old new : Room) : Type 0 where
   pub same_reference : new.into.ghost_name ≡ old.into.ghost_name
   pub written : old.written + length text ≤ length old.into.now → new.written ≡ old.written + length text

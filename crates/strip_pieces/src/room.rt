@@ -4,7 +4,7 @@ ghost use Rattle.ansi_strip.specs.Strip.{stripped_call};
 
 use anstyle_parse::{Params, Perform};
 
-/// Writes what is left of each call behind what is written, as far as there is room.
+/// Writes what is left of each call after what is written, as far as there is room.
 #[derive(Drop)]
 pub(crate) struct Room<'a> {
     into: &'a mut [u8],

@@ -1,11 +1,13 @@
 #!/usr/bin/env python3
 """Counts what the parser alone costs for each input byte, with a performer that counts.
 
-Usage: bench/count.py [--peer COMMAND] [--bytes N] FOLDER
+Usage: bench/count.py [--peer COMMAND] [--bytes N] [--piece N] FOLDER
 
 FOLDER, outside the repository, is where a small repository of the parser and the counting
 program count.rt.txt is made, proved and built. A peer is run as `COMMAND bench FILE REPEAT`.
-The figures are instructions of `valgrind --tool=callgrind`: two passes less one pass.
+The figures are instructions of `valgrind --tool=callgrind`: two passes less one pass. With
+--piece the bytes go in pieces of that size, and with --piece 0 each by `advance`. Where
+libvterm is installed (Debian's libvterm-dev), its parser is measured too.
 """
 
 import argparse
@@ -34,28 +36,46 @@ def build(folder):
     return program
 
 
+def build_vterm(folder):
+    """The same count by libvterm's parser, where gcc and libvterm are there."""
+    program = os.path.join(folder, "vterm")
+    command = ["gcc", "-O2", "-o", program, os.path.join(HERE, "vterm.c"), "-lvterm"]
+    try:
+        done = subprocess.run(command, stderr=subprocess.DEVNULL)
+    except FileNotFoundError:
+        return None
+    return program if done.returncode == 0 else None
+
+
 def main():
     parser = argparse.ArgumentParser(description=__doc__, formatter_class=argparse.RawDescriptionHelpFormatter)
     parser.add_argument("--peer")
     parser.add_argument("--bytes", type=int, default=1 << 18)
+    parser.add_argument("--piece", type=int)
     parser.add_argument("folder")
     options = parser.parse_args()
     program = build(options.folder)
+    vterm = build_vterm(options.folder)
+    piece = [] if options.piece is None else [str(options.piece)]
 
-    def cost(command, path):
-        once, twice = [measure.instructions(command + [path, str(n)], os.devnull) for n in (1, 2)]
+    def cost(command, path, more=()):
+        once, twice = [measure.instructions(command + [path, str(n), *more], os.devnull) for n in (1, 2)]
         return (twice - once) / options.bytes
 
-    print("%-12s %12s" % ("count", "instr/byte") + ("   %12s %7s" % ("peer", "ratio") if options.peer else ""))
+    head = "%-12s %12s" % ("count", "instr/byte")
+    head += "   %12s %7s" % ("peer", "ratio") if options.peer else ""
+    print(head + ("   %12s" % "libvterm" if vterm else ""))
     for make_line in measure.CORPORA:
         path = os.path.join(options.folder, make_line.__name__)
         with open(path, "wb") as file:
             file.write(measure.corpus(make_line, options.bytes))
-        ours = cost([program], path)
+        ours = cost([program], path, piece)
         row = "%-12s %12.1f" % (make_line.__name__, ours)
         if options.peer:
             other = cost([options.peer, "bench"], path)
             row += "   %12.1f %7.2f" % (other, ours / other)
+        if vterm:
+            row += "   %12.1f" % cost([vterm], path)
         print(row, flush=True)
 
 

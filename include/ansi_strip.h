@@ -46,9 +46,9 @@ extern "C" {
 
 /* Where a stream stands between two pieces: 1,056 bytes, which belong to the caller.
  *
- * One of zero bytes begins a stream, and so does one that ansi_strip_init was given. Any bytes
- * in it are valid. It may be copied, also to another place or another process of a machine of
- * the same kind: the copy goes on as the first does. */
+ * One of zero bytes begins a stream (`= {0}` in C, `= {}` in C++), and so does one that
+ * ansi_strip_init was given. Any bytes in it are valid. It may be copied, also to another
+ * process: the copy goes on as the first does. */
 typedef struct ansi_strip {
     size_t length;
     unsigned char pending[1042];

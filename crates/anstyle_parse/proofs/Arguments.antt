@@ -6,3 +6,4 @@ pub mod Starts
 pub mod Shown
 pub mod HeaderFold
 pub mod TextFold
+pub mod Stored

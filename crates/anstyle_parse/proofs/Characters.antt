@@ -4,3 +4,4 @@ pub mod Tests
 pub mod Decoder
 pub mod Encoding
 pub mod Scalars
+pub mod Whole

@@ -10,3 +10,4 @@ pub mod Limits
 pub mod Seen
 pub mod Unseen
 pub mod Equal
+pub mod Runs

@@ -5,3 +5,4 @@ pub mod Parser
 pub mod Front
 pub mod Accumulator
 pub mod Decoding
+pub mod Runs

@@ -1,11 +1,12 @@
 //! Accumulators of characters: what puts the bytes of one character together.
-ghost use Rattle.std.specs.Prelude.{◌≡◌, ◌<◌, ℕ, List, [], Option, Some, Bool, true, false, IsTrue, refl, ⊤};
+ghost use Rattle.std.specs.Prelude.{◌≡◌, ◌<◌, ℕ, List, [], Option, Some, IfSome, Bool, true, false, IsTrue, refl, ⊤};
 ghost use Rattle.std.proofs.Common.{ap};
 ghost use Rattle.std.proofs.lemmas.Bool.{false≢true};
 ghost use Rattle.anstyle_parse.specs.declared.accumulator.Taken.{Taken};
 ghost use Rattle.anstyle_parse.specs.Machine.Stands.{Decodes};
+ghost use Rattle.anstyle_parse.specs.Machine.Step.{IsWhole};
 
-use crate::utf8::Front;
+use crate::utf8::{Front, whole};
 
 /// What an accumulator answers to a byte that it takes.
 #[derive(Debug, Clone, Copy, PartialEq, Eq)]
@@ -53,6 +54,15 @@ pub trait CharAccumulator: Default {
         requires { takes self.old byte }
         ensures after { self.new ≡ (taken self.old byte).0 }
         ensures answer { result ≡ (taken self.old byte).1 };
+
+    /// The whole character that begins with `first` and goes on in `behind`, and what comes after
+    /// it: what `take` would answer if it were given these bytes one by one, after which the value
+    /// would be as it is. Nothing may always be the answer.
+    fn whole<'a>(&self, _first: u8, _behind: &'a [u8]) -> Option<(char, &'a [u8])>
+        ensures { IfSome result (λ answer. IsWhole taken self.now _first _behind.now answer.0 answer.1.now) }
+    {
+        None
+    }
 
     // A default value is at the start of a character.
     ghost default_holds_none: { (value : Self) → Self.is_default value → front value ≡ [] };
@@ -165,5 +175,14 @@ impl CharAccumulator for Utf8Parser {
     #[inline(always)]
     fn take(&mut self, byte: u8) -> Taken {
         self.decoder.take(byte)
+    }
+
+    /// The whole character at the front, where none is begun.
+    #[inline(always)]
+    fn whole<'a>(&self, first: u8, behind: &'a [u8]) -> Option<(char, &'a [u8])> {
+        match self.decoder {
+            Front::Empty => whole(first, behind),
+            _ => None,
+        }
     }
 }

@@ -1,4 +1,6 @@
 //! The parser: a state, what a sequence has said so far, and an accumulator of characters.
+mod runs;
+
 ghost use Rattle.std.specs.Prelude.{◌≡◌, ◌≢◌, ◌≤◌, ◌<◌, ℕ, List, false, length, take, map};
 ghost use Rattle.anstyle_parse.specs.Stream.Groups.{total, cut};
 ghost use Rattle.anstyle_parse.specs.Stream.Arguments.{max_collected, max_osc_bytes, max_osc_parts};
@@ -241,24 +243,13 @@ impl<C: CharAccumulator> Parser<C> {
     }
 }
 
-/// Bytes, one byte, and a change of state.
+/// One byte, and a change of state.
 impl<C: CharAccumulator> Parser<C> {
     ghost use Rattle.std.specs.Prelude.{◌∷◌, [], IsTrue, ◌↔◌};
     ghost use Rattle.anstyle_parse.specs.Stream.Call.{print};
     ghost use Rattle.anstyle_parse.specs.Fields.Parser.{machine_of};
-    ghost use Rattle.anstyle_parse.specs.Fields.Parser.{CanTake, CanTakeAll, ReachesAccumulator};
-    ghost use Rattle.anstyle_parse.specs.Machine.Step.{after_action, action_calls, after_change, change_calls, after_continuation, print_answer, IsBroken, step_from, step_calls_from, step, step_calls, machine_after, machine_calls};
-
-    /// Bytes, as the machine takes them one after another.
-    fn take_bytes<P: Perform>(&mut self, performer: &mut P, bytes: &[u8])
-        requires { CanTakeAll C.takes self.old bytes.now }
-        ensures machine { machine_of self.new ≡ machine_after C.taken bytes.now (machine_of self.old) }
-        ensures calls { Goes P.means performer.old (machine_calls C.taken bytes.now (machine_of self.old)) performer.new }
-    {
-        for byte in bytes {
-            self.take_byte(performer, *byte);
-        }
-    }
+    ghost use Rattle.anstyle_parse.specs.Fields.Parser.{CanTake, ReachesAccumulator};
+    ghost use Rattle.anstyle_parse.specs.Machine.Step.{after_change, change_calls, after_continuation, print_answer, IsBroken, step_from, step_calls_from, step, step_calls};
 
     /// One byte, as the machine takes it.
     #[inline(always)]
@@ -375,11 +366,9 @@ fn entry_action(state: State) -> Action
 
 /// An action, and the calls that it makes.
 impl<C: CharAccumulator> Parser<C> {
-    ghost use Rattle.std.specs.Prelude.{◌∷◌, [], IsTrue, ◌↔◌};
     ghost use Rattle.anstyle_parse.specs.Stream.Call.{print};
     ghost use Rattle.anstyle_parse.specs.Fields.Parser.{machine_of};
-    ghost use Rattle.anstyle_parse.specs.Fields.Parser.{CanTake, CanTakeAll, ReachesAccumulator};
-    ghost use Rattle.anstyle_parse.specs.Machine.Step.{after_action, action_calls, after_change, change_calls, after_continuation, print_answer, IsBroken, step_from, step_calls_from, step, step_calls, machine_after, machine_calls};
+    ghost use Rattle.anstyle_parse.specs.Machine.Step.{after_action, action_calls};
 
     #[inline(always)]
     fn perform_action<P: Perform>(&mut self, performer: &mut P, action: Action, byte: u8)
@@ -465,6 +454,7 @@ impl<C: CharAccumulator> Parser<C> {
     }
 
     /// A digit of a field, or the separator after it.
+    #[inline(always)]
     fn param(&mut self, byte: u8)
         ensures { machine_of self.new ≡ after_param byte (machine_of self.old) }
     {
@@ -483,6 +473,7 @@ impl<C: CharAccumulator> Parser<C> {
     }
 
     /// The last field, before a dispatch.
+    #[inline(always)]
     fn end_fields(&mut self)
         ensures { machine_of self.new ≡ with_last_field (machine_of self.old) }
     {

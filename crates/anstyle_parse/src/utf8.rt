@@ -2,10 +2,10 @@
 //!
 //! What it holds of a character is the bytes that have come, and nothing beside them: at
 //! each further byte it looks at these again, so that the answer is right whatever it holds.
-ghost use Rattle.std.specs.Prelude.{◌≡◌, ◌∷◌, [], IsTrue};
+ghost use Rattle.std.specs.Prelude.{◌≡◌, ◌∷◌, [], IfSome, IsTrue};
 ghost use Rattle.std.specs.Char.{InScalarRange};
 ghost use Rattle.anstyle_parse.specs.Stream.Bytes.{is_within};
-ghost use Rattle.anstyle_parse.specs.Stream.Characters.{character_of};
+ghost use Rattle.anstyle_parse.specs.Stream.Characters.{character_of, BeginWithWhole};
 ghost use Rattle.anstyle_parse.specs.Machine.Decoder.{started, continued, decoded};
 ghost use Rattle.anstyle_parse.specs.Fields.Front.{bytes_of, front_with, is_front_of, IsStep};
 
@@ -38,6 +38,58 @@ impl Front {
         *self = front;
         answer
     }
+}
+
+/// The whole character that begins with `a` and goes on in `behind`, and what comes after it.
+#[inline(always)]
+pub fn whole<'a>(a: u8, behind: &'a [u8]) -> Option<(char, &'a [u8])>
+    ensures { IfSome result (λ answer. BeginWithWhole (a ∷ behind.now) answer.0 answer.1.now) }
+{
+    match a {
+        0xC2..=0xDF => whole_of_two(a, behind),
+        0xE0..=0xEF => whole_of_three(a, behind),
+        0xF0..=0xF4 => whole_of_four(a, behind),
+        _ => None,
+    }
+}
+
+#[inline(always)]
+fn whole_of_two<'a>(a: u8, behind: &'a [u8]) -> Option<(char, &'a [u8])>
+    ensures { IfSome result (λ answer. BeginWithWhole (a ∷ behind.now) answer.0 answer.1.now) }
+{
+    let (b, rest) = behind.split_first()?;
+    if !is_two(a, *b) {
+        return None;
+    }
+    let character = character_of_two(a, *b);
+    Some((character, rest))
+}
+
+#[inline(always)]
+fn whole_of_three<'a>(a: u8, behind: &'a [u8]) -> Option<(char, &'a [u8])>
+    ensures { IfSome result (λ answer. BeginWithWhole (a ∷ behind.now) answer.0 answer.1.now) }
+{
+    let (b, after_b) = behind.split_first()?;
+    let (c, rest) = after_b.split_first()?;
+    if !begins_three(a, *b) || !is_continuation(*c) {
+        return None;
+    }
+    let character = character_of_three(a, *b, *c);
+    Some((character, rest))
+}
+
+#[inline(always)]
+fn whole_of_four<'a>(a: u8, behind: &'a [u8]) -> Option<(char, &'a [u8])>
+    ensures { IfSome result (λ answer. BeginWithWhole (a ∷ behind.now) answer.0 answer.1.now) }
+{
+    let (b, after_b) = behind.split_first()?;
+    let (c, after_c) = after_b.split_first()?;
+    let (d, rest) = after_c.split_first()?;
+    if !begins_four(a, *b) || !is_continuation(*c) || !is_continuation(*d) {
+        return None;
+    }
+    let character = character_of_four(a, *b, *c, *d);
+    Some((character, rest))
 }
 
 /// The answer to a byte that breaks a character.

@@ -1,5 +1,5 @@
 -- Pieces of a stream one after another, and how much text they lead to.
-use Rattle.std.proofs.Common.{◌≡◌, ◌≤◌, ◌+◌, ◌*◌, ℕ, List, [], ◌∷◌, ◌++◌, length, take, drop, refl, sym, ap, ◌∙◌, subst, append_assoc, append-nil, length-append, arith, lit≤}
+use Rattle.std.proofs.Common.{◌≡◌, ◌<◌, ◌≤◌, ◌+◌, ◌*◌, ℕ, List, [], ◌∷◌, ◌++◌, length, take, drop, refl, sym, ap, ◌∙◌, subst, append_assoc, append-nil, length-append, arith, lit≤, zero, suc}
 use Rattle.std.specs.Prelude.{if◌then◌else◌, Bool, true, false}
 use Rattle.std.proofs.lemmas.Str.{length-encode, len_utf8_bounds}
 use Rattle.anstyle_parse.specs.Stream.Call.{Call, print, execute, hook, put, unhook, osc_dispatch, csi_dispatch, esc_dispatch}
@@ -61,12 +61,19 @@ pub Continues-nil : (before : List ℕ) → Continues before [] []
 Continues-nil before = λ own are.
     subst (λ (l : List ℕ). AreCalls l (own ++ [])) (sym (append-nil before)) (subst (λ (l : List Call). AreCalls before l) (sym (append-nil own)) are)
 
+-- where there is room for what one byte may lead to, one is taken
+taken-some : (taken written piece room : ℕ) → 0 < piece → most_text ≤ room → written ≤ most_text * taken → (written + most_text ≤ room → taken ≡ piece) → 0 < taken
+taken-some zero written piece room some enough bounded all =
+    let same = all (omega arith) in
+    absurd (omega arith)
+taken-some (suc n) written piece room some enough bounded all = omega arith
+
 -- a state is fed where a parser that stands for it takes bytes, and it is saved
 pub Feeds-taken : (old new : StreamState) (parser parser_after : Parser Utf8Parser) (piece room room_after : List ℕ) (text text_after : Room) (taken written : ℕ)
     → ((before : List ℕ) → StandsFor old before → IsAfter front_of parser before) → ((before : List ℕ) → IsAfter front_of parser_after before → StandsFor new before)
     → text.written ≡ 0 → text.into.now ≡ room → room_after ≡ text_after.into.now → written ≡ text_after.written → IsTaken parser parser_after piece text text_after taken
-    → (text_after.written + most_text ≤ length text_after.into.now → taken ≡ length piece) → Feeds old new piece room room_after taken written
-Feeds-taken old new parser parser_after piece room room_after text text_after taken written resumed saved empty begins ends counted took all =
+    → (text_after.written + most_text ≤ length text_after.into.now → taken ≡ length piece) → (0 < length piece → most_text ≤ length room) → Feeds old new piece room room_after taken written
+Feeds-taken old new parser parser_after piece room room_after text text_after taken written resumed saved empty begins ends counted took all enough =
     let left = stripped took.calls in
     let count : written ≡ length left = omega (arith, took.puts.written took.fits) in
     let shown : room_after ≡ with_text 0 left room = ends ∙ took.puts.bytes took.fits ∙ ap (λ n. with_text n left text.into.now) empty ∙ ap (λ l. with_text 0 left l) begins in
@@ -78,6 +85,7 @@ Feeds-taken old new parser parser_after piece room room_after text text_after ta
       stands = λ before is. saved (before ++ take taken piece) (took.stands before (resumed before is));
       text = λ before is. (took.calls, took.continues before (resumed before is), ap (λ n. take n room_after) count ∙ ap (λ l. take (length left) l) shown ∙ with_text-front left room);
       untouched = ap (λ n. drop n room_after) count ∙ ap (λ l. drop (length left) l) shown ∙ with_text-rest left room ∙ ap (λ n. drop n room) (sym count);
+      some_taken = λ some. taken-some taken written (length piece) (length room) some (enough some) (omega (arith, took.bounded)) (λ more. all (omega arith));
       all_taken = λ more. all (omega arith);
       bounded = omega (arith, took.bounded);
     }

@@ -30,7 +30,9 @@ pub record Feeds (old new : StreamState) (piece room room_after : List ℕ) (tak
   pub text : (before : List ℕ) → StandsFor old before → IsTextOf before (take taken piece) (take written room_after)
   -- after the text the room is as it was
   pub untouched : drop written room_after ≡ drop written room
-  -- bytes are left only where less room is left than one of them may need
+  -- of some bytes at least one was taken, and bytes are left only where less room is left than
+  -- one of them may need
+  pub some_taken : 0 < length piece → 0 < taken
   pub all_taken : written + most_text ≤ length room → taken ≡ length piece
   -- no byte leads to more text than that
   pub bounded : written ≤ most_text * taken

@@ -1,6 +1,6 @@
 -- What one byte does to the parser, and which calls it makes: Williams' machine with its
 -- entry and exit actions, over the table.
-use Rattle.std.specs.Prelude.{◌≤◌, ℕ, ◌+◌, ◌-◌, ◌*◌, Bool, true, false, ◌==◌, List, [], ◌∷◌, ◌++◌, length, min, if◌then◌else◌, ⊤}
+use Rattle.std.specs.Prelude.{◌≡◌, ◌≤◌, ◌⊎◌, IsTrue, ℕ, ◌+◌, ◌-◌, ◌*◌, Bool, true, false, ◌==◌, List, [], ◌∷◌, ◌++◌, length, min, if◌then◌else◌, ⊤}
 use Rattle.std.specs.List.{concat}
 use Rattle.anstyle_parse.specs.declared.accumulator.Taken.{Taken}
 use Rattle.anstyle_parse.specs.declared.accumulator.Taken.TheVariants.{More, Char, Broken}
@@ -9,6 +9,7 @@ use Rattle.anstyle_parse.specs.declared.state.definitions.State.TheVariants.{Any
 use Rattle.anstyle_parse.specs.declared.state.definitions.Action.{Action}
 use Rattle.anstyle_parse.specs.declared.state.definitions.Action.TheVariants.{Nop, Clear, Collect, CsiDispatch, EscDispatch, Execute, Hook, Ignore, OscEnd, OscPut, OscStart, Param, Print, Put, Unhook, BeginUtf8}
 use Rattle.anstyle_parse.specs.Stream.Bytes.{colon, semicolon, bell}
+use Rattle.anstyle_parse.specs.Stream.Characters.{is_lead}
 use Rattle.anstyle_parse.specs.Stream.Arguments.{max_fields, max_field, max_collected, max_osc_bytes, max_osc_parts}
 use Rattle.anstyle_parse.specs.Stream.Call.{Call, print, execute, hook, put, unhook, osc_dispatch, csi_dispatch, esc_dispatch}
 use Rattle.anstyle_parse.specs.Machine.Table.{change_at}
@@ -120,6 +121,18 @@ print_answer (Broken c) = print c ∷ []
 -- What an accumulator does with a byte that it takes: its value after it, and what it answers.
 abbrev pub AccumulatorStep : Type 0 → Type 0
 AccumulatorStep A = A → ℕ → A × Taken
+
+-- Given these bytes one by one an accumulator answers nothing before the last of a character,
+-- and there the character. It is then as it was before, and the bytes that are left come next.
+abbrev pub Completes : {A : Type 0} → AccumulatorStep A → A → A → List ℕ → ℕ → List ℕ → Type 0
+Completes add before now [] c left = ⊥
+Completes {A} add before now (b ∷ bytes) c left =
+    ((add now b ≡ (before, Char c)) × (bytes ≡ left)) ⊎ (((add now b).1 ≡ More) × Completes add before (add now b).0 bytes c left)
+
+-- the same from the first byte of a character on, which is not its last
+abbrev pub IsWhole : {A : Type 0} → AccumulatorStep A → A → ℕ → List ℕ → ℕ → List ℕ → Type 0
+IsWhole add value first behind c left =
+    IsTrue (is_lead first) × ((add value first).1 ≡ More) × Completes add value (add value first).0 behind c left
 
 -- the machine after an action
 abbrev pub after_action : {A : Type 0} → AccumulatorStep A → Action → ℕ → Machine A → Machine A

@@ -1,5 +1,5 @@
 -- The well-formed UTF-8 sequences of two to four bytes (The Unicode Standard, Table 3-7).
-use Rattle.std.specs.Prelude.{◌≢◌, ℕ, Bool, true, false, ◌&&◌, nat_lt, ◌==◌, List, [], ◌∷◌, ◌++◌, ◌+◌, ◌*◌, ◌%◌, length, IsTrue}
+use Rattle.std.specs.Prelude.{◌≡◌, ◌≢◌, ℕ, Bool, true, false, ◌&&◌, nat_lt, ◌==◌, List, [], ◌∷◌, ◌++◌, ◌+◌, ◌*◌, ◌%◌, length, IsTrue}
 use Rattle.std.specs.List.{list_any}
 use Rattle.anstyle_parse.specs.Stream.Bytes.{is_within, Span, ◌‥◌}
 
@@ -51,6 +51,11 @@ character_of (a ∷ b ∷ []) = a % 32 * 64 + b % 64
 character_of (a ∷ b ∷ c ∷ []) = (a % 16 * 64 + b % 64) * 64 + c % 64
 character_of (a ∷ b ∷ c ∷ d ∷ []) = ((a % 8 * 64 + b % 64) * 64 + c % 64) * 64 + d % 64
 character_of _ = 0
+
+-- the bytes begin with a whole well-formed sequence, of this character, and these are left
+abbrev pub BeginWithWhole : List ℕ → ℕ → List ℕ → Type 0
+BeginWithWhole bytes c left =
+    (whole : List ℕ) × IsTrue (is_well_formed whole) × (c ≡ character_of whole) × (bytes ≡ whole ++ left)
 
 -- U+FFFD, printed for a character that is broken
 abbrev pub replacement : ℕ

@@ -1,8 +1,10 @@
 -- What the parser took is what the state is fed.
-use Rattle.std.proofs.Common.{rules, ◌++◌, take, refl}
+use Rattle.std.proofs.Common.{rules, ◌<◌, ◌≤◌, ◌++◌, length, take, refl, arith}
+use Rattle.std.proofs.lemmas.Bool.Decides.{nat_tests}
 use Rattle.strip_pieces.specs.State.{pending_of}
 use Rattle.strip_pieces.proofs.FeedLemmas.{Feeds-taken}
 use Rattle.strip_pieces.proofs.state.StreamState.feed.Goals as goal
+use Rattle.strip_pieces.proofs.state.StreamState.feed.Goals.{else-room-lt-LEAST_ROOM-via-then-room-lt-LEAST_ROOM+else-not-is_empty, else-room-lt-LEAST_ROOM-via-else-room-lt-LEAST_ROOM}
 
 pub save-requires : goal.save-requires
 save-requires c =
@@ -12,5 +14,10 @@ save-requires c =
 pub returns-clause-fed : goal.returns-clause-fed
 returns-clause-fed c =
     let text = c.new-text.result in
+    let enough : 0 < length c.args.piece.now → 8 ≤ length c.args.room.now =
+    elim c.else-room-lt-LEAST_ROOM.branch [
+      | else-room-lt-LEAST_ROOM-via-then-room-lt-LEAST_ROOM+else-not-is_empty w ↦ λ some. grind (arith, nat_tests)
+      | else-room-lt-LEAST_ROOM-via-else-room-lt-LEAST_ROOM w ↦ λ some. omega arith
+    ] in
     Feeds-taken c.args.self.now c.save.new.self c.resume-parser.result c.take-taken.new.parser c.args.piece.now c.args.room.now _ text c.take-taken.new.room _ _
-    c.resume-parser.ensures c.save.ensures c.new-text.ensures.nothing c.new-text.ensures.bytes (search rules) c.written-written.ensures c.take-taken.ensures.taken c.take-taken.ensures.all
+    c.resume-parser.ensures c.save.ensures c.new-text.ensures.nothing c.new-text.ensures.bytes (search rules) c.written-written.ensures c.take-taken.ensures.taken c.take-taken.ensures.all enough

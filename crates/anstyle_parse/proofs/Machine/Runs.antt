@@ -1,0 +1,380 @@
+-- Runs one after another, and the runs of each kind of bytes.
+use Rattle.std.proofs.Common.{◌≡◌, ℕ, ◌<◌, ◌≤◌, ◌⊎◌, arith, Bool, IsTrue, cond, eqb, refl, List, length, [], ◌∷◌, ◌++◌, ⊎_elim, inl, map, take, drop, ap, sym, ◌∙◌, subst}
+use Rattle.std.specs.Prelude.{nat_le}
+use Rattle.std.specs.List.{range_with_len}
+use Rattle.std.proofs.lemmas.List.{take-append-drop}
+use Rattle.std.proofs.lemmas.Bool.{cond-true, cond_both, and_from, and_parts, leb-true, le-leb}
+use Rattle.anstyle_parse.specs.declared.state.definitions.State.{State}
+use Rattle.anstyle_parse.specs.declared.state.definitions.State.TheVariants.{Anywhere, CsiEntry, CsiIgnore, CsiParam, DcsIgnore, DcsPassthrough, Escape, Ground, OscString, SosPmApcString, Utf8}
+use Rattle.anstyle_parse.specs.declared.state.definitions.Action.{Action}
+use Rattle.anstyle_parse.specs.declared.state.definitions.Action.TheVariants.{BeginUtf8, CsiDispatch, EscDispatch, Execute, Nop, OscPut, Param}
+use Rattle.anstyle_parse.specs.declared.accumulator.Taken.{Taken}
+use Rattle.anstyle_parse.specs.declared.accumulator.Taken.TheVariants.{More}
+use Rattle.anstyle_parse.specs.declared.parser.Parser.{Parser}
+use Rattle.anstyle_parse.specs.declared.parser.runs.Run.{Run}
+use Rattle.anstyle_parse.specs.declared.parser.runs.Run.TheVariants.{Printed, Passed, OfIgnoredString, OfIgnoredHeader}
+use Rattle.anstyle_parse.specs.Stream.Bytes.{is_within, is_parameter, is_final, colon, semicolon}
+use Rattle.anstyle_parse.specs.Stream.Characters.{is_lead}
+use Rattle.anstyle_parse.specs.Stream.Arguments.{max_fields, max_osc_bytes, max_osc_parts}
+use Rattle.anstyle_parse.specs.Stream.Call.{Call, Goes, print}
+use Rattle.anstyle_parse.specs.Machine.Table.{Change, ◌by◌, change_at}
+use Rattle.anstyle_parse.specs.Machine.Step.{Machine, AccumulatorStep, Completes, IsWhole, print_answer, state_after_answer, after_answer, answer_calls, after_change, change_calls, field_count, after_param, stored_count, after_osc_put, step, step_calls, machine_after, machine_calls}
+use Rattle.anstyle_parse.specs.Fields.Parser.{machine_of, CanTakeAll}
+use Rattle.anstyle_parse.specs.Fields.Runs.{LeadsTo, LeadsQuietlyTo, KeepsTo, passes, passed_action, passed_calls, ArePassing, ArePassedOn}
+use Rattle.anstyle_parse.proofs.Machine.Steps.{Goes-append, after_change-moves, step-at, step_calls-at, step-outside, step_calls_from-outside}
+use Rattle.anstyle_parse.proofs.Machine.Table.{same_below}
+use Rattle.anstyle_parse.proofs.Streams.{CanTakeAll-rest}
+
+-- a chunk and what is after it are the whole
+pub chunk_and_rest : (n : ℕ) (whole chunk behind : List ℕ) → chunk ≡ take n whole → behind ≡ drop n whole → whole ≡ chunk ++ behind
+chunk_and_rest n whole chunk behind front back =
+    sym (ap (λ xs. xs ++ behind) front ∙ ap (λ ys. take n whole ++ ys) back ∙ take-append-drop n whole)
+
+-- a state gives the bytes that pass a test one answer, where that computes below 256
+change_at-where : (state : State) (test : ℕ → Bool) (answer : Change) → (b : ℕ) → b < 0x100 → IsTrue (test b)
+    → map (λ n. cond (test n) (change_at state n) answer) (range_with_len 0 0x100) ≡ map (λ n. answer) (range_with_len 0 0x100)
+    → change_at state b ≡ answer
+change_at-where state test answer b small passes same =
+    sym (cond-true (test b) (change_at state b) answer passes)
+    ∙ same_below (λ n. cond (test n) (change_at state n) answer) (λ n. answer) 0x100 b same small
+
+-- the same where the test passes nothing from 100 on
+pub change_at-within : (state : State) (low high : ℕ) (answer : Change) → high < 0x100 → (b : ℕ) → IsTrue (is_within low high b)
+    → map (λ n. cond (is_within low high n) (change_at state n) answer) (range_with_len 0 0x100) ≡ map (λ n. answer) (range_with_len 0 0x100)
+    → change_at state b ≡ answer
+unfolding is_within
+change_at-within state low high answer small b within same =
+    let below = leb-true b high (and_parts (nat_le low b) (nat_le b high) within).1 in
+    change_at-where state (is_within low high) answer b (omega arith) within same
+
+-- the runs of each state
+pub KeepsTo-printed : (state : State) → state ≡ Ground → KeepsTo Printed state
+unfolding change_at is_within
+KeepsTo-printed state is =
+    let Q : State → Type 0 = λ s. KeepsTo Printed s in
+    subst Q (sym is) ((λ h. absurd (cc)), λ b within. change_at-within Ground 0x20 0x7F (Anywhere by passed_action Printed) (omega arith) b within refl)
+
+pub KeepsTo-passed : (state : State) → state ≡ DcsPassthrough → KeepsTo Passed state
+unfolding change_at is_within
+KeepsTo-passed state is =
+    let Q : State → Type 0 = λ s. KeepsTo Passed s in
+    subst Q (sym is) ((λ h. absurd (cc)), λ b within. change_at-within DcsPassthrough 0x20 0x7E (Anywhere by passed_action Passed) (omega arith) b within refl)
+
+pub KeepsTo-string : (state : State) → (state ≡ SosPmApcString) ⊎ (state ≡ DcsIgnore) → KeepsTo OfIgnoredString state
+unfolding change_at is_within
+KeepsTo-string state is =
+    let Q : State → Type 0 = λ s. KeepsTo OfIgnoredString s in
+    ⊎_elim
+    (λ e. subst Q (sym e) ((λ h. absurd (cc)), λ b within. change_at-within SosPmApcString 0x20 0x7F (Anywhere by passed_action OfIgnoredString) (omega arith) b within refl))
+    (λ e. subst Q (sym e) ((λ h. absurd (cc)), λ b within. change_at-within DcsIgnore 0x20 0x7F (Anywhere by passed_action OfIgnoredString) (omega arith) b within refl))
+    is
+
+pub KeepsTo-header : (state : State) → state ≡ CsiIgnore → KeepsTo OfIgnoredHeader state
+unfolding change_at is_within
+KeepsTo-header state is =
+    let Q : State → Type 0 = λ s. KeepsTo OfIgnoredHeader s in
+    subst Q (sym is) ((λ h. absurd (cc)), λ b within. change_at-within CsiIgnore 0x20 0x3F (Anywhere by passed_action OfIgnoredHeader) (omega arith) b within refl)
+
+module _ {A : Type 0} (adds : AccumulatorStep A) (m : Machine A) (b : ℕ) where
+  -- a step by the table's answer
+  pub step-by : (answer : Change) → (m.state ≡ Utf8 → ⊥) → change_at m.state b ≡ answer
+      → (step adds b m ≡ after_change adds answer.state answer.action b m) × (step_calls adds b m ≡ change_calls adds answer.state answer.action b m)
+  step-by answer outside is = (
+    step-outside adds b m outside ∙ ap (λ (a : Change). after_change adds a.state a.action b m) is,
+    step_calls-at adds m.state b m refl ∙ step_calls_from-outside adds m.state b m outside ∙ ap (λ (a : Change). change_calls adds a.state a.action b m) is,
+  )
+
+  -- a byte of a run
+  pub step-run : (run : Run) → KeepsTo run m.state → IsTrue (passes run b) → (step adds b m ≡ m) × (step_calls adds b m ≡ passed_calls run b)
+  step-run Printed keeps within = step-by (Anywhere by passed_action Printed) keeps.0 (keeps.1 b within)
+  step-run Passed keeps within = step-by (Anywhere by passed_action Passed) keeps.0 (keeps.1 b within)
+  step-run OfIgnoredString keeps within = step-by (Anywhere by passed_action OfIgnoredString) keeps.0 (keeps.1 b within)
+  step-run OfIgnoredHeader keeps within = step-by (Anywhere by passed_action OfIgnoredHeader) keeps.0 (keeps.1 b within)
+
+-- the answers of Ground to ESC, of Escape to [, and of a header to its final byte
+pub change_at-escape : (state : State) (b : ℕ) → state ≡ Ground → b ≡ 0x1B → change_at state b ≡ (Escape by Nop)
+unfolding change_at is_within
+change_at-escape state b is byte =
+    ap (λ s. change_at s b) is ∙ ap (λ n. change_at Ground n) byte
+
+-- of Ground to a control, and of Escape to the end of a string and to the beginning of a command
+pub change_at-control : (state : State) (b : ℕ) → state ≡ Ground → b < 0x18 → change_at state b ≡ (Anywhere by Execute)
+unfolding change_at is_within
+change_at-control state b is low =
+    ap (λ s. change_at s b) is
+    ∙ change_at-within Ground 0x00 0x17 (Anywhere by Execute) (omega arith) b
+    (and_from (nat_le 0x00 b) (nat_le b 0x17) (le-leb 0x00 b (omega arith)) (le-leb b 0x17 (omega arith))) refl
+
+pub change_at-string_end : (state : State) (b : ℕ) → state ≡ Escape → b ≡ 0x5C → change_at state b ≡ (Ground by EscDispatch)
+unfolding change_at is_within
+change_at-string_end state b is byte =
+    ap (λ s. change_at s b) is ∙ ap (λ n. change_at Escape n) byte
+
+pub change_at-command : (state : State) (b : ℕ) → state ≡ Escape → b ≡ 0x5D → change_at state b ≡ (OscString by Nop)
+unfolding change_at is_within
+change_at-command state b is byte =
+    ap (λ s. change_at s b) is ∙ ap (λ n. change_at Escape n) byte
+
+-- the answers of a command to its ends
+pub change_at-command_escape : (state : State) (b : ℕ) → state ≡ OscString → b ≡ 0x1B → change_at state b ≡ (Escape by Nop)
+unfolding change_at is_within
+change_at-command_escape state b is byte =
+    ap (λ s. change_at s b) is ∙ ap (λ n. change_at OscString n) byte
+
+pub change_at-command_bell : (state : State) (b : ℕ) → state ≡ OscString → b ≡ 0x07 → change_at state b ≡ (Ground by Nop)
+unfolding change_at is_within
+change_at-command_bell state b is byte =
+    ap (λ s. change_at s b) is ∙ ap (λ n. change_at OscString n) byte
+
+pub change_at-introducer : (state : State) (b : ℕ) → state ≡ Escape → b ≡ 0x5B → change_at state b ≡ (CsiEntry by Nop)
+unfolding change_at is_within
+change_at-introducer state b is byte =
+    ap (λ s. change_at s b) is ∙ ap (λ n. change_at Escape n) byte
+
+pub change_at-final : (state : State) (b : ℕ) → (state ≡ CsiEntry) ⊎ (state ≡ CsiParam) → IsTrue (is_final b) → change_at state b ≡ (Ground by CsiDispatch)
+unfolding change_at is_within is_final
+change_at-final state b is final =
+    ⊎_elim
+    (λ e. ap (λ s. change_at s b) e ∙ change_at-within CsiEntry 0x40 0x7E (Ground by CsiDispatch) (omega arith) b final refl)
+    (λ e. ap (λ s. change_at s b) e ∙ change_at-within CsiParam 0x40 0x7E (Ground by CsiDispatch) (omega arith) b final refl)
+    is
+
+abbrev same_state : {A : Type 0} → Machine A → Machine A → Type 0
+same_state m n = n.state ≡ m.state
+
+-- a field's byte leaves the state
+pub state-with_parameter : {A : Type 0} (b : ℕ) (m : Machine A) → (after_param b m).state ≡ m.state
+state-with_parameter b m =
+    cond_both (eqb (field_count m) max_fields) _ _ (same_state m) (λ _. refl)
+    (λ _. cond_both (eqb b semicolon) _ _ (same_state m) (λ _. refl)
+    (λ _. cond_both (eqb b colon) _ _ (same_state m) (λ _. refl) (λ _. refl)))
+
+module _ {A : Type 0} (adds : AccumulatorStep A) (b : ℕ) where
+  -- the state after a change to one
+  pub state-by : (m : Machine A) (state : State) (action : Action) → (m.state ≡ Utf8 → ⊥) → (state ≡ Anywhere → ⊥) → change_at m.state b ≡ (state by action)
+      → (step adds b m).state ≡ state
+  state-by m state action outside moves is =
+      ap (λ (x : Machine A). x.state) ((step-by adds m b (state by action) outside is).0 ∙ after_change-moves adds state action b m moves)
+
+  -- a field's byte in a header that has one, and in one that may be empty so far
+  pub step-field : (m : Machine A) → m.state ≡ CsiParam → IsTrue (is_parameter b) → (step adds b m ≡ after_param b m) × (step_calls adds b m ≡ [])
+  unfolding change_at is_within is_parameter
+  step-field m is parameter =
+      step-by adds m b (Anywhere by Param) (λ h. absurd (cc (is, h)))
+      (ap (λ s. change_at s b) is ∙ change_at-within CsiParam 0x30 0x3B (Anywhere by Param) (omega arith) b parameter refl)
+
+  InHeader : Machine A → Type 0
+  InHeader m = (step adds b m ≡ record (after_param b m) { state = CsiParam }) × (step_calls adds b m ≡ [])
+
+  first-field : (m : Machine A) → IsTrue (is_parameter b) → InHeader (record m { state = CsiEntry })
+  unfolding change_at is_within is_parameter InHeader
+  first-field m parameter =
+      step-by adds (record m { state = CsiEntry }) b (CsiParam by Param) (λ h. absurd (cc))
+      (change_at-within CsiEntry 0x30 0x3B (CsiParam by Param) (omega arith) b parameter refl)
+
+  pub step-parameter : (m : Machine A) → (m.state ≡ CsiEntry) ⊎ (m.state ≡ CsiParam) → IsTrue (is_parameter b)
+      → (step adds b m ≡ record (after_param b m) { state = CsiParam }) × (step_calls adds b m ≡ [])
+  unfolding InHeader
+  step-parameter m is parameter =
+      ⊎_elim
+      (λ e.
+      let same : record m { state = CsiEntry } ≡ m = ap (λ (s : State). let r : Machine A = record m { state = s } in r) (sym e) in
+      subst InHeader same (first-field m parameter))
+      (λ e.
+      let stepped = step-field m e parameter in
+      let x = after_param b m in
+      (stepped.0 ∙ ap (λ (s : State). let r : Machine A = record x { state = s } in r) (state-with_parameter b m ∙ e), stepped.1))
+      is
+
+  -- a byte of a command's text
+  pub step-stored : (m : Machine A) → m.state ≡ OscString → 0x20 ≤ b → b < 0x100 → (step adds b m ≡ after_osc_put b m) × (step_calls adds b m ≡ [])
+  unfolding change_at is_within
+  step-stored m is low high =
+      step-by adds m b (Anywhere by OscPut) (λ h. absurd (cc (is, h)))
+      (ap (λ s. change_at s b) is
+      ∙ change_at-within OscString 0x20 0xFF (Anywhere by OscPut) (omega arith) b
+      (and_from (nat_le 0x20 b) (nat_le b 0xFF) (le-leb 0x20 b low) (le-leb b 0xFF (omega arith))) refl)
+
+pub state-storing : {A : Type 0} (b : ℕ) (m : Machine A) → (after_osc_put b m).state ≡ m.state
+state-storing b m =
+    cond_both (eqb (stored_count m) max_osc_bytes) _ _ (same_state m) (λ _. refl)
+    (λ _. cond_both (eqb b semicolon) _ _ (same_state m)
+    (λ _. cond_both (eqb (length m.closed_parts) max_osc_parts) _ _ (same_state m) (λ _. refl) (λ _. refl)) (λ _. refl))
+
+pub length-Completes : {A : Type 0} (adds : AccumulatorStep A) (before now : A) (bytes : List ℕ) (c : ℕ) (left : List ℕ) → Completes adds before now bytes c left → length left ≤ length bytes
+length-Completes adds before now [] c left complete = absurd complete
+length-Completes adds before now (b ∷ bytes) c left complete =
+    ⊎_elim (λ last. omega (arith, ap length last.1)) (λ more. let shorter = length-Completes adds before (adds now b).0 bytes c left more.1 in omega arith) complete
+
+-- a whole character in Ground: its bytes make one call, and leave the machine as it is
+module _ {A : Type 0} (adds : AccumulatorStep A) (m : Machine A) where
+  reading : A → Machine A
+  reading now = record m { state = Utf8; accumulator = now }
+
+  abbrev there : A → Machine A
+  there before = record m { state = Ground; accumulator = before }
+
+  -- after a byte of the character, by what the accumulator made of it
+  abbrev continued : A → Taken → Machine A
+  continued value answer = record m { state = state_after_answer answer; accumulator = value }
+
+  completed : (before now : A) (bytes : List ℕ) (c : ℕ) (left : List ℕ) → Completes adds before now bytes c left
+      → (machine_after adds bytes (reading now) ≡ machine_after adds left (there before))
+      × (machine_calls adds bytes (reading now) ≡ print c ∷ machine_calls adds left (there before))
+  unfolding reading
+  completed before now [] c left complete = absurd complete
+  completed before now (b ∷ bytes) c left complete =
+      let stepped = step-at adds Utf8 b (reading now) refl in
+      let called = step_calls-at adds Utf8 b (reading now) refl in
+      ⊎_elim
+      (λ last.
+      let after : step adds b (reading now) ≡ there before = stepped ∙ ap (λ (x : A × Taken). after_answer adds x.1 b (continued x.0 x.1)) last.0 in (
+        ap (λ x. machine_after adds bytes x) after ∙ ap (λ l. machine_after adds l (there before)) last.1,
+        ap (λ calls. calls ++ machine_calls adds bytes (step adds b (reading now))) (called ∙ ap (λ (x : A × Taken). answer_calls adds x.1 b (continued x.0 x.1)) last.0)
+            ∙ ap (λ x. print c ∷ machine_calls adds bytes x) after ∙ ap (λ l. print c ∷ machine_calls adds l (there before)) last.1,
+      ))
+      (λ more.
+      let further = completed before (adds now b).0 bytes c left more.1 in
+      let after : step adds b (reading now) ≡ reading (adds now b).0 = stepped ∙ ap (λ (x : Taken). after_answer adds x b (continued (adds now b).0 x)) more.0 in (
+        ap (λ x. machine_after adds bytes x) after ∙ further.0,
+        ap (λ calls. calls ++ machine_calls adds bytes (step adds b (reading now))) (called ∙ ap (λ (x : Taken). answer_calls adds x b (continued (adds now b).0 x)) more.0)
+            ∙ ap (λ x. machine_calls adds bytes x) after ∙ further.1,
+      ))
+      complete
+
+  begun : (before : A) (first : ℕ) → IsTrue (is_lead first) → (adds before first).1 ≡ More
+      → (step adds first (there before) ≡ reading (adds before first).0) × (step_calls adds first (there before) ≡ [])
+  unfolding reading change_at is_within is_lead
+  begun before first lead none =
+      let answer = change_at-within Ground 0xC2 0xF4 (Utf8 by BeginUtf8) (omega arith) first lead refl in
+      let given = step-by adds (there before) first (Utf8 by BeginUtf8) (λ h. absurd (cc)) answer in
+      (given.0, given.1 ∙ ap (λ (x : Taken). print_answer x ++ []) none)
+
+  PrintsOne : List ℕ → List ℕ → ℕ → Machine A → Type 0
+  PrintsOne bytes left c x = (machine_after adds left x ≡ machine_after adds bytes x) × (machine_calls adds bytes x ≡ print c ∷ machine_calls adds left x)
+
+  pub whole-taken : (first : ℕ) (behind : List ℕ) (c : ℕ) (left : List ℕ) → m.state ≡ Ground → IsWhole adds m.accumulator first behind c left
+      → (machine_after adds left m ≡ machine_after adds (first ∷ behind) m) × (machine_calls adds (first ∷ behind) m ≡ print c ∷ machine_calls adds left m)
+  unfolding PrintsOne
+  whole-taken first behind c left ground whole =
+      let first_step = begun m.accumulator first whole.0 whole.1 in
+      let others = completed m.accumulator (adds m.accumulator first).0 behind c left whole.2 in
+      let same : there m.accumulator ≡ m = ap (λ (s : State). let r : Machine A = record m { state = s } in r) (sym ground) in
+      subst (PrintsOne (first ∷ behind) left c) same (
+        sym (ap (λ x. machine_after adds behind x) first_step.0 ∙ others.0),
+        ap (λ calls. calls ++ machine_calls adds behind (step adds first (there m.accumulator))) first_step.1
+            ∙ ap (λ x. machine_calls adds behind x) first_step.0 ∙ others.1,
+      )
+
+module _ {C P : Type 0} (takes : C → ℕ → Type 0) (adds : AccumulatorStep C) (means : P → Call → P → Type 0) where
+  pub LeadsTo-same : (parser : Parser C) (performer : P) (bytes : List ℕ) → CanTakeAll takes parser bytes → LeadsTo takes adds means parser performer bytes parser performer bytes
+  LeadsTo-same parser performer bytes can = record { can = can; machine = refl; calls = λ last goes. goes }
+
+  -- a run after a run
+  pub LeadsTo-trans : {p q r : Parser C} {a b c : P} {xs ys zs : List ℕ}
+      → LeadsTo takes adds means p a xs q b ys → LeadsTo takes adds means q b ys r c zs → LeadsTo takes adds means p a xs r c zs
+  LeadsTo-trans first second = record {
+    can = second.can;
+    machine = second.machine ∙ first.machine;
+    calls = λ last goes. first.calls last (second.calls last goes);
+  }
+
+  -- a run of what is left, written out in another way
+  pub LeadsTo-first : {p q r : Parser C} {a b c : P} {xs ys zs left : List ℕ} → ys ≡ left
+      → LeadsTo takes adds means p a xs q b ys → (CanTakeAll takes q left → LeadsTo takes adds means q b left r c zs) → LeadsTo takes adds means p a xs r c zs
+  LeadsTo-first {p = p} {q = q} {a = a} {b = b} {xs = xs} same first second =
+      let S : List ℕ → Type 0 = λ l. LeadsTo takes adds means p a xs q b l in
+      let begun = subst S same first in
+      LeadsTo-trans begun (second begun.can)
+
+  -- one byte, as the machine takes it
+  pub LeadsTo-byte : (old new : Parser C) (before after : P) (b : ℕ) (left : List ℕ) → CanTakeAll takes old (b ∷ left)
+      → machine_of new ≡ step adds b (machine_of old) → Goes means before (step_calls adds b (machine_of old)) after
+      → LeadsTo takes adds means old before (b ∷ left) new after left
+  LeadsTo-byte old new before after b left can stepped goes = record {
+    can = CanTakeAll-rest takes adds old new b left stepped can;
+    machine = ap (λ m. machine_after adds left m) stepped;
+    calls = λ last further.
+        let S : List Call → Type 0 = λ calls. Goes means after calls last in
+        Goes-append means before after last (step_calls adds b (machine_of old)) (machine_calls adds left (step adds b (machine_of old)))
+        goes (subst S (ap (λ m. machine_calls adds left m) stepped) further);
+  }
+
+  -- bytes of which each leaves the machine as it is
+  module _ (parser : Parser C) (test : ℕ → Bool) (calls_of : ℕ → List Call)
+      (each : (b : ℕ) → IsTrue (test b) → (step adds b (machine_of parser) ≡ machine_of parser) × (step_calls adds b (machine_of parser) ≡ calls_of b)) where
+    pub LeadsTo-kept : (before after : P) (b : ℕ) (left : List ℕ) → CanTakeAll takes parser (b ∷ left)
+        → IsTrue (test b) → Goes means before (calls_of b) after → LeadsTo takes adds means parser before (b ∷ left) parser after left
+    LeadsTo-kept before after b left can passing goes =
+        let S : List Call → Type 0 = λ calls. Goes means before calls after in
+        LeadsTo-byte parser parser before after b left can (sym (each b passing).0) (subst S (sym (each b passing).1) goes)
+
+    pub LeadsTo-all_kept : (before after : P) (bytes left : List ℕ) → CanTakeAll takes parser (bytes ++ left)
+        → ArePassing test bytes → ArePassedOn means calls_of before bytes after → LeadsTo takes adds means parser before (bytes ++ left) parser after left
+    LeadsTo-all_kept before after [] left can passing goes =
+        let S : P → Type 0 = λ p. LeadsTo takes adds means parser before left parser p left in
+        subst S (sym goes) (LeadsTo-same parser before left can)
+    LeadsTo-all_kept before after (b ∷ bytes) left can passing goes =
+        let first = LeadsTo-kept before goes.0 b (bytes ++ left) can passing.0 goes.1 in
+        LeadsTo-trans first (LeadsTo-all_kept goes.0 after bytes left first.can passing.1 goes.2)
+
+  -- a run of a kind, one byte and a chunk
+  module _ (run : Run) (parser : Parser C) (keeps : KeepsTo run parser.state) (before after : P) where
+    pub LeadsTo-run : (b : ℕ) (left : List ℕ) → CanTakeAll takes parser (b ∷ left)
+        → IsTrue (passes run b) → Goes means before (passed_calls run b) after → LeadsTo takes adds means parser before (b ∷ left) parser after left
+    LeadsTo-run = LeadsTo-kept parser (λ b. passes run b) (λ b. passed_calls run b) (λ b. step-run adds (machine_of parser) b run keeps) before after
+
+    pub LeadsTo-chunk : (bytes left : List ℕ) → CanTakeAll takes parser (bytes ++ left)
+        → ArePassing (λ b. passes run b) bytes → ArePassedOn means (λ b. passed_calls run b) before bytes after
+        → LeadsTo takes adds means parser before (bytes ++ left) parser after left
+    LeadsTo-chunk = LeadsTo-all_kept parser (λ b. passes run b) (λ b. passed_calls run b) (λ b. step-run adds (machine_of parser) b run keeps) before after
+
+  -- a whole character
+  pub LeadsTo-whole : (parser : Parser C) (before after : P) (first : ℕ) (behind : List ℕ) (c : ℕ) (left : List ℕ) → CanTakeAll takes parser (first ∷ behind)
+      → parser.state ≡ Ground → IsWhole adds parser.accumulator first behind c left → means before (print c) after
+      → LeadsTo takes adds means parser before (first ∷ behind) parser after left
+  unfolding is_lead is_within
+  LeadsTo-whole parser before after first behind c left can ground whole goes =
+      let taken = whole-taken adds (machine_of parser) first behind c left ground whole in
+      let high : 0xC2 ≤ first = leb-true 0xC2 first (and_parts (nat_le 0xC2 first) (nat_le first 0xF4) whole.0).0 in
+      record {
+        can = ⊎_elim (λ all. inl all) (λ ascii. absurd (omega (arith, ascii.1.0))) can;
+        machine = taken.0;
+        calls = λ last further.
+            let S : List Call → Type 0 = λ calls. Goes means before calls last in
+            subst S (sym taken.1) (after, goes, further);
+      }
+
+  -- a run with no call
+  pub LeadsTo-quiet : (old new : Parser C) (performer : P) (bytes left : List ℕ) → LeadsQuietlyTo takes adds old bytes new left
+      → LeadsTo takes adds means old performer bytes new performer left
+  LeadsTo-quiet old new performer bytes left quiet = record {
+    can = quiet.can;
+    machine = quiet.machine;
+    calls = λ last goes. let S : List Call → Type 0 = λ calls. Goes means performer calls last in subst S quiet.calls goes;
+  }
+
+module _ {C : Type 0} (takes : C → ℕ → Type 0) (adds : AccumulatorStep C) where
+  pub LeadsQuietlyTo-same : (parser : Parser C) (bytes : List ℕ) → CanTakeAll takes parser bytes → LeadsQuietlyTo takes adds parser bytes parser bytes
+  LeadsQuietlyTo-same parser bytes can = record { can = can; machine = refl; calls = refl }
+
+  pub LeadsQuietlyTo-first : {p q r : Parser C} {xs ys zs left : List ℕ} → ys ≡ left
+      → LeadsQuietlyTo takes adds p xs q ys → (CanTakeAll takes q left → LeadsQuietlyTo takes adds q left r zs) → LeadsQuietlyTo takes adds p xs r zs
+  LeadsQuietlyTo-first {p = p} {q = q} {xs = xs} same first second =
+      let S : List ℕ → Type 0 = λ l. LeadsQuietlyTo takes adds p xs q l in
+      let begun = subst S same first in
+      let further = second begun.can in
+      record { can = further.can; machine = further.machine ∙ begun.machine; calls = further.calls ∙ begun.calls }
+
+  pub LeadsQuietlyTo-byte : (old new : Parser C) (b : ℕ) (left : List ℕ) → CanTakeAll takes old (b ∷ left)
+      → machine_of new ≡ step adds b (machine_of old) → step_calls adds b (machine_of old) ≡ [] → LeadsQuietlyTo takes adds old (b ∷ left) new left
+  LeadsQuietlyTo-byte old new b left can stepped none = record {
+    can = CanTakeAll-rest takes adds old new b left stepped can;
+    machine = ap (λ m. machine_after adds left m) stepped;
+    calls = ap (λ m. machine_calls adds left m) stepped ∙ sym (ap (λ calls. calls ++ machine_calls adds left (step adds b (machine_of old))) none);
+  }
+
+  pub LeadsQuietlyTo-trans : {p q r : Parser C} {xs ys zs : List ℕ}
+      → LeadsQuietlyTo takes adds p xs q ys → LeadsQuietlyTo takes adds q ys r zs → LeadsQuietlyTo takes adds p xs r zs
+  LeadsQuietlyTo-trans first second =
+      record { can = second.can; machine = second.machine ∙ first.machine; calls = second.calls ∙ first.calls }

@@ -1,0 +1,24 @@
+//! Laws of states and of texts of pieces. Each is the contract of a function that does nothing.
+ghost use Rattle.std.specs.Prelude.{◌≡◌, ℕ, List, [], ◌++◌};
+ghost use Rattle.anstyle_parse.specs.Stream.Call.{Call};
+ghost use Rattle.anstyle_parse.specs.Stream.Calls.{AreCalls};
+ghost use Rattle.ansi_strip.specs.Strip.{stripped};
+ghost use Rattle.strip_pieces.specs.Feed.{IsTextOf};
+ghost use Rattle.strip_pieces.specs.State.{pending_of, StandsFor};
+
+use crate::state::StreamState;
+
+/// Any bytes in a state stand for some stream: for one that had what the state holds. Where that
+/// is nothing, as in a state of zero bytes, the stream begins.
+pub fn states()
+    ensures any { (state : StreamState) → StandsFor state (pending_of state) }
+    ensures zero { (state : StreamState) → state.length ≡ 0 → StandsFor state [] }
+{}
+
+/// The texts of pieces, one after another, are the text of the whole; and the text of all bytes
+/// of a stream is what is left of their calls.
+pub fn texts_joined()
+    ensures pieces { (before bytes more text rest : List ℕ) → IsTextOf before bytes text → IsTextOf (before ++ bytes) more rest
+        → IsTextOf before (bytes ++ more) (text ++ rest) }
+    ensures whole { (bytes text : List ℕ) → IsTextOf [] bytes text → (calls : List Call) × AreCalls bytes calls × (text ≡ stripped calls) }
+{}

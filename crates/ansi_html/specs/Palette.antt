@@ -29,9 +29,9 @@ pub record Shades : Type 0 where
 abbrev pub shades : List ℕ → List ℕ → List ℕ → Shades
 shades light dark fixed = record { light = light; dark = dark; fixed = fixed }
 
--- Light and dark: the terminal palette of GitHub's Primer, where a bright blue, magenta, cyan
+-- Light and dark: after the terminal palette of GitHub's Primer, where bright blue, magenta, cyan
 -- and white on light pages and both blacks on dark ones are moved away from the page, so that
--- each has a contrast of 4.5:1 at least. Fixed: xterm's palette (XTerm-col.ad).
+-- each has a contrast of 4.5:1 at least. Fixed: xterm's palette (its file XTerm-color).
 abbrev pub named_shades : Hue → Shades
 named_shades Black = shades (codes "#24292f") (codes "#7d8590") (codes "#000000")
 named_shades Red = shades (codes "#cf222e") (codes "#ff7b72") (codes "#cd0000")

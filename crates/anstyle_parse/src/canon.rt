@@ -5,6 +5,7 @@ mod checkpoints;
 mod devices;
 mod engine;
 mod output;
+mod parts;
 mod writer;
 
 pub use buffer::Buffer;

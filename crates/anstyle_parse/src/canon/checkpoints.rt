@@ -12,7 +12,7 @@ ghost use Rattle.anstyle_parse.specs.Fields.Params.{closed_groups_of, open_group
 ghost use Rattle.anstyle_parse.specs.Fields.Parser.{machine_of, IsAfter};
 ghost use Rattle.anstyle_parse.specs.Machine.Stands.{seen};
 
-use super::writer::{split_marker, text_if};
+use super::parts::{split_marker, text_if};
 use super::{Fault, Output, Sink};
 use crate::params::Params;
 use crate::parser::Parser;

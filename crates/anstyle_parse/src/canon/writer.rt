@@ -6,6 +6,7 @@ ghost use Rattle.anstyle_parse.specs.Stream.Arguments.{after_marker};
 ghost use Rattle.anstyle_parse.specs.Stream.Canon.{shows_no_more_intermediates, call_text, canon, header_text, leading_marker, one_more_field, one_more_intermediate, command_end};
 ghost use Rattle.anstyle_parse.specs.Writing.Output.{writer_in, fault_in, Adds, Finishes};
 
+use super::parts::{split_marker, text_if};
 use super::{CallWriter, Fault, KeepsFault, Output, Sink};
 use crate::params::Params;
 use crate::perform::Perform;
@@ -194,18 +195,6 @@ impl<W: Sink> CanonWriter<W> {
     }
 }
 
-/// The marker at the head, if one stands there, and what is after it.
-#[tactic(auto, unfolding(crate::specs::Stream::Bytes::is_marker, crate::specs::Stream::Bytes::is_within))]
-pub(super) fn split_marker(intermediates: &[u8]) -> (&[u8], &[u8])
-    ensures marker { result.0.now ≡ leading_marker intermediates.now }
-    ensures others { result.1.now ≡ after_marker intermediates.now }
-{
-    match intermediates {
-        [b'<'..=b'?', ..] => intermediates.split_at(1),
-        _ => intermediates.split_at(0),
-    }
-}
-
 /// Whether there are as many intermediates as a header shows.
 #[tactic(auto, unfolding(crate::specs::Stream::Canon::shows_no_more_intermediates))]
 fn is_full(intermediates: &[u8]) -> bool
@@ -234,13 +223,6 @@ fn more_intermediates(intermediates: &[u8], ignore: bool) -> &'static [u8]
     } else {
         b""
     }
-}
-
-/// The text, where the condition holds, and else none.
-pub(super) fn text_if(condition: bool, text: &'static [u8]) -> &'static [u8]
-    ensures { result.now ≡ (if condition then text.now else []) }
-{
-    if condition { text } else { b"" }
 }
 
 /// BEL where BEL ended the command, else ESC X and ST, a string that makes no call.

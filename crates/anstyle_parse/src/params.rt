@@ -70,7 +70,7 @@ impl Params {
 
     /// Whether there is no room for another field.
     pub(crate) fn is_full(&self) -> bool
-        ensures full { IsTrue result ↔ (length (concat (closed_groups_of self.now)) + length (open_group_of self.now) ≡ 32) }
+        ensures full { IsTrue result ↔ (length (concat (closed_groups_of self.now)) + length (open_group_of self.now) ≡ max_fields) }
         ensures room { OnFalse result (length (concat (closed_groups_of self.now)) + length (open_group_of self.now) < max_fields) }
     {
         self.len == MAX_PARAMS

@@ -64,7 +64,7 @@ groups_of-groups header = groups-first_fields max_fields (grouped_fields header)
 -- at least one
 groups_of-some : (header : List ℕ) → 0 < length (groups_of header)
 unfolding groups_of
-groups_of-some header = first_fields-some 31 (grouped_fields header) (omega (arith, length-read (slice_split (λ b. eqb b semicolon) (filter is_parameter header)), slice_split-some (λ b. eqb b semicolon) (filter is_parameter header)))
+groups_of-some header = first_fields-some (max_fields - 1) (grouped_fields header) (omega (arith, length-read (slice_split (λ b. eqb b semicolon) (filter is_parameter header)), slice_split-some (λ b. eqb b semicolon) (filter is_parameter header)))
 
 -- their fields, the first 32
 pub fields_of : (header : List ℕ) → concat (groups_of header) ≡ take max_fields (concat (grouped_fields header))

@@ -156,7 +156,7 @@ IsWithinLimits-machine adds [] m h = h
 IsWithinLimits-machine adds (b ∷ bytes) m h = IsWithinLimits-machine adds bytes (step adds b m) (IsWithinLimits-step adds b m h)
 
 -- a parser is within the limits: its own conditions, and the size of its array of fields
-pub IsWithinLimits-parser : {C : Type 0} (p : Parser C) → length p.params.numbers ≡ 32 → IsWithinLimits (machine_of p)
+pub IsWithinLimits-parser : {C : Type 0} (p : Parser C) → length p.params.numbers ≡ max_fields → IsWithinLimits (machine_of p)
 IsWithinLimits-parser p numbers = record {
   fields = omega (arith, p.params.in_range, field_total p.params.open_fields p.params.len p.params.starts p.params.numbers p.params.open_within (omega (arith, p.params.in_range, numbers)) p.params.first_starts);
   collected = omega (arith, length-take p.intermediate_count p.intermediates, p.few_intermediates);

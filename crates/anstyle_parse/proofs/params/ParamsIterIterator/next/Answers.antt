@@ -10,7 +10,7 @@ invariant_of-self c =
     let fields = i.numbers.now in
     let k = length c.in_ok-others.others.now in
     let whole : length fields ≡ i.place + suc k = omega (arith, c.in_ok-others.ensures.cases.1, c.split_at.ensures.back_len) in
-    let run = more_is_run fields i.starts i.place k whole c.min-more.result i.in_range i.none_above c.min-more.ensures in
+    let run = more_is_run fields i.starts i.place k whole c.min-more.result (omega (arith, i.in_range)) i.none_above c.min-more.ensures in
     record {
       in_range = i.in_range;
       none_above = i.none_above;
@@ -24,7 +24,7 @@ returns-clause-steps c =
     let fields = i.numbers.now in
     let k = length c.in_ok-others.others.now in
     let whole : length fields ≡ i.place + suc k = omega (arith, c.in_ok-others.ensures.cases.1, c.split_at.ensures.back_len) in
-    let run = more_is_run fields i.starts i.place k whole c.min-more.result i.in_range i.none_above c.min-more.ensures in
+    let run = more_is_run fields i.starts i.place k whole c.min-more.result (omega (arith, i.in_range)) i.none_above c.min-more.ensures in
     let group : c.split_at-2.result.0.now ≡ take (length c.split_at-2.result.0.now) (drop i.place fields)
     = c.split_at-2.ensures.front ∙ ap₂ take (sym c.split_at-2.ensures.front_len) c.split_at.ensures.back in
     next_steps fields i.starts i.place k whole (length c.split_at-2.result.0.now) (omega (arith, c.split_at-2.ensures.front_len, run)) (i.place_starts (omega arith))

@@ -60,13 +60,16 @@ pub fn convert<R: Source, W: Sink>(
 
     // No markup comes in: it is text and spans that do not nest, with declarations from a
     // fixed vocabulary.
-    ensures grammar { (bytes : List ℕ) (calls : List Call) → AreCalls bytes calls → IsFragment (html calls) }
+    ensures grammar { (bytes : List ℕ) (calls : List Call) → AreCalls bytes calls
+        → IsFragment (html calls) }
 
     // It is UTF-8, whatever was read.
-    ensures utf8 { (bytes : List ℕ) (calls : List Call) → AreCalls bytes calls → IsUtf8 (html calls) }
+    ensures utf8 { (bytes : List ℕ) (calls : List Call) → AreCalls bytes calls
+        → IsUtf8 (html calls) }
 
     // It has at most 278 bytes for each byte that was read, and 7 more.
-    ensures bound { (bytes : List ℕ) (calls : List Call) → AreCalls bytes calls → length (html calls) ≤ 278 * length bytes + 7 }
+    ensures bound { (bytes : List ℕ) (calls : List Call) → AreCalls bytes calls
+        → length (html calls) ≤ 278 * length bytes + 7 }
 {
     write_calls_between::<HtmlWriter<W>, R, W>(head, reader, writer, tail)
 }

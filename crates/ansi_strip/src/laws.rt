@@ -11,8 +11,10 @@ use anstyle_parse::laws::{bounds, calls_are_lawful, replay};
 ///
 /// And stripping twice is stripping once.
 pub fn stripped_twice()
-    ensures text { (bytes : List ℕ) (calls : List Call) → AreCalls bytes calls → AreCalls (stripped calls) (filter is_left calls) }
-    ensures twice { (bytes : List ℕ) (calls again : List Call) → AreCalls bytes calls → AreCalls (stripped calls) again → stripped again ≡ stripped calls }
+    ensures text { (bytes : List ℕ) (calls : List Call) → AreCalls bytes calls
+        → AreCalls (stripped calls) (filter is_left calls) }
+    ensures twice { (bytes : List ℕ) (calls again : List Call) → AreCalls bytes calls
+        → AreCalls (stripped calls) again → stripped again ≡ stripped calls }
 {
     calls_are_lawful();
     replay();
@@ -21,7 +23,8 @@ pub fn stripped_twice()
 /// Stripped text is at most three times as long as what was stripped: at worst each byte breaks
 /// a character, and U+FFFD has three bytes.
 pub fn stripped_length()
-    ensures { (bytes : List ℕ) (calls : List Call) → AreCalls bytes calls → length (stripped calls) ≤ 3 * length bytes }
+    ensures { (bytes : List ℕ) (calls : List Call) → AreCalls bytes calls
+        → length (stripped calls) ≤ 3 * length bytes }
 {
     bounds();
 }

@@ -25,11 +25,14 @@ pub fn joined()
 /// A colour with colons and a colour with semicolons are the same, whatever follows: `38:5:n`
 /// and `38;5;n`; `38:2:r:g:b`, `38:2:space:r:g:b` and `38;2;r;g;b`; likewise after 48 and 58.
 pub fn forms()
-    ensures indexed { (code n : ℕ) (after : List (List ℕ)) (style : Style) → IsTrue (is_color_code code)
+    ensures indexed { (code n : ℕ) (after : List (List ℕ)) (style : Style)
+        → IsTrue (is_color_code code)
         → selected ((code ∷ 5 ∷ n ∷ []) ∷ after) style ≡ selected (one code ∷ one 5 ∷ one n ∷ after) style }
-    ensures direct { (code r g b : ℕ) (after : List (List ℕ)) (style : Style) → IsTrue (is_color_code code)
+    ensures direct { (code r g b : ℕ) (after : List (List ℕ)) (style : Style)
+        → IsTrue (is_color_code code)
         → selected ((code ∷ 2 ∷ r ∷ g ∷ b ∷ []) ∷ after) style ≡ selected (one code ∷ one 2 ∷ one r ∷ one g ∷ one b ∷ after) style }
-    ensures with_space { (code space r g b : ℕ) (after : List (List ℕ)) (style : Style) → IsTrue (is_color_code code)
+    ensures with_space { (code space r g b : ℕ) (after : List (List ℕ)) (style : Style)
+        → IsTrue (is_color_code code)
         → selected ((code ∷ 2 ∷ space ∷ r ∷ g ∷ b ∷ []) ∷ after) style ≡ selected (one code ∷ one 2 ∷ one r ∷ one g ∷ one b ∷ after) style }
 {}
 

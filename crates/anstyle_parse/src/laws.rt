@@ -41,11 +41,14 @@ pub fn headline<P: Perform>(performer: &mut P, pieces: &[&[u8]])
         × ((others : List Item) → IsDivision others bytes → others ≡ items) }
 
     // The canonical text of these calls makes the same calls again.
-    ensures again { (bytes : List ℕ) (calls : List Call) → AreCalls bytes calls → AreCalls (canon calls) calls }
+    ensures again { (bytes : List ℕ) (calls : List Call) → AreCalls bytes calls
+        → AreCalls (canon calls) calls }
 
     // After one ESC byte the calls are those of ESC and what follows.
-    ensures forgotten { (before bytes : List ℕ) (first more : List Call) → AreCalls (before ++ escape_byte ∷ []) first
-        → AreCalls (escape_byte ∷ bytes) more → AreCalls (before ++ escape_byte ∷ bytes) (first ++ more) }
+    ensures forgotten { (before bytes : List ℕ) (first more : List Call)
+        → AreCalls (before ++ escape_byte ∷ []) first
+        → AreCalls (escape_byte ∷ bytes) more
+        → AreCalls (before ++ escape_byte ∷ bytes) (first ++ more) }
 {
     let mut parser = Parser::<Utf8Parser>::new();
     for piece in pieces {
@@ -55,9 +58,11 @@ pub fn headline<P: Perform>(performer: &mut P, pieces: &[&[u8]])
 
 /// A piece of one byte goes by `advance`, any other by `advance_all`.
 fn take_piece<P: Perform>(parser: &mut Parser, performer: &mut P, piece: &[u8])
-    ensures stands { (before : List ℕ) → IsAfter front_of parser.old before → IsAfter front_of parser.new (before ++ piece.now) }
+    ensures stands { (before : List ℕ) → IsAfter front_of parser.old before
+        → IsAfter front_of parser.new (before ++ piece.now) }
     ensures received { (first : P) (before : List ℕ) → IsAfter front_of parser.old before
-        → HasReceived P.means first before performer.old → HasReceived P.means first (before ++ piece.now) performer.new }
+        → HasReceived P.means first before performer.old
+        → HasReceived P.means first (before ++ piece.now) performer.new }
 {
     match piece {
         [byte] => parser.advance(performer, *byte),
@@ -85,33 +90,40 @@ pub fn calls_are_lawful()
 /// Replay: the canonical text of a lawful list of calls makes these calls, and no others.
 pub fn replay()
     ensures makes { (calls : List Call) → AreLawful calls → AreCalls (canon calls) calls }
-    ensures only { (calls others : List Call) → AreLawful calls → AreCalls (canon calls) others → others ≡ calls }
+    ensures only { (calls others : List Call) → AreLawful calls → AreCalls (canon calls) others
+        → others ≡ calls }
 {}
 
 /// Two inputs make equal calls exactly if their canonical texts are equal.
 pub fn equal_texts()
-    ensures { (bytes others : List ℕ) (calls other_calls : List Call) → AreCalls bytes calls → AreCalls others other_calls
+    ensures { (bytes others : List ℕ) (calls other_calls : List Call) → AreCalls bytes calls
+        → AreCalls others other_calls
         → ((calls ≡ other_calls) ↔ (canon calls ≡ canon other_calls)) }
 {}
 
 /// What was written canonically, read again, makes the same calls, and its canonical text is
 /// itself.
 pub fn canonical_again()
-    ensures calls { (bytes : List ℕ) (calls others : List Call) → AreCalls bytes calls → AreCalls (canon calls) others → others ≡ calls }
-    ensures text { (bytes : List ℕ) (calls others : List Call) → AreCalls bytes calls → AreCalls (canon calls) others → canon others ≡ canon calls }
+    ensures calls { (bytes : List ℕ) (calls others : List Call) → AreCalls bytes calls
+        → AreCalls (canon calls) others → others ≡ calls }
+    ensures text { (bytes : List ℕ) (calls others : List Call) → AreCalls bytes calls
+        → AreCalls (canon calls) others → canon others ≡ canon calls }
 {}
 
 /// Bounds: bytes make at most as many calls as they are, and the canonical text of these is at
 /// most three times as long.
 pub fn bounds()
-    ensures calls { (bytes : List ℕ) (calls : List Call) → AreCalls bytes calls → length calls ≤ length bytes }
-    ensures text { (bytes : List ℕ) (calls : List Call) → AreCalls bytes calls → length (canon calls) ≤ 3 * length bytes }
+    ensures calls { (bytes : List ℕ) (calls : List Call) → AreCalls bytes calls
+        → length calls ≤ length bytes }
+    ensures text { (bytes : List ℕ) (calls : List Call) → AreCalls bytes calls
+        → length (canon calls) ≤ 3 * length bytes }
 {}
 
 /// By a list of calls a canonical writer adds their canonical text: all of it, or where the
 /// writer fails a proper beginning.
 pub fn canonical_text<W: Sink>()
-    ensures { (calls : List Call) (old new : CanonWriter W) → Goes ⟦<CanonWriter<W> as Perform>⟧.means old calls new
+    ensures { (calls : List Call) (old new : CanonWriter W)
+        → Goes ⟦<CanonWriter<W> as Perform>⟧.means old calls new
         → Adds W.contents W.has_failed (canon calls) (output_of old) (output_of new) }
 {}
 
@@ -121,9 +133,11 @@ pub fn canonical_text<W: Sink>()
 /// histories and one ESC byte the calls of all further bytes are the same, although what is
 /// still stored may differ.
 pub fn forgotten<C: CharAccumulator>()
-    ensures stands { (parser : Parser C) (before : List ℕ) → IsAfter C.front parser (before ++ escape_byte ∷ [])
+    ensures stands { (parser : Parser C) (before : List ℕ)
+        → IsAfter C.front parser (before ++ escape_byte ∷ [])
         → IsAfter C.front parser (escape_byte ∷ []) }
-    ensures ascii { (parser : Parser C) (before : List ℕ) → IsAfterAscii parser (before ++ escape_byte ∷ [])
+    ensures ascii { (parser : Parser C) (before : List ℕ)
+        → IsAfterAscii parser (before ++ escape_byte ∷ [])
         → IsAfterAscii parser (escape_byte ∷ []) }
     ensures calls { (before bytes : List ℕ) (more : List Call)
         → (Continues (escape_byte ∷ []) bytes more ↔ Continues (before ++ escape_byte ∷ []) bytes more) }
@@ -146,9 +160,11 @@ pub fn cancelled<C: CharAccumulator>()
 /// compared too.
 pub fn equal_parsers()
     ensures equivalence { IsEquivalence ⟦<Parser as PartialEq>⟧.eq }
-    ensures stands { (a b : Parser Utf8Parser) (before : List ℕ) → IsTrue (⟦<Parser as PartialEq>⟧.eq a b)
+    ensures stands { (a b : Parser Utf8Parser) (before : List ℕ)
+        → IsTrue (⟦<Parser as PartialEq>⟧.eq a b)
         → (IsAfter front_of a before ↔ IsAfter front_of b before) }
-    ensures calls { (a b : Parser Utf8Parser) (bytes : List ℕ) → IsTrue (⟦<Parser as PartialEq>⟧.eq a b)
+    ensures calls { (a b : Parser Utf8Parser) (bytes : List ℕ)
+        → IsTrue (⟦<Parser as PartialEq>⟧.eq a b)
         → machine_calls parser_after bytes (machine_of a) ≡ machine_calls parser_after bytes (machine_of b) }
 {}
 
@@ -156,7 +172,8 @@ pub fn equal_parsers()
 /// exactly if they hold equal fronts, and any two accumulators of ASCII are equal.
 pub fn equal_accumulators()
     ensures equivalence { IsEquivalence ⟦<Utf8Parser as PartialEq>⟧.eq }
-    ensures fronts { (a b : Utf8Parser) → (IsTrue (⟦<Utf8Parser as PartialEq>⟧.eq a b) ↔ (front_of a ≡ front_of b)) }
+    ensures fronts { (a b : Utf8Parser)
+        → (IsTrue (⟦<Utf8Parser as PartialEq>⟧.eq a b) ↔ (front_of a ≡ front_of b)) }
     ensures ascii { (a b : AsciiParser) → IsTrue (⟦<AsciiParser as PartialEq>⟧.eq a b) }
 {}
 
@@ -183,6 +200,8 @@ pub fn action_as_number(action: Action) -> u8
 
 /// The default state is Ground, and the default action Nop.
 pub fn default_variants()
-    ensures state { (value : State) → (⟦<State as Default>⟧.is_default value ↔ (value ≡ State.Ground)) }
-    ensures action { (value : Action) → (⟦<Action as Default>⟧.is_default value ↔ (value ≡ Action.Nop)) }
+    ensures state { (value : State)
+        → (⟦<State as Default>⟧.is_default value ↔ (value ≡ State.Ground)) }
+    ensures action { (value : Action)
+        → (⟦<Action as Default>⟧.is_default value ↔ (value ≡ Action.Nop)) }
 {}

@@ -191,7 +191,8 @@ impl Params {
     /// sequence is compared too.
     pub fn equality_law()
         ensures equivalence { IsEquivalence ⟦<Params as PartialEq>⟧.eq }
-        ensures groups { (a b : Params) → IsTrue (⟦<Params as PartialEq>⟧.eq a b) → groups_shown a ≡ groups_shown b }
+        ensures groups { (a b : Params) → IsTrue (⟦<Params as PartialEq>⟧.eq a b)
+            → groups_shown a ≡ groups_shown b }
     {}
 
     /// The Debug text of parameters that a parser hands out says to a parser the same again:

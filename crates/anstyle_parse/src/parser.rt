@@ -144,8 +144,10 @@ impl<C: CharAccumulator> Parser<C> {
         // exactly the calls of the bytes before has received exactly those of all.
         ensures stands { (before : List ℕ) → IsTrue C.decodes → IsAfter C.front self.old before
             → IsAfter C.front self.new (before ++ byte ∷ []) }
-        ensures received { (first : P) (before : List ℕ) → IsTrue C.decodes → IsAfter C.front self.old before
-            → HasReceived P.means first before performer.old → HasReceived P.means first (before ++ byte ∷ []) performer.new }
+        ensures received { (first : P) (before : List ℕ) → IsTrue C.decodes
+            → IsAfter C.front self.old before
+            → HasReceived P.means first before performer.old
+            → HasReceived P.means first (before ++ byte ∷ []) performer.new }
 
         // One byte does what the machine does with it.
         ensures machine { machine_of self.new ≡ step C.taken byte (machine_of self.old) }
@@ -156,7 +158,8 @@ impl<C: CharAccumulator> Parser<C> {
         // the byte breaks a character that was begun.
         ensures few { length (step_calls C.taken byte (machine_of self.old)) ≤ 2 }
         ensures two { length (step_calls C.taken byte (machine_of self.old)) ≡ 2
-            → (IsTrue (is_cancel byte) × HasOpenString self.old) ⊎ BreaksCharacter C.taken self.old byte }
+            → (IsTrue (is_cancel byte) × HasOpenString self.old)
+            ⊎ BreaksCharacter C.taken self.old byte }
 
         // These calls continue those of the bytes before; over ASCII this is so for any
         // accumulator.
@@ -186,48 +189,57 @@ impl<C: CharAccumulator> Parser<C> {
         // exactly the calls of the bytes before has received exactly those of all.
         ensures stands { (before : List ℕ) → IsTrue C.decodes → IsAfter C.front self.old before
             → IsAfter C.front self.new (before ++ bytes.now) }
-        ensures received { (first : P) (before : List ℕ) → IsTrue C.decodes → IsAfter C.front self.old before
-            → HasReceived P.means first before performer.old → HasReceived P.means first (before ++ bytes.now) performer.new }
-
-        // The bytes do what the machine does with each in turn.
-        ensures machine { machine_of self.new ≡ machine_after C.taken bytes.now (machine_of self.old) }
-        ensures calls { Goes P.means performer.old (machine_calls C.taken bytes.now (machine_of self.old)) performer.new }
-        ensures limits { IsWithinLimits (machine_of self.new) }
-
-        // These calls continue those of the bytes before; over ASCII this is so for any
-        // accumulator.
-        ensures stream { (before : List ℕ) → IsTrue C.decodes → IsAfter C.front self.old before
-            → Continues before bytes.now (machine_calls C.taken bytes.now (machine_of self.old)) }
-        ensures ascii_stands { (before : List ℕ) → AreBelow 0x80 bytes.now → IsAfterAscii self.old before
-            → IsAfterAscii self.new (before ++ bytes.now) }
-        ensures ascii_stream { (before : List ℕ) → AreBelow 0x80 bytes.now → IsAfterAscii self.old before
-            → Continues before bytes.now (machine_calls C.taken bytes.now (machine_of self.old)) }
+        ensures received { (first : P) (before : List ℕ) → IsTrue C.decodes
+            → IsAfter C.front self.old before
+            → HasReceived P.means first before performer.old
+            → HasReceived P.means first (before ++ bytes.now) performer.new }
 
         // All calls so far are a lawful list: so hooks exceed unhooks by at most one, and
         // between the two only put is called.
-        ensures lawful { (before : List ℕ) (first : List Call) → IsTrue C.decodes → IsAfter C.front self.old before
-            → AreCalls before first → AreLawful (first ++ machine_calls C.taken bytes.now (machine_of self.old)) }
+        ensures lawful { (before : List ℕ) (first : List Call) → IsTrue C.decodes
+            → IsAfter C.front self.old before
+            → AreCalls before first
+            → AreLawful (first ++ machine_calls C.taken bytes.now (machine_of self.old)) }
 
         // After one ESC byte the calls are those of ESC and these bytes; after 18 or 1A, those of
         // these bytes. Nothing before counts.
         ensures forgotten { (before : List ℕ) → IsTrue C.decodes
             → IsAfter C.front self.old (before ++ escape_byte ∷ [])
             → AreCalls (escape_byte ∷ bytes.now) (machine_calls C.taken bytes.now (machine_of self.old)) }
-        ensures cancelled { (before : List ℕ) (cancel : ℕ) → IsTrue C.decodes → IsTrue (is_cancel cancel)
+        ensures cancelled { (before : List ℕ) (cancel : ℕ) → IsTrue C.decodes
+            → IsTrue (is_cancel cancel)
             → IsAfter C.front self.old (before ++ cancel ∷ [])
             → AreCalls bytes.now (machine_calls C.taken bytes.now (machine_of self.old)) }
 
-        // Over ASCII one ESC, 18 or 1A is always enough, for any accumulator.
+        // A new parser makes of the canonical text of lawful calls exactly these calls.
+        ensures replay { (calls : List Call) → IsTrue C.decodes → IsAfter C.front self.old []
+            → AreLawful calls
+            → bytes.now ≡ canon calls → Goes P.means performer.old calls performer.new }
+
+        // The calls made here continue those of the bytes before.
+        ensures stream { (before : List ℕ) → IsTrue C.decodes → IsAfter C.front self.old before
+            → Continues before bytes.now (machine_calls C.taken bytes.now (machine_of self.old)) }
+
+        // Over ASCII the like holds for any accumulator.
+        ensures ascii_stands { (before : List ℕ) → AreBelow 0x80 bytes.now
+            → IsAfterAscii self.old before
+            → IsAfterAscii self.new (before ++ bytes.now) }
+        ensures ascii_stream { (before : List ℕ) → AreBelow 0x80 bytes.now
+            → IsAfterAscii self.old before
+            → Continues before bytes.now (machine_calls C.taken bytes.now (machine_of self.old)) }
         ensures ascii_escape { (before : List ℕ) → AreBelow 0x80 bytes.now
             → IsAfterAscii self.old (before ++ escape_byte ∷ [])
             → AreCalls (escape_byte ∷ bytes.now) (machine_calls C.taken bytes.now (machine_of self.old)) }
-        ensures ascii_cancel { (before : List ℕ) (cancel : ℕ) → AreBelow 0x80 bytes.now → IsTrue (is_cancel cancel)
+        ensures ascii_cancel { (before : List ℕ) (cancel : ℕ) → AreBelow 0x80 bytes.now
+            → IsTrue (is_cancel cancel)
             → IsAfterAscii self.old (before ++ cancel ∷ [])
             → AreCalls bytes.now (machine_calls C.taken bytes.now (machine_of self.old)) }
 
-        // A new parser makes of the canonical text of lawful calls exactly these calls.
-        ensures replay { (calls : List Call) → IsTrue C.decodes → IsAfter C.front self.old [] → AreLawful calls
-            → bytes.now ≡ canon calls → Goes P.means performer.old calls performer.new }
+        // Whatever the bytes and the accumulator, the bytes do what the machine does with each in
+        // turn, and what is kept stays within the limits.
+        ensures machine { machine_of self.new ≡ machine_after C.taken bytes.now (machine_of self.old) }
+        ensures calls { Goes P.means performer.old (machine_calls C.taken bytes.now (machine_of self.old)) performer.new }
+        ensures limits { IsWithinLimits (machine_of self.new) }
     {
         self.take_bytes(performer, bytes);
     }
@@ -472,7 +484,8 @@ impl<C: CharAccumulator> Parser<C> {
         }
     }
 
-    /// The last field, before a dispatch.
+    /// Closes the header's last field, which no separator ends, before a dispatch. Where 32
+    /// fields are stored it is dropped.
     #[inline(always)]
     fn end_fields(&mut self)
         ensures { machine_of self.new ≡ with_last_field (machine_of self.old) }
@@ -490,7 +503,7 @@ impl<C: CharAccumulator> Parser<C> {
     ghost use Rattle.anstyle_parse.specs.Fields.Parser.{machine_of};
     ghost use Rattle.anstyle_parse.specs.Machine.Step.{with_part, after_osc_put, after_osc_start};
 
-    /// No text, no parts.
+    /// Begins an operating system command: no byte is stored and no part closed.
     fn osc_start(&mut self)
         ensures { machine_of self.new ≡ after_osc_start (machine_of self.old) }
     {

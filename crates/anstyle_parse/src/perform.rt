@@ -17,7 +17,8 @@ pub trait Perform {
     // What a call means: the performer before, the call, the performer after.
     ghost means: { Self → Call → Self → Type 0 };
 
-    /// A character to be shown.
+    /// A character to be shown. A sequence of UTF-8 that is broken is one U+FFFD, and the byte
+    /// that broke it is handled as the first after it.
     fn print(&mut self, c: char)
         ensures { means self.old (print c) self.new };
 

@@ -43,7 +43,8 @@ pub fn run<R: Source, W: Sink>(mode: Mode, reader: &mut R, writer: W) -> (W, Res
     ensures handed_on { OnOk result.1 (W.holds_nothing result.0) }
 
     // What mode canon writes makes the calls of what was read.
-    ensures normalises { mode ≡ Mode.Canon → Normalises R.remaining W.contents reader.old reader.new writer result.0 result.1 }
+    ensures normalises { mode ≡ Mode.Canon
+        → Normalises R.remaining W.contents reader.old reader.new writer result.0 result.1 }
 {
     match mode {
         Mode::Log => write_calls::<LogWriter<W>, R, W>(reader, writer),

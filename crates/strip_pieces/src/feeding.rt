@@ -52,7 +52,8 @@ fn take(parser: &mut Parser, piece: &[u8], room: &mut Room) -> usize
     requires { room.old.written ≤ length room.old.into.now }
     ensures same_reference { room.new.into.ghost_name ≡ room.old.into.ghost_name }
     ensures taken { IsTaken parser.old parser.new piece.now room.old room.new result }
-    ensures all { room.new.written + most_text ≤ length room.new.into.now → result ≡ length piece.now }
+    ensures all { room.new.written + most_text ≤ length room.new.into.now
+        → result ≡ length piece.now }
 {
     let mut taken = 0;
     while taken < piece.len() && room.left() >= LEAST_ROOM {

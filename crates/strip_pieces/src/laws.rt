@@ -18,7 +18,9 @@ pub fn states()
 /// The texts of pieces, one after another, are the text of the whole; and the text of all bytes
 /// of a stream is what is left of their calls.
 pub fn texts_joined()
-    ensures pieces { (before bytes more text rest : List ℕ) → IsTextOf before bytes text → IsTextOf (before ++ bytes) more rest
+    ensures pieces { (before bytes more text rest : List ℕ) → IsTextOf before bytes text
+        → IsTextOf (before ++ bytes) more rest
         → IsTextOf before (bytes ++ more) (text ++ rest) }
-    ensures whole { (bytes text : List ℕ) → IsTextOf [] bytes text → (calls : List Call) × AreCalls bytes calls × (text ≡ stripped calls) }
+    ensures whole { (bytes text : List ℕ) → IsTextOf [] bytes text → (calls : List Call)
+        × AreCalls bytes calls × (text ≡ stripped calls) }
 {}

@@ -50,7 +50,8 @@ impl StreamState {
     /// Stands where the parser stands.
     pub(crate) fn save(&mut self, parser: &Parser)
         requires { (before : List ℕ) × IsAfter front_of parser.now before }
-        ensures { (before : List ℕ) → IsAfter front_of parser.now before → StandsFor self.new before }
+        ensures { (before : List ℕ) → IsAfter front_of parser.now before
+            → StandsFor self.new before }
     {
         let (saved, _) = checkpoint(parser, Saved::new());
         *self = saved.into_state();

@@ -1,5 +1,5 @@
--- When a parser stands after a list of bytes: what of it counts is as a new parser's that
--- took them.
+-- A parser stands after bytes if all that can still affect its calls is as in a new parser
+-- that took them.
 use Rattle.std.specs.Prelude.{◌≡◌, ◌<◌, ℕ, List, [], ◌∷◌, ◌++◌, Option}
 use Rattle.anstyle_parse.specs.declared.state.definitions.State.{State}
 use Rattle.anstyle_parse.specs.declared.state.definitions.State.TheVariants.{CsiEntry, CsiIntermediate, CsiParam, DcsEntry, DcsIntermediate, DcsParam, Escape, EscapeIntermediate, OscString}

@@ -13,8 +13,8 @@ use Rattle.anstyle_parse.specs.Writing.Output.{AppendsBeginning}
 abbrev pub most_reads : ℕ
 most_reads = 2 ^ 64 - 1
 
--- The reader has been asked to its end, or for a fault of the performer no further, or a
--- read failed, as the end of all reads does too.
+-- Why no more was read: the reader is at its end; or the performer keeps a fault; or a read
+-- failed, or as many reads as are made at most all gave bytes.
 abbrev pub StopsAs : Stop → (at_end : Type 0) → (fault : Option Fault) → (failed failed_after : Bool) → ℕ → Type 0
 StopsAs AtEnd at_end fault failed failed_after count = at_end × (fault ≡ None) × (failed_after ≡ failed)
 StopsAs AtFault at_end fault failed failed_after count = IsSome fault × (failed_after ≡ failed)

@@ -100,7 +100,8 @@ impl<W: Sink> Buffer<W> {
 fn write_out<W: Sink>(writer: &mut W, bytes: &[u8]) -> usize
     ensures within { result ≤ length bytes.now }
     ensures passed { Appends (W.contents writer.old) (W.contents writer.new) (take result bytes.now) }
-    ensures not_failed { result ≡ length bytes.now → W.has_failed writer.new ≡ W.has_failed writer.old }
+    ensures not_failed { result ≡ length bytes.now
+        → W.has_failed writer.new ≡ W.has_failed writer.old }
     ensures failed { result < length bytes.now → IsTrue (W.has_failed writer.new) }
 {
     let mut written = 0;
@@ -131,7 +132,8 @@ impl<W: Sink> Sink for Buffer<W> {
 
     ghost has_failed = { buffer_failed W.has_failed };
 
-    ghost holds_nothing = { λ buffer. (held_back buffer ≡ []) × W.holds_nothing (writer_behind buffer) };
+    ghost holds_nothing = { λ buffer. (held_back buffer ≡ [])
+        × W.holds_nothing (writer_behind buffer) };
 
     #[inline]
     fn write(&mut self, bytes: &[u8]) -> Option<usize> {
@@ -148,7 +150,8 @@ impl<W: Sink> Sink for Buffer<W> {
     fn flush(&mut self) -> bool
         ensures nothing_passed { Keeps (buffer_contents W.contents self.old) (buffer_contents W.contents self.new) }
         ensures from_the_front { HandsOn W.contents self.old self.new }
-        ensures handed_on { OnTrue result ((held_back self.new ≡ []) × W.holds_nothing (writer_behind self.new)) }
+        ensures handed_on { OnTrue result ((held_back self.new ≡ [])
+            × W.holds_nothing (writer_behind self.new)) }
         ensures not_failed { OnTrue result (W.has_failed (writer_behind self.new) ≡ W.has_failed (writer_behind self.old)) }
         ensures failed { OnFalse result (IsTrue (W.has_failed (writer_behind self.new))) }
     {
@@ -160,9 +163,9 @@ impl<W: Sink> Buffer<W> {
     ghost use Rattle.std.specs.Prelude.{IfSome, IfNone, OnSome};
     ghost use Rattle.anstyle_parse.specs.Writing.Buffer.{writer_behind, held_back, is_by_line, buffer_contents};
 
-    /// Takes bytes that are not held back as they are: those that end a line are handed on,
-    /// and of others as many are taken as there is room for, once what is held back has been
-    /// handed on where there was none.
+    /// Takes bytes that can't just be held back too. By line, what is held back is handed on and
+    /// the bytes are written after it. Else, where there is no room what is held back is handed on
+    /// first, and as many bytes are taken as there is room for.
     #[inline(never)]
     fn write_through(&mut self, bytes: &[u8]) -> Option<usize>
         ensures within { IfSome result (λ count. count ≤ length bytes.now) }
@@ -171,7 +174,8 @@ impl<W: Sink> Buffer<W> {
         ensures not_failed { OnSome result (W.has_failed (writer_behind self.new) ≡ W.has_failed (writer_behind self.old)) }
         ensures nothing_passed { IfNone result (Keeps (buffer_contents W.contents self.old) (buffer_contents W.contents self.new)) }
         ensures failed { IfNone result (IsTrue (W.has_failed (writer_behind self.new))) }
-        ensures lines_at_once { OnSome result (IsTrue (is_by_line self.old) → held_back self.new ≡ []) }
+        ensures lines_at_once { OnSome result (IsTrue (is_by_line self.old)
+            → held_back self.new ≡ []) }
         ensures same_mode { is_by_line self.new ≡ is_by_line self.old }
     {
         let is_full = self.held.is_full();

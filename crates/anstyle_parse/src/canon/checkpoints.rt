@@ -36,7 +36,8 @@ pub fn checkpoint<W: Sink>(parser: &Parser, writer: W) -> (W, Result<(), Fault>)
     requires { (before : List ℕ) × IsAfter front_of parser.now before }
 
     // A text after which the parser stands is written, or a proper beginning of one.
-    ensures written { (text : List ℕ) × IsAfter front_of parser.now text × (length text ≤ max_checkpoint)
+    ensures written { (text : List ℕ) × IsAfter front_of parser.now text
+        × (length text ≤ max_checkpoint)
         × Writes text (W.contents writer) (W.contents result.0) result.1 }
 
     // With Ok nothing of it is held back.

@@ -24,7 +24,8 @@ pub trait Source {
     fn read(&mut self, into: &mut [u8]) -> Option<usize>
         ensures within { IfSome result (λ count. count ≤ length into.new) }
         ensures passed { IfSome result (λ count. Consumes (remaining self.old) (remaining self.new) (take count into.new)) }
-        ensures end { IfSome result (λ count. count ≡ 0 → 0 < length into.new → IsTrue zero_is_end → IsAtEnd (remaining self.new)) }
+        ensures end { IfSome result (λ count. count ≡ 0 → 0 < length into.new → IsTrue zero_is_end
+            → IsAtEnd (remaining self.new)) }
         ensures not_failed { OnSome result (has_failed self.new ≡ has_failed self.old) }
         ensures nothing_passed { IfNone result (Keeps (remaining self.old) (remaining self.new)) }
         ensures failed { IfNone result (IsTrue (has_failed self.new)) };

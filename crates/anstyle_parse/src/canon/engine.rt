@@ -85,11 +85,13 @@ pub trait CallWriter<W: Sink>: Perform + KeepsFault {
 
     // By a list of calls it writes their text. (`Adds-calls` of `proofs/OutputLemmas.antt` shows
     // it of texts of single calls, `Adds-calls_from` of texts that depend on a state too.)
-    ghost adds: { (old : Self) (calls : List Call) (new : Self) → is_new old → Goes Self.means old calls new
+    ghost adds: { (old : Self) (calls : List Call) (new : Self) → is_new old
+        → Goes Self.means old calls new
         → Adds W.contents W.has_failed (text calls) (output_in old) (output_in new) };
 
     // Where no fault stopped it, their ending is still to be written.
-    ghost ends: { (old : Self) (calls : List Call) (new : Self) → is_new old → Goes Self.means old calls new
+    ghost ends: { (old : Self) (calls : List Call) (new : Self) → is_new old
+        → Goes Self.means old calls new
         → Self.kept new ≡ None → unwritten new ≡ ending calls };
 
     // The fault that it keeps is the output's.
@@ -116,7 +118,8 @@ pub fn write_calls<P: CallWriter<W>, R: Source, W: Sink>(
     ensures runs { RunsToEnding R.remaining R.Source.has_failed R.zero_is_end W.contents W.Sink.has_failed P.text P.ending reader.old reader.new writer result.0 result.1 }
 
     // Where the text has no ending.
-    ensures plain { ((calls : List Call) → P.ending calls ≡ []) → Runs R.remaining R.Source.has_failed R.zero_is_end W.contents W.Sink.has_failed P.text reader.old reader.new writer result.0 result.1 }
+    ensures plain { ((calls : List Call) → P.ending calls ≡ [])
+        → Runs R.remaining R.Source.has_failed R.zero_is_end W.contents W.Sink.has_failed P.text reader.old reader.new writer result.0 result.1 }
 
     // With Ok nothing of it is held back.
     ensures handed_on { OnOk result.1 (W.holds_nothing result.0) }

@@ -197,7 +197,7 @@ impl<W: Sink> CanonWriter<W> {
 
 /// Whether there are as many intermediates as a header shows.
 #[tactic(auto, unfolding(crate::specs::Stream::Canon::shows_no_more_intermediates))]
-fn is_full(intermediates: &[u8]) -> bool
+fn shows_no_more_intermediates(intermediates: &[u8]) -> bool
     ensures { result ≡ shows_no_more_intermediates intermediates.now }
 {
     intermediates.len() >= MAX_SHOWN
@@ -207,7 +207,7 @@ fn is_full(intermediates: &[u8]) -> bool
 fn more_fields(intermediates: &[u8], ignore: bool) -> &'static [u8]
     ensures { result.now ≡ one_more_field intermediates.now ignore }
 {
-    if ignore && !is_full(intermediates) {
+    if ignore && !shows_no_more_intermediates(intermediates) {
         b";"
     } else {
         b""
@@ -218,7 +218,7 @@ fn more_fields(intermediates: &[u8], ignore: bool) -> &'static [u8]
 fn more_intermediates(intermediates: &[u8], ignore: bool) -> &'static [u8]
     ensures { result.now ≡ one_more_intermediate intermediates.now ignore }
 {
-    if ignore && is_full(intermediates) {
+    if ignore && shows_no_more_intermediates(intermediates) {
         b" "
     } else {
         b""

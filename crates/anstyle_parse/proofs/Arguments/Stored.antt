@@ -11,7 +11,8 @@ use Rattle.anstyle_parse.specs.Stream.Groups.{cut, total}
 use Rattle.anstyle_parse.specs.Machine.Step.{Machine, AccumulatorStep, stored_count, step, step_calls, machine_after, machine_calls}
 use Rattle.anstyle_parse.specs.declared.parser.Parser.{Parser}
 use Rattle.anstyle_parse.specs.Fields.Parser.{CanTakeAll, AreBelow}
-use Rattle.anstyle_parse.specs.Fields.Runs.{ArePassing, is_plain_text}
+use Rattle.anstyle_parse.specs.Stream.Items.{EachIs}
+use Rattle.anstyle_parse.specs.Fields.Runs.{is_plain_text}
 use Rattle.anstyle_parse.proofs.Arguments.Lengths.{cut_same}
 use Rattle.anstyle_parse.proofs.Machine.Steps.{storing-other}
 use Rattle.anstyle_parse.proofs.Machine.Runs.{step-stored}
@@ -57,7 +58,7 @@ module _ {A : Type 0} (adds : AccumulatorStep A) where
       let stepped = step-stored adds b m is (leb-true 0x20 b ends.0) (omega arith) in
       (stepped.0 ∙ storing-other m b (λ full. omega (arith, full)) (not_separator b parts.1), stepped.1)
 
-  pub stored_run : (text left : List ℕ) (m : Machine A) → m.state ≡ OscString → ArePassing is_plain_text text → stored_count m + length text ≤ max_osc_bytes
+  pub stored_run : (text left : List ℕ) (m : Machine A) → m.state ≡ OscString → EachIs is_plain_text text → stored_count m + length text ≤ max_osc_bytes
       → (machine_after adds left (record m { open_part = m.open_part ++ text }) ≡ machine_after adds (text ++ left) m)
       × (machine_calls adds left (record m { open_part = m.open_part ++ text }) ≡ machine_calls adds (text ++ left) m)
   unfolding longer

@@ -20,7 +20,8 @@ use Rattle.anstyle_parse.specs.Stream.Call.{Call, Goes, print}
 use Rattle.anstyle_parse.specs.Machine.Table.{Change, ◌by◌, change_at}
 use Rattle.anstyle_parse.specs.Machine.Step.{Machine, AccumulatorStep, Completes, IsWhole, print_answer, state_after_answer, after_answer, answer_calls, after_change, change_calls, field_count, after_param, stored_count, after_osc_put, step, step_calls, machine_after, machine_calls}
 use Rattle.anstyle_parse.specs.Fields.Parser.{machine_of, CanTakeAll}
-use Rattle.anstyle_parse.specs.Fields.Runs.{LeadsTo, LeadsQuietlyTo, KeepsTo, passes, passed_action, passed_calls, ArePassing, ArePassedOn}
+use Rattle.anstyle_parse.specs.Stream.Items.{EachIs}
+use Rattle.anstyle_parse.specs.Fields.Runs.{LeadsTo, LeadsQuietlyTo, KeepsTo, passes, passed_action, passed_calls, ArePassedOn}
 use Rattle.anstyle_parse.proofs.Machine.Steps.{Goes-append, after_change-moves, step-at, step_calls-at, step-outside, step_calls_from-outside}
 use Rattle.anstyle_parse.proofs.Machine.Table.{same_below}
 use Rattle.anstyle_parse.proofs.Streams.{CanTakeAll-rest}
@@ -310,7 +311,7 @@ module _ {C P : Type 0} (takes : C → ℕ → Type 0) (adds : AccumulatorStep C
         LeadsTo-byte parser parser before after b left can (sym (each b passing).0) (subst S (sym (each b passing).1) goes)
 
     pub LeadsTo-all_kept : (before after : P) (bytes left : List ℕ) → CanTakeAll takes parser (bytes ++ left)
-        → ArePassing test bytes → ArePassedOn means calls_of before bytes after → LeadsTo takes adds means parser before (bytes ++ left) parser after left
+        → EachIs test bytes → ArePassedOn means calls_of before bytes after → LeadsTo takes adds means parser before (bytes ++ left) parser after left
     LeadsTo-all_kept before after [] left can passing goes =
         let S : P → Type 0 = λ p. LeadsTo takes adds means parser before left parser p left in
         subst S (sym goes) (LeadsTo-same parser before left can)
@@ -325,7 +326,7 @@ module _ {C P : Type 0} (takes : C → ℕ → Type 0) (adds : AccumulatorStep C
     LeadsTo-run = LeadsTo-kept parser (λ b. passes run b) (λ b. passed_calls run b) (λ b. step-run adds (machine_of parser) b run keeps) before after
 
     pub LeadsTo-chunk : (bytes left : List ℕ) → CanTakeAll takes parser (bytes ++ left)
-        → ArePassing (λ b. passes run b) bytes → ArePassedOn means (λ b. passed_calls run b) before bytes after
+        → EachIs (λ b. passes run b) bytes → ArePassedOn means (λ b. passed_calls run b) before bytes after
         → LeadsTo takes adds means parser before (bytes ++ left) parser after left
     LeadsTo-chunk = LeadsTo-all_kept parser (λ b. passes run b) (λ b. passed_calls run b) (λ b. step-run adds (machine_of parser) b run keeps) before after
 

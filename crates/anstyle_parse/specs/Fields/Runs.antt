@@ -1,6 +1,5 @@
 -- What a run of bytes that are taken at once leads to, and which bytes are runs.
 use Rattle.std.specs.Prelude.{◌≡◌, ◌≢◌, ℕ, Bool, ◌&&◌, ◌==◌, not, List, [], ◌∷◌, IsTrue}
-use Rattle.std.specs.List.{AllByRecursion}
 use Rattle.anstyle_parse.specs.declared.state.definitions.State.{State}
 use Rattle.anstyle_parse.specs.declared.state.definitions.State.TheVariants.{Anywhere, Utf8}
 use Rattle.anstyle_parse.specs.declared.state.definitions.Action.{Action}
@@ -53,10 +52,6 @@ passed_calls OfIgnoredHeader b = []
 -- in this state each byte of the run does that, and keeps the state
 abbrev pub KeepsTo : Run → State → Type 0
 KeepsTo run state = (state ≢ Utf8) × ((b : ℕ) → IsTrue (passes run b) → change_at state b ≡ (Anywhere by passed_action run))
-
--- each byte passes the test
-abbrev pub ArePassing : (ℕ → Bool) → List ℕ → Type 0
-ArePassing test bytes = AllByRecursion (λ b. IsTrue (test b)) bytes
 
 -- the performer goes from before to after by the calls of each byte in turn
 abbrev pub ArePassedOn : {P : Type 0} → (P → Call → P → Type 0) → (ℕ → List Call) → P → List ℕ → P → Type 0

@@ -8,7 +8,8 @@ ghost use Rattle.std.specs.Prelude.{take};
 ghost use Rattle.anstyle_parse.specs.Stream.Bytes.{is_within, is_parameter, is_final};
 ghost use Rattle.anstyle_parse.specs.Stream.Call.{Goes};
 ghost use Rattle.anstyle_parse.specs.Machine.Table.{◌by◌, change_at};
-ghost use Rattle.anstyle_parse.specs.Fields.Runs.{LeadsTo, LeadsQuietlyTo, KeepsTo, passes, passed_calls, ArePassing, ArePassedOn, is_plain_text};
+ghost use Rattle.anstyle_parse.specs.Stream.Items.{EachIs};
+ghost use Rattle.anstyle_parse.specs.Fields.Runs.{LeadsTo, LeadsQuietlyTo, KeepsTo, passes, passed_calls, ArePassedOn, is_plain_text};
 
 use crate::accumulator::CharAccumulator;
 use crate::parser::{BELL, Parser};
@@ -55,7 +56,7 @@ impl Run {
     /// Whether all are of the run. It has no early exit, so that a chunk is tested at once.
     #[inline(always)]
     fn all_pass(self, bytes: &[u8]) -> bool
-        ensures { IsTrue result → ArePassing (λ b. passes self b) bytes.now }
+        ensures { IsTrue result → EachIs (λ b. passes self b) bytes.now }
     {
         let mut all = true;
         for byte in bytes {
@@ -392,7 +393,7 @@ fn is_plain_byte(byte: u8) -> bool
 /// How many bytes of plain text come first.
 fn plain_length(bytes: &[u8]) -> usize
     ensures within { result ≤ length bytes.now }
-    ensures plain { ArePassing is_plain_text (take result bytes.now) }
+    ensures plain { EachIs is_plain_text (take result bytes.now) }
 {
     for (i, byte) in bytes.iter().enumerate() {
         if !is_plain_byte(*byte) {

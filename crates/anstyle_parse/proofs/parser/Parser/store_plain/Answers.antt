@@ -3,7 +3,8 @@ use Rattle.std.proofs.lemmas.List.{take-take}
 use Rattle.anstyle_parse.specs.Stream.Groups.{cut}
 use Rattle.anstyle_parse.specs.Fields.Parser.{machine_of, CanTakeAll}
 use Rattle.anstyle_parse.specs.Machine.Step.{Machine, machine_after, machine_calls}
-use Rattle.anstyle_parse.specs.Fields.Runs.{ArePassing, is_plain_text}
+use Rattle.anstyle_parse.specs.Stream.Items.{EachIs}
+use Rattle.anstyle_parse.specs.Fields.Runs.{is_plain_text}
 use Rattle.anstyle_parse.proofs.Arguments.Lengths.{stored_total}
 use Rattle.anstyle_parse.proofs.Machine.Steps.{same_parts}
 use Rattle.anstyle_parse.proofs.Arguments.Stored.{on_ok, cut_longer, drop_longer, CanTakeAll-later, stored_run}
@@ -22,7 +23,7 @@ returns-clause-leads g c =
     let room : k ≤ c.min-room.result = omega (arith, c.plain_length.ensures.within, c.split_at.ensures.front_len) in
     let front : take k c.split_at.result.0.now ≡ text =
     ap (λ xs. take k xs) c.split_at.ensures.front ∙ take-take k c.min-room.result bytes room ∙ sym c.split_at-2.ensures.front in
-    let Q : List ℕ → Type 0 = λ xs. ArePassing is_plain_text xs in
+    let Q : List ℕ → Type 0 = λ xs. EachIs is_plain_text xs in
     let plain = subst Q front c.plain_length.ensures.plain in
     let fits : length p.osc_text.items + length text ≤ 1024 = omega (arith, c.remaining_capacity.ensures, c.min-room.ensures, c.split_at-2.ensures.front_len) in
     let stored = on_ok (c.try_extend_from_slice.new.self.items ≡ p.osc_text.items ++ text) c.try_extend_from_slice.result (c.try_extend_from_slice.ensures.variant.1 fits) c.try_extend_from_slice.ensures.ok in

@@ -1,39 +1,25 @@
 #!/usr/bin/env python3
 """Counts what the parser alone costs for each input byte, with a performer that counts.
 
-Usage: bench/count.py [--peer COMMAND] [--bytes N] [--piece N] FOLDER
+Usage: bench/count.py [--peer COMMAND] [--bytes N] [--piece N] [PROGRAM]
 
-FOLDER, outside the repository, is where a small repository of the parser and the counting
-program count.rt.txt is made, proved and built. A peer is run as `COMMAND bench FILE REPEAT`.
-The figures are instructions of `valgrind --tool=callgrind`: two passes less one pass. With
---piece the bytes go in pieces of that size, and with --piece 0 each by `advance`. Where
-libvterm is installed (Debian's libvterm-dev), its parser is measured too.
+PROGRAM is the built program (default: crates/count_calls/out/count_calls, which `rt run` in
+crates/count_calls leaves). A peer is run as `COMMAND bench FILE REPEAT`. The figures are
+instructions of `valgrind --tool=callgrind`: two passes less one pass. With --piece the bytes go
+in pieces of that size, and with --piece 0 each by `advance`. Where libvterm is installed
+(Debian's libvterm-dev), its parser is measured too.
 """
 
 import argparse
 import os
-import shutil
 import subprocess
 import sys
+import tempfile
 
 import measure
 
 HERE = os.path.dirname(os.path.abspath(__file__))
-
-
-def build(folder):
-    """The program `count`, in a repository of its own."""
-    crates = os.path.join(folder, "crates")
-    shutil.copytree(os.path.join(HERE, "../crates/anstyle_parse"), os.path.join(crates, "anstyle_parse"), dirs_exist_ok=True)
-    os.makedirs(os.path.join(crates, "count/src"), exist_ok=True)
-    shutil.copy(os.path.join(HERE, "count.rt.txt"), os.path.join(crates, "count/src/main.rt"))
-    with open(os.path.join(folder, "crates.txt"), "w") as file:
-        file.write("anstyle_parse: arrayvec\ncount: anstyle_parse\n")
-    done = subprocess.run(["rt", "run"], cwd=os.path.join(crates, "count"), stdin=subprocess.DEVNULL, stdout=subprocess.PIPE, stderr=subprocess.STDOUT)
-    program = os.path.join(crates, "count/out/count")
-    if not os.path.exists(program):
-        sys.exit(done.stdout.decode() + "count.py: not built")
-    return program
+PROGRAM = os.path.join(HERE, "../crates/count_calls/out/count_calls")
 
 
 def build_vterm(folder):
@@ -52,10 +38,16 @@ def main():
     parser.add_argument("--peer")
     parser.add_argument("--bytes", type=int, default=1 << 18)
     parser.add_argument("--piece", type=int)
-    parser.add_argument("folder")
+    parser.add_argument("program", nargs="?", default=PROGRAM)
     options = parser.parse_args()
-    program = build(options.folder)
-    vterm = build_vterm(options.folder)
+    if not os.path.isfile(options.program):
+        sys.exit("count.py: %s is not built" % options.program)
+    with tempfile.TemporaryDirectory() as folder:
+        measure_all(options, folder)
+
+
+def measure_all(options, folder):
+    vterm = build_vterm(folder)
     piece = [] if options.piece is None else [str(options.piece)]
 
     def cost(command, path, more=()):
@@ -66,10 +58,10 @@ def main():
     head += "   %12s %7s" % ("peer", "ratio") if options.peer else ""
     print(head + ("   %12s" % "libvterm" if vterm else ""))
     for make_line in measure.CORPORA:
-        path = os.path.join(options.folder, make_line.__name__)
+        path = os.path.join(folder, make_line.__name__)
         with open(path, "wb") as file:
             file.write(measure.corpus(make_line, options.bytes))
-        ours = cost([program], path, piece)
+        ours = cost([os.path.abspath(options.program)], path, piece)
         row = "%-12s %12.1f" % (make_line.__name__, ours)
         if options.peer:
             other = cost([options.peer, "bench"], path)

@@ -1,14 +1,20 @@
 #!/usr/bin/env python3
-"""Counts what parselog or ansi2text costs for each input byte, on five kinds of streams.
+"""Counts what the programs cost for each input byte, on five kinds of streams or on recordings.
 
-Usage: bench/measure.py [--peer COMMAND].. [--mode log|canon|strip] [--bytes N] [PROGRAM]
+Usage: bench/measure.py [--peer COMMAND].. [--mode log|canon|strip|html|pieces] [--bytes N]
+                        [--recordings FOLDER] [--wall BYTES] [PROGRAM]
 
-PROGRAM is the built program (default: crates/parselog/out/parselog, and in mode strip
-crates/ansi2text/out/ansi2text). Instructions are those of `valgrind --tool=callgrind`, less
-those of an empty input; the wall time is the least of three runs without valgrind. Peers are
-measured in the same run, and the ratio is printed. In log and canon a peer, such as a build
-of the Rust crate, is called with that word, and must write the same bytes. In strip it is
-called as it stands, and `differs` is printed where it writes other bytes.
+PROGRAM is the built program (default: crates/parselog/out/parselog in modes log and canon,
+crates/ansi2text/out/ansi2text in strip, crates/ansi2html/out/ansi2html in html; in pieces
+examples/filter.c over the C library, which hands pieces of 4096 bytes to it: `rt lib` in
+crates/ansi_c must have built that). Instructions are those of `valgrind --tool=callgrind`, less
+those of an empty input. The wall time is the least of five runs without valgrind, beside that of
+`cat`, and the machine's load is said with it; with --wall the stream is repeated to that many bytes
+for it. Peers are measured in the same run, and the ratio is printed. In log and canon a peer, such
+as a build of the Rust crate, is called with that word, and must write the same bytes. In the other
+modes it is called as it stands, and `differs` is printed where it writes other bytes.
+
+With --recordings the streams are the files FOLDER/*.bin, which bench/record.py makes.
 """
 
 import argparse
@@ -64,6 +70,8 @@ def strings(pick):
 
 
 CORPORA = [text, colours, dense, characters, strings]
+# the modes, and the words that the program is called with
+WORDS = {"log": ["log"], "canon": ["canon"], "strip": [], "html": [], "pieces": []}
 
 
 def corpus(make_line, size):
@@ -84,7 +92,7 @@ def instructions(command, path):
 
 def seconds(command, path):
     best = None
-    for _ in range(3):
+    for _ in range(5):
         with open(path, "rb") as data:
             start = time.perf_counter()
             subprocess.run(command, stdin=data, stdout=subprocess.DEVNULL, check=True)
@@ -98,44 +106,95 @@ def output(command, path):
         return subprocess.run(command, stdin=data, stdout=subprocess.PIPE, check=True).stdout
 
 
-def measure(command, path, empty, size):
-    return (instructions(command, path) - instructions(command, empty)) / size, seconds(command, path)
+def repeated(path, size):
+    """The stream, again and again to so many bytes; as it is, where it has as many."""
+    if os.path.getsize(path) >= size:
+        return path
+    with open(path, "rb") as file:
+        block = file.read()
+    longer = path + ".long"
+    with open(longer, "wb") as file:
+        for _ in range(size // len(block) + 1):
+            file.write(block)
+    return longer
+
+
+def measure(command, path, long, empty):
+    size = os.path.getsize(path)
+    return (instructions(command, path) - instructions(command, empty)) / size, seconds(command, long)
 
 
 def row_of(ours, peers, path, empty, options):
-    cost, wall = measure(ours, path, empty, options.bytes)
-    row = "%12.1f %9.3f" % (cost, wall)
+    long = repeated(path, options.wall)
+    cost, wall = measure(ours, path, long, empty)
+    row = "%12.1f %9.3f %9.3f" % (cost, wall, seconds(["cat"], long))
     for peer in peers:
-        other, other_wall = measure(peer, path, empty, options.bytes)
+        other, other_wall = measure(peer, path, long, empty)
         row += "   %12.1f %9.3f %7.2f" % (other, other_wall, cost / other)
         if output(ours, path) != output(peer, path):
-            if options.mode != "strip":
+            if WORDS[options.mode]:
                 sys.exit("measure.py: the outputs differ on " + os.path.basename(path))
             row += " differs"
+    if long != path:
+        os.remove(long)
     return row
+
+
+def filter_of_the_library(folder):
+    """examples/filter.c over the C library."""
+    root = os.path.dirname(HERE)
+    program = os.path.join(folder, "filter")
+    sources = [root + "/examples/filter.c", root + "/crates/ansi_c/out/libansi_c.a"]
+    subprocess.run(["cc", "-O2", "-I%s/include" % root, "-o", program] + sources, check=True)
+    return program
+
+
+def program_of(mode, folder):
+    if mode == "pieces":
+        return filter_of_the_library(folder)
+    name = {"strip": "ansi2text", "html": "ansi2html"}.get(mode, "parselog")
+    return os.path.join(HERE, "../crates/%s/out/%s" % (name, name))
+
+
+def streams(options, folder):
+    """The names of the streams and where they stand."""
+    if options.recordings:
+        found = sorted(name for name in os.listdir(options.recordings) if name.endswith(".bin"))
+        return [(name[:-4], os.path.join(options.recordings, name)) for name in found]
+    made = []
+    for make_line in CORPORA:
+        path = os.path.join(folder, make_line.__name__)
+        with open(path, "wb") as file:
+            file.write(corpus(make_line, options.bytes))
+        made.append((make_line.__name__, path))
+    return made
+
+
+def load():
+    return "load %.2f on %d processors" % (os.getloadavg()[0], os.cpu_count())
 
 
 def main():
     parser = argparse.ArgumentParser(description=__doc__, formatter_class=argparse.RawDescriptionHelpFormatter)
     parser.add_argument("--peer", action="append", default=[])
-    parser.add_argument("--mode", choices=["log", "canon", "strip"], default="log")
+    parser.add_argument("--mode", choices=list(WORDS), default="log")
     parser.add_argument("--bytes", type=int, default=1 << 20)
+    parser.add_argument("--recordings")
+    parser.add_argument("--wall", type=int, default=0)
     parser.add_argument("program", nargs="?")
     options = parser.parse_args()
-    built = "../crates/ansi2text/out/ansi2text" if options.mode == "strip" else "../crates/parselog/out/parselog"
-    words = [] if options.mode == "strip" else [options.mode]
-    ours = [options.program or os.path.join(HERE, built)] + words
-    peers = [shlex.split(peer) + words for peer in options.peer]
-    heading = "   %12s %9s %7s" % ("peer", "seconds", "ratio")
-    print("%-12s %12s %9s" % (options.mode, "instr/byte", "seconds") + heading * len(peers))
+    words = WORDS[options.mode]
     with tempfile.TemporaryDirectory() as folder:
+        ours = [options.program or program_of(options.mode, folder)] + words
+        peers = [shlex.split(peer) + words for peer in options.peer]
+        heading = "   %12s %9s %7s" % ("peer", "seconds", "ratio")
+        print("%-12s %12s %9s %9s" % (options.mode, "instr/byte", "seconds", "cat") + heading * len(peers))
+        print(load())
         empty = os.path.join(folder, "empty")
         open(empty, "wb").close()
-        for make_line in CORPORA:
-            path = os.path.join(folder, make_line.__name__)
-            with open(path, "wb") as file:
-                file.write(corpus(make_line, options.bytes))
-            print("%-12s " % make_line.__name__ + row_of(ours, peers, path, empty, options), flush=True)
+        for name, path in streams(options, folder):
+            print("%-12s " % name + row_of(ours, peers, path, empty, options), flush=True)
+        print(load())
 
 
 if __name__ == "__main__":

@@ -33,7 +33,8 @@ impl Stripper {
         })
     }
 
-    /// Hands on the text of the piece, in one part or several.
+    /// Hands on the text of the piece, in one part or several. Where that fails, what was not
+    /// handed on is lost, and the stream goes on after it.
     pub fn strip<E>(
         &mut self,
         mut piece: &[u8],
@@ -42,9 +43,8 @@ impl Stripper {
         let mut room = [0; ROOM];
         while !piece.is_empty() {
             let (mut taken, mut written) = (0, 0);
-            // The references are to memory of their own, and none of them is kept. The room is
-            // not too small, so the answer is true.
-            unsafe {
+            // The references are to memory of their own, and none of them is kept.
+            let is_fed = unsafe {
                 ansi_strip_feed(
                     &mut self.0,
                     piece.as_ptr(),
@@ -53,8 +53,9 @@ impl Stripper {
                     room.len(),
                     &mut taken,
                     &mut written,
-                );
-            }
+                )
+            };
+            assert!(is_fed, "the room is too small for any byte");
             piece = &piece[taken..];
             write(&room[..written])?;
         }

@@ -1,29 +1,84 @@
 /* Strips standard input of its terminal escapes, to standard output.
  *
- * Usage: filter [BYTES]     reads at most BYTES at once, 4096 with no word */
+ * Usage: filter [BYTES]     takes 1 to 4096 bytes at once, 4096 with no word
+ *
+ * What comes is handed on before more is waited for, so a line is seen when it is written. Ends
+ * with status 1 where reading or writing fails, with 2 for other words, and says so. */
+#define _POSIX_C_SOURCE 200809L
 #include "ansi_strip.h"
 
+#include <errno.h>
 #include <stdio.h>
-#include <stdlib.h>
+#include <string.h>
+#include <unistd.h>
 
-static unsigned char bytes[4096], room[4096];
+#define MOST 4096
+
+static unsigned char bytes[MOST], room[MOST];
+
+/* The number that the word is, in decimal, or 0 where it is none from 1 to MOST. */
+static size_t most_of(const char *word)
+{
+    size_t most = 0;
+
+    for (; *word >= '0' && *word <= '9' && most <= MOST; word++)
+        most = most * 10 + (size_t)(*word - '0');
+    return *word == '\0' && most <= MOST ? most : 0;
+}
+
+static bool write_all(const unsigned char *text, size_t length)
+{
+    while (length > 0) {
+        ssize_t count = write(STDOUT_FILENO, text, length);
+        if (count < 0 && errno == EINTR)
+            continue;
+        if (count <= 0)
+            return false;
+        text += count;
+        length -= (size_t)count;
+    }
+    return true;
+}
+
+/* Writes the text of the next bytes of the stream. */
+static bool strip(ansi_strip *state, const unsigned char *piece, size_t count)
+{
+    while (count > 0) {
+        size_t taken, written;
+        if (!ansi_strip_feed(state, piece, count, room, sizeof room, &taken, &written))
+            return false;
+        if (!write_all(room, written))
+            return false;
+        piece += taken;
+        count -= taken;
+    }
+    return true;
+}
+
+static int failed(const char *what)
+{
+    fprintf(stderr, "filter: %s failed: %s\n", what, strerror(errno));
+    return 1;
+}
 
 int main(int argc, char **argv)
 {
-    size_t most = argc > 1 ? strtoul(argv[1], NULL, 10) : sizeof bytes;
+    size_t most = argc == 2 ? most_of(argv[1]) : MOST;
     ansi_strip state = {0};
-    size_t count;
 
-    if (most == 0 || most > sizeof bytes)
+    if (argc > 2 || most == 0) {
+        fprintf(stderr, "usage: filter [BYTES]     BYTES is 1 to %d\n", MOST);
         return 2;
-    while ((count = fread(bytes, 1, most, stdin)) > 0) {
-        size_t at = 0, taken, written;
-        while (at < count) {
-            ansi_strip_feed(&state, bytes + at, count - at, room, sizeof room, &taken, &written);
-            if (fwrite(room, 1, written, stdout) < written)
-                return 1;
-            at += taken;
-        }
     }
-    return ferror(stdin) || fflush(stdout) != 0;
+    for (;;) {
+        ssize_t count = read(STDIN_FILENO, bytes, most);
+        if (count == 0)
+            return 0;
+        if (count < 0 && errno == EINTR)
+            continue;
+        if (count < 0)
+            return failed("read");
+        if (!strip(&state, bytes, (size_t)count))
+            return failed("write");
+    }
 }

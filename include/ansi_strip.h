@@ -1,9 +1,11 @@
 /* Strips a stream of its terminal escapes: what is left is the text that it prints.
  *
  * Every printed character is left, in UTF-8, and of the controls tab (09), line feed (0A) and
- * carriage return (0D). Escape and control sequences, titles, links, device control strings
- * with all that is in them and the other controls leave nothing. A character that is broken
- * leaves U+FFFD; bytes that begin no character leave nothing.
+ * carriage return (0D), inside an escape or control sequence too. Such sequences, titles, links,
+ * device control strings with all that is in them and the other controls below 20 leave nothing.
+ * DEL (7F) and the characters U+0080 to U+009F count as printed. A character that is broken leaves
+ * U+FFFD; bytes that begin no character leave nothing. So well-formed UTF-8 with no control below
+ * 20 but these three is left as it is, and what is written is UTF-8, that of each call by itself.
  *
  * A stream comes in pieces of any size, cut anywhere: what is left of it is the same. There is
  * nothing to allocate or to free, no input is refused, and no call fails but for a room of
@@ -39,10 +41,11 @@ extern "C" {
 #endif
 
 /* The bytes of room with which ansi_strip_feed always goes on. */
-#define ANSI_STRIP_LEAST_ROOM 8
+#define ANSI_STRIP_LEAST_ROOM 4
 
-/* The room in which any `count` bytes are always taken at once. */
-#define ANSI_STRIP_ROOM(count) (8 * (size_t)(count))
+/* The room in which any `count` bytes are always taken at once: three bytes of text for each, and
+ * one more where the first of them ends a character that an earlier piece began. */
+#define ANSI_STRIP_ROOM(count) (3 * (size_t)(count) + 1)
 
 /* Where a stream stands between two pieces: 1,056 bytes, which belong to the caller.
  *

@@ -17,12 +17,21 @@ class Program:
 
 
 class Mode:
-    """The words that choose it; rows of what is read and what is written, by their names; a
-    line and its text, which does not depend on what came before; and hostile streams, each
-    with its text or the digest of it."""
+    """The words that choose it; rows of what is read and the text for it, by their names; a
+    line and its text, which does not depend on what came before; hostile streams, each with
+    its text or the digest of it; and what is written before and after each text."""
 
-    def __init__(self, words, rows, line, hostile):
+    def __init__(self, words, rows, line, hostile, head=b"", tail=b""):
         self.words, self.rows, self.line, self.hostile = words, rows, line, hostile
+        self.head, self.tail = head, tail
+
+    def whole(self, text):
+        return self.head + text + self.tail
+
+    def around(self, blocks):
+        yield self.head
+        yield from blocks
+        yield self.tail
 
 
 def repeated(unit, count):
@@ -167,6 +176,33 @@ HTML_ROWS = [
 
 HTML_HOSTILE = STRIP_HOSTILE[:-1]
 
+# A whole page. By the HTML standard: its DOCTYPE first, or browsers draw it by the rules of old
+# pages (13.1.1); its charset within the first 1,024 bytes (4.2.5.4); a title (4.2.2); the
+# elements in order; and after <pre> a line feed, which a reader drops, so that one that begins
+# the text stays (13.1.2.5). `viewport` keeps a phone from drawing it at a desk's width,
+# `color-scheme` has it light or dark as its reader has all else (CSS Color Adjustment, 2.1), and
+# `pre-wrap` and `anywhere` wrap long lines (CSS Text (level 3), 3 and 5.5).
+PAGE_HEAD = b"""\
+<!DOCTYPE html>
+<html>
+<head>
+<meta charset="utf-8">
+<meta name="viewport" content="width=device-width">
+<title>Terminal output</title>
+<style>
+:root { color-scheme: light dark; }
+pre { white-space: pre-wrap; overflow-wrap: anywhere; }
+</style>
+</head>
+<body>
+<pre>
+"""
+PAGE_TAIL = b"""\
+</pre>
+</body>
+</html>
+"""
+
 PROGRAMS = [
     Program(
         "parselog",
@@ -201,7 +237,10 @@ PROGRAMS = [
         "ansi2html",
         b"usage: ansi2html [page]",
         [["fragment"], ["page", "page"], ["page", ""], ["-"], [""], ["--help"]],
-        [Mode([], HTML_ROWS, (b"\x1b[mA\n", b"A\n"), HTML_HOSTILE)],
+        [
+            Mode(words, HTML_ROWS, (b"\x1b[mA\n", b"A\n"), HTML_HOSTILE, head, tail)
+            for words, head, tail in (([], b"", b""), (["page"], PAGE_HEAD, PAGE_TAIL))
+        ],
         fragment=[],
         page=["page"],
     ),

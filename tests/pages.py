@@ -28,6 +28,13 @@ STREAMS = {
 }
 # A page as a whole may have these elements besides spans; a fragment has none.
 OF_A_PAGE = ["html", "head", "meta", "title", "style", "body", "pre"]
+# What a page says of itself: its charset, that a phone draws it at the phone's width, that it is
+# light or dark as its reader has it, and that long lines are wrapped.
+METAS = [[("charset", "utf-8")], [("name", "viewport"), ("content", "width=device-width")]]
+STYLE = {
+    ":root": {"color-scheme": "light dark"},
+    "pre": {"white-space": "pre-wrap", "overflow-wrap": "anywhere"},
+}
 WITH_NO_END = ["meta"]
 
 
@@ -37,6 +44,7 @@ class Reader(html.parser.HTMLParser):
     def __init__(self, is_page):
         super().__init__()
         self.is_page, self.open, self.text, self.faults = is_page, [], "", []
+        self.declared, self.metas, self.style = [], [], ""
 
     def handle_starttag(self, tag, attributes):
         if tag == "span":
@@ -46,6 +54,10 @@ class Reader(html.parser.HTMLParser):
                 self.faults.append("a span has the attributes %s" % attributes)
         elif not self.is_page or tag not in OF_A_PAGE or "pre" in self.open:
             self.faults.append("an element %s" % tag)
+        elif tag == "meta":
+            self.metas.append(attributes)
+        elif attributes:
+            self.faults.append("%s has the attributes %s" % (tag, attributes))
         if tag not in WITH_NO_END:
             self.open.append(tag)
 
@@ -58,9 +70,12 @@ class Reader(html.parser.HTMLParser):
     def handle_data(self, data):
         if not self.is_page or "pre" in self.open:
             self.text += data
+        elif "style" in self.open:
+            self.style += data
 
     def handle_decl(self, declaration):
-        if not self.is_page or declaration != "DOCTYPE html":
+        self.declared.append(declaration)
+        if not self.is_page or self.getpos() != (1, 0):
             self.faults.append("a declaration %r" % declaration)
 
     def handle_comment(self, data):
@@ -81,4 +96,30 @@ def differs(written, stripped, is_page):
         return "its text is %r, and not %r" % (found, stripped.decode())
     if reader.open:
         return "it leaves %s open" % ", ".join(reader.open)
-    return reader.faults[0] if reader.faults else None
+    if reader.faults:
+        return reader.faults[0]
+    return page_differs(reader, written) if is_page else None
+
+
+def page_differs(reader, written):
+    """Says what a page does not say of itself, or answers None."""
+    for name, found, wanted in (
+        ("its declarations are", reader.declared, ["DOCTYPE html"]),
+        ("its metas are", reader.metas, METAS),
+        ("its style is", rules(reader.style), STYLE),
+        ("it ends with", written[-1:], b"\n"),
+    ):
+        if found != wanted:
+            return "%s %r, and not %r" % (name, found, wanted)
+    return None
+
+
+def rules(style):
+    """The declarations of a style sheet, by their selectors; what is no rule stands under ''."""
+    found = {}
+    for part in style.split("}"):
+        selector, brace, body = part.partition("{")
+        pairs = [it.partition(":")[::2] for it in body.split(";") if it.strip()]
+        if part.strip():
+            found[selector.strip() if brace else ""] = {a.strip(): b.strip() for a, b in pairs}
+    return found

@@ -1,6 +1,6 @@
 //! What stands around the text.
 ghost use Rattle.std.specs.Prelude.{◌≡◌};
-ghost use Rattle.ansi2html.specs.Words.{head_of, tail_of};
+ghost use Rattle.ansi2html.specs.Page.{head_of, tail_of};
 
 /// What is written.
 #[derive(Debug, Clone, Copy, PartialEq, Eq)]
@@ -13,11 +13,26 @@ pub enum Form {
 
 /// The page before the text. Browsers drop the newline after `<pre>`, so that one which begins
 /// the text stays.
-const PAGE_HEAD: &[u8] =
-    b"<!DOCTYPE html>\n<html>\n<head>\n<meta charset=\"utf-8\">\n<meta name=\"viewport\" content=\"width=device-width\">\n<title>Terminal output</title>\n<style>\n:root { color-scheme: light dark; }\npre { white-space: pre-wrap; overflow-wrap: anywhere; }\n</style>\n</head>\n<body>\n<pre>\n";
+const PAGE_HEAD: &[u8] = br#"<!DOCTYPE html>
+<html>
+<head>
+<meta charset="utf-8">
+<meta name="viewport" content="width=device-width">
+<title>Terminal output</title>
+<style>
+:root { color-scheme: light dark; }
+pre { white-space: pre-wrap; overflow-wrap: anywhere; }
+</style>
+</head>
+<body>
+<pre>
+"#;
 
 /// The page after the text.
-const PAGE_TAIL: &[u8] = b"</pre>\n</body>\n</html>\n";
+const PAGE_TAIL: &[u8] = br#"</pre>
+</body>
+</html>
+"#;
 
 impl Form {
     /// What is written before the text.

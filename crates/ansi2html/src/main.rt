@@ -9,25 +9,25 @@ mod words;
 use ansi_html::convert;
 use anstyle_parse::canon::FromRead;
 use form::Form;
-use standard_streams::{buffered, failed, misused};
+use standard_streams::{buffered, ended, failed, misused};
 use std::io;
 use std::process::ExitCode;
 use std::rt::Env;
-use words::{form, message};
+use words::form;
+
+/// The name at the front of what the program says of failures.
+const PROGRAM: &str = "ansi2html";
 
 fn main(rt: HostRuntime) -> ExitCode {
     let Ok(form) = chosen_form(&rt) else {
-        return failed(&rt, "ansi2html: arguments not read");
+        return failed(&rt, PROGRAM, "arguments not read");
     };
     let Some(form) = form else {
         return misused(&rt, "usage: ansi2html [page]");
     };
     let mut reader = FromRead::new(rt.stdin());
-    let (writer, answer) = convert(form.head(), &mut reader, buffered(rt.stdout()), form.tail());
-    match answer {
-        Ok(()) => ExitCode::SUCCESS,
-        Err(fault) => failed(&rt, message(writer.fault_behind(fault))),
-    }
+    let ran = convert(form.head(), &mut reader, buffered(rt.stdout()), form.tail());
+    ended(&rt, PROGRAM, ran)
 }
 
 /// The form that the arguments name.

@@ -3,27 +3,24 @@
 
 #[cfg(test)]
 mod tests;
-mod words;
 
 use ansi_strip::strip;
 use anstyle_parse::canon::FromRead;
-use standard_streams::{buffered, failed, misused};
+use standard_streams::{buffered, ended, failed, misused};
 use std::io;
 use std::process::ExitCode;
 use std::rt::Env;
-use words::message;
+
+/// The name at the front of what the program says of failures.
+const PROGRAM: &str = "ansi2text";
 
 fn main(rt: HostRuntime) -> ExitCode {
     match has_arguments(&rt) {
-        Err(_) => failed(&rt, "ansi2text: arguments not read"),
+        Err(_) => failed(&rt, PROGRAM, "arguments not read"),
         Ok(true) => misused(&rt, "usage: ansi2text"),
         Ok(false) => {
             let mut reader = FromRead::new(rt.stdin());
-            let (writer, answer) = strip(&mut reader, buffered(rt.stdout()));
-            match answer {
-                Ok(()) => ExitCode::SUCCESS,
-                Err(fault) => failed(&rt, message(writer.fault_behind(fault))),
-            }
+            ended(&rt, PROGRAM, strip(&mut reader, buffered(rt.stdout())))
         }
     }
 }

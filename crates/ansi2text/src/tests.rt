@@ -1,97 +1,114 @@
-//! The program's words; and strip, with reads, writes and flushes that fail in turn.
-use crate::words::message;
+//! `strip` with reads, writes and flushes of std that fail in turn: no clause says what an adapter
+//! does where the stream within fails.
 use ansi_strip::strip;
 use anstyle_parse::canon::{Fault, FromRead, FromWrite};
 use std::io::ErrorKind;
-use std::process::Abort;
-use test_streams::{Paper, Tape};
+use test_streams::{Paper, TROUBLES, Tape, narrow_papers};
 
 /// 13 bytes, of which the sixth, the seventh and the last are left.
 const COLOURED: &[u8] = b"\x1b[31mhi\x07\x1b[0m\n";
 
 const LEFT: &[u8] = b"hi\n";
 
-/// What a writer holds after `COLOURED`, read byte by byte.
-fn assert_run(
-    rt: &(impl Abort + AllocGlobal),
-    tape: Tape,
-    paper: Paper,
-    answer: Result<(), Fault>,
-    written: usize,
-) {
-    let fails_at = tape.fails_at;
+/// What strip answers, and its reader and writer afterwards.
+fn strip_over<'a>(tape: Tape<'a>, paper: Paper) -> (Tape<'a>, Paper, Result<(), Fault>) {
     let mut reader = FromRead::new(tape);
-    let (writer, answered) = strip(&mut reader, FromWrite::new(paper));
-    assert_eq!(rt; answered, answer, "at {fails_at}, {written}");
-    assert!(rt; written <= LEFT.len());
-    assert_eq!(rt;
-        writer.into_inner().text.as_slice(),
-        &LEFT[..written],
-        "at {fails_at}"
-    );
+    let (writer, answer) = strip(&mut reader, FromWrite::new(paper));
+    (reader.into_inner(), writer.into_inner(), answer)
 }
 
-/// One byte a read, and this read fails.
-fn failing_at(number: u64) -> Tape<'static> {
-    let mut tape = Tape::by_byte(COLOURED);
-    tape.fails_at = number;
-    tape
-}
-
+/// The text of what was read by then is written, and flushed once; nothing is read again.
 #[test]
 fn reads_that_fail(rt: HostRuntime) {
-    for fails_at in 1..=14u64 {
-        let written = match fails_at {
-            1..=6 => 0,
-            7 => 1,
-            8..=13 => 2,
-            _ => 3,
-        };
-        for flush_error in [None, Some(ErrorKind::Other)] {
-            let mut paper = Paper::new(rt.alloc());
-            paper.flush_error = flush_error;
-            assert_run(&rt, failing_at(fails_at), paper, Err(Fault::Read), written);
+    for error in [ErrorKind::Other, ErrorKind::Interrupted] {
+        for fails_at in 1..=14u64 {
+            let written = match fails_at {
+                1..=6 => 0,
+                7 => 1,
+                8..=13 => 2,
+                _ => 3,
+            };
+            for flush_error in [None, Some(ErrorKind::Other)] {
+                let mut tape = Tape::by_byte(COLOURED);
+                tape.fails_at = fails_at;
+                tape.error = error;
+                let mut paper = Paper::new(rt.alloc());
+                paper.flush_error = flush_error;
+                let (tape, paper, answer) = strip_over(tape, paper);
+                assert_eq!(rt; answer, Err(Fault::Read), "read {fails_at}");
+                assert_eq!(rt; paper.text.as_slice(), &LEFT[..written], "read {fails_at}");
+                assert_eq!(rt; paper.flushes, 1, "read {fails_at}");
+                assert_eq!(rt; tape.reads, fails_at);
+            }
         }
     }
-    assert_run(&rt, failing_at(15), Paper::new(rt.alloc()), Ok(()), 3);
 }
 
+/// What went out by then stands; nothing is tried again, flushed or read afterwards.
 #[test]
 fn writes_that_fail(rt: HostRuntime) {
-    for room in 0..3 {
-        let mut paper = Paper::new(rt.alloc());
-        paper.room = room;
-        assert_run(&rt, Tape::by_byte(COLOURED), paper, Err(Fault::Write), room);
+    for trouble in TROUBLES {
+        for (room, reads) in [(0, 6), (1, 7), (2, 13)] {
+            for paper in narrow_papers(rt.alloc(), room, trouble) {
+                let (tape, paper, answer) = strip_over(Tape::by_byte(COLOURED), paper);
+                assert_eq!(rt; answer, Err(Fault::Write), "{trouble:?}, room {room}");
+                assert_eq!(rt; paper.text.as_slice(), &LEFT[..room], "{trouble:?}");
+                assert_eq!(rt;
+                    paper.writes,
+                    (room as u64).saturating_add(1),
+                    "{trouble:?}"
+                );
+                assert_eq!(rt; paper.flushes, 0, "{trouble:?}, room {room}");
+                assert_eq!(rt; tape.reads, reads, "{trouble:?}, room {room}");
+            }
+        }
+        let paper = Paper::narrow(rt.alloc(), 3, trouble);
+        let (_, paper, answer) = strip_over(Tape::by_byte(COLOURED), paper);
+        assert_eq!(rt; answer, Ok(()), "{trouble:?}");
+        assert_eq!(rt; paper.text.as_slice(), LEFT, "{trouble:?}");
     }
-    let mut paper = Paper::new(rt.alloc());
-    paper.room = 3;
-    assert_run(&rt, Tape::by_byte(COLOURED), paper, Ok(()), 3);
 }
 
+/// There is one flush, and what it answers is the answer.
 #[test]
-fn a_flush_that_fails(rt: HostRuntime) {
-    let mut paper = Paper::new(rt.alloc());
-    paper.flush_error = Some(ErrorKind::Other);
-    assert_run(&rt, Tape::by_byte(COLOURED), paper, Err(Fault::Flush), 3);
+fn flushes(rt: HostRuntime) {
+    for flush_error in [None, Some(ErrorKind::Other), Some(ErrorKind::Interrupted)] {
+        let mut paper = Paper::new(rt.alloc());
+        paper.flush_error = flush_error;
+        let (tape, paper, answer) = strip_over(Tape::by_byte(COLOURED), paper);
+        let want = if flush_error.is_some() {
+            Err(Fault::Flush)
+        } else {
+            Ok(())
+        };
+        assert_eq!(rt; answer, want, "{flush_error:?}");
+        assert_eq!(rt; paper.text.as_slice(), LEFT, "{flush_error:?}");
+        assert_eq!(rt; paper.flushes, 1, "{flush_error:?}");
+        assert_eq!(rt; tape.reads, 14, "{flush_error:?}");
+    }
 }
 
-/// After a failed write nothing is read, written or flushed.
+/// A line and a letter before a writer with room for the line, and a letter before a read that
+/// fails.
 #[test]
-fn a_fault_ends_it(rt: HostRuntime) {
-    let mut paper = Paper::new(rt.alloc());
-    paper.room = 1;
-    let mut reader = FromRead::new(Tape::by_byte(COLOURED));
-    let (writer, answer) = strip(&mut reader, FromWrite::new(paper));
-    let paper = writer.into_inner();
-    assert_eq!(rt; answer, Err(Fault::Write));
-    assert_eq!(rt; paper.writes, 2);
-    assert_eq!(rt; paper.flushes, 0);
-    assert_eq!(rt; reader.into_inner().reads, 7);
-}
-
-#[test]
-fn words(rt: HostRuntime) {
-    assert_eq!(rt; message(Fault::Read), "ansi2text: read failed");
-    assert_eq!(rt; message(Fault::Write), "ansi2text: write failed");
-    assert_eq!(rt; message(Fault::Flush), "ansi2text: flush failed");
+fn two_rows(rt: HostRuntime) {
+    for trouble in TROUBLES {
+        for paper in narrow_papers(rt.alloc(), 2, trouble) {
+            let (_, paper, answer) = strip_over(Tape::new(b"\x61\x0a\x62"), paper);
+            assert_eq!(rt; answer, Err(Fault::Write), "{trouble:?}");
+            assert_eq!(rt;
+                paper.text.as_slice(),
+                b"\x61\x0a".as_slice(),
+                "{trouble:?}"
+            );
+        }
+    }
+    for error in [ErrorKind::Other, ErrorKind::Interrupted] {
+        let mut tape = Tape::new(b"\x61");
+        tape.fails_at = 2;
+        tape.error = error;
+        let (_, paper, answer) = strip_over(tape, Paper::new(rt.alloc()));
+        assert_eq!(rt; answer, Err(Fault::Read), "{error:?}");
+        assert_eq!(rt; paper.text.as_slice(), b"\x61".as_slice(), "{error:?}");
+    }
 }

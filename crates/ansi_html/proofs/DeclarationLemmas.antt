@@ -14,7 +14,7 @@ use Rattle.ansi_style.specs.declared.style.Hue.{Hue}
 use Rattle.ansi_style.specs.declared.style.Hue.TheVariants.{Black, Red, Green, Yellow, Blue, Magenta, Cyan, White}
 use Rattle.ansi_style.specs.Style.{hue_at}
 use Rattle.ansi_html.specs.declared.css.Role.{Role}
-use Rattle.ansi_html.specs.declared.css.Role.TheVariants.{Text, Ground, Fixed}
+use Rattle.ansi_html.specs.declared.css.Role.TheVariants.{Text, Background, Fixed}
 use Rattle.ansi_html.specs.Palette.{hex_digit, hex, Shades, named_shades, bright_shades, shade, indexed, level, cube, grey}
 use Rattle.ansi_html.specs.Css.{color_css, role_by, colors_css, text_if, is_underlined, lines_css, underline_css, css}
 use Rattle.ansi_html.specs.Grammar.{is_hex_digit, IsHex, six, IsColor, one, two, page, page_text, AreLines, no_line, underline, overline, line_through, blink, IsDeclaration, color, background, bold, dim, italic, hidden, lines, double, wavy, dotted, dashed, AreDeclarations, no_declaration, declaration}
@@ -66,7 +66,7 @@ AreShades-bright White = record { light = six refl refl refl refl refl refl; dar
 
 pub IsColor-shade : (role : Role) (of : Shades) → AreShades of → IsColor (shade role of)
 IsColor-shade Text of are = two of.light of.dark are.light are.dark
-IsColor-shade Ground of are = two of.dark of.light are.dark are.light
+IsColor-shade Background of are = two of.dark of.light are.dark are.light
 IsColor-shade Fixed of are = one of.fixed are.fixed
 
 pub choose : (P : List ℕ → Type 0) (b : Bool) (xs ys : List ℕ) → P xs → P ys → P (if b then xs else ys)
@@ -100,12 +100,12 @@ AreDeclarations-append second (declaration first rest is others) more =
 
 AreDeclarations-colors : (reverse : Bool) (foreground background : Color) → AreDeclarations (colors_css reverse foreground background)
 AreDeclarations-colors false foreground behind =
-    AreDeclarations-append (color_css (codes "background-color:") [] (role_by Ground foreground) behind)
+    AreDeclarations-append (color_css (codes "background-color:") [] (role_by Background foreground) behind)
     (AreDeclarations-color (codes "color:") [] (role_by Text behind) foreground color no_declaration)
-    (AreDeclarations-color (codes "background-color:") [] (role_by Ground foreground) behind background no_declaration)
+    (AreDeclarations-color (codes "background-color:") [] (role_by Background foreground) behind background no_declaration)
 AreDeclarations-colors true foreground behind =
     AreDeclarations-append (color_css (codes "background-color:") (codes "background-color:CanvasText;") (role_by Text behind) foreground)
-    (AreDeclarations-color (codes "color:") (codes "color:Canvas;") (role_by Ground foreground) behind color (single _ (color _ page)))
+    (AreDeclarations-color (codes "color:") (codes "color:Canvas;") (role_by Background foreground) behind color (single _ (color _ page)))
     (AreDeclarations-color (codes "background-color:") (codes "background-color:CanvasText;") (role_by Text behind) foreground background (single _ (background _ page_text)))
 
 AreDeclarations-if : (wanted : Bool) (text : List ℕ) → AreDeclarations text → AreDeclarations (text_if wanted text)

@@ -10,10 +10,11 @@ use Rattle.ansi_style.specs.Rendition.{style_after}
 use Rattle.ansi_style.proofs.EqualityLemmas.{are_equal-same, are_equal-refl}
 use Rattle.ansi_html.specs.Css.{css}
 use Rattle.ansi_html.specs.Grammar.{is_special, is_text_byte, ampersand, less_than, greater_than, quotation_mark, apostrophe, IsText, nothing, byte, reference, IsFragment, end, text, span}
-use Rattle.ansi_html.specs.Page.{escaped, escaped_text, is_plain, span_begin, span_end, change, text_html, shown_after, html_from, shown_at_end, html}
-use Rattle.ansi_html.proofs.PageLemmas.{escaped-clear}
+use Rattle.ansi_html.specs.Html.{escaped, escaped_text, is_plain, span_begin, span_end, change, text_html, shown_after, html_from, shown_at_end, html}
+use Rattle.ansi_html.proofs.HtmlLemmas.{escaped-clear}
 use Rattle.ansi_html.proofs.DeclarationLemmas.{AreDeclarations-css}
-use Rattle.ansi_html.proofs.LawfulText.{is_textual, AreTextual, AreTextual-stripped, AreShowable}
+use Rattle.ansi_strip.proofs.Showable.{AreShowable}
+use Rattle.ansi_html.proofs.LawfulText.{is_textual, AreTextual, AreTextual-stripped}
 
 -- one byte of text, escaped, before text
 IsText-special : (b : ℕ) (rest : List ℕ) → is_special b ≡ true → IsText rest → IsText (escaped b ++ rest)

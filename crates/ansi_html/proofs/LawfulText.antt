@@ -5,38 +5,11 @@ use Rattle.std.specs.List.{AllByRecursion}
 use Rattle.std.proofs.lemmas.Bool.{le-leb, or_left, or_cases, eqb-true, cases_lt}
 use Rattle.anstyle_parse.specs.Stream.Bytes.{is_within}
 use Rattle.anstyle_parse.specs.Stream.Call.{Call, print, execute, hook, put, unhook, osc_dispatch, csi_dispatch, esc_dispatch}
-use Rattle.anstyle_parse.specs.Laws.Lawful.{is_character, AreLawfulFrom}
+use Rattle.anstyle_parse.specs.Laws.Lawful.{is_character}
 use Rattle.anstyle_parse.proofs.Characters.Encoding.{encode_one, within_parts}
 use Rattle.ansi_strip.specs.Strip.{is_layout, stripped_call}
-use Rattle.ansi_html.proofs.PageLemmas.{AreHigh, AreHigh-encode}
-
--- a call whose text can be shown: a printed character is one
-abbrev pub IsShowable : Call → Type 0
-IsShowable (print c) = is_character c ≡ true
-IsShowable (execute b) = Unit {0}
-IsShowable (hook groups intermediates ignore final) = Unit {0}
-IsShowable (put b) = Unit {0}
-IsShowable unhook = Unit {0}
-IsShowable (osc_dispatch parts bell) = Unit {0}
-IsShowable (csi_dispatch groups intermediates ignore final) = Unit {0}
-IsShowable (esc_dispatch intermediates ignore final) = Unit {0}
-
-abbrev pub AreShowable : List Call → Type 0
-AreShowable calls = AllByRecursion IsShowable calls
-
-pub AreShowable-lawful : (hooked : Bool) (calls : List Call) → AreLawfulFrom hooked calls → AreShowable calls
-AreShowable-lawful hooked [] h = tt
-AreShowable-lawful false (print c ∷ calls) h = (h.0, AreShowable-lawful false calls h.1)
-AreShowable-lawful false (execute b ∷ calls) h = (tt, AreShowable-lawful false calls h.1)
-AreShowable-lawful false (hook gs is ig f ∷ calls) h = (tt, AreShowable-lawful true calls h.1)
-AreShowable-lawful false (osc_dispatch parts bell ∷ calls) h = (tt, AreShowable-lawful false calls h.1)
-AreShowable-lawful false (csi_dispatch gs is ig f ∷ calls) h = (tt, AreShowable-lawful false calls h.1)
-AreShowable-lawful false (esc_dispatch is ig f ∷ calls) h = (tt, AreShowable-lawful false calls h.1)
-AreShowable-lawful true (put b ∷ calls) h = (tt, AreShowable-lawful true calls h.1)
-AreShowable-lawful true (unhook ∷ calls) h = (tt, AreShowable-lawful false calls h)
-AreShowable-lawful false (put b ∷ calls) h = absurd h
-AreShowable-lawful false (unhook ∷ calls) h = absurd h
-AreShowable-lawful true (_ ∷ calls) h = absurd h
+use Rattle.ansi_strip.proofs.Showable.{IsShowable}
+use Rattle.ansi_html.proofs.HtmlLemmas.{AreHigh, AreHigh-encode}
 
 -- a byte of text, with a meaning in HTML or without
 unfoldable pub is_textual : ℕ → Bool

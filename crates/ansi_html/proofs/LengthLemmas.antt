@@ -11,11 +11,11 @@ use Rattle.ansi_style.specs.declared.style.Underline.TheVariants.{Off, Single, D
 use Rattle.ansi_style.specs.Style.{plain, are_equal}
 use Rattle.ansi_style.specs.Rendition.{style_after}
 use Rattle.ansi_html.specs.declared.css.Role.{Role}
-use Rattle.ansi_html.specs.declared.css.Role.TheVariants.{Text, Ground}
+use Rattle.ansi_html.specs.declared.css.Role.TheVariants.{Text, Background}
 use Rattle.ansi_html.specs.Palette.{named_shades, bright_shades}
 use Rattle.ansi_html.specs.Css.{color_css, role_by, colors_css, text_if, is_underlined, lines_css, underline_css, css}
 use Rattle.ansi_html.specs.Grammar.{IsHex, six, IsColor, one, two, page, page_text}
-use Rattle.ansi_html.specs.Page.{escaped, escaped_text, is_plain, span_begin, span_end, change, text_html, shown_after, html_from, shown_at_end, html}
+use Rattle.ansi_html.specs.Html.{escaped, escaped_text, is_plain, span_begin, span_end, change, text_html, shown_after, html_from, shown_at_end, html}
 use Rattle.ansi_html.proofs.DeclarationLemmas.{choose, IsColor-shade, AreShades-named, AreShades-bright, IsColor-indexed, IsHex-hex}
 
 -- a test that a text is at most so long
@@ -67,12 +67,12 @@ AtMost-color property default role (Direct red green blue) few = AtMost-declared
 AtMost-colors : (reverse : Bool) (foreground background : Color) → AtMost 79 (colors_css reverse foreground background)
 unfolding AtMost
 AtMost-colors false foreground behind =
-    AtMost-append 34 45 (color_css (codes "color:") [] (role_by Text behind) foreground) (color_css (codes "background-color:") [] (role_by Ground foreground) behind)
+    AtMost-append 34 45 (color_css (codes "color:") [] (role_by Text behind) foreground) (color_css (codes "background-color:") [] (role_by Background foreground) behind)
     (AtMost-color (codes "color:") [] (role_by Text behind) foreground (omega arith))
-    (AtMost-color (codes "background-color:") [] (role_by Ground foreground) behind (omega arith))
+    (AtMost-color (codes "background-color:") [] (role_by Background foreground) behind (omega arith))
 AtMost-colors true foreground behind =
-    AtMost-append 34 45 (color_css (codes "color:") (codes "color:Canvas;") (role_by Ground foreground) behind) (color_css (codes "background-color:") (codes "background-color:CanvasText;") (role_by Text behind) foreground)
-    (AtMost-color (codes "color:") (codes "color:Canvas;") (role_by Ground foreground) behind (omega arith))
+    AtMost-append 34 45 (color_css (codes "color:") (codes "color:Canvas;") (role_by Background foreground) behind) (color_css (codes "background-color:") (codes "background-color:CanvasText;") (role_by Text behind) foreground)
+    (AtMost-color (codes "color:") (codes "color:Canvas;") (role_by Background foreground) behind (omega arith))
     (AtMost-color (codes "background-color:") (codes "background-color:CanvasText;") (role_by Text behind) foreground (omega arith))
 
 AtMost-lines : (underlined overlined struck_out blink : Bool) → AtMost 60 (lines_css underlined overlined struck_out blink)

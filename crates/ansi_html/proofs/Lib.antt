@@ -1,5 +1,6 @@
 pub mod CssLemmas
-pub mod PageLemmas
+pub mod HtmlLemmas
+pub mod PrintLemmas
 pub mod DeclarationLemmas
 pub mod ReadLemmas
 pub mod LawfulText

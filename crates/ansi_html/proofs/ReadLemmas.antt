@@ -11,9 +11,9 @@ use Rattle.ansi_style.specs.Rendition.{style_after}
 use Rattle.ansi_style.proofs.EqualityLemmas.{are_equal-same}
 use Rattle.ansi_html.specs.Css.{css}
 use Rattle.ansi_html.specs.Grammar.{is_special}
-use Rattle.ansi_html.specs.Page.{escaped, escaped_text, is_plain, span_begin, span_end, change, text_html, shown_after, html_from, shown_at_end, html}
+use Rattle.ansi_html.specs.Html.{escaped, escaped_text, is_plain, span_begin, span_end, change, text_html, shown_after, html_from, shown_at_end, html}
 use Rattle.ansi_html.specs.Reader.{Shown, under, byte_of, in_text, in_tag, in_value, read_from, read, shown_from}
-use Rattle.ansi_html.proofs.PageLemmas.{escaped-clear}
+use Rattle.ansi_html.proofs.HtmlLemmas.{escaped-clear}
 use Rattle.ansi_html.proofs.DeclarationLemmas.{is_safe, AreSafe, AreSafe-css, not_quote-safe}
 
 -- a text byte, escaped, is read as that byte

@@ -1,48 +1,25 @@
 -- The HTML is UTF-8.
-use Rattle.std.proofs.Common.{◌≡◌, ◌<◌, ℕ, Bool, true, false, ◌||◌, eqb, ltb, leb, le-leb, List, [], ◌∷◌, ◌++◌, codes, refl, sym, subst, ⊎_elim, arith}
+use Rattle.std.proofs.Common.{◌≡◌, ◌<◌, ℕ, Bool, true, false, eqb, List, [], ◌∷◌, ◌++◌, codes, refl, sym, subst, ⊎_elim, arith}
 use Rattle.std.specs.Prelude.{nat_lt, encode_utf8, if◌then◌else◌}
-use Rattle.std.specs.Char.{IsScalar}
 use Rattle.std.specs.List.{list_all}
 use Rattle.std.specs.Str.{IsUtf8}
-use Rattle.std.proofs.lemmas.Bool.{and_parts, or_cases, eqb-true, ltb-true, lt-ltb, le-ltb}
+use Rattle.std.proofs.lemmas.Bool.{and_parts, or_cases, eqb-true, ltb-true}
 use Rattle.std.proofs.lemmas.Str.{IsUtf8-append, IsUtf8-nil, IsUtf8-encode}
-use Rattle.anstyle_parse.specs.Stream.Bytes.{is_within}
 use Rattle.anstyle_parse.specs.Stream.Call.{Call, print, execute, hook, put, unhook, osc_dispatch, csi_dispatch, esc_dispatch}
 use Rattle.anstyle_parse.specs.Laws.Lawful.{is_character}
-use Rattle.anstyle_parse.proofs.Characters.Encoding.{encode_one, within_parts}
+use Rattle.anstyle_parse.proofs.Characters.Encoding.{encode_one}
 use Rattle.ansi_strip.specs.Strip.{is_layout, stripped_call}
+use Rattle.ansi_strip.proofs.Showable.{IsShowable, AreShowable, IsScalar-character, IsUtf8-byte, layout_low}
 use Rattle.ansi_style.specs.declared.style.Style.{Style}
 use Rattle.ansi_style.specs.Style.{plain, are_equal}
 use Rattle.ansi_style.specs.Rendition.{style_after}
 use Rattle.ansi_html.specs.Css.{css}
 use Rattle.ansi_html.specs.Grammar.{is_special}
-use Rattle.ansi_html.specs.Page.{escaped_text, is_plain, span_begin, span_end, change, text_html, shown_after, html_from, shown_at_end, html}
-use Rattle.ansi_html.proofs.PageLemmas.{AreClear-encode, AreClear-layout, escaped_text-clear}
+use Rattle.ansi_html.specs.Html.{escaped_text, is_plain, span_begin, span_end, change, text_html, shown_after, html_from, shown_at_end, html}
+use Rattle.ansi_html.proofs.HtmlLemmas.{AreClear-encode, AreClear-layout, escaped_text-clear}
 use Rattle.ansi_html.proofs.DeclarationLemmas.{is_safe, AreSafe, AreSafe-css, ascii-safe, choose}
-use Rattle.ansi_html.proofs.LawfulText.{IsShowable, AreShowable}
 
--- characters are scalar values
-scalar_below : (c : ℕ) → c < 0xD800 → IsScalar c
-scalar_below c low = rw (lt-ltb c 0xD800 low) refl
-
-scalar_above : (c : ℕ) → 0xDFFF < c → c < 0x110000 → IsScalar c
-scalar_above c low high =
-    let not_low : ltb c 0xD800 ≡ false = le-ltb c 0xD800 (omega arith) in
-    let above : leb 0xE000 c ≡ true = le-leb 0xE000 c (omega arith) in
-    let below : ltb c 0x110000 ≡ true = lt-ltb c 0x110000 high in
-    rw (not_low, above, below) refl
-
-IsScalar-character : (c : ℕ) → is_character c ≡ true → IsScalar c
-unfolding is_character
-IsScalar-character c is =
-    ⊎_elim
-    (λ h. let range = within_parts 0x20 0xD7FF c h in scalar_below c (omega (arith, range.1)))
-    (λ h. let range = within_parts 0xE000 0x10FFFF c h in scalar_above c (omega (arith, range.0)) (omega (arith, range.1)))
-    (or_cases (is_within 0x20 0xD7FF c) (is_within 0xE000 0x10FFFF c) is)
-
-IsUtf8-byte : (b : ℕ) → b < 0x80 → IsUtf8 (b ∷ [])
-IsUtf8-byte b low = subst IsUtf8 (encode_one b low) (IsUtf8-encode b (scalar_below b (omega arith)))
-
+-- ASCII is UTF-8
 IsUtf8-ascii : (bytes : List ℕ) → list_all (λ b. nat_lt b 0x80) bytes ≡ true → IsUtf8 bytes
 IsUtf8-ascii [] low = IsUtf8-nil
 IsUtf8-ascii (b ∷ bytes) low =
@@ -71,12 +48,6 @@ IsUtf8-special c is =
 IsUtf8-printed : (c : ℕ) (special : Bool) → is_special c ≡ special → is_character c ≡ true → IsUtf8 (escaped_text (encode_utf8 c))
 IsUtf8-printed c true e is = IsUtf8-special c e
 IsUtf8-printed c false e is = subst IsUtf8 (sym (escaped_text-clear (encode_utf8 c) (AreClear-encode c e))) (IsUtf8-encode c (IsScalar-character c is))
-
-layout_low : (b : ℕ) → is_layout b ≡ true → b < 0x80
-layout_low b is =
-    let at : (k : ℕ) → k < 0x80 → eqb b k ≡ true → b < 0x80 = λ k low e. let same = eqb-true b k e in omega arith in
-    ⊎_elim (λ either. ⊎_elim (at 0x09 (omega arith)) (at 0x0A (omega arith)) (or_cases (eqb b 0x09) (eqb b 0x0A) either)) (at 0x0D (omega arith))
-    (or_cases (eqb b 0x09 || eqb b 0x0A) (eqb b 0x0D) is)
 
 IsUtf8-executed : (b : ℕ) (layout : Bool) → is_layout b ≡ layout → IsUtf8 (escaped_text (if layout then b ∷ [] else []))
 IsUtf8-executed b true is = subst IsUtf8 (sym (escaped_text-clear (b ∷ []) (AreClear-layout b is))) (IsUtf8-byte b (layout_low b is))

@@ -6,7 +6,7 @@ use Rattle.ansi_style.specs.declared.style.Color.TheVariants.{Default, Named, Br
 use Rattle.ansi_style.specs.declared.style.Underline.{Underline}
 use Rattle.ansi_style.specs.declared.style.Underline.TheVariants.{Off, Single, Double, Curly, Dotted, Dashed}
 use Rattle.ansi_html.specs.declared.css.Role.{Role}
-use Rattle.ansi_html.specs.declared.css.Role.TheVariants.{Text, Ground, Fixed}
+use Rattle.ansi_html.specs.declared.css.Role.TheVariants.{Text, Background, Fixed}
 use Rattle.ansi_html.specs.Palette.{color_value}
 
 -- a property with a colour; where that is the default, the declaration that is given
@@ -29,9 +29,9 @@ role_by alone (Direct red green blue) = Fixed
 abbrev pub colors_css : Bool → Color → Color → List ℕ
 colors_css false foreground background =
     color_css (codes "color:") [] (role_by Text background) foreground
-    ++ color_css (codes "background-color:") [] (role_by Ground foreground) background
+    ++ color_css (codes "background-color:") [] (role_by Background foreground) background
 colors_css true foreground background =
-    color_css (codes "color:") (codes "color:Canvas;") (role_by Ground foreground) background
+    color_css (codes "color:") (codes "color:Canvas;") (role_by Background foreground) background
     ++ color_css (codes "background-color:") (codes "background-color:CanvasText;") (role_by Text background) foreground
 
 -- the text, where it is wanted

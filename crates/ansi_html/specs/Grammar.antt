@@ -1,11 +1,19 @@
 -- The grammar of the HTML that is written. A fragment is text and spans, which do not nest; a
 -- span has one attribute, of declarations from a fixed vocabulary. Nothing else is in it.
-use Rattle.std.specs.Prelude.{ℕ, Bool, ◌||◌, ◌&&◌, nat_le, ◌==◌, not, List, [], ◌∷◌, ◌++◌, codes, IsTrue}
+use Rattle.std.specs.Prelude.{◌≡◌, ℕ, Bool, false, ◌||◌, ◌&&◌, nat_le, ◌==◌, not, List, [], ◌∷◌, ◌++◌, codes, IsTrue}
+use Rattle.std.specs.List.{AllByRecursion}
 use Rattle.anstyle_parse.specs.Stream.Bytes.{is_within}
 
 -- A byte of text: 20 and above, or 09, 0A, 0D; and none with a meaning in HTML.
 unfoldable pub is_special : ℕ → Bool
 is_special b = b == 0x26 || (b == 0x3C || (b == 0x3E || (b == 0x22 || b == 0x27)))
+
+-- bytes with no meaning in HTML; such bytes stand first, and these are left
+abbrev pub AreClear : List ℕ → Type 0
+AreClear bytes = AllByRecursion (λ b. is_special b ≡ false) bytes
+
+abbrev pub BeginWithClear : List ℕ → (left : List ℕ) → Type 0
+BeginWithClear bytes left = (clear : List ℕ) × AreClear clear × (bytes ≡ clear ++ left)
 
 unfoldable pub is_text_byte : ℕ → Bool
 is_text_byte b = (nat_le 0x20 b || (b == 0x09 || (b == 0x0A || b == 0x0D))) && not (is_special b)

@@ -1,7 +1,7 @@
 pub mod Palette
 pub mod Css
-pub mod Page
+pub mod Html
 pub mod Reader
 pub mod Grammar
 pub mod Writer
-pub mod Adding
+pub mod AddingProof

@@ -6,7 +6,7 @@ use Rattle.ansi_style.specs.declared.style.Hue.{Hue}
 use Rattle.ansi_style.specs.declared.style.Hue.TheVariants.{Black, Red, Green, Yellow, Blue, Magenta, Cyan, White}
 use Rattle.ansi_style.specs.Style.{hue_at}
 use Rattle.ansi_html.specs.declared.css.Role.{Role}
-use Rattle.ansi_html.specs.declared.css.Role.TheVariants.{Text, Ground, Fixed}
+use Rattle.ansi_html.specs.declared.css.Role.TheVariants.{Text, Background, Fixed}
 
 -- the last hexadecimal digit of a number, in lower case
 abbrev pub hex_digit : ℕ → ℕ
@@ -20,7 +20,7 @@ hex_byte n = hex_digit (n / 16) ∷ hex_digit n ∷ []
 abbrev pub hex : ℕ → ℕ → ℕ → List ℕ
 hex red green blue = codes "#" ++ (hex_byte red ++ (hex_byte green ++ hex_byte blue))
 
--- A named colour on light pages, on dark pages, and on a ground that the stream coloured.
+-- A named colour on light pages, on dark pages, and on a background that the stream coloured.
 pub record Shades : Type 0 where
   pub light : List ℕ
   pub dark : List ℕ
@@ -31,7 +31,8 @@ shades light dark fixed = record { light = light; dark = dark; fixed = fixed }
 
 -- Light and dark: after the terminal palette of GitHub's Primer, where bright blue, magenta, cyan
 -- and white on light pages and both blacks on dark ones are moved away from the page, so that
--- each has a contrast of 4.5:1 at least. Fixed: xterm's palette (its file XTerm-color).
+-- each has a contrast of 4.5:1 at least on white and on #121212, Chromium's dark page
+-- (tests/contrast). Fixed: xterm's palette (its file XTerm-color).
 abbrev pub named_shades : Hue → Shades
 named_shades Black = shades (codes "#24292f") (codes "#7d8590") (codes "#000000")
 named_shades Red = shades (codes "#cf222e") (codes "#ff7b72") (codes "#cd0000")
@@ -56,11 +57,11 @@ bright_shades White = shades (codes "#656d76") (codes "#ffffff") (codes "#ffffff
 abbrev pub light_dark : List ℕ → List ℕ → List ℕ
 light_dark light dark = codes "light-dark(" ++ (light ++ (codes "," ++ (dark ++ codes ")")))
 
--- A text is drawn in the shade that is read on the page, and a ground in the other one, on
+-- A text is drawn in the shade that is read on the page, and a background in the other one, on
 -- which the page's own text is read.
 abbrev pub shade : Role → Shades → List ℕ
 shade Text shades = light_dark shades.light shades.dark
-shade Ground shades = light_dark shades.dark shades.light
+shade Background shades = light_dark shades.dark shades.light
 shade Fixed shades = shades.fixed
 
 -- one of the six steps of xterm's cube (256colres.pl of xterm)

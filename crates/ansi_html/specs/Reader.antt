@@ -2,6 +2,10 @@
 -- character references. The states are those of the HTML standard's tokenizer that such text
 -- meets: data (13.2.5.1), character reference (13.2.5.72), tag (13.2.5.6 to 8 and 32 to 40),
 -- attribute value, double-quoted (13.2.5.36).
+--
+-- It reads the bytes as they are. A browser does two things before it (HTML standard, 13.2.3.5 and
+-- 13.2.6.4.7): a 0D with or without 0A behind it becomes one 0A; and a 0A right after <pre> is
+-- dropped, so a page has one of its own there.
 use Rattle.std.specs.Prelude.{ℕ, ◌==◌, bytes_eq, List, [], ◌∷◌, ◌++◌, codes, map, if◌then◌else◌}
 use Rattle.anstyle_parse.specs.Stream.Call.{Call}
 use Rattle.ansi_strip.specs.Strip.{stripped_call}

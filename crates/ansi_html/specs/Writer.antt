@@ -1,14 +1,15 @@
 -- What a writer of HTML shows, and what a call does to it.
-use Rattle.std.specs.Prelude.{◌≡◌, ℕ, Bool, List, Option, unwrap_or}
-use Rattle.anstyle_parse.specs.declared.canon.output.Output.{Output}
+use Rattle.std.specs.Prelude.{◌≡◌, ℕ, List, [], ◌∷◌, Option, unwrap_or}
+use Rattle.anstyle_parse.specs.declared.io.devices.Sink.{Ghosts as SinkOf}
+use Rattle.anstyle_parse.specs.declared.io.output.Output.{Output}
 use Rattle.anstyle_parse.specs.Stream.Call.{Call}
-use Rattle.anstyle_parse.specs.Writing.Output.{Adds}
+use Rattle.anstyle_parse.specs.Io.Output.{Adds}
 use Rattle.ansi_strip.specs.Strip.{stripped_call}
 use Rattle.ansi_style.specs.declared.style.Style.{Style}
 use Rattle.ansi_style.specs.Style.{plain}
 use Rattle.ansi_style.specs.Rendition.{style_after}
 use Rattle.ansi_html.specs.declared.performer.HtmlWriter.{HtmlWriter}
-use Rattle.ansi_html.specs.Page.{text_html, shown_after, span_end}
+use Rattle.ansi_html.specs.Html.{text_html, shown_after, html_from, shown_at_end, span_end}
 
 -- the output that it writes to; the style of the last text; the style that is selected, which is
 -- that one where no other has been selected since
@@ -34,7 +35,18 @@ abbrev pub unwritten : {W : Type 0} → HtmlWriter W → List ℕ
 unwritten performer = span_end (shown_of performer)
 
 -- A call selects a style, or its text is written.
-pub record Takes {W : Type 0} (contents : W → Option (List ℕ)) (has_failed : W → Bool) (old : HtmlWriter W) (call : Call) (new : HtmlWriter W) : Type 0 where
+pub record Takes {W : Type 0} (sink : SinkOf W) (old : HtmlWriter W) (call : Call) (new : HtmlWriter W) : Type 0 where
   pub style : style_of new ≡ style_after call (style_of old)
   pub shown : shown_of new ≡ shown_after (shown_of old) (style_of old) (stripped_call call)
-  pub added : Adds contents has_failed (text_html (shown_of old) (style_of old) (stripped_call call)) (output_of old) (output_of new)
+  pub added : Adds sink (text_html (shown_of old) (style_of old) (stripped_call call)) (output_of old) (output_of new)
+
+-- the style that is selected after the calls
+abbrev pub style_at_end : Style → List Call → Style
+style_at_end style [] = style
+style_at_end style (call ∷ calls) = style_at_end (style_after call style) calls
+
+-- The calls, one after another.
+pub record TakesAll {W : Type 0} (sink : SinkOf W) (old : HtmlWriter W) (calls : List Call) (new : HtmlWriter W) : Type 0 where
+  pub style : style_of new ≡ style_at_end (style_of old) calls
+  pub shown : shown_of new ≡ shown_at_end (shown_of old) (style_of old) calls
+  pub added : Adds sink (html_from (shown_of old) (style_of old) calls) (output_of old) (output_of new)

@@ -1,6 +1,6 @@
 //! A style as CSS declarations.
 ghost use Rattle.std.specs.Prelude.{◌≡◌, ◌<◌, ◌++◌, ◌||◌, [], codes};
-ghost use Rattle.anstyle_parse.specs.Writing.Output.{Adds};
+ghost use Rattle.anstyle_parse.specs.Io.Output.{Adds};
 ghost use Rattle.ansi_html.specs.Palette.{hex_digit, hex, shades, named_shades, bright_shades, light_dark, shade, level, indexed, color_value};
 ghost use Rattle.ansi_html.specs.Css.{color_css, role_by, colors_css, text_if, is_underlined, lines_css, underline_css, css};
 
@@ -12,9 +12,9 @@ use anstyle_parse::canon::{Output, Sink};
 enum Role {
     /// A text on the page.
     Text,
-    /// The ground of the page's own text.
-    Ground,
-    /// A text or a ground that meets another colour of the stream.
+    /// The background of the page's own text.
+    Background,
+    /// A text or a background that meets another colour of the stream.
     Fixed,
 }
 
@@ -32,7 +32,7 @@ fn digit(number: u8) -> u8
 
 /// Red, green and blue in hexadecimal.
 fn put_hex<W: Sink>(output: &mut Output<W>, red: u8, green: u8, blue: u8)
-    ensures { Adds W.contents W.has_failed (hex red green blue) output.old output.new }
+    ensures { Adds W.Sink (hex red green blue) output.old output.new }
 {
     output.put(&[
         b'#',
@@ -79,7 +79,7 @@ fn bright_shades(hue: Hue) -> (&'static [u8], &'static [u8], &'static [u8])
 
 /// A colour for light pages and one for dark ones.
 fn put_light_dark<W: Sink>(output: &mut Output<W>, light: &[u8], dark: &[u8])
-    ensures { Adds W.contents W.has_failed (light_dark light.now dark.now) output.old output.new }
+    ensures { Adds W.Sink (light_dark light.now dark.now) output.old output.new }
 {
     output.put(b"light-dark(");
     output.put(light);
@@ -90,11 +90,11 @@ fn put_light_dark<W: Sink>(output: &mut Output<W>, light: &[u8], dark: &[u8])
 
 /// The shade that is drawn in a role, of the three of a hue.
 fn put_shade<W: Sink>(output: &mut Output<W>, role: Role, of: (&[u8], &[u8], &[u8]))
-    ensures { Adds W.contents W.has_failed (shade role (shades of.entry.0.now of.entry.1.now of.entry.2.now)) output.old output.new }
+    ensures { Adds W.Sink (shade role (shades of.entry.0.now of.entry.1.now of.entry.2.now)) output.old output.new }
 {
     match role {
         Role::Text => put_light_dark(output, of.0, of.1),
-        Role::Ground => put_light_dark(output, of.1, of.0),
+        Role::Background => put_light_dark(output, of.1, of.0),
         Role::Fixed => output.put(of.2),
     }
 }
@@ -109,7 +109,7 @@ fn level(step: u8) -> u8
 
 /// One of 256.
 fn put_indexed<W: Sink>(output: &mut Output<W>, role: Role, index: u8)
-    ensures { Adds W.contents W.has_failed (indexed role index) output.old output.new }
+    ensures { Adds W.Sink (indexed role index) output.old output.new }
 {
     if index < 8 {
         put_shade(output, role, named_shades(Hue::at(u16::from(index))));
@@ -131,7 +131,7 @@ fn put_indexed<W: Sink>(output: &mut Output<W>, role: Role, index: u8)
 
 /// The value of a colour that is not the default.
 fn put_value<W: Sink>(output: &mut Output<W>, role: Role, color: Color)
-    ensures { Adds W.contents W.has_failed (color_value role color) output.old output.new }
+    ensures { Adds W.Sink (color_value role color) output.old output.new }
 {
     match color {
         Color::Default => {}
@@ -150,7 +150,7 @@ fn put_color<W: Sink>(
     role: Role,
     color: Color,
 )
-    ensures { Adds W.contents W.has_failed (color_css property.now default.now role color) output.old output.new }
+    ensures { Adds W.Sink (color_css property.now default.now role color) output.old output.new }
 {
     match color {
         Color::Default => output.put(default),
@@ -176,16 +176,16 @@ impl Role {
 
 /// The colours. Reversed, each is drawn in the other's place.
 fn put_colors<W: Sink>(output: &mut Output<W>, style: Style)
-    ensures { Adds W.contents W.has_failed (colors_css style.reverse style.foreground style.background) output.old output.new }
+    ensures { Adds W.Sink (colors_css style.reverse style.foreground style.background) output.old output.new }
 {
     let text = Role::Text.by(style.background);
-    let ground = Role::Ground.by(style.foreground);
+    let behind = Role::Background.by(style.foreground);
     if style.reverse {
         put_color(
             output,
             b"color:",
             b"color:Canvas;",
-            ground,
+            behind,
             style.background,
         );
         put_color(
@@ -197,13 +197,13 @@ fn put_colors<W: Sink>(output: &mut Output<W>, style: Style)
         );
     } else {
         put_color(output, b"color:", b"", text, style.foreground);
-        put_color(output, b"background-color:", b"", ground, style.background);
+        put_color(output, b"background-color:", b"", behind, style.background);
     }
 }
 
 /// The text, where it is wanted.
 fn put_if<W: Sink>(output: &mut Output<W>, wanted: bool, text: &[u8])
-    ensures { Adds W.contents W.has_failed (text_if wanted text.now) output.old output.new }
+    ensures { Adds W.Sink (text_if wanted text.now) output.old output.new }
 {
     if wanted {
         output.put(text);
@@ -232,7 +232,7 @@ fn put_lines<W: Sink>(
     struck_out: bool,
     blink: bool,
 )
-    ensures { Adds W.contents W.has_failed (lines_css underlined overlined struck_out blink) output.old output.new }
+    ensures { Adds W.Sink (lines_css underlined overlined struck_out blink) output.old output.new }
 {
     if has_line(underlined, overlined, struck_out, blink) {
         output.put(b"text-decoration-line:");
@@ -259,7 +259,7 @@ fn underline_css(underline: Underline) -> &'static [u8]
 
 /// Writes the declarations of a style.
 pub(crate) fn put_css<W: Sink>(output: &mut Output<W>, style: Style)
-    ensures { Adds W.contents W.has_failed (css style) output.old output.new }
+    ensures { Adds W.Sink (css style) output.old output.new }
 {
     put_colors(output, style);
     put_if(output, style.bold, b"font-weight:bold;");

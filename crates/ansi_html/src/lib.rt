@@ -1,15 +1,22 @@
 //! From a terminal's colours to HTML: the text of a stream, escaped, in spans that give each
 //! part its style. No input brings in markup.
+//!
+//! ```
+//! let mut reader = FromRead::new(log);
+//! let writer = FromWrite::new(Vec::new(alloc));
+//! let (writer, answer) = convert(b"<pre>", &mut reader, writer, b"</pre>");
+//! // of ESC [ 1 m < h i: <pre><span style="font-weight:bold;">&lt;hi</span></pre>
+//! ```
 #![tactic(auto)]
 
 ghost use Rattle.std.specs.Prelude.{◌≡◌, ◌≤◌, ◌+◌, ◌*◌, ◌++◌, ℕ, List, OnOk, length, map};
 ghost use Rattle.std.specs.Str.{IsUtf8};
 ghost use Rattle.anstyle_parse.specs.Stream.Call.{Call};
 ghost use Rattle.anstyle_parse.specs.Stream.Calls.{AreCalls};
-ghost use Rattle.anstyle_parse.specs.Writing.Run.{RunsToEnding};
+ghost use Rattle.anstyle_parse.specs.Io.Run.{RunsToEnding};
 ghost use Rattle.ansi_strip.specs.Strip.{stripped};
 ghost use Rattle.ansi_style.specs.Style.{plain};
-ghost use Rattle.ansi_html.specs.Page.{html_text, html_ending, html};
+ghost use Rattle.ansi_html.specs.Html.{html_text, html_ending, html};
 ghost use Rattle.ansi_html.specs.Reader.{byte_of, read, shown_from};
 ghost use Rattle.ansi_html.specs.Grammar.{IsFragment};
 
@@ -28,7 +35,8 @@ pub use performer::HtmlWriter;
 /// The text is the stripped text: each printed character in UTF-8, tab, line feed and carriage
 /// return. `& < > " '` are written as character references, and text that is not plain stands
 /// in `<span style="…">…</span>`, one for each run of equal style. Nothing else is written, so
-/// no input brings in markup.
+/// no input brings in markup. A browser makes a line feed of each carriage return, alone or
+/// before a line feed, and drops a line feed right after `<pre>`.
 ///
 /// The bytes are read in pieces of at most 4096; no memory is taken. The writer is always
 /// handed back. The answer is
@@ -38,7 +46,7 @@ pub use performer::HtmlWriter;
 /// - `Err(Fault::Read)` where a read failed, or 2^64 - 1 reads all gave bytes: the HTML of the
 ///   bytes read by then is written, its last span is closed and the tail is written, as far as
 ///   the writer takes these, and the writer is flushed once, whatever that answers;
-/// - `Err(Fault::Write)` where a write failed: what is written is a proper beginning of head,
+/// - `Err(Fault::Write)` where a write failed: what is written is a proper prefix of head,
 ///   HTML and tail, and nothing was read or written after the fault.
 pub fn convert<R: Source, W: Sink>(
     head: &[u8],
@@ -47,14 +55,16 @@ pub fn convert<R: Source, W: Sink>(
     tail: &[u8],
 ) -> (W, Result<(), Fault>)
     // What is written is the head, the HTML of the calls of what was read, and the tail.
-    ensures runs { RunsToEnding R.remaining R.Source.has_failed R.zero_is_end W.contents W.Sink.has_failed
-        (λ calls. head.now ++ html_text calls) (λ calls. html_ending calls ++ tail.now) reader.old reader.new writer result.0 result.1 }
+    ensures runs { RunsToEnding R.Source W.Sink
+        (λ calls. head.now ++ html_text calls) (λ calls. html_ending calls ++ tail.now)
+        reader.old reader.new writer result.0 result.1 }
 
     // With Ok nothing of it is held back.
     ensures handed_on { OnOk result.1 (W.holds_nothing result.0) }
 
-    // The headline: reading the HTML gives exactly the bytes of the stripped text, each with
-    // the declarations of the style that the stream has selected there.
+    // The headline: reading the HTML, before a browser's changes of newlines, gives exactly the
+    // bytes of the stripped text, each with the declarations of the style that the stream has
+    // selected there.
     ensures read_back { (calls : List Call) → read (html calls) ≡ shown_from plain calls }
     ensures text { (calls : List Call) → map byte_of (read (html calls)) ≡ stripped calls }
 

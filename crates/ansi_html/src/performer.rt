@@ -1,15 +1,16 @@
 //! The performer that writes HTML.
-ghost use Rattle.std.specs.Prelude.{◌≡◌, [], refl, encode_utf8};
-ghost use Rattle.anstyle_parse.specs.Writing.Output.{fault_in, Adds};
+ghost use Rattle.std.specs.Prelude.{◌≡◌, [], false, refl};
+ghost use Rattle.anstyle_parse.specs.Io.Output.{Adds};
 ghost use Rattle.ansi_style.specs.Style.{plain};
-ghost use Rattle.ansi_strip.specs.Strip.{is_layout};
 ghost use Rattle.ansi_html.specs.Css.{css};
-ghost use Rattle.ansi_html.specs.Page.{span_begin, span_end, change, escaped_text};
+ghost use Rattle.ansi_html.specs.Grammar.{is_special, AreClear, BeginWithClear};
+ghost use Rattle.ansi_html.specs.Html.{span_begin, span_end, change, escaped, escaped_text};
 
 use crate::css::put_css;
+use ansi_strip::is_layout;
 use ansi_style::Style;
-use anstyle_parse::canon::{CallWriter, Fault, KeepsFault, Output, Sink};
-use anstyle_parse::{Params, Perform};
+use anstyle_parse::canon::{CallWriter, Output, Sink};
+use anstyle_parse::{Params, Perform, PerformText};
 
 /// Writes the text of a stream as HTML, in the style that the stream selects.
 ///
@@ -39,7 +40,8 @@ impl<W: Sink> HtmlWriter<W> {
     fn begin_text(&mut self)
         ensures style { style_of self.new ≡ style_of self.old }
         ensures shown { shown_of self.new ≡ style_of self.old }
-        ensures added { Adds W.contents W.has_failed (change (shown_of self.old) (style_of self.old)) (output_of self.old) (output_of self.new) }
+        ensures added { Adds W.Sink (change (shown_of self.old) (style_of self.old))
+            (output_of self.old) (output_of self.new) }
     {
         if let Some(style) = self.next {
             self.change_to(style);
@@ -50,7 +52,7 @@ impl<W: Sink> HtmlWriter<W> {
     fn change_to(&mut self, style: Style)
         ensures next { next_of self.new ≡ None }
         ensures shown { shown_of self.new ≡ style }
-        ensures added { Adds W.contents W.has_failed (change (shown_of self.old) style) (output_of self.old) (output_of self.new) }
+        ensures added { Adds W.Sink (change (shown_of self.old) style) (output_of self.old) (output_of self.new) }
     {
         self.next = None;
         if self.shown != style {
@@ -63,7 +65,7 @@ impl<W: Sink> HtmlWriter<W> {
 
 /// Opens a span of the style, unless it is plain.
 fn put_span_begin<W: Sink>(output: &mut Output<W>, style: Style)
-    ensures { Adds W.contents W.has_failed (span_begin style) output.old output.new }
+    ensures { Adds W.Sink (span_begin style) output.old output.new }
 {
     if style != Style::default() {
         output.put(b"<span style=\"");
@@ -74,45 +76,101 @@ fn put_span_begin<W: Sink>(output: &mut Output<W>, style: Style)
 
 /// Closes a span of the style, unless it is plain.
 fn put_span_end<W: Sink>(output: &mut Output<W>, style: Style)
-    ensures { Adds W.contents W.has_failed (span_end style) output.old output.new }
+    ensures { Adds W.Sink (span_end style) output.old output.new }
 {
     if style != Style::default() {
         output.put(b"</span>");
     }
 }
 
-/// Writes a character, as a character reference where it has a meaning in HTML.
-#[inline]
-fn put_escaped<W: Sink>(output: &mut Output<W>, c: char)
-    ensures { Adds W.contents W.has_failed (escaped_text (encode_utf8 c)) output.old output.new }
+/// How many bytes are tested at once.
+const CHUNK: usize = 16;
+
+/// Whether a byte has a meaning in HTML: one of `& < > " '`.
+#[inline(always)]
+#[tactic(auto, unfolding(crate::specs::Grammar::is_special))]
+fn is_special(byte: u8) -> bool
+    ensures { result ≡ is_special byte }
 {
-    match c {
-        '&' => output.put(b"&amp;"),
-        '<' => output.put(b"&lt;"),
-        '>' => output.put(b"&gt;"),
-        '"' => output.put(b"&quot;"),
-        '\'' => output.put(b"&#39;"),
-        _ => output.put_char(c),
+    byte == b'&' || byte == b'<' || byte == b'>' || byte == b'"' || byte == b'\''
+}
+
+/// Whether some byte has a meaning in HTML. It has no early exit, so that a chunk is tested at
+/// once.
+#[inline(always)]
+fn has_special(bytes: &[u8]) -> bool
+    ensures { result ≡ false → AreClear bytes.now }
+{
+    let mut has = false;
+    for byte in bytes {
+        has = has | is_special(*byte);
+    }
+    has
+}
+
+/// What begins at the first byte with a meaning in HTML.
+#[inline(always)]
+fn after_clear(bytes: &[u8]) -> &[u8]
+    ensures { BeginWithClear bytes.now result.now }
+{
+    let mut rest = bytes;
+    'chunks: while let Some((chunk, behind)) = rest.split_first_chunk::<CHUNK>() {
+        if has_special(chunk) {
+            break;
+        }
+        rest = behind;
+    }
+    'bytes: while let Some((first, behind)) = rest.split_first() {
+        if is_special(*first) {
+            break;
+        }
+        rest = behind;
+    }
+    rest
+}
+
+/// Writes text, with a character reference for each byte that has a meaning in HTML; what is
+/// between them at once.
+fn put_escaped<W: Sink>(output: &mut Output<W>, text: &[u8])
+    ensures { Adds W.Sink (escaped_text text.now) output.old output.new }
+{
+    let mut rest = text;
+    'text: while !rest.is_empty() {
+        let special = after_clear(rest);
+        let (clear, _) = rest.split_at(rest.len() - special.len());
+        output.put(clear);
+        rest = special;
+        if let Some((first, behind)) = special.split_first() {
+            put_reference(output, *first);
+            rest = behind;
+        }
     }
 }
 
-/// Whether a control is text: tab, line feed or carriage return.
-#[inline]
-fn is_layout(byte: u8) -> bool
-    ensures { result ≡ is_layout byte }
+/// Writes a byte, as a character reference where it has a meaning in HTML.
+fn put_reference<W: Sink>(output: &mut Output<W>, byte: u8)
+    ensures { Adds W.Sink (escaped byte) output.old output.new }
 {
-    byte == b'\t' || byte == b'\n' || byte == b'\r'
+    match byte {
+        b'&' => output.put(b"&amp;"),
+        b'<' => output.put(b"&lt;"),
+        b'>' => output.put(b"&gt;"),
+        b'"' => output.put(b"&quot;"),
+        b'\'' => output.put(b"&#39;"),
+        _ => output.put_byte(byte),
+    }
 }
 
 impl<W: Sink> Perform for HtmlWriter<W> {
     ghost use Rattle.ansi_html.specs.Writer.{Takes};
 
-    ghost means = { Takes W.contents W.has_failed };
+    ghost means = { Takes W.Sink };
 
     #[inline]
     fn print(&mut self, c: char) {
+        let mut bytes = [0; 4];
         self.begin_text();
-        put_escaped(&mut self.output, c);
+        put_escaped(&mut self.output, c.encode_utf8(&mut bytes).as_bytes());
     }
 
     #[inline]
@@ -140,20 +198,32 @@ impl<W: Sink> Perform for HtmlWriter<W> {
     fn esc_dispatch(&mut self, _intermediates: &[u8], _ignore: bool, _byte: u8) {}
 }
 
-impl<W: Sink> KeepsFault for HtmlWriter<W> {
-    ghost use Rattle.ansi_html.specs.Writer.{output_of};
+/// A text is of one style, and its bytes are written at once but for those with a meaning in HTML.
+impl<W: Sink> PerformText for HtmlWriter<W> {
+    ghost use Rattle.ansi_html.specs.Writer.{TakesAll};
+    ghost use Rattle.ansi_html.specs.AddingProof.{TakesAll-none, TakesAll-one, TakesAll-more};
 
-    ghost kept = { λ performer. fault_in (output_of performer) };
+    ghost receives = { TakesAll W.Sink };
 
-    fn kept_fault(&self) -> Option<Fault> {
-        self.output.fault()
+    #[inline]
+    fn print_text(&mut self, text: &str) {
+        if !text.is_empty() {
+            self.begin_text();
+            put_escaped(&mut self.output, text.as_bytes());
+        }
     }
+
+    ghost receives_none = { TakesAll-none W.Sink };
+
+    ghost receives_one = { TakesAll-one W.Sink };
+
+    ghost receives_more = { TakesAll-more W.Sink };
 }
 
 impl<W: Sink> CallWriter<W> for HtmlWriter<W> {
-    ghost use Rattle.ansi_html.specs.Page.{html_text, html_ending};
+    ghost use Rattle.ansi_html.specs.Html.{html_text, html_ending};
     ghost use Rattle.ansi_html.specs.Writer.{IsNew, output_of, unwritten as end_of_span};
-    ghost use Rattle.ansi_html.specs.Adding.{Adds-html, end_of_span-html};
+    ghost use Rattle.ansi_html.specs.AddingProof.{Adds-html, end_of_span-html};
 
     ghost output_in = { output_of };
 
@@ -176,6 +246,10 @@ impl<W: Sink> CallWriter<W> for HtmlWriter<W> {
         }
     }
 
+    fn output(&self) -> &Output<W> {
+        &self.output
+    }
+
     fn into_output(self) -> Output<W> {
         let HtmlWriter {
             mut output,
@@ -186,9 +260,7 @@ impl<W: Sink> CallWriter<W> for HtmlWriter<W> {
         output
     }
 
-    ghost adds = { Adds-html W.contents W.has_failed };
+    ghost adds = { Adds-html W.Sink };
 
-    ghost ends = { λ old calls new is goes _. end_of_span-html W.contents W.has_failed old calls new is goes };
-
-    ghost keeps = { λ _. refl };
+    ghost ends = { λ old calls new is taken _. end_of_span-html W.Sink old calls new is taken };
 }

@@ -1,3 +1,5 @@
+//! HTML worked by hand: clauses say that it is read back, and not that it has as few spans as
+//! these rows, nor that the definitions' colours and declarations are those of CSS and xterm.
 use crate::convert;
 use anstyle_parse::canon::{FromRead, FromWrite};
 use std::alloc::Global;
@@ -100,7 +102,7 @@ fn colours(rt: HostRuntime) {
                 b"\x1B[41mx",
                 b"<span style=\"background-color:light-dark(#ff7b72,#cf222e);\">x</span>",
             ),
-            // On a ground that the stream coloured, xterm's red and yellow.
+            // On a background that the stream coloured, xterm's red and yellow.
             (
                 b"\x1B[33;41mx",
                 b"<span style=\"color:#cdcd00;background-color:#cd0000;\">x</span>",

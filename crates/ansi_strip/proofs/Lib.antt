@@ -1,1 +1,4 @@
 pub mod Left
+pub mod PieceLength
+pub mod Showable
+pub mod CleanText

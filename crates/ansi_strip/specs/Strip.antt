@@ -1,6 +1,6 @@
 -- Stripped text: what is left of the calls of a stream.
-use Rattle.std.specs.List.{flat_map}
-use Rattle.std.specs.Prelude.{ℕ, Bool, true, false, ◌||◌, ◌==◌, List, [], ◌∷◌, encode_utf8, if◌then◌else◌}
+use Rattle.std.specs.List.{AllByRecursion, flat_map}
+use Rattle.std.specs.Prelude.{ℕ, Bool, true, false, ◌||◌, nat_le, ◌==◌, List, [], ◌∷◌, IsTrue, IsUtf8, encode_utf8, if◌then◌else◌}
 use Rattle.anstyle_parse.specs.Stream.Call.{Call, print, execute}
 
 -- the controls that are left: tab, line feed and carriage return (HT, LF and CR of ECMA-48)
@@ -23,3 +23,11 @@ stripped_call call = []
 -- what is left of the calls, joined
 abbrev pub stripped : List Call → List ℕ
 stripped calls = flat_map stripped_call calls
+
+-- a byte of clean text: no C0 control but those that are left
+unfoldable pub is_clean : ℕ → Bool
+is_clean byte = nat_le 0x20 byte || is_layout byte
+
+-- Clean text: well-formed UTF-8 (std's `IsUtf8`, as of each `str`) of such bytes. ESC is a C0 control.
+abbrev pub IsClean : List ℕ → Type 0
+IsClean text = IsUtf8 text × AllByRecursion (λ byte. IsTrue (is_clean byte)) text

@@ -1,5 +1,5 @@
 -- What a stripper shows.
-use Rattle.anstyle_parse.specs.declared.canon.output.Output.{Output}
+use Rattle.anstyle_parse.specs.declared.io.output.Output.{Output}
 use Rattle.ansi_strip.specs.declared.performer.Stripper.{Stripper}
 
 -- the output that it writes to

@@ -1,9 +1,15 @@
 //! Strips a stream of its escapes: what is left is the text that it prints, with its tabs,
 //! line feeds and carriage returns.
+//!
+//! ```
+//! let mut reader = FromRead::new(log);
+//! let (writer, answer) = strip(&mut reader, FromWrite::new(Vec::new(alloc)));
+//! // of ESC [ 3 1 m h i: h i
+//! ```
 #![tactic(auto)]
 
 ghost use Rattle.std.specs.Prelude.{OnOk};
-ghost use Rattle.anstyle_parse.specs.Writing.Run.{Runs};
+ghost use Rattle.anstyle_parse.specs.Io.Run.{Runs};
 ghost use Rattle.ansi_strip.specs.Strip.{stripped};
 
 pub mod laws;
@@ -12,13 +18,14 @@ mod performer;
 mod tests;
 
 use anstyle_parse::canon::{Fault, Sink, Source, write_calls};
-pub use performer::Stripper;
+pub use performer::{Stripper, is_layout};
 
 /// Writes the stripped text of all bytes that the reader gives: each printed character in
-/// UTF-8, and of the controls tab (09), line feed (0A) and carriage return (0D). Escape and
-/// control sequences, commands such as titles and links, device control strings with all that
-/// is in them, and the other controls leave nothing. A character that is broken is printed
-/// as U+FFFD; bytes that begin no character leave nothing.
+/// UTF-8, and of the controls tab (09), line feed (0A) and carriage return (0D), inside an escape
+/// or control sequence too. Such sequences, commands as titles and links, device control strings
+/// with all that is in them, and the other controls below 20 leave nothing. DEL (7F) and the characters U+0080 to
+/// U+009F count as printed. A character that is broken is printed as U+FFFD; bytes that begin no
+/// character leave nothing, and so does a character or a sequence that is begun where the bytes end.
 ///
 /// The bytes are read in pieces of at most 4096; no memory is taken. The writer is always
 /// handed back. The answer is
@@ -28,12 +35,13 @@ pub use performer::Stripper;
 /// - `Err(Fault::Read)` where a read failed, or 2^64 - 1 reads all gave bytes: the stripped
 ///   text of the bytes read by then is written, and the writer is flushed once, whatever that
 ///   answers;
-/// - `Err(Fault::Write)` where a write failed: what is written is a proper beginning of the
+/// - `Err(Fault::Write)` where a write failed: what is written is a proper prefix of the
 ///   stripped text, and nothing was read or written after the fault.
 ///
-/// What was stripped, stripped again, is itself ([`laws::stripped_twice`]).
+/// What was stripped, stripped again, is itself ([`laws::stripped_twice`]). It is UTF-8
+/// ([`laws::stripped_utf8`]), and clean text is left as it is ([`laws::clean_text`]).
 pub fn strip<R: Source, W: Sink>(reader: &mut R, writer: W) -> (W, Result<(), Fault>)
-    ensures runs { Runs R.remaining R.Source.has_failed R.zero_is_end W.contents W.Sink.has_failed stripped reader.old reader.new writer result.0 result.1 }
+    ensures runs { Runs R.Source W.Sink stripped reader.old reader.new writer result.0 result.1 }
 
     // With Ok nothing of it is held back.
     ensures handed_on { OnOk result.1 (W.holds_nothing result.0) }

@@ -1,10 +1,10 @@
 //! The performer that writes stripped text.
 ghost use Rattle.std.specs.Prelude.{◌≡◌, [], ⊤, refl};
-ghost use Rattle.anstyle_parse.specs.Writing.Output.{fault_in, Adds};
-ghost use Rattle.ansi_strip.specs.Strip.{stripped_call, stripped};
+ghost use Rattle.anstyle_parse.specs.Io.Output.{Adds};
+ghost use Rattle.ansi_strip.specs.Strip.{is_layout, stripped_call, stripped};
 
-use anstyle_parse::canon::{CallWriter, Fault, KeepsFault, Output, Sink};
-use anstyle_parse::{Params, Perform};
+use anstyle_parse::canon::{CallWriter, Output, Sink};
+use anstyle_parse::{Params, Perform, PerformText};
 
 /// Writes each printed character in UTF-8, and the controls 09, 0A and 0D; nothing of any
 /// other call.
@@ -17,11 +17,19 @@ pub struct Stripper<W> {
     output: Output<W>,
 }
 
+/// Whether a control is text: tab (09), line feed (0A) or carriage return (0D).
+#[inline]
+pub fn is_layout(byte: u8) -> bool
+    ensures { result ≡ is_layout byte }
+{
+    matches!(byte, b'\t' | b'\n' | b'\r')
+}
+
 impl<W: Sink> Perform for Stripper<W> {
     ghost use Rattle.ansi_strip.specs.Stripper.{output_of};
 
     // It adds what is left of the call.
-    ghost means = { λ old call new. Adds W.contents W.has_failed (stripped_call call) (output_of old) (output_of new) };
+    ghost means = { λ old call new. Adds W.Sink (stripped_call call) (output_of old) (output_of new) };
 
     #[inline(always)]
     fn print(&mut self, c: char) {
@@ -30,7 +38,7 @@ impl<W: Sink> Perform for Stripper<W> {
 
     #[inline]
     fn execute(&mut self, byte: u8) {
-        if matches!(byte, b'\t' | b'\n' | b'\r') {
+        if is_layout(byte) {
             self.output.put_byte(byte);
         }
     }
@@ -54,19 +62,28 @@ impl<W: Sink> Perform for Stripper<W> {
     fn esc_dispatch(&mut self, _intermediates: &[u8], _ignore: bool, _byte: u8) {}
 }
 
-impl<W: Sink> KeepsFault for Stripper<W> {
+/// A text is left as it is.
+impl<W: Sink> PerformText for Stripper<W> {
+    ghost use Rattle.anstyle_parse.specs.Io.Output.{AddsTexts};
+    ghost use Rattle.anstyle_parse.specs.Io.AddingProof.{AddsTexts-none, AddsTexts-one, AddsTexts-more};
     ghost use Rattle.ansi_strip.specs.Stripper.{output_of};
 
-    ghost kept = { λ performer. fault_in (output_of performer) };
+    ghost receives = { AddsTexts W.Sink output_of stripped_call };
 
-    fn kept_fault(&self) -> Option<Fault> {
-        self.output.fault()
+    #[inline(always)]
+    fn print_text(&mut self, text: &str) {
+        self.output.put_text(text);
     }
+
+    ghost receives_none = { AddsTexts-none W.Sink output_of stripped_call };
+
+    ghost receives_one = { AddsTexts-one W.Sink output_of stripped_call };
+
+    ghost receives_more = { AddsTexts-more W.Sink output_of stripped_call };
 }
 
 /// Stripped text has no ending.
 impl<W: Sink> CallWriter<W> for Stripper<W> {
-    ghost use Rattle.anstyle_parse.proofs.Written.Output.{Adds-calls};
     ghost use Rattle.ansi_strip.specs.Stripper.{output_of};
 
     ghost output_in = { output_of };
@@ -75,10 +92,6 @@ impl<W: Sink> CallWriter<W> for Stripper<W> {
 
     ghost text = { stripped };
 
-    ghost ending = { λ _. [] };
-
-    ghost unwritten = { λ _. [] };
-
     fn over(output: Output<W>) -> Stripper<W>
         ensures output { output_of result ≡ output }
         ensures new { ⊤ }
@@ -86,13 +99,15 @@ impl<W: Sink> CallWriter<W> for Stripper<W> {
         Stripper { output }
     }
 
+    fn output(&self) -> &Output<W> {
+        &self.output
+    }
+
     fn into_output(self) -> Output<W> {
         self.output
     }
 
-    ghost adds = { λ old calls new _ goes. Adds-calls W.contents W.has_failed output_of stripped_call calls old new goes };
+    ghost adds = { λ _ _ _ _ received. received };
 
     ghost ends = { λ _ _ _ _ _ _. refl };
-
-    ghost keeps = { λ _. refl };
 }

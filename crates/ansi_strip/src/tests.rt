@@ -1,17 +1,13 @@
-//! Worked rows.
+//! Worked rows, which say of the definition what no clause can: that this is what one wants left.
+//! More stand in `tests/expected.py`.
 
 use crate::strip;
 use anstyle_parse::canon::{FromRead, FromWrite};
 use std::process::Abort;
 
 /// Inputs with what is left of them.
-const ROWS: [(&[u8], &[u8]); 17] = [
-    (b"\x1b[31mhi\x07\x1b[0m\n", b"hi\n"),
+const ROWS: [(&[u8], &[u8]); 10] = [
     (b"", b""),
-    (b"\x1b]0;x\x07a\r\n", b"a\r\n"),
-    (b"\x1bPqA\x9cB", b"B"),
-    (b"\x1b[1\nm", b"\n"),
-    (b"\x7f\x80\x9c\xc2\x80", b"\x7f\xc2\x80"),
     (b"a\tb\x0bc\x0cd\x08e\x00", b"a\tbcde"),
     (
         b"\xe2\x82\xac\xf0\x9f\x98\x80",
@@ -23,8 +19,6 @@ const ROWS: [(&[u8], &[u8]); 17] = [
     (b"\x1b_a\x9c\x1b^b\x9c\x1bXc\x9cd", b"d"),
     (b"\x1b(B\x1b7\x1bM.", b"."),
     (b"text\x1b[3", b"text"),
-    (b"\xc3(", b"\xef\xbf\xbd("),
-    (b"\xc3\x1b[mA", b"\xef\xbf\xbdA"),
     (b"\xe2\x82\x1b]0;x\x07\n", b"\xef\xbf\xbd\n"),
 ];
 

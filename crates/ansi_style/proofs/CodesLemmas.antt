@@ -21,9 +21,8 @@ use Rattle.ansi_style.specs.declared.style.Underline.{Underline}
 use Rattle.ansi_style.specs.declared.style.Underline.TheVariants.{Off, Single, Double, Curly, Dotted, Dashed}
 use Rattle.ansi_style.specs.declared.style.Hue.{Hue}
 use Rattle.ansi_style.specs.declared.style.Hue.TheVariants.{Black, Red, Green, Yellow, Blue, Magenta, Cyan, White}
-use Rattle.ansi_style.specs.declared.select.Target.TheVariants.{Foreground, Background}
 use Rattle.ansi_style.specs.Style.{plain, hue_number, HasBytes}
-use Rattle.ansi_style.specs.Rendition.{with_code, with_underline, target_of, with_some_color, selected, AreWhole}
+use Rattle.ansi_style.specs.Rendition.{with_code, with_underline, with_color, selected, AreWhole}
 use Rattle.ansi_style.specs.Codes.{one, code_if, color_codes, underline_codes, other_codes, codes_of, codes_text, selection, more_text}
 use Rattle.ansi_style.proofs.RenditionLemmas.{selected-append, selected-reset_first}
 
@@ -156,7 +155,7 @@ flag false code others style set whole on off = ap (selected others) off
 
 underlined : (kind : Underline) (others : List (List ℕ)) (style : Style) → style ≡ record style { underline = Off }
     → selected (underline_codes kind ++ others) style ≡ selected others (record style { underline = kind })
-unfolding with_code with_underline target_of is_within
+unfolding with_code with_underline is_within
 underlined Off others style off = ap (selected others) off
 underlined Single others style off = refl
 underlined Double others style off = refl
@@ -169,7 +168,7 @@ all_below red green blue r g b = ap₂ (λ x y. x && y) (lt-ltb red 256 r) (ap�
 
 coloured : (color : Color) (others : List (List ℕ)) (style : Style) → HasBytes color → style ≡ record style { foreground = Default }
     → selected (color_codes 30 color ++ others) style ≡ selected others (record style { foreground = color })
-unfolding with_code target_of is_within
+unfolding with_code is_within
 coloured Default others style bytes off = ap (selected others) off
 coloured (Named Black) others style bytes off = refl
 coloured (Named Red) others style bytes off = refl
@@ -188,13 +187,13 @@ coloured (Bright Magenta) others style bytes off = refl
 coloured (Bright Cyan) others style bytes off = refl
 coloured (Bright White) others style bytes off = refl
 coloured (Indexed n) others style bytes off =
-    ap (λ t. selected others (with_some_color Foreground (if t then Some (Indexed n) else None) style)) (lt-ltb n 256 bytes)
+    ap (λ t. selected others (with_color 38 (if t then Some (Indexed n) else None) style)) (lt-ltb n 256 bytes)
 coloured (Direct red green blue) others style bytes off =
-    ap (λ t. selected others (with_some_color Foreground (if t then Some (Direct red green blue) else None) style)) (all_below red green blue bytes.0 bytes.1 bytes.2)
+    ap (λ t. selected others (with_color 38 (if t then Some (Direct red green blue) else None) style)) (all_below red green blue bytes.0 bytes.1 bytes.2)
 
 coloured_after : (color : Color) (style : Style) → HasBytes color → style ≡ record style { background = Default }
     → selected (color_codes 40 color) style ≡ record style { background = color }
-unfolding with_code target_of is_within
+unfolding with_code is_within
 coloured_after Default style bytes off = off
 coloured_after (Named Black) style bytes off = refl
 coloured_after (Named Red) style bytes off = refl
@@ -213,13 +212,13 @@ coloured_after (Bright Magenta) style bytes off = refl
 coloured_after (Bright Cyan) style bytes off = refl
 coloured_after (Bright White) style bytes off = refl
 coloured_after (Indexed n) style bytes off =
-    ap (λ t. with_some_color Background (if t then Some (Indexed n) else None) style) (lt-ltb n 256 bytes)
+    ap (λ t. with_color 48 (if t then Some (Indexed n) else None) style) (lt-ltb n 256 bytes)
 coloured_after (Direct red green blue) style bytes off =
-    ap (λ t. with_some_color Background (if t then Some (Direct red green blue) else None) style) (all_below red green blue bytes.0 bytes.1 bytes.2)
+    ap (λ t. with_color 48 (if t then Some (Direct red green blue) else None) style) (all_below red green blue bytes.0 bytes.1 bytes.2)
 
 -- From any style the codes lead to theirs.
 pub selected-codes_of : (style old : Style) → HasBytes style.foreground → HasBytes style.background → selected (codes_of style) old ≡ style
-unfolding with_code target_of is_within
+unfolding with_code is_within
 selected-codes_of style old foreground_bytes background_bytes =
     let s0 = plain in
     let s1 : Style = record s0 { bold = style.bold } in

@@ -1,3 +1,4 @@
+pub mod WalkLemmas
 pub mod RenditionLemmas
 pub mod CodesLemmas
 pub mod EqualityLemmas

@@ -1,3 +1,4 @@
 pub mod Style
 pub mod Rendition
+pub mod Walk
 pub mod Codes

@@ -4,18 +4,14 @@
 --
 -- Sources: ECMA-48 (5th edition), 8.3.117 SGR, for the codes up to 65; ITU-T T.416, 13.1.8,
 -- for 38 and 48 with a colour; xterm's ctlseqs, "Character Attributes (SGR)", for the colours
--- with 3B, for 90 to 107, and for 58 and 59; kitty's "Colored and styled underlines" for 4:3
--- to 4:5.
+-- with 3B and for 90 to 107; kitty's "Colored and styled underlines" for 4:3 to 4:5 and for 58
+-- and 59.
 use Rattle.std.specs.Prelude.{◌≡◌, ℕ, ◌+◌, ◌-◌, Bool, true, false, ◌&&◌, ◌||◌, not, nat_lt, ◌==◌, List, [], ◌∷◌, length, if◌then◌else◌, Option, None, Some}
 use Rattle.ansi_style.specs.declared.style.Style.{Style}
 use Rattle.ansi_style.specs.declared.style.Color.{Color}
 use Rattle.ansi_style.specs.declared.style.Color.TheVariants.{Default, Named, Bright, Indexed, Direct}
 use Rattle.ansi_style.specs.declared.style.Underline.TheVariants.{Off, Single, Double, Curly, Dotted, Dashed}
 use Rattle.ansi_style.specs.declared.style.Hue.{Hue}
-use Rattle.ansi_style.specs.declared.select.Target.{Target}
-use Rattle.ansi_style.specs.declared.select.Target.TheVariants.{Foreground, Background, Line}
-use Rattle.ansi_style.specs.declared.select.Expected.{Expected}
-use Rattle.ansi_style.specs.declared.select.Expected.TheVariants.{Code, Kind, Index, RedValue, GreenValue, BlueValue}
 use Rattle.anstyle_parse.specs.Stream.Bytes.{is_within}
 use Rattle.anstyle_parse.specs.Stream.Call.{Call, csi_dispatch}
 use Rattle.ansi_style.specs.Style.{plain, hue_at}
@@ -108,23 +104,9 @@ with_underline kind style =
     else if kind == 5 then record style { underline = Dashed }
     else style
 
--- What a colour is for. The underline's is not kept: its fields are read and dropped.
-unfoldable pub target_of : ℕ → Option Target
-target_of code =
-    if code == 38 then Some Foreground
-    else if code == 48 then Some Background
-    else if code == 58 then Some Line
-    else None
-
-abbrev pub with_color : Target → Color → Style → Style
-with_color Foreground color style = record style { foreground = color }
-with_color Background color style = record style { background = color }
-with_color Line color style = style
-
--- a colour that is none changes nothing
-abbrev pub with_some_color : Target → Option Color → Style → Style
-with_some_color target None style = style
-with_some_color target (Some color) style = with_color target color style
+-- the codes that begin a colour: of the text, of its background, of its underline
+abbrev pub is_color_code : ℕ → Bool
+is_color_code code = code == 38 || code == 48 || code == 58
 
 -- one of 256; red, green and blue; a number above 255 makes no colour
 abbrev pub indexed : ℕ → Option Color
@@ -142,59 +124,83 @@ color_in (kind ∷ red ∷ green ∷ blue ∷ []) = if kind == 2 then mixed red 
 color_in (kind ∷ space ∷ red ∷ green ∷ blue ∷ more) = if kind == 2 then mixed red green blue else None
 color_in _ = None
 
--- a group of several fields where a code is expected: a colour, or 4 and the kind of underline
-abbrev pub with_target : Option Target → ℕ → List ℕ → Style → Style
-with_target (Some target) lead fields style = with_some_color target (color_in fields) style
-with_target None lead (kind ∷ []) style = if lead == 4 then with_underline kind style else style
-with_target None lead fields style = style
+-- a colour behind its code; none changes nothing, and the underline's is read and not kept
+abbrev pub with_color : ℕ → Option Color → Style → Style
+with_color code None style = style
+with_color code (Some color) style =
+    if code == 38 then record style { foreground = color }
+    else if code == 48 then record style { background = color }
+    else style
 
--- What a group does to the style, by what is expected.
-abbrev pub with_group : Expected → List ℕ → Style → Style
-with_group Code (code ∷ []) style = with_code code style
-with_group Code (lead ∷ field ∷ fields) style = with_target (target_of lead) lead (field ∷ fields) style
-with_group (Index target) (n ∷ []) style = with_some_color target (indexed n) style
-with_group (BlueValue target red green) (blue ∷ []) style = with_some_color target (mixed red green blue) style
-with_group expected group style = style
+-- What a group says by itself: a code; 4 and the kind of underline; a colour with 3A. What is
+-- none of these changes nothing.
+abbrev pub with_group : List ℕ → Style → Style
+with_group [] style = style
+with_group (code ∷ []) style = with_code code style
+with_group (lead ∷ kind ∷ []) style = if lead == 4 then with_underline kind style else style
+with_group (lead ∷ fields) style = if is_color_code lead then with_color lead (color_in fields) style else style
 
--- 38, 48 or 58 alone: the kind of its colour comes next
-abbrev pub expected_for : Option Target → Expected
-expected_for (Some target) = Kind target
-expected_for None = Code
+-- What a sequence says, one after another: changes of the style; and at its end perhaps a
+-- colour that it begins and does not end.
+pub data Selection : Type 0 where
+  change : (Style → Style) → Selection
+  unended : Selection
 
--- a kind: 5 and then a number, or 2 and then red, green and blue; another kind has no colour
-abbrev pub expected_for_kind : Target → ℕ → Expected
-expected_for_kind target kind = if kind == 5 then Index target else if kind == 2 then RedValue target else Code
+abbrev mutual
+  -- Each group by itself, but for a colour with 3B.
+  pub selections : List (List ℕ) → List Selection
+  selections [] = []
+  selections ((code ∷ []) ∷ groups) =
+      if is_color_code code then color_selections code groups
+      else change (with_group (code ∷ [])) ∷ selections groups
+  selections (group ∷ groups) = change (with_group group) ∷ selections groups
 
--- What is expected after a group. Inside a colour each group is one field; a group of several
--- fields there ends the colour, of which nothing is selected.
-abbrev pub expected_after : Expected → List ℕ → Expected
-expected_after Code (code ∷ []) = expected_for (target_of code)
-expected_after (Kind target) (kind ∷ []) = expected_for_kind target kind
-expected_after (RedValue target) (red ∷ []) = GreenValue target red
-expected_after (GreenValue target red) (green ∷ []) = BlueValue target red green
-expected_after expected group = Code
+  -- Behind the code of a colour: 5;n or 2;red;green;blue. Another kind is no colour and is
+  -- dropped; so is a group of several fields, here and in place of each number below, and the
+  -- colour with it.
+  pub color_selections : ℕ → List (List ℕ) → List Selection
+  color_selections code [] = unended ∷ []
+  color_selections code ((kind ∷ []) ∷ groups) =
+      if kind == 5 then index_selections code groups
+      else if kind == 2 then direct_selections code groups
+      else selections groups
+  color_selections code (several ∷ groups) = selections groups
 
--- the codes that begin a colour
-abbrev pub is_color_code : ℕ → Bool
-is_color_code code = code == 38 || code == 48 || code == 58
+  -- n
+  pub index_selections : ℕ → List (List ℕ) → List Selection
+  index_selections code [] = unended ∷ []
+  index_selections code ((n ∷ []) ∷ groups) = change (with_color code (indexed n)) ∷ selections groups
+  index_selections code (several ∷ groups) = selections groups
 
--- the groups, one after another
-abbrev pub selected_from : Expected → List (List ℕ) → Style → Style
-selected_from expected [] style = style
-selected_from expected (group ∷ groups) style = selected_from (expected_after expected group) groups (with_group expected group style)
+  -- red;green;blue
+  pub direct_selections : ℕ → List (List ℕ) → List Selection
+  direct_selections code [] = unended ∷ []
+  direct_selections code ((red ∷ []) ∷ []) = unended ∷ []
+  direct_selections code ((red ∷ []) ∷ (green ∷ []) ∷ []) = unended ∷ []
+  direct_selections code ((red ∷ []) ∷ (green ∷ []) ∷ (blue ∷ []) ∷ groups) =
+      change (with_color code (mixed red green blue)) ∷ selections groups
+  direct_selections code ((red ∷ []) ∷ (green ∷ []) ∷ several ∷ groups) = selections groups
+  direct_selections code ((red ∷ []) ∷ several ∷ groups) = selections groups
+  direct_selections code (several ∷ groups) = selections groups
+
+-- each change in turn
+abbrev pub style_by : List Selection → Style → Style
+style_by [] style = style
+style_by (change made ∷ more) style = style_by more (made style)
+style_by (unended ∷ more) style = style_by more style
 
 -- The style that these groups make of a style.
 abbrev pub selected : List (List ℕ) → Style → Style
-selected groups style = selected_from Code groups style
+selected groups style = style_by (selections groups) style
 
--- what is expected after the groups
-abbrev pub expected_at_end : Expected → List (List ℕ) → Expected
-expected_at_end expected [] = expected
-expected_at_end expected (group ∷ groups) = expected_at_end (expected_after expected group) groups
+abbrev pub are_ended : List Selection → Bool
+are_ended [] = true
+are_ended (change made ∷ more) = are_ended more
+are_ended (unended ∷ more) = false
 
 -- no colour is begun that is not ended
 abbrev pub AreWhole : List (List ℕ) → Type 0
-AreWhole groups = expected_at_end Code groups ≡ Code
+AreWhole groups = are_ended (selections groups) ≡ true
 
 -- a control sequence that selects: final byte 6D, no intermediates, and no more than is shown
 unfoldable pub is_selection : List ℕ → Bool → ℕ → Bool

@@ -1,6 +1,6 @@
 //! The control sequence that leads from any style to a given one.
 ghost use Rattle.std.specs.Prelude.{◌≡◌, ℕ, ◌+◌, ◌<◌, ◌∷◌, [], map};
-ghost use Rattle.anstyle_parse.specs.Writing.Output.{Adds};
+ghost use Rattle.anstyle_parse.specs.Io.Output.{Adds};
 ghost use Rattle.anstyle_parse.specs.Stream.Calls.{AreCalls};
 ghost use Rattle.anstyle_parse.specs.Laws.Lawful.{AreLawful};
 ghost use Rattle.ansi_style.specs.Style.{hue_number, HasBytes};
@@ -40,7 +40,7 @@ impl Hue {
 
 /// Writes numbers, each with `;` before it.
 fn put_numbers<W: Sink>(output: &mut Output<W>, numbers: &[u16])
-    ensures { Adds W.contents W.has_failed (more_text (map one numbers.now)) output.old output.new }
+    ensures { Adds W.Sink (more_text (map one numbers.now)) output.old output.new }
 {
     for number in numbers {
         output.put_byte(b';');
@@ -50,7 +50,7 @@ fn put_numbers<W: Sink>(output: &mut Output<W>, numbers: &[u16])
 
 /// Writes the code, where it is wanted.
 fn put_code<W: Sink>(output: &mut Output<W>, wanted: bool, code: u16)
-    ensures { Adds W.contents W.has_failed (more_text (code_if wanted code)) output.old output.new }
+    ensures { Adds W.Sink (more_text (code_if wanted code)) output.old output.new }
 {
     if wanted {
         put_numbers(output, &[code]);
@@ -60,7 +60,7 @@ fn put_code<W: Sink>(output: &mut Output<W>, wanted: bool, code: u16)
 /// Writes the codes of a colour, counted from `base`.
 fn put_color<W: Sink>(output: &mut Output<W>, base: u16, color: Color)
     requires { base < 50 }
-    ensures text { Adds W.contents W.has_failed (more_text (color_codes base color)) output.old output.new }
+    ensures text { Adds W.Sink (more_text (color_codes base color)) output.old output.new }
     ensures bytes { HasBytes color }
 {
     match color {
@@ -104,7 +104,7 @@ impl Style {
     /// A pager or a line wrapper writes it at the start of a line, and what the line shows then
     /// does not depend on the lines before.
     pub fn write_codes<W: Sink>(self, output: &mut Output<W>)
-        ensures text { Adds W.contents W.has_failed (codes_text self) output.old output.new }
+        ensures text { Adds W.Sink (codes_text self) output.old output.new }
 
         // From any style it leads to this one.
         ensures leads { (before : Style) → selected (codes_of self) before ≡ self }

@@ -2,11 +2,11 @@
 //!
 //! Each speaks of definitions alone, and is the contract of a function that does nothing.
 ghost use Rattle.std.specs.Prelude.{◌≡◌, ℕ, List, [], ◌∷◌, ◌++◌, ◌↔◌, IsTrue};
-ghost use Rattle.ansi_style.specs.Style.{plain};
+ghost use Rattle.ansi_style.specs.Style.{plain, hue_number};
 ghost use Rattle.ansi_style.specs.Rendition.{is_color_code, selected, AreWhole};
 ghost use Rattle.ansi_style.specs.Codes.{one};
 
-use crate::style::Style;
+use crate::style::{Hue, Style};
 
 /// 0 resets all: what comes before it in a sequence counts no more, where no colour is left
 /// open.
@@ -30,13 +30,22 @@ pub fn forms()
         → selected ((code ∷ 5 ∷ n ∷ []) ∷ after) style ≡ selected (one code ∷ one 5 ∷ one n ∷ after) style }
     ensures direct { (code r g b : ℕ) (after : List (List ℕ)) (style : Style)
         → IsTrue (is_color_code code)
-        → selected ((code ∷ 2 ∷ r ∷ g ∷ b ∷ []) ∷ after) style ≡ selected (one code ∷ one 2 ∷ one r ∷ one g ∷ one b ∷ after) style }
+        → selected ((code ∷ 2 ∷ r ∷ g ∷ b ∷ []) ∷ after) style
+        ≡ selected (one code ∷ one 2 ∷ one r ∷ one g ∷ one b ∷ after) style }
     ensures with_space { (code space r g b : ℕ) (after : List (List ℕ)) (style : Style)
         → IsTrue (is_color_code code)
-        → selected ((code ∷ 2 ∷ space ∷ r ∷ g ∷ b ∷ []) ∷ after) style ≡ selected (one code ∷ one 2 ∷ one r ∷ one g ∷ one b ∷ after) style }
+        → selected ((code ∷ 2 ∷ space ∷ r ∷ g ∷ b ∷ []) ∷ after) style
+        ≡ selected (one code ∷ one 2 ∷ one r ∷ one g ∷ one b ∷ after) style }
 {}
 
 /// `==` of styles is equality.
 pub fn equality()
     ensures { (a b : Style) → (IsTrue (⟦<Style as PartialEq>⟧.eq a b) ↔ (a ≡ b)) }
 {}
+
+/// `as u8` gives the number of a hue, 0 to 7: what is added to 30 to select it.
+pub fn hue_as_number(hue: Hue) -> u8
+    ensures { result ≡ hue_number hue }
+{
+    hue as u8
+}

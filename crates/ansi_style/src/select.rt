@@ -1,8 +1,9 @@
 //! Select Graphic Rendition: what a control sequence does to a style.
 ghost use Rattle.std.specs.Prelude.{◌≡◌, ◌++◌, ◌∷◌, []};
 ghost use Rattle.ansi_style.specs.Style.{hue_at};
-ghost use Rattle.ansi_style.specs.Rendition.{with_code, with_underline, target_of, with_some_color, color_in, indexed, mixed, with_group, with_target, expected_for, expected_for_kind, expected_after, selected, is_selection, style_after};
-ghost use Rattle.anstyle_parse.specs.Fields.Params.{groups_shown};
+ghost use Rattle.ansi_style.specs.Rendition.{with_code, with_underline, color_in, indexed, mixed, selected, is_selection, style_after};
+ghost use Rattle.ansi_style.specs.Walk.{target_of, with_target_color, with_target, with_expected, expected_for, expected_for_kind, expected_after};
+ghost use Rattle.anstyle_parse.specs.Views.Params.{groups_shown};
 
 use crate::style::{Color, Hue, Style, Underline};
 use anstyle_parse::{Params, Perform};
@@ -69,7 +70,7 @@ impl Style {
 
     /// Does what one group says.
     fn select_group(&mut self, expected: Expected, group: &[u16])
-        ensures { self.new ≡ with_group expected group.now self.old }
+        ensures { self.new ≡ with_expected expected group.now self.old }
     {
         match (expected, group) {
             (Expected::Code, [code]) => self.select_code(*code),
@@ -148,7 +149,7 @@ impl Style {
 
     /// A colour that is none changes nothing.
     fn set_color(&mut self, target: Target, color: Option<Color>)
-        ensures { self.new ≡ with_some_color target color self.old }
+        ensures { self.new ≡ with_target_color target color self.old }
     {
         match (target, color) {
             (Target::Foreground, Some(color)) => self.foreground = color,
@@ -159,7 +160,7 @@ impl Style {
 }
 
 /// What the colour is for that a code begins.
-#[tactic(auto, unfolding(crate::specs::Rendition::target_of))]
+#[tactic(auto, unfolding(crate::specs::Walk::target_of))]
 fn color_target(code: u16) -> Option<Target>
     ensures { result ≡ target_of code }
 {

@@ -1,7 +1,8 @@
 //! What a style is made of.
 ghost use Rattle.std.specs.Prelude.{◌≡◌};
 
-/// One of the eight colours that ECMA-48 names, in its order.
+/// One of the eight colours that ECMA-48 names, in its order: `as u8` gives 0 to 7, which is
+/// added to 30 to select it (`laws::hue_as_number`).
 #[derive(Debug, Clone, Copy, PartialEq, Eq)]
 pub enum Hue {
     Black,
@@ -25,7 +26,7 @@ pub enum Color {
     Bright(Hue),
     /// One of xterm's 256: the sixteen named, a cube of 216, and 24 greys.
     Indexed(u8),
-    /// Red, green and blue, 0 to 255 each.
+    /// By its red, green and blue, 0 to 255 each.
     Direct(u8, u8, u8),
 }
 

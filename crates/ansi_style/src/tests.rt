@@ -1,3 +1,5 @@
+//! Selections worked by hand from ECMA-48, T.416 and xterm's ctlseqs: no clause says that the
+//! definitions' table is theirs.
 use crate::{Color, Hue, Style, Underline};
 use anstyle_parse::canon::{FromWrite, Output};
 use anstyle_parse::{Parser, Utf8Parser};
@@ -58,7 +60,7 @@ fn marked() -> Style {
 // Colours by ECMA-48, T.416 and xterm's ctlseqs, from the plain style.
 #[test]
 fn colours(rt: HostRuntime) -> Result<(), Fail> {
-    let rows: [(&[u8], Style); 24] = [
+    let rows: [(&[u8], Style); 30] = [
         (b"\x1B[31m", text(Color::Named(Hue::Red))),
         (b"\x1B[97m", text(Color::Bright(Hue::White))),
         (b"\x1B[44m", behind(Color::Named(Hue::Blue))),
@@ -94,9 +96,22 @@ fn colours(rt: HostRuntime) -> Result<(), Fail> {
         (b"\x1B[38;5;256;1m", bold()),
         (b"\x1B[38;2;1;256;3;1m", bold()),
         (b"\x1B[38:2:1:2:256m", Style::default()),
-        // A kind of colour that is none, and a colour that does not end.
+        // A kind of colour that is none; fields in place of a number; colours that do not end.
         (b"\x1B[38;7;1m", bold()),
+        (b"\x1B[38;5:1;1m", bold()),
+        (b"\x1B[38;5;2:3;1m", bold()),
+        (b"\x1B[38;2;3;9:3;1m", bold()),
         (b"\x1B[38;5m", Style::default()),
+        (b"\x1B[48;2;1;3m", Style::default()),
+        (b"\x1B[48m", Style::default()),
+        // Inside a colour 38 is a number.
+        (
+            b"\x1B[48;5;38;1m",
+            Style {
+                bold: true,
+                ..behind(Color::Indexed(38))
+            },
+        ),
         // The underline's colour is read and dropped.
         (b"\x1B[58;5;1m", Style::default()),
         (b"\x1B[58:2::1:2:3;1m", bold()),

@@ -7,3 +7,4 @@ pub mod Shown
 pub mod HeaderFold
 pub mod TextFold
 pub mod Stored
+pub mod Written

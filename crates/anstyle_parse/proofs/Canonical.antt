@@ -10,3 +10,4 @@ pub mod FieldsBound
 pub mod Length
 pub mod Bytes
 pub mod DebugText
+pub mod Written

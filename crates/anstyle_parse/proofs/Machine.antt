@@ -11,3 +11,5 @@ pub mod Seen
 pub mod Unseen
 pub mod Equal
 pub mod Runs
+pub mod Texts
+pub mod Lanes

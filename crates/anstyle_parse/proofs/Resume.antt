@@ -4,3 +4,4 @@ pub mod Fields
 pub mod Header
 pub mod Text
 pub mod Whole
+pub mod Written

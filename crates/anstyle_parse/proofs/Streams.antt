@@ -9,7 +9,7 @@ use Rattle.anstyle_parse.specs.Stream.Call.{Call}
 use Rattle.anstyle_parse.specs.Stream.Calls.{Continues}
 use Rattle.anstyle_parse.specs.Machine.Step.{Machine, AccumulatorStep, step, machine_after, machine_calls}
 use Rattle.anstyle_parse.specs.Machine.Stands.{StandsAfter, seen, unseen, Decodes}
-use Rattle.anstyle_parse.specs.Fields.Parser.{machine_of, CanTake, CanTakeAll, AreBelow, IsAfter, IsAfterAscii}
+use Rattle.anstyle_parse.specs.Views.Parser.{machine_of, CanTake, CanTakeAll, AreBelow, IsAfter, IsAfterAscii}
 use Rattle.anstyle_parse.proofs.Agreement.Whole.{StandsAfter-machine, Continues-machine}
 use Rattle.anstyle_parse.proofs.Machine.Seen.{Seen-machine}
 use Rattle.anstyle_parse.proofs.Machine.Unseen.{Unseen-step, Unseen-machine, StandsAfter-outside, reached-outside}

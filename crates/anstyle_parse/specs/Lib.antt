@@ -1,5 +1,5 @@
 pub mod Stream
 pub mod Machine
 pub mod Laws
-pub mod Fields
-pub mod Writing
+pub mod Views
+pub mod Io

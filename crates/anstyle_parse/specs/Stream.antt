@@ -8,3 +8,4 @@ pub mod Call
 pub mod Items
 pub mod Calls
 pub mod Canon
+pub mod Texts

@@ -114,15 +114,15 @@ impl CharAccumulator for AsciiParser {
 ///
 /// It takes every byte and always answers by that table, so that characters are U+0000 to
 /// U+10FFFF without the surrogates U+D800 to U+DFFF.
-#[derive(Default, Clone, Debug, PartialEq, Eq, Drop)]
+#[derive(Clone, Debug, Default, PartialEq, Eq, Drop)]
 pub struct Utf8Parser {
     /// What has come of a character.
     decoder: Front,
 }
 
 impl Utf8Parser {
-    ghost use Rattle.anstyle_parse.specs.Fields.Front.{bytes_of};
-    ghost use Rattle.anstyle_parse.specs.Fields.Accumulator.{front_of};
+    ghost use Rattle.anstyle_parse.specs.Views.Front.{bytes_of};
+    ghost use Rattle.anstyle_parse.specs.Views.Accumulator.{front_of};
 
     /// What has come of a character.
     pub(crate) fn front(&self) -> Front
@@ -133,9 +133,9 @@ impl Utf8Parser {
 }
 
 impl CharAccumulator for Utf8Parser {
-    ghost use Rattle.anstyle_parse.specs.Fields.Front.{bytes_of};
-    ghost use Rattle.anstyle_parse.specs.Fields.Accumulator.{front_of, parser_after, parser_added};
-    ghost use Rattle.anstyle_parse.specs.Fields.Decoding.{Decodes-parser_after};
+    ghost use Rattle.anstyle_parse.specs.Views.Front.{bytes_of};
+    ghost use Rattle.anstyle_parse.specs.Views.Accumulator.{front_of, parser_after, parser_added};
+    ghost use Rattle.anstyle_parse.specs.Views.DecodingProof.{Decodes-parser_after};
 
     ghost front = { front_of };
 

@@ -1,31 +1,20 @@
-//! Readers and writers that say what passed and whether they failed, and what the
-//! performers that write have in common.
-mod buffer;
+//! Canonical texts, from which a parser makes the calls again, and parsers written down.
+//!
+//! ```
+//! let mut reader = FromRead::new(log);
+//! let writer = FromWrite::new(Vec::new(alloc));
+//! let (writer, answer) = write_calls::<CanonWriter<_>, _, _>(&mut reader, writer);
+//! // of ESC [ 0 1 m h i: ESC [ 1 m h i
+//! ```
+//!
+//! It hands on what [`io`](crate::io) has: readers, writers and runs from one to the other.
 mod checkpoints;
-mod devices;
-mod engine;
-mod output;
 mod parts;
 mod writer;
 
-pub use buffer::Buffer;
-
-#[cfg(test)]
-mod tests;
-
-pub use checkpoints::checkpoint;
-pub use devices::{FromRead, FromWrite, Sink, Source};
-pub use engine::{CallWriter, KeepsFault, Stop, drive, write_calls, write_calls_between};
-pub use output::Output;
+pub use crate::io::{
+    Buffer, CallWriter, Fault, FromRead, FromWrite, Output, Sink, Source, Stop, drive, write_calls,
+    write_calls_between,
+};
+pub use checkpoints::{MAX_CHECKPOINT, checkpoint};
 pub use writer::CanonWriter;
-
-/// What went wrong with a reader or a writer.
-#[derive(Debug, Clone, Copy, PartialEq, Eq)]
-pub enum Fault {
-    /// A read failed.
-    Read,
-    /// A write failed, or took none of some bytes.
-    Write,
-    /// A flush failed.
-    Flush,
-}

@@ -5,22 +5,23 @@
 ghost use Rattle.std.specs.Prelude.{◌≡◌, ◌≤◌, ◌*◌, ◌↔◌, ℕ, List, [], ◌∷◌, ◌++◌, length, IsTrue};
 ghost use Rattle.std.specs.Cmp.{IsEquivalence};
 ghost use Rattle.std.specs.List.{flat_map};
-ghost use Rattle.anstyle_parse.specs.Fields.Accumulator.{front_of, parser_after};
+ghost use Rattle.anstyle_parse.specs.Views.Accumulator.{front_of, parser_after};
 ghost use Rattle.anstyle_parse.specs.Stream.Bytes.{escape_byte, is_cancel};
 ghost use Rattle.anstyle_parse.specs.Stream.Call.{Call, Goes};
 ghost use Rattle.anstyle_parse.specs.Stream.Calls.{AreCalls, Continues, HasReceived};
 ghost use Rattle.anstyle_parse.specs.Stream.Canon.{canon};
-ghost use Rattle.anstyle_parse.specs.Writing.CanonWriter.{output_of};
+ghost use Rattle.anstyle_parse.specs.Views.CanonWriter.{output_of};
 ghost use Rattle.anstyle_parse.specs.Stream.Characters.{is_proper_front, IsProperFront};
 ghost use Rattle.anstyle_parse.specs.Stream.Items.{Item, IsDivision};
 ghost use Rattle.anstyle_parse.specs.Laws.Lawful.{AreLawful, AreMade};
-ghost use Rattle.anstyle_parse.specs.Writing.Output.{Adds};
+ghost use Rattle.anstyle_parse.specs.Io.Output.{Adds};
 ghost use Rattle.anstyle_parse.specs.Machine.Step.{machine_calls};
-ghost use Rattle.anstyle_parse.specs.Fields.Parser.{machine_of, IsAfter, IsAfterAscii};
+ghost use Rattle.anstyle_parse.specs.Views.Parser.{machine_of, IsAfter, IsAfterAscii};
 ghost use Rattle.anstyle_parse.specs.Machine.State.{state_number, action_number};
 
-use crate::accumulator::{AsciiParser, CharAccumulator, Utf8Parser};
-use crate::canon::{CanonWriter, Fault, Sink};
+use crate::accumulator::{AsciiParser, CharAccumulator, Taken, Utf8Parser};
+use crate::canon::CanonWriter;
+use crate::io::{Fault, Sink, Stop};
 use crate::parser::Parser;
 use crate::perform::Perform;
 use crate::state::{Action, State};
@@ -120,11 +121,11 @@ pub fn bounds()
 {}
 
 /// By a list of calls a canonical writer adds their canonical text: all of it, or where the
-/// writer fails a proper beginning.
+/// writer fails a proper prefix.
 pub fn canonical_text<W: Sink>()
     ensures { (calls : List Call) (old new : CanonWriter W)
         → Goes ⟦<CanonWriter<W> as Perform>⟧.means old calls new
-        → Adds W.contents W.has_failed (canon calls) (output_of old) (output_of new) }
+        → Adds W.Sink (canon calls) (output_of old) (output_of new) }
 {}
 
 /// Forgotten: after one ESC byte nothing counts that came before.
@@ -177,11 +178,30 @@ pub fn equal_accumulators()
     ensures ascii { (a b : AsciiParser) → IsTrue (⟦<AsciiParser as PartialEq>⟧.eq a b) }
 {}
 
-/// `==` of states, of actions and of faults holds exactly between equal variants.
+/// A clone of a decoder of UTF-8 is that decoder, and a clone of a parser of UTF-8 that parser,
+/// with what is left over from earlier sequences: so `==` of both is true. Neither fails.
+pub fn clones()
+    ensures decoders { (decoder clone : Utf8Parser)
+        → ⟦<Utf8Parser as Clone>⟧.is_clone decoder clone → clone ≡ decoder }
+    ensures parsers { (parser clone : Parser Utf8Parser)
+        → ⟦<Parser as Clone>⟧.is_clone parser clone → clone ≡ parser }
+    ensures equal { (parser clone : Parser Utf8Parser)
+        → ⟦<Parser as Clone>⟧.is_clone parser clone
+        → IsTrue (⟦<Parser as PartialEq>⟧.eq parser clone) }
+    ensures decoders_always { (decoder : Utf8Parser)
+        → ⟦<Utf8Parser as Clone>⟧.is_infallible decoder }
+    ensures parsers_always { (parser : Parser Utf8Parser)
+        → ⟦<Parser as Clone>⟧.is_infallible parser }
+{}
+
+/// `==` of states, of actions, of faults and of a run's ends holds exactly between equal
+/// variants, and `==` of an accumulator's answers exactly between equal ones.
 pub fn equal_variants()
     ensures states { (a b : State) → (IsTrue (⟦<State as PartialEq>⟧.eq a b) ↔ (a ≡ b)) }
     ensures actions { (a b : Action) → (IsTrue (⟦<Action as PartialEq>⟧.eq a b) ↔ (a ≡ b)) }
     ensures faults { (a b : Fault) → (IsTrue (⟦<Fault as PartialEq>⟧.eq a b) ↔ (a ≡ b)) }
+    ensures stops { (a b : Stop) → (IsTrue (⟦<Stop as PartialEq>⟧.eq a b) ↔ (a ≡ b)) }
+    ensures taken { (a b : Taken) → (IsTrue (⟦<Taken as PartialEq>⟧.eq a b) ↔ (a ≡ b)) }
 {}
 
 /// `as u8` gives the number of a state.

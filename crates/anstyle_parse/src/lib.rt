@@ -4,7 +4,7 @@
 //!
 //! ```
 //! let mut parser = Parser::<Utf8Parser>::new();
-//! parser.advance_all(&mut performer, b"\x1B[1;31mhi\x1B[0m");
+//! parser.advance_all(performer, b"\x1B[1;31mhi\x1B[0m");
 //! // csi_dispatch [1;31] m, print h, print i, csi_dispatch [0] m
 //! ```
 //!
@@ -19,14 +19,14 @@
 //! - a byte that breaks a character is not lost with it: the ground state handles it too;
 //! - the text of an operating system command has at most 1024 bytes;
 //! - `size_hint` of [`ParamsIter`] counts groups, not fields;
-//! - [`canon`] and [`laws`] are added, and so are `advance_all` and `is_in_char`.
+//! - [`canon`], [`io`] and [`laws`] are added, and so are `advance_all` and `is_in_char`.
 #![tactic(auto)]
 
 mod accumulator;
 pub mod canon;
+mod controls;
+pub mod io;
 pub mod laws;
-#[cfg(test)]
-mod lines;
 mod params;
 mod parser;
 mod perform;
@@ -36,4 +36,4 @@ mod utf8;
 pub use accumulator::{AsciiParser, CharAccumulator, DefaultCharAccumulator, Taken, Utf8Parser};
 pub use params::{Params, ParamsIter};
 pub use parser::Parser;
-pub use perform::Perform;
+pub use perform::{Perform, PerformText};

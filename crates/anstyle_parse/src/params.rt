@@ -36,7 +36,7 @@ pub struct Params {
 
 impl Params {
     ghost use Rattle.anstyle_parse.specs.Stream.Groups.{HaveFields};
-    ghost use Rattle.anstyle_parse.specs.Fields.Params.{groups_shown, groups_left, closed_groups_of, open_group_of, AreFew};
+    ghost use Rattle.anstyle_parse.specs.Views.Params.{groups_shown, groups_left, closed_groups_of, open_group_of, AreFew};
 
     /// How many fields there are, subparameters included: at most 32.
     pub fn len(&self) -> usize
@@ -70,8 +70,10 @@ impl Params {
 
     /// Whether there is no room for another field.
     pub(crate) fn is_full(&self) -> bool
-        ensures full { IsTrue result ↔ (length (concat (closed_groups_of self.now)) + length (open_group_of self.now) ≡ max_fields) }
-        ensures room { OnFalse result (length (concat (closed_groups_of self.now)) + length (open_group_of self.now) < max_fields) }
+        ensures full { IsTrue result
+            ↔ (length (concat (closed_groups_of self.now)) + length (open_group_of self.now) ≡ max_fields) }
+        ensures room { OnFalse result
+            (length (concat (closed_groups_of self.now)) + length (open_group_of self.now) < max_fields) }
     {
         self.len == MAX_PARAMS
     }
@@ -97,7 +99,8 @@ impl Params {
     /// Adds a field to the open group, or to a new one, and closes that group.
     pub(crate) fn push(&mut self, field: u16)
         requires { length (concat (closed_groups_of self.old)) + length (open_group_of self.old) < max_fields }
-        ensures closed { closed_groups_of self.new ≡ closed_groups_of self.old ++ (open_group_of self.old ++ field ∷ []) ∷ [] }
+        ensures closed { closed_groups_of self.new
+            ≡ closed_groups_of self.old ++ (open_group_of self.old ++ field ∷ []) ∷ [] }
         ensures open { open_group_of self.new ≡ [] }
     {
         let starts = if self.open_fields == 0 {
@@ -130,7 +133,7 @@ impl Params {
 }
 
 impl Default for Params {
-    ghost use Rattle.anstyle_parse.specs.Fields.Params.{groups_shown};
+    ghost use Rattle.anstyle_parse.specs.Views.Params.{groups_shown};
 
     ghost is_default = { λ params. groups_shown params ≡ [] };
 
@@ -148,7 +151,7 @@ impl Default for Params {
 /// them, then `]`.
 impl fmt::Debug for Params {
     ghost use Rattle.std.specs.Prelude.{Some};
-    ghost use Rattle.anstyle_parse.specs.Fields.Params.{groups_shown};
+    ghost use Rattle.anstyle_parse.specs.Views.Params.{groups_shown};
     ghost use Rattle.anstyle_parse.specs.Laws.DebugText.{debug_text};
 
     ghost debug_output = { λ params. Some (debug_text (groups_shown params)) };
@@ -180,7 +183,7 @@ impl Clone for Params {
 impl Params {
     ghost use Rattle.std.specs.Prelude.{List};
     ghost use Rattle.std.specs.Cmp.{IsEquivalence};
-    ghost use Rattle.anstyle_parse.specs.Fields.Params.{groups_shown};
+    ghost use Rattle.anstyle_parse.specs.Views.Params.{groups_shown};
     ghost use Rattle.anstyle_parse.specs.Stream.Call.{Call};
     ghost use Rattle.anstyle_parse.specs.Stream.Calls.{AreCalls};
     ghost use Rattle.anstyle_parse.specs.Laws.TextLaw.{AreSent, HandsOut, IsReadBack};
@@ -199,7 +202,8 @@ impl Params {
     /// 1B, that text without its last byte, then 6D make one `csi_dispatch` of the same
     /// groups, with no intermediates and `ignore` false.
     pub fn text_law()
-        ensures handed_out { (bytes : List ℕ) (before : List Call) (call : Call) (after : List Call) (groups : List (List ℕ))
+        ensures handed_out { (bytes : List ℕ) (before : List Call)
+            (call : Call) (after : List Call) (groups : List (List ℕ))
             → AreCalls bytes (before ++ call ∷ after) → HandsOut call groups → IsReadBack groups }
         ensures sent { (groups : List (List ℕ)) → AreSent groups → IsReadBack groups }
     {}
@@ -223,7 +227,7 @@ pub struct ParamsIter<'a> {
 impl<'a> Iterator for ParamsIter<'a> {
     type Item = &'a [u16];
 
-    ghost use Rattle.anstyle_parse.specs.Fields.Params.{groups_left};
+    ghost use Rattle.anstyle_parse.specs.Views.Params.{groups_left};
 
     ghost next_gives = { YieldsFirstBy (λ x. x.now) groups_left };
 
@@ -254,7 +258,7 @@ impl<'a> Iterator for ParamsIter<'a> {
 }
 
 impl<'a> ExactSizeIterator for ParamsIter<'a> {
-    ghost use Rattle.anstyle_parse.specs.Fields.Params.{groups_left};
+    ghost use Rattle.anstyle_parse.specs.Views.Params.{groups_left};
 
     /// How many groups are left.
     fn len(&self) -> usize {
@@ -275,7 +279,7 @@ impl<'a> IntoIterator for &'a Params {
     type IntoIter = ParamsIter<'a>;
 
     ghost use Rattle.anstyle_parse.specs.Stream.Groups.{HaveFields};
-    ghost use Rattle.anstyle_parse.specs.Fields.Params.{groups_shown, groups_left, AreFew};
+    ghost use Rattle.anstyle_parse.specs.Views.Params.{groups_shown, groups_left, AreFew};
 
     ghost into_iter_gives = { λ params iter. (groups_left iter ≡ groups_shown params.now)
         × HaveFields (groups_shown params.now) × AreFew (groups_shown params.now) };
@@ -287,7 +291,7 @@ impl<'a> IntoIterator for &'a Params {
 }
 
 impl<'a> ParamsIter<'a> {
-    ghost use Rattle.anstyle_parse.specs.Fields.Params.{groups_left};
+    ghost use Rattle.anstyle_parse.specs.Views.Params.{groups_left};
     ghost use Rattle.anstyle_parse.specs.Stream.Groups.{groups_text};
 
     /// Writes the groups that are left, with `;` between them.
@@ -325,6 +329,3 @@ fn write_group<W: fmt::Write>(f: &mut fmt::Formatter<W>, group: &[u16]) -> fmt::
     }
     Ok(())
 }
-
-#[cfg(test)]
-mod tests;

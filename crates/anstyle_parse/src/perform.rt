@@ -1,6 +1,7 @@
 //! What a parser calls.
-ghost use Rattle.std.specs.Prelude.{map};
+ghost use Rattle.std.specs.Prelude.{map, ⊤, List, [], ◌∷◌, ◌++◌};
 ghost use Rattle.anstyle_parse.specs.Stream.Call.{Call, print, execute, hook, put, unhook, osc_dispatch, csi_dispatch, esc_dispatch};
+ghost use Rattle.anstyle_parse.specs.Stream.Texts.{text_calls};
 
 use crate::params::Params;
 
@@ -12,7 +13,7 @@ use crate::params::Params;
 /// keeps its part of that, and the parser's contracts say by which calls a performer goes
 /// from one value to another.
 pub trait Perform {
-    ghost use Rattle.anstyle_parse.specs.Fields.Params.{groups_shown};
+    ghost use Rattle.anstyle_parse.specs.Views.Params.{groups_shown};
 
     // What a call means: the performer before, the call, the performer after.
     ghost means: { Self → Call → Self → Type 0 };
@@ -60,4 +61,65 @@ pub trait Perform {
     /// `ignore` says that intermediates past the second were dropped.
     fn esc_dispatch(&mut self, intermediates: &[u8], ignore: bool, byte: u8)
         ensures { means self.old (esc_dispatch intermediates.now ignore byte) self.new };
+}
+
+/// Nothing is done with any call: for bytes whose calls were received before.
+impl Perform for () {
+    ghost means = { λ _ _ _. ⊤ };
+
+    fn print(&mut self, _c: char) {}
+
+    fn execute(&mut self, _byte: u8) {}
+
+    fn hook(&mut self, _params: &Params, _intermediates: &[u8], _ignore: bool, _action: u8) {}
+
+    fn put(&mut self, _byte: u8) {}
+
+    fn unhook(&mut self) {}
+
+    fn osc_dispatch(&mut self, _params: &[&[u8]], _bell_terminated: bool) {}
+
+    fn csi_dispatch(
+        &mut self,
+        _params: &Params,
+        _intermediates: &[u8],
+        _ignore: bool,
+        _action: u8,
+    ) {}
+
+    fn esc_dispatch(&mut self, _intermediates: &[u8], _ignore: bool, _byte: u8) {}
+}
+
+/// A performer that takes a text whole, for the sake of speed: one that writes may write it at
+/// once.
+///
+/// [`Parser::advance_texts`](crate::Parser::advance_texts) hands characters that are printed one
+/// after another on as one text. An implementation states in `receives` what a list of calls
+/// does to it. It need not say how it stands between two calls of the list, so that a text may
+/// change it in one step. One that writes `print_text` itself shows that it does what the same
+/// characters, each by `print`, would have done.
+pub trait PerformText: Perform {
+    // What a list of calls does to it: the performer before, the calls, the performer after.
+    ghost receives: { Self → List Call → Self → Type 0 };
+
+    /// The characters of the text are to be shown, in order, as by [`Perform::print`]. A parser
+    /// hands on no empty text.
+    fn print_text(&mut self, text: &str)
+        ensures { receives self.old (text_calls text.now) self.new }
+    {
+        for c in text.chars() {
+            self.print(c);
+        }
+    }
+
+    // No call leaves it as it is; one does what it means; a list and then another do what both
+    // do, joined.
+    ghost receives_none: { (performer : Self) → receives performer [] performer };
+
+    ghost receives_one: { (old : Self) (call : Call) (new : Self) → Self.means old call new
+        → receives old (call ∷ []) new };
+
+    ghost receives_more: { (old middle new : Self) (calls more : List Call)
+        → receives old calls middle → receives middle more new
+        → receives old (calls ++ more) new };
 }

@@ -1,8 +1,6 @@
 //! The states and actions of the parser, and its transition table.
 mod definitions;
 mod table;
-#[cfg(test)]
-mod tests;
 
 ghost use Rattle.std.specs.Prelude.{◌≡◌, ◌<◌};
 ghost use Rattle.anstyle_parse.specs.Machine.State.{state_number, action_number};

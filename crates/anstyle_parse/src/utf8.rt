@@ -7,7 +7,7 @@ ghost use Rattle.std.specs.Char.{InScalarRange};
 ghost use Rattle.anstyle_parse.specs.Stream.Bytes.{is_within};
 ghost use Rattle.anstyle_parse.specs.Stream.Characters.{character_of, BeginWithWhole};
 ghost use Rattle.anstyle_parse.specs.Machine.Decoder.{started, continued, decoded};
-ghost use Rattle.anstyle_parse.specs.Fields.Front.{bytes_of, front_with, is_front_of, IsStep};
+ghost use Rattle.anstyle_parse.specs.Views.Front.{bytes_of, front_with, is_front_of, IsStep};
 
 use crate::accumulator::Taken;
 
@@ -164,7 +164,7 @@ fn is_continuation(b: u8) -> bool
 
 /// Whether these are the bytes of a character of two.
 #[inline(always)]
-#[tactic(auto, unfolding(crate::specs::Stream::Bytes::is_within, crate::specs::Fields::Front::is_front_of))]
+#[tactic(auto, unfolding(crate::specs::Stream::Bytes::is_within, crate::specs::Views::Front::is_front_of))]
 fn is_two(a: u8, b: u8) -> bool
     ensures { result ≡ is_front_of 2 (a ∷ b ∷ []) }
 {
@@ -173,7 +173,7 @@ fn is_two(a: u8, b: u8) -> bool
 
 /// Whether a character of three bytes begins with these.
 #[inline(always)]
-#[tactic(auto, unfolding(crate::specs::Stream::Bytes::is_within, crate::specs::Fields::Front::is_front_of))]
+#[tactic(auto, unfolding(crate::specs::Stream::Bytes::is_within, crate::specs::Views::Front::is_front_of))]
 fn begins_three(a: u8, b: u8) -> bool
     ensures { result ≡ is_front_of 3 (a ∷ b ∷ []) }
 {
@@ -187,7 +187,7 @@ fn begins_three(a: u8, b: u8) -> bool
 
 /// Whether a character of four bytes begins with these.
 #[inline(always)]
-#[tactic(auto, unfolding(crate::specs::Stream::Bytes::is_within, crate::specs::Fields::Front::is_front_of))]
+#[tactic(auto, unfolding(crate::specs::Stream::Bytes::is_within, crate::specs::Views::Front::is_front_of))]
 fn begins_four(a: u8, b: u8) -> bool
     ensures { result ≡ is_front_of 4 (a ∷ b ∷ []) }
 {
@@ -228,14 +228,11 @@ fn character_of_four(a: u8, b: u8, c: u8, d: u8) -> char
     scalar_value(((a as u32 % 8 * 64 + b as u32 % 64) * 64 + c as u32 % 64) * 64 + d as u32 % 64)
 }
 
-/// The character of a number that is one.
+/// The character of a number that is one. What is required is that, so nothing is tested.
 #[inline(always)]
 fn scalar_value(number: u32) -> char
     requires { InScalarRange number }
     ensures { result ≡ number }
 {
-    char::from_u32(number).unwrap()
+    unsafe { char::from_u32_unchecked(number) }
 }
-
-#[cfg(test)]
-mod tests;

@@ -1,4 +1,4 @@
-//! The example of README.md, which shows all that follows this line.
+//! A performer that counts what is printed: docs/USING.md shows all that follows this line.
 ghost use Rattle.std.specs.Prelude.{◌≤◌};
 
 use anstyle_parse::{Params, Parser, Perform, Utf8Parser};

@@ -1,4 +1,4 @@
-//! The README's style at the end of a log.
+//! The style at the end of a log, as docs/USING.md shows it.
 use ansi_style::Style;
 use anstyle_parse::canon::{Output, Sink};
 use anstyle_parse::{Parser, Utf8Parser};

@@ -1,4 +1,4 @@
-//! The README's stripper of a log in memory.
+//! A stripper of a log in memory, as docs/USING.md shows it.
 use ansi_strip::strip;
 use anstyle_parse::canon::{Fault, FromRead, FromWrite};
 use std::alloc::Global;

@@ -1,4 +1,16 @@
-use crate::{Quiet, calls_made, printed, stay_quiet};
+//! The examples once each: what the pages say that they write, and the counts that no clause gives.
+mod names;
+
+use crate::{
+    Quiet, calls_made, canonical, html, make_first_calls, plain, printed, stay_quiet,
+    strip_two_pieces, write_last_style,
+};
+use ansi_screen::laws::{determined, enclosed, reset, show};
+use ansi_screen::{Cell, MAX_COLUMNS, MAX_ROWS, MIN_COLUMNS, MIN_ROWS, Part, Place, Screen};
+use ansi_style::Style;
+use anstyle_parse::canon::{FromWrite, Output};
+use std::test::Fail;
+use strip_pieces::Fed;
 
 /// A device control string with its terminator, 1B 5C.
 const STRING: [u8; 8] = *b"\x1bP1$qm\x1b\\";
@@ -20,4 +32,65 @@ fn a_quiet_performer_stays(rt: HostRuntime) {
     let mut quiet = Quiet { mark: 7 };
     stay_quiet(&mut quiet, &STRING);
     assert_eq!(rt; quiet.mark, 7);
+}
+
+// What the crates' pages say of their examples.
+#[test]
+fn pages(rt: HostRuntime) {
+    make_first_calls(&mut ());
+    let (text, answer) = plain(rt.alloc(), b"\x1b[31mhi");
+    assert_eq!(rt; (text.as_slice(), answer), (&b"hi"[..], Ok(())));
+    let (text, answer) = canonical(rt.alloc(), b"\x1b[01mhi");
+    assert_eq!(rt; (text.as_slice(), answer), (&b"\x1b[1mhi"[..], Ok(())));
+    let (text, answer) = html(rt.alloc(), b"\x1b[1m<hi");
+    let bold = &b"<pre><span style=\"font-weight:bold;\">&lt;hi</span></pre>"[..];
+    assert_eq!(rt; (text.as_slice(), answer), (bold, Ok(())));
+    let mut output = Output::new(FromWrite::new(Vec::new(rt.alloc())));
+    write_last_style(b"\x1b[1m\x1b[31m", &mut output);
+    let (writer, answer) = output.finish();
+    assert_eq!(rt;
+        (writer.into_inner().as_slice(), answer),
+        (&b"\x1b[0;1;31m"[..], Ok(()))
+    );
+    let mut room = [0; 64];
+    let fed = strip_two_pieces(&mut room);
+    let first = Fed {
+        taken: 3,
+        written: 0,
+    };
+    let second = Fed {
+        taken: 4,
+        written: 2,
+    };
+    assert_eq!(rt; fed, (Some(first), Some(second)));
+    assert!(rt; room.starts_with(b"hi"));
+}
+
+// The names of the screen, and its least and greatest sizes.
+#[test]
+fn a_screen_shows_a_stream(rt: HostRuntime) -> Result<(), Fail> {
+    let mut screen = Screen::new(rt.alloc(), MIN_COLUMNS, MIN_ROWS)?;
+    show(&mut screen, &[b"a", b"\x1b[1mb"]);
+    determined();
+    enclosed();
+    reset();
+    assert_eq!(rt; screen.rows(), 1);
+    assert_eq!(rt; screen.columns(), 2);
+    let mut style = Style::default();
+    style.bold = true;
+    let cell = Cell {
+        character: 'b',
+        style,
+        part: Part::Whole,
+    };
+    assert_eq!(rt; screen.row(0)[1], cell);
+    let place = Place {
+        row: 0,
+        column: 2,
+        style,
+        is_relative: false,
+    };
+    assert_eq!(rt; screen.cursor(), place);
+    assert_eq!(rt; (MAX_COLUMNS, MAX_ROWS), (1000, 1000));
+    Ok(())
 }

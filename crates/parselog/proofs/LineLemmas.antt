@@ -1,7 +1,14 @@
 -- The lines, as they are put together.
-use Rattle.std.proofs.Common.{◌≡◌, ℕ, ◌+◌, ◌/◌, ◌<◌, ◌≤◌, Bool, true, eqb, slice_index_or, List, [], ◌∷◌, ◌++◌, codes, nat_lt, ◌≢◌, length, refl, sym, ap, ◌∙◌, append_assoc}
+use Rattle.std.proofs.Common.{◌≡◌, ℕ, ◌+◌, ◌/◌, ◌<◌, ◌≤◌, Bool, true, eqb, slice_index_or, List, [], ◌∷◌, ◌++◌, codes, nat_lt, ◌≢◌, length, map, refl, sym, ap, ◌∙◌, subst, append_assoc}
 use Rattle.std.specs.Prelude.{if◌then◌else◌}
 use Rattle.std.specs.List.{flat_map}
+use Rattle.std.proofs.lemmas.Grind.{flat_map-append}
+use Rattle.std.proofs.lemmas.List.{append-nil, map-append}
+use Rattle.anstyle_parse.specs.declared.io.devices.Sink.{Ghosts as SinkOf}
+use Rattle.anstyle_parse.specs.declared.io.output.Output.{Output}
+use Rattle.anstyle_parse.specs.Io.Output.{Adds}
+use Rattle.anstyle_parse.proofs.Written.Output.{Adds-append}
+use Rattle.parselog.specs.Log.{Holds}
 use Rattle.std.proofs.lemmas.Bool.{lt-ltb, le-ltb, agree_below_at, eqb-true}
 use Rattle.anstyle_parse.specs.Stream.Call.{print, execute}
 use Rattle.parselog.specs.Lines.{hex_digit, hex_byte, hex_list, four_digits, truth, end_text, line, newline}
@@ -70,3 +77,18 @@ hex_byte-digits b n d1 d0 same e1 e0 = ap (λ d. d ∷ d0 ∷ []) e1 ∙ ap (λ 
 -- a front more of what is left is done
 pub done_more : (done front rest whole left : List ℕ) → left ≡ front ++ rest → done ++ left ≡ whole → (done ++ front) ++ rest ≡ whole
 done_more done front rest whole left e h = append_assoc done front rest ∙ ap (λ l. done ++ l) (sym e) ∙ h
+
+-- the lines of one character more
+pub lines-print : (cs : List ℕ) (c : ℕ) → flat_map line (map print (cs ++ c ∷ [])) ≡ flat_map line (map print cs) ++ line (print c)
+lines-print cs c =
+    ap (flat_map line) (map-append print cs (c ∷ [])) ∙ flat_map-append line (map print cs) (print c ∷ [])
+    ∙ ap (λ l. flat_map line (map print cs) ++ l) (append-nil (line (print c)))
+
+module _ {W : Type 0} (sink : SinkOf W) where
+  -- what is held is written too, and then nothing is held
+  pub Holds-written : (before after last : Output W) (text held : List ℕ) → Holds sink before text after held → Adds sink held after last → Adds sink text before last
+  Holds-written before after last text held holds added =
+      subst (λ t. Adds sink t before last) (sym holds.joined) (Adds-append sink holds.written held before after last holds.added added)
+
+  pub Holds-none : (before after : Output W) (text held : List ℕ) → held ≡ [] → Adds sink text before after → Holds sink before text after held
+  Holds-none before after text held none added = record { written = text; joined = sym (ap (λ l. text ++ l) none ∙ append-nil text); added = added }

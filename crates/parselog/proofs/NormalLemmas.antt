@@ -1,6 +1,8 @@
 -- What is written canonically makes the calls of what was read.
-use Rattle.std.proofs.Common.{ℕ, Bool, List, Option, Result, sym, subst}
-use Rattle.anstyle_parse.specs.declared.canon.Fault.{Fault}
+use Rattle.std.proofs.Common.{Result, sym, subst}
+use Rattle.anstyle_parse.specs.declared.io.Fault.{Fault}
+use Rattle.anstyle_parse.specs.declared.io.devices.Sink.{Ghosts as SinkOf}
+use Rattle.anstyle_parse.specs.declared.io.devices.Source.{Ghosts as SourceOf}
 use Rattle.anstyle_parse.specs.Stream.Calls.{AreCalls}
 use Rattle.anstyle_parse.specs.Stream.Canon.{canon}
 use Rattle.anstyle_parse.proofs.Canonical.Length.{length-canon}
@@ -8,14 +10,14 @@ use Rattle.anstyle_parse.proofs.Canonical.Replay.{replay}
 use Rattle.anstyle_parse.proofs.Canonical.Twice.{canon_twice}
 use Rattle.anstyle_parse.proofs.Division.Only.{AreCalls-only}
 use Rattle.anstyle_parse.proofs.Lawful.Calls.{lawful}
-use Rattle.anstyle_parse.specs.Writing.Run.{Runs}
+use Rattle.anstyle_parse.specs.Io.Run.{Runs}
 use Rattle.parselog.specs.Run.{Normalises}
 
-pub Normalises-run : (R W T : Type 0) (remaining : R → Option (List ℕ)) (reader_failed : R → Bool) (zero_is_end : Bool) (contents : W → Option (List ℕ)) (writer_failed : W → Bool)
+pub Normalises-run : (R W T : Type 0) (source : SourceOf R) (sink : SinkOf W)
     (reader reader_after : R) (writer writer_after : W) (answer : Result T Fault)
-    → Runs remaining reader_failed zero_is_end contents writer_failed canon reader reader_after writer writer_after answer
-    → Normalises remaining contents reader reader_after writer writer_after answer
-Normalises-run R W T remaining reader_failed zero_is_end contents writer_failed reader reader_after writer writer_after answer ran =
+    → Runs source sink canon reader reader_after writer writer_after answer
+    → Normalises source sink reader reader_after writer writer_after answer
+Normalises-run R W T source sink reader reader_after writer writer_after answer ran =
     let again : AreCalls (canon ran.calls) ran.calls = replay ran.calls (lawful ran.read ran.calls ran.are_calls) in
     record {
       read = ran.read;

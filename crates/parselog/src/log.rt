@@ -1,11 +1,13 @@
 //! One line for each call of the parser.
-ghost use Rattle.std.specs.Prelude.{◌≡◌, ◌++◌, [], ◌∷◌, ℕ, ⊤, None, OnOk, map, refl};
+ghost use Rattle.std.specs.Prelude.{◌≡◌, ◌++◌, [], ◌∷◌, ◌<◌, ℕ, List, ⊤, None, OnOk, map, refl};
 ghost use Rattle.parselog.specs.Lines.{line, lines, hex_digit, hex_list, truth, parts_text, end_text, line_header, newline};
 ghost use Rattle.anstyle_parse.specs.Stream.Call.{Call, print, execute, hook, put, unhook, osc_dispatch, csi_dispatch, esc_dispatch};
-ghost use Rattle.anstyle_parse.specs.Writing.Output.{Adds, Finishes, writer_in, fault_in};
+ghost use Rattle.anstyle_parse.specs.declared.io.output.Output.{Output as AnOutput};
+ghost use Rattle.anstyle_parse.specs.Io.Output.{Adds, Finishes, writer_in, fault_in};
 
-use anstyle_parse::canon::{CallWriter, Fault, KeepsFault, Output, Sink};
-use anstyle_parse::{Params, Perform};
+use anstyle_parse::canon::{CallWriter, Fault, Output, Sink};
+use anstyle_parse::{Params, Perform, PerformText};
+use arrayvec::ArrayVec;
 
 /// Writes a line for each call.
 ///
@@ -41,7 +43,7 @@ impl<W: Sink> LogWriter<W> {
     /// none, the writer is flushed once, and a flush that fails is [`Fault::Flush`].
     /// Nothing is written.
     pub fn finish(self) -> (W, Result<(), Fault>)
-        ensures finishes { Finishes W.contents W.has_failed (output_of self) result.0 result.1 }
+        ensures finishes { Finishes W.Sink (output_of self) result.0 result.1 }
         ensures handed_on { OnOk result.1 (W.holds_nothing result.0) }
     {
         self.output.finish()
@@ -62,7 +64,7 @@ fn digit(number: u32) -> u8
 impl<W: Sink> Perform for LogWriter<W> {
     ghost use Rattle.parselog.specs.Log.{output_of};
 
-    ghost means = { λ old call new. Adds W.contents W.has_failed (line call) (output_of old) (output_of new) };
+    ghost means = { λ old call new. Adds W.Sink (line call) (output_of old) (output_of new) };
 
     fn print(&mut self, c: char) {
         let n = u32::from(c);
@@ -134,19 +136,70 @@ impl<W: Sink> Perform for LogWriter<W> {
     }
 }
 
-impl<W: Sink> KeepsFault for LogWriter<W> {
+/// The bytes of lines that are put together at most.
+const TOGETHER: usize = 256;
+
+/// The line of an ASCII character that is printed.
+#[inline(always)]
+fn ascii_line(byte: u8) -> [u8; 13]
+    requires { byte < 0x80 }
+    ensures { result ≡ line (print byte) }
+{
+    let n = u32::from(byte);
+    let mut line = *b"print U+0000\n";
+    line[10] = digit(n / 0x10);
+    line[11] = digit(n);
+    line
+}
+
+/// The lines of a text's characters are put together and then written, several at once.
+impl<W: Sink> PerformText for LogWriter<W> {
+    ghost use Rattle.anstyle_parse.specs.Io.Output.{AddsTexts};
+    ghost use Rattle.anstyle_parse.specs.Io.AddingProof.{AddsTexts-none, AddsTexts-one, AddsTexts-more};
     ghost use Rattle.parselog.specs.Log.{output_of};
 
-    ghost kept = { λ performer. fault_in (output_of performer) };
+    ghost receives = { AddsTexts W.Sink output_of line };
 
-    fn kept_fault(&self) -> Option<Fault> {
-        self.fault()
+    fn print_text(&mut self, text: &str) {
+        let mut lines = ArrayVec::<u8, TOGETHER>::new();
+        for c in text.chars() {
+            if c.is_ascii() {
+                self.put_together(&mut lines, &ascii_line(c as u8));
+            } else {
+                self.output.put(lines.as_slice());
+                lines.clear();
+                self.print(c);
+            }
+        }
+        self.output.put(lines.as_slice());
+    }
+
+    ghost receives_none = { AddsTexts-none W.Sink output_of line };
+
+    ghost receives_one = { AddsTexts-one W.Sink output_of line };
+
+    ghost receives_more = { AddsTexts-more W.Sink output_of line };
+}
+
+impl<W: Sink> LogWriter<W> {
+    ghost use Rattle.parselog.specs.Log.{Holds, output_of};
+
+    /// A line more, behind those that are put together. Where it finds no room they are written.
+    #[inline(always)]
+    fn put_together(&mut self, lines: &mut ArrayVec<u8, TOGETHER>, line: &[u8; 13])
+        ensures { (before : AnOutput W) (text : List ℕ) → Holds W.Sink before text (output_of self.old) lines.old.items
+            → Holds W.Sink before (text ++ line.now) (output_of self.new) lines.new.items }
+    {
+        if lines.try_extend_from_slice(line).is_err() {
+            self.output.put(lines.as_slice());
+            lines.clear();
+            let _ = lines.try_extend_from_slice(line);
+        }
     }
 }
 
 /// The lines have no ending.
 impl<W: Sink> CallWriter<W> for LogWriter<W> {
-    ghost use Rattle.anstyle_parse.proofs.Written.Output.{Adds-calls};
     ghost use Rattle.parselog.specs.Log.{output_of};
 
     ghost output_in = { output_of };
@@ -155,10 +208,6 @@ impl<W: Sink> CallWriter<W> for LogWriter<W> {
 
     ghost text = { lines };
 
-    ghost ending = { λ _. [] };
-
-    ghost unwritten = { λ _. [] };
-
     fn over(output: Output<W>) -> LogWriter<W>
         ensures output { output_of result ≡ output }
         ensures new { ⊤ }
@@ -166,19 +215,21 @@ impl<W: Sink> CallWriter<W> for LogWriter<W> {
         LogWriter { output }
     }
 
+    fn output(&self) -> &Output<W> {
+        &self.output
+    }
+
     fn into_output(self) -> Output<W> {
         self.output
     }
 
-    ghost adds = { λ old calls new _ goes. Adds-calls W.contents W.has_failed output_of line calls old new goes };
+    ghost adds = { λ _ _ _ _ received. received };
 
     ghost ends = { λ _ _ _ _ _ _. refl };
-
-    ghost keeps = { λ _. refl };
 }
 
 impl<W: Sink> LogWriter<W> {
-    ghost use Rattle.anstyle_parse.specs.Fields.Params.{groups_shown};
+    ghost use Rattle.anstyle_parse.specs.Views.Params.{groups_shown};
     ghost use Rattle.parselog.specs.Log.{output_of};
 
     /// The line of a call with a header.
@@ -190,7 +241,9 @@ impl<W: Sink> LogWriter<W> {
         ignore: bool,
         action: u8,
     )
-        ensures { Adds W.contents W.has_failed ((name.now ++ line_header (groups_shown params.now) intermediates.now ignore action) ++ newline ∷ []) (output_of self.old) (output_of self.new) }
+        ensures { Adds W.Sink
+            ((name.now ++ line_header (groups_shown params.now) intermediates.now ignore action) ++ newline ∷ [])
+            (output_of self.old) (output_of self.new) }
     {
         self.output.put(name);
         self.output.put_byte(b'[');
@@ -209,7 +262,7 @@ fn truth_text(value: bool) -> &'static [u8]
 
 /// Bytes in hexadecimal, with nothing between them, and `-` where there are none.
 fn put_hex<W: Sink>(output: &mut Output<W>, bytes: &[u8])
-    ensures { Adds W.contents W.has_failed (hex_list bytes.now) output.old output.new }
+    ensures { Adds W.Sink (hex_list bytes.now) output.old output.new }
 {
     if bytes.is_empty() {
         output.put_byte(b'-');
@@ -223,7 +276,7 @@ fn put_hex<W: Sink>(output: &mut Output<W>, bytes: &[u8])
 
 /// The parts of an operating system command, each with a space before it.
 fn put_parts<W: Sink>(output: &mut Output<W>, parts: &[&[u8]])
-    ensures { Adds W.contents W.has_failed (parts_text (map (λ part. part.now) parts.now)) output.old output.new }
+    ensures { Adds W.Sink (parts_text (map (λ part. part.now) parts.now)) output.old output.new }
 {
     for part in parts {
         output.put_byte(b' ');
@@ -234,7 +287,7 @@ fn put_parts<W: Sink>(output: &mut Output<W>, parts: &[&[u8]])
 /// The end of a line with intermediates: these, whether more came than are shown, and the
 /// final byte.
 fn put_end<W: Sink>(output: &mut Output<W>, intermediates: &[u8], ignore: bool, byte: u8)
-    ensures { Adds W.contents W.has_failed (end_text intermediates.now ignore byte ++ newline ∷ []) output.old output.new }
+    ensures { Adds W.Sink (end_text intermediates.now ignore byte ++ newline ∷ []) output.old output.new }
 {
     let n = u32::from(byte);
     put_hex(output, intermediates);

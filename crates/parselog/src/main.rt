@@ -9,25 +9,24 @@ mod words;
 
 use anstyle_parse::canon::FromRead;
 use run::{Mode, run};
-use standard_streams::{buffered, failed, misused};
+use standard_streams::{buffered, ended, failed, misused};
 use std::io;
 use std::process::ExitCode;
 use std::rt::Env;
-use words::{message, mode};
+use words::mode;
+
+/// The name at the front of what the program says of failures.
+const PROGRAM: &str = "parselog";
 
 fn main(rt: HostRuntime) -> ExitCode {
     let Ok(mode) = chosen_mode(&rt) else {
-        return failed(&rt, "parselog: arguments not read");
+        return failed(&rt, PROGRAM, "arguments not read");
     };
     let Some(mode) = mode else {
         return misused(&rt, "usage: parselog [log|canon]");
     };
     let mut reader = FromRead::new(rt.stdin());
-    let (writer, answer) = run(mode, &mut reader, buffered(rt.stdout()));
-    match answer {
-        Ok(()) => ExitCode::SUCCESS,
-        Err(fault) => failed(&rt, message(writer.fault_behind(fault))),
-    }
+    ended(&rt, PROGRAM, run(mode, &mut reader, buffered(rt.stdout())))
 }
 
 /// The mode that the arguments name.

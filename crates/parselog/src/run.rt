@@ -1,6 +1,6 @@
 //! From a reader to a writer: the bytes, their calls, the text of the calls.
 ghost use Rattle.std.specs.Prelude.{◌≡◌, OnOk};
-ghost use Rattle.anstyle_parse.specs.Writing.Run.{Runs};
+ghost use Rattle.anstyle_parse.specs.Io.Run.{Runs};
 ghost use Rattle.parselog.specs.Run.{Normalises, text_of};
 
 use crate::log::LogWriter;
@@ -34,17 +34,17 @@ impl Mode {
 /// - `Err(Fault::Read)` where a read failed, or 2^64 - 1 reads all gave bytes: the text of
 ///   the bytes read by then is written, and the writer is flushed once, whatever that
 ///   answers;
-/// - `Err(Fault::Write)` where a write failed: what is written is a proper beginning of the
+/// - `Err(Fault::Write)` where a write failed: what is written is a proper prefix of the
 ///   text, and nothing was read or written after the fault.
 pub fn run<R: Source, W: Sink>(mode: Mode, reader: &mut R, writer: W) -> (W, Result<(), Fault>)
-    ensures runs { Runs R.remaining R.Source.has_failed R.zero_is_end W.contents W.Sink.has_failed (text_of mode) reader.old reader.new writer result.0 result.1 }
+    ensures runs { Runs R.Source W.Sink (text_of mode) reader.old reader.new writer result.0 result.1 }
 
     // With Ok nothing of it is held back.
     ensures handed_on { OnOk result.1 (W.holds_nothing result.0) }
 
     // What mode canon writes makes the calls of what was read.
     ensures normalises { mode ≡ Mode.Canon
-        → Normalises R.remaining W.contents reader.old reader.new writer result.0 result.1 }
+        → Normalises R.Source W.Sink reader.old reader.new writer result.0 result.1 }
 {
     match mode {
         Mode::Log => write_calls::<LogWriter<W>, R, W>(reader, writer),

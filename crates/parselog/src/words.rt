@@ -1,9 +1,8 @@
-//! The words of the program: the modes that its arguments name, and what it says of faults.
+//! The words of the program: the modes that its arguments name.
 ghost use Rattle.std.specs.Prelude.{◌≡◌, option_copied};
-ghost use Rattle.parselog.specs.Words.{mode_of, message_of};
+ghost use Rattle.parselog.specs.Words.{mode_of};
 
 use crate::run::Mode;
-use anstyle_parse::canon::Fault;
 
 /// The mode that the arguments name: `first` is the first, and `more` says whether a second
 /// came. No argument means [`Mode::Log`], as the one argument `log` does, and the one
@@ -25,16 +24,5 @@ pub fn mode(first: Option<&str>, more: bool) -> Option<Mode>
                 None
             }
         }
-    }
-}
-
-/// The line that says which fault ended the program, without the end of the line.
-pub fn message(fault: Fault) -> &'static str
-    ensures { result.now ≡ message_of fault }
-{
-    match fault {
-        Fault::Read => "parselog: read failed",
-        Fault::Write => "parselog: write failed",
-        Fault::Flush => "parselog: flush failed",
     }
 }

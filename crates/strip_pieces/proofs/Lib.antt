@@ -1,2 +1,2 @@
-pub mod RoomLemmas
+pub mod SliceWriterLemmas
 pub mod FeedLemmas

@@ -1,20 +1,25 @@
 -- What one call does with a piece of a stream.
-use Rattle.std.specs.Prelude.{◌≡◌, ◌<◌, ◌≤◌, ◌+◌, ◌*◌, ℕ, List, ◌++◌, length, take, drop}
+use Rattle.std.specs.Prelude.{◌≡◌, ◌<◌, ◌≤◌, ◌+◌, ◌*◌, ℕ, List, [], ◌++◌, length, take, drop, IsUtf8}
 use Rattle.anstyle_parse.specs.declared.accumulator.Utf8Parser.{Utf8Parser}
 use Rattle.anstyle_parse.specs.declared.parser.Parser.{Parser}
-use Rattle.anstyle_parse.specs.Fields.Accumulator.{front_of}
+use Rattle.anstyle_parse.specs.Views.Accumulator.{front_of}
 use Rattle.anstyle_parse.specs.Stream.Call.{Call}
 use Rattle.anstyle_parse.specs.Stream.Calls.{Continues}
-use Rattle.anstyle_parse.specs.Fields.Parser.{IsAfter}
+use Rattle.anstyle_parse.specs.Views.Parser.{IsAfter}
 use Rattle.ansi_strip.specs.Strip.{stripped}
-use Rattle.strip_pieces.specs.declared.room.Room.{Room}
+use Rattle.strip_pieces.specs.declared.slice_writer.SliceWriter.{SliceWriter}
 use Rattle.strip_pieces.specs.declared.state.StreamState.{StreamState}
-use Rattle.strip_pieces.specs.Room.{Puts}
+use Rattle.strip_pieces.specs.SliceWriter.{Puts}
 use Rattle.strip_pieces.specs.State.{StandsFor}
 
--- the bytes of text at most that one byte of a stream leads to
-abbrev pub most_text : ℕ
-most_text = 8
+-- The bytes of text at most that so many bytes of a stream lead to: three for each, as U+FFFD
+-- has, and one more where the first of them ends a character of four that was begun before.
+abbrev pub most_text : ℕ → ℕ
+most_text count = 3 * count + 1
+
+-- what one byte may lead to
+abbrev pub least_room : ℕ
+least_room = most_text 1
 
 -- The text is what is left of the calls by which the bytes continue those before.
 abbrev pub IsTextOf : (before bytes text : List ℕ) → Type 0
@@ -22,35 +27,43 @@ IsTextOf before bytes text = (calls : List Call) × Continues before bytes calls
 
 -- Bytes were taken from the front of the piece, and their text stands at the front of the room.
 pub record Feeds (old new : StreamState) (piece room room_after : List ℕ) (taken written : ℕ) : Type 0 where
+  -- the room suffices for one byte, if there is one
+  pub enough_room : 0 < length piece → least_room ≤ length room
   pub taken_fits : taken ≤ length piece
   pub written_fits : written ≤ length room
   -- whatever bytes the state stood for, it stands for these too,
   pub stands : (before : List ℕ) → StandsFor old before → StandsFor new (before ++ take taken piece)
   -- and what is written is their text, all of it
   pub text : (before : List ℕ) → StandsFor old before → IsTextOf before (take taken piece) (take written room_after)
+  -- which is UTF-8 by itself
+  pub utf8 : IsUtf8 (take written room_after)
   -- after the text the room is as it was
   pub untouched : drop written room_after ≡ drop written room
   -- of some bytes at least one was taken, and bytes are left only where less room is left than
   -- one of them may need
   pub some_taken : 0 < length piece → 0 < taken
-  pub all_taken : written + most_text ≤ length room → taken ≡ length piece
-  -- no byte leads to more text than that
-  pub bounded : written ≤ most_text * taken
+  pub all_taken : written + least_room ≤ length room → taken ≡ length piece
+  -- all are taken where there is room for what they may lead to
+  pub taken_at_once : most_text (length piece) ≤ length room → taken ≡ length piece
+  -- no bytes lead to more text than that, and none to none
+  pub bounded : written ≤ most_text taken
+  pub nothing : taken ≡ 0 → written ≡ 0
 
 -- Nothing was done: there are bytes, and less room than one of them may need.
 pub record Refuses (old new : StreamState) (piece room room_after : List ℕ) : Type 0 where
   pub some_bytes : 0 < length piece
-  pub little_room : length room < most_text
+  pub little_room : length room < least_room
   pub same_state : new ≡ old
   pub same_room : room_after ≡ room
 
 -- The parser took bytes from the front of the piece, and what is left of their calls was put
 -- into the room, which has room for it.
-pub record IsTaken (old new : Parser Utf8Parser) (piece : List ℕ) (room room_after : Room) (taken : ℕ) : Type 0 where
+pub record IsTaken (old new : Parser Utf8Parser) (piece : List ℕ) (room room_after : SliceWriter) (taken : ℕ) : Type 0 where
   pub calls : List Call
   pub taken_fits : taken ≤ length piece
   pub stands : (before : List ℕ) → IsAfter front_of old before → IsAfter front_of new (before ++ take taken piece)
   pub continues : (before : List ℕ) → IsAfter front_of old before → Continues before (take taken piece) calls
   pub puts : Puts (stripped calls) room room_after
   pub fits : room.written + length (stripped calls) ≤ length room.into.now
-  pub bounded : length (stripped calls) ≤ most_text * taken
+  pub bounded : length (stripped calls) ≤ most_text taken
+  pub nothing : taken ≡ 0 → calls ≡ []

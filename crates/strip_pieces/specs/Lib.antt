@@ -1,4 +1,5 @@
-pub mod Room
+pub mod SliceWriter
 pub mod State
 pub mod Feed
 pub mod Saved
+pub mod PuttingProof

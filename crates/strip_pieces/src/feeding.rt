@@ -1,14 +1,19 @@
 //! A piece of a stream.
-ghost use Rattle.std.specs.Prelude.{◌≡◌, ◌<◌, ◌≤◌, ◌+◌, length, IfSome, IfNone};
-ghost use Rattle.strip_pieces.specs.Feed.{most_text, Feeds, IsTaken, Refuses};
+ghost use Rattle.std.specs.Prelude.{◌≡◌, ◌≤◌, ◌+◌, ℕ, List, length, IfSome, IfNone};
+ghost use Rattle.anstyle_parse.specs.Views.Accumulator.{front_of};
+ghost use Rattle.anstyle_parse.specs.Views.Parser.{IsAfter};
+ghost use Rattle.strip_pieces.specs.Feed.{least_room, most_text, Feeds, IsTaken, Refuses};
 
-use crate::room::Room;
+use crate::slice_writer::SliceWriter;
 use crate::state::StreamState;
 use anstyle_parse::Parser;
 
-/// The bytes of text at most that one byte of a stream leads to, and so the room with which
-/// a stream always goes on.
-pub const LEAST_ROOM: usize = 8;
+/// The bytes of text at most that each byte of a piece leads to. A piece leads to one more where
+/// it ends a character that was begun before.
+const TEXT_OF_A_BYTE: usize = 3;
+
+/// The bytes of room with which a stream always goes on: four, for what one byte may lead to.
+pub const LEAST_ROOM: usize = TEXT_OF_A_BYTE + 1;
 
 /// What a call took and wrote.
 #[derive(Debug, Clone, Copy, PartialEq, Eq)]
@@ -24,9 +29,9 @@ impl StreamState {
     /// the room.
     ///
     /// With `Some` all of their text is written, and the state stands after all bytes so far.
-    /// All of the piece is taken, unless less than [`LEAST_ROOM`] is left of the room; so 8
-    /// bytes of room for each byte of the piece always suffice, and with 8 at least one byte
-    /// is taken. Past the text the room is as it was.
+    /// All of the piece is taken, unless less than [`LEAST_ROOM`] is left of the room; with that
+    /// much at least one byte is taken, and with three bytes of room for each byte of the piece,
+    /// and one more, all of them are. The text is UTF-8 by itself. Past it the room is as it was.
     ///
     /// With `None` the piece is not empty and the room is below [`LEAST_ROOM`]: then nothing
     /// was done.
@@ -38,7 +43,7 @@ impl StreamState {
             return None;
         }
         let mut parser = self.resume();
-        let mut text = Room::new(room);
+        let mut text = SliceWriter::new(room);
         let taken = take(&mut parser, piece, &mut text);
         let written = text.written();
         self.save(&parser);
@@ -48,17 +53,20 @@ impl StreamState {
 
 /// Gives bytes of the piece to the parser for as long as there is room for what they may lead
 /// to, and answers how many.
-fn take(parser: &mut Parser, piece: &[u8], room: &mut Room) -> usize
-    requires { room.old.written ≤ length room.old.into.now }
+fn take(parser: &mut Parser, piece: &[u8], room: &mut SliceWriter) -> usize
+    requires room { room.old.written ≤ length room.old.into.now }
+    requires stands { (before : List ℕ) × IsAfter front_of parser.old before }
     ensures same_reference { room.new.into.ghost_name ≡ room.old.into.ghost_name }
     ensures taken { IsTaken parser.old parser.new piece.now room.old room.new result }
-    ensures all { room.new.written + most_text ≤ length room.new.into.now
+    ensures all { room.new.written + least_room ≤ length room.new.into.now
+        → result ≡ length piece.now }
+    ensures at_once { room.old.written + most_text (length piece.now) ≤ length room.old.into.now
         → result ≡ length piece.now }
 {
     let mut taken = 0;
     while taken < piece.len() && room.left() >= LEAST_ROOM {
-        let count = (piece.len() - taken).min(room.left() / LEAST_ROOM);
-        parser.advance_all(room, &piece[taken..taken + count]);
+        let count = (piece.len() - taken).min((room.left() - 1) / TEXT_OF_A_BYTE);
+        parser.advance_texts(room, &piece[taken..taken + count]);
         taken += count;
     }
     taken

@@ -1,11 +1,12 @@
-//! Laws of states and of texts of pieces. Each is the contract of a function that does nothing.
-ghost use Rattle.std.specs.Prelude.{◌≡◌, ℕ, List, [], ◌++◌};
+//! Laws of states, of texts of pieces and of `==`. Each is the contract of a function that does nothing.
+ghost use Rattle.std.specs.Prelude.{◌≡◌, ◌↔◌, ℕ, List, [], ◌++◌, IsTrue};
 ghost use Rattle.anstyle_parse.specs.Stream.Call.{Call};
 ghost use Rattle.anstyle_parse.specs.Stream.Calls.{AreCalls};
 ghost use Rattle.ansi_strip.specs.Strip.{stripped};
 ghost use Rattle.strip_pieces.specs.Feed.{IsTextOf};
 ghost use Rattle.strip_pieces.specs.State.{pending_of, StandsFor};
 
+use crate::feeding::Fed;
 use crate::state::StreamState;
 
 /// Any bytes in a state stand for some stream: for one that had what the state holds. Where that
@@ -23,4 +24,9 @@ pub fn texts_joined()
         → IsTextOf before (bytes ++ more) (text ++ rest) }
     ensures whole { (bytes text : List ℕ) → IsTextOf [] bytes text → (calls : List Call)
         × AreCalls bytes calls × (text ≡ stripped calls) }
+{}
+
+/// `==` of what calls took and wrote is equality.
+pub fn equality()
+    ensures { (a b : Fed) → (IsTrue (⟦<Fed as PartialEq>⟧.eq a b) ↔ (a ≡ b)) }
 {}

@@ -2,13 +2,19 @@
 //!
 //! A [`StreamState`] says where the stream stands; [`StreamState::feed`] takes bytes of a piece
 //! and writes their text into a slice. No memory is taken, and no input is refused.
+//!
+//! ```
+//! let mut state = StreamState::new();
+//! let first = state.feed(b"\x1B[3", room);
+//! let second = state.feed(b"1mhi", room);
+//! // 3 bytes taken and none written; 4 taken and 2 written, h i
+//! ```
 #![tactic(auto)]
 
 mod feeding;
 pub mod laws;
-mod room;
 mod saved;
-mod silent;
+mod slice_writer;
 mod state;
 #[cfg(test)]
 mod tests;

@@ -1,17 +1,18 @@
 //! The writer that a parser is written down to.
 ghost use Rattle.std.specs.Prelude.{◌≡◌, ◌≤◌, false, true, [], Some, IsTrue, length};
+ghost use Rattle.anstyle_parse.specs.Laws.Checkpoint.{max_checkpoint};
 
-use crate::state::{MAX_PENDING, StreamState};
-use anstyle_parse::canon::Sink;
+use crate::state::StreamState;
+use anstyle_parse::canon::{MAX_CHECKPOINT, Sink};
 
 /// Takes bytes into a state, as many as it can hold, and then fails.
 #[derive(Drop)]
 pub(crate) struct Saved {
     state: StreamState,
     overflowed: bool,
-    ghost within: { state.length ≤ 1042 },
+    ghost within: { state.length ≤ max_checkpoint },
     // Only one that is full fails.
-    ghost full: { overflowed ≡ true → state.length ≡ 1042 },
+    ghost full: { overflowed ≡ true → state.length ≡ max_checkpoint },
 }
 
 impl Saved {
@@ -31,7 +32,7 @@ impl Saved {
     /// The state.
     pub(crate) fn into_state(self) -> StreamState
         ensures same { result ≡ state_in self }
-        ensures full { has_overflowed self ≡ true → length (pending_of result) ≡ 1042 }
+        ensures full { has_overflowed self ≡ true → length (pending_of result) ≡ max_checkpoint }
     {
         self.state
     }
@@ -47,7 +48,7 @@ impl Sink for Saved {
 
     fn write(&mut self, bytes: &[u8]) -> Option<usize> {
         let length = self.state.length;
-        let count = bytes.len().min(MAX_PENDING - length);
+        let count = bytes.len().min(MAX_CHECKPOINT - length);
         if count == 0 && !bytes.is_empty() {
             self.overflowed = true;
             return None;

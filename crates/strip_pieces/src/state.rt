@@ -1,16 +1,12 @@
 //! The state of a stream between its pieces.
 ghost use Rattle.std.specs.Prelude.{◌≡◌, [], ℕ, List};
-ghost use Rattle.anstyle_parse.specs.Fields.Accumulator.{front_of};
-ghost use Rattle.anstyle_parse.specs.Fields.Parser.{IsAfter};
+ghost use Rattle.anstyle_parse.specs.Views.Accumulator.{front_of};
+ghost use Rattle.anstyle_parse.specs.Views.Parser.{IsAfter};
 ghost use Rattle.strip_pieces.specs.State.{pending_of, StandsFor};
 
 use crate::saved::Saved;
-use crate::silent::Silent;
-use anstyle_parse::canon::checkpoint;
+use anstyle_parse::canon::{MAX_CHECKPOINT, checkpoint};
 use anstyle_parse::{Parser, Utf8Parser};
-
-/// The bytes that a state holds at most: those of the longest checkpoint.
-pub(crate) const MAX_PENDING: usize = 1042;
 
 /// Where a stream stands between two pieces.
 ///
@@ -22,7 +18,7 @@ pub(crate) const MAX_PENDING: usize = 1042;
 pub struct StreamState {
     /// How many bytes are pending; a number above 1,042 counts for 1,042.
     pub length: usize,
-    pub pending: [u8; MAX_PENDING],
+    pub pending: [u8; MAX_CHECKPOINT],
 }
 
 impl StreamState {
@@ -33,7 +29,7 @@ impl StreamState {
     {
         StreamState {
             length: 0,
-            pending: [0; MAX_PENDING],
+            pending: [0; MAX_CHECKPOINT],
         }
     }
 
@@ -42,8 +38,8 @@ impl StreamState {
         ensures { (before : List ℕ) → StandsFor self.now before → IsAfter front_of result before }
     {
         let mut parser = Parser::<Utf8Parser>::new();
-        let length = self.length.min(MAX_PENDING);
-        parser.advance_all(&mut Silent, &self.pending[..length]);
+        let length = self.length.min(MAX_CHECKPOINT);
+        parser.advance_all(&mut (), &self.pending[..length]);
         parser
     }
 

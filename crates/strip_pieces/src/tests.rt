@@ -1,4 +1,5 @@
-//! Streams in pieces, with the text that is left of them.
+//! Streams in pieces of every size, with every room: that every call goes on, and what is left,
+//! worked by hand. No clause says that these rows are what one wants left.
 use crate::{LEAST_ROOM, StreamState};
 use std::process::Abort;
 

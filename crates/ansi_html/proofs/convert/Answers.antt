@@ -1,7 +1,7 @@
 use Rattle.std.proofs.Common.{false, arith}
 use Rattle.ansi_html.proofs.ReadLemmas.{read-html, text-html}
 use Rattle.anstyle_parse.proofs.Lawful.Calls.{lawful}
-use Rattle.ansi_html.proofs.LawfulText.{AreShowable-lawful}
+use Rattle.ansi_strip.proofs.Showable.{AreShowable-lawful}
 use Rattle.ansi_html.proofs.GrammarLemmas.{IsFragment-html}
 use Rattle.ansi_html.proofs.TextLemmas.{IsUtf8-html}
 use Rattle.anstyle_parse.proofs.Canonical.Bounds.{length-calls}

@@ -18,7 +18,7 @@ use Rattle.anstyle_parse.specs.Machine.Stands.{counted}
 use Rattle.anstyle_parse.proofs.Bytes.Classes.{Class, cancel_byte, esc_byte, intermediate_byte, digit_byte, colon_byte, semicolon_byte, marker_byte, device_byte, string_byte, control_introducer, command_byte, final_byte, lead_byte, class_of, is_printed_at, is_executed_at, is_lead_at, is_ascii_at, is_printed-class, is_executed-class, is_lead-class, is_ascii-class}
 use Rattle.anstyle_parse.proofs.Division.Grow.{front, Growth, more, done, start, break_off, grow_front, into, ended, introduce, grow_body}
 use Rattle.anstyle_parse.proofs.Arguments.HeaderFold.{escape_collected, escape_ignoring}
-use Rattle.anstyle_parse.proofs.Machine.Actions.{plain, headed, collecting-headed}
+use Rattle.anstyle_parse.proofs.Machine.Actions.{plain, headed, collecting-with_header}
 use Rattle.anstyle_parse.proofs.Machine.Counted.{after_answer_at, answer_calls_at, step_at, step_calls_at}
 use Rattle.anstyle_parse.proofs.Agreement.Values.{registers, escape_state, value_at, open_calls, executes-push, escape_value-push}
 
@@ -121,12 +121,12 @@ escape_at some bytes = headed (escape_state some) [] (registers (filter is_inter
 pub escape_grows : (some : Bool) (c : Class) (b : ℕ) (bytes : List ℕ) → list_any is_intermediate bytes ≡ some → class_of b ≡ c
     → Grows (escape_at some bytes) (executes bytes) c b (grow_body (escape bytes) b c)
 escape_grows false intermediate_byte b bytes e class = (
-  ap (λ (r : Machine (List ℕ)). headed EscapeIntermediate r.accumulator r) (collecting-headed Escape [] b (registers (filter is_intermediate bytes)))
+  ap (λ (r : Machine (List ℕ)). headed EscapeIntermediate r.accumulator r) (collecting-with_header b (registers (filter is_intermediate bytes)) (plain Escape []))
       ∙ sym (escape_value-push b intermediate_byte class bytes false e),
   sym (executes-push b intermediate_byte class bytes),
 )
 escape_grows true intermediate_byte b bytes e class = (
-  ap counted (collecting-headed EscapeIntermediate [] b (registers (filter is_intermediate bytes))) ∙ sym (escape_value-push b intermediate_byte class bytes true e),
+  ap counted (collecting-with_header b (registers (filter is_intermediate bytes)) (plain EscapeIntermediate [])) ∙ sym (escape_value-push b intermediate_byte class bytes true e),
   sym (executes-push b intermediate_byte class bytes),
 )
 escape_grows some esc_byte b bytes e class = (refl, calls-ended (executes bytes) [])

@@ -15,7 +15,7 @@ use Rattle.anstyle_parse.specs.Machine.Stands.{counted}
 use Rattle.anstyle_parse.proofs.Bytes.Classes.{Class, cancel_byte, esc_byte, intermediate_byte, digit_byte, colon_byte, semicolon_byte, marker_byte, device_byte, string_byte, control_introducer, command_byte, final_byte, class_of, is_control_at}
 use Rattle.anstyle_parse.proofs.Division.Grow.{into, grow_header, grow_body}
 use Rattle.anstyle_parse.proofs.Arguments.HeaderFold.{header_groups, header_collected, header_ignoring, with_last_field-collected}
-use Rattle.anstyle_parse.proofs.Machine.Actions.{plain, headed, collecting-headed, with_parameter-headed, with_last_field-headed}
+use Rattle.anstyle_parse.proofs.Machine.Actions.{plain, headed, collecting-with_header, with_parameter-with_header, with_last_field-with_header}
 use Rattle.anstyle_parse.proofs.Machine.Counted.{step_at, step_calls_at}
 use Rattle.anstyle_parse.proofs.Agreement.Values.{Phase, at_entry, in_parameters, in_intermediates, misfit, phase_of, phase_at, fits, fits-phase_of, control_state, device_state, registers, control_value, device_value, executes-push, has_shape-push, next_phase, next_registers, header_value-push}
 use Rattle.anstyle_parse.proofs.Agreement.Escape.{Grows, calls-ended}
@@ -24,14 +24,14 @@ use Rattle.anstyle_parse.proofs.Agreement.Escape.{Grows, calls-ended}
 shown : (call : List (List ℕ) → List ℕ → Bool → ℕ → Call) (state : State) (header : List ℕ) (b : ℕ) → has_shape header ≡ true
     → dispatched call b (with_last_field (headed state [] (registers header))) ≡ call (groups_of header) (collected_of header) (ignore_of header) b
 shown call state header b shape =
-    ap (λ (r : Machine (List ℕ)). dispatched call b r) (with_last_field-headed state [] b (registers header))
+    ap (λ (r : Machine (List ℕ)). dispatched call b r) (with_last_field-with_header b (registers header) (plain state []))
     ∙ (ap (λ groups. call groups (with_last_field (registers header)).collected (with_last_field (registers header)).ignoring b) (header_groups header (new_machine []))
     ∙ (ap (λ collected. call (groups_of header) collected (with_last_field (registers header)).ignoring b) (with_last_field-collected (registers header))
     ∙ ap₂ (λ collected ignoring. call (groups_of header) collected ignoring b) (header_collected header (new_machine []) shape) (header_ignoring header (new_machine []) shape)))
 
 -- leaving a header for a state in which no register counts
 left_header : (state next : State) (b : ℕ) (m : Machine (List ℕ)) → plain next (with_last_field (headed state [] m)).accumulator ≡ plain next []
-left_header state next b m = ap (λ (r : Machine (List ℕ)). plain next r.accumulator) (with_last_field-headed state [] b m)
+left_header state next b m = ap (λ (r : Machine (List ℕ)). plain next r.accumulator) (with_last_field-with_header b m (plain state []))
 
 -- a header's phase fits if it has the shape
 has_shape-phase : (header : List ℕ) (phase : Phase) → phase_of header ≡ phase → has_shape header ≡ fits phase
@@ -74,25 +74,25 @@ control_misfit b lead header shape =
 pub control_grows : (p : Phase) (c : Class) (b : ℕ) (lead header : List ℕ) → phase_of (significant header) ≡ p → class_of b ≡ c
     → Grows (control_value p (registers (significant header))) (body_calls (csi lead header)) c b (grow_body (csi lead header) b c)
 control_grows at_entry intermediate_byte b lead header e class =
-    control_goes_on at_entry intermediate_byte b lead header e class (ap (λ (r : Machine (List ℕ)). headed CsiIntermediate r.accumulator r) (collecting-headed CsiEntry [] b (registers (significant header)))) refl
+    control_goes_on at_entry intermediate_byte b lead header e class (ap (λ (r : Machine (List ℕ)). headed CsiIntermediate r.accumulator r) (collecting-with_header b (registers (significant header)) (plain CsiEntry []))) refl
 control_grows at_entry digit_byte b lead header e class =
-    control_goes_on at_entry digit_byte b lead header e class (ap (λ (r : Machine (List ℕ)). headed CsiParam r.accumulator r) (with_parameter-headed CsiEntry [] b (registers (significant header)))) refl
+    control_goes_on at_entry digit_byte b lead header e class (ap (λ (r : Machine (List ℕ)). headed CsiParam r.accumulator r) (with_parameter-with_header b (registers (significant header)) (plain CsiEntry []))) refl
 control_grows at_entry colon_byte b lead header e class =
-    control_goes_on at_entry colon_byte b lead header e class (ap (λ (r : Machine (List ℕ)). headed CsiParam r.accumulator r) (with_parameter-headed CsiEntry [] b (registers (significant header)))) refl
+    control_goes_on at_entry colon_byte b lead header e class (ap (λ (r : Machine (List ℕ)). headed CsiParam r.accumulator r) (with_parameter-with_header b (registers (significant header)) (plain CsiEntry []))) refl
 control_grows at_entry semicolon_byte b lead header e class =
-    control_goes_on at_entry semicolon_byte b lead header e class (ap (λ (r : Machine (List ℕ)). headed CsiParam r.accumulator r) (with_parameter-headed CsiEntry [] b (registers (significant header)))) refl
+    control_goes_on at_entry semicolon_byte b lead header e class (ap (λ (r : Machine (List ℕ)). headed CsiParam r.accumulator r) (with_parameter-with_header b (registers (significant header)) (plain CsiEntry []))) refl
 control_grows at_entry marker_byte b lead header e class =
-    control_goes_on at_entry marker_byte b lead header e class (ap (λ (r : Machine (List ℕ)). headed CsiParam r.accumulator r) (collecting-headed CsiEntry [] b (registers (significant header)))) refl
+    control_goes_on at_entry marker_byte b lead header e class (ap (λ (r : Machine (List ℕ)). headed CsiParam r.accumulator r) (collecting-with_header b (registers (significant header)) (plain CsiEntry []))) refl
 control_grows in_parameters intermediate_byte b lead header e class =
-    control_goes_on in_parameters intermediate_byte b lead header e class (ap (λ (r : Machine (List ℕ)). headed CsiIntermediate r.accumulator r) (collecting-headed CsiParam [] b (registers (significant header)))) refl
+    control_goes_on in_parameters intermediate_byte b lead header e class (ap (λ (r : Machine (List ℕ)). headed CsiIntermediate r.accumulator r) (collecting-with_header b (registers (significant header)) (plain CsiParam []))) refl
 control_grows in_parameters digit_byte b lead header e class =
-    control_goes_on in_parameters digit_byte b lead header e class (ap counted (with_parameter-headed CsiParam [] b (registers (significant header)))) refl
+    control_goes_on in_parameters digit_byte b lead header e class (ap counted (with_parameter-with_header b (registers (significant header)) (plain CsiParam []))) refl
 control_grows in_parameters colon_byte b lead header e class =
-    control_goes_on in_parameters colon_byte b lead header e class (ap counted (with_parameter-headed CsiParam [] b (registers (significant header)))) refl
+    control_goes_on in_parameters colon_byte b lead header e class (ap counted (with_parameter-with_header b (registers (significant header)) (plain CsiParam []))) refl
 control_grows in_parameters semicolon_byte b lead header e class =
-    control_goes_on in_parameters semicolon_byte b lead header e class (ap counted (with_parameter-headed CsiParam [] b (registers (significant header)))) refl
+    control_goes_on in_parameters semicolon_byte b lead header e class (ap counted (with_parameter-with_header b (registers (significant header)) (plain CsiParam []))) refl
 control_grows in_intermediates intermediate_byte b lead header e class =
-    control_goes_on in_intermediates intermediate_byte b lead header e class (ap counted (collecting-headed CsiIntermediate [] b (registers (significant header)))) refl
+    control_goes_on in_intermediates intermediate_byte b lead header e class (ap counted (collecting-with_header b (registers (significant header)) (plain CsiIntermediate []))) refl
 control_grows p esc_byte b lead header e class = (refl, calls-ended (body_calls (csi lead header)) [])
 control_grows p cancel_byte b lead header e class = (refl, calls-ended (body_calls (csi lead header)) (execute b ∷ []))
 control_grows misfit device_byte b lead header e class = (refl, control_misfit b lead header (has_shape-phase (significant header) misfit e))
@@ -142,25 +142,25 @@ device_final state b lead header shape = (
 pub device_grows : (p : Phase) (c : Class) (b : ℕ) (lead header : List ℕ) → phase_of (significant header) ≡ p → fits p ≡ true → class_of b ≡ c
     → Grows (device_value p (registers (significant header))) (body_calls (dcs_header lead header)) c b (grow_body (dcs_header lead header) b c)
 device_grows at_entry intermediate_byte b lead header e fit class =
-    device_header at_entry intermediate_byte b lead header e class (device_goes_on at_entry intermediate_byte b lead header e class (ap (λ (r : Machine (List ℕ)). headed DcsIntermediate r.accumulator r) (collecting-headed DcsEntry [] b (registers (significant header)))) refl)
+    device_header at_entry intermediate_byte b lead header e class (device_goes_on at_entry intermediate_byte b lead header e class (ap (λ (r : Machine (List ℕ)). headed DcsIntermediate r.accumulator r) (collecting-with_header b (registers (significant header)) (plain DcsEntry []))) refl)
 device_grows at_entry digit_byte b lead header e fit class =
-    device_header at_entry digit_byte b lead header e class (device_goes_on at_entry digit_byte b lead header e class (ap (λ (r : Machine (List ℕ)). headed DcsParam r.accumulator r) (with_parameter-headed DcsEntry [] b (registers (significant header)))) refl)
+    device_header at_entry digit_byte b lead header e class (device_goes_on at_entry digit_byte b lead header e class (ap (λ (r : Machine (List ℕ)). headed DcsParam r.accumulator r) (with_parameter-with_header b (registers (significant header)) (plain DcsEntry []))) refl)
 device_grows at_entry colon_byte b lead header e fit class =
-    device_header at_entry colon_byte b lead header e class (device_goes_on at_entry colon_byte b lead header e class (ap (λ (r : Machine (List ℕ)). headed DcsParam r.accumulator r) (with_parameter-headed DcsEntry [] b (registers (significant header)))) refl)
+    device_header at_entry colon_byte b lead header e class (device_goes_on at_entry colon_byte b lead header e class (ap (λ (r : Machine (List ℕ)). headed DcsParam r.accumulator r) (with_parameter-with_header b (registers (significant header)) (plain DcsEntry []))) refl)
 device_grows at_entry semicolon_byte b lead header e fit class =
-    device_header at_entry semicolon_byte b lead header e class (device_goes_on at_entry semicolon_byte b lead header e class (ap (λ (r : Machine (List ℕ)). headed DcsParam r.accumulator r) (with_parameter-headed DcsEntry [] b (registers (significant header)))) refl)
+    device_header at_entry semicolon_byte b lead header e class (device_goes_on at_entry semicolon_byte b lead header e class (ap (λ (r : Machine (List ℕ)). headed DcsParam r.accumulator r) (with_parameter-with_header b (registers (significant header)) (plain DcsEntry []))) refl)
 device_grows at_entry marker_byte b lead header e fit class =
-    device_header at_entry marker_byte b lead header e class (device_goes_on at_entry marker_byte b lead header e class (ap (λ (r : Machine (List ℕ)). headed DcsParam r.accumulator r) (collecting-headed DcsEntry [] b (registers (significant header)))) refl)
+    device_header at_entry marker_byte b lead header e class (device_goes_on at_entry marker_byte b lead header e class (ap (λ (r : Machine (List ℕ)). headed DcsParam r.accumulator r) (collecting-with_header b (registers (significant header)) (plain DcsEntry []))) refl)
 device_grows in_parameters intermediate_byte b lead header e fit class =
-    device_header in_parameters intermediate_byte b lead header e class (device_goes_on in_parameters intermediate_byte b lead header e class (ap (λ (r : Machine (List ℕ)). headed DcsIntermediate r.accumulator r) (collecting-headed DcsParam [] b (registers (significant header)))) refl)
+    device_header in_parameters intermediate_byte b lead header e class (device_goes_on in_parameters intermediate_byte b lead header e class (ap (λ (r : Machine (List ℕ)). headed DcsIntermediate r.accumulator r) (collecting-with_header b (registers (significant header)) (plain DcsParam []))) refl)
 device_grows in_parameters digit_byte b lead header e fit class =
-    device_header in_parameters digit_byte b lead header e class (device_goes_on in_parameters digit_byte b lead header e class (ap counted (with_parameter-headed DcsParam [] b (registers (significant header)))) refl)
+    device_header in_parameters digit_byte b lead header e class (device_goes_on in_parameters digit_byte b lead header e class (ap counted (with_parameter-with_header b (registers (significant header)) (plain DcsParam []))) refl)
 device_grows in_parameters colon_byte b lead header e fit class =
-    device_header in_parameters colon_byte b lead header e class (device_goes_on in_parameters colon_byte b lead header e class (ap counted (with_parameter-headed DcsParam [] b (registers (significant header)))) refl)
+    device_header in_parameters colon_byte b lead header e class (device_goes_on in_parameters colon_byte b lead header e class (ap counted (with_parameter-with_header b (registers (significant header)) (plain DcsParam []))) refl)
 device_grows in_parameters semicolon_byte b lead header e fit class =
-    device_header in_parameters semicolon_byte b lead header e class (device_goes_on in_parameters semicolon_byte b lead header e class (ap counted (with_parameter-headed DcsParam [] b (registers (significant header)))) refl)
+    device_header in_parameters semicolon_byte b lead header e class (device_goes_on in_parameters semicolon_byte b lead header e class (ap counted (with_parameter-with_header b (registers (significant header)) (plain DcsParam []))) refl)
 device_grows in_intermediates intermediate_byte b lead header e fit class =
-    device_header in_intermediates intermediate_byte b lead header e class (device_goes_on in_intermediates intermediate_byte b lead header e class (ap counted (collecting-headed DcsIntermediate [] b (registers (significant header)))) refl)
+    device_header in_intermediates intermediate_byte b lead header e class (device_goes_on in_intermediates intermediate_byte b lead header e class (ap counted (collecting-with_header b (registers (significant header)) (plain DcsIntermediate []))) refl)
 device_grows in_parameters marker_byte b lead header e fit class = device_header in_parameters marker_byte b lead header e class (refl, append-nil (executes lead))
 device_grows in_intermediates digit_byte b lead header e fit class = device_header in_intermediates digit_byte b lead header e class (refl, append-nil (executes lead))
 device_grows in_intermediates colon_byte b lead header e fit class = device_header in_intermediates colon_byte b lead header e class (refl, append-nil (executes lead))

@@ -6,23 +6,23 @@ use Rattle.anstyle_parse.specs.declared.state.definitions.State.TheVariants.{Dcs
 use Rattle.anstyle_parse.specs.Stream.Bytes.{bell}
 use Rattle.anstyle_parse.specs.Stream.Arguments.{significant, groups_of, collected_of, ignore_of, parts_of}
 use Rattle.anstyle_parse.specs.Stream.Call.{Call, execute, hook, put, unhook, osc_dispatch}
-use Rattle.anstyle_parse.specs.Stream.Calls.{executes, is_passed, body_calls}
+use Rattle.anstyle_parse.specs.Stream.Calls.{executes, is_put, body_calls}
 use Rattle.anstyle_parse.specs.Stream.Items.{dcs, dcs_ignored, osc, sos_pm_apc}
 use Rattle.anstyle_parse.specs.Machine.Step.{Machine, new_machine, with_part}
 use Rattle.anstyle_parse.specs.Machine.Stands.{counted}
-use Rattle.anstyle_parse.proofs.Bytes.Classes.{Class, control_byte, bell_byte, cancel_byte, esc_byte, terminator_byte, beyond_byte, class_of, is_passed_at, is_bell_at, is_bell-class}
+use Rattle.anstyle_parse.proofs.Bytes.Classes.{Class, control_byte, bell_byte, cancel_byte, esc_byte, terminator_byte, beyond_byte, class_of, is_put_at, is_bell_at, is_bell-class}
 use Rattle.anstyle_parse.proofs.Division.Grow.{grow_body}
 use Rattle.anstyle_parse.proofs.Arguments.TextFold.{text_after, text_parts}
-use Rattle.anstyle_parse.proofs.Machine.Actions.{plain, texted, with_part-texted, storing-texted}
+use Rattle.anstyle_parse.proofs.Machine.Actions.{plain, texted, with_part-with_text, storing-with_text}
 use Rattle.anstyle_parse.proofs.Agreement.Values.{body_value, puts-push, command_value-push}
 use Rattle.anstyle_parse.proofs.Agreement.Escape.{Grows, calls-ended}
 
 -- one byte more that a hooked string may pass on
 passed_more : (c : Class) (b : ℕ) (lead header : List ℕ) (final : ℕ) (text : List ℕ) → class_of b ≡ c
-    → body_calls (dcs lead header final text) ++ cond (is_passed_at c) (put b ∷ []) [] ≡ body_calls (dcs lead header final (text ++ b ∷ []))
+    → body_calls (dcs lead header final text) ++ cond (is_put_at c) (put b ∷ []) [] ≡ body_calls (dcs lead header final (text ++ b ∷ []))
 passed_more c b lead header final text class =
-    append_assoc (executes lead) (hook (groups_of (significant header)) (collected_of (significant header)) (ignore_of (significant header)) final ∷ map put (filter is_passed text))
-    (cond (is_passed_at c) (put b ∷ []) [])
+    append_assoc (executes lead) (hook (groups_of (significant header)) (collected_of (significant header)) (ignore_of (significant header)) final ∷ map put (filter is_put text))
+    (cond (is_put_at c) (put b ∷ []) [])
     ∙ ap (λ puts. executes lead ++ hook (groups_of (significant header)) (collected_of (significant header)) (ignore_of (significant header)) final ∷ puts)
     (sym (puts-push b c class text))
 
@@ -54,14 +54,14 @@ command_value text = texted OscString [] (text_after text (new_machine []))
 
 -- the dispatch of a command, and the state after it
 left_command : (next : State) (text : List ℕ) → plain next (with_part (command_value text)).accumulator ≡ plain next []
-left_command next text = ap (λ (r : Machine (List ℕ)). plain next r.accumulator) (with_part-texted OscString [] 0 (text_after text (new_machine [])))
+left_command next text = ap (λ (r : Machine (List ℕ)). plain next r.accumulator) (with_part-with_text 0 (text_after text (new_machine [])) (plain OscString []))
 
 -- after what is called already
 command_dispatched : (c : Class) (b : ℕ) (lead text : List ℕ) (more : List Call) → class_of b ≡ c
     → executes lead ++ osc_dispatch (with_part (command_value text)).closed_parts (b == bell) ∷ more
     ≡ ((executes lead ++ osc_dispatch (parts_of text) (is_bell_at c) ∷ more) ++ []) ++ []
 command_dispatched c b lead text more class =
-    (ap (λ (r : Machine (List ℕ)). executes lead ++ osc_dispatch r.closed_parts (b == bell) ∷ more) (with_part-texted OscString [] 0 (text_after text (new_machine [])))
+    (ap (λ (r : Machine (List ℕ)). executes lead ++ osc_dispatch r.closed_parts (b == bell) ∷ more) (with_part-with_text 0 (text_after text (new_machine [])) (plain OscString []))
     ∙ (ap (λ parts. executes lead ++ osc_dispatch parts (b == bell) ∷ more) (text_parts text (new_machine []))
     ∙ ap (λ t. executes lead ++ osc_dispatch (parts_of text) t ∷ more) (is_bell-class b ∙ ap is_bell_at class)))
     ∙ calls-ended (executes lead) (osc_dispatch (parts_of text) (is_bell_at c) ∷ more)
@@ -75,4 +75,4 @@ command_grows bell_byte b lead text class = (left_command Ground text, command_d
 command_grows control_byte b lead text class = (sym (command_value-push b control_byte class lead text), append-nil (executes lead))
 command_grows beyond_byte b lead text class = (sym (command_value-push b beyond_byte class lead text), append-nil (executes lead))
 command_grows c b lead text class =
-    (ap counted (storing-texted OscString [] b (text_after text (new_machine []))) ∙ sym (command_value-push b c class lead text), append-nil (executes lead))
+    (ap counted (storing-with_text b (text_after text (new_machine [])) (plain OscString [])) ∙ sym (command_value-push b c class lead text), append-nil (executes lead))

@@ -10,10 +10,10 @@ use Rattle.anstyle_parse.specs.declared.state.definitions.State.TheVariants.{Csi
 use Rattle.anstyle_parse.specs.Stream.Bytes.{is_control, is_intermediate, is_parameter, is_marker, is_significant}
 use Rattle.anstyle_parse.specs.Stream.Arguments.{significant, after_parameters, has_shape}
 use Rattle.anstyle_parse.specs.Stream.Call.{Call, execute, put}
-use Rattle.anstyle_parse.specs.Stream.Calls.{executes, is_passed, body_calls}
+use Rattle.anstyle_parse.specs.Stream.Calls.{executes, is_put, body_calls}
 use Rattle.anstyle_parse.specs.Stream.Items.{Body, escape, csi, dcs_header, dcs, dcs_ignored, osc, sos_pm_apc}
 use Rattle.anstyle_parse.specs.Machine.Step.{Machine, new_machine, after_collect, after_param, after_osc_put}
-use Rattle.anstyle_parse.proofs.Bytes.Classes.{Class, intermediate_byte, class_of, is_control_at, is_intermediate_at, is_parameter_at, is_marker_at, is_significant_at, is_passed_at, is_kept_at, is_control-class, is_intermediate-class, is_parameter-class, is_marker-class, is_significant-class, is_passed-class, is_kept-class}
+use Rattle.anstyle_parse.proofs.Bytes.Classes.{Class, intermediate_byte, class_of, is_control_at, is_intermediate_at, is_parameter_at, is_marker_at, is_significant_at, is_put_at, is_kept_at, is_control-class, is_intermediate-class, is_parameter-class, is_marker-class, is_significant-class, is_put-class, is_kept-class}
 use Rattle.anstyle_parse.proofs.Division.Grow.{Open, nothing, front, inside}
 use Rattle.anstyle_parse.proofs.Arguments.HeaderFold.{header_after, header_after-append}
 use Rattle.anstyle_parse.proofs.Arguments.TextFold.{text_after, text_after-append}
@@ -164,8 +164,8 @@ module _ (b : ℕ) (c : Class) (class : class_of b ≡ c) where
   pub executes-push : (bytes : List ℕ) → executes (bytes ++ b ∷ []) ≡ executes bytes ++ cond (is_control_at c) (execute b ∷ []) []
   executes-push bytes = calls-push execute is_control bytes b (is_control_at c) (is_control-class b ∙ ap is_control_at class)
 
-  pub puts-push : (bytes : List ℕ) → map put (filter is_passed (bytes ++ b ∷ [])) ≡ map put (filter is_passed bytes) ++ cond (is_passed_at c) (put b ∷ []) []
-  puts-push bytes = calls-push put is_passed bytes b (is_passed_at c) (is_passed-class b ∙ ap is_passed_at class)
+  pub puts-push : (bytes : List ℕ) → map put (filter is_put (bytes ++ b ∷ [])) ≡ map put (filter is_put bytes) ++ cond (is_put_at c) (put b ∷ []) []
+  puts-push bytes = calls-push put is_put bytes b (is_put_at c) (is_put-class b ∙ ap is_put_at class)
 
   -- the phase of a longer header
   phase_from-push : (phase : Phase) (bytes : List ℕ) → phase_from phase (bytes ++ b ∷ []) ≡ phase_at (phase_from phase bytes) c

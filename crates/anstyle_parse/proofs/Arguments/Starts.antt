@@ -13,7 +13,7 @@ use Rattle.std.proofs.lemmas.List.Sums.{prefix_len-le-length}
 use Rattle.std.proofs.lemmas.Nat.{pow_pos, pow_below, pow-add, div_below}
 use Rattle.std.proofs.lemmas.Simd.{ones-mask_l_cons, trailing_mask_l}
 use Rattle.anstyle_parse.specs.Stream.Groups.{cut_at, shown_groups, HaveFields}
-use Rattle.anstyle_parse.specs.Fields.Params.{starts_of}
+use Rattle.anstyle_parse.specs.Views.Params.{starts_of}
 use Rattle.anstyle_parse.proofs.Arguments.Lengths.{shown_groups-open}
 
 -- so many numbers before the next start

@@ -5,14 +5,13 @@ use Rattle.std.specs.Result.{IsOk, OnOk}
 use Rattle.std.proofs.lemmas.Bool.{and_parts, leb-true, eqb-false, not-true}
 use Rattle.std.proofs.lemmas.List.{append-nil, take-append-le, drop-append-le}
 use Rattle.anstyle_parse.specs.declared.state.definitions.State.TheVariants.{OscString}
-use Rattle.anstyle_parse.specs.Stream.Bytes.{is_within, semicolon}
+use Rattle.anstyle_parse.specs.Stream.Bytes.{is_within, semicolon, is_plain_text}
 use Rattle.anstyle_parse.specs.Stream.Arguments.{max_osc_bytes}
 use Rattle.anstyle_parse.specs.Stream.Groups.{cut, total}
 use Rattle.anstyle_parse.specs.Machine.Step.{Machine, AccumulatorStep, stored_count, step, step_calls, machine_after, machine_calls}
 use Rattle.anstyle_parse.specs.declared.parser.Parser.{Parser}
-use Rattle.anstyle_parse.specs.Fields.Parser.{CanTakeAll, AreBelow}
+use Rattle.anstyle_parse.specs.Views.Parser.{CanTakeAll, AreBelow}
 use Rattle.anstyle_parse.specs.Stream.Items.{EachIs}
-use Rattle.anstyle_parse.specs.Fields.Runs.{is_plain_text}
 use Rattle.anstyle_parse.proofs.Arguments.Lengths.{cut_same}
 use Rattle.anstyle_parse.proofs.Machine.Steps.{storing-other}
 use Rattle.anstyle_parse.proofs.Machine.Runs.{step-stored}

@@ -7,7 +7,7 @@ use Rattle.anstyle_parse.specs.Stream.Bytes.{is_within, is_control, is_cancel, i
 use Rattle.anstyle_parse.specs.Stream.Characters.{is_lead}
 use Rattle.anstyle_parse.specs.Stream.Arguments.{is_kept}
 use Rattle.anstyle_parse.specs.Stream.Items.{is_header_byte, is_string_kind, is_introducer, is_text_byte}
-use Rattle.anstyle_parse.specs.Stream.Calls.{is_executed, is_printed, is_passed}
+use Rattle.anstyle_parse.specs.Stream.Calls.{is_executed, is_printed, is_put}
 
 pub data Class : Type 0 where
   -- 00..06, 08..17, 19, 1C..1F; 07; 18, 1A; 1B
@@ -258,21 +258,21 @@ pub is_printed-class : (b : ℕ) → is_printed b ≡ is_printed_at (class_of b)
 unfolding class_below is_printed is_within
 is_printed-class = by_class is_printed is_printed_at refl (λ b ge. grind (arith, nat_tests))
 
-abbrev pub is_passed_at : Class → Bool
-is_passed_at cancel_byte = false
-is_passed_at esc_byte = false
-is_passed_at delete_byte = false
-is_passed_at high_control = false
-is_passed_at terminator_byte = false
-is_passed_at silent_byte = false
-is_passed_at lead_byte = false
-is_passed_at above_byte = false
-is_passed_at beyond_byte = false
-is_passed_at _ = true
+abbrev pub is_put_at : Class → Bool
+is_put_at cancel_byte = false
+is_put_at esc_byte = false
+is_put_at delete_byte = false
+is_put_at high_control = false
+is_put_at terminator_byte = false
+is_put_at silent_byte = false
+is_put_at lead_byte = false
+is_put_at above_byte = false
+is_put_at beyond_byte = false
+is_put_at _ = true
 
-pub is_passed-class : (b : ℕ) → is_passed b ≡ is_passed_at (class_of b)
-unfolding class_below is_passed is_control is_within
-is_passed-class = by_class is_passed is_passed_at refl (λ b ge. grind (arith, nat_tests))
+pub is_put-class : (b : ℕ) → is_put b ≡ is_put_at (class_of b)
+unfolding class_below is_put is_control is_within
+is_put-class = by_class is_put is_put_at refl (λ b ge. grind (arith, nat_tests))
 
 -- a byte that may end an escape sequence
 abbrev pub is_last_at : Class → Bool

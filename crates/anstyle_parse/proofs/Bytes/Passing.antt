@@ -38,12 +38,12 @@ pub significant_same : (header : List ℕ) (b : ℕ) → is_significant b ≡ fa
 significant_same header b e =
     filter-append is_significant header (b ∷ []) ∙ (ap (λ bytes. significant header ++ bytes) (cond-false (is_significant b) (b ∷ []) [] e) ∙ append-nil (significant header))
 
--- a beginning of a header of the right shape has it
+-- a prefix of a header of the right shape has it
 list_all-prefix : (a b : List ℕ) → list_all is_intermediate (a ++ b) ≡ true → list_all is_intermediate a ≡ true
 list_all-prefix a b h =
     (and_parts (list_all is_intermediate a) (list_all is_intermediate b) (sym (list_all-append is_intermediate a b) ∙ h)).0
 
--- intermediates after parameter bytes, in a beginning
+-- intermediates after parameter bytes, in a prefix
 after_parameters-prefix : (a b : List ℕ) → list_all is_intermediate (after_parameters (a ++ b)) ≡ true → list_all is_intermediate (after_parameters a) ≡ true
 after_parameters-prefix [] b h = refl
 after_parameters-prefix (x ∷ a) b h =
@@ -58,7 +58,7 @@ has_shape-prefix (x ∷ a) b h =
     → list_all is_intermediate (after_parameters (cond t a (x ∷ a))) ≡ true)
     [ true ↦ λ e. after_parameters-prefix a b e | false ↦ λ e. after_parameters-prefix (x ∷ a) b e ]) h
 
--- a header whose significant bytes have the shape, and each beginning of it
+-- a header whose significant bytes have the shape, and each prefix of it
 pub has_shape-significant : (a b : List ℕ) → has_shape (significant (a ++ b)) ≡ true → has_shape (significant a) ≡ true
 has_shape-significant a b h = has_shape-prefix (significant a) (significant b) (sym (ap has_shape (filter-append is_significant a b)) ∙ h)
 

@@ -9,7 +9,7 @@ use Rattle.anstyle_parse.specs.Stream.Characters.{character_of}
 use Rattle.anstyle_parse.specs.Stream.Arguments.{significant, has_shape, groups_of, collected_of, ignore_of}
 use Rattle.anstyle_parse.specs.Stream.Call.{Call, print, execute, hook, put, csi_dispatch}
 use Rattle.anstyle_parse.specs.Stream.Items.{Body, escape, csi, dcs_header, dcs, dcs_ignored, osc, sos_pm_apc, End, complete, cancelled, broken_off, unfinished, Item, single, character, broken, begun, sequence, body_text, end_text, item_text, items_text, IsItem}
-use Rattle.anstyle_parse.specs.Stream.Calls.{is_executed, is_printed, single_calls, is_passed, executes, control_dispatch, body_calls, end_calls, item_calls, items_calls, AreCalls}
+use Rattle.anstyle_parse.specs.Stream.Calls.{is_executed, is_printed, single_calls, is_put, executes, control_dispatch, body_calls, end_calls, item_calls, items_calls, AreCalls}
 use Rattle.anstyle_parse.proofs.Characters.Tests.{length-IsProperFront}
 use Rattle.anstyle_parse.proofs.Lists.Parts.{length-filter_le}
 use Rattle.anstyle_parse.proofs.Characters.Scalars.{well_formed-AreOfCharacter, length-encode-some}
@@ -17,8 +17,8 @@ use Rattle.anstyle_parse.proofs.Characters.Scalars.{well_formed-AreOfCharacter, 
 length-executes : (bytes : List ℕ) → length (executes bytes) ≤ length bytes
 length-executes bytes = omega (arith, length-map (filter is_control bytes) execute, length-filter_le is_control bytes)
 
-length-puts : (text : List ℕ) → length (map put (filter is_passed text)) ≤ length text
-length-puts text = omega (arith, length-map (filter is_passed text) put, length-filter_le is_passed text)
+length-puts : (text : List ℕ) → length (map put (filter is_put text)) ≤ length text
+length-puts text = omega (arith, length-map (filter is_put text) put, length-filter_le is_put text)
 
 length-control_dispatch : (header : List ℕ) (final : ℕ) → length (control_dispatch header final) ≤ 1
 length-control_dispatch header final =
@@ -33,7 +33,7 @@ length-body_calls (dcs_header lead header) = omega (arith, length-append lead (0
 length-body_calls (dcs lead header final text) =
     omega (
       arith,
-      length-append (executes lead) (hook (groups_of (significant header)) (collected_of (significant header)) (ignore_of (significant header)) final ∷ map put (filter is_passed text)),
+      length-append (executes lead) (hook (groups_of (significant header)) (collected_of (significant header)) (ignore_of (significant header)) final ∷ map put (filter is_put text)),
       length-append lead (0x50 ∷ (header ++ final ∷ text)),
       length-append header (final ∷ text),
       length-executes lead,
@@ -83,7 +83,7 @@ length-single_calls b =
 -- an item makes at most as many calls as it has bytes
 pub length-item_calls : (item : Item) → IsItem item → length (item_calls item) ≤ length (item_text item)
 length-item_calls (single byte) is = length-single_calls byte
-length-item_calls (character bytes) is = omega (arith, (well_formed-AreOfCharacter bytes is).1, length-encode-some (character_of bytes))
+length-item_calls (character bytes) is = omega (arith, ap length (well_formed-AreOfCharacter bytes is).1, length-encode-some (character_of bytes))
 length-item_calls (broken front) is = omega (arith, length-IsProperFront front is)
 length-item_calls (begun front) is = omega arith
 length-item_calls (sequence body end) is =

@@ -9,7 +9,7 @@ use Rattle.anstyle_parse.specs.Stream.Characters.{character_of, replacement}
 use Rattle.anstyle_parse.specs.Stream.Arguments.{significant, is_kept, has_shape, after_marker, through_stored, groups_of, collected_of, ignore_of, all_collected, parts_of, max_collected, max_osc_parts, max_osc_bytes}
 use Rattle.anstyle_parse.specs.Stream.Call.{Call, print, execute, hook, put, osc_dispatch, csi_dispatch}
 use Rattle.anstyle_parse.specs.Stream.Items.{Body, escape, csi, dcs_header, dcs, dcs_ignored, osc, sos_pm_apc, End, complete, cancelled, broken_off, unfinished, Item, single, character, broken, begun, sequence, body_text, end_text, item_text, items_text, IsItem}
-use Rattle.anstyle_parse.specs.Stream.Calls.{is_executed, is_printed, single_calls, is_passed, executes, control_dispatch, body_calls, end_calls, item_calls, items_calls, AreCalls}
+use Rattle.anstyle_parse.specs.Stream.Calls.{is_executed, is_printed, single_calls, is_put, executes, control_dispatch, body_calls, end_calls, item_calls, items_calls, AreCalls}
 use Rattle.anstyle_parse.specs.Stream.Canon.{leading_marker, shows_no_more_intermediates, one_more_field, one_more_intermediate, header_text, escape_text, command_end, call_text, canon}
 use Rattle.anstyle_parse.specs.Stream.Groups.{groups_text}
 use Rattle.anstyle_parse.proofs.Characters.Tests.{length-IsProperFront}
@@ -39,8 +39,8 @@ canon-put (b ∷ bytes) = ap (λ l. b ∷ l) (canon-put bytes)
 length-canon-executes : (bytes : List ℕ) → length (canon (executes bytes)) ≤ length bytes
 length-canon-executes bytes = omega (arith, ap length (canon-execute (filter is_control bytes)), length-filter_le is_control bytes)
 
-length-canon-puts : (text : List ℕ) → length (canon (map put (filter is_passed text))) ≤ length text
-length-canon-puts text = omega (arith, ap length (canon-put (filter is_passed text)), length-filter_le is_passed text)
+length-canon-puts : (text : List ℕ) → length (canon (map put (filter is_put text))) ≤ length text
+length-canon-puts text = omega (arith, ap length (canon-put (filter is_put text)), length-filter_le is_put text)
 
 -- one more field or one more intermediate, not both
 one_more : (ignore full : Bool) → length {A = ℕ} (cond (ignore && not full) (semicolon ∷ []) []) + length {A = ℕ} (cond (ignore && full) (0x20 ∷ []) []) ≤ 1
@@ -133,7 +133,7 @@ length-canon-body (csi lead header) =
     omega (arith, length-canon-append (executes lead) (executes header), length-append lead (0x5B ∷ header), length-canon-executes lead, length-canon-executes header)
 length-canon-body (dcs_header lead header) = omega (arith, length-append lead (0x50 ∷ header), length-canon-executes lead)
 length-canon-body (dcs lead header final text) =
-    let puts = map put (filter is_passed text) in
+    let puts = map put (filter is_put text) in
     let text_of = header_text (groups_of (significant header)) (collected_of (significant header)) (ignore_of (significant header)) in
     omega (
       arith,
@@ -215,7 +215,7 @@ length-canon-replacement = omega arith
 length-canon-item : (item : Item) → IsItem item → length (canon (item_calls item)) ≤ 3 * length (item_text item)
 length-canon-item (single byte) is = omega (arith, length-canon-single byte)
 length-canon-item (character bytes) is =
-    omega (arith, (well_formed-AreOfCharacter bytes is).1, length-append (encode_utf8 (character_of bytes)) [])
+    omega (arith, ap length (well_formed-AreOfCharacter bytes is).1, length-append (encode_utf8 (character_of bytes)) [])
 length-canon-item (broken front) is = omega (arith, length-IsProperFront front is, length-canon-replacement)
 length-canon-item (begun front) is = omega arith
 length-canon-item (sequence body end) is =

@@ -7,7 +7,7 @@ use Rattle.anstyle_parse.specs.Stream.Bytes.{is_within, is_escape, is_cancel, is
 use Rattle.anstyle_parse.specs.Stream.Arguments.{has_shape, groups_of, collected_of, ignore_of}
 use Rattle.anstyle_parse.specs.Stream.Call.{Call, print, execute, hook, put, unhook, osc_dispatch, csi_dispatch, esc_dispatch}
 use Rattle.anstyle_parse.specs.Stream.Items.{dcs, complete, unfinished, sequence, EachIs, is_text_byte, IsBody}
-use Rattle.anstyle_parse.specs.Stream.Calls.{is_passed, body_calls, AreCalls}
+use Rattle.anstyle_parse.specs.Stream.Calls.{is_put, body_calls, AreCalls}
 use Rattle.anstyle_parse.specs.Stream.Canon.{header_text, canon, command_end}
 use Rattle.anstyle_parse.specs.Laws.Lawful.{AreLawfulFrom, AreLawful, AreParts}
 use Rattle.anstyle_parse.proofs.Bytes.Passing.{EachIs-append, EachIs-weaker}
@@ -17,13 +17,13 @@ use Rattle.anstyle_parse.proofs.Canonical.Parts.{parts-text, parts_of-join}
 use Rattle.anstyle_parse.proofs.Canonical.Items.{AreCalls-nil, AreCalls-item, AreCalls-execute, AreCalls-print, AreCalls-csi, AreCalls-esc, AreCalls-bell, AreCalls-broken_off, AreCalls-ignored, IsHeader-each}
 
 -- what is passed on is a byte, and can stand in the text
-pub passed-below : (b : ℕ) → is_passed b ≡ true → b < 256
-unfolding is_passed is_control is_within
+pub passed-below : (b : ℕ) → is_put b ≡ true → b < 256
+unfolding is_put is_control is_within
 passed-below b e = grind (arith, nat_tests)
 
-passed-text : (b : ℕ) → is_passed b ≡ true → is_text_byte string_terminator b ≡ true
-unfolding is_passed is_control is_within is_text_byte is_escape is_cancel
-passed-text b e = implied is_passed (is_text_byte string_terminator) 256 b refl (passed-below b e) e
+passed-text : (b : ℕ) → is_put b ≡ true → is_text_byte string_terminator b ≡ true
+unfolding is_put is_control is_within is_text_byte is_escape is_cancel
+passed-text b e = implied is_put (is_text_byte string_terminator) 256 b refl (passed-below b e) e
 
 -- a hooked string with the bytes that it passed, up to its end
 module _ (header : List ℕ) (groups : List (List ℕ)) (intermediates : List ℕ) (ignore : Bool) (final : ℕ) (shows : Shows header groups intermediates ignore) (ends : is_final final ≡ true) where
@@ -33,23 +33,23 @@ module _ (header : List ℕ) (groups : List (List ℕ)) (intermediates : List �
   hooked_calls : List ℕ → List Call
   hooked_calls text = hook groups intermediates ignore final ∷ map put text
 
-  hooked-body : (text : List ℕ) → EachIs is_passed text → IsBody (dcs [] header final text)
+  hooked-body : (text : List ℕ) → EachIs is_put text → IsBody (dcs [] header final text)
   hooked-body text h = record {
     begun = record { noise = tt; header_bytes = IsHeader-each header shows.bytes_are; shaped = ap has_shape shows.all_significant ∙ shows.shaped };
     hooked = ends;
-    text_bytes = EachIs-weaker is_passed (is_text_byte string_terminator) passed-text text h;
+    text_bytes = EachIs-weaker is_put (is_text_byte string_terminator) passed-text text h;
   }
 
-  body_calls-hooked : (text : List ℕ) → EachIs is_passed text → body_calls (dcs [] header final text) ≡ hooked_calls text
+  body_calls-hooked : (text : List ℕ) → EachIs is_put text → body_calls (dcs [] header final text) ≡ hooked_calls text
   unfolding hooked_calls
   body_calls-hooked text h =
       ap₂ (λ c t. c ∷ map put t)
       (ap (λ l. hook (groups_of l) (collected_of l) (ignore_of l) final) shows.all_significant
       ∙ (ap (λ g. hook g (collected_of header) (ignore_of header) final) shows.shows_groups
       ∙ (ap (λ c. hook groups c (ignore_of header) final) shows.shows_collected ∙ ap (λ i. hook groups intermediates i final) shows.shows_ignore)))
-      (filter_all is_passed text h)
+      (filter_all is_put text h)
 
-  open-end : (text : List ℕ) → EachIs is_passed text → AreCalls (hooked_text text) (hooked_calls text)
+  open-end : (text : List ℕ) → EachIs is_put text → AreCalls (hooked_text text) (hooked_calls text)
   unfolding hooked_text hooked_calls
   open-end text h =
       subst (λ bs. AreCalls bs (hooked_calls text)) (append-nil (hooked_text text))
@@ -58,7 +58,7 @@ module _ (header : List ℕ) (groups : List (List ℕ)) (intermediates : List �
       (append-nil (hooked_text text)) (append-nil (body_calls (dcs [] header final text)) ∙ body_calls-hooked text h)
       (hooked-body text h, tt) refl AreCalls-nil))
 
-  closed-end : (text bytes : List ℕ) (calls : List Call) → EachIs is_passed text → AreCalls bytes calls
+  closed-end : (text bytes : List ℕ) (calls : List Call) → EachIs is_put text → AreCalls bytes calls
       → AreCalls (hooked_text (text ++ string_terminator ∷ bytes)) (hooked_calls text ++ unhook ∷ calls)
   unfolding hooked_text hooked_calls
   closed-end text bytes calls h rest =
@@ -75,7 +75,7 @@ abbrev Replayed : Bool → List Call → Type 0
 Replayed false calls = AreCalls (canon calls) calls
 Replayed true calls =
     (header : List ℕ) (groups : List (List ℕ)) (intermediates : List ℕ) (ignore : Bool) (final : ℕ) (shows : Shows header groups intermediates ignore) (ends : is_final final ≡ true)
-    (text : List ℕ) → EachIs is_passed text
+    (text : List ℕ) → EachIs is_put text
     → AreCalls (hooked_text header groups intermediates ignore final shows ends (text ++ canon calls)) (hooked_calls header groups intermediates ignore final shows ends text ++ calls)
 
 -- the parts of a lawful command are those of its text
@@ -116,7 +116,7 @@ replay_from true (put byte ∷ calls) h = λ header groups intermediates ignore 
     subst (λ bs. AreCalls (hooked_text header groups intermediates ignore final shows ends bs) (hooked_calls header groups intermediates ignore final shows ends text ++ put byte ∷ calls)) (append_assoc text (byte ∷ []) (canon calls))
     (subst (AreCalls (hooked_text header groups intermediates ignore final shows ends ((text ++ byte ∷ []) ++ canon calls)))
     (ap (λ c. hook groups intermediates ignore final ∷ (c ++ calls)) (map-append put text (byte ∷ [])) ∙ append_assoc (hook groups intermediates ignore final ∷ map put text) (put byte ∷ []) calls)
-    (replay_from true calls h.1 header groups intermediates ignore final shows ends (text ++ byte ∷ []) (EachIs-append is_passed text (byte ∷ []) each (h.0, tt))))
+    (replay_from true calls h.1 header groups intermediates ignore final shows ends (text ++ byte ∷ []) (EachIs-append is_put text (byte ∷ []) each (h.0, tt))))
 replay_from true (unhook ∷ calls) h = λ header groups intermediates ignore final shows ends text each.
     closed-end header groups intermediates ignore final shows ends text (canon calls) calls each (replay_from false calls h)
 replay_from true (print character ∷ calls) h = absurd h

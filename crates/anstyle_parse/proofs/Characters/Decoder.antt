@@ -7,7 +7,7 @@ use Rattle.std.proofs.lemmas.Bool.{or_cases}
 use Rattle.std.proofs.Math.Bool.{and-true, and-false, or-false, or_assoc}
 use Rattle.anstyle_parse.specs.Stream.Bytes.{is_within, Span}
 use Rattle.anstyle_parse.specs.Stream.Characters.{rows, begins, is_well_formed, is_proper_front, character_of}
-use Rattle.anstyle_parse.specs.Fields.Front.{is_front_of}
+use Rattle.anstyle_parse.specs.Views.Front.{is_front_of}
 
 -- whole with its second byte, or begun
 pub is_well_formed-two : (a b : ℕ) → is_well_formed (a ∷ b ∷ []) ≡ is_front_of 2 (a ∷ b ∷ [])

@@ -1,5 +1,5 @@
--- A well-formed sequence stands for a character, which std writes in no more bytes.
-use Rattle.std.proofs.Common.{◌≡◌, ℕ, suc, ◌+◌, ◌*◌, ◌%◌, ◌<◌, ◌≤◌, ⊎_elim, Bool, true, false, ◌&&◌, cond, List, [], ◌∷◌, length, refl, eqb, ltb, eqb-true, eq-eqb, ltb-false, arith}
+-- A well-formed sequence stands for a character, which std writes as this sequence.
+use Rattle.std.proofs.Common.{◌≡◌, ℕ, suc, ◌+◌, ◌*◌, ◌/◌, ◌%◌, ◌<◌, ◌≤◌, ⊎_elim, Bool, true, ◌&&◌, List, [], ◌∷◌, length, ap, ap₂, ◌∙◌, eqb, eqb-true, eq-eqb, arith}
 use Rattle.std.specs.Char.{encode_utf8}
 use Rattle.std.specs.List.{list_any, AllZip, AllByRecursion}
 use Rattle.std.proofs.lemmas.Bool.{and_parts, and_from, or_cases, or_left, or_right}
@@ -7,7 +7,7 @@ use Rattle.std.proofs.lemmas.Str.{length-encode, len_utf8_bounds}
 use Rattle.anstyle_parse.specs.Stream.Bytes.{is_within, Span, ◌‥◌}
 use Rattle.anstyle_parse.specs.Stream.Characters.{rows, begins, is_well_formed, character_of}
 use Rattle.anstyle_parse.specs.Laws.Lawful.{is_character}
-use Rattle.anstyle_parse.proofs.Characters.Encoding.{within, within_parts}
+use Rattle.anstyle_parse.proofs.Characters.Encoding.{within, within_parts, encode_two, encode_three, encode_four}
 
 -- the byte may stand at the place
 abbrev Stands : Span → ℕ → Type 0
@@ -29,9 +29,9 @@ by_rows : (test : List Span → Bool) (P : Type 0) (some : List (List Span)) →
 by_rows test P [] each e = cc
 by_rows test P (row ∷ some) each e = ⊎_elim each.0 (by_rows test P some each.1) (or_cases (test row) (list_any test some) e)
 
--- the bytes stand for a character, and are no fewer than std writes for it
+-- the bytes stand for a character, and are what std writes for it
 abbrev pub AreOfCharacter : List ℕ → Type 0
-AreOfCharacter bytes = (is_character (character_of bytes) ≡ true) × (length (encode_utf8 (character_of bytes)) ≤ length bytes)
+AreOfCharacter bytes = (is_character (character_of bytes) ≡ true) × (encode_utf8 (character_of bytes) ≡ bytes)
 
 -- below the surrogates, and above them
 pub is_character-low : (c : ℕ) → 0x20 ≤ c → c < 0xD800 → is_character c ≡ true
@@ -42,80 +42,95 @@ is_character-high : (c : ℕ) → 0xE000 ≤ c → c < 0x110000 → is_character
 unfolding is_character
 is_character-high c l h = or_right (is_within 0x20 0xD7FF c) (is_within 0xE000 0x10FFFF c) (within 0xE000 0x10FFFF c l (omega arith))
 
-fewer : (t : Bool) (xs ys : List ℕ) (n : ℕ) → (t ≡ true → length xs ≤ n) → (t ≡ false → length ys ≤ n) → length (cond t xs ys) ≤ n
-fewer true xs ys n h k = h refl
-fewer false xs ys n h k = k refl
-
--- the length that std writes, by the size of the character
-length-encode-two : (c : ℕ) → c < 0x800 → length (encode_utf8 c) ≤ 2
-unfolding encode_utf8
-length-encode-two c h =
-    fewer (ltb c 128) _ _ 2 (λ e. omega arith)
-    (λ e. fewer (ltb c 2048) _ _ 2 (λ f. omega arith) (λ f. absurd (omega (arith, ltb-false c 2048 f))))
-
-length-encode-three : (c : ℕ) → c < 0x10000 → length (encode_utf8 c) ≤ 3
-unfolding encode_utf8
-length-encode-three c h =
-    fewer (ltb c 128) _ _ 3 (λ e. omega arith)
-    (λ e. fewer (ltb c 2048) _ _ 3 (λ f. omega arith)
-    (λ f. fewer (ltb c 65536) _ _ 3 (λ g. omega arith) (λ g. absurd (omega (arith, ltb-false c 65536 g)))))
-
-length-encode-four : (c : ℕ) → length (encode_utf8 c) ≤ 4
-length-encode-four c = omega (arith, length-encode c, (len_utf8_bounds c).1)
-
 -- a character has a byte
 pub length-encode-some : (c : ℕ) → 1 ≤ length (encode_utf8 c)
 length-encode-some c = omega (arith, length-encode c, (len_utf8_bounds c).0)
+
+-- what std writes for the character of two, three and four bytes
+encode-two_bytes : (a b : ℕ) → 0xC2 ≤ a → a ≤ 0xDF → 0x80 ≤ b → b ≤ 0xBF → encode_utf8 (a % 32 * 64 + b % 64) ≡ a ∷ b ∷ []
+encode-two_bytes a b h₁ k₁ h₂ k₂ =
+    let c = a % 32 * 64 + b % 64 in
+    let first : 192 + c / 64 ≡ a = omega arith in
+    let second : 128 + c % 64 ≡ b = omega arith in
+    encode_two c (omega arith) (omega arith) ∙ ap₂ (λ x y. x ∷ y ∷ []) first second
+
+encode-three_bytes : (a b c : ℕ) → 0xE0 ≤ a → a ≤ 0xEF → 0x80 ≤ b → b ≤ 0xBF → 0x80 ≤ c → c ≤ 0xBF
+    → 0x800 ≤ (a % 16 * 64 + b % 64) * 64 + c % 64 → encode_utf8 ((a % 16 * 64 + b % 64) * 64 + c % 64) ≡ a ∷ b ∷ c ∷ []
+encode-three_bytes a b c h₁ k₁ h₂ k₂ h₃ k₃ large =
+    let n = (a % 16 * 64 + b % 64) * 64 + c % 64 in
+    let first : 224 + n / 4096 ≡ a = omega arith in
+    let second : 128 + n / 64 % 64 ≡ b = omega arith in
+    let third : 128 + n % 64 ≡ c = omega arith in
+    encode_three n large (omega arith) ∙ ap₂ (λ x y. x ∷ y ∷ (128 + n % 64) ∷ []) first second ∙ ap (λ z. a ∷ b ∷ z ∷ []) third
+
+encode-four_bytes : (a b c d : ℕ) → 0xF0 ≤ a → a ≤ 0xF4 → 0x80 ≤ b → b ≤ 0xBF → 0x80 ≤ c → c ≤ 0xBF → 0x80 ≤ d → d ≤ 0xBF
+    → 0x10000 ≤ ((a % 8 * 64 + b % 64) * 64 + c % 64) * 64 + d % 64 → encode_utf8 (((a % 8 * 64 + b % 64) * 64 + c % 64) * 64 + d % 64) ≡ a ∷ b ∷ c ∷ d ∷ []
+encode-four_bytes a b c d h₁ k₁ h₂ k₂ h₃ k₃ h₄ k₄ large =
+    let n = ((a % 8 * 64 + b % 64) * 64 + c % 64) * 64 + d % 64 in
+    let first : 240 + n / 262144 ≡ a = omega arith in
+    let second : 128 + n / 4096 % 64 ≡ b = omega arith in
+    let third : 128 + n / 64 % 64 ≡ c = omega arith in
+    let fourth : 128 + n % 64 ≡ d = omega arith in
+    encode_four n large ∙ ap₂ (λ x y. x ∷ y ∷ (128 + n / 64 % 64) ∷ (128 + n % 64) ∷ []) first second ∙ ap₂ (λ x y. a ∷ b ∷ x ∷ y ∷ []) third fourth
 
 -- two bytes, which stand for a character by their row
 of_two : (bytes : List ℕ) → AllZip Stands (0xC2 ‥ 0xDF ∷ 0x80 ‥ 0xBF ∷ []) bytes → AreOfCharacter bytes
 of_two [] h = absurd h
 of_two (a ∷ []) h = absurd h.1
-of_two (a ∷ b ∷ []) h = (is_character-low (a % 32 * 64 + b % 64) (omega (arith, h.0.0, h.0.1)) (omega arith), length-encode-two (a % 32 * 64 + b % 64) (omega arith))
+of_two (a ∷ b ∷ []) h = (is_character-low (a % 32 * 64 + b % 64) (omega (arith, h.0.0, h.0.1)) (omega arith), encode-two_bytes a b h.0.0 h.0.1 h.1.0.0 h.1.0.1)
 of_two (a ∷ b ∷ c ∷ bytes) h = absurd h.1.1
 
 -- three bytes, whose row stands for characters
-of_three : (low₁ high₁ low₂ high₂ : ℕ)
-    → ((a b c : ℕ) → low₁ ≤ a → a ≤ high₁ → low₂ ≤ b → b ≤ high₂ → 0x80 ≤ c → c ≤ 0xBF → is_character ((a % 16 * 64 + b % 64) * 64 + c % 64) ≡ true)
+of_three : (low₁ high₁ low₂ high₂ : ℕ) → 0xE0 ≤ low₁ → high₁ ≤ 0xEF → 0x80 ≤ low₂ → high₂ ≤ 0xBF
+    → ((a b c : ℕ) → low₁ ≤ a → a ≤ high₁ → low₂ ≤ b → b ≤ high₂ → 0x80 ≤ c → c ≤ 0xBF
+    → (is_character ((a % 16 * 64 + b % 64) * 64 + c % 64) ≡ true) × (0x800 ≤ (a % 16 * 64 + b % 64) * 64 + c % 64))
     → (bytes : List ℕ) → AllZip Stands (low₁ ‥ high₁ ∷ low₂ ‥ high₂ ∷ 0x80 ‥ 0xBF ∷ []) bytes → AreOfCharacter bytes
-of_three low₁ high₁ low₂ high₂ is [] h = absurd h
-of_three low₁ high₁ low₂ high₂ is (a ∷ []) h = absurd h.1
-of_three low₁ high₁ low₂ high₂ is (a ∷ b ∷ []) h = absurd h.1.1
-of_three low₁ high₁ low₂ high₂ is (a ∷ b ∷ c ∷ []) h =
-    (is a b c h.0.0 h.0.1 h.1.0.0 h.1.0.1 h.1.1.0.0 h.1.1.0.1, length-encode-three ((a % 16 * 64 + b % 64) * 64 + c % 64) (omega arith))
-of_three low₁ high₁ low₂ high₂ is (a ∷ b ∷ c ∷ d ∷ bytes) h = absurd h.1.1.1
+of_three low₁ high₁ low₂ high₂ l₁ m₁ l₂ m₂ is [] h = absurd h
+of_three low₁ high₁ low₂ high₂ l₁ m₁ l₂ m₂ is (a ∷ []) h = absurd h.1
+of_three low₁ high₁ low₂ high₂ l₁ m₁ l₂ m₂ is (a ∷ b ∷ []) h = absurd h.1.1
+of_three low₁ high₁ low₂ high₂ l₁ m₁ l₂ m₂ is (a ∷ b ∷ c ∷ []) h =
+    let known = is a b c h.0.0 h.0.1 h.1.0.0 h.1.0.1 h.1.1.0.0 h.1.1.0.1 in (
+      known.0,
+      encode-three_bytes a b c (omega (arith, h.0.0)) (omega (arith, h.0.1)) (omega (arith, h.1.0.0)) (omega (arith, h.1.0.1)) h.1.1.0.0 h.1.1.0.1 known.1,
+    )
+of_three low₁ high₁ low₂ high₂ l₁ m₁ l₂ m₂ is (a ∷ b ∷ c ∷ d ∷ bytes) h = absurd h.1.1.1
 
 -- four bytes
-of_four : (low₁ high₁ low₂ high₂ : ℕ)
-    → ((a b c d : ℕ) → low₁ ≤ a → a ≤ high₁ → low₂ ≤ b → b ≤ high₂ → is_character (((a % 8 * 64 + b % 64) * 64 + c % 64) * 64 + d % 64) ≡ true)
+of_four : (low₁ high₁ low₂ high₂ : ℕ) → 0xF0 ≤ low₁ → high₁ ≤ 0xF4 → 0x80 ≤ low₂ → high₂ ≤ 0xBF
+    → ((a b c d : ℕ) → low₁ ≤ a → a ≤ high₁ → low₂ ≤ b → b ≤ high₂
+    → (is_character (((a % 8 * 64 + b % 64) * 64 + c % 64) * 64 + d % 64) ≡ true) × (0x10000 ≤ ((a % 8 * 64 + b % 64) * 64 + c % 64) * 64 + d % 64))
     → (bytes : List ℕ) → AllZip Stands (low₁ ‥ high₁ ∷ low₂ ‥ high₂ ∷ 0x80 ‥ 0xBF ∷ 0x80 ‥ 0xBF ∷ []) bytes → AreOfCharacter bytes
-of_four low₁ high₁ low₂ high₂ is [] h = absurd h
-of_four low₁ high₁ low₂ high₂ is (a ∷ []) h = absurd h.1
-of_four low₁ high₁ low₂ high₂ is (a ∷ b ∷ []) h = absurd h.1.1
-of_four low₁ high₁ low₂ high₂ is (a ∷ b ∷ c ∷ []) h = absurd h.1.1.1
-of_four low₁ high₁ low₂ high₂ is (a ∷ b ∷ c ∷ d ∷ []) h =
-    (is a b c d h.0.0 h.0.1 h.1.0.0 h.1.0.1, length-encode-four (((a % 8 * 64 + b % 64) * 64 + c % 64) * 64 + d % 64))
-of_four low₁ high₁ low₂ high₂ is (a ∷ b ∷ c ∷ d ∷ e ∷ bytes) h = absurd h.1.1.1.1
+of_four low₁ high₁ low₂ high₂ l₁ m₁ l₂ m₂ is [] h = absurd h
+of_four low₁ high₁ low₂ high₂ l₁ m₁ l₂ m₂ is (a ∷ []) h = absurd h.1
+of_four low₁ high₁ low₂ high₂ l₁ m₁ l₂ m₂ is (a ∷ b ∷ []) h = absurd h.1.1
+of_four low₁ high₁ low₂ high₂ l₁ m₁ l₂ m₂ is (a ∷ b ∷ c ∷ []) h = absurd h.1.1.1
+of_four low₁ high₁ low₂ high₂ l₁ m₁ l₂ m₂ is (a ∷ b ∷ c ∷ d ∷ []) h =
+    let known = is a b c d h.0.0 h.0.1 h.1.0.0 h.1.0.1 in (
+      known.0,
+      encode-four_bytes a b c d (omega (arith, h.0.0)) (omega (arith, h.0.1)) (omega (arith, h.1.0.0)) (omega (arith, h.1.0.1))
+          h.1.1.0.0 h.1.1.0.1 h.1.1.1.0.0 h.1.1.1.0.1 known.1,
+    )
+of_four low₁ high₁ low₂ high₂ l₁ m₁ l₂ m₂ is (a ∷ b ∷ c ∷ d ∷ e ∷ bytes) h = absurd h.1.1.1.1
 
--- a well-formed sequence stands for a character, and std writes it in no more bytes
+-- a well-formed sequence stands for a character, and std writes that as this sequence
 pub well_formed-AreOfCharacter : (bytes : List ℕ) → is_well_formed bytes ≡ true → AreOfCharacter bytes
 unfolding is_well_formed
 well_formed-AreOfCharacter bytes e =
     by_rows (λ row. begins row bytes && eqb (length bytes) (length row)) (AreOfCharacter bytes) rows (
       λ f. of_two bytes (places _ bytes f),
       (
-        λ f. of_three 0xE0 0xE0 0xA0 0xBF (λ a b c h₁ k₁ h₂ k₂ h₃ k₃. is_character-low _ (omega arith) (omega arith)) bytes (places _ bytes f),
+        λ f. of_three 0xE0 0xE0 0xA0 0xBF (omega arith) (omega arith) (omega arith) (omega arith) (λ a b c h₁ k₁ h₂ k₂ h₃ k₃. (is_character-low _ (omega arith) (omega arith), omega arith)) bytes (places _ bytes f),
         (
-          λ f. of_three 0xE1 0xEC 0x80 0xBF (λ a b c h₁ k₁ h₂ k₂ h₃ k₃. is_character-low _ (omega arith) (omega arith)) bytes (places _ bytes f),
+          λ f. of_three 0xE1 0xEC 0x80 0xBF (omega arith) (omega arith) (omega arith) (omega arith) (λ a b c h₁ k₁ h₂ k₂ h₃ k₃. (is_character-low _ (omega arith) (omega arith), omega arith)) bytes (places _ bytes f),
           (
-            λ f. of_three 0xED 0xED 0x80 0x9F (λ a b c h₁ k₁ h₂ k₂ h₃ k₃. is_character-low _ (omega arith) (omega arith)) bytes (places _ bytes f),
+            λ f. of_three 0xED 0xED 0x80 0x9F (omega arith) (omega arith) (omega arith) (omega arith) (λ a b c h₁ k₁ h₂ k₂ h₃ k₃. (is_character-low _ (omega arith) (omega arith), omega arith)) bytes (places _ bytes f),
             (
-              λ f. of_three 0xEE 0xEF 0x80 0xBF (λ a b c h₁ k₁ h₂ k₂ h₃ k₃. is_character-high _ (omega arith) (omega arith)) bytes (places _ bytes f),
+              λ f. of_three 0xEE 0xEF 0x80 0xBF (omega arith) (omega arith) (omega arith) (omega arith) (λ a b c h₁ k₁ h₂ k₂ h₃ k₃. (is_character-high _ (omega arith) (omega arith), omega arith)) bytes (places _ bytes f),
               (
-                λ f. of_four 0xF0 0xF0 0x90 0xBF (λ a b c d h₁ k₁ h₂ k₂. is_character-high _ (omega arith) (omega arith)) bytes (places _ bytes f),
+                λ f. of_four 0xF0 0xF0 0x90 0xBF (omega arith) (omega arith) (omega arith) (omega arith) (λ a b c d h₁ k₁ h₂ k₂. (is_character-high _ (omega arith) (omega arith), omega arith)) bytes (places _ bytes f),
                 (
-                  λ f. of_four 0xF1 0xF3 0x80 0xBF (λ a b c d h₁ k₁ h₂ k₂. is_character-high _ (omega arith) (omega arith)) bytes (places _ bytes f),
-                  (λ f. of_four 0xF4 0xF4 0x80 0x8F (λ a b c d h₁ k₁ h₂ k₂. is_character-high _ (omega arith) (omega arith)) bytes (places _ bytes f), tt),
+                  λ f. of_four 0xF1 0xF3 0x80 0xBF (omega arith) (omega arith) (omega arith) (omega arith) (λ a b c d h₁ k₁ h₂ k₂. (is_character-high _ (omega arith) (omega arith), omega arith)) bytes (places _ bytes f),
+                  (λ f. of_four 0xF4 0xF4 0x80 0x8F (omega arith) (omega arith) (omega arith) (omega arith) (λ a b c d h₁ k₁ h₂ k₂. (is_character-high _ (omega arith) (omega arith), omega arith)) bytes (places _ bytes f), tt),
                 ),
               ),
             ),

@@ -1,4 +1,4 @@
--- Facts on the table of well-formed UTF-8: whole sequences, their beginnings, their first bytes.
+-- Facts on the table of well-formed UTF-8: whole sequences, their prefixes, their first bytes.
 use Rattle.std.proofs.Common.{◌≡◌, ℕ, suc, ◌<◌, ◌≤◌, Bool, true, false, ◌&&◌, leb, List, [], ◌∷◌, ◌++◌, length, IsTrue, ◌⊎◌, inl, inr, ⊎_elim, refl, sym, ◌∙◌, length-append, arith}
 use Rattle.std.specs.Prelude.{nat_lt, if◌then◌else◌, ◌==◌}
 use Rattle.std.specs.List.{list_any, list_all, AllByRecursion}
@@ -8,7 +8,7 @@ use Rattle.anstyle_parse.specs.Stream.Bytes.{is_within, Span, ◌‥◌}
 use Rattle.anstyle_parse.specs.Stream.Characters.{rows, begins, is_well_formed, is_proper_front, is_lead}
 use Rattle.anstyle_parse.specs.Stream.Items.{EachIs}
 
--- the bytes begin some row: the test for a beginning of a well-formed sequence
+-- the bytes begin some row: the test for a prefix of a well-formed sequence
 unfoldable pub is_front : List ℕ → Bool
 is_front bytes = list_any (λ row. begins row bytes) rows
 
@@ -36,7 +36,7 @@ list_any-either p q r split (x ∷ xs) e =
     (λ there. ⊎_elim (λ y. inl (or_right (q x) (list_any q xs) y)) (λ y. inr (or_right (r x) (list_any r xs) y)) (list_any-either p q r split xs there))
     (or_cases (p x) (list_any p xs) e)
 
--- a beginning of what stands in a row stands in it
+-- a prefix of what stands in a row stands in it
 begins-prefix : (row : List Span) (x y : List ℕ) → begins row (x ++ y) ≡ true → begins row x ≡ true
 begins-prefix row [] y e = refl
 begins-prefix [] (b ∷ x) y e = e
@@ -123,47 +123,47 @@ unfolding is_front
 front_says a x = from_some ((is_lead a ≡ true) × EachIs (is_within 0x80 0xBF) x) (λ row. begins row (a ∷ x)) RowSays rows rows_say
     (λ row says e. ((says a x e).0, (says a x e).2))
 
--- a test that a row passes for a proper beginning
+-- a test that a row passes for a proper prefix
 abbrev goes_beyond : List ℕ → List Span → Bool
 goes_beyond x row = begins row x && nat_lt (length x) (length row)
 
--- some row goes on after a proper beginning
+-- some row goes on after a proper prefix
 proper_front-some : (x : List ℕ) → is_proper_front x ≡ true → list_any (goes_beyond x) rows ≡ true
 unfolding is_proper_front
 proper_front-some x h = (and_parts (nat_lt 0 (length x)) (list_any (goes_beyond x) rows) h).1
 
--- a list after which a row goes on is a proper beginning, unless it is empty
+-- a list after which a row goes on is a proper prefix, unless it is empty
 proper_front-from_some : (a : ℕ) (x : List ℕ) → list_any (goes_beyond (a ∷ x)) rows ≡ true → is_proper_front (a ∷ x) ≡ true
 unfolding is_proper_front
 proper_front-from_some a x h =
     and_from (nat_lt 0 (length (a ∷ x))) (list_any (goes_beyond (a ∷ x)) rows) (lt-ltb 0 (length (a ∷ x)) (omega arith)) h
 
--- a beginning starts with a lead byte, and goes on with bytes 80..BF
+-- a prefix starts with a lead byte, and goes on with bytes 80..BF
 pub is_lead-front : (a : ℕ) (x : List ℕ) → IsTrue (is_front (a ∷ x)) → IsTrue (is_lead a)
 is_lead-front a x h = (front_says a x h).0
 
--- the bytes of a beginning after the first
+-- the bytes of a prefix after the first
 pub EachIs-front : (a : ℕ) (x : List ℕ) → IsTrue (is_front (a ∷ x)) → EachIs (is_within 0x80 0xBF) x
 EachIs-front a x h = (front_says a x h).1
 
--- a whole is a beginning
+-- a whole is a prefix
 pub is_front-well_formed : (x : List ℕ) → IsTrue (is_well_formed x) → IsTrue (is_front x)
 unfolding is_front is_well_formed
 is_front-well_formed x = list_any-weaker (λ row. begins row x && length x == length row) (λ row. begins row x)
     (λ row e. (and_parts (begins row x) (length x == length row) e).0) rows
 
--- a proper beginning is a beginning
+-- a proper prefix is a prefix
 pub is_front-proper : (x : List ℕ) → IsTrue (is_proper_front x) → IsTrue (is_front x)
 unfolding is_front
 is_front-proper x h = list_any-weaker (goes_beyond x) (λ row. begins row x)
     (λ row e. (and_parts (begins row x) (nat_lt (length x) (length row)) e).0) rows (proper_front-some x h)
 
--- a beginning of a beginning
+-- a prefix of a prefix
 pub is_front-prefix : (x y : List ℕ) → IsTrue (is_front (x ++ y)) → IsTrue (is_front x)
 unfolding is_front
 is_front-prefix x y = list_any-weaker (λ row. begins row (x ++ y)) (λ row. begins row x) (λ row e. begins-prefix row x y e) rows
 
--- a beginning is whole or proper
+-- a prefix is whole or proper
 pub front_cases : (a : ℕ) (x : List ℕ) → IsTrue (is_front (a ∷ x)) → IsTrue (is_well_formed (a ∷ x)) ⊎ IsTrue (is_proper_front (a ∷ x))
 unfolding is_front is_well_formed
 front_cases a x h = ⊎_elim (λ whole. inl whole) (λ part. inr (proper_front-from_some a x part))
@@ -174,14 +174,14 @@ front_cases a x h = ⊎_elim (λ whole. inl whole) (λ part. inr (proper_front-f
     (cases_eq (length (a ∷ x)) (length row)))
     rows h)
 
--- the length of a whole, and of a proper beginning
+-- the length of a whole, and of a proper prefix
 pub length-well_formed : (a : ℕ) (x : List ℕ) → IsTrue (is_well_formed (a ∷ x)) → length (a ∷ x) ≡ character_length a
 unfolding is_well_formed
 length-well_formed a x = from_some (length (a ∷ x) ≡ character_length a) (λ row. begins row (a ∷ x) && length (a ∷ x) == length row) RowSays rows rows_say
     (λ row says e. let parts = and_parts (begins row (a ∷ x)) (length (a ∷ x) == length row) e in
     eqb-true (length (a ∷ x)) (length row) parts.1 ∙ (says a x parts.0).1)
 
--- a proper beginning is shorter
+-- a proper prefix is shorter
 pub length-proper_front : (a : ℕ) (x : List ℕ) → IsTrue (is_proper_front (a ∷ x)) → length (a ∷ x) < character_length a
 length-proper_front a x h = from_some (length (a ∷ x) < character_length a) (goes_beyond (a ∷ x)) RowSays rows rows_say
     (λ row says e. let parts = and_parts (begins row (a ∷ x)) (nat_lt (length (a ∷ x)) (length row)) e in
@@ -195,12 +195,12 @@ pub is_well_formed-nil : is_well_formed [] ≡ false
 unfolding is_well_formed
 is_well_formed-nil = refl
 
--- and no proper beginning
+-- and no proper prefix
 pub is_proper_front-nil : is_proper_front [] ≡ false
 unfolding is_proper_front
 is_proper_front-nil = refl
 
--- a proper beginning is not whole
+-- a proper prefix is not whole
 pub is_well_formed-proper : (x : List ℕ) → IsTrue (is_proper_front x) → is_well_formed x ≡ false
 is_well_formed-proper [] h = is_well_formed-nil
 is_well_formed-proper (a ∷ x) h = false_from_ne_true (is_well_formed (a ∷ x)) (λ w.
@@ -208,11 +208,11 @@ is_well_formed-proper (a ∷ x) h = false_from_ne_true (is_well_formed (a ∷ x)
     let part : length (a ∷ x) < character_length a = length-proper_front a x h in
     absurd (omega arith))
 
--- a row that goes on after a list goes on after each beginning of it
+-- a row that goes on after a list goes on after each prefix of it
 goes_beyond-from : (row : List Span) (x y : List ℕ) → begins row (x ++ y) ≡ true → length x < length row → goes_beyond x row ≡ true
 goes_beyond-from row x y e below = and_from (begins row x) (nat_lt (length x) (length row)) (begins-prefix row x y e) (lt-ltb (length x) (length row) below)
 
--- what stands before the rest of a proper beginning, or before the last bytes of a whole
+-- what stands before the rest of a proper prefix, or before the last bytes of a whole
 pub is_proper_front-prefix : (a : ℕ) (x y : List ℕ) → IsTrue (is_proper_front (a ∷ (x ++ y))) → IsTrue (is_proper_front (a ∷ x))
 is_proper_front-prefix a x y h = proper_front-from_some a x (list_any-weaker (goes_beyond (a ∷ (x ++ y))) (goes_beyond (a ∷ x))
     (λ row e.
@@ -232,7 +232,7 @@ is_proper_front-before a x b y h = proper_front-from_some a x (list_any-weaker
     goes_beyond-from row (a ∷ x) (b ∷ y) parts.0 (omega (arith, length-append x (b ∷ y))))
     rows h)
 
--- a lead byte alone is a proper beginning
+-- a lead byte alone is a proper prefix
 pub is_proper_front-lead : (b : ℕ) → IsTrue (is_lead b) → IsTrue (is_proper_front (b ∷ []))
 unfolding is_lead is_within is_proper_front
 is_proper_front-lead b h =

@@ -1,4 +1,4 @@
--- The tests for the beginnings of a character agree with the words: some bytes after them make
+-- The tests for the prefixes of a character agree with the words: some bytes after them make
 -- a well-formed sequence.
 use Rattle.std.proofs.Common.{◌≡◌, ◌≢◌, ◌≤◌, ℕ, suc, Bool, true, ◌&&◌, leb, List, [], ◌∷◌, ◌++◌, length, IsTrue, ◌↔◌, ⊎_elim, refl, sym, ap, ◌∙◌, append-nil, arith}
 use Rattle.std.specs.Prelude.{◌==◌}
@@ -30,7 +30,7 @@ is_inhabited place = leb place.first place.last
 abbrev fills : List ℕ → List Span → Bool
 fills bytes row = begins row bytes && length bytes == length row
 
--- the first byte of each place that is left makes a beginning whole
+-- the first byte of each place that is left makes a prefix whole
 fills-first : (row : List Span) (x : List ℕ) → list_all is_inhabited row ≡ true → begins row x ≡ true
     → (rest : List ℕ) × (begins row (x ++ rest) ≡ true) × (length (x ++ rest) ≡ length row)
 unfolding is_within
@@ -46,7 +46,7 @@ fills-first (place ∷ row) (b ∷ x) f e =
     let others = fills-first row x fs.1 es.1 in
     (others.0, and_from (is_within place.first place.last b) (begins row (x ++ others.0)) es.0 others.1, ap suc others.2)
 
--- a list that passes the test for a beginning is one
+-- a list that passes the test for a prefix is one
 IsFront-from_test : (bytes : List ℕ) → IsTrue (is_front bytes) → IsFront bytes
 unfolding is_front is_well_formed
 IsFront-from_test bytes =
@@ -56,12 +56,12 @@ IsFront-from_test bytes =
     (w.0, and_from _ _ w.1 (eq-eqb (length (bytes ++ w.0)) (length row) w.2)))
     rows refl
 
--- The test for a beginning agrees with the words.
+-- The test for a prefix agrees with the words.
 pub IsFront-test : (bytes : List ℕ) → IsTrue (is_front bytes) ↔ IsFront bytes
 IsFront-test bytes =
     (IsFront-from_test bytes, λ is. is_front-prefix bytes is.0 (is_front-well_formed (bytes ++ is.0) is.1))
 
--- a list that passes the test for a proper beginning is one
+-- a list that passes the test for a proper prefix is one
 IsProperFront-from_test : (bytes : List ℕ) → IsTrue (is_proper_front bytes) → IsProperFront bytes
 IsProperFront-from_test bytes h =
     let is = IsFront-from_test bytes (is_front-proper bytes h) in
@@ -80,12 +80,12 @@ test-from_IsProperFront [] rest begun proper whole = absurd (begun refl)
 test-from_IsProperFront (a ∷ x) [] begun proper whole = absurd (proper refl)
 test-from_IsProperFront (a ∷ x) (b ∷ rest) begun proper whole = is_proper_front-before a x b rest whole
 
--- a proper beginning has a byte
+-- a proper prefix has a byte
 pub length-IsProperFront : (bytes : List ℕ) → IsProperFront bytes → 1 ≤ length bytes
 length-IsProperFront [] is = absurd (is.begun refl)
 length-IsProperFront (a ∷ x) is = omega arith
 
--- The test for a proper beginning agrees with the words.
+-- The test for a proper prefix agrees with the words.
 pub IsProperFront-test : (bytes : List ℕ) → IsTrue (is_proper_front bytes) ↔ IsProperFront bytes
 IsProperFront-test bytes =
     (IsProperFront-from_test bytes, λ is. test-from_IsProperFront bytes is.rest is.begun is.proper is.whole)

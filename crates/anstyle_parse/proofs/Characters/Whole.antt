@@ -11,9 +11,9 @@ use Rattle.anstyle_parse.specs.declared.accumulator.Utf8Parser.{Utf8Parser}
 use Rattle.anstyle_parse.specs.declared.utf8.Front.TheVariants.{Empty}
 use Rattle.anstyle_parse.specs.Stream.Characters.{is_well_formed, is_proper_front, is_lead, character_of, BeginWithWhole}
 use Rattle.anstyle_parse.specs.Machine.Decoder.{started, continued, decoded}
-use Rattle.anstyle_parse.specs.Fields.Front.{front_with, is_front_of}
-use Rattle.anstyle_parse.specs.Fields.Accumulator.{parser_after}
-use Rattle.anstyle_parse.specs.Fields.Decoding.{length-proper_front-lt, bytes_of-front_with}
+use Rattle.anstyle_parse.specs.Views.Front.{front_with, is_front_of}
+use Rattle.anstyle_parse.specs.Views.Accumulator.{parser_after}
+use Rattle.anstyle_parse.specs.Views.DecodingProof.{length-proper_front-lt, bytes_of-front_with}
 use Rattle.anstyle_parse.specs.Machine.Step.{Completes, IsWhole}
 use Rattle.anstyle_parse.proofs.Characters.Decoder.{is_well_formed-two, is_well_formed-three, is_well_formed-four}
 use Rattle.anstyle_parse.proofs.Characters.Table.{is_lead-front, is_front-well_formed, is_well_formed-nil, is_well_formed-proper, is_proper_front-before, is_proper_front-lead}

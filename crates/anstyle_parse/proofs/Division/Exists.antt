@@ -170,7 +170,7 @@ Grown-body (sos_pm_apc lead kind text) b terminator_byte e h = Grown-ended (sos_
 Grown-body (sos_pm_apc lead kind text) b c e h = Grown-into (sos_pm_apc lead kind text) (sos_pm_apc lead kind (text ++ b ∷ [])) b
     (h.0, h.1, EachIs-push (is_text_byte string_terminator) text b h.2 (is_string_text-class b ∙ ap is_string_text_at e)) (simp append_assoc)
 
--- a list that is neither a whole nor a proper beginning is no beginning
+-- a list that is neither a whole nor a proper prefix is no prefix
 not_front : (bytes : List ℕ) → is_well_formed bytes ≡ false → is_proper_front bytes ≡ false
     → (a : ℕ) (x : List ℕ) → bytes ≡ a ∷ x → ¬ IsFront bytes
 not_front bytes whole part a x e f =

@@ -32,7 +32,7 @@ Runs-append o p q a b r s = record {
 pub Runs-one : (o : Open) (b : ℕ) (next : Open) → grow o b ≡ more next → Runs o (b ∷ []) next
 Runs-one o b next e = record { none = ap (λ g. g.items ++ []) e; reaches = ap (λ g. g.next) e }
 
--- Each byte makes a part longer, as long as the part keeps what holds of its beginnings.
+-- Each byte makes a part longer, as long as the part keeps what holds of its prefixes.
 pub Runs-each : (f : List ℕ → Open) (test : ℕ → Bool) (Holds : List ℕ → Type 0) → ((a b : List ℕ) → Holds (a ++ b) → Holds a)
     → ((p : List ℕ) (b : ℕ) → IsTrue (test b) → Holds (p ++ b ∷ []) → grow (f p) b ≡ more (f (p ++ b ∷ [])))
     → (p bytes : List ℕ) → EachIs test bytes → Holds (p ++ bytes) → Runs (f p) bytes (f (p ++ bytes))
@@ -225,7 +225,7 @@ begin_front : (b : ℕ) → IsTrue (is_lead b) → grow nothing b ≡ more (fron
 unfolding grow
 begin_front b t = start-lead b (class_of b) (sym (is_lead-class b) ∙ t)
 
--- a byte that leaves a proper beginning
+-- a byte that leaves a proper prefix
 grow-front_part : (bytes : List ℕ) (b : ℕ) → IsTrue (is_proper_front (bytes ++ b ∷ [])) → grow (front bytes) b ≡ more (front (bytes ++ b ∷ []))
 unfolding grow
 grow-front_part bytes b h =
@@ -233,7 +233,7 @@ grow-front_part bytes b h =
     (if is_proper_front (bytes ++ b ∷ []) then more (front (bytes ++ b ∷ [])) else break_off bytes (start b (class_of b))) (is_well_formed-proper (bytes ++ b ∷ []) h)
     ∙ cond-true (is_proper_front (bytes ++ b ∷ [])) (more (front (bytes ++ b ∷ []))) (break_off bytes (start b (class_of b))) h
 
--- a proper beginning runs to the front of a character
+-- a proper prefix runs to the front of a character
 pub Runs-front : (bytes : List ℕ) → IsTrue (is_proper_front bytes) → Runs nothing bytes (front bytes)
 Runs-front [] h = absurd (both_ways (is_proper_front []) is_proper_front-nil h)
 Runs-front (a ∷ x) h =

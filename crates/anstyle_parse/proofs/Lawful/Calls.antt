@@ -8,7 +8,7 @@ use Rattle.anstyle_parse.specs.Stream.Characters.{replacement}
 use Rattle.anstyle_parse.specs.Stream.Arguments.{significant, has_shape, groups_of, collected_of, ignore_of, parts_of, max_collected}
 use Rattle.anstyle_parse.specs.Stream.Call.{Call, print, execute, hook, put, osc_dispatch, csi_dispatch}
 use Rattle.anstyle_parse.specs.Stream.Items.{Body, escape, csi, dcs_header, dcs, dcs_ignored, osc, sos_pm_apc, End, complete, cancelled, broken_off, unfinished, Item, single, character, broken, begun, sequence, items_text, is_introducer, EachIs, IsItem, IsBody, IsEnd, MayPrecede, AreJoined}
-use Rattle.anstyle_parse.specs.Stream.Calls.{is_executed, is_printed, single_calls, is_passed, executes, control_dispatch, body_calls, end_calls, item_calls, items_calls, AreCalls}
+use Rattle.anstyle_parse.specs.Stream.Calls.{is_executed, is_printed, single_calls, is_put, executes, control_dispatch, body_calls, end_calls, item_calls, items_calls, AreCalls}
 use Rattle.anstyle_parse.specs.Laws.Lawful.{is_character, IsEscapeCall, AreLawfulFrom, AreLawful}
 use Rattle.anstyle_parse.proofs.Lists.Passing.{EachIs-filter}
 use Rattle.anstyle_parse.proofs.Characters.Encoding.{within_parts}
@@ -35,7 +35,7 @@ lawful-executes [] calls h rest = rest
 lawful-executes (b ∷ bytes) calls h rest = (control-executed b h.0, lawful-executes bytes calls h.1 rest)
 
 -- and puts before what stands inside one
-lawful-puts : (text : List ℕ) (calls : List Call) → EachIs is_passed text → AreLawfulFrom true calls → AreLawfulFrom true (map put text ++ calls)
+lawful-puts : (text : List ℕ) (calls : List Call) → EachIs is_put text → AreLawfulFrom true calls → AreLawfulFrom true (map put text ++ calls)
 lawful-puts [] calls h rest = rest
 lawful-puts (b ∷ text) calls h rest = (h.0, lawful-puts text calls h.1 rest)
 
@@ -133,13 +133,13 @@ lawful-sequence (sos_pm_apc lead kind text) unfinished calls is ends rest last =
 lawful-sequence (dcs lead header final text) end calls is ends rest last =
     let shown = significant header in
     let hook_call = hook (groups_of shown) (collected_of shown) (ignore_of shown) final in
-    let puts = map put (filter is_passed text) in
+    let puts = map put (filter is_put text) in
     let own = end_calls (dcs lead header final text) end in
     subst (λ l. AreLawful (l ++ calls)) (sym (append_assoc (executes lead) (hook_call ∷ puts) own))
     (after lead (hook_call ∷ (puts ++ own)) calls (
       IsHeaderCall-header shown final is.begun.shaped is.hooked,
       subst (AreLawfulFrom true) (sym (append_assoc puts own calls))
-          (lawful-puts (filter is_passed text) (own ++ calls) (EachIs-filter is_passed text) (lawful-hooked_end lead header final text end calls ends rest last)),
+          (lawful-puts (filter is_put text) (own ++ calls) (EachIs-filter is_put text) (lawful-hooked_end lead header final text end calls ends rest last)),
     ))
 
 -- an item, before calls that may follow

@@ -1,5 +1,5 @@
 -- The actions on a header's registers, or on a command's text, read and write no others.
-use Rattle.std.proofs.Common.{◌≡◌, ℕ, ◌+◌, ◌*◌, ◌-◌, Bool, true, false, [], ◌∷◌, ◌++◌, length, min, refl, ap}
+use Rattle.std.proofs.Common.{◌≡◌, ℕ, ◌+◌, ◌*◌, ◌-◌, Bool, true, false, [], ◌∷◌, ◌++◌, length, min, refl, ap, sym, ◌∙◌}
 use Rattle.std.specs.Prelude.{if◌then◌else◌, ◌==◌}
 use Rattle.std.proofs.lemmas.Bool.{false≢true}
 use Rattle.anstyle_parse.specs.declared.state.definitions.State.{State}
@@ -15,13 +15,20 @@ use Rattle.anstyle_parse.specs.Machine.Step.{Machine, new_machine, dispatched, f
 abbrev pub plain : {A : Type 0} → State → A → Machine A
 plain state accumulator = record (new_machine accumulator) { state = state }
 
--- a state with the header of another machine
-abbrev pub headed : {A : Type 0} → State → A → Machine A → Machine A
-headed state accumulator m = record (plain state accumulator) { collected = m.collected; ignoring = m.ignoring; closed_groups = m.closed_groups; open_group = m.open_group; number = m.number }
+-- a machine with the header of another
+abbrev pub with_header_of : {A B : Type 0} → Machine A → Machine B → Machine B
+with_header_of m n = record n { collected = m.collected; ignoring = m.ignoring; closed_groups = m.closed_groups; open_group = m.open_group; number = m.number }
 
--- a state with the text of another machine
+-- a machine with the text of another
+abbrev pub with_text_of : {A B : Type 0} → Machine A → Machine B → Machine B
+with_text_of m n = record n { closed_parts = m.closed_parts; open_part = m.open_part }
+
+-- a state with nothing but a header, and with nothing but a text
+abbrev pub headed : {A : Type 0} → State → A → Machine A → Machine A
+headed state accumulator m = with_header_of m (plain state accumulator)
+
 abbrev pub texted : {A : Type 0} → State → A → Machine A → Machine A
-texted state accumulator m = record (plain state accumulator) { closed_parts = m.closed_parts; open_part = m.open_part }
+texted state accumulator m = with_text_of m (plain state accumulator)
 
 -- the same, with the answers of the tests given
 abbrev pub collecting_by : {A : Type 0} → Bool → ℕ → Machine A → Machine A
@@ -48,48 +55,65 @@ abbrev pub storing_by : {A : Type 0} → Bool → Bool → Bool → ℕ → Mach
 storing_by full separates parts_full b m =
     if full then m else if separates then with_part_by parts_full m else record m { open_part = m.open_part ++ b ∷ [] }
 
--- From here on: from a machine with a header or a text alone an action makes the header or
--- the text that it makes from the whole machine.
-module _ {A : Type 0} (state : State) (accumulator : A) (b : ℕ) (m : Machine A) where
-  collecting_by-headed : (full : Bool) → collecting_by full b (headed state accumulator m) ≡ headed state accumulator (collecting_by full b m)
-  collecting_by-headed true = refl
-  collecting_by-headed false = refl
+-- From here on: what an action makes of a header, or of a text, does not depend on what else the
+-- machine has.
+module _ {A B : Type 0} (b : ℕ) (m : Machine A) (n : Machine B) where
+  collecting_by-with_header : (full : Bool) → collecting_by full b (with_header_of m n) ≡ with_header_of (collecting_by full b m) n
+  collecting_by-with_header true = refl
+  collecting_by-with_header false = refl
 
-  with_parameter_by-headed : (full ends_group ends_field : Bool)
-      → with_parameter_by full ends_group ends_field b (headed state accumulator m) ≡ headed state accumulator (with_parameter_by full ends_group ends_field b m)
-  with_parameter_by-headed true ends_group ends_field = refl
-  with_parameter_by-headed false true ends_field = refl
-  with_parameter_by-headed false false true = refl
-  with_parameter_by-headed false false false = refl
+  with_parameter_by-with_header : (full ends_group ends_field : Bool)
+      → with_parameter_by full ends_group ends_field b (with_header_of m n) ≡ with_header_of (with_parameter_by full ends_group ends_field b m) n
+  with_parameter_by-with_header true ends_group ends_field = refl
+  with_parameter_by-with_header false true ends_field = refl
+  with_parameter_by-with_header false false true = refl
+  with_parameter_by-with_header false false false = refl
 
-  with_last_field_by-headed : (full : Bool) → with_last_field_by full (headed state accumulator m) ≡ headed state accumulator (with_last_field_by full m)
-  with_last_field_by-headed true = refl
-  with_last_field_by-headed false = refl
+  with_last_field_by-with_header : (full : Bool) → with_last_field_by full (with_header_of m n) ≡ with_header_of (with_last_field_by full m) n
+  with_last_field_by-with_header true = refl
+  with_last_field_by-with_header false = refl
 
-  with_part_by-texted : (full : Bool) → with_part_by full (texted state accumulator m) ≡ texted state accumulator (with_part_by full m)
-  with_part_by-texted true = refl
-  with_part_by-texted false = refl
+  with_part_by-with_text : (full : Bool) → with_part_by full (with_text_of m n) ≡ with_text_of (with_part_by full m) n
+  with_part_by-with_text true = refl
+  with_part_by-with_text false = refl
 
-  storing_by-texted : (full separates parts_full : Bool)
-      → storing_by full separates parts_full b (texted state accumulator m) ≡ texted state accumulator (storing_by full separates parts_full b m)
-  storing_by-texted true separates parts_full = refl
-  storing_by-texted false true parts_full = with_part_by-texted parts_full
-  storing_by-texted false false parts_full = refl
+  storing_by-with_text : (full separates parts_full : Bool)
+      → storing_by full separates parts_full b (with_text_of m n) ≡ with_text_of (storing_by full separates parts_full b m) n
+  storing_by-with_text true separates parts_full = refl
+  storing_by-with_text false true parts_full = with_part_by-with_text parts_full
+  storing_by-with_text false false parts_full = refl
 
-  pub collecting-headed : after_collect b (headed state accumulator m) ≡ headed state accumulator (after_collect b m)
-  collecting-headed = collecting_by-headed (length m.collected == max_collected)
+  pub collecting-with_header : after_collect b (with_header_of m n) ≡ with_header_of (after_collect b m) n
+  collecting-with_header = collecting_by-with_header (length m.collected == max_collected)
 
-  pub with_parameter-headed : after_param b (headed state accumulator m) ≡ headed state accumulator (after_param b m)
-  with_parameter-headed = with_parameter_by-headed (field_count m == max_fields) (b == semicolon) (b == colon)
+  pub with_parameter-with_header : after_param b (with_header_of m n) ≡ with_header_of (after_param b m) n
+  with_parameter-with_header = with_parameter_by-with_header (field_count m == max_fields) (b == semicolon) (b == colon)
 
-  pub with_last_field-headed : with_last_field (headed state accumulator m) ≡ headed state accumulator (with_last_field m)
-  with_last_field-headed = with_last_field_by-headed (field_count m == max_fields)
+  pub with_last_field-with_header : with_last_field (with_header_of m n) ≡ with_header_of (with_last_field m) n
+  with_last_field-with_header = with_last_field_by-with_header (field_count m == max_fields)
 
-  pub with_part-texted : with_part (texted state accumulator m) ≡ texted state accumulator (with_part m)
-  with_part-texted = with_part_by-texted (length m.closed_parts == max_osc_parts)
+  pub with_part-with_text : with_part (with_text_of m n) ≡ with_text_of (with_part m) n
+  with_part-with_text = with_part_by-with_text (length m.closed_parts == max_osc_parts)
 
-  pub storing-texted : after_osc_put b (texted state accumulator m) ≡ texted state accumulator (after_osc_put b m)
-  storing-texted = storing_by-texted (stored_count m == max_osc_bytes) (b == semicolon) (length m.closed_parts == max_osc_parts)
+  pub storing-with_text : after_osc_put b (with_text_of m n) ≡ with_text_of (after_osc_put b m) n
+  storing-with_text = storing_by-with_text (stored_count m == max_osc_bytes) (b == semicolon) (length m.closed_parts == max_osc_parts)
+
+-- So what a header does, or a text, is what the whole machine does.
+module _ {A B : Type 0} (b : ℕ) (part new : Machine A) (m : Machine B) where
+  pub collecting-whole : new ≡ after_collect b part → with_header_of new m ≡ after_collect b (with_header_of part m)
+  collecting-whole e = ap (λ h. with_header_of h m) e ∙ sym (collecting-with_header b part m)
+
+  pub with_parameter-whole : new ≡ after_param b part → with_header_of new m ≡ after_param b (with_header_of part m)
+  with_parameter-whole e = ap (λ h. with_header_of h m) e ∙ sym (with_parameter-with_header b part m)
+
+  pub with_last_field-whole : new ≡ with_last_field part → with_header_of new m ≡ with_last_field (with_header_of part m)
+  with_last_field-whole e = ap (λ h. with_header_of h m) e ∙ sym (with_last_field-with_header b part m)
+
+  pub with_part-whole : new ≡ with_part part → with_text_of new m ≡ with_part (with_text_of part m)
+  with_part-whole e = ap (λ t. with_text_of t m) e ∙ sym (with_part-with_text b part m)
+
+  pub storing-whole : new ≡ after_osc_put b part → with_text_of new m ≡ after_osc_put b (with_text_of part m)
+  storing-whole e = ap (λ t. with_text_of t m) e ∙ sym (storing-with_text b part m)
 
 -- From here on: the action keeps all but the header (`cleared`), or all but the text.
 module _ {A : Type 0} (b : ℕ) (m : Machine A) where
@@ -136,10 +160,10 @@ is_of_header action = true
 -- what such an action does to the header comes of the header alone
 pub after_action-headed : {A : Type 0} (add : AccumulatorStep A) (action : Action) (state : State) (accumulator : A) (b : ℕ) (m : Machine A) → is_of_header action ≡ true
     → after_action add action b (headed state accumulator m) ≡ headed state accumulator (after_action add action b m)
-after_action-headed add Collect state accumulator b m e = collecting-headed state accumulator b m
-after_action-headed add Param state accumulator b m e = with_parameter-headed state accumulator b m
-after_action-headed add Hook state accumulator b m e = with_last_field-headed state accumulator b m
-after_action-headed add CsiDispatch state accumulator b m e = with_last_field-headed state accumulator b m
+after_action-headed add Collect state accumulator b m e = collecting-with_header b m (plain state accumulator)
+after_action-headed add Param state accumulator b m e = with_parameter-with_header b m (plain state accumulator)
+after_action-headed add Hook state accumulator b m e = with_last_field-with_header b m (plain state accumulator)
+after_action-headed add CsiDispatch state accumulator b m e = with_last_field-with_header b m (plain state accumulator)
 after_action-headed add OscStart state accumulator b m e = absurd (false≢true e)
 after_action-headed add OscPut state accumulator b m e = absurd (false≢true e)
 after_action-headed add OscEnd state accumulator b m e = absurd (false≢true e)
@@ -163,9 +187,9 @@ after_action-cleared add action b m e = refl
 pub action_calls-headed : {A : Type 0} (add : AccumulatorStep A) (action : Action) (state : State) (accumulator : A) (b : ℕ) (m : Machine A) → is_of_header action ≡ true
     → action_calls add action b (headed state accumulator m) ≡ action_calls add action b m
 action_calls-headed add Hook state accumulator b m e =
-    ap (λ (r : Machine _). dispatched hook b r ∷ []) (with_last_field-headed state accumulator b m)
+    ap (λ (r : Machine _). dispatched hook b r ∷ []) (with_last_field-with_header b m (plain state accumulator))
 action_calls-headed add CsiDispatch state accumulator b m e =
-    ap (λ (r : Machine _). dispatched csi_dispatch b r ∷ []) (with_last_field-headed state accumulator b m)
+    ap (λ (r : Machine _). dispatched csi_dispatch b r ∷ []) (with_last_field-with_header b m (plain state accumulator))
 action_calls-headed add OscStart state accumulator b m e = absurd (false≢true e)
 action_calls-headed add OscPut state accumulator b m e = absurd (false≢true e)
 action_calls-headed add OscEnd state accumulator b m e = absurd (false≢true e)

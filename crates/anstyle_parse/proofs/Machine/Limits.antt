@@ -12,7 +12,7 @@ use Rattle.anstyle_parse.specs.Stream.Bytes.{colon, semicolon}
 use Rattle.anstyle_parse.specs.Stream.Arguments.{max_fields, max_collected, max_osc_bytes, max_osc_parts}
 use Rattle.anstyle_parse.specs.Machine.Table.{change_at}
 use Rattle.anstyle_parse.specs.Machine.Step.{Machine, IsWithinLimits, field_count, stored_count, pushed, extended, after_clear, after_collect, after_param, with_last_field, after_osc_start, with_part, after_osc_put, AccumulatorStep, after_action, exit_action, entry_action, after_change, after_continuation, after_answer, step, step_from, machine_after}
-use Rattle.anstyle_parse.specs.Fields.Parser.{machine_of}
+use Rattle.anstyle_parse.specs.Views.Parser.{machine_of}
 use Rattle.anstyle_parse.proofs.Lists.Splits.{length-concat_push}
 use Rattle.anstyle_parse.proofs.Arguments.Lengths.{stored_total, length-cut}
 use Rattle.anstyle_parse.proofs.Arguments.Starts.{field_total}
@@ -156,10 +156,13 @@ IsWithinLimits-machine adds [] m h = h
 IsWithinLimits-machine adds (b ∷ bytes) m h = IsWithinLimits-machine adds bytes (step adds b m) (IsWithinLimits-step adds b m h)
 
 -- a parser is within the limits: its own conditions, and the size of its array of fields
-pub IsWithinLimits-parser : {C : Type 0} (p : Parser C) → length p.params.numbers ≡ max_fields → IsWithinLimits (machine_of p)
-IsWithinLimits-parser p numbers = record {
-  fields = omega (arith, p.params.in_range, field_total p.params.open_fields p.params.len p.params.starts p.params.numbers p.params.open_within (omega (arith, p.params.in_range, numbers)) p.params.first_starts);
-  collected = omega (arith, length-take p.intermediate_count p.intermediates, p.few_intermediates);
-  stored = omega (arith, p.text_fits, stored_total p.osc_text.items p.osc_lengths p.osc_parts p.osc_closed p.closed_parts p.parts_in_text);
-  parts = omega (arith, length-cut (take p.osc_parts p.osc_lengths) p.osc_text.items, length-take p.osc_parts p.osc_lengths, p.few_parts);
-}
+pub IsWithinLimits-parser : {C : Type 0} (p : Parser C) → length p.header.params.numbers ≡ max_fields → IsWithinLimits (machine_of p)
+IsWithinLimits-parser p numbers =
+    let h = p.header in
+    let t = p.command in
+    record {
+      fields = omega (arith, h.params.in_range, field_total h.params.open_fields h.params.len h.params.starts h.params.numbers h.params.open_within (omega (arith, h.params.in_range, numbers)) h.params.first_starts);
+      collected = omega (arith, length-take h.intermediate_count h.intermediates, h.few_intermediates);
+      stored = omega (arith, t.text_fits, stored_total t.text.items t.lengths t.parts t.closed t.closed_parts t.parts_in_text);
+      parts = omega (arith, length-cut (take t.parts t.lengths) t.text.items, length-take t.parts t.lengths, t.few_parts);
+    }

@@ -4,7 +4,7 @@ use Rattle.anstyle_parse.specs.declared.state.definitions.State.{State}
 use Rattle.anstyle_parse.specs.declared.state.definitions.State.TheVariants.{Anywhere, CsiEntry, CsiIgnore, CsiIntermediate, CsiParam, DcsEntry, DcsIgnore, DcsIntermediate, DcsParam, DcsPassthrough, Escape, EscapeIntermediate, Ground, OscString, SosPmApcString, Utf8}
 use Rattle.anstyle_parse.specs.declared.state.definitions.Action.TheVariants.{BeginUtf8}
 use Rattle.anstyle_parse.specs.Machine.Table.{change_at}
-use Rattle.anstyle_parse.specs.Fields.Parser.{ReachesAccumulator}
+use Rattle.anstyle_parse.specs.Views.Parser.{ReachesAccumulator}
 use Rattle.anstyle_parse.proofs.Bytes.Classes.{Class, class_of, lead_byte, is_lead_at, is_lead-class}
 use Rattle.anstyle_parse.proofs.Machine.Table.{change_of, change_at-class}
 

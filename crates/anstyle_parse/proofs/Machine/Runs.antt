@@ -1,5 +1,5 @@
 -- Runs one after another, and the runs of each kind of bytes.
-use Rattle.std.proofs.Common.{◌≡◌, ℕ, ◌<◌, ◌≤◌, ◌⊎◌, arith, Bool, IsTrue, cond, eqb, refl, List, length, [], ◌∷◌, ◌++◌, ⊎_elim, inl, map, take, drop, ap, sym, ◌∙◌, subst}
+use Rattle.std.proofs.Common.{◌≡◌, ℕ, ◌<◌, ◌≤◌, ◌⊎◌, arith, Bool, IsTrue, cond, eqb, refl, List, length, [], ◌∷◌, ◌++◌, ⊎_elim, inl, map, take, drop, ap, sym, ◌∙◌, subst, append_assoc}
 use Rattle.std.specs.Prelude.{nat_le}
 use Rattle.std.specs.List.{range_with_len}
 use Rattle.std.proofs.lemmas.List.{take-append-drop}
@@ -12,16 +12,16 @@ use Rattle.anstyle_parse.specs.declared.accumulator.Taken.{Taken}
 use Rattle.anstyle_parse.specs.declared.accumulator.Taken.TheVariants.{More}
 use Rattle.anstyle_parse.specs.declared.parser.Parser.{Parser}
 use Rattle.anstyle_parse.specs.declared.parser.runs.Run.{Run}
-use Rattle.anstyle_parse.specs.declared.parser.runs.Run.TheVariants.{Printed, Passed, OfIgnoredString, OfIgnoredHeader}
+use Rattle.anstyle_parse.specs.declared.parser.runs.Run.TheVariants.{Printed, OfHookedString, OfIgnoredString, OfIgnoredHeader}
 use Rattle.anstyle_parse.specs.Stream.Bytes.{is_within, is_parameter, is_final, colon, semicolon}
 use Rattle.anstyle_parse.specs.Stream.Characters.{is_lead}
 use Rattle.anstyle_parse.specs.Stream.Arguments.{max_fields, max_osc_bytes, max_osc_parts}
 use Rattle.anstyle_parse.specs.Stream.Call.{Call, Goes, print}
 use Rattle.anstyle_parse.specs.Machine.Table.{Change, ◌by◌, change_at}
 use Rattle.anstyle_parse.specs.Machine.Step.{Machine, AccumulatorStep, Completes, IsWhole, print_answer, state_after_answer, after_answer, answer_calls, after_change, change_calls, field_count, after_param, stored_count, after_osc_put, step, step_calls, machine_after, machine_calls}
-use Rattle.anstyle_parse.specs.Fields.Parser.{machine_of, CanTakeAll}
+use Rattle.anstyle_parse.specs.Views.Parser.{machine_of, CanTakeAll}
 use Rattle.anstyle_parse.specs.Stream.Items.{EachIs}
-use Rattle.anstyle_parse.specs.Fields.Runs.{LeadsTo, LeadsQuietlyTo, KeepsTo, passes, passed_action, passed_calls, ArePassedOn}
+use Rattle.anstyle_parse.specs.Views.Runs.{LeadsTo, Takes, LeadsQuietlyTo, KeepsTo, is_of_run, run_action, run_calls, AreMade}
 use Rattle.anstyle_parse.proofs.Machine.Steps.{Goes-append, after_change-moves, step-at, step_calls-at, step-outside, step_calls_from-outside}
 use Rattle.anstyle_parse.proofs.Machine.Table.{same_below}
 use Rattle.anstyle_parse.proofs.Streams.{CanTakeAll-rest}
@@ -53,28 +53,28 @@ pub KeepsTo-printed : (state : State) → state ≡ Ground → KeepsTo Printed s
 unfolding change_at is_within
 KeepsTo-printed state is =
     let Q : State → Type 0 = λ s. KeepsTo Printed s in
-    subst Q (sym is) ((λ h. absurd (cc)), λ b within. change_at-within Ground 0x20 0x7F (Anywhere by passed_action Printed) (omega arith) b within refl)
+    subst Q (sym is) ((λ h. absurd (cc)), λ b within. change_at-within Ground 0x20 0x7F (Anywhere by run_action Printed) (omega arith) b within refl)
 
-pub KeepsTo-passed : (state : State) → state ≡ DcsPassthrough → KeepsTo Passed state
+pub KeepsTo-hooked : (state : State) → state ≡ DcsPassthrough → KeepsTo OfHookedString state
 unfolding change_at is_within
-KeepsTo-passed state is =
-    let Q : State → Type 0 = λ s. KeepsTo Passed s in
-    subst Q (sym is) ((λ h. absurd (cc)), λ b within. change_at-within DcsPassthrough 0x20 0x7E (Anywhere by passed_action Passed) (omega arith) b within refl)
+KeepsTo-hooked state is =
+    let Q : State → Type 0 = λ s. KeepsTo OfHookedString s in
+    subst Q (sym is) ((λ h. absurd (cc)), λ b within. change_at-within DcsPassthrough 0x20 0x7E (Anywhere by run_action OfHookedString) (omega arith) b within refl)
 
 pub KeepsTo-string : (state : State) → (state ≡ SosPmApcString) ⊎ (state ≡ DcsIgnore) → KeepsTo OfIgnoredString state
 unfolding change_at is_within
 KeepsTo-string state is =
     let Q : State → Type 0 = λ s. KeepsTo OfIgnoredString s in
     ⊎_elim
-    (λ e. subst Q (sym e) ((λ h. absurd (cc)), λ b within. change_at-within SosPmApcString 0x20 0x7F (Anywhere by passed_action OfIgnoredString) (omega arith) b within refl))
-    (λ e. subst Q (sym e) ((λ h. absurd (cc)), λ b within. change_at-within DcsIgnore 0x20 0x7F (Anywhere by passed_action OfIgnoredString) (omega arith) b within refl))
+    (λ e. subst Q (sym e) ((λ h. absurd (cc)), λ b within. change_at-within SosPmApcString 0x20 0x7F (Anywhere by run_action OfIgnoredString) (omega arith) b within refl))
+    (λ e. subst Q (sym e) ((λ h. absurd (cc)), λ b within. change_at-within DcsIgnore 0x20 0x7F (Anywhere by run_action OfIgnoredString) (omega arith) b within refl))
     is
 
 pub KeepsTo-header : (state : State) → state ≡ CsiIgnore → KeepsTo OfIgnoredHeader state
 unfolding change_at is_within
 KeepsTo-header state is =
     let Q : State → Type 0 = λ s. KeepsTo OfIgnoredHeader s in
-    subst Q (sym is) ((λ h. absurd (cc)), λ b within. change_at-within CsiIgnore 0x20 0x3F (Anywhere by passed_action OfIgnoredHeader) (omega arith) b within refl)
+    subst Q (sym is) ((λ h. absurd (cc)), λ b within. change_at-within CsiIgnore 0x20 0x3F (Anywhere by run_action OfIgnoredHeader) (omega arith) b within refl)
 
 module _ {A : Type 0} (adds : AccumulatorStep A) (m : Machine A) (b : ℕ) where
   -- a step by the table's answer
@@ -86,11 +86,11 @@ module _ {A : Type 0} (adds : AccumulatorStep A) (m : Machine A) (b : ℕ) where
   )
 
   -- a byte of a run
-  pub step-run : (run : Run) → KeepsTo run m.state → IsTrue (passes run b) → (step adds b m ≡ m) × (step_calls adds b m ≡ passed_calls run b)
-  step-run Printed keeps within = step-by (Anywhere by passed_action Printed) keeps.0 (keeps.1 b within)
-  step-run Passed keeps within = step-by (Anywhere by passed_action Passed) keeps.0 (keeps.1 b within)
-  step-run OfIgnoredString keeps within = step-by (Anywhere by passed_action OfIgnoredString) keeps.0 (keeps.1 b within)
-  step-run OfIgnoredHeader keeps within = step-by (Anywhere by passed_action OfIgnoredHeader) keeps.0 (keeps.1 b within)
+  pub step-run : (run : Run) → KeepsTo run m.state → IsTrue (is_of_run run b) → (step adds b m ≡ m) × (step_calls adds b m ≡ run_calls run b)
+  step-run Printed keeps within = step-by (Anywhere by run_action Printed) keeps.0 (keeps.1 b within)
+  step-run OfHookedString keeps within = step-by (Anywhere by run_action OfHookedString) keeps.0 (keeps.1 b within)
+  step-run OfIgnoredString keeps within = step-by (Anywhere by run_action OfIgnoredString) keeps.0 (keeps.1 b within)
+  step-run OfIgnoredHeader keeps within = step-by (Anywhere by run_action OfIgnoredHeader) keeps.0 (keeps.1 b within)
 
 -- the answers of Ground to ESC, of Escape to [, and of a header to its final byte
 pub change_at-escape : (state : State) (b : ℕ) → state ≡ Ground → b ≡ 0x1B → change_at state b ≡ (Escape by Nop)
@@ -269,15 +269,17 @@ module _ {A : Type 0} (adds : AccumulatorStep A) (m : Machine A) where
 
 module _ {C P : Type 0} (takes : C → ℕ → Type 0) (adds : AccumulatorStep C) (means : P → Call → P → Type 0) where
   pub LeadsTo-same : (parser : Parser C) (performer : P) (bytes : List ℕ) → CanTakeAll takes parser bytes → LeadsTo takes adds means parser performer bytes parser performer bytes
-  LeadsTo-same parser performer bytes can = record { can = can; machine = refl; calls = λ last goes. goes }
+  LeadsTo-same parser performer bytes can = record { can = can; machine = refl; made = []; joined = refl; performed = refl }
 
   -- a run after a run
   pub LeadsTo-trans : {p q r : Parser C} {a b c : P} {xs ys zs : List ℕ}
       → LeadsTo takes adds means p a xs q b ys → LeadsTo takes adds means q b ys r c zs → LeadsTo takes adds means p a xs r c zs
-  LeadsTo-trans first second = record {
+  LeadsTo-trans {a = a} {b = b} {c = c} first second = record {
     can = second.can;
     machine = second.machine ∙ first.machine;
-    calls = λ last goes. first.calls last (second.calls last goes);
+    made = first.made ++ second.made;
+    joined = first.joined ∙ ap (λ calls. first.made ++ calls) second.joined ∙ sym (append_assoc first.made second.made _);
+    performed = Goes-append means a b c first.made second.made first.performed second.performed;
   }
 
   -- a run of what is left, written out in another way
@@ -295,11 +297,16 @@ module _ {C P : Type 0} (takes : C → ℕ → Type 0) (adds : AccumulatorStep C
   LeadsTo-byte old new before after b left can stepped goes = record {
     can = CanTakeAll-rest takes adds old new b left stepped can;
     machine = ap (λ m. machine_after adds left m) stepped;
-    calls = λ last further.
-        let S : List Call → Type 0 = λ calls. Goes means after calls last in
-        Goes-append means before after last (step_calls adds b (machine_of old)) (machine_calls adds left (step adds b (machine_of old)))
-        goes (subst S (ap (λ m. machine_calls adds left m) stepped) further);
+    made = step_calls adds b (machine_of old);
+    joined = ap (λ m. step_calls adds b (machine_of old) ++ machine_calls adds left m) (sym stepped);
+    performed = goes;
   }
+
+  pub Takes-byte : (old new : Parser C) (before after : P) (b : ℕ) (left : List ℕ) → CanTakeAll takes old (b ∷ left)
+      → machine_of new ≡ step adds b (machine_of old) → Goes means before (step_calls adds b (machine_of old)) after
+      → Takes takes adds means old before b left new after left
+  Takes-byte old new before after b left can stepped goes =
+      record { leads = LeadsTo-byte old new before after b left can stepped goes; within = omega arith }
 
   -- bytes of which each leaves the machine as it is
   module _ (parser : Parser C) (test : ℕ → Bool) (calls_of : ℕ → List Call)
@@ -311,7 +318,7 @@ module _ {C P : Type 0} (takes : C → ℕ → Type 0) (adds : AccumulatorStep C
         LeadsTo-byte parser parser before after b left can (sym (each b passing).0) (subst S (sym (each b passing).1) goes)
 
     pub LeadsTo-all_kept : (before after : P) (bytes left : List ℕ) → CanTakeAll takes parser (bytes ++ left)
-        → EachIs test bytes → ArePassedOn means calls_of before bytes after → LeadsTo takes adds means parser before (bytes ++ left) parser after left
+        → EachIs test bytes → AreMade means calls_of before bytes after → LeadsTo takes adds means parser before (bytes ++ left) parser after left
     LeadsTo-all_kept before after [] left can passing goes =
         let S : P → Type 0 = λ p. LeadsTo takes adds means parser before left parser p left in
         subst S (sym goes) (LeadsTo-same parser before left can)
@@ -322,13 +329,13 @@ module _ {C P : Type 0} (takes : C → ℕ → Type 0) (adds : AccumulatorStep C
   -- a run of a kind, one byte and a chunk
   module _ (run : Run) (parser : Parser C) (keeps : KeepsTo run parser.state) (before after : P) where
     pub LeadsTo-run : (b : ℕ) (left : List ℕ) → CanTakeAll takes parser (b ∷ left)
-        → IsTrue (passes run b) → Goes means before (passed_calls run b) after → LeadsTo takes adds means parser before (b ∷ left) parser after left
-    LeadsTo-run = LeadsTo-kept parser (λ b. passes run b) (λ b. passed_calls run b) (λ b. step-run adds (machine_of parser) b run keeps) before after
+        → IsTrue (is_of_run run b) → Goes means before (run_calls run b) after → LeadsTo takes adds means parser before (b ∷ left) parser after left
+    LeadsTo-run = LeadsTo-kept parser (λ b. is_of_run run b) (λ b. run_calls run b) (λ b. step-run adds (machine_of parser) b run keeps) before after
 
     pub LeadsTo-chunk : (bytes left : List ℕ) → CanTakeAll takes parser (bytes ++ left)
-        → EachIs (λ b. passes run b) bytes → ArePassedOn means (λ b. passed_calls run b) before bytes after
+        → EachIs (λ b. is_of_run run b) bytes → AreMade means (λ b. run_calls run b) before bytes after
         → LeadsTo takes adds means parser before (bytes ++ left) parser after left
-    LeadsTo-chunk = LeadsTo-all_kept parser (λ b. passes run b) (λ b. passed_calls run b) (λ b. step-run adds (machine_of parser) b run keeps) before after
+    LeadsTo-chunk = LeadsTo-all_kept parser (λ b. is_of_run run b) (λ b. run_calls run b) (λ b. step-run adds (machine_of parser) b run keeps) before after
 
   -- a whole character
   pub LeadsTo-whole : (parser : Parser C) (before after : P) (first : ℕ) (behind : List ℕ) (c : ℕ) (left : List ℕ) → CanTakeAll takes parser (first ∷ behind)
@@ -341,9 +348,9 @@ module _ {C P : Type 0} (takes : C → ℕ → Type 0) (adds : AccumulatorStep C
       record {
         can = ⊎_elim (λ all. inl all) (λ ascii. absurd (omega (arith, ascii.1.0))) can;
         machine = taken.0;
-        calls = λ last further.
-            let S : List Call → Type 0 = λ calls. Goes means before calls last in
-            subst S (sym taken.1) (after, goes, further);
+        made = print c ∷ [];
+        joined = taken.1;
+        performed = (after, goes, refl);
       }
 
   -- a run with no call
@@ -352,7 +359,9 @@ module _ {C P : Type 0} (takes : C → ℕ → Type 0) (adds : AccumulatorStep C
   LeadsTo-quiet old new performer bytes left quiet = record {
     can = quiet.can;
     machine = quiet.machine;
-    calls = λ last goes. let S : List Call → Type 0 = λ calls. Goes means performer calls last in subst S quiet.calls goes;
+    made = [];
+    joined = sym quiet.calls;
+    performed = refl;
   }
 
 module _ {C : Type 0} (takes : C → ℕ → Type 0) (adds : AccumulatorStep C) where

@@ -14,7 +14,7 @@ use Rattle.anstyle_parse.specs.Stream.Call.{print, hook, csi_dispatch, osc_dispa
 use Rattle.anstyle_parse.specs.Machine.Table.{change_at}
 use Rattle.anstyle_parse.specs.Machine.Decoder.{decoded}
 use Rattle.anstyle_parse.specs.Machine.Step.{Machine, AccumulatorStep, IsBroken, field_count, stored_count, pushed, after_collect, after_param, with_last_field, with_part, after_osc_put, dispatched, print_answer, state_after_answer, exit_action, entry_action, after_action, action_calls, after_change, change_calls, after_continuation, after_answer, answer_calls, step_from, step_calls_from, step, step_calls, machine_after, machine_calls}
-use Rattle.anstyle_parse.specs.Fields.Parser.{ReachesAccumulator, HoldsWhereReached}
+use Rattle.anstyle_parse.specs.Views.Parser.{ReachesAccumulator, HoldsWhereReached}
 use Rattle.anstyle_parse.specs.Machine.Stands.{seen, Decodes}
 use Rattle.anstyle_parse.proofs.Machine.Steps.{accumulator-exit}
 use Rattle.anstyle_parse.proofs.Machine.Reaches.{ReachesAccumulator-begin}

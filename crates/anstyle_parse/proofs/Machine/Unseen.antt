@@ -9,7 +9,7 @@ use Rattle.anstyle_parse.specs.declared.state.definitions.Action.TheVariants.{Os
 use Rattle.anstyle_parse.specs.Machine.Table.{Change, change_at}
 use Rattle.anstyle_parse.specs.Machine.Decoder.{decoded}
 use Rattle.anstyle_parse.specs.Machine.Step.{Machine, AccumulatorStep, new_machine, after_action, after_change, step, step_calls, machine_after, machine_calls}
-use Rattle.anstyle_parse.specs.Fields.Parser.{ReachesAccumulator, HoldsWhereReached}
+use Rattle.anstyle_parse.specs.Views.Parser.{ReachesAccumulator, HoldsWhereReached}
 use Rattle.anstyle_parse.specs.Machine.Stands.{unseen, StandsAfter}
 use Rattle.anstyle_parse.proofs.Bytes.Classes.{Class, lead_byte, class_of, is_lead_at, is_lead-class, is_ascii_at, is_ascii-class}
 use Rattle.anstyle_parse.proofs.Machine.Steps.{step-outside}

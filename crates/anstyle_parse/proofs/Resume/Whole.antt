@@ -9,7 +9,7 @@ use Rattle.anstyle_parse.specs.Stream.Bytes.{is_within, is_intermediate, is_para
 use Rattle.anstyle_parse.specs.Stream.Arguments.{significant, has_shape, max_collected}
 use Rattle.anstyle_parse.specs.Stream.Items.{Body, escape, csi, dcs_header, dcs, dcs_ignored, osc, sos_pm_apc, EachIs, IsBody, body_text}
 use Rattle.anstyle_parse.specs.Machine.Decoder.{decoded}
-use Rattle.anstyle_parse.specs.Fields.Decoding.{length-proper_front-lt}
+use Rattle.anstyle_parse.specs.Views.DecodingProof.{length-proper_front-lt}
 use Rattle.anstyle_parse.specs.Machine.Step.{Machine, new_machine, machine_after, machine_calls}
 use Rattle.anstyle_parse.specs.Machine.Stands.{counted, counted_in, StandsAfter}
 use Rattle.anstyle_parse.specs.Stream.Canon.{escape_text}

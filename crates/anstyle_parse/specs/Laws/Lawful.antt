@@ -5,7 +5,7 @@ use Rattle.anstyle_parse.specs.Stream.Bytes.{is_within, is_intermediate, is_fina
 use Rattle.anstyle_parse.specs.Stream.Arguments.{after_marker, is_kept, max_fields, max_field, max_collected, max_osc_bytes, max_osc_parts}
 use Rattle.anstyle_parse.specs.Stream.Call.{Call, print, execute, hook, put, unhook, osc_dispatch, csi_dispatch, esc_dispatch}
 use Rattle.anstyle_parse.specs.Stream.Items.{EachIs, is_introducer}
-use Rattle.anstyle_parse.specs.Stream.Calls.{is_executed, is_passed, AreCalls}
+use Rattle.anstyle_parse.specs.Stream.Calls.{is_executed, is_put, AreCalls}
 
 -- a character that can be printed: a scalar value from the space on
 unfoldable pub is_character : ℕ → Bool
@@ -64,7 +64,7 @@ AreLawfulFrom false (hook groups intermediates ignore final ∷ calls) = IsHeade
 AreLawfulFrom false (osc_dispatch parts bell_terminated ∷ calls) = AreParts parts × AreLawfulFrom false calls
 AreLawfulFrom false (csi_dispatch groups intermediates ignore final ∷ calls) = IsHeaderCall groups intermediates ignore final × AreLawfulFrom false calls
 AreLawfulFrom false (esc_dispatch intermediates ignore final ∷ calls) = IsEscapeCall intermediates ignore final × AreLawfulFrom false calls
-AreLawfulFrom true (put byte ∷ calls) = IsTrue (is_passed byte) × AreLawfulFrom true calls
+AreLawfulFrom true (put byte ∷ calls) = IsTrue (is_put byte) × AreLawfulFrom true calls
 AreLawfulFrom true (unhook ∷ calls) = AreLawfulFrom false calls
 AreLawfulFrom hooked (call ∷ calls) = ⊥
 

@@ -1,6 +1,6 @@
 -- The classes of bytes, as ECMA-48 and Paul Williams' parser (vt100.net) name them.
 -- A byte is a number 00..FF. The classes cover all numbers: noise has no upper end.
-use Rattle.std.specs.Prelude.{ℕ, Bool, ◌||◌, ◌&&◌, nat_le, ◌==◌}
+use Rattle.std.specs.Prelude.{ℕ, Bool, ◌||◌, ◌&&◌, nat_le, ◌==◌, not}
 
 -- low..high, both ends included
 unfoldable pub is_within : ℕ → ℕ → ℕ → Bool
@@ -65,3 +65,7 @@ string_terminator = 0x9C
 
 abbrev pub escape_byte : ℕ
 escape_byte = 0x1B
+
+-- a byte of a command's text that is no separator
+abbrev pub is_plain_text : ℕ → Bool
+is_plain_text b = is_within 0x20 0xFF b && not (b == semicolon)

@@ -23,8 +23,8 @@ abbrev pub executes : List ℕ → List Call
 executes bytes = map execute (filter is_control bytes)
 
 -- the bytes that are passed on from a hooked device control string
-unfoldable pub is_passed : ℕ → Bool
-is_passed b = is_control b || is_within 0x20 0x7E b
+unfoldable pub is_put : ℕ → Bool
+is_put b = is_control b || is_within 0x20 0x7E b
 
 -- what a body calls before its end
 abbrev pub body_calls : Body → List Call
@@ -33,7 +33,7 @@ body_calls (csi lead header) = executes lead ++ executes header
 body_calls (dcs_header lead header) = executes lead
 body_calls (dcs lead header final text) =
     executes lead ++ hook (groups_of (significant header)) (collected_of (significant header)) (ignore_of (significant header)) final
-    ∷ map put (filter is_passed text)
+    ∷ map put (filter is_put text)
 body_calls (dcs_ignored lead header byte text) = executes lead
 body_calls (osc lead text) = executes lead
 body_calls (sos_pm_apc lead kind text) = executes lead

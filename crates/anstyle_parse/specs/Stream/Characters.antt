@@ -25,18 +25,18 @@ begins (place ∷ row) (b ∷ bytes) = is_within place.first place.last b && beg
 unfoldable pub is_well_formed : List ℕ → Bool
 is_well_formed bytes = list_any (λ row. begins row bytes && length bytes == length row) rows
 
--- A beginning of a well-formed sequence, the whole included: some bytes after it make it one.
+-- A prefix of a well-formed sequence, the whole included: some bytes after it make it one.
 abbrev pub IsFront : List ℕ → Type 0
 IsFront bytes = (rest : List ℕ) × IsTrue (is_well_formed (bytes ++ rest))
 
--- a beginning that is neither empty nor the whole
+-- a prefix that is neither empty nor the whole
 pub record IsProperFront (bytes : List ℕ) : Type 0 where
   pub begun : bytes ≢ []
   pub rest : List ℕ
   pub proper : rest ≢ []
   pub whole : IsTrue (is_well_formed (bytes ++ rest))
 
--- the test for a beginning that is neither empty nor the whole: they begin a longer row
+-- the test for a prefix that is neither empty nor the whole: they begin a longer row
 unfoldable pub is_proper_front : List ℕ → Bool
 is_proper_front bytes = nat_lt 0 (length bytes) && list_any (λ row. begins row bytes && nat_lt (length bytes) (length row)) rows
 

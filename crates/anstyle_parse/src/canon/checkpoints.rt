@@ -5,26 +5,29 @@ ghost use Rattle.anstyle_parse.specs.Stream.Bytes.{semicolon};
 ghost use Rattle.anstyle_parse.specs.Stream.Groups.{total, cut};
 ghost use Rattle.anstyle_parse.specs.Stream.Canon.{escape_text};
 ghost use Rattle.anstyle_parse.specs.Laws.Checkpoint.{max_checkpoint, checkpoint_text, last_separator, number_so_far, header_so_far, command_text};
-ghost use Rattle.anstyle_parse.specs.Fields.Accumulator.{front_of};
-ghost use Rattle.anstyle_parse.specs.Fields.Front.{bytes_of};
-ghost use Rattle.anstyle_parse.specs.Writing.Output.{Adds, Writes, Causes};
-ghost use Rattle.anstyle_parse.specs.Fields.Params.{closed_groups_of, open_group_of};
-ghost use Rattle.anstyle_parse.specs.Fields.Parser.{machine_of, IsAfter};
+ghost use Rattle.anstyle_parse.specs.Views.Accumulator.{front_of};
+ghost use Rattle.anstyle_parse.specs.Views.Front.{bytes_of};
+ghost use Rattle.anstyle_parse.specs.Io.Output.{Adds, Writes, Causes};
+ghost use Rattle.anstyle_parse.specs.Views.Params.{closed_groups_of, open_group_of};
+ghost use Rattle.anstyle_parse.specs.Views.Parser.{machine_of, IsAfter};
 ghost use Rattle.anstyle_parse.specs.Machine.Stands.{seen};
 
 use super::parts::{split_marker, text_if};
-use super::{Fault, Output, Sink};
+use crate::io::{Fault, Output, Sink};
 use crate::params::Params;
 use crate::parser::Parser;
 use crate::state::State;
 use crate::utf8::Front;
+
+/// The bytes that the text of a [`checkpoint`] has at most.
+pub const MAX_CHECKPOINT: usize = 1042;
 
 /// Writes a text after which a new parser stands where this one stands, and flushes the
 /// writer once.
 ///
 /// So a parser can be saved and resumed elsewhere: a multiplexer writes it down, and a new
 /// parser that takes the text goes on exactly as this one, whatever bytes come. The text has
-/// at most 1,042 bytes, however many bytes this parser took; a new parser may make calls of
+/// at most [`MAX_CHECKPOINT`] bytes, however many bytes this parser took; a new parser may make calls of
 /// it, which belong to none of the bytes that come. Which of these texts it is, is not
 /// promised.
 ///
@@ -35,7 +38,7 @@ use crate::utf8::Front;
 pub fn checkpoint<W: Sink>(parser: &Parser, writer: W) -> (W, Result<(), Fault>)
     requires { (before : List ℕ) × IsAfter front_of parser.now before }
 
-    // A text after which the parser stands is written, or a proper beginning of one.
+    // A text after which the parser stands is written, or a proper prefix of one.
     ensures written { (text : List ℕ) × IsAfter front_of parser.now text
         × (length text ≤ max_checkpoint)
         × Writes text (W.contents writer) (W.contents result.0) result.1 }
@@ -53,7 +56,7 @@ pub fn checkpoint<W: Sink>(parser: &Parser, writer: W) -> (W, Result<(), Fault>)
 
 /// Writes the checkpoint's text: by the state, what counts of the parser.
 fn put_checkpoint<W: Sink>(output: &mut Output<W>, parser: &Parser)
-    ensures { Adds W.contents W.has_failed (checkpoint_text (seen front_of (machine_of parser.now))) output.old output.new }
+    ensures { Adds W.Sink (checkpoint_text (seen front_of (machine_of parser.now))) output.old output.new }
 {
     match parser.state() {
         State::Ground | State::Anywhere => {}
@@ -88,7 +91,7 @@ fn put_checkpoint<W: Sink>(output: &mut Output<W>, parser: &Parser)
 
 /// Writes the bytes of a character that is begun.
 fn put_front<W: Sink>(output: &mut Output<W>, front: Front)
-    ensures { Adds W.contents W.has_failed (bytes_of front) output.old output.new }
+    ensures { Adds W.Sink (bytes_of front) output.old output.new }
 {
     match front {
         Front::Empty => {}
@@ -100,7 +103,7 @@ fn put_front<W: Sink>(output: &mut Output<W>, front: Front)
 
 /// Writes a header: the marker, the fields, the number and the other intermediates.
 fn put_header<W: Sink>(output: &mut Output<W>, parser: &Parser)
-    ensures { Adds W.contents W.has_failed (header_so_far (machine_of parser.now)) output.old output.new }
+    ensures { Adds W.Sink (header_so_far (machine_of parser.now)) output.old output.new }
 {
     let (marker, others) = split_marker(parser.collected());
     let params = parser.params();
@@ -133,7 +136,8 @@ fn separator_after(params: &Params) -> &'static [u8]
 /// Writes the text of an operating system command, with `;` after each closed part.
 fn put_command<W: Sink>(output: &mut Output<W>, text: &[u8], lengths: &[usize])
     requires { total lengths.now ≤ length text.now }
-    ensures { Adds W.contents W.has_failed (command_text (cut lengths.now text.now) (drop (total lengths.now) text.now)) output.old output.new }
+    ensures { Adds W.Sink (command_text (cut lengths.now text.now) (drop (total lengths.now) text.now))
+        output.old output.new }
 {
     let mut rest = text;
     for length in lengths {

@@ -4,17 +4,14 @@ ghost use Rattle.std.specs.List.{join_with_byte};
 ghost use Rattle.anstyle_parse.specs.Stream.Bytes.{escape_byte, semicolon};
 ghost use Rattle.anstyle_parse.specs.Stream.Arguments.{after_marker};
 ghost use Rattle.anstyle_parse.specs.Stream.Canon.{shows_no_more_intermediates, call_text, canon, header_text, leading_marker, one_more_field, one_more_intermediate, command_end};
-ghost use Rattle.anstyle_parse.specs.Writing.Output.{writer_in, fault_in, Adds, Finishes};
+ghost use Rattle.anstyle_parse.specs.Io.Output.{writer_in, fault_in, Adds, Finishes};
 
 use super::parts::{split_marker, text_if};
-use super::{CallWriter, Fault, KeepsFault, Output, Sink};
+use crate::controls::{ESCAPE, STRING_TERMINATOR};
+use crate::io::{CallWriter, Fault, Output, Sink};
 use crate::params::Params;
-use crate::perform::Perform;
+use crate::perform::{Perform, PerformText};
 
-/// ESC, which begins a sequence.
-const ESCAPE: u8 = 0x1B;
-/// ST as one byte, which ends a device control string.
-const STRING_TERMINATOR: u8 = 0x9C;
 /// The intermediates that a header shows at most, a marker among them.
 const MAX_SHOWN: usize = 2;
 
@@ -39,7 +36,7 @@ const MAX_SHOWN: usize = 2;
 /// that.
 ///
 /// Nothing is collected and no memory is taken: the parts of a call's text go straight to the
-/// writer, in several writes, which a [`Buffer`](crate::canon::Buffer) before it makes few. A
+/// writer, in several writes, which a [`Buffer`](crate::io::Buffer) before it makes few. A
 /// write that fails stops the writer: nothing more is written, and the fault is kept.
 #[derive(Drop)]
 pub struct CanonWriter<W> {
@@ -47,7 +44,7 @@ pub struct CanonWriter<W> {
 }
 
 impl<W: Sink> CanonWriter<W> {
-    ghost use Rattle.anstyle_parse.specs.Writing.CanonWriter.{output_of};
+    ghost use Rattle.anstyle_parse.specs.Views.CanonWriter.{output_of};
 
     /// A canonical text of no calls so far, and no fault. Nothing is written.
     pub fn new(writer: W) -> CanonWriter<W>
@@ -70,7 +67,7 @@ impl<W: Sink> CanonWriter<W> {
     /// the writer is flushed once, and a flush that fails is [`Fault::Flush`]. Nothing is
     /// written.
     pub fn finish(self) -> (W, Result<(), Fault>)
-        ensures finishes { Finishes W.contents W.has_failed (output_of self) result.0 result.1 }
+        ensures finishes { Finishes W.Sink (output_of self) result.0 result.1 }
         ensures handed_on { OnOk result.1 (W.holds_nothing result.0) }
     {
         self.output.finish()
@@ -78,10 +75,10 @@ impl<W: Sink> CanonWriter<W> {
 }
 
 impl<W: Sink> Perform for CanonWriter<W> {
-    ghost use Rattle.anstyle_parse.specs.Writing.CanonWriter.{output_of};
+    ghost use Rattle.anstyle_parse.specs.Views.CanonWriter.{output_of};
 
     // It adds the call's canonical text.
-    ghost means = { λ old call new. Adds W.contents W.has_failed (call_text call) (output_of old) (output_of new) };
+    ghost means = { λ old call new. Adds W.Sink (call_text call) (output_of old) (output_of new) };
 
     #[inline(always)]
     fn print(&mut self, c: char) {
@@ -124,30 +121,35 @@ impl<W: Sink> Perform for CanonWriter<W> {
     }
 }
 
-impl<W: Sink> KeepsFault for CanonWriter<W> {
-    ghost use Rattle.anstyle_parse.specs.Writing.CanonWriter.{output_of};
+/// A text is written as it is.
+impl<W: Sink> PerformText for CanonWriter<W> {
+    ghost use Rattle.anstyle_parse.specs.Io.Output.{AddsTexts};
+    ghost use Rattle.anstyle_parse.specs.Io.AddingProof.{AddsTexts-none, AddsTexts-one, AddsTexts-more};
+    ghost use Rattle.anstyle_parse.specs.Views.CanonWriter.{output_of};
 
-    ghost kept = { λ performer. fault_in (output_of performer) };
+    ghost receives = { AddsTexts W.Sink output_of call_text };
 
-    fn kept_fault(&self) -> Option<Fault> {
-        self.fault()
+    #[inline(always)]
+    fn print_text(&mut self, text: &str) {
+        self.output.put_text(text);
     }
+
+    ghost receives_none = { AddsTexts-none W.Sink output_of call_text };
+
+    ghost receives_one = { AddsTexts-one W.Sink output_of call_text };
+
+    ghost receives_more = { AddsTexts-more W.Sink output_of call_text };
 }
 
 /// The canonical text has no ending.
 impl<W: Sink> CallWriter<W> for CanonWriter<W> {
-    ghost use Rattle.anstyle_parse.specs.Writing.Adding.{Adds-canon};
-    ghost use Rattle.anstyle_parse.specs.Writing.CanonWriter.{output_of};
+    ghost use Rattle.anstyle_parse.specs.Views.CanonWriter.{output_of};
 
     ghost output_in = { output_of };
 
     ghost is_new = { λ _. ⊤ };
 
     ghost text = { canon };
-
-    ghost ending = { λ _. [] };
-
-    ghost unwritten = { λ _. [] };
 
     fn over(output: Output<W>) -> CanonWriter<W>
         ensures output { output_of result ≡ output }
@@ -156,20 +158,22 @@ impl<W: Sink> CallWriter<W> for CanonWriter<W> {
         CanonWriter { output }
     }
 
+    fn output(&self) -> &Output<W> {
+        &self.output
+    }
+
     fn into_output(self) -> Output<W> {
         self.output
     }
 
-    ghost adds = { λ old calls new _ goes. Adds-canon W.contents W.has_failed calls old new goes };
+    ghost adds = { λ _ _ _ _ received. received };
 
     ghost ends = { λ _ _ _ _ _ _. refl };
-
-    ghost keeps = { λ _. refl };
 }
 
 impl<W: Sink> CanonWriter<W> {
-    ghost use Rattle.anstyle_parse.specs.Fields.Params.{groups_shown};
-    ghost use Rattle.anstyle_parse.specs.Writing.CanonWriter.{output_of};
+    ghost use Rattle.anstyle_parse.specs.Views.Params.{groups_shown};
+    ghost use Rattle.anstyle_parse.specs.Views.CanonWriter.{output_of};
 
     /// A call with a header: the byte that begins it, what it shows, and the final byte.
     fn header(
@@ -180,7 +184,7 @@ impl<W: Sink> CanonWriter<W> {
         ignore: bool,
         action: u8,
     )
-        ensures { Adds W.contents W.has_failed
+        ensures { Adds W.Sink
             (escape_byte ∷ introducer ∷ (header_text (groups_shown params.now) intermediates.now ignore ++ action ∷ []))
             (output_of self.old) (output_of self.new) }
     {
@@ -238,7 +242,7 @@ fn end_of_command(bell_terminated: bool) -> &'static [u8]
 
 /// Writes the parts of an operating system command, with `;` between them.
 fn put_parts<W: Sink>(output: &mut Output<W>, parts: &[&[u8]])
-    ensures { Adds W.contents W.has_failed (join_with_byte semicolon (map (λ part. part.now) parts.now)) output.old output.new }
+    ensures { Adds W.Sink (join_with_byte semicolon (map (λ part. part.now) parts.now)) output.old output.new }
 {
     let mut is_first = true;
     for part in parts {

@@ -9,30 +9,25 @@ ghost use Rattle.anstyle_parse.specs.Stream.Bytes.{is_within, is_parameter, is_f
 ghost use Rattle.anstyle_parse.specs.Stream.Call.{Goes};
 ghost use Rattle.anstyle_parse.specs.Machine.Table.{◌by◌, change_at};
 ghost use Rattle.anstyle_parse.specs.Stream.Items.{EachIs};
-ghost use Rattle.anstyle_parse.specs.Fields.Runs.{LeadsTo, LeadsQuietlyTo, KeepsTo, passes, passed_calls, ArePassedOn, is_plain_text};
+ghost use Rattle.anstyle_parse.specs.Views.Runs.{Takes, LeadsTo, LeadsQuietlyTo, KeepsTo, is_of_run, run_calls, AreMade};
 
+use super::Parser;
+use super::command::is_plain_byte;
 use crate::accumulator::CharAccumulator;
-use crate::parser::{BELL, Parser};
+use crate::controls::{BELL, CANCEL, ESCAPE, SPACE};
 use crate::perform::Perform;
 use crate::state::{Action, State};
 
 /// How many bytes are tested at once.
 const CHUNK: usize = 16;
 
-/// ESC, which begins a sequence.
-const ESCAPE: u8 = 0x1B;
-/// CAN, the first control that is not only executed.
-const CANCEL: u8 = 0x18;
-/// The first byte that is no control.
-const SPACE: u8 = 0x20;
-
 /// Bytes that leave the machine as it is.
 #[derive(Clone, Copy, PartialEq, Eq)]
 pub(super) enum Run {
     /// 20..7F, printed in the ground state.
     Printed,
-    /// 20..7E, passed on from a hooked device control string.
-    Passed,
+    /// 20..7E, put from a hooked device control string.
+    OfHookedString,
     /// 20..7F, of a string that is ignored.
     OfIgnoredString,
     /// 20..3F, of a header that is ignored.
@@ -43,130 +38,118 @@ impl Run {
     /// Whether the byte is of the run.
     #[inline(always)]
     #[tactic(auto, unfolding(crate::specs::Stream::Bytes::is_within))]
-    fn passes(self, byte: u8) -> bool
-        ensures { result ≡ passes self byte }
+    fn has(self, byte: u8) -> bool
+        ensures { result ≡ is_of_run self byte }
     {
         match self {
             Run::Printed | Run::OfIgnoredString => matches!(byte, 0x20..=0x7F),
-            Run::Passed => matches!(byte, 0x20..=0x7E),
+            Run::OfHookedString => matches!(byte, 0x20..=0x7E),
             Run::OfIgnoredHeader => matches!(byte, 0x20..=0x3F),
         }
     }
 
     /// Whether all are of the run. It has no early exit, so that a chunk is tested at once.
     #[inline(always)]
-    fn all_pass(self, bytes: &[u8]) -> bool
-        ensures { IsTrue result → EachIs (λ b. passes self b) bytes.now }
+    fn has_all(self, bytes: &[u8]) -> bool
+        ensures { IsTrue result → EachIs (λ b. is_of_run self b) bytes.now }
     {
         let mut all = true;
         for byte in bytes {
-            all = all & self.passes(*byte);
+            all = all & self.has(*byte);
         }
         all
     }
 
     /// Makes the call of a byte of the run, if it has one.
     #[inline(always)]
-    fn pass_on<P: Perform>(self, performer: &mut P, byte: u8)
-        ensures { Goes P.means performer.old (passed_calls self byte) performer.new }
+    fn call<P: Perform>(self, performer: &mut P, byte: u8)
+        ensures { Goes P.means performer.old (run_calls self byte) performer.new }
     {
         match self {
             Run::Printed => performer.print(char::from(byte)),
-            Run::Passed => performer.put(byte),
+            Run::OfHookedString => performer.put(byte),
             Run::OfIgnoredString | Run::OfIgnoredHeader => {}
         }
     }
 
     /// The same for each of a chunk.
     #[inline(always)]
-    fn pass_all<P: Perform>(self, performer: &mut P, bytes: [u8; CHUNK])
-        ensures { ArePassedOn P.means (λ b. passed_calls self b) performer.old bytes performer.new }
+    fn call_all<P: Perform>(self, performer: &mut P, bytes: [u8; CHUNK])
+        ensures { AreMade P.means (λ b. run_calls self b) performer.old bytes performer.new }
     {
         for byte in bytes {
-            self.pass_on(performer, byte);
+            self.call(performer, byte);
         }
     }
 }
 
 /// All bytes.
 impl<C: CharAccumulator> Parser<C> {
-    ghost use Rattle.anstyle_parse.specs.Fields.Parser.{machine_of, CanTakeAll};
-    ghost use Rattle.anstyle_parse.specs.Machine.Step.{machine_after, machine_calls, step, step_calls};
+    ghost use Rattle.anstyle_parse.specs.Views.Parser.{machine_of, calls_made, CanTakeAll};
+    ghost use Rattle.anstyle_parse.specs.Machine.Step.{machine_after};
 
     /// Bytes, as the machine takes them one after another.
     pub(super) fn take_bytes<P: Perform>(&mut self, performer: &mut P, bytes: &[u8])
         requires { CanTakeAll C.takes self.old bytes.now }
         ensures machine { machine_of self.new ≡ machine_after C.taken bytes.now (machine_of self.old) }
-        ensures calls { Goes P.means performer.old (machine_calls C.taken bytes.now (machine_of self.old)) performer.new }
+        ensures calls { Goes P.means performer.old (calls_made C.taken self.old bytes.now) performer.new }
     {
         let mut rest = bytes;
         'rest: while let Some((first, behind)) = rest.split_first() {
-            rest = self.take_run(performer, *first, behind);
+            rest = self.take_first(performer, *first, behind);
         }
     }
 
     /// The first byte, and those after it that go with it.
     #[inline(always)]
-    fn take_run<'a, P: Perform>(
+    pub(super) fn take_first<'a, P: Perform>(
         &mut self,
         performer: &mut P,
         first: u8,
         behind: &'a [u8],
     ) -> &'a [u8]
         requires { CanTakeAll C.takes self.old (first ∷ behind.now) }
-        ensures leads { LeadsTo C.takes C.taken P.means self.old performer.old (first ∷ behind.now) self.new performer.new result.now }
-        ensures within { length result.now ≤ length behind.now }
+        ensures { Takes C.takes C.taken P.means self.old performer.old first behind.now
+            self.new performer.new result.now }
     {
         match self.state {
             State::Ground => self.take_in_ground(performer, first, behind),
             State::Escape => self.take_after_escape(performer, first, behind),
             State::CsiEntry | State::CsiParam => self.take_in_header(performer, first, behind),
             State::OscString => self.take_in_command(performer, first, behind),
-            State::DcsPassthrough => self.take_passed(performer, Run::Passed, first, behind),
+            State::DcsPassthrough => self.take_run(performer, Run::OfHookedString, first, behind),
             State::SosPmApcString | State::DcsIgnore => {
-                self.take_passed(performer, Run::OfIgnoredString, first, behind)
+                self.take_run(performer, Run::OfIgnoredString, first, behind)
             }
-            State::CsiIgnore => self.take_passed(performer, Run::OfIgnoredHeader, first, behind),
-            _ => self.take_one(performer, first, behind),
+            State::CsiIgnore => self.take_run(performer, Run::OfIgnoredHeader, first, behind),
+            _ => self.take_by_table(performer, first, behind),
         }
     }
 
     /// One byte alone, through the table. It is out of line: there it stands once.
     #[inline(never)]
-    fn take_one<'a, P: Perform>(
+    fn take_by_table<'a, P: Perform>(
         &mut self,
         performer: &mut P,
         first: u8,
         behind: &'a [u8],
     ) -> &'a [u8]
         requires { CanTakeAll C.takes self.old (first ∷ behind.now) }
-        ensures leads { LeadsTo C.takes C.taken P.means self.old performer.old (first ∷ behind.now) self.new performer.new result.now }
-        ensures within { length result.now ≤ length behind.now }
+        ensures { Takes C.takes C.taken P.means self.old performer.old first behind.now
+            self.new performer.new result.now }
     {
-        self.take_byte(performer, first);
+        self.step(performer, first);
         behind
-    }
-
-    /// One byte alone, of which the table's answer is known.
-    #[inline(always)]
-    fn take_known<P: Perform>(&mut self, performer: &mut P, state: State, action: Action, byte: u8)
-        requires known { change_at self.old.state byte ≡ (state by action) }
-        requires outside { self.old.state ≢ State.Utf8 }
-        requires begins_none { action ≢ Action.BeginUtf8 }
-        ensures machine { machine_of self.new ≡ step C.taken byte (machine_of self.old) }
-        ensures calls { Goes P.means performer.old (step_calls C.taken byte (machine_of self.old)) performer.new }
-    {
-        self.change_state(performer, state, action, byte);
     }
 }
 
 /// Bytes that leave the machine as it is.
 impl<C: CharAccumulator> Parser<C> {
-    ghost use Rattle.anstyle_parse.specs.Fields.Parser.{CanTakeAll};
+    ghost use Rattle.anstyle_parse.specs.Views.Parser.{CanTakeAll};
 
     /// The first byte and the others of its run; the first alone, if it is of none.
     #[inline(always)]
-    fn take_passed<'a, P: Perform>(
+    fn take_run<'a, P: Perform>(
         &mut self,
         performer: &mut P,
         run: Run,
@@ -175,31 +158,32 @@ impl<C: CharAccumulator> Parser<C> {
     ) -> &'a [u8]
         requires keeps { KeepsTo run self.old.state }
         requires can { CanTakeAll C.takes self.old (first ∷ behind.now) }
-        ensures leads { LeadsTo C.takes C.taken P.means self.old performer.old (first ∷ behind.now) self.new performer.new result.now }
-        ensures within { length result.now ≤ length behind.now }
+        ensures { Takes C.takes C.taken P.means self.old performer.old first behind.now
+            self.new performer.new result.now }
     {
-        if !run.passes(first) {
-            return self.take_one(performer, first, behind);
+        if !run.has(first) {
+            return self.take_by_table(performer, first, behind);
         }
-        run.pass_on(performer, first);
-        let rest = self.pass_chunks(performer, run, behind);
-        self.pass_bytes(performer, run, rest)
+        run.call(performer, first);
+        let rest = self.take_chunks(performer, run, behind);
+        self.take_others(performer, run, rest)
     }
 
     /// Chunks, as long as all of a chunk is of the run.
     #[inline(always)]
-    fn pass_chunks<'a, P: Perform>(&self, performer: &mut P, run: Run, bytes: &'a [u8]) -> &'a [u8]
+    fn take_chunks<'a, P: Perform>(&self, performer: &mut P, run: Run, bytes: &'a [u8]) -> &'a [u8]
         requires keeps { KeepsTo run self.now.state }
         requires can { CanTakeAll C.takes self.now bytes.now }
-        ensures leads { LeadsTo C.takes C.taken P.means self.now performer.old bytes.now self.now performer.new result.now }
+        ensures leads { LeadsTo C.takes C.taken P.means self.now performer.old bytes.now
+            self.now performer.new result.now }
         ensures within { length result.now ≤ length bytes.now }
     {
         let mut rest = bytes;
         'chunks: while let Some((chunk, behind)) = rest.split_first_chunk::<CHUNK>() {
-            if !run.all_pass(chunk) {
+            if !run.has_all(chunk) {
                 break;
             }
-            run.pass_all(performer, *chunk);
+            run.call_all(performer, *chunk);
             rest = behind;
         }
         rest
@@ -207,18 +191,19 @@ impl<C: CharAccumulator> Parser<C> {
 
     /// Single bytes, as long as they are of the run.
     #[inline(always)]
-    fn pass_bytes<'a, P: Perform>(&self, performer: &mut P, run: Run, bytes: &'a [u8]) -> &'a [u8]
+    fn take_others<'a, P: Perform>(&self, performer: &mut P, run: Run, bytes: &'a [u8]) -> &'a [u8]
         requires keeps { KeepsTo run self.now.state }
         requires can { CanTakeAll C.takes self.now bytes.now }
-        ensures leads { LeadsTo C.takes C.taken P.means self.now performer.old bytes.now self.now performer.new result.now }
+        ensures leads { LeadsTo C.takes C.taken P.means self.now performer.old bytes.now
+            self.now performer.new result.now }
         ensures within { length result.now ≤ length bytes.now }
     {
         let mut rest = bytes;
         'bytes: while let Some((first, behind)) = rest.split_first() {
-            if !run.passes(*first) {
+            if !run.has(*first) {
                 break;
             }
-            run.pass_on(performer, *first);
+            run.call(performer, *first);
             rest = behind;
         }
         rest
@@ -227,11 +212,11 @@ impl<C: CharAccumulator> Parser<C> {
 
 /// The ground state.
 impl<C: CharAccumulator> Parser<C> {
-    ghost use Rattle.anstyle_parse.specs.Fields.Parser.{CanTakeAll};
+    ghost use Rattle.anstyle_parse.specs.Views.Parser.{CanTakeAll};
 
     /// Printed bytes, a whole character, or a sequence that begins.
     #[inline(always)]
-    fn take_in_ground<'a, P: Perform>(
+    pub(super) fn take_in_ground<'a, P: Perform>(
         &mut self,
         performer: &mut P,
         first: u8,
@@ -239,24 +224,24 @@ impl<C: CharAccumulator> Parser<C> {
     ) -> &'a [u8]
         requires ground { self.old.state ≡ State.Ground }
         requires can { CanTakeAll C.takes self.old (first ∷ behind.now) }
-        ensures leads { LeadsTo C.takes C.taken P.means self.old performer.old (first ∷ behind.now) self.new performer.new result.now }
-        ensures within { length result.now ≤ length behind.now }
+        ensures { Takes C.takes C.taken P.means self.old performer.old first behind.now
+            self.new performer.new result.now }
     {
-        if Run::Printed.passes(first) {
-            return self.take_passed(performer, Run::Printed, first, behind);
+        if Run::Printed.has(first) {
+            return self.take_run(performer, Run::Printed, first, behind);
         }
         if first == ESCAPE {
             return self.take_escape(performer, first, behind);
         }
         if first < CANCEL {
-            self.take_known(performer, State::Anywhere, Action::Execute, first);
+            self.step_by_answer(performer, State::Anywhere, Action::Execute, first);
             return behind;
         }
         if let Some((c, rest)) = self.accumulator.whole(first, behind) {
             performer.print(c);
             return rest;
         }
-        self.take_one(performer, first, behind)
+        self.take_by_table(performer, first, behind)
     }
 
     /// ESC, and with it the byte that begins a control sequence.
@@ -270,13 +255,13 @@ impl<C: CharAccumulator> Parser<C> {
         requires ground { self.old.state ≡ State.Ground }
         requires escape { first ≡ 0x1B }
         requires can { CanTakeAll C.takes self.old (first ∷ behind.now) }
-        ensures leads { LeadsTo C.takes C.taken P.means self.old performer.old (first ∷ behind.now) self.new performer.new result.now }
-        ensures within { length result.now ≤ length behind.now }
+        ensures { Takes C.takes C.taken P.means self.old performer.old first behind.now
+            self.new performer.new result.now }
     {
-        self.take_known(performer, State::Escape, Action::Nop, first);
+        self.step_by_answer(performer, State::Escape, Action::Nop, first);
         if let Some((next, rest)) = behind.split_first() {
             if *next == b'[' {
-                self.take_known(performer, State::CsiEntry, Action::Nop, *next);
+                self.step_by_answer(performer, State::CsiEntry, Action::Nop, *next);
                 return rest;
             }
         }
@@ -286,7 +271,7 @@ impl<C: CharAccumulator> Parser<C> {
 
 /// Directly after ESC.
 impl<C: CharAccumulator> Parser<C> {
-    ghost use Rattle.anstyle_parse.specs.Fields.Parser.{CanTakeAll};
+    ghost use Rattle.anstyle_parse.specs.Views.Parser.{CanTakeAll};
 
     /// What ends a string, or begins a command; another byte by the table.
     #[inline(always)]
@@ -298,18 +283,18 @@ impl<C: CharAccumulator> Parser<C> {
     ) -> &'a [u8]
         requires escape { self.old.state ≡ State.Escape }
         requires can { CanTakeAll C.takes self.old (first ∷ behind.now) }
-        ensures leads { LeadsTo C.takes C.taken P.means self.old performer.old (first ∷ behind.now) self.new performer.new result.now }
-        ensures within { length result.now ≤ length behind.now }
+        ensures { Takes C.takes C.taken P.means self.old performer.old first behind.now
+            self.new performer.new result.now }
     {
         if first == b'\\' {
-            self.take_known(performer, State::Ground, Action::EscDispatch, first);
+            self.step_by_answer(performer, State::Ground, Action::EscDispatch, first);
             return behind;
         }
         if first == b']' {
-            self.take_known(performer, State::OscString, Action::Nop, first);
+            self.step_by_answer(performer, State::OscString, Action::Nop, first);
             return behind;
         }
-        self.take_one(performer, first, behind)
+        self.take_by_table(performer, first, behind)
     }
 }
 
@@ -333,7 +318,7 @@ fn is_final_byte(byte: u8) -> bool
 
 /// The header of a control sequence.
 impl<C: CharAccumulator> Parser<C> {
-    ghost use Rattle.anstyle_parse.specs.Fields.Parser.{CanTakeAll};
+    ghost use Rattle.anstyle_parse.specs.Views.Parser.{CanTakeAll};
 
     /// Fields, or the end of the sequence.
     #[inline(always)]
@@ -345,67 +330,45 @@ impl<C: CharAccumulator> Parser<C> {
     ) -> &'a [u8]
         requires header { (self.old.state ≡ State.CsiEntry) ⊎ (self.old.state ≡ State.CsiParam) }
         requires can { CanTakeAll C.takes self.old (first ∷ behind.now) }
-        ensures leads { LeadsTo C.takes C.taken P.means self.old performer.old (first ∷ behind.now) self.new performer.new result.now }
-        ensures within { length result.now ≤ length behind.now }
+        ensures { Takes C.takes C.taken P.means self.old performer.old first behind.now
+            self.new performer.new result.now }
     {
         if is_parameter_byte(first) {
-            return self.take_parameters(first, behind);
+            return self.take_fields(first, behind);
         }
         if is_final_byte(first) {
-            self.take_known(performer, State::Ground, Action::CsiDispatch, first);
+            self.step_by_answer(performer, State::Ground, Action::CsiDispatch, first);
             return behind;
         }
-        self.take_one(performer, first, behind)
+        self.take_by_table(performer, first, behind)
     }
 
     /// The bytes of fields.
     #[inline(always)]
-    fn take_parameters<'a>(&mut self, first: u8, behind: &'a [u8]) -> &'a [u8]
+    fn take_fields<'a>(&mut self, first: u8, behind: &'a [u8]) -> &'a [u8]
         requires header { (self.old.state ≡ State.CsiEntry) ⊎ (self.old.state ≡ State.CsiParam) }
         requires parameter { IsTrue (is_parameter first) }
         requires can { CanTakeAll C.takes self.old (first ∷ behind.now) }
         ensures leads { LeadsQuietlyTo C.takes C.taken self.old (first ∷ behind.now) self.new result.now }
         ensures within { length result.now ≤ length behind.now }
     {
-        self.param(first);
+        self.header.param(first);
         self.state = State::CsiParam;
         let mut rest = behind;
         'fields: while let Some((next, further)) = rest.split_first() {
             if !is_parameter_byte(*next) {
                 break;
             }
-            self.param(*next);
+            self.header.param(*next);
             rest = further;
         }
         rest
     }
 }
 
-/// The text of an operating system command, without its separators.
-#[inline(always)]
-#[tactic(auto, unfolding(crate::specs::Stream::Bytes::is_within))]
-fn is_plain_byte(byte: u8) -> bool
-    ensures { result ≡ is_plain_text byte }
-{
-    byte >= SPACE && byte != b';'
-}
-
-/// How many bytes of plain text come first.
-fn plain_length(bytes: &[u8]) -> usize
-    ensures within { result ≤ length bytes.now }
-    ensures plain { EachIs is_plain_text (take result bytes.now) }
-{
-    for (i, byte) in bytes.iter().enumerate() {
-        if !is_plain_byte(*byte) {
-            return i;
-        }
-    }
-    bytes.len()
-}
-
 /// An operating system command.
 impl<C: CharAccumulator> Parser<C> {
-    ghost use Rattle.anstyle_parse.specs.Fields.Parser.{CanTakeAll};
+    ghost use Rattle.anstyle_parse.specs.Views.Parser.{CanTakeAll};
 
     /// A byte of the command, and the plain text after it.
     #[inline(always)]
@@ -417,13 +380,13 @@ impl<C: CharAccumulator> Parser<C> {
     ) -> &'a [u8]
         requires command { self.old.state ≡ State.OscString }
         requires can { CanTakeAll C.takes self.old (first ∷ behind.now) }
-        ensures leads { LeadsTo C.takes C.taken P.means self.old performer.old (first ∷ behind.now) self.new performer.new result.now }
-        ensures within { length result.now ≤ length behind.now }
+        ensures { Takes C.takes C.taken P.means self.old performer.old first behind.now
+            self.new performer.new result.now }
     {
         if first < SPACE {
-            return self.take_control_of_command(performer, first, behind);
+            return self.take_control_in_command(performer, first, behind);
         }
-        self.osc_put(first);
+        self.command.put(first);
         match behind.split_first() {
             Some((next, _)) if is_plain_byte(*next) => self.store_plain(behind),
             _ => behind,
@@ -432,7 +395,7 @@ impl<C: CharAccumulator> Parser<C> {
 
     /// A control of the command: one of its ends, or another.
     #[inline(always)]
-    fn take_control_of_command<'a, P: Perform>(
+    fn take_control_in_command<'a, P: Perform>(
         &mut self,
         performer: &mut P,
         first: u8,
@@ -440,18 +403,18 @@ impl<C: CharAccumulator> Parser<C> {
     ) -> &'a [u8]
         requires command { self.old.state ≡ State.OscString }
         requires can { CanTakeAll C.takes self.old (first ∷ behind.now) }
-        ensures leads { LeadsTo C.takes C.taken P.means self.old performer.old (first ∷ behind.now) self.new performer.new result.now }
-        ensures within { length result.now ≤ length behind.now }
+        ensures { Takes C.takes C.taken P.means self.old performer.old first behind.now
+            self.new performer.new result.now }
     {
         if first == ESCAPE {
-            self.take_known(performer, State::Escape, Action::Nop, first);
+            self.step_by_answer(performer, State::Escape, Action::Nop, first);
             return behind;
         }
         if first == BELL {
-            self.take_known(performer, State::Ground, Action::Nop, first);
+            self.step_by_answer(performer, State::Ground, Action::Nop, first);
             return behind;
         }
-        self.take_one(performer, first, behind)
+        self.take_by_table(performer, first, behind)
     }
 
     /// Plain text, as much as there is room for.
@@ -462,10 +425,6 @@ impl<C: CharAccumulator> Parser<C> {
         ensures leads { LeadsQuietlyTo C.takes C.taken self.old bytes.now self.new result.now }
         ensures within { length result.now ≤ length bytes.now }
     {
-        let room = self.osc_text.remaining_capacity().min(bytes.len());
-        let (near, _) = bytes.split_at(room);
-        let (text, rest) = bytes.split_at(plain_length(near));
-        let _ = self.osc_text.try_extend_from_slice(text);
-        rest
+        self.command.put_plain(bytes)
     }
 }

@@ -1,4 +1,5 @@
-//! Parsers over other accumulators, with a log.
+//! Parsers over other accumulators, with a log: no clause of streams speaks of one that decodes no
+//! UTF-8 over all bytes.
 ghost use Rattle.std.specs.Prelude.{[], Some, false, refl, ⊤};
 ghost use Rattle.std.proofs.lemmas.Bool.{false≢true};
 ghost use Rattle.anstyle_parse.specs.declared.accumulator.Taken.{Taken};

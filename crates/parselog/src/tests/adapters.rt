@@ -1,8 +1,9 @@
-//! The readers and writers of std as sources and sinks: each call makes one call within.
-use super::TROUBLES;
+//! The readers and writers of std as sources and sinks: each call makes one call within, which no
+//! clause counts.
 use anstyle_parse::canon::{FromRead, FromWrite, Sink, Source};
 use std::io::ErrorKind;
-use test_streams::{Paper, Tape};
+use std::test::Fail;
+use test_streams::{Paper, TROUBLES, Tape, repeated};
 
 /// A read that fails is not made again by itself, and may be asked for again.
 #[test]
@@ -46,4 +47,20 @@ fn one_flush_a_call(rt: HostRuntime) {
         assert_eq!(rt; sink.flush(), flush_error.is_none(), "{flush_error:?}");
         assert_eq!(rt; sink.into_inner().flushes, 1, "{flush_error:?}");
     }
+}
+
+/// Slices of any length, longer than a run's pieces and than a buffer, go through in one call.
+#[test]
+fn long_slices(rt: HostRuntime) -> Result<(), Fail> {
+    for length in [4097, 8193, 100_000] {
+        let bytes = repeated(rt.alloc(), &[(b"a", length)])?;
+        let mut into = repeated(rt.alloc(), &[(b"b", length)])?;
+        let mut source = FromRead::new(Tape::new(bytes.as_slice()));
+        assert_eq!(rt; source.read(into.as_mut_slice()), Some(length));
+        assert!(rt; into == bytes);
+        let mut sink = FromWrite::new(Paper::new(rt.alloc()));
+        assert_eq!(rt; sink.write(bytes.as_slice()), Some(length));
+        assert!(rt; sink.into_inner().text == bytes);
+    }
+    Ok(())
 }

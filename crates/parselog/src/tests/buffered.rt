@@ -1,13 +1,14 @@
-//! Writers behind a buffer: few writes, and faults in turn. Nothing is lost, doubled or out of
-//! order, and a fault has the name of the call that failed at the writer behind.
-use super::{TITLE, TITLE_TEXTS, TROUBLES, narrow_papers};
+//! Writers of std behind a buffer, with faults in turn, where no clause sees what they hold. Nothing
+//! is lost, doubled or out of order, writes are few, and a fault has the name of the call that
+//! failed at the writer behind.
+use super::{TITLE, TITLE_TEXTS};
 use crate::run::{Mode, run};
 use anstyle_parse::canon::{Buffer, Fault, FromRead, FromWrite, Sink};
 use std::alloc::Global;
 use std::io::ErrorKind;
 use std::process::Abort;
 use std::test::Fail;
-use test_streams::{Paper, Tape, repeated};
+use test_streams::{Paper, TROUBLES, Tape, narrow_papers, repeated};
 
 /// What a run answers whose output goes through the buffer, by the fault at the writer behind
 /// it, and this writer afterwards.
@@ -24,10 +25,11 @@ fn run_after(
     (buffer.into_inner().into_inner(), answer)
 }
 
-/// One write for each 8 KiB, or one for each line.
+/// One write for each 8 KiB, or one for each line, where something stands between two characters
+/// (FF, which calls nothing). Lines of one text may be written together.
 #[test]
 fn few_writes(rt: HostRuntime) -> Result<(), Fail> {
-    let input = repeated(rt.alloc(), &[(b"a", 1000)])?;
+    let input = repeated(rt.alloc(), &[(b"a\xff", 1000)])?;
     let text = repeated(rt.alloc(), &[(b"print U+0061\n", 1000)])?;
     let all = Buffer::new(FromWrite::new(Paper::new(rt.alloc())));
     let lines = Buffer::by_line(FromWrite::new(Paper::new(rt.alloc())));

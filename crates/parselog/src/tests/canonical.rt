@@ -1,5 +1,5 @@
-//! Canonical texts, each of which is its own canonical text; and what the lines say of
-//! parameters, against their Debug text.
+//! Canonical texts worked by hand (more in `tests/expected.py`), each its own canonical text; and
+//! that the lines show parameters as their Debug text does, which no clause says.
 ghost use Rattle.std.specs.Prelude.{⊤};
 
 use super::{assert_written, run_over};
@@ -10,23 +10,16 @@ use std::test::Fail;
 use test_streams::{Paper, Tape, repeated};
 
 /// The bytes, and their canonical text; that of a broken character stands last.
-const TEXTS: [(&[u8], &[u8]); 34] = [
+const TEXTS: [(&[u8], &[u8]); 26] = [
     (b"", b""),
-    (b"\x41\x7F\x0A", b"\x41\x7F\x0A"),
-    (b"\x1B[m", b"\x1B[0m"),
-    (b"\x1B[38:2:255:0:255;1m", b"\x1B[38:2:255:0:255;1m"),
     (b"\x1B[99999m", b"\x1B[65535m"),
     (b"\x1B[?! h", b"\x1B[?0! h"),
     (b"\x1B[1\x0Am", b"\x0A\x1B[1m"),
     (b"\x1B[1\x18m", b"\x18m"),
     (b"\x1B[1 2m", b""),
-    (b"\x1B]0;x\x1B\\", b"\x1B]0;x\x1BX\x9C\x1B\\"),
     (b"\x1B]\x07", b"\x1B]\x07"),
-    (b"\x1BP1$qm\x1B\\", b"\x1BP1$qm\x9C\x1B\\"),
     (b"\x1BP1\x9CqA\x7F\x80\x9C", b"\x1BP1qA\x9C"),
     (b"\x1BPq\x18", b"\x1BP0q\x9C\x18"),
-    (b"\xE2\x82\xAC", b"\xE2\x82\xAC"),
-    (b"\xE2\x82", b""),
     (b"\xED\xA0\x80", b"\xEF\xBF\xBD\x80"),
     (b"\x1B[4;m", b"\x1B[4;0m"),
     (b"\x1B[?1049h", b"\x1B[?1049h"),
@@ -44,7 +37,6 @@ const TEXTS: [(&[u8], &[u8]); 34] = [
     (b"\x1B\x0A]a\x18", b"\x0A\x1B]a\x1BX\x9C\x18"),
     (b"\x1B]a\x0Ab\x1B[m", b"\x1B]ab\x1BX\x9C\x1B[0m"),
     (b"\x1BPqA\x1BPr", b"\x1BP0qA\x9C\x1BP0r"),
-    (b"\xC3\x1B[m", b"\xEF\xBF\xBD\x1B[0m"),
 ];
 
 #[test]

@@ -1,11 +1,12 @@
-//! Each read, write and flush fails in turn, over bytes that come one a read.
-use super::{TITLE, TITLE_TEXTS, TROUBLES, narrow_papers, run_over};
+//! Each read, write and flush of std fails in turn, over bytes that come one a read: no clause says
+//! what an adapter does where the stream within fails.
+use super::{TITLE, TITLE_TEXTS, run_over};
 use crate::log::LogWriter;
 use crate::run::Mode;
 use anstyle_parse::canon::{CanonWriter, Fault, FromWrite};
 use anstyle_parse::{Params, Parser, Perform, Utf8Parser};
 use std::io::ErrorKind;
-use test_streams::{Paper, Tape};
+use test_streams::{Paper, TROUBLES, Tape, narrow_papers};
 
 /// The text for the bytes read by then is written, and flushed once; nothing is read again.
 #[test]

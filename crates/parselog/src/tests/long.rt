@@ -1,4 +1,4 @@
-//! Long streams, and commands that fill what is kept of them.
+//! Long streams, as they run: how much a read asks for, and pieces that end anywhere, by std.
 use super::run_over;
 use crate::run::{Mode, run};
 use anstyle_parse::canon::{FromRead, FromWrite};

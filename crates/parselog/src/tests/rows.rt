@@ -1,15 +1,9 @@
-//! Worked rows: bytes and the lines of their calls, computed by hand from the rules of items
-//! and calls.
+//! Bytes and the lines of their calls, worked by hand from the rules of items and calls: that the
+//! definitions say these rules no clause can. More stand in `tests/expected.py`.
 
 /// The bytes, and their lines.
-pub const ROWS: [(&[u8], &str); 80] = [
+pub const ROWS: [(&[u8], &str); 62] = [
     (b"", ""),
-    (b"A\x7f\n", "print U+0041\nprint U+007F\nexecute 0A\n"),
-    (b"\x1b[m", "csi_dispatch [0] - false 6D\n"),
-    (
-        b"\x1b[38:2:255:0:255;1m",
-        "csi_dispatch [38:2:255:0:255;1] - false 6D\n",
-    ),
     (
         b"\x1b[;;;;;;;;;;;;;;;;;;;;;;;;;;;;;;;m",
         "csi_dispatch [0;0;0;0;0;0;0;0;0;0;0;0;0;0;0;0;0;0;0;0;0;0;0;0;0;0;0;0;0;0;0;0] - false 6D\n",
@@ -24,27 +18,16 @@ pub const ROWS: [(&[u8], &str); 80] = [
     (b"\x1b[1\x18m", "execute 18\nprint U+006D\n"),
     (b"\x1b[1 2m", ""),
     (
-        b"\x1b]0;x\x1b\\",
-        "osc_dispatch false 30 78\nesc_dispatch - false 5C\n",
-    ),
-    (
         b"\x1b];;;;;;;;;;;;;;;;x\x07",
         "osc_dispatch true - - - - - - - - - - - - - - - -\n",
     ),
     (b"\x1b]\x07", "osc_dispatch true -\n"),
     (
-        b"\x1bP1$qm\x1b\\",
-        "hook [1] 24 false 71\nput 6D\nunhook\nesc_dispatch - false 5C\n",
-    ),
-    (
         b"\x1bP1\x9cqA\x7f\x80\x9c",
         "hook [1] - false 71\nput 41\nunhook\n",
     ),
     (b"\x1bPq\x18", "hook [0] - false 71\nunhook\nexecute 18\n"),
-    (b"\xe2\x82\xac", "print U+20AC\n"),
-    (b"\xe2\x82", ""),
     (b"\xed\xa0\x80", "print U+FFFD\nexecute 80\n"),
-    (b"\xc3\x1b[m", "print U+FFFD\ncsi_dispatch [0] - false 6D\n"),
     (
         b"\xc3\x1b\x1b[m",
         "print U+FFFD\ncsi_dispatch [0] - false 6D\n",
@@ -114,28 +97,12 @@ pub const ROWS: [(&[u8], &str); 80] = [
         "print U+FFFD\ncsi_dispatch [0] - false 6D\n",
     ),
     (b"\x1b[99\x18A", "execute 18\nprint U+0041\n"),
-    (
-        b"\x1b[0:0:0:0:0:0:0:0:0:0:0:0:0:0:0:0:0:0:0:0:0:0:0:0:0:0:0:0:0:0:0:0m",
-        "csi_dispatch [0:0:0:0:0:0:0:0:0:0:0:0:0:0:0:0:0:0:0:0:0:0:0:0:0:0:0:0:0:0:0:0] - false 6D\n",
-    ),
-    (
-        b"\x1b[::::::::::::::::::::::::::::::;m",
-        "csi_dispatch [0:0:0:0:0:0:0:0:0:0:0:0:0:0:0:0:0:0:0:0:0:0:0:0:0:0:0:0:0:0:0;0] - false 6D\n",
-    ),
     (b"\xf0\x1b[A", "print U+FFFD\ncsi_dispatch [0] - false 41\n"),
     (b"\xf0\x9f\x18A", "print U+FFFD\nexecute 18\nprint U+0041\n"),
     (
         b"\xf0\x9f\x98\x1b]a\x07",
         "print U+FFFD\nosc_dispatch true 61\n",
     ),
-    (b"\xc2\x80", "print U+0080\n"),
-    (b"\xdf\xbf", "print U+07FF\n"),
-    (b"\xe0\xa0\x80", "print U+0800\n"),
-    (b"\xe0\x80", "print U+FFFD\nexecute 80\n"),
-    (b"\xef\xbf\xbd", "print U+FFFD\n"),
-    (b"\xf0\x90\x80\x80", "print U+10000\n"),
-    (b"\xf4\x8f\xbf\xbf", "print U+10FFFF\n"),
-    (b"\xf4\x90", "print U+FFFD\n"),
     (b"\xc0A", "print U+0041\n"),
     (b"\xf5A", "print U+0041\n"),
     (b"\xc3\xc3\xa9", "print U+FFFD\nprint U+00E9\n"),

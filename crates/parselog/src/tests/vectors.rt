@@ -1,6 +1,7 @@
 //! Answers of the Rust crate, given each byte that breaks a character once more
 //! (docs/DECISIONS.md says how they were made): inputs that reach each kind of item with each
-//! end, twelve a row with 1B 1B 18 between two, and their lines.
+//! end, twelve a row with 1B 1B 18 between two, and their lines. No clause says that the calls are
+//! the Rust crate's.
 
 pub const VECTORS: [(&[u8], &str); 25] = [
     (

@@ -7,7 +7,7 @@ returns g c =
     let light = c.args.light.now in
     let dark = c.args.dark.now in
     let end = c.put-5.new.self in
-    let add = Adds-append g.W.Sink.contents g.W.Sink.has_failed in
+    let add = Adds-append g.W.Sink in
     add (codes "light-dark(") (light ++ (codes "," ++ (dark ++ codes ")"))) c.args.output.now c.put.new.self end c.put.ensures
     (add light (codes "," ++ (dark ++ codes ")")) c.put.new.self c.put-2.new.self end c.put-2.ensures
     (add (codes ",") (dark ++ codes ")") c.put-2.new.self c.put-3.new.self end c.put-3.ensures

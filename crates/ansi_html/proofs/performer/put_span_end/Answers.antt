@@ -1,9 +1,9 @@
 use Rattle.std.proofs.Common.{[], Bool, codes, sym, ap, ◌∙◌, subst}
 use Rattle.std.specs.Prelude.{if◌then◌else◌}
-use Rattle.anstyle_parse.specs.Writing.Output.{Adds}
+use Rattle.anstyle_parse.specs.Io.Output.{Adds}
 use Rattle.anstyle_parse.proofs.Written.Output.{Adds-nil}
 use Rattle.ansi_style.specs.Style.{are_equal}
-use Rattle.ansi_html.proofs.PageLemmas.{false-from_not, true-from_not}
+use Rattle.ansi_html.proofs.HtmlLemmas.{false-from_not, true-from_not}
 use Rattle.ansi_html.proofs.performer.put_span_end.Goals as goal
 
 pub returns-then-ne : goal.returns-then-ne
@@ -12,7 +12,7 @@ returns-then-ne g c =
     let style = c.args.style in
     let other = false-from_not (are_equal style c.default.result) (sym c.ne.ensures ∙ c.if-ne.true) in
     let not_plain = sym (ap (are_equal style) c.default.ensures) ∙ other in
-    subst (λ (plain : Bool). Adds g.W.Sink.contents g.W.Sink.has_failed (if plain then [] else codes "</span>") c.args.output.now c.put.new.self) (sym not_plain) c.put.ensures
+    subst (λ (plain : Bool). Adds g.W.Sink (if plain then [] else codes "</span>") c.args.output.now c.put.new.self) (sym not_plain) c.put.ensures
 
 pub returns-else-ne : goal.returns-else-ne
 unfolding are_equal
@@ -20,5 +20,5 @@ returns-else-ne g c =
     let style = c.args.style in
     let same = true-from_not (are_equal style c.default.result) (sym c.ne.ensures ∙ c.if-ne.false) in
     let is_plain = sym (ap (are_equal style) c.default.ensures) ∙ same in
-    subst (λ (plain : Bool). Adds g.W.Sink.contents g.W.Sink.has_failed (if plain then [] else codes "</span>") c.args.output.now c.args.output.now) (sym is_plain)
-    (Adds-nil g.W.Sink.contents g.W.Sink.has_failed c.args.output.now)
+    subst (λ (plain : Bool). Adds g.W.Sink (if plain then [] else codes "</span>") c.args.output.now c.args.output.now) (sym is_plain)
+    (Adds-nil g.W.Sink c.args.output.now)

@@ -1,4 +1,4 @@
-use Rattle.anstyle_parse.specs.Fields.Parser.{machine_of}
+use Rattle.anstyle_parse.specs.Views.Parser.{machine_of}
 use Rattle.anstyle_parse.specs.Machine.Stands.{seen, unseen}
 use Rattle.anstyle_parse.proofs.Agreement.Forgotten.{cancelled_is_new, Continues-cancelled}
 use Rattle.anstyle_parse.proofs.laws.cancelled.Goals as goal

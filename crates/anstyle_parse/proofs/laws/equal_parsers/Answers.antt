@@ -1,7 +1,7 @@
 use Rattle.std.proofs.Common.{◌≡◌, List, ℕ, ap, sym, subst}
-use Rattle.anstyle_parse.specs.Fields.Accumulator.{front_of, parser_after}
+use Rattle.anstyle_parse.specs.Views.Accumulator.{front_of, parser_after}
 use Rattle.anstyle_parse.specs.Machine.Step.{Machine, machine_calls}
-use Rattle.anstyle_parse.specs.Fields.Parser.{machine_of}
+use Rattle.anstyle_parse.specs.Views.Parser.{machine_of}
 use Rattle.anstyle_parse.specs.Machine.Stands.{StandsAfter, seen}
 use Rattle.anstyle_parse.proofs.Machine.Equal.{same_fields-equivalence, machine_of-same}
 use Rattle.anstyle_parse.proofs.laws.equal_parsers.Goals as goal

@@ -1,5 +1,5 @@
 use Rattle.std.proofs.Common.{arith}
-use Rattle.anstyle_parse.specs.Fields.Parser.{machine_of}
+use Rattle.anstyle_parse.specs.Views.Parser.{machine_of}
 use Rattle.anstyle_parse.specs.Machine.Stands.{seen, unseen}
 use Rattle.anstyle_parse.proofs.Agreement.Forgotten.{forgotten, Continues-forgotten}
 use Rattle.anstyle_parse.proofs.laws.forgotten.Goals as goal

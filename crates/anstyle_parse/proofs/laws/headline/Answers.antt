@@ -2,9 +2,9 @@ use Rattle.std.proofs.Common.{List, ℕ, ◌≡◌, ◌++◌, [], ◌∷◌, ◌
 use Rattle.std.specs.List.{flat_map}
 use Rattle.std.proofs.lemmas.List.{take_more, take_all}
 use Rattle.std.proofs.lemmas.Grind.{flat_map-append}
-use Rattle.anstyle_parse.specs.Fields.Accumulator.{front_of}
+use Rattle.anstyle_parse.specs.Views.Accumulator.{front_of}
 use Rattle.anstyle_parse.specs.Stream.Calls.{HasReceived}
-use Rattle.anstyle_parse.specs.Fields.Parser.{IsAfter}
+use Rattle.anstyle_parse.specs.Views.Parser.{IsAfter}
 use Rattle.anstyle_parse.proofs.Canonical.Replay.{replay}
 use Rattle.anstyle_parse.proofs.Division.Grow.{nothing, divide}
 use Rattle.anstyle_parse.proofs.Division.Exists.{IsDivision-divide}

@@ -1,9 +1,9 @@
 -- The parser stands after the pieces so far, whose calls the performer has received.
 use Rattle.std.proofs.Common.{List, ℕ, take}
 use Rattle.std.specs.List.{flat_map}
-use Rattle.anstyle_parse.specs.Fields.Accumulator.{front_of}
+use Rattle.anstyle_parse.specs.Views.Accumulator.{front_of}
 use Rattle.anstyle_parse.specs.Stream.Calls.{HasReceived}
-use Rattle.anstyle_parse.specs.Fields.Parser.{IsAfter}
+use Rattle.anstyle_parse.specs.Views.Parser.{IsAfter}
 use Rattle.anstyle_parse.proofs.laws.headline.Given as goal
 
 abbrev pub invariant-loop-piece : goal.invariant-loop-piece

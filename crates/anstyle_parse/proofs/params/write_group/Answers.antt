@@ -1,6 +1,6 @@
 use Rattle.std.proofs.Common.{arith}
 use Rattle.std.proofs.Output.{has_written_append, has_written_of_eq}
-use Rattle.anstyle_parse.proofs.Written.Debug.{fields_text-parts}
+use Rattle.anstyle_parse.proofs.Arguments.Written.{fields_text-parts}
 use Rattle.anstyle_parse.proofs.params.write_group.Goals as goal
 
 pub returns-after-loop-field : goal.returns-after-loop-field

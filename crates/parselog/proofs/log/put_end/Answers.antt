@@ -1,5 +1,5 @@
 use Rattle.std.proofs.Common.{◌++◌, List, ℕ, [], ◌∷◌, ap, ◌∙◌, subst}
-use Rattle.anstyle_parse.specs.Writing.Output.{Adds}
+use Rattle.anstyle_parse.specs.Io.Output.{Adds}
 use Rattle.anstyle_parse.proofs.Written.Output.{Adds-append}
 use Rattle.parselog.specs.Lines.{hex_list, end_text, newline}
 use Rattle.parselog.proofs.LineLemmas.{end_text-digits}
@@ -7,8 +7,8 @@ use Rattle.parselog.proofs.log.put_end.Goals as goal
 
 pub returns : goal.returns
 returns g c =
-    let Q : List ℕ → Type 0 = λ t. Adds g.W.Sink.contents g.W.Sink.has_failed t c.args.output.now c.put-2.new.self in
-    let append = Adds-append g.W.Sink.contents g.W.Sink.has_failed in
+    let Q : List ℕ → Type 0 = λ t. Adds g.W.Sink t c.args.output.now c.put-2.new.self in
+    let append = Adds-append g.W.Sink in
     let digits : List ℕ = 32 ∷ c.digit.result ∷ c.digit-2.result ∷ newline ∷ [] in
     subst Q
     (ap (λ t. hex_list c.args.intermediates.now ++ 32 ∷ (t ++ digits)) c.truth_text.ensures

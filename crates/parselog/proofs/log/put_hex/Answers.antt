@@ -8,7 +8,7 @@ use Rattle.parselog.proofs.LineLemmas.{hex_byte-digits, done_more}
 use Rattle.parselog.proofs.log.put_hex.Goals as goal
 
 pub loop-byte-init : goal.loop-byte-init
-loop-byte-init g c = record { done = []; whole = refl; added = Adds-nil g.W.Sink.contents g.W.Sink.has_failed c.args.output.now }
+loop-byte-init g c = record { done = []; whole = refl; added = Adds-nil g.W.Sink c.args.output.now }
 
 pub loop-byte-preserved : goal.loop-byte-preserved
 loop-byte-preserved g c =
@@ -21,5 +21,5 @@ loop-byte-preserved g c =
       done = before.done ++ (c.digit.result ∷ c.digit-in-loop-byte.result ∷ []);
       whole = done_more before.done (c.digit.result ∷ c.digit-in-loop-byte.result ∷ []) rest (flat_map hex_byte bytes) (flat_map hex_byte (drop i bytes))
           (at_drop_more (λ bs. flat_map hex_byte bs) bytes i 0 c.loop-byte-test.true ∙ ap (λ l. l ++ rest) (sym digits)) before.whole;
-      added = Adds-append g.W.Sink.contents g.W.Sink.has_failed _ _ c.args.output.now c.loop-byte.output c.put.new.self before.added c.put.ensures;
+      added = Adds-append g.W.Sink _ _ c.args.output.now c.loop-byte.output c.put.new.self before.added c.put.ensures;
     }

@@ -8,7 +8,7 @@ use Rattle.parselog.proofs.LineLemmas.{done_more}
 use Rattle.parselog.proofs.log.put_parts.Goals as goal
 
 pub loop-part-init : goal.loop-part-init
-loop-part-init g c = record { done = []; whole = refl; added = Adds-nil g.W.Sink.contents g.W.Sink.has_failed c.args.output.now }
+loop-part-init g c = record { done = []; whole = refl; added = Adds-nil g.W.Sink c.args.output.now }
 
 pub loop-part-preserved : goal.loop-part-preserved
 loop-part-preserved g c =
@@ -22,5 +22,5 @@ loop-part-preserved g c =
       whole =
           ap (λ l. l ++ text (drop (i + 1) parts)) (append_assoc before.done (32 ∷ []) (hex_list part.now))
           ∙ done_more before.done (32 ∷ hex_list part.now) (text (drop (i + 1) parts)) (text parts) (text (drop i parts)) (at_drop_more text parts i _ c.loop-part-test.true) before.whole;
-      added = Adds-append3 g.W.Sink.contents g.W.Sink.has_failed _ _ _ c.args.output.now c.loop-part.output c.put_byte.new.self c.put_hex.new.output before.added c.put_byte.ensures c.put_hex.ensures;
+      added = Adds-append3 g.W.Sink _ _ _ c.args.output.now c.loop-part.output c.put_byte.new.self c.put_hex.new.output before.added c.put_byte.ensures c.put_hex.ensures;
     }

@@ -1,11 +1,11 @@
 use Rattle.std.proofs.Common.{[], ◌++◌, Bool, sym, ◌∙◌, subst}
 use Rattle.std.specs.Prelude.{if◌then◌else◌}
-use Rattle.anstyle_parse.specs.Writing.Output.{Adds}
+use Rattle.anstyle_parse.specs.Io.Output.{Adds}
 use Rattle.anstyle_parse.proofs.Written.Output.{Adds-nil, Adds-append}
 use Rattle.ansi_style.specs.Style.{are_equal}
 use Rattle.ansi_style.proofs.EqualityLemmas.{are_equal-same}
-use Rattle.ansi_html.specs.Page.{span_begin, span_end}
-use Rattle.ansi_html.proofs.PageLemmas.{false-from_not, true-from_not}
+use Rattle.ansi_html.specs.Html.{span_begin, span_end}
+use Rattle.ansi_html.proofs.HtmlLemmas.{false-from_not, true-from_not}
 use Rattle.ansi_html.proofs.performer.HtmlWriter.change_to.Goals as goal
 
 pub returns-then-ne-clause-added : goal.returns-then-ne-clause-added
@@ -14,8 +14,8 @@ returns-then-ne-clause-added g c =
     let before = c.args.self.now in
     let text = span_end before.shown ++ span_begin c.args.style in
     let other = false-from_not (are_equal before.shown c.args.style) (sym c.ne.ensures ∙ c.if-ne.true) in
-    subst (λ (same : Bool). Adds g.W.Sink.contents g.W.Sink.has_failed (if same then [] else text) before.output c.put_span_begin.new.output) (sym other)
-    (Adds-append g.W.Sink.contents g.W.Sink.has_failed (span_end before.shown) (span_begin c.args.style) before.output c.put_span_end.new.output c.put_span_begin.new.output c.put_span_end.ensures c.put_span_begin.ensures)
+    subst (λ (same : Bool). Adds g.W.Sink (if same then [] else text) before.output c.put_span_begin.new.output) (sym other)
+    (Adds-append g.W.Sink (span_end before.shown) (span_begin c.args.style) before.output c.put_span_end.new.output c.put_span_begin.new.output c.put_span_end.ensures c.put_span_begin.ensures)
 
 pub returns-else-ne-clause-shown : goal.returns-else-ne-clause-shown
 unfolding are_equal
@@ -29,5 +29,5 @@ returns-else-ne-clause-added g c =
     let before = c.args.self.now in
     let text = span_end before.shown ++ span_begin c.args.style in
     let same = true-from_not (are_equal before.shown c.args.style) (sym c.ne.ensures ∙ c.if-ne.false) in
-    subst (λ (same : Bool). Adds g.W.Sink.contents g.W.Sink.has_failed (if same then [] else text) before.output before.output) (sym same)
-    (Adds-nil g.W.Sink.contents g.W.Sink.has_failed before.output)
+    subst (λ (same : Bool). Adds g.W.Sink (if same then [] else text) before.output before.output) (sym same)
+    (Adds-nil g.W.Sink before.output)

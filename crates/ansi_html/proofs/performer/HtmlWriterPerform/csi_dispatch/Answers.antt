@@ -1,9 +1,9 @@
 use Rattle.std.proofs.Common.{refl, ap, ◌∙◌}
 use Rattle.anstyle_parse.proofs.Written.Output.{Adds-nil}
 use Rattle.anstyle_parse.specs.Stream.Call.{csi_dispatch}
-use Rattle.anstyle_parse.specs.Fields.Params.{groups_shown}
+use Rattle.anstyle_parse.specs.Views.Params.{groups_shown}
 use Rattle.ansi_style.specs.Rendition.{style_after}
-use Rattle.ansi_html.specs.Page.{text_html}
+use Rattle.ansi_html.specs.Html.{text_html}
 use Rattle.ansi_html.specs.Writer.{output_of}
 use Rattle.ansi_html.proofs.performer.HtmlWriterPerform.csi_dispatch.Goals as goal
 
@@ -11,4 +11,4 @@ pub returns : goal.returns
 unfolding text_html
 returns g c =
     let call = csi_dispatch (groups_shown c.args.params.now) c.args.intermediates.now c.args.ignore c.args.action in
-    record { style = c.csi_dispatch.ensures ∙ ap (style_after call) c.unwrap_or-style.ensures; shown = refl; added = Adds-nil g.W.Sink.contents g.W.Sink.has_failed (output_of c.args.self.now) }
+    record { style = c.csi_dispatch.ensures ∙ ap (style_after call) c.unwrap_or-style.ensures; shown = refl; added = Adds-nil g.W.Sink (output_of c.args.self.now) }

@@ -1,10 +1,10 @@
 use Rattle.std.proofs.Common.{[], ◌∷◌, sym, ap, refl, ◌∙◌, subst}
 use Rattle.std.specs.Prelude.{if◌then◌else◌}
-use Rattle.anstyle_parse.specs.Writing.Output.{Adds}
+use Rattle.anstyle_parse.specs.Io.Output.{Adds}
 use Rattle.anstyle_parse.proofs.Written.Output.{Adds-nil, Adds-append}
-use Rattle.ansi_html.specs.Page.{change, text_html, shown_after}
+use Rattle.ansi_html.specs.Html.{change, text_html, shown_after}
 use Rattle.ansi_html.specs.Writer.{output_of, style_of, shown_of}
-use Rattle.ansi_html.proofs.PageLemmas.{text_html-layout}
+use Rattle.ansi_html.proofs.HtmlLemmas.{text_html-layout}
 use Rattle.ansi_html.proofs.performer.HtmlWriterPerform.execute.Goals as goal
 
 pub returns-then-is_layout : goal.returns-then-is_layout
@@ -18,9 +18,9 @@ returns-then-is_layout g c =
     record {
       style = c.begin_text.ensures.style;
       shown = c.begin_text.ensures.shown ∙ sym (ap (shown_after shown style) bytes);
-      added = subst (λ text. Adds g.W.Sink.contents g.W.Sink.has_failed text (output_of before) c.put_byte.new.self)
+      added = subst (λ text. Adds g.W.Sink text (output_of before) c.put_byte.new.self)
           (sym (ap (text_html shown style) bytes ∙ text_html-layout shown style byte is))
-          (Adds-append g.W.Sink.contents g.W.Sink.has_failed (change shown style) (byte ∷ []) (output_of before) (output_of c.begin_text.new.self) c.put_byte.new.self c.begin_text.ensures.added c.put_byte.ensures);
+          (Adds-append g.W.Sink (change shown style) (byte ∷ []) (output_of before) (output_of c.begin_text.new.self) c.put_byte.new.self c.begin_text.ensures.added c.put_byte.ensures);
     }
 
 pub returns-else-is_layout : goal.returns-else-is_layout
@@ -34,6 +34,6 @@ returns-else-is_layout g c =
     record {
       style = refl;
       shown = sym (ap (shown_after shown style) bytes);
-      added = subst (λ text. Adds g.W.Sink.contents g.W.Sink.has_failed text (output_of before) (output_of before)) (sym (ap (text_html shown style) bytes))
-          (Adds-nil g.W.Sink.contents g.W.Sink.has_failed (output_of before));
+      added = subst (λ text. Adds g.W.Sink text (output_of before) (output_of before)) (sym (ap (text_html shown style) bytes))
+          (Adds-nil g.W.Sink (output_of before));
     }

@@ -1,7 +1,8 @@
 -- The groups that are left make the same style as all of them did.
 use Rattle.std.proofs.Common.{◌≡◌}
-use Rattle.anstyle_parse.specs.Fields.Params.{groups_shown, groups_left}
-use Rattle.ansi_style.specs.Rendition.{selected, selected_from}
+use Rattle.anstyle_parse.specs.Views.Params.{groups_shown, groups_left}
+use Rattle.ansi_style.specs.Rendition.{selected}
+use Rattle.ansi_style.proofs.WalkLemmas.{selected_from}
 use Rattle.ansi_style.proofs.style.Style.select.Given as goal
 
 abbrev pub invariant-loop-group : goal.invariant-loop-group

@@ -1,7 +1,7 @@
 -- The sequence goes out part by part.
 use Rattle.std.proofs.Common.{[], ◌∷◌, ◌++◌, List, ℕ, sym, subst}
 use Rattle.anstyle_parse.specs.Stream.Bytes.{escape_byte}
-use Rattle.anstyle_parse.specs.Writing.Output.{Adds}
+use Rattle.anstyle_parse.specs.Io.Output.{Adds}
 use Rattle.anstyle_parse.proofs.Written.Output.{Adds-append}
 use Rattle.ansi_style.specs.Codes.{code_if, color_codes, underline_codes, more_text}
 use Rattle.ansi_style.proofs.CodesLemmas.{codes_text-parts, selected-codes_of, AreLawful-selection, AreCalls-codes_text}
@@ -11,10 +11,9 @@ pub returns-clause-text : goal.returns-clause-text
 returns-clause-text g c =
     let style = c.args.self in
     let end = c.put_byte.new.self in
-    let contents = g.W.Sink.contents in
-    let has_failed = g.W.Sink.has_failed in
-    let underline : Adds contents has_failed (more_text (underline_codes style.underline)) c.put_code-3.new.output c.put-2.new.self =
-    subst (λ text. Adds contents has_failed text c.put_code-3.new.output c.put-2.new.self) c.underline_text.ensures c.put-2.ensures in
+    let sink = g.W.Sink in
+    let underline : Adds sink (more_text (underline_codes style.underline)) c.put_code-3.new.output c.put-2.new.self =
+    subst (λ text. Adds sink text c.put_code-3.new.output c.put-2.new.self) c.underline_text.ensures c.put-2.ensures in
     let t12 : List ℕ = 0x6D ∷ [] in
     let t11 = more_text (color_codes 40 style.background) ++ t12 in
     let t10 = more_text (color_codes 30 style.foreground) ++ t11 in
@@ -27,19 +26,19 @@ returns-clause-text g c =
     let t3 = more_text (code_if style.italic 3) ++ t4 in
     let t2 = more_text (code_if style.dim 2) ++ t3 in
     let t1 = more_text (code_if style.bold 1) ++ t2 in
-    let a11 = Adds-append contents has_failed (more_text (color_codes 40 style.background)) t12 c.put_color.new.output c.put_color-2.new.output end c.put_color-2.ensures.text c.put_byte.ensures in
-    let a10 = Adds-append contents has_failed (more_text (color_codes 30 style.foreground)) t11 c.put_code-8.new.output c.put_color.new.output end c.put_color.ensures.text a11 in
-    let a9 = Adds-append contents has_failed (more_text (code_if style.overlined 53)) t10 c.put_code-7.new.output c.put_code-8.new.output end c.put_code-8.ensures a10 in
-    let a8 = Adds-append contents has_failed (more_text (code_if style.struck_out 9)) t9 c.put_code-6.new.output c.put_code-7.new.output end c.put_code-7.ensures a9 in
-    let a7 = Adds-append contents has_failed (more_text (code_if style.hidden 8)) t8 c.put_code-5.new.output c.put_code-6.new.output end c.put_code-6.ensures a8 in
-    let a6 = Adds-append contents has_failed (more_text (code_if style.reverse 7)) t7 c.put_code-4.new.output c.put_code-5.new.output end c.put_code-5.ensures a7 in
-    let a5 = Adds-append contents has_failed (more_text (code_if style.blink 5)) t6 c.put-2.new.self c.put_code-4.new.output end c.put_code-4.ensures a6 in
-    let a4 = Adds-append contents has_failed (more_text (underline_codes style.underline)) t5 c.put_code-3.new.output c.put-2.new.self end underline a5 in
-    let a3 = Adds-append contents has_failed (more_text (code_if style.italic 3)) t4 c.put_code-2.new.output c.put_code-3.new.output end c.put_code-3.ensures a4 in
-    let a2 = Adds-append contents has_failed (more_text (code_if style.dim 2)) t3 c.put_code.new.output c.put_code-2.new.output end c.put_code-2.ensures a3 in
-    let a1 = Adds-append contents has_failed (more_text (code_if style.bold 1)) t2 c.put.new.self c.put_code.new.output end c.put_code.ensures a2 in
-    let a0 = Adds-append contents has_failed (escape_byte ∷ 0x5B ∷ 0x30 ∷ []) t1 c.args.output.now c.put.new.self end c.put.ensures a1 in
-    subst (λ text. Adds contents has_failed text c.args.output.now end) (sym (codes_text-parts style)) a0
+    let a11 = Adds-append sink (more_text (color_codes 40 style.background)) t12 c.put_color.new.output c.put_color-2.new.output end c.put_color-2.ensures.text c.put_byte.ensures in
+    let a10 = Adds-append sink (more_text (color_codes 30 style.foreground)) t11 c.put_code-8.new.output c.put_color.new.output end c.put_color.ensures.text a11 in
+    let a9 = Adds-append sink (more_text (code_if style.overlined 53)) t10 c.put_code-7.new.output c.put_code-8.new.output end c.put_code-8.ensures a10 in
+    let a8 = Adds-append sink (more_text (code_if style.struck_out 9)) t9 c.put_code-6.new.output c.put_code-7.new.output end c.put_code-7.ensures a9 in
+    let a7 = Adds-append sink (more_text (code_if style.hidden 8)) t8 c.put_code-5.new.output c.put_code-6.new.output end c.put_code-6.ensures a8 in
+    let a6 = Adds-append sink (more_text (code_if style.reverse 7)) t7 c.put_code-4.new.output c.put_code-5.new.output end c.put_code-5.ensures a7 in
+    let a5 = Adds-append sink (more_text (code_if style.blink 5)) t6 c.put-2.new.self c.put_code-4.new.output end c.put_code-4.ensures a6 in
+    let a4 = Adds-append sink (more_text (underline_codes style.underline)) t5 c.put_code-3.new.output c.put-2.new.self end underline a5 in
+    let a3 = Adds-append sink (more_text (code_if style.italic 3)) t4 c.put_code-2.new.output c.put_code-3.new.output end c.put_code-3.ensures a4 in
+    let a2 = Adds-append sink (more_text (code_if style.dim 2)) t3 c.put_code.new.output c.put_code-2.new.output end c.put_code-2.ensures a3 in
+    let a1 = Adds-append sink (more_text (code_if style.bold 1)) t2 c.put.new.self c.put_code.new.output end c.put_code.ensures a2 in
+    let a0 = Adds-append sink (escape_byte ∷ 0x5B ∷ 0x30 ∷ []) t1 c.args.output.now c.put.new.self end c.put.ensures a1 in
+    subst (λ text. Adds sink text c.args.output.now end) (sym (codes_text-parts style)) a0
 
 pub returns-clause-leads : goal.returns-clause-leads
 returns-clause-leads g c = λ old. selected-codes_of c.args.self old c.put_color.ensures.bytes c.put_color-2.ensures.bytes

@@ -1,6 +1,6 @@
 use Rattle.std.proofs.Common.{ℕ, List, ◌∷◌, Bor}
 use Rattle.anstyle_parse.specs.Stream.Characters.{BeginWithWhole}
-use Rattle.anstyle_parse.specs.Fields.Accumulator.{parser_after}
+use Rattle.anstyle_parse.specs.Views.Accumulator.{parser_after}
 use Rattle.anstyle_parse.specs.Machine.Step.{IsWhole}
 use Rattle.anstyle_parse.proofs.Characters.Whole.{IfSome-weaker, IsWhole-begins}
 use Rattle.anstyle_parse.proofs.accumulator.Utf8ParserCharAccumulator.whole.Goals as goal

@@ -9,7 +9,7 @@ use Rattle.anstyle_parse.proofs.Written.Output.{Adds-nil, Adds-append3}
 use Rattle.anstyle_parse.proofs.canon.writer.put_parts.Goals as goal
 
 pub loop-part-init : goal.loop-part-init
-loop-part-init g c = record { done = []; whole = refl; added = Adds-nil g.W.Sink.contents g.W.Sink.has_failed c.args.output.now }
+loop-part-init g c = record { done = []; whole = refl; added = Adds-nil g.W.Sink c.args.output.now }
 
 pub loop-part-preserved : goal.loop-part-preserved
 loop-part-preserved g c =
@@ -25,6 +25,6 @@ loop-part-preserved g c =
       done = (before.done ++ separator) ++ text;
       whole = joined_rest-more before.done (join_with_byte semicolon (contents_of parts)) is_first semicolon text (contents_of (drop i parts)) (contents_of (drop (i + 1) parts))
           (at_drop_more contents_of parts i none c.loop-part-test.true) before.whole;
-      added = Adds-append3 g.W.Sink.contents g.W.Sink.has_failed before.done separator text
+      added = Adds-append3 g.W.Sink before.done separator text
           c.args.output.now c.loop-part.output c.put_separator.new.self c.put.new.self before.added c.put_separator.ensures c.put.ensures;
     }

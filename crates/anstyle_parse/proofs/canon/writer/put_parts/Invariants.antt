@@ -2,7 +2,7 @@
 use Rattle.std.proofs.Common.{◌≡◌, ◌++◌, List, ℕ, drop, map}
 use Rattle.std.specs.List.{join_with_byte}
 use Rattle.anstyle_parse.specs.Stream.Bytes.{semicolon}
-use Rattle.anstyle_parse.specs.Writing.Output.{Adds}
+use Rattle.anstyle_parse.specs.Io.Output.{Adds}
 use Rattle.anstyle_parse.proofs.Lists.Joins.{joined_rest}
 use Rattle.anstyle_parse.proofs.canon.writer.put_parts.Given as goal
 
@@ -10,5 +10,5 @@ abbrev pub invariant-loop-part : goal.invariant-loop-part
 invariant-loop-part g l = record {
   done : List ℕ;
   whole : done ++ joined_rest l.is_first semicolon (map (λ part. part.now) (drop l.part-index l.parts)) ≡ join_with_byte semicolon (map (λ part. part.now) l.parts);
-  added : Adds g.W.Sink.contents g.W.Sink.has_failed done l.initial.output l.output;
+  added : Adds g.W.Sink done l.initial.output l.output;
 }

@@ -1,6 +1,6 @@
 use Rattle.std.proofs.Common.{◌≡◌, ◌-◌, ◌+◌, ◌/◌, ◌^◌, take, drop, set, arith, ap, ◌∙◌}
 use Rattle.anstyle_parse.specs.Stream.Groups.{cut_at}
-use Rattle.anstyle_parse.specs.Fields.Params.{starts_of}
+use Rattle.anstyle_parse.specs.Views.Params.{starts_of}
 use Rattle.anstyle_parse.proofs.Arguments.Starts.{field_total, Grown, grown-new, grown-same, closed_same, open_extended}
 use Rattle.anstyle_parse.proofs.params.Params.extend.Goals as goal
 use Rattle.anstyle_parse.proofs.params.Params.extend.Goals.{then-self-eq0, else-self-eq0}

@@ -1,7 +1,7 @@
 use Rattle.std.proofs.Common.{◌-◌, length, arith, ap, sym, ◌∙◌, eq-eqb, eqb-true}
 use Rattle.std.specs.List.{concat}
 use Rattle.anstyle_parse.specs.Stream.Groups.{cut_at}
-use Rattle.anstyle_parse.specs.Fields.Params.{starts_of}
+use Rattle.anstyle_parse.specs.Views.Params.{starts_of}
 use Rattle.anstyle_parse.proofs.Arguments.Starts.{cut_at-shown, field_count}
 use Rattle.anstyle_parse.proofs.params.Params.is_empty.Goals as goal
 

@@ -4,7 +4,7 @@ use Rattle.std.proofs.Math.Nat.{div-one}
 use Rattle.std.proofs.lemmas.List.{length-take-le, take-take}
 use Rattle.anstyle_parse.specs.Stream.Groups.{cut_at, HaveFields}
 use Rattle.std.specs.List.{concat}
-use Rattle.anstyle_parse.specs.Fields.Params.{starts_of, groups_shown}
+use Rattle.anstyle_parse.specs.Views.Params.{starts_of, groups_shown}
 use Rattle.anstyle_parse.proofs.Arguments.Lengths.{length-have_fields}
 use Rattle.anstyle_parse.proofs.Arguments.Starts.{cut_at-front, cut_at-shown, field_count, HaveFields-starts_of}
 use Rattle.anstyle_parse.proofs.params.Params.iter.Goals as goal

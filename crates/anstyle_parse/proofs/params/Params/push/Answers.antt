@@ -1,6 +1,6 @@
 use Rattle.std.proofs.Common.{◌≡◌, ◌-◌, ◌+◌, ◌++◌, [], ◌∷◌, take, drop, set, arith, ap, ◌∙◌}
 use Rattle.anstyle_parse.specs.Stream.Groups.{cut_at}
-use Rattle.anstyle_parse.specs.Fields.Params.{starts_of}
+use Rattle.anstyle_parse.specs.Views.Params.{starts_of}
 use Rattle.anstyle_parse.proofs.Arguments.Starts.{field_total, Grown, grown-new, grown-same, cut_pushed}
 use Rattle.anstyle_parse.proofs.params.Params.push.Goals as goal
 use Rattle.anstyle_parse.proofs.params.Params.push.Goals.{then-self-eq0, else-self-eq0}

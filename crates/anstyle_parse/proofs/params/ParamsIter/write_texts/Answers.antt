@@ -1,7 +1,7 @@
 use Rattle.std.proofs.Common.{map, ap, sym, ◌∙◌}
 use Rattle.std.proofs.Output.{has_written_append, has_written_of_eq, writes_in_calls_nil}
-use Rattle.anstyle_parse.specs.Fields.Params.{groups_left}
-use Rattle.anstyle_parse.proofs.Written.Debug.{groups_text-parts, groups_text-none}
+use Rattle.anstyle_parse.specs.Views.Params.{groups_left}
+use Rattle.anstyle_parse.proofs.Arguments.Written.{groups_text-parts, groups_text-none}
 use Rattle.anstyle_parse.proofs.params.ParamsIter.write_texts.Goals as goal
 
 -- the first group, and a semicolon and its text for each other

@@ -2,7 +2,7 @@ use Rattle.std.proofs.Common.{◌≡◌, ◌∷◌, ◌++◌, map}
 use Rattle.std.specs.List.{flat_map}
 use Rattle.std.specs.Fmt.{HasWritten, IsPlainFormatter}
 use Rattle.anstyle_parse.specs.Stream.Bytes.{semicolon}
-use Rattle.anstyle_parse.specs.Fields.Params.{groups_left}
+use Rattle.anstyle_parse.specs.Views.Params.{groups_left}
 use Rattle.anstyle_parse.specs.Stream.Groups.{fields_text}
 use Rattle.anstyle_parse.proofs.params.ParamsIter.write_texts.Given as goal
 

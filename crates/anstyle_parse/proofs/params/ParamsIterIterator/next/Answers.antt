@@ -1,6 +1,6 @@
 use Rattle.std.proofs.Common.{◌≡◌, ◌+◌, ◌-◌, ◌/◌, ◌^◌, ◌∷◌, suc, length, take, drop, arith, ap, ap₂, sym, ◌∙◌, rules}
 use Rattle.anstyle_parse.specs.Stream.Groups.{cut_at}
-use Rattle.anstyle_parse.specs.Fields.Params.{groups_left, starts_of}
+use Rattle.anstyle_parse.specs.Views.Params.{groups_left, starts_of}
 use Rattle.anstyle_parse.proofs.Arguments.Starts.{more_is_run, next_steps, next_starts}
 use Rattle.anstyle_parse.proofs.params.ParamsIterIterator.next.Goals as goal
 

@@ -1,7 +1,7 @@
 use Rattle.std.proofs.Common.{arith, subst, sym, List, [], ◌∷◌, ◌++◌}
 use Rattle.anstyle_parse.specs.Stream.Bytes.{escape_byte}
 use Rattle.anstyle_parse.specs.Machine.Step.{Machine, IsWithinLimits, machine_calls}
-use Rattle.anstyle_parse.specs.Fields.Parser.{machine_of}
+use Rattle.anstyle_parse.specs.Views.Parser.{machine_of}
 use Rattle.anstyle_parse.proofs.Machine.Limits.{IsWithinLimits-machine, IsWithinLimits-parser}
 use Rattle.anstyle_parse.proofs.Streams.{CanTakeAll-may, bytes_below, IsAfter-taken, Continues-taken, IsAfterAscii-taken, Continues-ascii}
 use Rattle.anstyle_parse.specs.Stream.Call.{Call, Goes}

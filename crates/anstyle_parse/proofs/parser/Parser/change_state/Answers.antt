@@ -1,5 +1,5 @@
 -- The three actions one after another, as the machine makes them.
-use Rattle.anstyle_parse.specs.Fields.Parser.{machine_of}
+use Rattle.anstyle_parse.specs.Views.Parser.{machine_of}
 use Rattle.anstyle_parse.proofs.Machine.Steps.{moved, moved_calls}
 use Rattle.anstyle_parse.proofs.parser.Parser.change_state.Goals as goal
 

@@ -1,6 +1,6 @@
 use Rattle.std.proofs.Common.{refl}
 use Rattle.std.proofs.lemmas.Bool.{false≢true}
-use Rattle.anstyle_parse.specs.Fields.Parser.{machine_of}
+use Rattle.anstyle_parse.specs.Views.Parser.{machine_of}
 use Rattle.anstyle_parse.specs.Machine.Stands.{seen, unseen}
 use Rattle.anstyle_parse.proofs.Division.Ends.{EndsInCharacter-state}
 use Rattle.anstyle_parse.proofs.Machine.Unseen.{StandsAfter-outside}

@@ -1,5 +1,5 @@
 use Rattle.std.proofs.Common.{length}
-use Rattle.anstyle_parse.specs.Fields.Runs.{LeadsTo}
+use Rattle.anstyle_parse.specs.Views.Runs.{LeadsTo}
 use Rattle.anstyle_parse.proofs.parser.Parser.take_bytes.Given as goal
 
 abbrev pub invariant-rest : goal.invariant-rest

@@ -1,11 +1,14 @@
-use Rattle.anstyle_parse.proofs.Machine.Runs.{KeepsTo-passed, KeepsTo-string, KeepsTo-header}
+use Rattle.std.proofs.Common.{arith, sym, ◌∙◌}
+use Rattle.anstyle_parse.proofs.Machine.Runs.{LeadsTo-run, LeadsTo-trans}
 use Rattle.anstyle_parse.proofs.parser.Parser.take_run.Goals as goal
 
-pub take_passed-requires-clause-keeps : goal.take_passed-requires-clause-keeps
-take_passed-requires-clause-keeps g c = KeepsTo-passed c.args.self.now.state c.in-DcsPassthrough.is
-
-pub take_passed-requires-in-SosPmApcString-clause-keeps : goal.take_passed-requires-in-SosPmApcString-clause-keeps
-take_passed-requires-in-SosPmApcString-clause-keeps g c = KeepsTo-string c.args.self.now.state c.in-SosPmApcString.is
-
-pub take_passed-requires-in-CsiIgnore-clause-keeps : goal.take_passed-requires-in-CsiIgnore-clause-keeps
-take_passed-requires-in-CsiIgnore-clause-keeps g c = KeepsTo-header c.args.self.now.state c.in-CsiIgnore.is
+pub returns : goal.returns
+returns g c =
+    let n = g.C.CharAccumulator in
+    let means = g.P.Perform.means in
+    let begun = LeadsTo-run n.takes n.taken means c.args.run c.args.self.now c.requires.keeps c.args.performer.now c.call.new.performer
+    c.args.first c.args.behind.now c.requires.can (sym c.has.ensures ∙ c.if-not-has.false) c.call.ensures in
+    record {
+      leads = LeadsTo-trans n.takes n.taken means (LeadsTo-trans n.takes n.taken means begun c.take_chunks-rest.ensures.leads) c.take_others.ensures.leads;
+      within = omega (arith, c.take_chunks-rest.ensures.within, c.take_others.ensures.within);
+    }

@@ -1,7 +1,7 @@
 use Rattle.std.proofs.Common.{List, ℕ, [], ◌∷◌, sym, subst}
 use Rattle.anstyle_parse.specs.Stream.Groups.{groups_text}
-use Rattle.anstyle_parse.specs.Fields.Params.{groups_shown}
-use Rattle.anstyle_parse.specs.Writing.Output.{Adds}
+use Rattle.anstyle_parse.specs.Views.Params.{groups_shown}
+use Rattle.anstyle_parse.specs.Io.Output.{Adds}
 use Rattle.anstyle_parse.proofs.Written.Output.{Adds-append}
 use Rattle.parselog.specs.Lines.{end_text, newline}
 use Rattle.parselog.specs.Log.{output_of}
@@ -12,8 +12,8 @@ pub returns : goal.returns
 returns g c =
     let old = output_of c.args.self.now in
     let last = c.put_end.new.output in
-    let Q : List ℕ → Type 0 = λ t. Adds g.W.Sink.contents g.W.Sink.has_failed t old last in
-    let append = Adds-append g.W.Sink.contents g.W.Sink.has_failed in
+    let Q : List ℕ → Type 0 = λ t. Adds g.W.Sink t old last in
+    let append = Adds-append g.W.Sink in
     subst Q
     (sym (line_end c.args.name.now 91 (groups_text (groups_shown c.args.params.now)) (93 ∷ 32 ∷ end_text c.args.intermediates.now c.args.ignore c.args.action) (newline ∷ [])))
     (append _ _ old c.put.new.self last c.put.ensures

@@ -4,4 +4,4 @@ use Rattle.parselog.proofs.log.LogWriterPerform.esc_dispatch.Goals as goal
 
 pub returns : goal.returns
 returns g c =
-    Adds-append g.W.Sink.contents g.W.Sink.has_failed _ _ (output_of c.args.self.now) c.put.new.self c.put_end.new.output c.put.ensures c.put_end.ensures
+    Adds-append g.W.Sink _ _ (output_of c.args.self.now) c.put.new.self c.put_end.new.output c.put.ensures c.put_end.ensures

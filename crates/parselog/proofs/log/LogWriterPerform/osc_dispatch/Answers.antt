@@ -1,5 +1,5 @@
 use Rattle.std.proofs.Common.{◌++◌, List, ℕ, [], ◌∷◌, map, codes, sym, ap, ◌∙◌, subst, append_assoc}
-use Rattle.anstyle_parse.specs.Writing.Output.{Adds}
+use Rattle.anstyle_parse.specs.Io.Output.{Adds}
 use Rattle.anstyle_parse.proofs.Written.Output.{Adds-append}
 use Rattle.parselog.specs.Lines.{truth, parts_text, newline}
 use Rattle.parselog.specs.Log.{output_of}
@@ -9,8 +9,8 @@ pub returns : goal.returns
 returns g c =
     let old = output_of c.args.self.now in
     let last = c.put_byte.new.self in
-    let Q : List ℕ → Type 0 = λ t. Adds g.W.Sink.contents g.W.Sink.has_failed t old last in
-    let append = Adds-append g.W.Sink.contents g.W.Sink.has_failed in
+    let Q : List ℕ → Type 0 = λ t. Adds g.W.Sink t old last in
+    let append = Adds-append g.W.Sink in
     let parts = parts_text (map (λ part. part.now) c.args.params.now) in
     subst Q
     (ap (λ t. codes "osc_dispatch " ++ (t ++ (parts ++ newline ∷ []))) c.truth_text.ensures

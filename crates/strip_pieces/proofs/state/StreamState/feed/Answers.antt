@@ -6,6 +6,9 @@ use Rattle.strip_pieces.proofs.FeedLemmas.{Feeds-taken}
 use Rattle.strip_pieces.proofs.state.StreamState.feed.Goals as goal
 use Rattle.strip_pieces.proofs.state.StreamState.feed.Goals.{else-room-lt-LEAST_ROOM-via-then-room-lt-LEAST_ROOM+else-not-is_empty, else-room-lt-LEAST_ROOM-via-else-room-lt-LEAST_ROOM}
 
+pub take-taken-requires-clause-stands : goal.take-taken-requires-clause-stands
+take-taken-requires-clause-stands c = (pending_of c.args.self.now, c.resume-parser.ensures (pending_of c.args.self.now) refl)
+
 pub save-requires : goal.save-requires
 save-requires c =
     let held = pending_of c.args.self.now in
@@ -14,10 +17,10 @@ save-requires c =
 pub returns-clause-fed : goal.returns-clause-fed
 returns-clause-fed c =
     let text = c.new-text.result in
-    let enough : 0 < length c.args.piece.now → 8 ≤ length c.args.room.now =
+    let enough : 0 < length c.args.piece.now → 4 ≤ length c.args.room.now =
     elim c.else-room-lt-LEAST_ROOM.branch [
       | else-room-lt-LEAST_ROOM-via-then-room-lt-LEAST_ROOM+else-not-is_empty w ↦ λ some. grind (arith, nat_tests)
       | else-room-lt-LEAST_ROOM-via-else-room-lt-LEAST_ROOM w ↦ λ some. omega arith
     ] in
     Feeds-taken c.args.self.now c.save.new.self c.resume-parser.result c.take-taken.new.parser c.args.piece.now c.args.room.now _ text c.take-taken.new.room _ _
-    c.resume-parser.ensures c.save.ensures c.new-text.ensures.nothing c.new-text.ensures.bytes (search rules) c.written-written.ensures c.take-taken.ensures.taken c.take-taken.ensures.all enough
+    c.resume-parser.ensures c.save.ensures c.new-text.ensures.nothing c.new-text.ensures.bytes (search rules) c.written-written.ensures c.take-taken.ensures.taken c.take-taken.ensures.all c.take-taken.ensures.at_once enough

@@ -1,8 +1,9 @@
 -- A parser that took what the state holds stands where the stream does.
 use Rattle.std.proofs.Common.{◌≡◌, ℕ, List, [], length, take, min, refl, sym, ap, ◌∙◌, subst, arith}
 use Rattle.std.proofs.lemmas.List.{take_min}
-use Rattle.anstyle_parse.specs.Fields.Accumulator.{front_of}
-use Rattle.anstyle_parse.specs.Fields.Parser.{IsAfter}
+use Rattle.anstyle_parse.specs.Views.Accumulator.{front_of}
+use Rattle.anstyle_parse.specs.Views.Parser.{IsAfter}
+use Rattle.anstyle_parse.specs.Laws.Checkpoint.{max_checkpoint}
 use Rattle.strip_pieces.specs.State.{pending_of}
 use Rattle.strip_pieces.proofs.state.StreamState.resume.Goals as goal
 
@@ -11,7 +12,7 @@ returns c = λ before stands.
     let state = c.args.self.now in
     let took : IsAfter front_of c.advance_all.new.self (take c.min-length.result state.pending) = c.advance_all.ensures.stands [] refl c.new-parser.ensures.stands in
     let held : IsAfter front_of c.advance_all.new.self (pending_of state) =
-    let all : length state.pending ≡ 1042 = omega arith in
+    let all : length state.pending ≡ max_checkpoint = omega arith in
     subst (λ (l : List ℕ). IsAfter front_of c.advance_all.new.self l)
     (ap (λ n. take n state.pending) c.min-length.ensures ∙ ap (λ n. take (min state.length n) state.pending) (sym all) ∙ take_min state.length state.pending) took in
     held ∙ stands

@@ -1,0 +1,89 @@
+#!/usr/bin/env python3
+"""Records what terminal programs write, as streams that nobody here wrote.
+
+Usage: bench/record.py FOLDER [NAME]..
+
+Each program runs on a terminal of its own of 120 columns and 40 rows, is sent keys one after
+another, and is ended; what it wrote stands in FOLDER/NAME.bin. Programs that are not installed
+are left out, and said. The recordings are made anew each time and are not kept here: they hold
+what the machine's own files and processes are called. bench/measure.py takes the folder by
+--recordings.
+"""
+
+import fcntl
+import os
+import pty
+import select
+import shutil
+import signal
+import struct
+import sys
+import termios
+import time
+
+ROWS, COLUMNS = 40, 120
+# At most so many bytes of each program, and so long between two keys.
+MOST, BETWEEN = 1 << 20, 0.3
+ARROW_DOWN, PAGE_DOWN = b"\x1b[B", b"\x1b[6~"
+
+# name: the command, the keys that it is sent, and for how many seconds it runs
+PROGRAMS = {
+    "htop": (["htop", "-d", "3"], [b"t", ARROW_DOWN, ARROW_DOWN, b"t", b"H", b"P"], 5),
+    "less": (["less", "-R", "/etc/services"], [b" ", b" ", b"/tcp\r", b"n", b"n", b"g", b"G"], 4),
+    "ls": (["ls", "--color=always", "--hyperlink=always", "-la", "/usr/lib", "/usr/bin"], [], 4),
+    "mc": (["mc", "-u"], [ARROW_DOWN, b"\t", ARROW_DOWN, b"\x1b3", PAGE_DOWN, b"\x1b0", b"\x1b9"], 6),
+    "nano": (["nano", "/etc/services"], [b"\x17tcp\r", b"\x16", b"\x16", b"\x19", b"hello"], 5),
+    "tmux": (["tmux", "-L", "recorded", "new-session", "ls --color=always -la /usr/bin; top -b -n1; sleep 5"], [b"\x02%", b"ls --color /etc\r", b"\x02\""], 5),
+    "vim": (["vim", "-u", "NONE", "-c", "syntax on", "-c", "set number hlsearch", os.path.abspath(__file__)], [b"/def\r", b"n", b"\x06", b"\x06", b":split\r", b"Gohello \xe2\x82\xac \xf0\x9f\x98\x80\x1b", b"gg"], 6),
+    "apt": (["apt-get", "-s", "-o", "APT::Color=1", "-o", "Dpkg::Progress-Fancy=1", "install", "gimp"], [], 6),
+}
+
+
+def record(command, keys, seconds):
+    """What the command writes to its terminal."""
+    process, terminal = pty.fork()
+    if process == 0:
+        os.execvpe(command[0], command, dict(os.environ, TERM="xterm-256color", LANG="C.UTF-8", COLORTERM="truecolor"))
+    fcntl.ioctl(terminal, termios.TIOCSWINSZ, struct.pack("HHHH", ROWS, COLUMNS, 0, 0))
+    written, started, next_key = b"", time.monotonic(), time.monotonic() + 3 * BETWEEN
+    keys = list(keys)
+    while time.monotonic() - started < seconds and len(written) < MOST:
+        if select.select([terminal], [], [], 0.05)[0]:
+            try:
+                got = os.read(terminal, 1 << 16)
+            except OSError:
+                break
+            if not got:
+                break
+            written += got
+        if keys and time.monotonic() > next_key:
+            os.write(terminal, keys.pop(0))
+            next_key = time.monotonic() + BETWEEN
+    # (only this process, by its number)
+    try:
+        os.kill(process, signal.SIGKILL)
+    except ProcessLookupError:
+        pass
+    os.close(terminal)
+    os.waitpid(process, 0)
+    return written
+
+
+def main():
+    if len(sys.argv) < 2 or sys.argv[1].startswith("-"):
+        sys.exit(__doc__)
+    folder, names = sys.argv[1], sys.argv[2:] or list(PROGRAMS)
+    os.makedirs(folder, exist_ok=True)
+    for name in names:
+        command, keys, seconds = PROGRAMS[name]
+        if shutil.which(command[0]) is None:
+            print("%-6s is not installed, and is left out" % name)
+            continue
+        written = record(command, keys, seconds)
+        with open(os.path.join(folder, name + ".bin"), "wb") as file:
+            file.write(written)
+        print("%-6s %7d bytes" % (name, len(written)), flush=True)
+
+
+if __name__ == "__main__":
+    main()

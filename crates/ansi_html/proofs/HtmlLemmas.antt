@@ -1,0 +1,133 @@
+-- Text as HTML.
+use Rattle.std.proofs.Common.{◌≡◌, ◌≢◌, ◌<◌, ◌≤◌, ℕ, Bool, true, false, ⊎_elim, ◌||◌, eqb, List, [], ◌∷◌, ◌++◌, ◌-◌, length, take, refl, sym, ap, ◌∙◌, subst, arith, append_assoc, length-append}
+use Rattle.std.specs.Prelude.{not, encode_utf8, if◌then◌else◌}
+use Rattle.std.specs.List.{AllByRecursion}
+use Rattle.std.proofs.lemmas.Grind.{flat_map-append}
+use Rattle.std.proofs.lemmas.List.{take_at}
+use Rattle.std.proofs.lemmas.Bool.{ne_eqb, eqb-true, cases_lt, or_parts, or_cases}
+use Rattle.anstyle_parse.proofs.Characters.Scalars.{length-encode-some}
+use Rattle.anstyle_parse.proofs.Characters.Encoding.{encode_one, encode_two, encode_three, encode_four}
+use Rattle.ansi_strip.specs.Strip.{is_layout}
+use Rattle.ansi_style.specs.declared.style.Style.{Style}
+use Rattle.ansi_style.proofs.EqualityLemmas.{are_equal-refl}
+use Rattle.ansi_html.specs.Html.{escaped, escaped_text, change, text_html, shown_after, span_begin, span_end}
+use Rattle.ansi_html.specs.Grammar.{is_special, AreClear, BeginWithClear}
+
+pub false-from_not : (b : Bool) → not b ≡ true → b ≡ false
+false-from_not true h = cc
+false-from_not false h = refl
+
+pub true-from_not : (b : Bool) → not b ≡ false → b ≡ true
+true-from_not true h = refl
+true-from_not false h = cc
+
+-- text that is not empty
+text_html-some : (shown style : Style) (bytes : List ℕ) → 0 < length bytes → text_html shown style bytes ≡ change shown style ++ escaped_text bytes
+unfolding text_html
+text_html-some shown style [] some = absurd (omega arith)
+text_html-some shown style (b ∷ bytes) some = refl
+
+shown_after-some : (shown style : Style) (bytes : List ℕ) → 0 < length bytes → shown_after shown style bytes ≡ style
+shown_after-some shown style [] some = absurd (omega arith)
+shown_after-some shown style (b ∷ bytes) some = refl
+
+-- Each byte of a character that is not ASCII is 80 or above.
+abbrev pub AreHigh : List ℕ → Type 0
+AreHigh bytes = AllByRecursion (λ b. 0x80 ≤ b) bytes
+
+pub AreHigh-encode : (c : ℕ) → 0x80 ≤ c → AreHigh (encode_utf8 c)
+AreHigh-encode c high =
+    ⊎_elim
+    (λ (k : c < 0x800). subst AreHigh (sym (encode_two c high k)) (omega arith, (omega arith, tt)))
+    (λ (k : 0x800 ≤ c). ⊎_elim
+    (λ (j : c < 0x10000). subst AreHigh (sym (encode_three c k j)) (omega arith, (omega arith, (omega arith, tt))))
+    (λ (j : 0x10000 ≤ c). subst AreHigh (sym (encode_four c j)) (omega arith, (omega arith, (omega arith, (omega arith, tt)))))
+    (cases_lt c 0x10000))
+    (cases_lt c 0x800)
+
+pub is_special-other : (b : ℕ) → b ≢ 0x26 → b ≢ 0x3C → b ≢ 0x3E → b ≢ 0x22 → b ≢ 0x27 → is_special b ≡ false
+unfolding is_special
+is_special-other b amp lt gt quot apos =
+    rw (ne_eqb b 0x26 amp, ne_eqb b 0x3C lt, ne_eqb b 0x3E gt, ne_eqb b 0x22 quot, ne_eqb b 0x27 apos) refl
+
+pub is_special-high : (b : ℕ) → 0x80 ≤ b → is_special b ≡ false
+is_special-high b high = is_special-other b (omega arith) (omega arith) (omega arith) (omega arith) (omega arith)
+
+AreClear-high : (bytes : List ℕ) → AreHigh bytes → AreClear bytes
+AreClear-high [] high = tt
+AreClear-high (b ∷ bytes) high = (is_special-high b high.0, AreClear-high bytes high.1)
+
+-- a character with no meaning in HTML
+pub AreClear-encode : (c : ℕ) → is_special c ≡ false → AreClear (encode_utf8 c)
+AreClear-encode c clear =
+    ⊎_elim
+    (λ (k : c < 0x80). subst AreClear (sym (encode_one c k)) (clear, tt))
+    (λ (k : 0x80 ≤ c). AreClear-high (encode_utf8 c) (AreHigh-encode c k))
+    (cases_lt c 0x80)
+
+pub escaped-clear : (b : ℕ) → is_special b ≡ false → escaped b ≡ b ∷ []
+unfolding is_special
+escaped-clear b clear =
+    let h0 = or_parts (eqb b 0x26) _ clear in
+    let h1 = or_parts (eqb b 0x3C) _ h0.1 in
+    let h2 = or_parts (eqb b 0x3E) _ h1.1 in
+    let h3 = or_parts (eqb b 0x22) (eqb b 0x27) h2.1 in
+    rw (h0.0, h1.0, h2.0, h3.0, h3.1) refl
+
+pub escaped_text-clear : (bytes : List ℕ) → AreClear bytes → escaped_text bytes ≡ bytes
+escaped_text-clear [] clear = refl
+escaped_text-clear (b ∷ bytes) clear = ap (λ l. l ++ escaped_text bytes) (escaped-clear b clear.0) ∙ ap (λ l. b ∷ l) (escaped_text-clear bytes clear.1)
+
+-- bytes with no meaning, one after another
+AreClear-append : (bytes more : List ℕ) → AreClear bytes → AreClear more → AreClear (bytes ++ more)
+AreClear-append [] more first second = second
+AreClear-append (b ∷ bytes) more first second = (first.0, AreClear-append bytes more first.1 second)
+
+pub BeginWithClear-none : (bytes : List ℕ) → BeginWithClear bytes bytes
+BeginWithClear-none bytes = ([], tt, refl)
+
+pub BeginWithClear-more : (bytes rest clear left : List ℕ) → AreClear clear → rest ≡ clear ++ left → BeginWithClear bytes rest → BeginWithClear bytes left
+BeginWithClear-more bytes rest clear left are joined begun = (
+  begun.0 ++ clear,
+  AreClear-append begun.0 clear begun.1 are,
+  begun.2 ∙ ap (λ l. begun.0 ++ l) joined ∙ sym (append_assoc begun.0 clear left),
+)
+
+-- those that stand before what is left, and the text from them on
+pub clear_before : (bytes left : List ℕ) (begun : BeginWithClear bytes left) → take (length bytes - length left) bytes ≡ begun.0
+clear_before bytes left begun =
+    ap (take (length bytes - length left)) begun.2 ∙ take_at begun.0 left (length bytes - length left) (omega (arith, ap length begun.2, length-append begun.0 left))
+
+pub escaped_text-begun : (bytes left : List ℕ) (begun : BeginWithClear bytes left) → escaped_text bytes ≡ begun.0 ++ escaped_text left
+escaped_text-begun bytes left begun =
+    ap escaped_text begun.2 ∙ flat_map-append escaped begun.0 left ∙ ap (λ l. l ++ escaped_text left) (escaped_text-clear begun.0 begun.1)
+
+-- a character
+pub text_html-encode : (shown style : Style) (c : ℕ) → text_html shown style (encode_utf8 c) ≡ change shown style ++ escaped_text (encode_utf8 c)
+text_html-encode shown style c = text_html-some shown style (encode_utf8 c) (length-encode-some c)
+
+pub shown_after-encode : (shown style : Style) (c : ℕ) → shown_after shown style (encode_utf8 c) ≡ style
+shown_after-encode shown style c = shown_after-some shown style (encode_utf8 c) (length-encode-some c)
+
+-- a control that is text has no meaning in HTML
+layout_clear : (b : ℕ) → is_layout b ≡ true → is_special b ≡ false
+unfolding is_special
+layout_clear b is =
+    ⊎_elim
+    (λ either. ⊎_elim
+    (λ h. ap is_special (eqb-true b 0x09 h))
+    (λ h. ap is_special (eqb-true b 0x0A h))
+    (or_cases (eqb b 0x09) (eqb b 0x0A) either))
+    (λ h. ap is_special (eqb-true b 0x0D h))
+    (or_cases (eqb b 0x09 || eqb b 0x0A) (eqb b 0x0D) is)
+
+pub AreClear-layout : (b : ℕ) → is_layout b ≡ true → AreClear (b ∷ [])
+AreClear-layout b is = (layout_clear b is, tt)
+
+pub text_html-layout : (shown style : Style) (b : ℕ) → is_layout b ≡ true → text_html shown style (b ∷ []) ≡ change shown style ++ (b ∷ [])
+text_html-layout shown style b is =
+    text_html-some shown style (b ∷ []) (omega arith) ∙ ap (λ l. change shown style ++ l) (escaped_text-clear (b ∷ []) (AreClear-layout b is))
+
+-- where the style stays nothing changes
+pub change-same : (style : Style) → change style style ≡ []
+change-same style = ap (λ (same : Bool). if same then [] else span_end style ++ span_begin style) (are_equal-refl style)

@@ -1,0 +1,5 @@
+pub mod CellLemmas
+pub mod RangeLemmas
+pub mod TextLemmas
+pub mod CallLemmas
+pub mod LawLemmas

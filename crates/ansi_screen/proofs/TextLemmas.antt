@@ -1,0 +1,54 @@
+-- The text of rows, cell by cell and row by row.
+use Rattle.std.proofs.Common.{◌≡◌, ℕ, suc, ◌+◌, ◌<◌, true, false, List, [], ◌∷◌, ◌++◌, length, get_or, take, refl, ap, sym, ◌∙◌, subst, arith, add-one}
+use Rattle.std.specs.Prelude.{◌==◌}
+use Rattle.std.specs.List.{flat_map}
+use Rattle.std.proofs.lemmas.Bool.{ne_eqb}
+use Rattle.std.proofs.lemmas.List.{take_more, length-take-le, flat_map_more, append_assoc}
+use Rattle.anstyle_parse.specs.declared.io.devices.Sink.{Ghosts as SinkOf}
+use Rattle.anstyle_parse.specs.declared.io.output.Output.{Output}
+use Rattle.anstyle_parse.specs.Io.Output.{Adds}
+use Rattle.anstyle_parse.proofs.Written.Output.{Adds-append, Adds-append3}
+use Rattle.ansi_screen.specs.declared.cell.Cell.{Cell}
+use Rattle.ansi_screen.specs.Display.{Display, row_cells}
+use Rattle.ansi_screen.specs.Text.{is_blank, used, cell_text, row_text, rows_text}
+
+-- one cell more, blank or not
+used-push_blank : (cells : List Cell) (cell : Cell) → is_blank cell ≡ true → used (cells ++ cell ∷ []) ≡ used cells
+used-push_blank [] cell blank = rw blank refl
+used-push_blank (first ∷ cells) cell blank = rw (used-push_blank cells cell blank) refl
+
+used-push_other : (cells : List Cell) (cell : Cell) → is_blank cell ≡ false → used (cells ++ cell ∷ []) ≡ suc (length cells)
+used-push_other [] cell other = rw other refl
+used-push_other (first ∷ cells) cell other =
+    let some : (suc (length cells) == 0) ≡ false = ne_eqb (suc (length cells)) 0 (λ e. omega arith) in
+    rw (used-push_other cells cell other) (simp some)
+
+pub used-more_blank : (cells : List Cell) (i : ℕ) (d : Cell) → i < length cells → is_blank (get_or cells i d) ≡ true
+    → used (take (i + 1) cells) ≡ used (take i cells)
+used-more_blank cells i d inside blank = rw (take_more cells i d inside) (used-push_blank (take i cells) (get_or cells i d) blank)
+
+pub used-more_other : (cells : List Cell) (i : ℕ) (d : Cell) → i < length cells → is_blank (get_or cells i d) ≡ false
+    → used (take (i + 1) cells) ≡ i + 1
+used-more_other cells i d inside other =
+    let front : length (take i cells) ≡ i = length-take-le i cells (omega arith) in
+    rw (take_more cells i d inside) (used-push_other (take i cells) (get_or cells i d) other ∙ (ap suc front ∙ sym (add-one i)))
+
+module _ {W : Type 0} (sink : SinkOf W) where
+  -- one cell more is written
+  pub Adds-cell : (run : List Cell) (i : ℕ) (d : Cell) (a b c : Output W) → i < length run
+      → Adds sink (flat_map cell_text (take i run)) a b → Adds sink (cell_text (get_or run i d)) b c
+      → Adds sink (flat_map cell_text (take (i + 1) run)) a c
+  Adds-cell run i d a b c inside first second =
+      subst (λ t. Adds sink t a c)
+      (flat_map_more cell_text [] (take i run) (get_or run i d) ∙ ap (λ l. flat_map cell_text l) (sym (take_more run i d inside)))
+      (Adds-append sink (flat_map cell_text (take i run)) (cell_text (get_or run i d)) a b c first second)
+
+  -- one row more is written, and a line feed
+  pub Adds-row : (d : Display) (row : ℕ) (cells : List Cell) (a b c e : Output W) → cells ≡ row_cells row d
+      → Adds sink (rows_text row d) a b → Adds sink (row_text cells) b c
+      → Adds sink (0x0A ∷ []) c e → Adds sink (rows_text (row + 1) d) a e
+  Adds-row d row cells a b c e same first second third =
+      let whole : (rows_text row d ++ row_text cells) ++ 0x0A ∷ [] ≡ rows_text (suc row) d =
+      ap (λ (l : List Cell). (rows_text row d ++ row_text l) ++ 0x0A ∷ []) same ∙ append_assoc (rows_text row d) (row_text (row_cells row d)) (0x0A ∷ []) in
+      subst (λ t. Adds sink t a e) (whole ∙ ap (λ n. rows_text n d) (sym (add-one row)))
+      (Adds-append3 sink (rows_text row d) (row_text cells) (0x0A ∷ []) a b c e first second third)

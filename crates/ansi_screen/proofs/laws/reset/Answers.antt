@@ -1,0 +1,9 @@
+-- A reset leaves a new display.
+use Rattle.ansi_screen.proofs.LawLemmas.{after-reset, reset-forgets}
+use Rattle.ansi_screen.proofs.laws.reset.Goals as goal
+
+pub returns-clause-new : goal.returns-clause-new
+returns-clause-new c = after-reset
+
+pub returns-clause-forgets : goal.returns-clause-forgets
+returns-clause-forgets c = λ a b calls same_width same_height. reset-forgets calls a b same_width same_height

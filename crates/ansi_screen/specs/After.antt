@@ -1,0 +1,165 @@
+-- What each call of a parser does to a display: the whole meaning.
+--
+-- Sources: xterm's ctlseqs, "Controls beginning with ESC" and "Functions using CSI"; ECMA-48,
+-- 8.3, for the names.
+use Rattle.std.specs.Prelude.{◌≡◌, ℕ, ◌+◌, ◌-◌, max, true, false, ◌&&◌, ◌||◌, not, ◌==◌, List, [], ◌∷◌, length, if◌then◌else◌}
+use Rattle.anstyle_parse.specs.Stream.Call.{Call, print, execute, hook, put, unhook, osc_dispatch, csi_dispatch, esc_dispatch}
+use Rattle.anstyle_parse.specs.Stream.Calls.{AreCalls}
+use Rattle.ansi_screen.specs.declared.function.Edit.{Edit}
+use Rattle.ansi_screen.specs.declared.function.Edit.TheVariants.{InsertCharacters, EraseInDisplay, EraseInLine, InsertLines, DeleteLines, DeleteCharacters, EraseCharacters}
+use Rattle.ansi_screen.specs.declared.function.Move.{Move}
+use Rattle.ansi_screen.specs.declared.function.Move.TheVariants.{Up, Down, Forward, Back, NextLine, PrecedingLine, Column, Line, Position}
+use Rattle.ansi_screen.specs.declared.function.Setting.{Setting}
+use Rattle.ansi_screen.specs.declared.function.Setting.TheVariants.{Rendition, SetModes, ResetModes, Margins, ScrollUp, ScrollDown, ClearStops}
+use Rattle.ansi_screen.specs.declared.function.Function.{Function}
+use Rattle.ansi_screen.specs.declared.function.Function.TheVariants.{Edits, Moves, Sets, Nothing}
+use Rattle.ansi_screen.specs.Display.{Display, fresh}
+use Rattle.ansi_screen.specs.Moves.{to_column, settled, up, down, to_line, to_position, tabbed, with_stop, cleared_stops}
+use Rattle.ansi_screen.specs.Edits.{erased_display, erased_line, erased_characters, deleted_characters, inserted_characters, inserted_lines, deleted_lines, scrolled_up, scrolled_down, index, reverse_index}
+use Rattle.ansi_screen.specs.Print.{printed}
+use Rattle.ansi_screen.specs.Modes.{with_style, saving, restored, with_margins, with_modes, with_mode, with_private_mode, softly_reset, first_field}
+
+-- The control functions by their final byte.
+unfoldable pub function_of : ℕ → Function
+function_of final =
+    -- @: ICH, insert character
+    if final == 0x40 then Edits InsertCharacters
+    -- A to H: CUU, CUD, CUF, CUB, CNL, CPL, CHA, CUP
+    else if final == 0x41 then Moves Up
+    else if final == 0x42 then Moves Down
+    else if final == 0x43 then Moves Forward
+    else if final == 0x44 then Moves Back
+    else if final == 0x45 then Moves NextLine
+    else if final == 0x46 then Moves PrecedingLine
+    else if final == 0x47 then Moves Column
+    else if final == 0x48 then Moves Position
+    -- J, K: ED, EL
+    else if final == 0x4A then Edits EraseInDisplay
+    else if final == 0x4B then Edits EraseInLine
+    -- L, M, P: IL, DL, DCH
+    else if final == 0x4C then Edits InsertLines
+    else if final == 0x4D then Edits DeleteLines
+    else if final == 0x50 then Edits DeleteCharacters
+    -- S, T: SU, SD
+    else if final == 0x53 then Sets ScrollUp
+    else if final == 0x54 then Sets ScrollDown
+    -- X: ECH
+    else if final == 0x58 then Edits EraseCharacters
+    -- `, a: HPA, HPR
+    else if final == 0x60 then Moves Column
+    else if final == 0x61 then Moves Forward
+    -- d, f: VPA, HVP
+    else if final == 0x64 then Moves Line
+    else if final == 0x66 then Moves Position
+    -- g, h, l, m, r: TBC, SM, RM, SGR, DECSTBM
+    else if final == 0x67 then Sets ClearStops
+    else if final == 0x68 then Sets SetModes
+    else if final == 0x6C then Sets ResetModes
+    else if final == 0x6D then Sets Rendition
+    else if final == 0x72 then Sets Margins
+    else Nothing
+
+-- Parameters are taken by the first field of each group; a missing one is 0. A count is 1,
+-- where 0 is given.
+abbrev pub first_of : List (List ℕ) → ℕ
+first_of [] = 0
+first_of (group ∷ groups) = first_field group
+
+abbrev pub others : List (List ℕ) → List (List ℕ)
+others [] = []
+others (group ∷ groups) = groups
+
+abbrev pub second_of : List (List ℕ) → ℕ
+second_of groups = first_of (others groups)
+
+abbrev pub count : ℕ → ℕ
+count n = max 1 n
+
+-- Edits of cells, in a display in which no wrap is pending.
+unfoldable pub edited : Edit → ℕ → Display → Display
+edited InsertCharacters n d = inserted_characters (count n) d
+edited EraseInDisplay n d = erased_display n d
+edited EraseInLine n d = erased_line n d
+edited InsertLines n d = inserted_lines (count n) d
+edited DeleteLines n d = deleted_lines (count n) d
+edited DeleteCharacters n d = deleted_characters (count n) d
+edited EraseCharacters n d = erased_characters (count n) d
+
+-- Moves of the cursor, in such a display too.
+unfoldable pub moved : Move → ℕ → ℕ → Display → Display
+moved Up n column d = up (count n) d
+moved Down n column d = down (count n) d
+moved Forward n column d = to_column (d.cursor.column + count n) d
+moved Back n column d = to_column (d.cursor.column - count n) d
+moved NextLine n column d = to_column 0 (down (count n) d)
+moved PrecedingLine n column d = to_column 0 (up (count n) d)
+moved Column n column d = to_column (count n - 1) d
+moved Line n column d = to_line (count n - 1) d
+moved Position n column d = to_position (count n - 1) (count column - 1) d
+
+-- What leaves a pending wrap as it is.
+unfoldable pub set : Setting → List (List ℕ) → Display → Display
+set Rendition groups d = with_style groups d
+set SetModes groups d = with_modes (with_mode true) groups d
+set ResetModes groups d = with_modes (with_mode false) groups d
+set Margins groups d = with_margins (first_of groups) (second_of groups) d
+set ScrollUp groups d = scrolled_up (count (first_of groups)) d
+set ScrollDown groups d = scrolled_down (count (first_of groups)) d
+set ClearStops groups d = cleared_stops (first_of groups) d
+
+unfoldable pub controlled : Function → List (List ℕ) → Display → Display
+controlled (Edits edit) groups d = edited edit (first_of groups) (settled d)
+controlled (Moves move) groups d = moved move (first_of groups) (second_of groups) (settled d)
+controlled (Sets setting) groups d = set setting groups d
+controlled Nothing groups d = d
+
+-- a control sequence whose intermediates are none; ? for private modes; ! for DECSTR
+unfoldable pub sequenced : List (List ℕ) → List ℕ → ℕ → Display → Display
+sequenced groups [] final d = controlled (function_of final) groups d
+sequenced groups (mark ∷ []) final d =
+    if mark == 0x3F && final == 0x68 then with_modes (with_private_mode true) groups d
+    else if mark == 0x3F && final == 0x6C then with_modes (with_private_mode false) groups d
+    else if mark == 0x21 && final == 0x70 then softly_reset d
+    else d
+sequenced groups (mark ∷ other ∷ others) final d = d
+
+-- BS, HT, LF VT FF, CR
+unfoldable pub executed : ℕ → Display → Display
+executed byte d =
+    if byte == 0x08 then (let place = settled d in to_column (place.cursor.column - 1) place)
+    else if byte == 0x09 then tabbed d
+    else if byte == 0x0A || byte == 0x0B || byte == 0x0C then index (settled d)
+    else if byte == 0x0D then to_column 0 d
+    else d
+
+-- ESC 7, 8, D, E, H, M, c: DECSC, DECRC, IND, NEL, HTS, RI, RIS
+unfoldable pub escaped : ℕ → Display → Display
+escaped final d =
+    if final == 0x37 then saving d
+    else if final == 0x38 then restored d
+    else if final == 0x44 then index (settled d)
+    else if final == 0x45 then index (to_column 0 d)
+    else if final == 0x48 then with_stop true d
+    else if final == 0x4D then reverse_index (settled d)
+    else if final == 0x63 then fresh d.width d.height
+    else d
+
+-- The display after a call. What more came than a call shows, makes it one that is not known.
+abbrev pub after : Call → Display → Display
+after (print c) d = printed c d
+after (execute byte) d = executed byte d
+after (csi_dispatch groups intermediates ignore final) d = if ignore then d else sequenced groups intermediates final d
+after (esc_dispatch intermediates ignore final) d = if length intermediates == 0 && not ignore then escaped final d else d
+after (hook groups intermediates ignore final) d = d
+after (put byte) d = d
+after unhook d = d
+after (osc_dispatch parts bell_terminated) d = d
+
+-- the display after a list of calls
+abbrev pub after_all : List Call → Display → Display
+after_all [] d = d
+after_all (call ∷ calls) d = after_all calls (after call d)
+
+-- The bytes lead from one display to another: by the calls that a new parser makes of them.
+abbrev pub Shows : Display → List ℕ → Display → Type 0
+Shows old bytes new = (calls : List Call) × AreCalls bytes calls × (new ≡ after_all calls old)

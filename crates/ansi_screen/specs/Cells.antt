@@ -1,0 +1,65 @@
+-- Cells: blanks, halves of wide characters, and the one form that each edit of cells has.
+--
+-- Sources: ECMA-48 (5th edition), 8.3 (ED, EL, ECH, ICH, DCH, IL, DL, SU, SD); xterm's ctlseqs;
+-- terminfo(5), "bce", for the background of erased places.
+use Rattle.std.specs.Prelude.{ℕ, ◌+◌, ◌-◌, min, Bool, true, false, ◌&&◌, nat_lt, List, ◌++◌, length, take, drop, replicate, slice_index_or, slice_set, if◌then◌else◌}
+use Rattle.ansi_style.specs.declared.style.Style.{Style}
+use Rattle.ansi_style.specs.Style.{plain}
+use Rattle.ansi_screen.specs.declared.cell.Cell.{Cell}
+use Rattle.ansi_screen.specs.declared.cell.Part.{Part}
+use Rattle.ansi_screen.specs.declared.cell.Part.TheVariants.{Whole, Left, Right}
+
+-- What is erased shows the background that is selected, and nothing else of the style.
+abbrev pub blank : Style → Cell
+blank style = record { character = 0x20; style = record plain { background = style.background }; part = Whole }
+
+-- a half of a wide character that has lost the other: a space in its own style
+abbrev pub emptied : Cell → Cell
+emptied cell = record { character = 0x20; style = cell.style; part = Whole }
+
+abbrev pub is_right : Part → Bool
+is_right Whole = false
+is_right Left = false
+is_right Right = true
+
+-- the cell at a place; a plain blank past the end
+abbrev pub cell_at : ℕ → List Cell → Cell
+cell_at place cells = slice_index_or cells place (blank plain)
+
+-- A wide character whose right half stands at the place, so that its left half stands before
+-- it, becomes two blanks: so xterm does wherever it changes one of the halves.
+unfoldable pub cut : ℕ → List Cell → List Cell
+cut place cells =
+    if nat_lt 0 place && is_right (cell_at place cells).part
+    then slice_set (slice_set cells (place - 1) (emptied (cell_at (place - 1) cells))) place (emptied (cell_at place cells))
+    else cells
+
+-- The cells from start up to end go through `how`, which keeps their number; all others stay.
+abbrev pub within : ℕ → ℕ → (List Cell → List Cell) → List Cell → List Cell
+within start end how cells =
+    take start cells ++ (how (take (end - start) (drop start cells)) ++ drop (end - start) (drop start cells))
+
+-- the same, where no wide character is left with a half on each side of start or of end
+abbrev pub change : ℕ → ℕ → (List Cell → List Cell) → List Cell → List Cell
+change start end how cells = within start end how (cut start (cut end cells))
+
+-- What is done to a run of cells: all blank; moved towards its front, with blanks behind;
+-- moved towards its end, with blanks before. What moves out of the run is lost.
+abbrev pub erased : Cell → List Cell → List Cell
+erased space run = replicate (length run) space
+
+abbrev pub moved_back : ℕ → Cell → List Cell → List Cell
+moved_back count space run = drop (min count (length run)) run ++ replicate (min count (length run)) space
+
+abbrev pub moved_on : ℕ → Cell → List Cell → List Cell
+moved_on count space run = replicate (min count (length run)) space ++ take (length run - min count (length run)) run
+
+-- Cells are deleted at start, and those up to end move there; or blanks are inserted at start,
+-- and those that move past end are lost.
+abbrev pub deleted : ℕ → ℕ → ℕ → Cell → List Cell → List Cell
+deleted count start end space cells =
+    change start end (moved_back count space) (cut (start + min count (end - start)) cells)
+
+abbrev pub inserted : ℕ → ℕ → ℕ → Cell → List Cell → List Cell
+inserted count start end space cells =
+    change start end (moved_on count space) (cut (end - min count (end - start)) cells)

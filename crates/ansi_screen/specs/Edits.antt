@@ -1,0 +1,76 @@
+-- Edits of cells: each is a row of this table, over the one form of `Cells`.
+--
+-- Sources: xterm's ctlseqs; ECMA-48, 8.3 (ED, EL, ECH, ICH, DCH, IL, DL, SU, SD); for IND, RI
+-- and DECSTBM the VT510 manual.
+use Rattle.std.specs.Prelude.{ℕ, ◌+◌, ◌-◌, ◌*◌, min, Bool, ◌&&◌, ◌==◌, nat_lt, nat_le, List, length, if◌then◌else◌}
+use Rattle.ansi_screen.specs.declared.cell.Cell.{Cell}
+use Rattle.ansi_screen.specs.Cells.{blank, within, change, erased, moved_back, moved_on, deleted, inserted}
+use Rattle.ansi_screen.specs.Display.{Display, here, row_start, row_end}
+use Rattle.ansi_screen.specs.Moves.{to_row, to_column}
+
+abbrev pub with_cells : List Cell → Display → Display
+with_cells cells d = record d { cells = cells }
+
+-- what stands where something was erased or moved away
+abbrev pub space : Display → Cell
+space d = blank d.cursor.style
+
+-- from a place up to another: erased
+abbrev pub erased_cells : ℕ → ℕ → Display → Display
+erased_cells start end d = with_cells (change start end (erased (space d)) d.cells) d
+
+-- ED and EL: 0 from the cursor on, 1 up to the cursor and with it, 2 all
+unfoldable pub erased_part : ℕ → ℕ → ℕ → Display → Display
+erased_part kind start end d =
+    if kind == 0 then erased_cells (here d) end d
+    else if kind == 1 then erased_cells start (here d + 1) d
+    else if kind == 2 then erased_cells start end d
+    else d
+
+unfoldable pub erased_display : ℕ → Display → Display
+erased_display kind d = erased_part kind 0 (length d.cells) d
+
+unfoldable pub erased_line : ℕ → Display → Display
+erased_line kind d = erased_part kind (row_start d) (row_end d) d
+
+-- ECH
+unfoldable pub erased_characters : ℕ → Display → Display
+erased_characters n d = erased_cells (here d) (min (row_end d) (here d + n)) d
+
+-- DCH, ICH: within the cursor's row
+unfoldable pub deleted_characters : ℕ → Display → Display
+deleted_characters n d = with_cells (deleted n (here d) (row_end d) (space d) d.cells) d
+
+unfoldable pub inserted_characters : ℕ → Display → Display
+inserted_characters n d = with_cells (inserted n (here d) (row_end d) (space d) d.cells) d
+
+-- the rows from one up to another move up, or down, by n
+unfoldable pub rows_up : ℕ → ℕ → ℕ → Display → Display
+rows_up n first last d = with_cells (within (first * d.width) (last * d.width) (moved_back (n * d.width) (space d)) d.cells) d
+
+unfoldable pub rows_down : ℕ → ℕ → ℕ → Display → Display
+rows_down n first last d = with_cells (within (first * d.width) (last * d.width) (moved_on (n * d.width) (space d)) d.cells) d
+
+-- SU, SD: what is within the margins scrolls
+abbrev pub scrolled_up : ℕ → Display → Display
+scrolled_up n d = rows_up n d.top d.bottom d
+
+abbrev pub scrolled_down : ℕ → Display → Display
+scrolled_down n d = rows_down n d.top d.bottom d
+
+-- IL, DL: within the margins the rows from the cursor's on; the cursor goes to the first column
+abbrev pub is_in_margins : Display → Bool
+is_in_margins d = nat_le d.top d.cursor.row && nat_lt d.cursor.row d.bottom
+
+unfoldable pub inserted_lines : ℕ → Display → Display
+inserted_lines n d = if is_in_margins d then to_column 0 (rows_down n d.cursor.row d.bottom d) else d
+
+unfoldable pub deleted_lines : ℕ → Display → Display
+deleted_lines n d = if is_in_margins d then to_column 0 (rows_up n d.cursor.row d.bottom d) else d
+
+-- IND: a row down; at the lower margin all scrolls up instead. RI: the same upwards.
+unfoldable pub index : Display → Display
+index d = if d.cursor.row + 1 == d.bottom then scrolled_up 1 d else to_row (d.cursor.row + 1) d
+
+unfoldable pub reverse_index : Display → Display
+reverse_index d = if d.cursor.row == d.top then scrolled_down 1 d else to_row (d.cursor.row - 1) d

@@ -1,0 +1,11 @@
+pub mod Cells
+pub mod Display
+pub mod Moves
+pub mod Edits
+pub mod Ranges
+pub mod Widths
+pub mod Print
+pub mod Modes
+pub mod After
+pub mod Text
+pub mod Laws

@@ -1,0 +1,38 @@
+-- What a display shows as text: its rows, without blanks at their ends and without blank rows
+-- at the end.
+use Rattle.std.specs.Prelude.{ℕ, zero, suc, Bool, ◌&&◌, not, ◌==◌, List, [], ◌∷◌, ◌++◌, take, encode_utf8, if◌then◌else◌}
+use Rattle.std.specs.List.{flat_map}
+use Rattle.ansi_screen.specs.declared.cell.Cell.{Cell}
+use Rattle.ansi_screen.specs.Cells.{is_right}
+use Rattle.ansi_screen.specs.Display.{Display, row_cells}
+
+-- a space, in whatever style
+unfoldable pub is_blank : Cell → Bool
+is_blank cell = cell.character == 0x20 && not (is_right cell.part)
+
+-- how many cells come up to the last that is not blank, and with it
+abbrev pub used : List Cell → ℕ
+used [] = 0
+used (cell ∷ cells) = if used cells == 0 && is_blank cell then 0 else suc (used cells)
+
+-- a cell's character; the right half of a wide one has none
+unfoldable pub cell_text : Cell → List ℕ
+cell_text cell = if is_right cell.part then [] else encode_utf8 cell.character
+
+-- a row, without the blanks at its end
+abbrev pub row_text : List Cell → List ℕ
+row_text cells = flat_map cell_text (take (used cells) cells)
+
+-- of so many rows, how many come up to the last that is not blank, and with it
+abbrev pub used_rows : ℕ → Display → ℕ
+used_rows zero d = 0
+used_rows (suc row) d = if used (row_cells row d) == 0 then used_rows row d else suc row
+
+-- so many rows, each with a line feed
+abbrev pub rows_text : ℕ → Display → List ℕ
+rows_text zero d = []
+rows_text (suc row) d = rows_text row d ++ (row_text (row_cells row d) ++ 0x0A ∷ [])
+
+-- the text of the display
+abbrev pub text_of : Display → List ℕ
+text_of d = rows_text (used_rows d.height d) d

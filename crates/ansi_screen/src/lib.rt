@@ -1,0 +1,22 @@
+//! A terminal's screen: what xterm shows after any bytes, as far as cells, styles, the cursor
+//! and modes go.
+//!
+//! A [`Screen`] is a [`Perform`](anstyle_parse::Perform): given to a parser, it is after each
+//! byte what the definition in `specs/After.antt` says of the whole stream.
+#![tactic(auto)]
+
+mod cell;
+mod function;
+pub mod laws;
+mod place;
+mod runs;
+mod screen;
+mod tabs;
+#[cfg(test)]
+mod tests;
+mod text;
+mod width;
+
+pub use cell::{Cell, Part};
+pub use place::Place;
+pub use screen::{MAX_COLUMNS, MAX_ROWS, MIN_COLUMNS, MIN_ROWS, Screen};

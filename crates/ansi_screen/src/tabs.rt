@@ -1,0 +1,29 @@
+//! Where tabs stop.
+ghost use Rattle.std.specs.Prelude.{◌≡◌, ◌≤◌, length};
+ghost use Rattle.ansi_screen.specs.Display.{stops};
+ghost use Rattle.ansi_screen.specs.Moves.{before_stop};
+
+/// How far apart the first stops are.
+const STEP: usize = 8;
+
+/// A stop in each eighth column.
+pub(crate) fn reset_stops(tabs: &mut [bool])
+    ensures { tabs.new ≡ stops (length tabs.old) }
+{
+    for (column, stop) in tabs.iter_mut().enumerate() {
+        *stop = column % STEP == 0;
+    }
+}
+
+/// How many columns come before the first stop.
+pub(crate) fn columns_before_stop(tabs: &[bool]) -> usize
+    ensures place { result ≡ before_stop tabs.now }
+    ensures within { result ≤ length tabs.now }
+{
+    for (column, stop) in tabs.iter().enumerate() {
+        if *stop {
+            return column;
+        }
+    }
+    tabs.len()
+}

@@ -1,0 +1,78 @@
+//! What a screen shows, as text.
+ghost use Rattle.std.specs.Prelude.{◌≡◌, ◌≤◌, ◌<◌, length};
+ghost use Rattle.anstyle_parse.specs.Io.Output.{Adds};
+ghost use Rattle.ansi_screen.specs.Text.{is_blank, used, cell_text, row_text, used_rows, rows_text, text_of};
+
+use crate::cell::Cell;
+use crate::screen::Screen;
+use anstyle_parse::io::{Output, Sink};
+
+/// Whether the cell is a space, in whatever style.
+#[tactic(auto, unfolding(crate::specs::Text::is_blank))]
+fn is_blank(cell: Cell) -> bool
+    ensures { result ≡ is_blank cell }
+{
+    cell.character == ' ' && !cell.is_right()
+}
+
+/// How many cells come up to the last that is not blank.
+fn used(cells: &[Cell]) -> usize
+    ensures used { result ≡ used cells.now }
+    ensures within { result ≤ length cells.now }
+{
+    let mut used = 0;
+    for (column, cell) in cells.iter().enumerate() {
+        if !is_blank(*cell) {
+            used = column + 1;
+        }
+    }
+    used
+}
+
+/// Writes the character of a cell, unless it is a right half.
+#[tactic(auto, unfolding(crate::specs::Text::cell_text))]
+fn put_cell<W: Sink>(output: &mut Output<W>, cell: Cell)
+    ensures { Adds W.Sink (cell_text cell) output.old output.new }
+{
+    if !cell.is_right() {
+        output.put_char(cell.character);
+    }
+}
+
+/// Writes the row, without the blanks at its end.
+fn put_row<W: Sink>(output: &mut Output<W>, cells: &[Cell])
+    ensures { Adds W.Sink (row_text cells.now) output.old output.new }
+{
+    let end = used(cells);
+    for cell in &cells[..end] {
+        put_cell(output, *cell);
+    }
+}
+
+impl Screen {
+    /// How many rows come up to the last that is not blank.
+    fn used_rows(&self) -> usize
+        ensures used { result ≡ used_rows self.now.height self.now }
+        ensures within { result ≤ self.now.height }
+    {
+        let mut end = 0;
+        for row in 0..self.rows() {
+            if used(self.row(row)) > 0 {
+                end = row + 1;
+            }
+        }
+        end
+    }
+
+    /// Writes what the screen shows as text in UTF-8: each row without the blanks at its end,
+    /// and a line feed, without the blank rows at the end.
+    pub fn write_text<W: Sink>(&self, output: &mut Output<W>)
+        ensures { Adds W.Sink (text_of self.now) output.old output.new }
+    {
+        let end = self.used_rows();
+        for row in 0..end {
+            put_row(output, self.row(row));
+            output.put_byte(b'\n');
+        }
+    }
+}

@@ -1,0 +1,109 @@
+-- The calls of bytes print characters, so what is left of them is UTF-8.
+use Rattle.std.proofs.Common.{◌≡◌, ◌<◌, ℕ, Bool, true, false, ◌||◌, eqb, ltb, leb, le-leb, List, [], ◌∷◌, ◌++◌, refl, subst, ⊎_elim, arith}
+use Rattle.std.specs.Prelude.{if◌then◌else◌}
+use Rattle.std.specs.Char.{IsScalar}
+use Rattle.std.specs.List.{AllByRecursion}
+use Rattle.std.specs.Str.{IsUtf8}
+use Rattle.std.proofs.lemmas.Bool.{or_cases, eqb-true, lt-ltb, le-ltb}
+use Rattle.std.proofs.lemmas.Str.{IsUtf8-append, IsUtf8-nil, IsUtf8-encode}
+use Rattle.anstyle_parse.specs.Stream.Bytes.{is_within}
+use Rattle.anstyle_parse.specs.Stream.Call.{Call, print, execute, hook, put, unhook, osc_dispatch, csi_dispatch, esc_dispatch}
+use Rattle.anstyle_parse.specs.Stream.Calls.{AreCalls, Continues}
+use Rattle.anstyle_parse.specs.Machine.Decoder.{decoded}
+use Rattle.anstyle_parse.specs.Machine.Step.{new_machine, machine_calls}
+use Rattle.anstyle_parse.specs.Laws.Lawful.{is_character, AreLawfulFrom}
+use Rattle.anstyle_parse.proofs.Characters.Encoding.{encode_one, within_parts}
+use Rattle.anstyle_parse.proofs.Lawful.Calls.{lawful}
+use Rattle.anstyle_parse.proofs.Agreement.Whole.{AreCalls-machine}
+use Rattle.ansi_strip.specs.Strip.{is_layout, stripped_call, stripped}
+
+-- a call whose text can be shown: a printed character is one
+abbrev pub IsShowable : Call → Type 0
+IsShowable (print c) = is_character c ≡ true
+IsShowable (execute b) = Unit {0}
+IsShowable (hook groups intermediates ignore final) = Unit {0}
+IsShowable (put b) = Unit {0}
+IsShowable unhook = Unit {0}
+IsShowable (osc_dispatch parts bell) = Unit {0}
+IsShowable (csi_dispatch groups intermediates ignore final) = Unit {0}
+IsShowable (esc_dispatch intermediates ignore final) = Unit {0}
+
+abbrev pub AreShowable : List Call → Type 0
+AreShowable calls = AllByRecursion IsShowable calls
+
+pub AreShowable-lawful : (hooked : Bool) (calls : List Call) → AreLawfulFrom hooked calls → AreShowable calls
+AreShowable-lawful hooked [] h = tt
+AreShowable-lawful false (print c ∷ calls) h = (h.0, AreShowable-lawful false calls h.1)
+AreShowable-lawful false (execute b ∷ calls) h = (tt, AreShowable-lawful false calls h.1)
+AreShowable-lawful false (hook gs is ig f ∷ calls) h = (tt, AreShowable-lawful true calls h.1)
+AreShowable-lawful false (osc_dispatch parts bell ∷ calls) h = (tt, AreShowable-lawful false calls h.1)
+AreShowable-lawful false (csi_dispatch gs is ig f ∷ calls) h = (tt, AreShowable-lawful false calls h.1)
+AreShowable-lawful false (esc_dispatch is ig f ∷ calls) h = (tt, AreShowable-lawful false calls h.1)
+AreShowable-lawful true (put b ∷ calls) h = (tt, AreShowable-lawful true calls h.1)
+AreShowable-lawful true (unhook ∷ calls) h = (tt, AreShowable-lawful false calls h)
+AreShowable-lawful false (put b ∷ calls) h = absurd h
+AreShowable-lawful false (unhook ∷ calls) h = absurd h
+AreShowable-lawful true (_ ∷ calls) h = absurd h
+
+-- characters are scalar values
+scalar_below : (c : ℕ) → c < 0xD800 → IsScalar c
+scalar_below c low = rw (lt-ltb c 0xD800 low) refl
+
+scalar_above : (c : ℕ) → 0xDFFF < c → c < 0x110000 → IsScalar c
+scalar_above c low high =
+    let not_low : ltb c 0xD800 ≡ false = le-ltb c 0xD800 (omega arith) in
+    let above : leb 0xE000 c ≡ true = le-leb 0xE000 c (omega arith) in
+    let below : ltb c 0x110000 ≡ true = lt-ltb c 0x110000 high in
+    rw (not_low, above, below) refl
+
+pub IsScalar-character : (c : ℕ) → is_character c ≡ true → IsScalar c
+unfolding is_character
+IsScalar-character c is =
+    ⊎_elim
+    (λ h. let range = within_parts 0x20 0xD7FF c h in scalar_below c (omega (arith, range.1)))
+    (λ h. let range = within_parts 0xE000 0x10FFFF c h in scalar_above c (omega (arith, range.0)) (omega (arith, range.1)))
+    (or_cases (is_within 0x20 0xD7FF c) (is_within 0xE000 0x10FFFF c) is)
+
+-- ASCII is UTF-8
+pub IsUtf8-byte : (b : ℕ) → b < 0x80 → IsUtf8 (b ∷ [])
+IsUtf8-byte b low = subst IsUtf8 (encode_one b low) (IsUtf8-encode b (scalar_below b (omega arith)))
+
+pub layout_low : (b : ℕ) → is_layout b ≡ true → b < 0x80
+layout_low b is =
+    let at : (k : ℕ) → k < 0x80 → eqb b k ≡ true → b < 0x80 = λ k low e. let same = eqb-true b k e in omega arith in
+    ⊎_elim (λ either. ⊎_elim (at 0x09 (omega arith)) (at 0x0A (omega arith)) (or_cases (eqb b 0x09) (eqb b 0x0A) either)) (at 0x0D (omega arith))
+    (or_cases (eqb b 0x09 || eqb b 0x0A) (eqb b 0x0D) is)
+
+-- what is left of a call, and of calls
+left-control : (b : ℕ) (layout : Bool) → is_layout b ≡ layout → IsUtf8 (if layout then b ∷ [] else [])
+left-control b true is = IsUtf8-byte b (layout_low b is)
+left-control b false is = IsUtf8-nil
+
+IsUtf8-call : (call : Call) → IsShowable call → IsUtf8 (stripped_call call)
+IsUtf8-call (print c) is = IsUtf8-encode c (IsScalar-character c is)
+IsUtf8-call (execute b) is = left-control b (is_layout b) refl
+IsUtf8-call (hook gs is ig f) h = IsUtf8-nil
+IsUtf8-call (put b) h = IsUtf8-nil
+IsUtf8-call unhook h = IsUtf8-nil
+IsUtf8-call (osc_dispatch parts bell) h = IsUtf8-nil
+IsUtf8-call (csi_dispatch gs is ig f) h = IsUtf8-nil
+IsUtf8-call (esc_dispatch is ig f) h = IsUtf8-nil
+
+IsUtf8-stripped : (calls : List Call) → AreShowable calls → IsUtf8 (stripped calls)
+IsUtf8-stripped [] are = IsUtf8-nil
+IsUtf8-stripped (call ∷ calls) are = IsUtf8-append (stripped_call call) (stripped calls) (IsUtf8-call call are.0) (IsUtf8-stripped calls are.1)
+
+-- the later of the calls can be shown too
+AreShowable-after : (first calls : List Call) → AreShowable (first ++ calls) → AreShowable calls
+AreShowable-after [] calls are = are
+AreShowable-after (call ∷ first) calls are = AreShowable-after first calls are.1
+
+-- the text of bytes, and of those that continue others
+pub IsUtf8-calls : (bytes : List ℕ) (calls : List Call) → AreCalls bytes calls → IsUtf8 (stripped calls)
+IsUtf8-calls bytes calls are = IsUtf8-stripped calls (AreShowable-lawful false calls (lawful bytes calls are))
+
+pub IsUtf8-continued : (before bytes : List ℕ) (calls : List Call) → Continues before bytes calls → IsUtf8 (stripped calls)
+IsUtf8-continued before bytes calls continues =
+    let first = machine_calls decoded before (new_machine []) in
+    IsUtf8-stripped calls
+    (AreShowable-after first calls (AreShowable-lawful false (first ++ calls) (lawful (before ++ bytes) (first ++ calls) (continues first (AreCalls-machine before)))))

@@ -1,4 +1,0 @@
-use Rattle.anstyle_parse.proofs.canon.output.Output.+put_decimal.Given as goal
-
-abbrev pub decreases-put_decimal : goal.decreases-put_decimal
-decreases-put_decimal g l = l.number

@@ -1,0 +1,12 @@
+use Rattle.std.proofs.Common.{◌≤◌, length}
+use Rattle.anstyle_parse.specs.Views.Runs.{LeadsTo}
+use Rattle.anstyle_parse.proofs.parser.Parser.take_chunks.Given as goal
+
+abbrev pub invariant-chunks : goal.invariant-chunks
+invariant-chunks g l = record {
+  leads : LeadsTo g.C.CharAccumulator.takes g.C.CharAccumulator.taken g.P.Perform.means l.self l.fn.performer l.bytes l.self l.performer l.rest;
+  within : length l.rest ≤ length l.bytes;
+}
+
+abbrev pub decreases-chunks : goal.decreases-chunks
+decreases-chunks g l = length l.rest

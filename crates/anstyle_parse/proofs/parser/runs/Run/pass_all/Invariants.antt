@@ -1,9 +1,0 @@
--- going on from here by what is left is going from the start by all
-use Rattle.std.proofs.Common.{drop}
-use Rattle.anstyle_parse.specs.Fields.Runs.{ArePassedOn, passed_calls}
-use Rattle.anstyle_parse.proofs.parser.runs.Run.pass_all.Given as goal
-
-abbrev pub invariant-loop-byte : goal.invariant-loop-byte
-invariant-loop-byte g l =
-    (last : g.row.P.Denot) → ArePassedOn g.P.Perform.means (λ b. passed_calls l.self b) l.performer (drop l.byte-index l.byte-items) last
-    → ArePassedOn g.P.Perform.means (λ b. passed_calls l.self b) l.fn.performer l.byte-items last

@@ -1,0 +1,12 @@
+-- What contracts show of private fields: parameters as groups, a parser as a machine, an
+-- accumulator as the front of a character, what runs and texts lead to, a canonical writer as its output.
+pub mod Params
+pub mod Header
+pub mod Command
+pub mod Parser
+pub mod Front
+pub mod Accumulator
+pub mod DecodingProof
+pub mod Runs
+pub mod Texts
+pub mod CanonWriter

@@ -1,0 +1,22 @@
+//! Readers and writers that say what passed and whether they failed, the writing that
+//! performers share, and whole runs from a reader through a new parser to a writer.
+mod buffer;
+mod devices;
+mod engine;
+mod output;
+
+pub use buffer::Buffer;
+pub use devices::{FromRead, FromWrite, Sink, Source};
+pub use engine::{CallWriter, Stop, drive, write_calls, write_calls_between};
+pub use output::Output;
+
+/// What went wrong with a reader or a writer.
+#[derive(Debug, Clone, Copy, PartialEq, Eq)]
+pub enum Fault {
+    /// A read failed.
+    Read,
+    /// A write failed, or took none of some bytes.
+    Write,
+    /// A flush failed.
+    Flush,
+}

@@ -1,0 +1,182 @@
+//! Where bytes come from, and where they go.
+ghost use Rattle.std.specs.Prelude.{◌≡◌, ◌<◌, ◌≤◌, ℕ, Bool, true, false, List, Option, None, Some, length, take, IsTrue, IfSome, IfNone, OnSome, ⊤};
+ghost use Rattle.std.specs.Bool.{OnTrue, OnFalse};
+ghost use Rattle.std.specs.Io.KnownBytes.{Keeps, Appends, Consumes, IsAtEnd};
+ghost use Rattle.anstyle_parse.specs.declared.io.Fault.{Fault as AFault};
+ghost use Rattle.anstyle_parse.specs.declared.io.Fault.TheVariants.{Write as AWrite, Flush as AFlush};
+
+use super::Fault;
+use std::io::{Read, Write};
+
+/// Gives bytes.
+///
+/// An implementation tells in `remaining` which bytes it will give from here on, where it
+/// knows them, in `has_failed` whether a read has failed, and in `zero_is_end`, a fact of
+/// the type, whether a 0 into a slice with room means that nothing is left.
+pub trait Source {
+    // The bytes that reads will give from here on, where they are known.
+    ghost remaining: { Self → Option (List ℕ) };
+    // Whether a read has failed.
+    ghost has_failed: { Self → Bool };
+    // Whether a 0 into a slice with room means that nothing is left.
+    ghost zero_is_end: { Bool };
+
+    /// Reads into the front of the slice, and answers how many bytes came; `None` where it
+    /// failed, and then no byte passed. What it did once does not bind the next call: one
+    /// that failed may be asked again.
+    fn read(&mut self, into: &mut [u8]) -> Option<usize>
+        ensures within { IfSome result (λ count. count ≤ length into.new) }
+        ensures passed { IfSome result (λ count. Consumes (remaining self.old) (remaining self.new)
+            (take count into.new)) }
+        ensures end { IfSome result (λ count. count ≡ 0 → 0 < length into.new → IsTrue zero_is_end
+            → IsAtEnd (remaining self.new)) }
+        ensures not_failed { OnSome result (has_failed self.new ≡ has_failed self.old) }
+        ensures nothing_passed { IfNone result (Keeps (remaining self.old) (remaining self.new)) }
+        ensures failed { IfNone result (IsTrue (has_failed self.new)) };
+}
+
+/// Takes bytes.
+///
+/// An implementation tells in `contents` which bytes it has taken, where it knows them, in
+/// `has_failed` whether a write or a flush has failed, where it knows it, in `failed_as` what the
+/// last call that failed was, and, where it holds bytes back, in `holds_nothing` when it holds
+/// none.
+pub trait Sink {
+    // The bytes that it has taken, where they are known.
+    ghost contents: { Self → Option (List ℕ) };
+    // Whether a write or a flush has failed.
+    ghost has_failed: { Self → Bool };
+    // The last call that failed was this fault.
+    ghost failed_as: { Self → AFault → Type 0 } = { λ _ _. ⊤ };
+    // None of these bytes is held back.
+    ghost holds_nothing: { Self → Type 0 } = { λ _. ⊤ };
+
+    /// Takes bytes from the front of the slice, and answers how many: of some bytes at
+    /// least 1. `None` where it failed, and then no byte passed.
+    fn write(&mut self, bytes: &[u8]) -> Option<usize>
+        ensures within { IfSome result (λ count. count ≤ length bytes.now) }
+        ensures some { IfSome result (λ count. 0 < length bytes.now → 0 < count) }
+        ensures passed { IfSome result (λ count. Appends (contents self.old) (contents self.new)
+            (take count bytes.now)) }
+        ensures not_failed { OnSome result (has_failed self.new ≡ has_failed self.old) }
+        ensures nothing_passed { IfNone result (Keeps (contents self.old) (contents self.new)) }
+        ensures failed { IfNone result (IsTrue (has_failed self.new)) }
+        ensures was_a_write { IfNone result (failed_as self.new AWrite) };
+
+    /// Sees to it that what was taken reaches where it is to go, and answers whether that
+    /// went well. No further byte passes.
+    fn flush(&mut self) -> bool
+        ensures nothing_passed { Keeps (contents self.old) (contents self.new) }
+        ensures handed_on { OnTrue result (holds_nothing self.new) }
+        ensures not_failed { OnTrue result (has_failed self.new ≡ has_failed self.old) }
+        ensures failed { OnFalse result (IsTrue (has_failed self.new)) }
+        ensures was_a_flush { OnFalse result (failed_as self.new AFlush) };
+}
+
+/// A reader of std as a [`Source`]. An error of whatever kind is a failure, `Interrupted`
+/// too.
+#[derive(Drop)]
+pub struct FromRead<R> {
+    inner: R,
+    failed: bool,
+}
+
+impl<R: Read> FromRead<R> {
+    ghost use Rattle.anstyle_parse.specs.Io.Devices.{reader_of, reader_failed};
+
+    /// The reader, which has not failed so far.
+    pub fn new(inner: R) -> FromRead<R>
+        ensures inner { reader_of result ≡ inner }
+        ensures not_failed { reader_failed result ≡ false }
+    {
+        FromRead {
+            inner,
+            failed: false,
+        }
+    }
+
+    /// The reader as it stands.
+    pub fn into_inner(self) -> R
+        ensures { result ≡ reader_of self }
+    {
+        self.inner
+    }
+}
+
+impl<R: Read> Source for FromRead<R> {
+    ghost use Rattle.anstyle_parse.specs.Io.Devices.{reader_of, reader_failed};
+
+    ghost remaining = { λ source. R.remaining (reader_of source) };
+
+    ghost has_failed = { reader_failed };
+
+    ghost zero_is_end = { true };
+
+    fn read(&mut self, into: &mut [u8]) -> Option<usize> {
+        match self.inner.read(into) {
+            Ok(count) => Some(count),
+            Err(_) => {
+                self.failed = true;
+                None
+            }
+        }
+    }
+}
+
+/// A writer of std as a [`Sink`]. An error of whatever kind is a failure, `Interrupted`
+/// too, and so is a write that takes none of some bytes.
+#[derive(Drop)]
+pub struct FromWrite<W> {
+    inner: W,
+    /// What the last call that failed was.
+    fault: Option<Fault>,
+}
+
+impl<W: Write> FromWrite<W> {
+    ghost use Rattle.anstyle_parse.specs.Io.Devices.{writer_of, writer_fault, writer_failed};
+
+    /// The writer, which has not failed so far.
+    pub fn new(inner: W) -> FromWrite<W>
+        ensures inner { writer_of result ≡ inner }
+        ensures not_failed { writer_fault result ≡ None }
+    {
+        FromWrite { inner, fault: None }
+    }
+
+    /// The writer as it stands. Nothing is flushed.
+    pub fn into_inner(self) -> W
+        ensures { result ≡ writer_of self }
+    {
+        self.inner
+    }
+}
+
+impl<W: Write> Sink for FromWrite<W> {
+    ghost use Rattle.anstyle_parse.specs.Io.Devices.{writer_of, writer_fault, writer_failed};
+
+    ghost contents = { λ sink. W.contents (writer_of sink) };
+
+    ghost has_failed = { writer_failed };
+
+    ghost failed_as = { λ sink fault. writer_fault sink ≡ Some fault };
+
+    fn write(&mut self, bytes: &[u8]) -> Option<usize> {
+        match self.inner.write(bytes) {
+            Ok(count) if count > 0 || bytes.is_empty() => Some(count),
+            _ => {
+                self.fault = Some(Fault::Write);
+                None
+            }
+        }
+    }
+
+    fn flush(&mut self) -> bool {
+        match self.inner.flush() {
+            Ok(()) => true,
+            Err(_) => {
+                self.fault = Some(Fault::Flush);
+                false
+            }
+        }
+    }
+}

@@ -1,0 +1,244 @@
+//! One byte: where the table leads, and the actions on the way.
+ghost use Rattle.std.specs.Prelude.{◌≡◌, ◌≢◌};
+ghost use Rattle.anstyle_parse.specs.Stream.Call.{Goes};
+ghost use Rattle.anstyle_parse.specs.Machine.Step.{exit_action as exit_of, entry_action as entry_of};
+
+use super::Parser;
+use super::command::parts_of;
+use crate::accumulator::{CharAccumulator, Taken};
+use crate::controls::BELL;
+use crate::perform::Perform;
+use crate::state::{Action, State, state_change};
+
+/// One byte, inside a character or outside.
+impl<C: CharAccumulator> Parser<C> {
+    ghost use Rattle.std.specs.Prelude.{◌∷◌, [], IsTrue, ◌↔◌};
+    ghost use Rattle.anstyle_parse.specs.Stream.Call.{print};
+    ghost use Rattle.anstyle_parse.specs.Views.Parser.{machine_of, CanTake, ReachesAccumulator};
+    ghost use Rattle.anstyle_parse.specs.Machine.Table.{◌by◌, change_at};
+    ghost use Rattle.anstyle_parse.specs.Machine.Step.{after_continuation, print_answer, IsBroken, step_from, step_calls_from, step, step_calls};
+
+    /// One byte, as the machine takes it.
+    #[inline(always)]
+    pub(super) fn step<P: Perform>(&mut self, performer: &mut P, byte: u8)
+        requires { CanTake C.takes C.taken self.old byte }
+        ensures machine { machine_of self.new ≡ step C.taken byte (machine_of self.old) }
+        ensures calls { Goes P.means performer.old (step_calls C.taken byte (machine_of self.old)) performer.new }
+    {
+        let state = match self.state {
+            State::Utf8 => {
+                if !self.continue_character(performer, byte) {
+                    return;
+                }
+                State::Ground
+            }
+            state => state,
+        };
+        self.step_by_table(performer, state, byte);
+    }
+
+    /// A byte inside a character: a character that the accumulator answers is printed, and leads
+    /// back to the ground state. Answers whether the byte broke it, and has to be handled there.
+    fn continue_character<P: Perform>(&mut self, performer: &mut P, byte: u8) -> bool
+        requires inside { self.old.state ≡ State.Utf8 }
+        requires takes { C.takes self.old.accumulator byte }
+        ensures machine { machine_of self.new ≡ after_continuation C.taken byte (machine_of self.old) }
+        ensures calls { Goes P.means performer.old
+            (print_answer (C.taken self.old.accumulator byte).1) performer.new }
+        ensures breaks { IsTrue result ↔ IsBroken (C.taken self.old.accumulator byte).1 }
+    {
+        match self.accumulator.take(byte) {
+            Taken::More => false,
+            Taken::Char(c) => {
+                self.end_character(performer, c);
+                false
+            }
+            Taken::Broken(c) => {
+                self.end_character(performer, c);
+                true
+            }
+        }
+    }
+
+    /// A character is printed, and leads back to the ground state.
+    #[inline(always)]
+    fn end_character<P: Perform>(&mut self, performer: &mut P, c: char)
+        ensures machine { machine_of self.new ≡ record (machine_of self.old) { state = State.Ground } }
+        ensures calls { Goes P.means performer.old (print c ∷ []) performer.new }
+    {
+        performer.print(c);
+        self.state = State::Ground;
+    }
+
+    /// A byte outside a character, as the table has it.
+    #[inline(always)]
+    fn step_by_table<P: Perform>(&mut self, performer: &mut P, state: State, byte: u8)
+        requires is { self.old.state ≡ state }
+        requires outside { state ≢ State.Utf8 }
+        requires takes { ReachesAccumulator state byte → C.takes self.old.accumulator byte }
+        ensures machine { machine_of self.new ≡ step_from C.taken state byte (machine_of self.old) }
+        ensures calls { Goes P.means performer.old
+            (step_calls_from C.taken state byte (machine_of self.old)) performer.new }
+    {
+        let (state, action) = state_change(state, byte);
+        self.change_state(performer, state, action, byte);
+    }
+
+    /// A byte outside a character, of which the table's answer is known.
+    #[inline(always)]
+    pub(super) fn step_by_answer<P: Perform>(
+        &mut self,
+        performer: &mut P,
+        state: State,
+        action: Action,
+        byte: u8,
+    )
+        requires known { change_at self.old.state byte ≡ (state by action) }
+        requires outside { self.old.state ≢ State.Utf8 }
+        requires begins_none { action ≢ Action.BeginUtf8 }
+        ensures machine { machine_of self.new ≡ step C.taken byte (machine_of self.old) }
+        ensures calls { Goes P.means performer.old (step_calls C.taken byte (machine_of self.old)) performer.new }
+    {
+        self.change_state(performer, state, action, byte);
+    }
+}
+
+/// A change of state, and its actions.
+impl<C: CharAccumulator> Parser<C> {
+    ghost use Rattle.anstyle_parse.specs.Views.Parser.{machine_of};
+    ghost use Rattle.anstyle_parse.specs.Machine.Step.{after_change, change_calls, after_action, action_calls};
+
+    /// A change of state: the exit action of the old state, the action, the entry action of
+    /// the new one. Anywhere keeps the state, with no exit and no entry.
+    #[inline(always)]
+    fn change_state<P: Perform>(
+        &mut self,
+        performer: &mut P,
+        state: State,
+        action: Action,
+        byte: u8,
+    )
+        requires { action ≡ Action.BeginUtf8 → C.takes self.old.accumulator byte }
+        ensures machine { machine_of self.new ≡ after_change C.taken state action byte (machine_of self.old) }
+        ensures calls { Goes P.means performer.old
+            (change_calls C.taken state action byte (machine_of self.old)) performer.new }
+    {
+        match state {
+            State::Anywhere => self.perform_action(performer, action, byte),
+            state => {
+                self.perform_action(performer, exit_action(self.state), byte);
+                self.perform_action(performer, action, byte);
+                self.perform_action(performer, entry_action(state), byte);
+                self.state = state;
+            }
+        }
+    }
+
+    /// An action, and the calls that it makes.
+    #[inline(always)]
+    fn perform_action<P: Perform>(&mut self, performer: &mut P, action: Action, byte: u8)
+        requires { action ≡ Action.BeginUtf8 → C.takes self.old.accumulator byte }
+        ensures machine { machine_of self.new ≡ after_action C.taken action byte (machine_of self.old) }
+        ensures calls { Goes P.means performer.old
+            (action_calls C.taken action byte (machine_of self.old)) performer.new }
+    {
+        match action {
+            Action::Print => performer.print(char::from(byte)),
+            Action::Execute => performer.execute(byte),
+            Action::Hook => self.hook(performer, byte),
+            Action::Put => performer.put(byte),
+            Action::Unhook => performer.unhook(),
+            Action::OscStart => self.command.start(),
+            Action::OscPut => self.command.put(byte),
+            Action::OscEnd => self.osc_end(performer, byte),
+            Action::CsiDispatch => self.csi_dispatch(performer, byte),
+            Action::EscDispatch => {
+                performer.esc_dispatch(self.header.collected(), self.header.is_ignoring(), byte)
+            }
+            Action::Collect => self.header.collect(byte),
+            Action::Param => self.header.param(byte),
+            Action::Clear => self.header.clear(),
+            Action::BeginUtf8 => self.accumulate(performer, byte),
+            Action::Ignore | Action::Nop => {}
+        }
+    }
+
+    /// The header of a device control string is closed, and dispatched.
+    #[inline(always)]
+    fn hook<P: Perform>(&mut self, performer: &mut P, byte: u8)
+        ensures machine { machine_of self.new ≡ after_action C.taken Action.Hook byte (machine_of self.old) }
+        ensures calls { Goes P.means performer.old
+            (action_calls C.taken Action.Hook byte (machine_of self.old)) performer.new }
+    {
+        self.header.end_fields();
+        let header = &self.header;
+        performer.hook(
+            header.params(),
+            header.collected(),
+            header.is_ignoring(),
+            byte,
+        );
+    }
+
+    /// The header of a control sequence is closed, and dispatched.
+    #[inline(always)]
+    fn csi_dispatch<P: Perform>(&mut self, performer: &mut P, byte: u8)
+        ensures machine { machine_of self.new ≡ after_action C.taken Action.CsiDispatch byte (machine_of self.old) }
+        ensures calls { Goes P.means performer.old
+            (action_calls C.taken Action.CsiDispatch byte (machine_of self.old)) performer.new }
+    {
+        self.header.end_fields();
+        let header = &self.header;
+        let ignore = header.is_ignoring();
+        performer.csi_dispatch(header.params(), header.collected(), ignore, byte);
+    }
+
+    /// The command's last part is closed, and all of them are dispatched.
+    fn osc_end<P: Perform>(&mut self, performer: &mut P, byte: u8)
+        ensures machine { machine_of self.new ≡ after_action C.taken Action.OscEnd byte (machine_of self.old) }
+        ensures calls { Goes P.means performer.old
+            (action_calls C.taken Action.OscEnd byte (machine_of self.old)) performer.new }
+    {
+        self.command.close_part();
+        let (text, lengths) = self.command.text();
+        let parts = parts_of(text, lengths);
+        performer.osc_dispatch(&parts[..lengths.len()], byte == BELL);
+    }
+
+    /// The first byte of a character.
+    #[inline]
+    fn accumulate<P: Perform>(&mut self, performer: &mut P, byte: u8)
+        requires { C.takes self.old.accumulator byte }
+        ensures machine { machine_of self.new ≡ after_action C.taken Action.BeginUtf8 byte (machine_of self.old) }
+        ensures calls { Goes P.means performer.old
+            (action_calls C.taken Action.BeginUtf8 byte (machine_of self.old)) performer.new }
+    {
+        match self.accumulator.take(byte) {
+            Taken::More => {}
+            Taken::Char(c) | Taken::Broken(c) => performer.print(c),
+        }
+    }
+}
+
+/// What is done on the way out of a state.
+fn exit_action(state: State) -> Action
+    ensures { result ≡ exit_of state }
+{
+    match state {
+        State::DcsPassthrough => Action::Unhook,
+        State::OscString => Action::OscEnd,
+        _ => Action::Nop,
+    }
+}
+
+/// What is done on the way into a state.
+fn entry_action(state: State) -> Action
+    ensures { result ≡ entry_of state }
+{
+    match state {
+        State::Escape | State::CsiEntry | State::DcsEntry => Action::Clear,
+        State::DcsPassthrough => Action::Hook,
+        State::OscString => Action::OscStart,
+        _ => Action::Nop,
+    }
+}

@@ -1,0 +1,60 @@
+//! Answers of the two decoders to worked bytes of Unicode's Table 3-7, which no clause names.
+use anstyle_parse::{AsciiParser, CharAccumulator, DefaultCharAccumulator, Taken};
+
+// The last byte of each row answers the character, and the bytes before it nothing. After
+// it the next byte is at the start of a character.
+#[test]
+fn answers_at_the_last_byte(rt: HostRuntime) {
+    let rows: [(&[u8], char); 12] = [
+        (b"\x41", 'A'),
+        (b"\x80", '\u{FFFD}'),
+        (b"\xC2\x80", '\u{80}'),
+        (b"\xDF\xBF", '\u{7FF}'),
+        (b"\xE0\xA0\x80", '\u{800}'),
+        (b"\xEF\xBF\xBD", '\u{FFFD}'),
+        (b"\xF0\x90\x80\x80", '\u{10000}'),
+        (b"\xF4\x8F\xBF\xBF", '\u{10FFFF}'),
+        (b"\xE0\x80", '\u{FFFD}'),
+        (b"\xF4\x90", '\u{FFFD}'),
+        (b"\xED\xA0", '\u{FFFD}'),
+        (b"\xC3\xC3", '\u{FFFD}'),
+    ];
+    for (bytes, want) in rows {
+        let mut parser = DefaultCharAccumulator::default();
+        for (i, byte) in bytes.iter().enumerate() {
+            let is_last = i + 1 == bytes.len();
+            let wanted = if is_last { Some(want) } else { None };
+            assert_eq!(rt; parser.add(*byte), wanted, "byte {i} of {bytes:?}");
+        }
+        assert_eq!(rt; parser.add(b'A'), Some('A'), "after {bytes:?}");
+    }
+}
+
+// `take` tells a character that its last byte ends from one that it breaks.
+#[test]
+fn broken_characters_are_told_apart(rt: HostRuntime) {
+    let rows: [(&[u8], Taken); 7] = [
+        (b"\x41", Taken::Char('A')),
+        (b"\x80", Taken::Char('\u{FFFD}')),
+        (b"\xC3", Taken::More),
+        (b"\xEF\xBF\xBD", Taken::Char('\u{FFFD}')),
+        (b"\xC3\xC3", Taken::Broken('\u{FFFD}')),
+        (b"\xE0\x80", Taken::Broken('\u{FFFD}')),
+        (b"\xF0\x9F\x98\x1B", Taken::Broken('\u{FFFD}')),
+    ];
+    for (bytes, want) in rows {
+        let mut parser = DefaultCharAccumulator::default();
+        let mut answer = Taken::More;
+        for byte in bytes {
+            answer = parser.take(*byte);
+        }
+        assert_eq!(rt; answer, want, "after {bytes:?}");
+    }
+}
+
+#[test]
+fn ascii_is_answered_at_once(rt: HostRuntime) {
+    assert_eq!(rt; AsciiParser.add(b'\0'), Some('\0'));
+    assert_eq!(rt; AsciiParser.add(b'\x7F'), Some('\x7F'));
+    assert_eq!(rt; AsciiParser.take(b'\x7F'), Taken::Char('\x7F'));
+}

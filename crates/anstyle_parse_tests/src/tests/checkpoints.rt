@@ -1,0 +1,80 @@
+//! Parsers written down and resumed, with writers of std that fail at each byte in turn, of which no
+//! clause speaks.
+use super::failing::Failing;
+use super::lines::{lines_of, parser_after};
+use anstyle_parse::canon::{Fault, FromWrite, MAX_CHECKPOINT, checkpoint};
+use std::process::Abort;
+
+// What the parser of a history, and one that is resumed from its checkpoint, make of further
+// bytes. Answers how long the checkpoint is.
+fn assert_resumed(rt: &impl Abort, history: &[u8], then: &[u8], lines: &str) -> usize {
+    let mut parser = parser_after(history);
+    let (sink, answer) = checkpoint(&parser, Failing::new(2048, 7, false));
+    assert!(rt; answer == Ok(()), "{history:?}");
+    assert!(rt; sink.flushes == 1, "{history:?}");
+    let text = sink.taken.as_slice();
+    assert!(rt; text.len() <= MAX_CHECKPOINT, "{history:?}");
+
+    let mut resumed = parser_after(text);
+    let calls = lines_of(&mut resumed, then);
+    assert!(rt;
+        calls.as_str() == lines,
+        "{history:?} is resumed to {calls}"
+    );
+
+    for room in 0..text.len() {
+        let (sink, answer) = checkpoint(&parser, Failing::new(room, 7, false));
+        assert!(rt; answer == Err(Fault::Write), "{history:?}, room {room}");
+        assert!(rt;
+            sink.taken.as_slice() == &text[..room],
+            "{history:?}, room {room}"
+        );
+        assert!(rt; sink.flushes == 0, "{history:?}, room {room}");
+
+        let (sink, answer) = checkpoint(&parser, FromWrite::new(Failing::new(room, 7, false)));
+        let sink = sink.into_inner();
+        assert!(rt; answer == Err(Fault::Write), "{history:?}, room {room}");
+        assert!(rt;
+            sink.taken.as_slice() == &text[..room],
+            "{history:?}, room {room}"
+        );
+        assert!(rt; sink.flushes == 0, "{history:?}, room {room}");
+    }
+
+    let (sink, answer) = checkpoint(&parser, Failing::new(2048, 7, true));
+    assert!(rt; answer == Err(Fault::Flush), "{history:?}");
+    assert!(rt; sink.taken.as_slice() == text, "{history:?}");
+    assert!(rt; sink.flushes == 1, "{history:?}");
+
+    let calls = lines_of(&mut parser, then);
+    assert!(rt; calls.as_str() == lines, "{history:?} goes on with {calls}");
+    text.len()
+}
+
+#[test]
+fn resumed_parsers(rt: HostRuntime) {
+    let rows: [(&[u8], &[u8], &str); 4] = [
+        (b"\xE2\x82", b"\xAC", "print U+20AC\n"),
+        (b"\x1B !\"", b"0", "esc_dispatch 2021 true 30\n"),
+        (b"\x1B]a;b", b"\x07", "osc_dispatch true 61 62\n"),
+        (b"\x1BP1qA", b"B\x9C", "put 42\nunhook\n"),
+    ];
+    for (history, then, lines) in rows {
+        assert_resumed(&rt, history, then, lines);
+    }
+}
+
+// The longest checkpoint: sixteen closed parts and as much text as is kept.
+#[test]
+fn longest_checkpoint(rt: HostRuntime) {
+    let mut history = [b'x'; 1042];
+    let (begin, _text) = history.split_at_mut(18);
+    begin.copy_from_slice(b"\x1B];;;;;;;;;;;;;;;;");
+    let length = assert_resumed(
+        &rt,
+        &history,
+        b"\x07",
+        "osc_dispatch true - - - - - - - - - - - - - - - -\n",
+    );
+    assert_eq!(rt; (length, MAX_CHECKPOINT), (1042, 1042));
+}

@@ -1,0 +1,251 @@
+//! Every public item of every library, by its name, and every implementation that a type of theirs
+//! has of a trait of std: what is gone is missed here.
+use crate::{plain, write_last_style};
+use ansi_html::{HtmlWriter, convert};
+use ansi_strip::{Stripper, is_layout, strip};
+use ansi_style::{Color, Hue, Style, Underline};
+use anstyle_parse::canon::{CanonWriter, MAX_CHECKPOINT, checkpoint};
+use anstyle_parse::io::{
+    Buffer, CallWriter, Fault, FromRead, FromWrite, Output, Sink, Source, Stop, drive, write_calls,
+    write_calls_between,
+};
+use anstyle_parse::laws::{
+    action_as_number, bounds, calls_are_lawful, cancelled, canonical_again, canonical_text, clones,
+    default_variants, equal_accumulators, equal_parsers, equal_texts, equal_variants, forgotten,
+    front_of_a_character, headline, lawful_exactly, replay, state_as_number,
+};
+use anstyle_parse::state::{Action, State, state_change};
+use anstyle_parse::{
+    AsciiParser, CharAccumulator, DefaultCharAccumulator, Params, ParamsIter, Parser, Perform,
+    PerformText, Taken, Utf8Parser,
+};
+use standard_streams::{buffered, ended, failed, message, misused};
+use std::alloc::Global;
+use std::fmt::Debug;
+use std::io::{ErrorKind, IsTerminal, Read, Write};
+use std::iter::FusedIterator;
+use std::process::ExitCode;
+use std::test::Fail;
+use strip_pieces::{Fed, LEAST_ROOM, StreamState};
+use test_streams::{Paper, TROUBLES, Tape, narrow_papers, repeated};
+
+type Memory = FromWrite<Vec<u8>>;
+
+/// A value that is shown, copied and compared.
+fn is_plain<T: Debug + Copy + Clone + PartialEq + Eq>(_: T) {}
+
+/// One that has a default too, and is made of its number.
+fn has_number<T: Debug + Copy + Clone + PartialEq + Eq + Default + TryFrom<u8>>(_: T) {}
+
+/// One that is shown, cloned and compared, and has a default.
+fn is_kept<T: Debug + Clone + PartialEq + Eq + Default + Drop>(_: &T) {}
+
+fn is_accumulator<T: CharAccumulator>(_: &T) {}
+
+fn is_performer<T: Perform>(_: &T) {}
+
+fn is_source<T: Source + Drop>(_: &T) {}
+
+fn is_sink<T: Sink + Drop>(_: &T) {}
+
+fn is_reader<T: Read + Drop>(_: &T) {}
+
+fn is_writer<T: Write + Drop>(_: &T) {}
+
+fn writes_calls<T: CallWriter<Memory> + PerformText + Drop>(_: &T) {}
+
+fn is_iterator<T: Iterator + ExactSizeIterator + FusedIterator + Drop>(_: &T) {}
+
+#[test]
+fn names_of_the_parser(rt: HostRuntime) {
+    let parser = Parser::<Utf8Parser>::new();
+    is_kept(&parser);
+    is_kept(&Parser::<AsciiParser>::default());
+    is_kept(&AsciiParser);
+    is_accumulator(&AsciiParser);
+    is_kept(&Utf8Parser::default());
+    is_accumulator(&DefaultCharAccumulator::default());
+    assert!(rt; !parser.is_in_char());
+    is_performer(&());
+    is_plain(Taken::More);
+    is_plain(Taken::Char('a'));
+    is_plain(Taken::Broken('a'));
+
+    let params = Params::default();
+    is_kept(&params);
+    let iter: ParamsIter = params.iter();
+    is_iterator(&iter);
+    for _group in &params {}
+    assert!(rt; params.is_empty() && params.len() == 0);
+    Params::equality_law();
+    Params::text_law();
+
+    has_number(State::Ground);
+    has_number(Action::Nop);
+    assert!(rt; state_change(State::Ground, 0x1B) == (State::Escape, Action::Nop));
+}
+
+#[test]
+fn names_of_the_laws(rt: HostRuntime) {
+    headline(&mut Style::default(), &[b"a".as_slice()]);
+    front_of_a_character();
+    lawful_exactly();
+    calls_are_lawful();
+    replay();
+    equal_texts();
+    canonical_again();
+    bounds();
+    canonical_text::<Memory>();
+    forgotten::<Utf8Parser>();
+    cancelled::<Utf8Parser>();
+    equal_parsers();
+    equal_accumulators();
+    clones();
+    equal_variants();
+    default_variants();
+    assert_eq!(rt; state_as_number(State::Anywhere), 0);
+    assert_eq!(rt; action_as_number(Action::Nop), 0);
+    ansi_strip::laws::stripped_twice();
+    ansi_strip::laws::stripped_length();
+    ansi_strip::laws::stripped_utf8();
+    ansi_strip::laws::clean_text();
+    ansi_strip::laws::piece_length();
+    ansi_strip::laws::cut_before_escape();
+    ansi_style::laws::reset();
+    ansi_style::laws::joined();
+    ansi_style::laws::forms();
+    ansi_style::laws::equality();
+    assert_eq!(rt; ansi_style::laws::hue_as_number(Hue::Black), 0);
+    strip_pieces::laws::states();
+    strip_pieces::laws::texts_joined();
+    strip_pieces::laws::equality();
+}
+
+#[test]
+fn names_of_readers_and_writers(rt: HostRuntime) -> Result<(), Fail> {
+    is_plain(Fault::Read);
+    is_plain(Stop::AtEnd);
+    let mut reader = FromRead::new(b"a".as_slice());
+    is_source(&reader);
+    let mut performer = CanonWriter::new(memory(rt.alloc()));
+    writes_calls(&performer);
+    assert!(rt; drive(&mut reader, &mut performer) == Stop::AtEnd);
+    assert!(rt; performer.fault().is_none());
+    let (writer, answer) = performer.finish();
+    assert_eq!(rt; answer, Ok(()));
+    is_sink(&writer);
+    is_sink(&Buffer::by_line(memory(rt.alloc())));
+    let buffer = Buffer::new(writer);
+    assert_eq!(rt; buffer.fault_behind(Fault::Read), Fault::Read);
+    assert_eq!(rt;
+        buffer.into_inner().into_inner().as_slice(),
+        b"a".as_slice()
+    );
+    Ok(())
+}
+
+#[test]
+fn names_of_runs(rt: HostRuntime) -> Result<(), Fail> {
+    let mut reader = FromRead::new(b"a".as_slice());
+    let (_, answer) = write_calls::<CanonWriter<Memory>, FromRead<&[u8]>, Memory>(
+        &mut reader,
+        memory(rt.alloc()),
+    );
+    assert_eq!(rt; answer, Ok(()));
+    let (_, answer) = write_calls_between::<CanonWriter<Memory>, FromRead<&[u8]>, Memory>(
+        b"<",
+        &mut reader,
+        memory(rt.alloc()),
+        b">",
+    );
+    assert_eq!(rt; answer, Ok(()));
+    let (text, answer) = checkpoint(&Parser::<Utf8Parser>::new(), memory(rt.alloc()));
+    assert_eq!(rt; answer, Ok(()));
+    assert!(rt; text.into_inner().len() <= MAX_CHECKPOINT);
+    assert!(rt; is_layout(b'\t') && !is_layout(0x07));
+    let (_, answer) = strip(&mut reader, memory(rt.alloc()));
+    assert_eq!(rt; answer, Ok(()));
+    let (_, answer) = convert(b"<", &mut reader, memory(rt.alloc()), b">");
+    assert_eq!(rt; answer, Ok(()));
+    writes_calls(&Stripper::over(Output::new(memory(rt.alloc()))));
+    writes_calls(&HtmlWriter::over(Output::new(memory(rt.alloc()))));
+
+    let mut output = Output::new(memory(rt.alloc()));
+    output.put(b"a");
+    output.put_byte(b'b');
+    output.put_char('c');
+    output.put_decimal(1);
+    output.put_groups(&Params::default());
+    assert!(rt; output.fault().is_none());
+    Style::default().write_codes(&mut output);
+    write_last_style(b"a", &mut output);
+    let (_, answer) = output.finish();
+    assert_eq!(rt; answer, Ok(()));
+    let (_, answer) = plain(rt.alloc(), b"a");
+    assert_eq!(rt; answer, Ok(()));
+    Ok(())
+}
+
+#[test]
+fn names_of_styles_and_pieces(rt: HostRuntime) {
+    is_plain(Hue::Black);
+    is_plain(Color::Default);
+    is_plain(Color::Named(Hue::at(1)));
+    is_plain(Color::Bright(Hue::at(1)));
+    is_plain(Color::Indexed(1));
+    is_plain(Color::Direct(1, 2, 3));
+    is_plain(Underline::Off);
+    let mut style = Style::default();
+    is_plain(style);
+    style.select(&Params::default());
+
+    let mut state = StreamState::new();
+    let mut room = [0; LEAST_ROOM];
+    let fed = state.feed(b"a", &mut room);
+    assert!(rt;
+        fed == Some(Fed {
+            taken: 1,
+            written: 1
+        })
+    );
+    is_plain(Fed {
+        taken: 1,
+        written: 1,
+    });
+}
+
+#[test]
+fn names_of_test_streams(rt: HostRuntime) -> Result<(), Fail> {
+    is_reader(&Tape::new(b"a"));
+    is_reader(&Tape::by_byte(b"a"));
+    is_writer(&Paper::new(rt.alloc()));
+    is_writer(&Paper::narrow(rt.alloc(), 1, Some(ErrorKind::Other)));
+    is_writer(&Paper::failing_once(rt.alloc(), 1, None));
+    let _ = narrow_papers(rt.alloc(), 1, TROUBLES[0]);
+    assert_eq!(rt;
+        repeated(rt.alloc(), &[(b"a", 2)])?.as_slice(),
+        b"aa".as_slice()
+    );
+    Ok(())
+}
+
+fn memory(alloc: Global) -> Memory {
+    FromWrite::new(Vec::new(alloc))
+}
+
+/// What the programs share, which no test runs here: it writes to the standard streams.
+pub fn names_of_standard_streams<W: Write + IsTerminal + Drop>(
+    rt: &impl Eprint,
+    output: W,
+    other: W,
+) -> (Buffer<FromWrite<W>>, [ExitCode; 3]) {
+    let ran = (buffered(other), Err(Fault::Read));
+    (
+        buffered(output),
+        [
+            failed(rt, "", message(Fault::Read)),
+            ended(rt, "", ran),
+            misused(rt, ""),
+        ],
+    )
+}

@@ -1,0 +1,123 @@
+//! The performer that writes stripped text into the caller's room.
+ghost use Rattle.std.specs.Prelude.{◌≡◌, ◌-◌, ◌∷◌, [], length};
+ghost use Rattle.ansi_strip.specs.Strip.{stripped_call, stripped};
+
+use ansi_strip::is_layout;
+use anstyle_parse::{Params, Perform, PerformText};
+
+/// Writes what is left of each call after what is written, as far as there is room.
+#[derive(Drop)]
+pub(crate) struct SliceWriter<'a> {
+    into: &'a mut [u8],
+    written: usize,
+}
+
+impl<'a> SliceWriter<'a> {
+    ghost use Rattle.strip_pieces.specs.SliceWriter.{Puts};
+
+    pub(crate) fn new(into: &'a mut [u8]) -> SliceWriter<'a>
+        ensures same_reference { result.into.ghost_name ≡ into.entry.ghost_name }
+        ensures bytes { result.into.now ≡ into.old }
+        ensures nothing { result.written ≡ 0 }
+    {
+        SliceWriter { into, written: 0 }
+    }
+
+    /// How many bytes are written.
+    pub(crate) fn written(&self) -> usize
+        ensures { result ≡ self.now.written }
+    {
+        self.written
+    }
+
+    /// How many more there is room for.
+    pub(crate) fn left(&self) -> usize
+        ensures { result ≡ length self.now.into.now - self.now.written }
+    {
+        self.into.len().saturating_sub(self.written)
+    }
+
+    /// One byte more.
+    #[inline]
+    fn put_byte(&mut self, byte: u8)
+        ensures { Puts (byte ∷ []) self.old self.new }
+    {
+        if self.written < self.into.len() {
+            self.into[self.written] = byte;
+            self.written += 1;
+        }
+    }
+
+    /// Several bytes more.
+    #[inline]
+    fn put_bytes(&mut self, bytes: &[u8])
+        ensures { Puts bytes.now self.old self.new }
+    {
+        if bytes.len() <= self.left() && self.written <= self.into.len() {
+            let end = self.written + bytes.len();
+            self.into[self.written..end].copy_from_slice(bytes);
+            self.written = end;
+        }
+    }
+}
+
+impl<'a> Perform for SliceWriter<'a> {
+    ghost use Rattle.strip_pieces.specs.SliceWriter.{Puts};
+
+    // What is left of the call is put.
+    ghost means = { λ old call new. Puts (stripped_call call) old new };
+
+    #[inline]
+    fn print(&mut self, c: char) {
+        if c.is_ascii() {
+            self.put_byte(c as u8);
+        } else {
+            let mut bytes = [0; 4];
+            self.put_bytes(c.encode_utf8(&mut bytes).as_bytes());
+        }
+    }
+
+    #[inline]
+    fn execute(&mut self, byte: u8) {
+        if is_layout(byte) {
+            self.put_byte(byte);
+        }
+    }
+
+    fn hook(&mut self, _params: &Params, _intermediates: &[u8], _ignore: bool, _action: u8) {}
+
+    fn put(&mut self, _byte: u8) {}
+
+    fn unhook(&mut self) {}
+
+    fn osc_dispatch(&mut self, _params: &[&[u8]], _bell_terminated: bool) {}
+
+    fn csi_dispatch(
+        &mut self,
+        _params: &Params,
+        _intermediates: &[u8],
+        _ignore: bool,
+        _action: u8,
+    ) {}
+
+    fn esc_dispatch(&mut self, _intermediates: &[u8], _ignore: bool, _byte: u8) {}
+}
+
+/// A text is left as it is.
+impl<'a> PerformText for SliceWriter<'a> {
+    ghost use Rattle.strip_pieces.specs.SliceWriter.{Puts};
+    ghost use Rattle.strip_pieces.specs.PuttingProof.{Puts-none, Puts-one, Puts-more};
+
+    ghost receives = { λ old calls new. Puts (stripped calls) old new };
+
+    #[inline(always)]
+    fn print_text(&mut self, text: &str) {
+        self.put_bytes(text.as_bytes());
+    }
+
+    ghost receives_none = { Puts-none };
+
+    ghost receives_one = { Puts-one };
+
+    ghost receives_more = { Puts-more };
+}

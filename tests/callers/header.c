@@ -1,0 +1,159 @@
+/* What include/ansi_strip.h declares, and what a caller rests on: sizes, numbers, types, a false
+ * answer, ansi_strip_init, a piece of 4,096 bytes. tests/library compiles it as C and as C++, and
+ * with the sanitizers. Says what is wrong on standard error and ends with status 1. */
+#include "ansi_strip.h"
+#include "ansi_strip.h" /* (a second time: it guards itself) */
+
+#include <assert.h>
+#include <stdio.h>
+#include <stdlib.h>
+#include <string.h>
+
+static_assert(sizeof(ansi_strip) == 1056, "a state has 1,056 bytes");
+static_assert(offsetof(ansi_strip, length) == 0, "length is first");
+static_assert(sizeof(((ansi_strip *)0)->length) == 8, "length is a size_t of 8 bytes");
+static_assert(offsetof(ansi_strip, pending) == 8, "pending stands after length");
+static_assert(sizeof(((ansi_strip *)0)->pending) == 1042, "1,042 bytes are pending at most");
+static_assert(ANSI_STRIP_LEAST_ROOM == 4, "a character has four bytes at most");
+static_assert(ANSI_STRIP_ROOM(0) == 1, "three bytes for each, and one more");
+static_assert(ANSI_STRIP_ROOM(4096) == 12289, "three bytes for each, and one more");
+static_assert(ANSI_STRIP_ROOM(1 + 1) == 7, "the count stands in brackets");
+static_assert(2 * ANSI_STRIP_ROOM(1) == 8, "and so does the whole");
+static_assert(sizeof(ANSI_STRIP_ROOM(1)) == sizeof(size_t), "it is a size");
+static_assert(ANSI_STRIP_ROOM(0x60000000) == 0x120000001, "also of a large count");
+
+/* The types: with another one this is a warning, and warnings are errors. */
+static void (*const init)(ansi_strip *) = ansi_strip_init;
+static bool (*const feed)(ansi_strip *, const unsigned char *, size_t, unsigned char *, size_t,
+                          size_t *, size_t *) = ansi_strip_feed;
+
+enum { COUNT = 4096, AFTER = 64 };
+
+static int failures;
+
+static void expect(bool holds, const char *what)
+{
+    if (!holds) {
+        fprintf(stderr, "header.c: it does not hold that %s\n", what);
+        failures++;
+    }
+}
+
+static bool are(const unsigned char *bytes, size_t count, unsigned char byte)
+{
+    size_t at;
+
+    for (at = 0; at < count; at++)
+        if (bytes[at] != byte)
+            return false;
+    return true;
+}
+
+/* A state, and bytes after it that no call may touch. */
+struct guarded {
+    ansi_strip state;
+    unsigned char after[AFTER];
+};
+
+static struct guarded any_state(unsigned char byte)
+{
+    struct guarded it;
+
+    memset(&it, byte, sizeof it);
+    return it;
+}
+
+static void init_begins_a_stream(void)
+{
+    struct guarded it = any_state(0xA5);
+    unsigned char room[16];
+    size_t taken = 7, written = 7;
+
+    feed(&it.state, (const unsigned char *)"\033]0;", 4, room, sizeof room, &taken, &written);
+    init(&it.state);
+    expect(feed(&it.state, (const unsigned char *)"A", 1, room, sizeof room, &taken, &written), "a stream begins");
+    expect(taken == 1 && written == 1 && room[0] == 'A', "after ansi_strip_init its text is left");
+    expect(are(it.after, AFTER, 0xA5), "what follows the state is as it was");
+}
+
+static void long_title_stays_in_the_state(void)
+{
+    struct guarded it = any_state(0xA5);
+    unsigned char piece[3000], room[16];
+    size_t taken, written;
+
+    init(&it.state);
+    memset(piece, 'x', sizeof piece);
+    memcpy(piece, "\033]0;", 4);
+    expect(feed(&it.state, piece, sizeof piece, room, sizeof room, &taken, &written), "a title is taken");
+    expect(taken == sizeof piece && written == 0, "a title leaves nothing");
+    expect(are(it.after, AFTER, 0xA5), "what follows a state that is full is as it was");
+}
+
+/* The counts are not alike, so they cannot be taken for one another. */
+static void counts_have_their_places(void)
+{
+    ansi_strip state;
+    unsigned char room[16];
+    size_t taken, written;
+
+    memset(&state, 0, sizeof state);
+    memset(room, 0x7E, sizeof room);
+    expect(feed(&state, (const unsigned char *)"\033[1mabZZ", 6, room, sizeof room, &taken, &written), "there is room");
+    expect(taken == 6, "six bytes are taken");
+    expect(written == 2 && memcmp(room, "ab", 2) == 0, "two bytes of text are written");
+    expect(are(room + 2, sizeof room - 2, 0x7E), "what follows the text is as it was");
+}
+
+static void little_room_is_refused(void)
+{
+    ansi_strip state, before;
+    unsigned char room[8];
+    size_t size, taken, written;
+
+    memset(&state, 0, sizeof state);
+    feed(&state, (const unsigned char *)"\360\237\230", 3, room, sizeof room, &taken, &written);
+    before = state;
+    for (size = 0; size < ANSI_STRIP_LEAST_ROOM; size++) {
+        memset(room, 0x7E, sizeof room);
+        taken = written = 7;
+        expect(feed(&state, (const unsigned char *)"\200", 1, room, size, &taken, &written) == false, "little room is refused");
+        expect(taken == 0 && written == 0, "nothing is taken or written");
+        expect(memcmp(&state, &before, sizeof state) == 0, "the state is as it was");
+        expect(are(room, sizeof room, 0x7E), "the room is as it was");
+    }
+    expect(feed(&state, (const unsigned char *)"", 0, room, 0, &taken, &written), "no bytes need no room");
+    expect(feed(&state, (const unsigned char *)"\200", 1, room, ANSI_STRIP_LEAST_ROOM, &taken, &written) == true, "the least room suffices");
+    expect(taken == 1 && written == 4 && memcmp(room, "\360\237\230\200", 4) == 0, "a character of four bytes is left");
+}
+
+/* A character is begun, each byte breaks one, and the last is printed: no text is longer. */
+static void longest_text_has_room(void)
+{
+    struct guarded it = any_state(0xA5);
+    unsigned char *piece = (unsigned char *)malloc(COUNT);
+    unsigned char *room = (unsigned char *)malloc(ANSI_STRIP_ROOM(COUNT) + AFTER);
+    size_t taken, written;
+
+    init(&it.state);
+    memset(piece, 0xF0, COUNT);
+    feed(&it.state, piece, 1, room, ANSI_STRIP_ROOM(1), &taken, &written);
+    piece[COUNT - 1] = 'a';
+    memset(room, 0x7E, ANSI_STRIP_ROOM(COUNT) + AFTER);
+    expect(feed(&it.state, piece, COUNT, room, ANSI_STRIP_ROOM(COUNT), &taken, &written), "there is room");
+    expect(taken == COUNT, "4,096 bytes are taken at once");
+    expect(written == 3 * COUNT + 1 && room[written - 1] == 'a', "they leave 12,289 bytes of text");
+    expect(are(room + written, AFTER, 0x7E), "what follows the room is as it was");
+    free(piece);
+    free(room);
+}
+
+int main(void)
+{
+    init_begins_a_stream();
+    long_title_stays_in_the_state();
+    counts_have_their_places();
+    little_room_is_refused();
+    longest_text_has_room();
+    return failures != 0;
+}

@@ -1,0 +1,351 @@
+"""The meaning of a screen, executable: the definitions of crates/ansi_screen/specs in Python.
+
+    show(bytes, width, height)      the text that ansi2screen must write
+
+It has a parser of its own, for streams that are well formed. Widths come from Unicode's data as
+Python has it, not from the repository's table.
+"""
+
+import unicodedata
+
+WHOLE, LEFT, RIGHT = range(3)
+
+
+def columns(c):
+    """How many columns a character takes; None, where it shows nothing."""
+    n = ord(c)
+    if n < 0x20 or 0x7F <= n <= 0x9F:
+        return None
+    if n == 0xAD:
+        return 1
+    if unicodedata.category(c) in ("Mn", "Me", "Cf") or 0x1160 <= n <= 0x11FF:
+        return 0
+    return 2 if unicodedata.east_asian_width(c) in ("W", "F") else 1
+
+
+class Place:
+    def __init__(self, row=0, column=0, is_relative=False):
+        self.row, self.column, self.is_relative = row, column, is_relative
+
+    def copy(self):
+        return Place(self.row, self.column, self.is_relative)
+
+
+class Display:
+    """Cells are pairs of a character and a part, row by row in one list."""
+
+    BLANK = (" ", WHOLE)
+
+    def __init__(self, width, height):
+        self.width, self.height = width, height
+        self.reset()
+
+    def reset(self):
+        self.cells = self.blanks()
+        self.hidden = self.blanks()
+        self.cursor, self.saved, self.hidden_saved = Place(), Place(), Place()
+        self.top, self.bottom = 0, self.height
+        self.tabs = [column % 8 == 0 for column in range(self.width)]
+        self.wraps, self.inserts, self.is_alternate = True, False, False
+
+    def blanks(self):
+        return [self.BLANK] * (self.width * self.height)
+
+    # -------------------------------------------------------------- places
+
+    def row_start(self):
+        return self.cursor.row * self.width
+
+    def row_end(self):
+        return self.row_start() + self.width
+
+    def here(self):
+        return self.row_start() + self.cursor.column
+
+    def to_row(self, row):
+        self.cursor.row = min(row, self.height - 1)
+
+    def to_column(self, column):
+        self.cursor.column = min(column, self.width - 1)
+
+    def settle(self):
+        self.to_column(self.cursor.column)
+
+    def up(self, n):
+        row = self.cursor.row
+        self.to_row(max(row - n, 0 if row < self.top else self.top))
+
+    def down(self, n):
+        row = self.cursor.row + n
+        self.to_row(min(row, self.bottom - 1) if self.cursor.row < self.bottom else row)
+
+    def to_line(self, line):
+        self.to_row(min(self.top + line, self.bottom - 1) if self.cursor.is_relative else line)
+
+    def to_position(self, line, column):
+        self.to_line(line)
+        self.to_column(column)
+
+    def tab(self):
+        if self.cursor.column < self.width:
+            stops = [c for c in range(self.cursor.column + 1, self.width) if self.tabs[c]]
+            self.to_column(stops[0] if stops else self.width - 1)
+
+    def set_stop(self, stops):
+        self.tabs[min(self.cursor.column, self.width - 1)] = stops
+
+    # -------------------------------------------------------------- cells
+
+    def cut(self, at):
+        if 0 < at < len(self.cells) and self.cells[at][1] == RIGHT:
+            self.cells[at - 1 : at + 1] = [self.BLANK] * 2
+
+    def change(self, start, end, how):
+        self.cut(end)
+        self.cut(start)
+        self.within(start, end, how)
+
+    def within(self, start, end, how):
+        self.cells[start:end] = how(self.cells[start:end])
+
+    def erased(self, run):
+        return [self.BLANK] * len(run)
+
+    def moved_back(self, n):
+        return lambda run: run[n:] + [self.BLANK] * min(n, len(run))
+
+    def moved_on(self, n):
+        return lambda run: [self.BLANK] * min(n, len(run)) + run[: max(0, len(run) - n)]
+
+    def erase(self, kind, start, end):
+        if kind == 0:
+            self.change(self.here(), end, self.erased)
+        elif kind == 1:
+            self.change(start, self.here() + 1, self.erased)
+        elif kind == 2:
+            self.change(start, end, self.erased)
+
+    def delete_characters(self, n):
+        self.cut(min(self.row_end(), self.here() + n))
+        self.change(self.here(), self.row_end(), self.moved_back(n))
+
+    def insert_characters(self, n):
+        self.cut(max(self.here(), self.row_end() - n))
+        self.change(self.here(), self.row_end(), self.moved_on(n))
+
+    def rows(self, first, last, how, n):
+        self.within(first * self.width, last * self.width, how(n * self.width))
+
+    def lines(self, how, n):
+        if self.top <= self.cursor.row < self.bottom:
+            self.rows(self.cursor.row, self.bottom, how, n)
+            self.to_column(0)
+
+    def scroll(self, how, n):
+        self.rows(self.top, self.bottom, how, n)
+
+    def index(self):
+        if self.cursor.row + 1 == self.bottom:
+            self.scroll(self.moved_back, 1)
+        else:
+            self.to_row(self.cursor.row + 1)
+
+    def reverse_index(self):
+        if self.cursor.row == self.top:
+            self.scroll(self.moved_on, 1)
+        else:
+            self.to_row(max(0, self.cursor.row - 1))
+
+    # -------------------------------------------------------------- printing
+
+    def print(self, c):
+        n = columns(c)
+        if not n:
+            return
+        if self.cursor.column + n > self.width:
+            if self.wraps:
+                self.to_column(0)
+                self.index()
+            else:
+                self.settle()
+        if self.cursor.column + n <= self.width:
+            if self.inserts:
+                self.insert_characters(n)
+            glyph = [(c, LEFT), (" ", RIGHT)] if n == 2 else [(c, WHOLE)]
+            self.change(self.here(), self.here() + n, lambda run: glyph)
+            self.cursor.column += n
+
+    # -------------------------------------------------------------- modes
+
+    def restore(self):
+        self.cursor = self.saved.copy()
+        if self.cursor.is_relative:
+            self.to_row(max(self.top, min(self.cursor.row, self.bottom - 1)))
+
+    def margins(self, first, last):
+        first, bottom = max(1, first), last if 0 < last < self.height else self.height
+        if first < bottom:
+            self.top, self.bottom = first - 1, bottom
+            self.to_position(0, 0)
+
+    def alternate(self, on):
+        if on and not self.is_alternate:
+            self.hidden, self.cells = self.cells, self.blanks()
+            self.hidden_saved, self.saved = self.cursor.copy(), Place()
+            self.is_alternate = True
+        if not on:
+            if self.is_alternate:
+                self.cells, self.hidden = self.hidden, self.blanks()
+                self.saved, self.hidden_saved = self.hidden_saved, Place()
+                self.is_alternate = False
+            self.restore()
+
+    def set_mode(self, mode, on):
+        if mode == "4":
+            self.inserts = on
+        elif mode == "?6":
+            self.cursor.is_relative = on
+            self.to_position(0, 0)
+        elif mode == "?7":
+            self.wraps = on
+        elif mode == "?1049":
+            self.alternate(on)
+
+    def soft_reset(self):
+        self.cursor.is_relative, self.saved = False, Place()
+        self.top, self.bottom = 0, self.height
+        self.wraps, self.inserts = True, False
+
+    # -------------------------------------------------------------- calls
+
+    def execute(self, byte):
+        if byte == 0x08:
+            self.settle()
+            self.to_column(max(0, self.cursor.column - 1))
+        elif byte == 0x09:
+            self.tab()
+        elif byte in (0x0A, 0x0B, 0x0C):
+            self.settle()
+            self.index()
+        elif byte == 0x0D:
+            self.to_column(0)
+
+    MOVES = {
+        "A": lambda s, n, m: s.up(n),
+        "B": lambda s, n, m: s.down(n),
+        "C": lambda s, n, m: s.to_column(s.cursor.column + n),
+        "D": lambda s, n, m: s.to_column(max(0, s.cursor.column - n)),
+        "E": lambda s, n, m: (s.down(n), s.to_column(0)),
+        "F": lambda s, n, m: (s.up(n), s.to_column(0)),
+        "G": lambda s, n, m: s.to_column(n - 1),
+        "H": lambda s, n, m: s.to_position(n - 1, m - 1),
+        "`": lambda s, n, m: s.to_column(n - 1),
+        "a": lambda s, n, m: s.to_column(s.cursor.column + n),
+        "d": lambda s, n, m: s.to_line(n - 1),
+        "f": lambda s, n, m: s.to_position(n - 1, m - 1),
+    }
+    EDITS = {
+        "@": lambda s, n, p: s.insert_characters(n),
+        "J": lambda s, n, p: s.erase(p, 0, len(s.cells)),
+        "K": lambda s, n, p: s.erase(p, s.row_start(), s.row_end()),
+        "L": lambda s, n, p: s.lines(s.moved_on, n),
+        "M": lambda s, n, p: s.lines(s.moved_back, n),
+        "P": lambda s, n, p: s.delete_characters(n),
+        "X": lambda s, n, p: s.change(s.here(), min(s.row_end(), s.here() + n), s.erased),
+    }
+
+    def control(self, marker, fields, final):
+        first, second = (fields + [0, 0])[:2]
+        if final in "hl" and marker in ("", "?"):
+            for field in fields:
+                self.set_mode("%s%d" % (marker, field), final == "h")
+        elif marker == "!" and final == "p":
+            self.soft_reset()
+        elif marker:
+            pass
+        elif final in self.MOVES:
+            self.settle()
+            self.MOVES[final](self, max(1, first), max(1, second))
+        elif final in self.EDITS:
+            self.settle()
+            self.EDITS[final](self, max(1, first), first)
+        elif final == "S":
+            self.scroll(self.moved_back, max(1, first))
+        elif final == "T":
+            self.scroll(self.moved_on, max(1, first))
+        elif final == "r":
+            self.margins(first, second)
+        elif final == "g" and first == 0:
+            self.set_stop(False)
+        elif final == "g" and first == 3:
+            self.tabs = [False] * self.width
+
+    def escape(self, final):
+        if final == "7":
+            self.saved = self.cursor.copy()
+        elif final == "8":
+            self.restore()
+        elif final == "D":
+            self.settle()
+            self.index()
+        elif final == "E":
+            self.to_column(0)
+            self.index()
+        elif final == "H":
+            self.set_stop(True)
+        elif final == "M":
+            self.settle()
+            self.reverse_index()
+        elif final == "c":
+            self.reset()
+
+    # -------------------------------------------------------------- text
+
+    def text(self):
+        rows = []
+        for row in range(self.height):
+            cells = self.cells[row * self.width : (row + 1) * self.width]
+            rows.append("".join(c for c, part in cells if part != RIGHT).rstrip(" "))
+        while rows and not rows[-1]:
+            rows.pop()
+        return "".join("%s\n" % row for row in rows)
+
+
+def feed(display, data):
+    """Gives a display the calls of a well-formed stream."""
+    text = data.decode()
+    at = 0
+    while at < len(text):
+        c = text[at]
+        at += 1
+        if c == "\x1b" and text[at] == "[":
+            end = at + 1
+            while not "@" <= text[end] <= "~":
+                end += 1
+            body, final, at = text[at + 1 : end], text[end], end + 1
+            marker = body[:1] if body[:1] in ("<", "=", ">", "?") else ""
+            body = body[len(marker) :]
+            marker += "".join(b for b in body if " " <= b <= "/")
+            fields = "".join(b for b in body if b >= "0").split(";")
+            display.control(marker, [int(f.split(":")[0] or 0) for f in fields], final)
+        elif c == "\x1b" and text[at] == "]":
+            at = text.index("\x07", at) + 1
+        elif c == "\x1b" and text[at] == "P":
+            at = text.index("\x1b\\", at) + 2
+        elif c == "\x1b":
+            mark = ""
+            while " " <= text[at] <= "/":
+                mark, at = mark + text[at], at + 1
+            if not mark:
+                display.escape(text[at])
+            at += 1
+        elif c < " ":
+            display.execute(ord(c))
+        else:
+            display.print(c)
+
+
+def show(data, width, height):
+    display = Display(width, height)
+    feed(display, data)
+    return display.text().encode()

@@ -1,4 +1,4 @@
--- The private room of the code that walks over the groups: what it expects at each, and what a
+-- What the code that walks over the groups alone speaks of: what it expects at each, and what a
 -- group does by that. No public clause cites it; that the walk makes the style of
 -- specs/Rendition is the contract of Style.select.
 use Rattle.std.specs.Prelude.{ℕ, ◌==◌, List, [], ◌∷◌, if◌then◌else◌, Option, None, Some}

@@ -32,7 +32,8 @@ body_calls (escape bytes) = executes bytes
 body_calls (csi between header) = executes between ++ executes header
 body_calls (dcs_header between header) = executes between
 body_calls (dcs between header final text) =
-    executes between ++ hook (groups_of (significant header)) (collected_of (significant header)) (ignore_of (significant header)) final
+    executes between
+    ++ hook (groups_of (significant header)) (collected_of (significant header)) (ignore_of (significant header)) final
     ∷ map put (filter is_put text)
 body_calls (dcs_ignored between header byte text) = executes between
 body_calls (osc between text) = executes between
@@ -42,7 +43,8 @@ body_calls (sos_pm_apc between kind text) = executes between
 -- operating system command
 abbrev pub escape_dispatch : List ℕ → ℕ → Call
 escape_dispatch bytes final =
-    esc_dispatch (take max_collected (filter is_intermediate bytes)) (nat_lt max_collected (length (filter is_intermediate bytes))) final
+    esc_dispatch (take max_collected (filter is_intermediate bytes))
+    (nat_lt max_collected (length (filter is_intermediate bytes))) final
 
 abbrev pub control_dispatch : List ℕ → ℕ → List Call
 control_dispatch header final =

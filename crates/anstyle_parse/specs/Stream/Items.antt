@@ -115,7 +115,8 @@ IsBody (dcs_header between header) = IsDcsHeader between header
 IsBody (dcs between header final text) = IsDcs between header final text
 IsBody (dcs_ignored between header byte text) = IsDcsIgnored between header byte text
 IsBody (osc between text) = EachIs is_noise between × EachIs (is_text_byte bell) text
-IsBody (sos_pm_apc between kind text) = EachIs is_noise between × IsTrue (is_string_kind kind) × EachIs (is_text_byte string_terminator) text
+IsBody (sos_pm_apc between kind text) =
+    EachIs is_noise between × IsTrue (is_string_kind kind) × EachIs (is_text_byte string_terminator) text
 
 -- the byte completes the body
 abbrev pub completes : Body → ℕ → Bool

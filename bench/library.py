@@ -61,7 +61,8 @@ def main():
         filtering = build(room)
         import ansi_strip
 
-        print("%-12s %8s" % ("seconds", "C") + (" %8s %6s" % ("peer", "ratio") if options.peer else "") + "  %8s %8s %6s" % ("Python", "regex", "ratio"))
+        peer = " %8s %6s" % ("peer", "ratio") if options.peer else ""
+        print("%-12s %8s" % ("seconds", "C") + peer + "  %8s %8s %6s" % ("Python", "regex", "ratio"))
         for corpus in measure.CORPORA:
             stream = measure.corpus(corpus, options.bytes)
             path = "%s/%s" % (room, corpus.__name__)

@@ -33,8 +33,16 @@ PROGRAMS = {
     "ls": (["ls", "--color=always", "--hyperlink=always", "-la", "/usr/lib", "/usr/bin"], [], 4),
     "mc": (["mc", "-u"], [ARROW_DOWN, b"\t", ARROW_DOWN, b"\x1b3", PAGE_DOWN, b"\x1b0", b"\x1b9"], 6),
     "nano": (["nano", "/etc/services"], [b"\x17tcp\r", b"\x16", b"\x16", b"\x19", b"hello"], 5),
-    "tmux": (["tmux", "-L", "recorded", "new-session", "ls --color=always -la /usr/bin; top -b -n1; sleep 5"], [b"\x02%", b"ls --color /etc\r", b"\x02\""], 5),
-    "vim": (["vim", "-u", "NONE", "-c", "syntax on", "-c", "set number hlsearch", os.path.abspath(__file__)], [b"/def\r", b"n", b"\x06", b"\x06", b":split\r", b"Gohello \xe2\x82\xac \xf0\x9f\x98\x80\x1b", b"gg"], 6),
+    "tmux": (
+        ["tmux", "-L", "recorded", "new-session", "ls --color=always -la /usr/bin; top -b -n1; sleep 5"],
+        [b"\x02%", b"ls --color /etc\r", b"\x02\""],
+        5,
+    ),
+    "vim": (
+        ["vim", "-u", "NONE", "-c", "syntax on", "-c", "set number hlsearch", os.path.abspath(__file__)],
+        [b"/def\r", b"n", b"\x06", b"\x06", b":split\r", b"Gohello \xe2\x82\xac \xf0\x9f\x98\x80\x1b", b"gg"],
+        6,
+    ),
     "apt": (["apt-get", "-s", "-o", "APT::Color=1", "-o", "Dpkg::Progress-Fancy=1", "install", "gimp"], [], 6),
 }
 

@@ -31,7 +31,8 @@ static int control(unsigned char byte, void *user)
     return 1;
 }
 
-static int csi(const char *leader, const long arguments[], int count, const char *intermediates, char command, void *user)
+static int csi(const char *leader, const long arguments[], int count, const char *intermediates,
+               char command, void *user)
 {
     calls++;
     for (int i = 0; i < count; i++)

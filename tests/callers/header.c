@@ -107,6 +107,7 @@ static void counts_have_their_places(void)
 
 static void little_room_is_refused(void)
 {
+    const unsigned char last[] = {0x80};
     ansi_strip state, before;
     unsigned char room[8];
     size_t size, taken, written;
@@ -117,13 +118,14 @@ static void little_room_is_refused(void)
     for (size = 0; size < ANSI_STRIP_LEAST_ROOM; size++) {
         memset(room, 0x7E, sizeof room);
         taken = written = 7;
-        expect(feed(&state, (const unsigned char *)"\200", 1, room, size, &taken, &written) == false, "little room is refused");
+        expect(feed(&state, last, 1, room, size, &taken, &written) == false, "little room is refused");
         expect(taken == 0 && written == 0, "nothing is taken or written");
         expect(memcmp(&state, &before, sizeof state) == 0, "the state is as it was");
         expect(are(room, sizeof room, 0x7E), "the room is as it was");
     }
     expect(feed(&state, (const unsigned char *)"", 0, room, 0, &taken, &written), "no bytes need no room");
-    expect(feed(&state, (const unsigned char *)"\200", 1, room, ANSI_STRIP_LEAST_ROOM, &taken, &written) == true, "the least room suffices");
+    expect(feed(&state, last, 1, room, ANSI_STRIP_LEAST_ROOM, &taken, &written) == true,
+           "the least room suffices");
     expect(taken == 1 && written == 4 && memcmp(room, "\360\237\230\200", 4) == 0, "a character of four bytes is left");
 }
 

@@ -15,7 +15,8 @@ color_css property default role Default = default
 color_css property default role (Named hue) = property ++ (color_value role (Named hue) ++ codes ";")
 color_css property default role (Bright hue) = property ++ (color_value role (Bright hue) ++ codes ";")
 color_css property default role (Indexed n) = property ++ (color_value role (Indexed n) ++ codes ";")
-color_css property default role (Direct red green blue) = property ++ (color_value role (Direct red green blue) ++ codes ";")
+color_css property default role (Direct red green blue) =
+    property ++ (color_value role (Direct red green blue) ++ codes ";")
 
 -- a colour's role, by the colour that it meets
 abbrev pub role_by : Role → Color → Role

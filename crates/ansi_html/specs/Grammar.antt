@@ -39,12 +39,14 @@ is_hex_digit b = is_within 0x30 0x39 b || is_within 0x61 0x66 b
 -- #rrggbb
 pub data IsHex : List ℕ → Type 0 where
   six : {a b c d e f : ℕ} → IsTrue (is_hex_digit a) → IsTrue (is_hex_digit b) → IsTrue (is_hex_digit c)
-      → IsTrue (is_hex_digit d) → IsTrue (is_hex_digit e) → IsTrue (is_hex_digit f) → IsHex (0x23 ∷ a ∷ b ∷ c ∷ d ∷ e ∷ f ∷ [])
+      → IsTrue (is_hex_digit d) → IsTrue (is_hex_digit e) → IsTrue (is_hex_digit f)
+      → IsHex (0x23 ∷ a ∷ b ∷ c ∷ d ∷ e ∷ f ∷ [])
 
 -- a colour, a colour for light and dark pages, or one of the page's own
 pub data IsColor : List ℕ → Type 0 where
   one : (value : List ℕ) → IsHex value → IsColor value
-  two : (light dark : List ℕ) → IsHex light → IsHex dark → IsColor (codes "light-dark(" ++ (light ++ (codes "," ++ (dark ++ codes ")"))))
+  two : (light dark : List ℕ) → IsHex light → IsHex dark
+      → IsColor (codes "light-dark(" ++ (light ++ (codes "," ++ (dark ++ codes ")"))))
   page : IsColor (codes "Canvas")
   page_text : IsColor (codes "CanvasText")
 

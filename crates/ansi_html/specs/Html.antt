@@ -56,7 +56,8 @@ html_from shown style (call ∷ calls) =
 -- the style of the last text of the calls
 abbrev pub shown_at_end : Style → Style → List Call → Style
 shown_at_end shown style [] = shown
-shown_at_end shown style (call ∷ calls) = shown_at_end (shown_after shown style (stripped_call call)) (style_after call style) calls
+shown_at_end shown style (call ∷ calls) =
+    shown_at_end (shown_after shown style (stripped_call call)) (style_after call style) calls
 
 -- the HTML of the calls of a stream, as far as it has come; and what ends it
 abbrev pub html_text : List Call → List ℕ

@@ -47,7 +47,8 @@ referred name =
 abbrev pub place_after : Place → ℕ → Place
 place_after (in_text attribute) b =
     if b == 0x3C then in_tag [] else if b == 0x26 then in_reference attribute [] else in_text attribute
-place_after (in_reference attribute name) b = if b == 0x3B then in_text attribute else in_reference attribute (name ++ b ∷ [])
+place_after (in_reference attribute name) b =
+    if b == 0x3B then in_text attribute else in_reference attribute (name ++ b ∷ [])
 place_after (in_tag value) b = if b == 0x3E then in_text value else if b == 0x22 then in_value [] else in_tag value
 place_after (in_value value) b = if b == 0x22 then in_tag value else in_value (value ++ b ∷ [])
 
@@ -71,4 +72,5 @@ read bytes = read_from (in_text []) bytes
 -- is selected there.
 abbrev pub shown_from : Style → List Call → List Shown
 shown_from style [] = []
-shown_from style (call ∷ calls) = map (under (css style)) (stripped_call call) ++ shown_from (style_after call style) calls
+shown_from style (call ∷ calls) =
+    map (under (css style)) (stripped_call call) ++ shown_from (style_after call style) calls

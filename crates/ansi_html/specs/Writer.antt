@@ -46,7 +46,8 @@ style_at_end style [] = style
 style_at_end style (call ∷ calls) = style_at_end (style_after call style) calls
 
 -- The calls, one after another.
-pub record TakesAll {W : Type 0} (sink : SinkOf W) (old : HtmlWriter W) (calls : List Call) (new : HtmlWriter W) : Type 0 where
+pub record TakesAll {W : Type 0} (sink : SinkOf W)
+    (old : HtmlWriter W) (calls : List Call) (new : HtmlWriter W) : Type 0 where
   pub style : style_of new ≡ style_at_end (style_of old) calls
   pub shown : shown_of new ≡ shown_at_end (shown_of old) (style_of old) calls
   pub added : Adds sink (html_from (shown_of old) (style_of old) calls) (output_of old) (output_of new)

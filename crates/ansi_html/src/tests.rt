@@ -65,7 +65,8 @@ fn spans(rt: HostRuntime) {
             ),
             (
                 b"\x1B[1ma\x1B[3mb",
-                b"<span style=\"font-weight:bold;\">a</span><span style=\"font-weight:bold;font-style:italic;\">b</span>",
+                b"<span style=\"font-weight:bold;\">a</span>\
+                  <span style=\"font-weight:bold;font-style:italic;\">b</span>",
             ),
             (
                 b"\x1B[1ma\nb",
@@ -75,7 +76,8 @@ fn spans(rt: HostRuntime) {
             (b"\x1B[2mx", b"<span style=\"opacity:.7;\">x</span>"),
             (
                 b"\x1B[4:3;53;9;5mx",
-                b"<span style=\"text-decoration-line: underline overline line-through blink;text-decoration-style:wavy;\">x</span>",
+                b"<span style=\"text-decoration-line: underline overline line-through blink;\
+                  text-decoration-style:wavy;\">x</span>",
             ),
             (
                 b"\x1B[4mx",

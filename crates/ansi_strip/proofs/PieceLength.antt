@@ -129,8 +129,8 @@ device-inside phase m = refl
 body-inside : (body : Body) → is_inside (body_value body).state ≡ true
 unfolding is_inside
 body-inside (escape bytes) = escape-inside (list_any is_intermediate bytes)
-body-inside (csi lead header) = control-inside (phase_of (significant header)) (registers (significant header))
-body-inside (dcs_header lead header) = device-inside (phase_of (significant header)) (registers (significant header))
+body-inside (csi between header) = control-inside (phase_of (significant header)) (registers (significant header))
+body-inside (dcs_header between header) = device-inside (phase_of (significant header)) (registers (significant header))
 body-inside body = refl
 
 -- inside a character, by the tests of what it is with one byte more

@@ -76,35 +76,35 @@ after_code code groups others color false false true a b c =
 after_code code groups others color false false false a b c = (λ style. others.0 (with_code code style), others.1)
 
 -- 4 and the kind of an underline, or what is none
-after_pair : (lead kind : ℕ) (style : Style) (is_text is_ground is_line : Bool) → eqb lead 38 ≡ is_text → eqb lead 48 ≡ is_ground → eqb lead 58 ≡ is_line
-    → with_target (if is_text then Some Foreground else if is_ground then Some Background else if is_line then Some Line else None) lead (kind ∷ []) style
-    ≡ (if lead == 4 then with_underline kind style else style)
-after_pair lead kind style true is_ground is_line a b c =
-    subst (λ n. style ≡ (if n == 4 then with_underline kind style else style)) (sym (eqb-true lead 38 a)) refl
-after_pair lead kind style false true is_line a b c =
-    subst (λ n. style ≡ (if n == 4 then with_underline kind style else style)) (sym (eqb-true lead 48 b)) refl
-after_pair lead kind style false false true a b c =
-    subst (λ n. style ≡ (if n == 4 then with_underline kind style else style)) (sym (eqb-true lead 58 c)) refl
-after_pair lead kind style false false false a b c = refl
+after_pair : (code kind : ℕ) (style : Style) (is_text is_ground is_line : Bool) → eqb code 38 ≡ is_text → eqb code 48 ≡ is_ground → eqb code 58 ≡ is_line
+    → with_target (if is_text then Some Foreground else if is_ground then Some Background else if is_line then Some Line else None) code (kind ∷ []) style
+    ≡ (if code == 4 then with_underline kind style else style)
+after_pair code kind style true is_ground is_line a b c =
+    subst (λ n. style ≡ (if n == 4 then with_underline kind style else style)) (sym (eqb-true code 38 a)) refl
+after_pair code kind style false true is_line a b c =
+    subst (λ n. style ≡ (if n == 4 then with_underline kind style else style)) (sym (eqb-true code 48 b)) refl
+after_pair code kind style false false true a b c =
+    subst (λ n. style ≡ (if n == 4 then with_underline kind style else style)) (sym (eqb-true code 58 c)) refl
+after_pair code kind style false false false a b c = refl
 
 -- a colour with 3A, or what is none
-after_fields : (lead field next : ℕ) (fields : List ℕ) (style : Style) (is_text is_ground is_line : Bool) → eqb lead 38 ≡ is_text → eqb lead 48 ≡ is_ground → eqb lead 58 ≡ is_line
-    → with_target (if is_text then Some Foreground else if is_ground then Some Background else if is_line then Some Line else None) lead (field ∷ next ∷ fields) style
-    ≡ (if is_text || is_ground || is_line then with_color lead (color_in (field ∷ next ∷ fields)) style else style)
-after_fields lead field next fields style true is_ground is_line a b c =
-    colored (subst (λ n. IsFor n Foreground) (sym (eqb-true lead 38 a)) text) (color_in (field ∷ next ∷ fields)) style
-after_fields lead field next fields style false true is_line a b c =
-    colored (subst (λ n. IsFor n Background) (sym (eqb-true lead 48 b)) ground) (color_in (field ∷ next ∷ fields)) style
-after_fields lead field next fields style false false true a b c =
-    colored (subst (λ n. IsFor n Line) (sym (eqb-true lead 58 c)) line) (color_in (field ∷ next ∷ fields)) style
-after_fields lead field next fields style false false false a b c = refl
+after_fields : (code field next : ℕ) (fields : List ℕ) (style : Style) (is_text is_ground is_line : Bool) → eqb code 38 ≡ is_text → eqb code 48 ≡ is_ground → eqb code 58 ≡ is_line
+    → with_target (if is_text then Some Foreground else if is_ground then Some Background else if is_line then Some Line else None) code (field ∷ next ∷ fields) style
+    ≡ (if is_text || is_ground || is_line then with_color code (color_in (field ∷ next ∷ fields)) style else style)
+after_fields code field next fields style true is_ground is_line a b c =
+    colored (subst (λ n. IsFor n Foreground) (sym (eqb-true code 38 a)) text) (color_in (field ∷ next ∷ fields)) style
+after_fields code field next fields style false true is_line a b c =
+    colored (subst (λ n. IsFor n Background) (sym (eqb-true code 48 b)) ground) (color_in (field ∷ next ∷ fields)) style
+after_fields code field next fields style false false true a b c =
+    colored (subst (λ n. IsFor n Line) (sym (eqb-true code 58 c)) line) (color_in (field ∷ next ∷ fields)) style
+after_fields code field next fields style false false false a b c = refl
 
 -- a group of several fields
-after_several : (lead field : ℕ) (fields : List ℕ) (style : Style)
-    → with_target (target_of lead) lead (field ∷ fields) style ≡ with_group (lead ∷ field ∷ fields) style
+after_several : (code field : ℕ) (fields : List ℕ) (style : Style)
+    → with_target (target_of code) code (field ∷ fields) style ≡ with_group (code ∷ field ∷ fields) style
 unfolding target_of
-after_several lead kind [] style = after_pair lead kind style (eqb lead 38) (eqb lead 48) (eqb lead 58) refl refl refl
-after_several lead field (next ∷ fields) style = after_fields lead field next fields style (eqb lead 38) (eqb lead 48) (eqb lead 58) refl refl refl
+after_several code kind [] style = after_pair code kind style (eqb code 38) (eqb code 48) (eqb code 58) refl refl refl
+after_several code field (next ∷ fields) style = after_fields code field next fields style (eqb code 38) (eqb code 48) (eqb code 58) refl refl refl
 
 -- the kind of a colour
 after_kind : (groups : List (List ℕ)) (code : ℕ) (target : Target) (is_index is_direct : Bool)
@@ -130,9 +130,9 @@ mutual
   walks ([] ∷ groups) = walks groups
   walks ((code ∷ []) ∷ groups) =
       after_code code groups (walks groups) (λ target is. walks_color groups code target is) (eqb code 38) (eqb code 48) (eqb code 58) refl refl refl
-  walks ((lead ∷ field ∷ fields) ∷ groups) =
+  walks ((code ∷ field ∷ fields) ∷ groups) =
       let others = walks groups in
-      (λ style. ap (selected_from Code groups) (after_several lead field fields style) ∙ others.0 (with_group (lead ∷ field ∷ fields) style), others.1)
+      (λ style. ap (selected_from Code groups) (after_several code field fields style) ∙ others.0 (with_group (code ∷ field ∷ fields) style), others.1)
 
   walks_color : (groups : List (List ℕ)) (code : ℕ) (target : Target) → IsFor code target → Agrees (Kind target) groups (color_selections code groups)
   walks_color [] code target is = (λ style. refl, λ ended. cc)

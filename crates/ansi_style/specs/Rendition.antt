@@ -137,8 +137,8 @@ with_color code (Some color) style =
 abbrev pub with_group : List ℕ → Style → Style
 with_group [] style = style
 with_group (code ∷ []) style = with_code code style
-with_group (lead ∷ kind ∷ []) style = if lead == 4 then with_underline kind style else style
-with_group (lead ∷ fields) style = if is_color_code lead then with_color lead (color_in fields) style else style
+with_group (code ∷ kind ∷ []) style = if code == 4 then with_underline kind style else style
+with_group (code ∷ fields) style = if is_color_code code then with_color code (color_in fields) style else style
 
 -- What a sequence says, one after another: changes of the style; and at its end perhaps a
 -- colour that it begins and does not end.

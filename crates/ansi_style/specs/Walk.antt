@@ -1,4 +1,4 @@
--- The private room of the code that walks over the groups: what it expects at each, and what a
+-- What the code that walks over the groups alone speaks of: what it expects at each, and what a
 -- group does by that. No public clause cites it; that the walk makes the style of
 -- specs/Rendition is the contract of Style.select.
 use Rattle.std.specs.Prelude.{ℕ, ◌==◌, List, [], ◌∷◌, if◌then◌else◌, Option, None, Some}
@@ -27,14 +27,14 @@ with_target_color Line (Some color) style = style
 
 -- a group of several fields
 abbrev pub with_target : Option Target → ℕ → List ℕ → Style → Style
-with_target (Some target) lead fields style = with_target_color target (color_in fields) style
-with_target None lead (kind ∷ []) style = if lead == 4 then with_underline kind style else style
-with_target None lead fields style = style
+with_target (Some target) code fields style = with_target_color target (color_in fields) style
+with_target None code (kind ∷ []) style = if code == 4 then with_underline kind style else style
+with_target None code fields style = style
 
 -- a group where something is expected
 abbrev pub with_expected : Expected → List ℕ → Style → Style
 with_expected Code (code ∷ []) style = with_code code style
-with_expected Code (lead ∷ field ∷ fields) style = with_target (target_of lead) lead (field ∷ fields) style
+with_expected Code (code ∷ field ∷ fields) style = with_target (target_of code) code (field ∷ fields) style
 with_expected (Index target) (n ∷ []) style = with_target_color target (indexed n) style
 with_expected (BlueValue target red green) (blue ∷ []) style = with_target_color target (mixed red green blue) style
 with_expected expected group style = style

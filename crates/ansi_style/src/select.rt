@@ -74,7 +74,7 @@ impl Style {
     {
         match (expected, group) {
             (Expected::Code, [code]) => self.select_code(*code),
-            (Expected::Code, [lead, fields @ ..]) => self.select_fields(*lead, fields),
+            (Expected::Code, [code, fields @ ..]) => self.select_fields(*code, fields),
             (Expected::Index(target), [index]) => self.set_color(target, indexed(*index)),
             (Expected::BlueValue(target, red, green), [blue]) => {
                 self.set_color(target, mixed(red, green, *blue));
@@ -120,13 +120,13 @@ impl Style {
 
     /// Does what a group of a first field and others says: a colour, or 4 and the kind of
     /// underline.
-    fn select_fields(&mut self, lead: u16, fields: &[u16])
-        ensures { self.new ≡ with_target (target_of lead) lead fields.now self.old }
+    fn select_fields(&mut self, code: u16, fields: &[u16])
+        ensures { self.new ≡ with_target (target_of code) code fields.now self.old }
     {
-        match color_target(lead) {
+        match color_target(code) {
             Some(target) => self.set_color(target, color_in(fields)),
             None => match fields {
-                [kind] if lead == 4 => self.select_underline(*kind),
+                [kind] if code == 4 => self.select_underline(*kind),
                 _ => {}
             },
         }

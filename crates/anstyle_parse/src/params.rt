@@ -103,15 +103,8 @@ impl Params {
             ≡ closed_groups_of self.old ++ (open_group_of self.old ++ field ∷ []) ∷ [] }
         ensures open { open_group_of self.new ≡ [] }
     {
-        let starts = if self.open_fields == 0 {
-            self.starts | start_bit(self.len)
-        } else {
-            self.starts
-        };
-        self.starts = starts;
-        self.numbers[self.len] = field;
-        self.open_fields = 0;
-        self.len += 1;
+        self.extend(field);
+        self.close();
     }
 
     /// Adds a field to the open group, or to a new one, which stays open.
@@ -129,6 +122,14 @@ impl Params {
         self.numbers[self.len] = field;
         self.open_fields += 1;
         self.len += 1;
+    }
+
+    /// Closes the open group, if there is one.
+    fn close(&mut self)
+        ensures closed { closed_groups_of self.new ≡ groups_shown self.old }
+        ensures open { open_group_of self.new ≡ [] }
+    {
+        self.open_fields = 0;
     }
 }
 

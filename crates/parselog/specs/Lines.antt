@@ -40,11 +40,13 @@ parts_text parts = flat_map (λ part. codes " " ++ hex_list part) parts
 
 -- the intermediates, whether more came than are shown, and the final byte
 abbrev pub end_text : List ℕ → Bool → ℕ → List ℕ
-end_text intermediates ignore final = hex_list intermediates ++ (codes " " ++ (truth ignore ++ (codes " " ++ hex_byte final)))
+end_text intermediates ignore final =
+    hex_list intermediates ++ (codes " " ++ (truth ignore ++ (codes " " ++ hex_byte final)))
 
 -- the groups of a header, and these
 abbrev pub line_header : List (List ℕ) → List ℕ → Bool → ℕ → List ℕ
-line_header groups intermediates ignore final = codes "[" ++ (groups_text groups ++ (codes "] " ++ end_text intermediates ignore final))
+line_header groups intermediates ignore final =
+    codes "[" ++ (groups_text groups ++ (codes "] " ++ end_text intermediates ignore final))
 
 -- the line of a call, without its end
 abbrev pub line_text : Call → List ℕ
@@ -54,7 +56,8 @@ line_text (hook groups intermediates ignore final) = codes "hook " ++ line_heade
 line_text (put byte) = codes "put " ++ hex_byte byte
 line_text unhook = codes "unhook"
 line_text (osc_dispatch parts bell_terminated) = codes "osc_dispatch " ++ (truth bell_terminated ++ parts_text parts)
-line_text (csi_dispatch groups intermediates ignore final) = codes "csi_dispatch " ++ line_header groups intermediates ignore final
+line_text (csi_dispatch groups intermediates ignore final) =
+    codes "csi_dispatch " ++ line_header groups intermediates ignore final
 line_text (esc_dispatch intermediates ignore final) = codes "esc_dispatch " ++ end_text intermediates ignore final
 
 abbrev pub line : Call → List ℕ

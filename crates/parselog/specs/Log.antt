@@ -10,7 +10,8 @@ abbrev pub output_of : {W : Type 0} → LogWriter W → Output W
 output_of performer = performer.output
 
 -- The text is written, but for its last bytes, which are held back.
-pub record Holds {W : Type 0} (sink : SinkOf W) (before : Output W) (text : List ℕ) (after : Output W) (held : List ℕ) : Type 0 where
+pub record Holds {W : Type 0} (sink : SinkOf W)
+    (before : Output W) (text : List ℕ) (after : Output W) (held : List ℕ) : Type 0 where
   pub written : List ℕ
   pub joined : text ≡ written ++ held
   pub added : Adds sink written before after

@@ -7,4 +7,5 @@ use Rattle.parselog.specs.declared.run.Mode.TheVariants.{Log, Canon}
 abbrev pub mode_of : Option (List ℕ) → (more : Bool) → Option Mode
 mode_of first true = None
 mode_of None false = Some Log
-mode_of (Some word) false = if bytes_eq word (codes "log") then Some Log else if bytes_eq word (codes "canon") then Some Canon else None
+mode_of (Some word) false =
+    if bytes_eq word (codes "log") then Some Log else if bytes_eq word (codes "canon") then Some Canon else None

@@ -7,14 +7,12 @@ mod canonical;
 mod faults;
 mod long;
 mod rows;
-mod vectors;
 
 use crate::run::{Mode, run};
 use anstyle_parse::canon::{Fault, FromRead, FromWrite};
 use rows::ROWS;
 use std::process::Abort;
 use test_streams::{Paper, Tape};
-use vectors::VECTORS;
 
 /// An operating system command and an escape sequence, in seven bytes.
 const TITLE: &[u8] = b"\x1b]0;x\x1b\\";
@@ -46,13 +44,6 @@ fn assert_written(rt: &(impl Abort + AllocGlobal), mode: Mode, input: &[u8], tex
 #[test]
 fn worked_rows(rt: HostRuntime) {
     for (input, lines) in ROWS {
-        assert_written(&rt, Mode::Log, input, lines.as_bytes());
-    }
-}
-
-#[test]
-fn answers_of_the_rust_crate(rt: HostRuntime) {
-    for (input, lines) in VECTORS {
         assert_written(&rt, Mode::Log, input, lines.as_bytes());
     }
 }

@@ -58,7 +58,8 @@ pub record Refuses (old new : StreamState) (piece room room_after : List ℕ) : 
 
 -- The parser took bytes from the front of the piece, and what is left of their calls was put
 -- into the room, which has room for it.
-pub record IsTaken (old new : Parser Utf8Parser) (piece : List ℕ) (room room_after : SliceWriter) (taken : ℕ) : Type 0 where
+pub record IsTaken (old new : Parser Utf8Parser) (piece : List ℕ)
+    (room room_after : SliceWriter) (taken : ℕ) : Type 0 where
   pub calls : List Call
   pub taken_fits : taken ≤ length piece
   pub stands : (before : List ℕ) → IsAfter front_of old before → IsAfter front_of new (before ++ take taken piece)

@@ -18,7 +18,7 @@ use Rattle.anstyle_parse.specs.Machine.Stands.{counted}
 use Rattle.anstyle_parse.proofs.Bytes.Classes.{Class, cancel_byte, esc_byte, intermediate_byte, digit_byte, colon_byte, semicolon_byte, marker_byte, device_byte, string_byte, control_introducer, command_byte, final_byte, lead_byte, class_of, is_printed_at, is_executed_at, is_lead_at, is_ascii_at, is_printed-class, is_executed-class, is_lead-class, is_ascii-class}
 use Rattle.anstyle_parse.proofs.Division.Grow.{front, Growth, more, done, start, break_off, grow_front, into, ended, introduce, grow_body}
 use Rattle.anstyle_parse.proofs.Arguments.HeaderFold.{escape_collected, escape_ignoring}
-use Rattle.anstyle_parse.proofs.Machine.Actions.{plain, headed, collecting-with_header}
+use Rattle.anstyle_parse.proofs.Machine.Actions.{new_in, headed, collecting-with_header}
 use Rattle.anstyle_parse.proofs.Machine.Counted.{after_answer_at, answer_calls_at, step_at, step_calls_at}
 use Rattle.anstyle_parse.proofs.Agreement.Values.{registers, escape_state, value_at, open_calls, executes-push, escape_value-push}
 
@@ -57,7 +57,7 @@ started-lead b class =
 -- a byte where nothing is open
 pub nothing_grows : (c : Class) (b : ℕ) → class_of b ≡ c → Grows (new_machine []) [] c b (start b c)
 nothing_grows esc_byte b class = (refl, refl)
-nothing_grows lead_byte b class = (ap (λ (answer : List ℕ × Taken). plain Utf8 answer.0) (started-lead b class), ap (λ (answer : List ℕ × Taken). print_answer answer.1 ++ []) (started-lead b class))
+nothing_grows lead_byte b class = (ap (λ (answer : List ℕ × Taken). new_in Utf8 answer.0) (started-lead b class), ap (λ (answer : List ℕ × Taken). print_answer answer.1 ++ []) (started-lead b class))
 nothing_grows c b class = (refl, single_whole b c class)
 
 -- a byte after a front: the item and the accumulator by the same tests
@@ -82,7 +82,7 @@ front_by false true bytes c b class = (refl, refl)
 front_by false false bytes c b class = let starts = nothing_grows c b class in (starts.0, ap (λ calls. print replacement ∷ calls) starts.1)
 
 -- a front is not empty
-pub front_grows : (bytes : List ℕ) (c : Class) (b : ℕ) → class_of b ≡ c → IsTrue (is_proper_front bytes) → Grows (plain Utf8 bytes) [] c b (grow_front bytes b c)
+pub front_grows : (bytes : List ℕ) (c : Class) (b : ℕ) → class_of b ≡ c → IsTrue (is_proper_front bytes) → Grows (new_in Utf8 bytes) [] c b (grow_front bytes b c)
 unfolding is_proper_front
 front_grows [] c b class proper = absurd (false≢true proper)
 front_grows (a ∷ bytes) c b class proper = front_by (is_well_formed (a ∷ (bytes ++ b ∷ []))) (is_proper_front (a ∷ (bytes ++ b ∷ []))) (a ∷ bytes) c b class
@@ -121,12 +121,12 @@ escape_at some bytes = headed (escape_state some) [] (registers (filter is_inter
 pub escape_grows : (some : Bool) (c : Class) (b : ℕ) (bytes : List ℕ) → list_any is_intermediate bytes ≡ some → class_of b ≡ c
     → Grows (escape_at some bytes) (executes bytes) c b (grow_body (escape bytes) b c)
 escape_grows false intermediate_byte b bytes e class = (
-  ap (λ (r : Machine (List ℕ)). headed EscapeIntermediate r.accumulator r) (collecting-with_header b (registers (filter is_intermediate bytes)) (plain Escape []))
+  ap (λ (r : Machine (List ℕ)). headed EscapeIntermediate r.accumulator r) (collecting-with_header b (registers (filter is_intermediate bytes)) (new_in Escape []))
       ∙ sym (escape_value-push b intermediate_byte class bytes false e),
   sym (executes-push b intermediate_byte class bytes),
 )
 escape_grows true intermediate_byte b bytes e class = (
-  ap counted (collecting-with_header b (registers (filter is_intermediate bytes)) (plain EscapeIntermediate [])) ∙ sym (escape_value-push b intermediate_byte class bytes true e),
+  ap counted (collecting-with_header b (registers (filter is_intermediate bytes)) (new_in EscapeIntermediate [])) ∙ sym (escape_value-push b intermediate_byte class bytes true e),
   sym (executes-push b intermediate_byte class bytes),
 )
 escape_grows some esc_byte b bytes e class = (refl, calls-ended (executes bytes) [])

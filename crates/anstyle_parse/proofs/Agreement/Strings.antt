@@ -13,66 +13,66 @@ use Rattle.anstyle_parse.specs.Machine.Stands.{counted}
 use Rattle.anstyle_parse.proofs.Bytes.Classes.{Class, control_byte, bell_byte, cancel_byte, esc_byte, terminator_byte, beyond_byte, class_of, is_put_at, is_bell_at, is_bell-class}
 use Rattle.anstyle_parse.proofs.Division.Grow.{grow_body}
 use Rattle.anstyle_parse.proofs.Arguments.TextFold.{text_after, text_parts}
-use Rattle.anstyle_parse.proofs.Machine.Actions.{plain, texted, with_part-with_text, storing-with_text}
+use Rattle.anstyle_parse.proofs.Machine.Actions.{new_in, texted, with_part-with_text, storing-with_text}
 use Rattle.anstyle_parse.proofs.Agreement.Values.{body_value, puts-push, command_value-push}
 use Rattle.anstyle_parse.proofs.Agreement.Escape.{Grows, calls-ended}
 
 -- one byte more that a hooked string may pass on
-passed_more : (c : Class) (b : ℕ) (lead header : List ℕ) (final : ℕ) (text : List ℕ) → class_of b ≡ c
-    → body_calls (dcs lead header final text) ++ cond (is_put_at c) (put b ∷ []) [] ≡ body_calls (dcs lead header final (text ++ b ∷ []))
-passed_more c b lead header final text class =
-    append_assoc (executes lead) (hook (groups_of (significant header)) (collected_of (significant header)) (ignore_of (significant header)) final ∷ map put (filter is_put text))
+passed_more : (c : Class) (b : ℕ) (between header : List ℕ) (final : ℕ) (text : List ℕ) → class_of b ≡ c
+    → body_calls (dcs between header final text) ++ cond (is_put_at c) (put b ∷ []) [] ≡ body_calls (dcs between header final (text ++ b ∷ []))
+passed_more c b between header final text class =
+    append_assoc (executes between) (hook (groups_of (significant header)) (collected_of (significant header)) (ignore_of (significant header)) final ∷ map put (filter is_put text))
     (cond (is_put_at c) (put b ∷ []) [])
-    ∙ ap (λ puts. executes lead ++ hook (groups_of (significant header)) (collected_of (significant header)) (ignore_of (significant header)) final ∷ puts)
+    ∙ ap (λ puts. executes between ++ hook (groups_of (significant header)) (collected_of (significant header)) (ignore_of (significant header)) final ∷ puts)
     (sym (puts-push b c class text))
 
 -- a byte of each class after a string that is hooked, dropped, ignored
-pub hooked_grows : (c : Class) (b : ℕ) (lead header : List ℕ) (final : ℕ) (text : List ℕ) → class_of b ≡ c
-    → Grows (plain DcsPassthrough []) (body_calls (dcs lead header final text)) c b (grow_body (dcs lead header final text) b c)
-hooked_grows esc_byte b lead header final text class = (refl, calls-ended (body_calls (dcs lead header final text)) (unhook ∷ []))
-hooked_grows cancel_byte b lead header final text class = (refl, calls-ended (body_calls (dcs lead header final text)) (unhook ∷ execute b ∷ []))
-hooked_grows terminator_byte b lead header final text class = (refl, calls-ended (body_calls (dcs lead header final text)) (unhook ∷ []))
-hooked_grows c b lead header final text class = (refl, passed_more c b lead header final text class)
+pub hooked_grows : (c : Class) (b : ℕ) (between header : List ℕ) (final : ℕ) (text : List ℕ) → class_of b ≡ c
+    → Grows (new_in DcsPassthrough []) (body_calls (dcs between header final text)) c b (grow_body (dcs between header final text) b c)
+hooked_grows esc_byte b between header final text class = (refl, calls-ended (body_calls (dcs between header final text)) (unhook ∷ []))
+hooked_grows cancel_byte b between header final text class = (refl, calls-ended (body_calls (dcs between header final text)) (unhook ∷ execute b ∷ []))
+hooked_grows terminator_byte b between header final text class = (refl, calls-ended (body_calls (dcs between header final text)) (unhook ∷ []))
+hooked_grows c b between header final text class = (refl, passed_more c b between header final text class)
 
-pub dropped_grows : (c : Class) (b : ℕ) (lead header : List ℕ) (byte : ℕ) (text : List ℕ)
-    → Grows (plain DcsIgnore []) (body_calls (dcs_ignored lead header byte text)) c b (grow_body (dcs_ignored lead header byte text) b c)
-dropped_grows esc_byte b lead header byte text = (refl, calls-ended (executes lead) [])
-dropped_grows cancel_byte b lead header byte text = (refl, calls-ended (executes lead) (execute b ∷ []))
-dropped_grows terminator_byte b lead header byte text = (refl, calls-ended (executes lead) [])
-dropped_grows c b lead header byte text = (refl, append-nil (executes lead))
+pub dropped_grows : (c : Class) (b : ℕ) (between header : List ℕ) (byte : ℕ) (text : List ℕ)
+    → Grows (new_in DcsIgnore []) (body_calls (dcs_ignored between header byte text)) c b (grow_body (dcs_ignored between header byte text) b c)
+dropped_grows esc_byte b between header byte text = (refl, calls-ended (executes between) [])
+dropped_grows cancel_byte b between header byte text = (refl, calls-ended (executes between) (execute b ∷ []))
+dropped_grows terminator_byte b between header byte text = (refl, calls-ended (executes between) [])
+dropped_grows c b between header byte text = (refl, append-nil (executes between))
 
-pub ignored_grows : (c : Class) (b : ℕ) (lead : List ℕ) (kind : ℕ) (text : List ℕ)
-    → Grows (plain SosPmApcString []) (body_calls (sos_pm_apc lead kind text)) c b (grow_body (sos_pm_apc lead kind text) b c)
-ignored_grows esc_byte b lead kind text = (refl, calls-ended (executes lead) [])
-ignored_grows cancel_byte b lead kind text = (refl, calls-ended (executes lead) (execute b ∷ []))
-ignored_grows terminator_byte b lead kind text = (refl, calls-ended (executes lead) [])
-ignored_grows c b lead kind text = (refl, append-nil (executes lead))
+pub ignored_grows : (c : Class) (b : ℕ) (between : List ℕ) (kind : ℕ) (text : List ℕ)
+    → Grows (new_in SosPmApcString []) (body_calls (sos_pm_apc between kind text)) c b (grow_body (sos_pm_apc between kind text) b c)
+ignored_grows esc_byte b between kind text = (refl, calls-ended (executes between) [])
+ignored_grows cancel_byte b between kind text = (refl, calls-ended (executes between) (execute b ∷ []))
+ignored_grows terminator_byte b between kind text = (refl, calls-ended (executes between) [])
+ignored_grows c b between kind text = (refl, append-nil (executes between))
 
 -- the machine for a command
 abbrev command_value : List ℕ → Machine (List ℕ)
 command_value text = texted OscString [] (text_after text (new_machine []))
 
 -- the dispatch of a command, and the state after it
-left_command : (next : State) (text : List ℕ) → plain next (with_part (command_value text)).accumulator ≡ plain next []
-left_command next text = ap (λ (r : Machine (List ℕ)). plain next r.accumulator) (with_part-with_text 0 (text_after text (new_machine [])) (plain OscString []))
+left_command : (next : State) (text : List ℕ) → new_in next (with_part (command_value text)).accumulator ≡ new_in next []
+left_command next text = ap (λ (r : Machine (List ℕ)). new_in next r.accumulator) (with_part-with_text 0 (text_after text (new_machine [])) (new_in OscString []))
 
 -- after what is called already
-command_dispatched : (c : Class) (b : ℕ) (lead text : List ℕ) (more : List Call) → class_of b ≡ c
-    → executes lead ++ osc_dispatch (with_part (command_value text)).closed_parts (b == bell) ∷ more
-    ≡ ((executes lead ++ osc_dispatch (parts_of text) (is_bell_at c) ∷ more) ++ []) ++ []
-command_dispatched c b lead text more class =
-    (ap (λ (r : Machine (List ℕ)). executes lead ++ osc_dispatch r.closed_parts (b == bell) ∷ more) (with_part-with_text 0 (text_after text (new_machine [])) (plain OscString []))
-    ∙ (ap (λ parts. executes lead ++ osc_dispatch parts (b == bell) ∷ more) (text_parts text (new_machine []))
-    ∙ ap (λ t. executes lead ++ osc_dispatch (parts_of text) t ∷ more) (is_bell-class b ∙ ap is_bell_at class)))
-    ∙ calls-ended (executes lead) (osc_dispatch (parts_of text) (is_bell_at c) ∷ more)
+command_dispatched : (c : Class) (b : ℕ) (between text : List ℕ) (more : List Call) → class_of b ≡ c
+    → executes between ++ osc_dispatch (with_part (command_value text)).closed_parts (b == bell) ∷ more
+    ≡ ((executes between ++ osc_dispatch (parts_of text) (is_bell_at c) ∷ more) ++ []) ++ []
+command_dispatched c b between text more class =
+    (ap (λ (r : Machine (List ℕ)). executes between ++ osc_dispatch r.closed_parts (b == bell) ∷ more) (with_part-with_text 0 (text_after text (new_machine [])) (new_in OscString []))
+    ∙ (ap (λ parts. executes between ++ osc_dispatch parts (b == bell) ∷ more) (text_parts text (new_machine []))
+    ∙ ap (λ t. executes between ++ osc_dispatch (parts_of text) t ∷ more) (is_bell-class b ∙ ap is_bell_at class)))
+    ∙ calls-ended (executes between) (osc_dispatch (parts_of text) (is_bell_at c) ∷ more)
 
 -- a byte of each class after a command
-pub command_grows : (c : Class) (b : ℕ) (lead text : List ℕ) → class_of b ≡ c
-    → Grows (body_value (osc lead text)) (body_calls (osc lead text)) c b (grow_body (osc lead text) b c)
-command_grows esc_byte b lead text class = (left_command Escape text, command_dispatched esc_byte b lead text [] class)
-command_grows cancel_byte b lead text class = (left_command Ground text, command_dispatched cancel_byte b lead text (execute b ∷ []) class)
-command_grows bell_byte b lead text class = (left_command Ground text, command_dispatched bell_byte b lead text [] class)
-command_grows control_byte b lead text class = (sym (command_value-push b control_byte class lead text), append-nil (executes lead))
-command_grows beyond_byte b lead text class = (sym (command_value-push b beyond_byte class lead text), append-nil (executes lead))
-command_grows c b lead text class =
-    (ap counted (storing-with_text b (text_after text (new_machine [])) (plain OscString [])) ∙ sym (command_value-push b c class lead text), append-nil (executes lead))
+pub command_grows : (c : Class) (b : ℕ) (between text : List ℕ) → class_of b ≡ c
+    → Grows (body_value (osc between text)) (body_calls (osc between text)) c b (grow_body (osc between text) b c)
+command_grows esc_byte b between text class = (left_command Escape text, command_dispatched esc_byte b between text [] class)
+command_grows cancel_byte b between text class = (left_command Ground text, command_dispatched cancel_byte b between text (execute b ∷ []) class)
+command_grows bell_byte b between text class = (left_command Ground text, command_dispatched bell_byte b between text [] class)
+command_grows control_byte b between text class = (sym (command_value-push b control_byte class between text), append-nil (executes between))
+command_grows beyond_byte b between text class = (sym (command_value-push b beyond_byte class between text), append-nil (executes between))
+command_grows c b between text class =
+    (ap counted (storing-with_text b (text_after text (new_machine [])) (new_in OscString [])) ∙ sym (command_value-push b c class between text), append-nil (executes between))

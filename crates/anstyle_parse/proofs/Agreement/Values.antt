@@ -17,7 +17,7 @@ use Rattle.anstyle_parse.proofs.Bytes.Classes.{Class, intermediate_byte, class_o
 use Rattle.anstyle_parse.proofs.Division.Grow.{Open, nothing, front, inside}
 use Rattle.anstyle_parse.proofs.Arguments.HeaderFold.{header_after, header_after-append}
 use Rattle.anstyle_parse.proofs.Arguments.TextFold.{text_after, text_after-append}
-use Rattle.anstyle_parse.proofs.Machine.Actions.{plain, headed, texted}
+use Rattle.anstyle_parse.proofs.Machine.Actions.{new_in, headed, texted}
 
 -- how far a header has come, by its significant bytes; a misfit has not the shape
 pub data Phase : Type 0 where
@@ -97,7 +97,7 @@ registers header = header_after header (new_machine [])
 
 -- the registers, unless they no longer count
 abbrev pub header_value : Phase → State → Machine (List ℕ) → Machine (List ℕ)
-header_value misfit state m = plain state []
+header_value misfit state m = new_in state []
 header_value phase state m = headed state [] m
 
 -- the machine for a control sequence, by its phase and registers
@@ -115,17 +115,17 @@ escape_state some = if some then EscapeIntermediate else Escape
 -- the machine for a body
 abbrev pub body_value : Body → Machine (List ℕ)
 body_value (escape bytes) = headed (escape_state (list_any is_intermediate bytes)) [] (registers (filter is_intermediate bytes))
-body_value (csi lead header) = control_value (phase_of (significant header)) (registers (significant header))
-body_value (dcs_header lead header) = device_value (phase_of (significant header)) (registers (significant header))
-body_value (dcs lead header final text) = plain DcsPassthrough []
-body_value (dcs_ignored lead header byte text) = plain DcsIgnore []
-body_value (osc lead text) = texted OscString [] (text_after text (new_machine []))
-body_value (sos_pm_apc lead kind text) = plain SosPmApcString []
+body_value (csi between header) = control_value (phase_of (significant header)) (registers (significant header))
+body_value (dcs_header between header) = device_value (phase_of (significant header)) (registers (significant header))
+body_value (dcs between header final text) = new_in DcsPassthrough []
+body_value (dcs_ignored between header byte text) = new_in DcsIgnore []
+body_value (osc between text) = texted OscString [] (text_after text (new_machine []))
+body_value (sos_pm_apc between kind text) = new_in SosPmApcString []
 
 -- the machine for an open item
 abbrev pub value_at : Open → Machine (List ℕ)
 value_at nothing = new_machine []
-value_at (front bytes) = plain Utf8 bytes
+value_at (front bytes) = new_in Utf8 bytes
 value_at (inside body) = body_value body
 
 -- the calls of an open item so far
@@ -200,9 +200,9 @@ module _ (b : ℕ) (c : Class) (class : class_of b ≡ c) where
       ]
 
   -- the value of a longer command
-  pub command_value-push : (lead text : List ℕ) → body_value (osc lead (text ++ b ∷ []))
+  pub command_value-push : (between text : List ℕ) → body_value (osc between (text ++ b ∷ []))
       ≡ texted OscString [] (if is_kept_at c then after_osc_put b (text_after text (new_machine [])) else text_after text (new_machine []))
-  command_value-push lead text =
+  command_value-push between text =
       ap (λ m. texted OscString [] m) (text_after-append text (b ∷ []) (new_machine [])
       ∙ ap (λ t. cond t (after_osc_put b (text_after text (new_machine []))) (text_after text (new_machine []))) (is_kept-class b ∙ ap is_kept_at class))
 

@@ -24,12 +24,12 @@ use Rattle.anstyle_parse.proofs.Agreement.Strings.{hooked_grows, dropped_grows, 
 -- one byte at the machine for an open item, by its class
 body_grows : (body : Body) (b : ℕ) → IsOpen (inside body) → Grows (body_value body) (open_calls (inside body)) (class_of b) b (grow_body body b (class_of b))
 body_grows (escape bytes) b is = escape_grows (list_any is_intermediate bytes) (class_of b) b bytes refl refl
-body_grows (csi lead header) b is = control_grows (phase_of (significant header)) (class_of b) b lead header refl refl
-body_grows (dcs_header lead header) b is = device_grows (phase_of (significant header)) (class_of b) b lead header refl (fits-phase_of (significant header) ∙ is.shaped) refl
-body_grows (dcs lead header final text) b is = hooked_grows (class_of b) b lead header final text refl
-body_grows (dcs_ignored lead header byte text) b is = dropped_grows (class_of b) b lead header byte text
-body_grows (osc lead text) b is = command_grows (class_of b) b lead text refl
-body_grows (sos_pm_apc lead kind text) b is = ignored_grows (class_of b) b lead kind text
+body_grows (csi between header) b is = control_grows (phase_of (significant header)) (class_of b) b between header refl refl
+body_grows (dcs_header between header) b is = device_grows (phase_of (significant header)) (class_of b) b between header refl (fits-phase_of (significant header) ∙ is.shaped) refl
+body_grows (dcs between header final text) b is = hooked_grows (class_of b) b between header final text refl
+body_grows (dcs_ignored between header byte text) b is = dropped_grows (class_of b) b between header byte text
+body_grows (osc between text) b is = command_grows (class_of b) b between text refl
+body_grows (sos_pm_apc between kind text) b is = ignored_grows (class_of b) b between kind text
 
 -- and at each open item
 open_grows : (o : Open) (b : ℕ) → IsOpen o → Grows (value_at o) (open_calls o) (class_of b) b (grow o b)
@@ -169,8 +169,8 @@ escape_state-not false e = cc
 -- nor of any body
 body_value-state : (body : Body) → (body_value body).state ≡ Utf8 → ⊥
 body_value-state (escape bytes) e = escape_state-not (list_any is_intermediate bytes) e
-body_value-state (csi lead header) e = control_value-state (phase_of (significant header)) (registers (significant header)) e
-body_value-state (dcs_header lead header) e = device_value-state (phase_of (significant header)) (registers (significant header)) e
+body_value-state (csi between header) e = control_value-state (phase_of (significant header)) (registers (significant header)) e
+body_value-state (dcs_header between header) e = device_value-state (phase_of (significant header)) (registers (significant header)) e
 body_value-state body e = cc
 
 -- the machine is inside a character only where a front is open

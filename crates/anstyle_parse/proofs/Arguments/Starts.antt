@@ -180,14 +180,6 @@ open_extended n c more item ns e h = ap (λ i. take (more + 1) (drop c (set ns i
 pub closed_same : (n c m item : ℕ) (ns : List ℕ) → c ≤ n → cut_at (starts_of c m) (set ns n item) ≡ cut_at (starts_of c m) ns
 closed_same n c m item ns h = cut_at-set c m n item ns h
 
--- the group that was open, with one field more, is the last
-pub cut_pushed : (n c more m item : ℕ) (ns : List ℕ) → m / 2 ^ c ≡ 1 → n ≡ c + more → n < length ns
-    → cut_at (starts_of (n + 1) m) (set ns n item) ≡ cut_at (starts_of c m) ns ++ (take more (drop c ns) ++ item ∷ []) ∷ []
-cut_pushed n c more m item ns high e h =
-    let longer : suc more ≡ more + 1 = omega arith in
-    cut_at-last c more (n + 1) m (set ns n item) high (omega arith)
-    ∙ ap₂ (λ gs g. gs ++ g ∷ []) (cut_at-set c m n item ns (omega arith)) (ap (λ k. take k (drop c (set ns n item))) longer ∙ open_extended n c more item ns e h)
-
 -- the mask with a field more: the last group begins at c, and the starts before are as they were
 pub record Grown (n c before after : ℕ) : Type 0 where
   pub high : after / 2 ^ c ≡ 1

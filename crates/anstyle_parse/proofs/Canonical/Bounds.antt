@@ -27,52 +27,52 @@ length-control_dispatch header final =
 -- a body has a byte more than it makes calls
 length-body_calls : (body : Body) → suc (length (body_calls body)) ≤ length (body_text body)
 length-body_calls (escape bytes) = omega (arith, length-executes bytes)
-length-body_calls (csi lead header) =
-    omega (arith, length-append (executes lead) (executes header), length-append lead (0x5B ∷ header), length-executes lead, length-executes header)
-length-body_calls (dcs_header lead header) = omega (arith, length-append lead (0x50 ∷ header), length-executes lead)
-length-body_calls (dcs lead header final text) =
+length-body_calls (csi between header) =
+    omega (arith, length-append (executes between) (executes header), length-append between (0x5B ∷ header), length-executes between, length-executes header)
+length-body_calls (dcs_header between header) = omega (arith, length-append between (0x50 ∷ header), length-executes between)
+length-body_calls (dcs between header final text) =
     omega (
       arith,
-      length-append (executes lead) (hook (groups_of (significant header)) (collected_of (significant header)) (ignore_of (significant header)) final ∷ map put (filter is_put text)),
-      length-append lead (0x50 ∷ (header ++ final ∷ text)),
+      length-append (executes between) (hook (groups_of (significant header)) (collected_of (significant header)) (ignore_of (significant header)) final ∷ map put (filter is_put text)),
+      length-append between (0x50 ∷ (header ++ final ∷ text)),
       length-append header (final ∷ text),
-      length-executes lead,
+      length-executes between,
       length-puts text,
     )
-length-body_calls (dcs_ignored lead header byte text) = omega (arith, length-append lead (0x50 ∷ (header ++ byte ∷ text)), length-executes lead)
-length-body_calls (osc lead text) = omega (arith, length-append lead (0x5D ∷ text), length-executes lead)
-length-body_calls (sos_pm_apc lead kind text) = omega (arith, length-append lead (kind ∷ text), length-executes lead)
+length-body_calls (dcs_ignored between header byte text) = omega (arith, length-append between (0x50 ∷ (header ++ byte ∷ text)), length-executes between)
+length-body_calls (osc between text) = omega (arith, length-append between (0x5D ∷ text), length-executes between)
+length-body_calls (sos_pm_apc between kind text) = omega (arith, length-append between (kind ∷ text), length-executes between)
 
 -- and pays with it for one call of its end
 length-end_calls : (body : Body) (end : End) → length (end_calls body end) ≤ suc (length (end_text end))
 length-end_calls (escape bytes) (complete byte) = omega arith
-length-end_calls (csi lead header) (complete byte) = omega (arith, length-control_dispatch (significant header) byte)
-length-end_calls (dcs_header lead header) (complete byte) = omega arith
-length-end_calls (dcs lead header final text) (complete byte) = omega arith
-length-end_calls (dcs_ignored lead header x text) (complete byte) = omega arith
-length-end_calls (osc lead text) (complete byte) = omega arith
-length-end_calls (sos_pm_apc lead kind text) (complete byte) = omega arith
+length-end_calls (csi between header) (complete byte) = omega (arith, length-control_dispatch (significant header) byte)
+length-end_calls (dcs_header between header) (complete byte) = omega arith
+length-end_calls (dcs between header final text) (complete byte) = omega arith
+length-end_calls (dcs_ignored between header x text) (complete byte) = omega arith
+length-end_calls (osc between text) (complete byte) = omega arith
+length-end_calls (sos_pm_apc between kind text) (complete byte) = omega arith
 length-end_calls (escape bytes) (cancelled byte) = omega arith
-length-end_calls (csi lead header) (cancelled byte) = omega arith
-length-end_calls (dcs_header lead header) (cancelled byte) = omega arith
-length-end_calls (dcs lead header final text) (cancelled byte) = omega arith
-length-end_calls (dcs_ignored lead header x text) (cancelled byte) = omega arith
-length-end_calls (osc lead text) (cancelled byte) = omega arith
-length-end_calls (sos_pm_apc lead kind text) (cancelled byte) = omega arith
+length-end_calls (csi between header) (cancelled byte) = omega arith
+length-end_calls (dcs_header between header) (cancelled byte) = omega arith
+length-end_calls (dcs between header final text) (cancelled byte) = omega arith
+length-end_calls (dcs_ignored between header x text) (cancelled byte) = omega arith
+length-end_calls (osc between text) (cancelled byte) = omega arith
+length-end_calls (sos_pm_apc between kind text) (cancelled byte) = omega arith
 length-end_calls (escape bytes) broken_off = omega arith
-length-end_calls (csi lead header) broken_off = omega arith
-length-end_calls (dcs_header lead header) broken_off = omega arith
-length-end_calls (dcs lead header final text) broken_off = omega arith
-length-end_calls (dcs_ignored lead header x text) broken_off = omega arith
-length-end_calls (osc lead text) broken_off = omega arith
-length-end_calls (sos_pm_apc lead kind text) broken_off = omega arith
+length-end_calls (csi between header) broken_off = omega arith
+length-end_calls (dcs_header between header) broken_off = omega arith
+length-end_calls (dcs between header final text) broken_off = omega arith
+length-end_calls (dcs_ignored between header x text) broken_off = omega arith
+length-end_calls (osc between text) broken_off = omega arith
+length-end_calls (sos_pm_apc between kind text) broken_off = omega arith
 length-end_calls (escape bytes) unfinished = omega arith
-length-end_calls (csi lead header) unfinished = omega arith
-length-end_calls (dcs_header lead header) unfinished = omega arith
-length-end_calls (dcs lead header final text) unfinished = omega arith
-length-end_calls (dcs_ignored lead header x text) unfinished = omega arith
-length-end_calls (osc lead text) unfinished = omega arith
-length-end_calls (sos_pm_apc lead kind text) unfinished = omega arith
+length-end_calls (csi between header) unfinished = omega arith
+length-end_calls (dcs_header between header) unfinished = omega arith
+length-end_calls (dcs between header final text) unfinished = omega arith
+length-end_calls (dcs_ignored between header x text) unfinished = omega arith
+length-end_calls (osc between text) unfinished = omega arith
+length-end_calls (sos_pm_apc between kind text) unfinished = omega arith
 
 length-single_calls : (b : ℕ) → length (single_calls b) ≤ 1
 unfolding single_calls

@@ -57,12 +57,12 @@ encode-bytes c e =
     (cases_lt c 0x800))
     (cases_lt c 0x80)
 
-header-bytes : (lead : ℕ) (groups : List (List ℕ)) (intermediates : List ℕ) (ignore : Bool) (final : ℕ) → lead < 256 → IsHeaderCall groups intermediates ignore final
-    → EachIs is_byte (escape_byte ∷ lead ∷ (header_text groups intermediates ignore ++ final ∷ []))
-header-bytes lead groups intermediates ignore final small call = (
+header-bytes : (second : ℕ) (groups : List (List ℕ)) (intermediates : List ℕ) (ignore : Bool) (final : ℕ) → second < 256 → IsHeaderCall groups intermediates ignore final
+    → EachIs is_byte (escape_byte ∷ second ∷ (header_text groups intermediates ignore ++ final ∷ []))
+header-bytes second groups intermediates ignore final small call = (
   byte escape_byte (omega arith),
   (
-    byte lead small,
+    byte second small,
     EachIs-append is_byte (header_text groups intermediates ignore) (final ∷ [])
         (EachIs-weaker is_header_byte is_byte header-byte (header_text groups intermediates ignore) (header_text-Shows groups intermediates ignore final call).bytes_are)
         (final-byte final call.is_finished, tt),

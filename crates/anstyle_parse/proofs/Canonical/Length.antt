@@ -113,12 +113,12 @@ length-parts_of text =
 -- what a body leaves of three times its length for the calls of its end
 slack : Body → ℕ
 slack (escape bytes) = 2
-slack (csi lead header) = 2 * length header + 5
-slack (dcs_header lead header) = 0
-slack (dcs lead header final text) = 1
-slack (dcs_ignored lead header byte text) = 0
-slack (osc lead text) = length text + 5
-slack (sos_pm_apc lead kind text) = 0
+slack (csi between header) = 2 * length header + 5
+slack (dcs_header between header) = 0
+slack (dcs between header final text) = 1
+slack (dcs_ignored between header byte text) = 0
+slack (osc between text) = length text + 5
+slack (sos_pm_apc between kind text) = 0
 
 -- the header of a sequence, and what follows it
 length-header_call : (header : List ℕ) (rest : List ℕ) → length (header_text (groups_of (significant header)) (collected_of (significant header)) (ignore_of (significant header)) ++ rest) ≤ 2 * length header + 5 + length rest
@@ -129,25 +129,25 @@ length-header_call header rest =
 length-canon-body : (body : Body) → length (canon (body_calls body)) + slack body ≤ 3 * length (body_text body)
 unfolding slack
 length-canon-body (escape bytes) = omega (arith, length-canon-executes bytes)
-length-canon-body (csi lead header) =
-    omega (arith, length-canon-append (executes lead) (executes header), length-append lead (0x5B ∷ header), length-canon-executes lead, length-canon-executes header)
-length-canon-body (dcs_header lead header) = omega (arith, length-append lead (0x50 ∷ header), length-canon-executes lead)
-length-canon-body (dcs lead header final text) =
+length-canon-body (csi between header) =
+    omega (arith, length-canon-append (executes between) (executes header), length-append between (0x5B ∷ header), length-canon-executes between, length-canon-executes header)
+length-canon-body (dcs_header between header) = omega (arith, length-append between (0x50 ∷ header), length-canon-executes between)
+length-canon-body (dcs between header final text) =
     let puts = map put (filter is_put text) in
     let text_of = header_text (groups_of (significant header)) (collected_of (significant header)) (ignore_of (significant header)) in
     omega (
       arith,
-      length-canon-append (executes lead) (hook (groups_of (significant header)) (collected_of (significant header)) (ignore_of (significant header)) final ∷ puts),
+      length-canon-append (executes between) (hook (groups_of (significant header)) (collected_of (significant header)) (ignore_of (significant header)) final ∷ puts),
       length-append (text_of ++ final ∷ []) (canon puts),
       length-header_call header (final ∷ []),
-      length-append lead (0x50 ∷ (header ++ final ∷ text)),
+      length-append between (0x50 ∷ (header ++ final ∷ text)),
       length-append header (final ∷ text),
-      length-canon-executes lead,
+      length-canon-executes between,
       length-canon-puts text,
     )
-length-canon-body (dcs_ignored lead header byte text) = omega (arith, length-append lead (0x50 ∷ (header ++ byte ∷ text)), length-canon-executes lead)
-length-canon-body (osc lead text) = omega (arith, length-append lead (0x5D ∷ text), length-canon-executes lead)
-length-canon-body (sos_pm_apc lead kind text) = omega (arith, length-append lead (kind ∷ text), length-canon-executes lead)
+length-canon-body (dcs_ignored between header byte text) = omega (arith, length-append between (0x50 ∷ (header ++ byte ∷ text)), length-canon-executes between)
+length-canon-body (osc between text) = omega (arith, length-append between (0x5D ∷ text), length-canon-executes between)
+length-canon-body (sos_pm_apc between kind text) = omega (arith, length-append between (kind ∷ text), length-canon-executes between)
 
 -- the dispatch of a control sequence
 length-canon-dispatch : (header : List ℕ) (final : ℕ) → length (canon (control_dispatch (significant header) final)) ≤ 2 * length header + 8
@@ -171,33 +171,33 @@ length-canon-end (escape bytes) (complete final) =
     let ignore = ltb max_collected (length kept) in
     let text_of = escape_text (take max_collected kept) ignore in
     omega (arith, length-append (text_of ++ final ∷ []) [], length-append text_of (final ∷ []), length-escape_text kept ignore)
-length-canon-end (csi lead header) (complete byte) = omega (arith, length-canon-dispatch header byte)
-length-canon-end (dcs_header lead header) (complete byte) = omega arith
-length-canon-end (dcs lead header final text) (complete byte) = omega arith
-length-canon-end (dcs_ignored lead header x text) (complete byte) = omega arith
-length-canon-end (osc lead text) (complete byte) = omega (arith, length-canon-osc text true [])
-length-canon-end (sos_pm_apc lead kind text) (complete byte) = omega arith
+length-canon-end (csi between header) (complete byte) = omega (arith, length-canon-dispatch header byte)
+length-canon-end (dcs_header between header) (complete byte) = omega arith
+length-canon-end (dcs between header final text) (complete byte) = omega arith
+length-canon-end (dcs_ignored between header x text) (complete byte) = omega arith
+length-canon-end (osc between text) (complete byte) = omega (arith, length-canon-osc text true [])
+length-canon-end (sos_pm_apc between kind text) (complete byte) = omega arith
 length-canon-end (escape bytes) (cancelled byte) = omega arith
-length-canon-end (csi lead header) (cancelled byte) = omega arith
-length-canon-end (dcs_header lead header) (cancelled byte) = omega arith
-length-canon-end (dcs lead header final text) (cancelled byte) = omega arith
-length-canon-end (dcs_ignored lead header x text) (cancelled byte) = omega arith
-length-canon-end (osc lead text) (cancelled byte) = omega (arith, length-canon-osc text false (execute byte ∷ []))
-length-canon-end (sos_pm_apc lead kind text) (cancelled byte) = omega arith
+length-canon-end (csi between header) (cancelled byte) = omega arith
+length-canon-end (dcs_header between header) (cancelled byte) = omega arith
+length-canon-end (dcs between header final text) (cancelled byte) = omega arith
+length-canon-end (dcs_ignored between header x text) (cancelled byte) = omega arith
+length-canon-end (osc between text) (cancelled byte) = omega (arith, length-canon-osc text false (execute byte ∷ []))
+length-canon-end (sos_pm_apc between kind text) (cancelled byte) = omega arith
 length-canon-end (escape bytes) broken_off = omega arith
-length-canon-end (csi lead header) broken_off = omega arith
-length-canon-end (dcs_header lead header) broken_off = omega arith
-length-canon-end (dcs lead header final text) broken_off = omega arith
-length-canon-end (dcs_ignored lead header x text) broken_off = omega arith
-length-canon-end (osc lead text) broken_off = omega (arith, length-canon-osc text false [])
-length-canon-end (sos_pm_apc lead kind text) broken_off = omega arith
+length-canon-end (csi between header) broken_off = omega arith
+length-canon-end (dcs_header between header) broken_off = omega arith
+length-canon-end (dcs between header final text) broken_off = omega arith
+length-canon-end (dcs_ignored between header x text) broken_off = omega arith
+length-canon-end (osc between text) broken_off = omega (arith, length-canon-osc text false [])
+length-canon-end (sos_pm_apc between kind text) broken_off = omega arith
 length-canon-end (escape bytes) unfinished = omega arith
-length-canon-end (csi lead header) unfinished = omega arith
-length-canon-end (dcs_header lead header) unfinished = omega arith
-length-canon-end (dcs lead header final text) unfinished = omega arith
-length-canon-end (dcs_ignored lead header x text) unfinished = omega arith
-length-canon-end (osc lead text) unfinished = omega arith
-length-canon-end (sos_pm_apc lead kind text) unfinished = omega arith
+length-canon-end (csi between header) unfinished = omega arith
+length-canon-end (dcs_header between header) unfinished = omega arith
+length-canon-end (dcs between header final text) unfinished = omega arith
+length-canon-end (dcs_ignored between header x text) unfinished = omega arith
+length-canon-end (osc between text) unfinished = omega arith
+length-canon-end (sos_pm_apc between kind text) unfinished = omega arith
 
 -- a single byte
 length-canon-single : (b : ℕ) → length (canon (single_calls b)) ≤ 3

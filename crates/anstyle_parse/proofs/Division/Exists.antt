@@ -97,21 +97,21 @@ Grown-final bytes b h last other = Grown-ended (escape bytes) b h (and_from (is_
     (or_right (list_any is_intermediate bytes) (not (is_introducer b)) (not_from_false (is_introducer b) other)))
 
 -- a byte of a device control header
-Grown-header : (lead header : List ℕ) (b : ℕ) → IsBody (dcs_header lead header) → IsTrue (is_header_byte b) → is_significant b ≡ true
-    → IsTrue (is_noise b || is_header_byte b) → Grown (inside (dcs_header lead header)) b (grow_header lead header b)
-Grown-header lead header b h byte counts inner =
-    cond_both (has_shape (significant header ++ b ∷ [])) (into (dcs_header lead (header ++ b ∷ []))) (into (dcs_ignored lead header b []))
-    (λ g. Grown (inside (dcs_header lead header)) b g)
-    (λ fits. Grown-into (dcs_header lead header) (dcs_header lead (header ++ b ∷ [])) b
+Grown-header : (between header : List ℕ) (b : ℕ) → IsBody (dcs_header between header) → IsTrue (is_header_byte b) → is_significant b ≡ true
+    → IsTrue (is_noise b || is_header_byte b) → Grown (inside (dcs_header between header)) b (grow_header between header b)
+Grown-header between header b h byte counts inner =
+    cond_both (has_shape (significant header ++ b ∷ [])) (into (dcs_header between (header ++ b ∷ []))) (into (dcs_ignored between header b []))
+    (λ g. Grown (inside (dcs_header between header)) b g)
+    (λ fits. Grown-into (dcs_header between header) (dcs_header between (header ++ b ∷ [])) b
     record { noise = h.noise; header_bytes = EachIs-push (λ n. is_noise n || is_header_byte n) header b h.header_bytes inner; shaped = ap has_shape (significant-push header b counts) ∙ fits }
     (simp append_assoc))
-    (λ unfit. Grown-into (dcs_header lead header) (dcs_ignored lead header b []) b
+    (λ unfit. Grown-into (dcs_header between header) (dcs_ignored between header b []) b
     record { begun = h; header_byte = byte; unshaped = not_from_false (has_shape (significant header ++ b ∷ [])) unfit; text_bytes = tt } (simp append_assoc))
 
 -- a final byte after a device control header
-Grown-hooked : (lead header : List ℕ) (b : ℕ) → IsBody (dcs_header lead header) → IsTrue (is_final b)
-    → Grown (inside (dcs_header lead header)) b (into (dcs lead header b []))
-Grown-hooked lead header b h e = Grown-into (dcs_header lead header) (dcs lead header b []) b record { begun = h; hooked = e; text_bytes = tt } (simp append_assoc)
+Grown-hooked : (between header : List ℕ) (b : ℕ) → IsBody (dcs_header between header) → IsTrue (is_final b)
+    → Grown (inside (dcs_header between header)) b (into (dcs between header b []))
+Grown-hooked between header b h e = Grown-into (dcs_header between header) (dcs between header b []) b record { begun = h; hooked = e; text_bytes = tt } (simp append_assoc)
 
 -- Each byte, by its class, after each body.
 Grown-body : (body : Body) (b : ℕ) (c : Class) → class_of b ≡ c → IsBody body → Grown (inside body) b (grow_body body b c)
@@ -135,39 +135,39 @@ Grown-body (escape bytes) b command_byte e h = Grown-introduce bytes b (osc byte
     (ap (λ n. escape_byte ∷ (bytes ++ n ∷ [])) (sym (eqb-true b 0x5D (is_command-class b ∙ ap is_command_at e)))))
 Grown-body (escape bytes) b c e h = Grown-into (escape bytes) (escape (bytes ++ b ∷ [])) b
     (EachIs-push (λ n. is_noise n || is_intermediate n) bytes b h (is_in_escape-class b ∙ ap is_in_escape_at e)) refl
-Grown-body (csi lead header) b device_byte e h = Grown-ended (csi lead header) b h (is_final-class b ∙ ap is_final_at e)
-Grown-body (csi lead header) b string_byte e h = Grown-ended (csi lead header) b h (is_final-class b ∙ ap is_final_at e)
-Grown-body (csi lead header) b control_introducer e h = Grown-ended (csi lead header) b h (is_final-class b ∙ ap is_final_at e)
-Grown-body (csi lead header) b command_byte e h = Grown-ended (csi lead header) b h (is_final-class b ∙ ap is_final_at e)
-Grown-body (csi lead header) b final_byte e h = Grown-ended (csi lead header) b h (is_final-class b ∙ ap is_final_at e)
-Grown-body (csi lead header) b c e h = Grown-into (csi lead header) (csi lead (header ++ b ∷ [])) b
+Grown-body (csi between header) b device_byte e h = Grown-ended (csi between header) b h (is_final-class b ∙ ap is_final_at e)
+Grown-body (csi between header) b string_byte e h = Grown-ended (csi between header) b h (is_final-class b ∙ ap is_final_at e)
+Grown-body (csi between header) b control_introducer e h = Grown-ended (csi between header) b h (is_final-class b ∙ ap is_final_at e)
+Grown-body (csi between header) b command_byte e h = Grown-ended (csi between header) b h (is_final-class b ∙ ap is_final_at e)
+Grown-body (csi between header) b final_byte e h = Grown-ended (csi between header) b h (is_final-class b ∙ ap is_final_at e)
+Grown-body (csi between header) b c e h = Grown-into (csi between header) (csi between (header ++ b ∷ [])) b
     (h.0, EachIs-push (λ n. is_noise n || is_header_byte n) header b h.1 (is_in_header-class b ∙ ap is_in_header_at e)) (simp append_assoc)
-Grown-body (dcs_header lead header) b device_byte e h = Grown-hooked lead header b h (is_final-class b ∙ ap is_final_at e)
-Grown-body (dcs_header lead header) b string_byte e h = Grown-hooked lead header b h (is_final-class b ∙ ap is_final_at e)
-Grown-body (dcs_header lead header) b control_introducer e h = Grown-hooked lead header b h (is_final-class b ∙ ap is_final_at e)
-Grown-body (dcs_header lead header) b command_byte e h = Grown-hooked lead header b h (is_final-class b ∙ ap is_final_at e)
-Grown-body (dcs_header lead header) b final_byte e h = Grown-hooked lead header b h (is_final-class b ∙ ap is_final_at e)
-Grown-body (dcs_header lead header) b intermediate_byte e h = Grown-header lead header b h (is_header_byte-class b ∙ ap is_header_byte_at e) (is_significant-class b ∙ ap is_significant_at e) (is_in_header-class b ∙ ap is_in_header_at e)
-Grown-body (dcs_header lead header) b digit_byte e h = Grown-header lead header b h (is_header_byte-class b ∙ ap is_header_byte_at e) (is_significant-class b ∙ ap is_significant_at e) (is_in_header-class b ∙ ap is_in_header_at e)
-Grown-body (dcs_header lead header) b colon_byte e h = Grown-header lead header b h (is_header_byte-class b ∙ ap is_header_byte_at e) (is_significant-class b ∙ ap is_significant_at e) (is_in_header-class b ∙ ap is_in_header_at e)
-Grown-body (dcs_header lead header) b semicolon_byte e h = Grown-header lead header b h (is_header_byte-class b ∙ ap is_header_byte_at e) (is_significant-class b ∙ ap is_significant_at e) (is_in_header-class b ∙ ap is_in_header_at e)
-Grown-body (dcs_header lead header) b marker_byte e h = Grown-header lead header b h (is_header_byte-class b ∙ ap is_header_byte_at e) (is_significant-class b ∙ ap is_significant_at e) (is_in_header-class b ∙ ap is_in_header_at e)
-Grown-body (dcs_header lead header) b c e h = Grown-into (dcs_header lead header) (dcs_header lead (header ++ b ∷ [])) b (record {
+Grown-body (dcs_header between header) b device_byte e h = Grown-hooked between header b h (is_final-class b ∙ ap is_final_at e)
+Grown-body (dcs_header between header) b string_byte e h = Grown-hooked between header b h (is_final-class b ∙ ap is_final_at e)
+Grown-body (dcs_header between header) b control_introducer e h = Grown-hooked between header b h (is_final-class b ∙ ap is_final_at e)
+Grown-body (dcs_header between header) b command_byte e h = Grown-hooked between header b h (is_final-class b ∙ ap is_final_at e)
+Grown-body (dcs_header between header) b final_byte e h = Grown-hooked between header b h (is_final-class b ∙ ap is_final_at e)
+Grown-body (dcs_header between header) b intermediate_byte e h = Grown-header between header b h (is_header_byte-class b ∙ ap is_header_byte_at e) (is_significant-class b ∙ ap is_significant_at e) (is_in_header-class b ∙ ap is_in_header_at e)
+Grown-body (dcs_header between header) b digit_byte e h = Grown-header between header b h (is_header_byte-class b ∙ ap is_header_byte_at e) (is_significant-class b ∙ ap is_significant_at e) (is_in_header-class b ∙ ap is_in_header_at e)
+Grown-body (dcs_header between header) b colon_byte e h = Grown-header between header b h (is_header_byte-class b ∙ ap is_header_byte_at e) (is_significant-class b ∙ ap is_significant_at e) (is_in_header-class b ∙ ap is_in_header_at e)
+Grown-body (dcs_header between header) b semicolon_byte e h = Grown-header between header b h (is_header_byte-class b ∙ ap is_header_byte_at e) (is_significant-class b ∙ ap is_significant_at e) (is_in_header-class b ∙ ap is_in_header_at e)
+Grown-body (dcs_header between header) b marker_byte e h = Grown-header between header b h (is_header_byte-class b ∙ ap is_header_byte_at e) (is_significant-class b ∙ ap is_significant_at e) (is_in_header-class b ∙ ap is_in_header_at e)
+Grown-body (dcs_header between header) b c e h = Grown-into (dcs_header between header) (dcs_header between (header ++ b ∷ [])) b (record {
   noise = h.noise;
   header_bytes = EachIs-push (λ n. is_noise n || is_header_byte n) header b h.header_bytes (is_in_header-class b ∙ ap is_in_header_at e);
   shaped = ap has_shape (significant_same header b (is_significant-class b ∙ ap is_significant_at e)) ∙ h.shaped;
 }) (simp append_assoc)
-Grown-body (dcs lead header final text) b terminator_byte e h = Grown-ended (dcs lead header final text) b h (is_terminator-class b ∙ ap is_terminator_at e)
-Grown-body (dcs lead header final text) b c e h = Grown-into (dcs lead header final text) (dcs lead header final (text ++ b ∷ [])) b
+Grown-body (dcs between header final text) b terminator_byte e h = Grown-ended (dcs between header final text) b h (is_terminator-class b ∙ ap is_terminator_at e)
+Grown-body (dcs between header final text) b c e h = Grown-into (dcs between header final text) (dcs between header final (text ++ b ∷ [])) b
     (record { begun = h.begun; hooked = h.hooked; text_bytes = EachIs-push (is_text_byte string_terminator) text b h.text_bytes (is_string_text-class b ∙ ap is_string_text_at e) }) (simp append_assoc)
-Grown-body (dcs_ignored lead header byte text) b terminator_byte e h = Grown-ended (dcs_ignored lead header byte text) b h (is_terminator-class b ∙ ap is_terminator_at e)
-Grown-body (dcs_ignored lead header byte text) b c e h = Grown-into (dcs_ignored lead header byte text) (dcs_ignored lead header byte (text ++ b ∷ [])) b
+Grown-body (dcs_ignored between header byte text) b terminator_byte e h = Grown-ended (dcs_ignored between header byte text) b h (is_terminator-class b ∙ ap is_terminator_at e)
+Grown-body (dcs_ignored between header byte text) b c e h = Grown-into (dcs_ignored between header byte text) (dcs_ignored between header byte (text ++ b ∷ [])) b
     (record { begun = h.begun; header_byte = h.header_byte; unshaped = h.unshaped; text_bytes = EachIs-push (is_text_byte string_terminator) text b h.text_bytes (is_string_text-class b ∙ ap is_string_text_at e) }) (simp append_assoc)
-Grown-body (osc lead text) b bell_byte e h = Grown-ended (osc lead text) b h (is_bell-class b ∙ ap is_bell_at e)
-Grown-body (osc lead text) b c e h = Grown-into (osc lead text) (osc lead (text ++ b ∷ [])) b
+Grown-body (osc between text) b bell_byte e h = Grown-ended (osc between text) b h (is_bell-class b ∙ ap is_bell_at e)
+Grown-body (osc between text) b c e h = Grown-into (osc between text) (osc between (text ++ b ∷ [])) b
     (h.0, EachIs-push (is_text_byte bell) text b h.1 (is_command_text-class b ∙ ap is_command_text_at e)) (simp append_assoc)
-Grown-body (sos_pm_apc lead kind text) b terminator_byte e h = Grown-ended (sos_pm_apc lead kind text) b h (is_terminator-class b ∙ ap is_terminator_at e)
-Grown-body (sos_pm_apc lead kind text) b c e h = Grown-into (sos_pm_apc lead kind text) (sos_pm_apc lead kind (text ++ b ∷ [])) b
+Grown-body (sos_pm_apc between kind text) b terminator_byte e h = Grown-ended (sos_pm_apc between kind text) b h (is_terminator-class b ∙ ap is_terminator_at e)
+Grown-body (sos_pm_apc between kind text) b c e h = Grown-into (sos_pm_apc between kind text) (sos_pm_apc between kind (text ++ b ∷ [])) b
     (h.0, h.1, EachIs-push (is_text_byte string_terminator) text b h.2 (is_string_text-class b ∙ ap is_string_text_at e)) (simp append_assoc)
 
 -- a list that is neither a whole nor a proper prefix is no prefix

@@ -64,56 +64,56 @@ grow_escape bytes b command_byte = introduce bytes b (osc bytes [])
 grow_escape bytes b class = into (escape (bytes ++ b ∷ []))
 
 abbrev pub grow_control : List ℕ → List ℕ → ℕ → Class → Growth
-grow_control lead header b device_byte = ended (csi lead header) b
-grow_control lead header b string_byte = ended (csi lead header) b
-grow_control lead header b control_introducer = ended (csi lead header) b
-grow_control lead header b command_byte = ended (csi lead header) b
-grow_control lead header b final_byte = ended (csi lead header) b
-grow_control lead header b class = into (csi lead (header ++ b ∷ []))
+grow_control between header b device_byte = ended (csi between header) b
+grow_control between header b string_byte = ended (csi between header) b
+grow_control between header b control_introducer = ended (csi between header) b
+grow_control between header b command_byte = ended (csi between header) b
+grow_control between header b final_byte = ended (csi between header) b
+grow_control between header b class = into (csi between (header ++ b ∷ []))
 
 -- a byte that goes on with the header, or does not fit it
 abbrev pub grow_header : List ℕ → List ℕ → ℕ → Growth
-grow_header lead header b =
-    if has_shape (significant header ++ b ∷ []) then into (dcs_header lead (header ++ b ∷ [])) else into (dcs_ignored lead header b [])
+grow_header between header b =
+    if has_shape (significant header ++ b ∷ []) then into (dcs_header between (header ++ b ∷ [])) else into (dcs_ignored between header b [])
 
 abbrev pub grow_device : List ℕ → List ℕ → ℕ → Class → Growth
-grow_device lead header b device_byte = into (dcs lead header b [])
-grow_device lead header b string_byte = into (dcs lead header b [])
-grow_device lead header b control_introducer = into (dcs lead header b [])
-grow_device lead header b command_byte = into (dcs lead header b [])
-grow_device lead header b final_byte = into (dcs lead header b [])
-grow_device lead header b intermediate_byte = grow_header lead header b
-grow_device lead header b digit_byte = grow_header lead header b
-grow_device lead header b colon_byte = grow_header lead header b
-grow_device lead header b semicolon_byte = grow_header lead header b
-grow_device lead header b marker_byte = grow_header lead header b
-grow_device lead header b class = into (dcs_header lead (header ++ b ∷ []))
+grow_device between header b device_byte = into (dcs between header b [])
+grow_device between header b string_byte = into (dcs between header b [])
+grow_device between header b control_introducer = into (dcs between header b [])
+grow_device between header b command_byte = into (dcs between header b [])
+grow_device between header b final_byte = into (dcs between header b [])
+grow_device between header b intermediate_byte = grow_header between header b
+grow_device between header b digit_byte = grow_header between header b
+grow_device between header b colon_byte = grow_header between header b
+grow_device between header b semicolon_byte = grow_header between header b
+grow_device between header b marker_byte = grow_header between header b
+grow_device between header b class = into (dcs_header between (header ++ b ∷ []))
 
 abbrev pub grow_hooked : List ℕ → List ℕ → ℕ → List ℕ → ℕ → Class → Growth
-grow_hooked lead header final text b terminator_byte = ended (dcs lead header final text) b
-grow_hooked lead header final text b class = into (dcs lead header final (text ++ b ∷ []))
+grow_hooked between header final text b terminator_byte = ended (dcs between header final text) b
+grow_hooked between header final text b class = into (dcs between header final (text ++ b ∷ []))
 
 abbrev pub grow_dropped : List ℕ → List ℕ → ℕ → List ℕ → ℕ → Class → Growth
-grow_dropped lead header byte text b terminator_byte = ended (dcs_ignored lead header byte text) b
-grow_dropped lead header byte text b class = into (dcs_ignored lead header byte (text ++ b ∷ []))
+grow_dropped between header byte text b terminator_byte = ended (dcs_ignored between header byte text) b
+grow_dropped between header byte text b class = into (dcs_ignored between header byte (text ++ b ∷ []))
 
 abbrev pub grow_command : List ℕ → List ℕ → ℕ → Class → Growth
-grow_command lead text b bell_byte = ended (osc lead text) b
-grow_command lead text b class = into (osc lead (text ++ b ∷ []))
+grow_command between text b bell_byte = ended (osc between text) b
+grow_command between text b class = into (osc between (text ++ b ∷ []))
 
 abbrev pub grow_ignored : List ℕ → ℕ → List ℕ → ℕ → Class → Growth
-grow_ignored lead kind text b terminator_byte = ended (sos_pm_apc lead kind text) b
-grow_ignored lead kind text b class = into (sos_pm_apc lead kind (text ++ b ∷ []))
+grow_ignored between kind text b terminator_byte = ended (sos_pm_apc between kind text) b
+grow_ignored between kind text b class = into (sos_pm_apc between kind (text ++ b ∷ []))
 
 -- a byte that ends no sequence from outside
 abbrev pub grow_within : Body → ℕ → Class → Growth
 grow_within (escape bytes) b class = grow_escape bytes b class
-grow_within (csi lead header) b class = grow_control lead header b class
-grow_within (dcs_header lead header) b class = grow_device lead header b class
-grow_within (dcs lead header final text) b class = grow_hooked lead header final text b class
-grow_within (dcs_ignored lead header byte text) b class = grow_dropped lead header byte text b class
-grow_within (osc lead text) b class = grow_command lead text b class
-grow_within (sos_pm_apc lead kind text) b class = grow_ignored lead kind text b class
+grow_within (csi between header) b class = grow_control between header b class
+grow_within (dcs_header between header) b class = grow_device between header b class
+grow_within (dcs between header final text) b class = grow_hooked between header final text b class
+grow_within (dcs_ignored between header byte text) b class = grow_dropped between header byte text b class
+grow_within (osc between text) b class = grow_command between text b class
+grow_within (sos_pm_apc between kind text) b class = grow_ignored between kind text b class
 
 abbrev pub grow_body : Body → ℕ → Class → Growth
 grow_body body b esc_byte = record { items = sequence body broken_off ∷ []; next = inside (escape []) }

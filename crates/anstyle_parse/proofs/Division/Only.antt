@@ -46,32 +46,32 @@ ended_escape bytes b command_byte t = introduce-after bytes b (osc bytes []) t
 ended_escape bytes b c t = cc
 
 -- and a control sequence
-ended_control : (lead header : List ℕ) (b : ℕ) (c : Class) → is_final_at c ≡ true → grow_body (csi lead header) b c ≡ ended (csi lead header) b
-ended_control lead header b final_byte t = refl
-ended_control lead header b c t = cc
+ended_control : (between header : List ℕ) (b : ℕ) (c : Class) → is_final_at c ≡ true → grow_body (csi between header) b c ≡ ended (csi between header) b
+ended_control between header b final_byte t = refl
+ended_control between header b c t = cc
 
 -- and a hooked device control string
-ended_hooked : (lead header : List ℕ) (final : ℕ) (text : List ℕ) (b : ℕ) (c : Class) → is_terminator_at c ≡ true
-    → grow_body (dcs lead header final text) b c ≡ ended (dcs lead header final text) b
-ended_hooked lead header final text b terminator_byte t = refl
-ended_hooked lead header final text b c t = cc
+ended_hooked : (between header : List ℕ) (final : ℕ) (text : List ℕ) (b : ℕ) (c : Class) → is_terminator_at c ≡ true
+    → grow_body (dcs between header final text) b c ≡ ended (dcs between header final text) b
+ended_hooked between header final text b terminator_byte t = refl
+ended_hooked between header final text b c t = cc
 
 -- and one that is ignored
-ended_dropped : (lead header : List ℕ) (byte : ℕ) (text : List ℕ) (b : ℕ) (c : Class) → is_terminator_at c ≡ true
-    → grow_body (dcs_ignored lead header byte text) b c ≡ ended (dcs_ignored lead header byte text) b
-ended_dropped lead header byte text b terminator_byte t = refl
-ended_dropped lead header byte text b c t = cc
+ended_dropped : (between header : List ℕ) (byte : ℕ) (text : List ℕ) (b : ℕ) (c : Class) → is_terminator_at c ≡ true
+    → grow_body (dcs_ignored between header byte text) b c ≡ ended (dcs_ignored between header byte text) b
+ended_dropped between header byte text b terminator_byte t = refl
+ended_dropped between header byte text b c t = cc
 
 -- and an operating system command
-ended_command : (lead text : List ℕ) (b : ℕ) (c : Class) → is_bell_at c ≡ true → grow_body (osc lead text) b c ≡ ended (osc lead text) b
-ended_command lead text b bell_byte t = refl
-ended_command lead text b c t = cc
+ended_command : (between text : List ℕ) (b : ℕ) (c : Class) → is_bell_at c ≡ true → grow_body (osc between text) b c ≡ ended (osc between text) b
+ended_command between text b bell_byte t = refl
+ended_command between text b c t = cc
 
 -- and an ignored string
-ended_ignored : (lead : List ℕ) (kind : ℕ) (text : List ℕ) (b : ℕ) (c : Class) → is_terminator_at c ≡ true
-    → grow_body (sos_pm_apc lead kind text) b c ≡ ended (sos_pm_apc lead kind text) b
-ended_ignored lead kind text b terminator_byte t = refl
-ended_ignored lead kind text b c t = cc
+ended_ignored : (between : List ℕ) (kind : ℕ) (text : List ℕ) (b : ℕ) (c : Class) → is_terminator_at c ≡ true
+    → grow_body (sos_pm_apc between kind text) b c ≡ ended (sos_pm_apc between kind text) b
+ended_ignored between kind text b terminator_byte t = refl
+ended_ignored between kind text b c t = cc
 
 -- a byte that completes a body ends it
 grow-complete : (body : Body) (b : ℕ) → IsTrue (completes body b) → grow (inside body) b ≡ ended body b
@@ -79,12 +79,12 @@ unfolding grow
 grow-complete (escape bytes) b h = ended_escape bytes b (class_of b)
     (sym (ap (λ t. t && (list_any is_intermediate bytes || not (is_introducer b))) (is_last-class b)
     ∙ ap (λ t. is_last_at (class_of b) && (list_any is_intermediate bytes || not t)) (is_introducer-class b)) ∙ h)
-grow-complete (csi lead header) b h = ended_control lead header b (class_of b) (sym (is_final-class b) ∙ h)
-grow-complete (dcs_header lead header) b h = absurd (false≢true h)
-grow-complete (dcs lead header final text) b h = ended_hooked lead header final text b (class_of b) (sym (is_terminator-class b) ∙ h)
-grow-complete (dcs_ignored lead header byte text) b h = ended_dropped lead header byte text b (class_of b) (sym (is_terminator-class b) ∙ h)
-grow-complete (osc lead text) b h = ended_command lead text b (class_of b) (sym (is_bell-class b) ∙ h)
-grow-complete (sos_pm_apc lead kind text) b h = ended_ignored lead kind text b (class_of b) (sym (is_terminator-class b) ∙ h)
+grow-complete (csi between header) b h = ended_control between header b (class_of b) (sym (is_final-class b) ∙ h)
+grow-complete (dcs_header between header) b h = absurd (false≢true h)
+grow-complete (dcs between header final text) b h = ended_hooked between header final text b (class_of b) (sym (is_terminator-class b) ∙ h)
+grow-complete (dcs_ignored between header byte text) b h = ended_dropped between header byte text b (class_of b) (sym (is_terminator-class b) ∙ h)
+grow-complete (osc between text) b h = ended_command between text b (class_of b) (sym (is_bell-class b) ∙ h)
+grow-complete (sos_pm_apc between kind text) b h = ended_ignored between kind text b (class_of b) (sym (is_terminator-class b) ∙ h)
 
 -- a byte that cancels a body, and ESC, which breaks it off
 cancel_body : (body : Body) (b : ℕ) (c : Class) → is_cancel_at c ≡ true → grow_body body b c ≡ done (sequence body (cancelled b))

@@ -55,63 +55,63 @@ into_escape : (p : List ℕ) (b : ℕ) (c : Class) → is_in_escape_at c ≡ tru
 into_escape p b control_byte t = refl
 into_escape p b c t = cc
 
-into_control : (lead p : List ℕ) (b : ℕ) (c : Class) → is_in_header_at c ≡ true → grow_body (csi lead p) b c ≡ into (csi lead (p ++ b ∷ []))
-into_control lead p b control_byte t = refl
-into_control lead p b c t = cc
+into_control : (between p : List ℕ) (b : ℕ) (c : Class) → is_in_header_at c ≡ true → grow_body (csi between p) b c ≡ into (csi between (p ++ b ∷ []))
+into_control between p b control_byte t = refl
+into_control between p b c t = cc
 
 -- a significant byte that fits a header
-grow_header-fits : (lead p : List ℕ) (b : ℕ) → is_significant b ≡ true → has_shape (significant (p ++ b ∷ [])) ≡ true
-    → grow_header lead p b ≡ into (dcs_header lead (p ++ b ∷ []))
-grow_header-fits lead p b counts fits =
-    cond-true (has_shape (significant p ++ b ∷ [])) (into (dcs_header lead (p ++ b ∷ []))) (into (dcs_ignored lead p b [])) (sym (ap has_shape (significant-push p b counts)) ∙ fits)
+grow_header-fits : (between p : List ℕ) (b : ℕ) → is_significant b ≡ true → has_shape (significant (p ++ b ∷ [])) ≡ true
+    → grow_header between p b ≡ into (dcs_header between (p ++ b ∷ []))
+grow_header-fits between p b counts fits =
+    cond-true (has_shape (significant p ++ b ∷ [])) (into (dcs_header between (p ++ b ∷ []))) (into (dcs_ignored between p b [])) (sym (ap has_shape (significant-push p b counts)) ∙ fits)
 
 -- a byte that leaves a device control header in shape
-into_device : (lead p : List ℕ) (b : ℕ) (c : Class) → class_of b ≡ c → is_in_header_at c ≡ true → has_shape (significant (p ++ b ∷ [])) ≡ true
-    → grow_body (dcs_header lead p) b c ≡ into (dcs_header lead (p ++ b ∷ []))
-into_device lead p b intermediate_byte e t s = grow_header-fits lead p b (is_significant-class b ∙ ap is_significant_at e) s
-into_device lead p b digit_byte e t s = grow_header-fits lead p b (is_significant-class b ∙ ap is_significant_at e) s
-into_device lead p b colon_byte e t s = grow_header-fits lead p b (is_significant-class b ∙ ap is_significant_at e) s
-into_device lead p b semicolon_byte e t s = grow_header-fits lead p b (is_significant-class b ∙ ap is_significant_at e) s
-into_device lead p b marker_byte e t s = grow_header-fits lead p b (is_significant-class b ∙ ap is_significant_at e) s
-into_device lead p b c e t s = cc
+into_device : (between p : List ℕ) (b : ℕ) (c : Class) → class_of b ≡ c → is_in_header_at c ≡ true → has_shape (significant (p ++ b ∷ [])) ≡ true
+    → grow_body (dcs_header between p) b c ≡ into (dcs_header between (p ++ b ∷ []))
+into_device between p b intermediate_byte e t s = grow_header-fits between p b (is_significant-class b ∙ ap is_significant_at e) s
+into_device between p b digit_byte e t s = grow_header-fits between p b (is_significant-class b ∙ ap is_significant_at e) s
+into_device between p b colon_byte e t s = grow_header-fits between p b (is_significant-class b ∙ ap is_significant_at e) s
+into_device between p b semicolon_byte e t s = grow_header-fits between p b (is_significant-class b ∙ ap is_significant_at e) s
+into_device between p b marker_byte e t s = grow_header-fits between p b (is_significant-class b ∙ ap is_significant_at e) s
+into_device between p b c e t s = cc
 
 -- a byte of the text of a hooked string
-into_hooked : (lead header : List ℕ) (final : ℕ) (p : List ℕ) (b : ℕ) (c : Class) → is_string_text_at c ≡ true
-    → grow_body (dcs lead header final p) b c ≡ into (dcs lead header final (p ++ b ∷ []))
-into_hooked lead header final p b terminator_byte t = cc
-into_hooked lead header final p b c t = cc
+into_hooked : (between header : List ℕ) (final : ℕ) (p : List ℕ) (b : ℕ) (c : Class) → is_string_text_at c ≡ true
+    → grow_body (dcs between header final p) b c ≡ into (dcs between header final (p ++ b ∷ []))
+into_hooked between header final p b terminator_byte t = cc
+into_hooked between header final p b c t = cc
 
 -- of one that is ignored
-into_dropped : (lead header : List ℕ) (byte : ℕ) (p : List ℕ) (b : ℕ) (c : Class) → is_string_text_at c ≡ true
-    → grow_body (dcs_ignored lead header byte p) b c ≡ into (dcs_ignored lead header byte (p ++ b ∷ []))
-into_dropped lead header byte p b terminator_byte t = cc
-into_dropped lead header byte p b c t = cc
+into_dropped : (between header : List ℕ) (byte : ℕ) (p : List ℕ) (b : ℕ) (c : Class) → is_string_text_at c ≡ true
+    → grow_body (dcs_ignored between header byte p) b c ≡ into (dcs_ignored between header byte (p ++ b ∷ []))
+into_dropped between header byte p b terminator_byte t = cc
+into_dropped between header byte p b c t = cc
 
 -- of an operating system command
-into_command : (lead p : List ℕ) (b : ℕ) (c : Class) → is_command_text_at c ≡ true → grow_body (osc lead p) b c ≡ into (osc lead (p ++ b ∷ []))
-into_command lead p b bell_byte t = cc
-into_command lead p b c t = cc
+into_command : (between p : List ℕ) (b : ℕ) (c : Class) → is_command_text_at c ≡ true → grow_body (osc between p) b c ≡ into (osc between (p ++ b ∷ []))
+into_command between p b bell_byte t = cc
+into_command between p b c t = cc
 
 -- of an ignored string
-into_ignored : (lead : List ℕ) (kind : ℕ) (p : List ℕ) (b : ℕ) (c : Class) → is_string_text_at c ≡ true
-    → grow_body (sos_pm_apc lead kind p) b c ≡ into (sos_pm_apc lead kind (p ++ b ∷ []))
-into_ignored lead kind p b terminator_byte t = cc
-into_ignored lead kind p b c t = cc
+into_ignored : (between : List ℕ) (kind : ℕ) (p : List ℕ) (b : ℕ) (c : Class) → is_string_text_at c ≡ true
+    → grow_body (sos_pm_apc between kind p) b c ≡ into (sos_pm_apc between kind (p ++ b ∷ []))
+into_ignored between kind p b terminator_byte t = cc
+into_ignored between kind p b c t = cc
 
 -- a final byte after a device control header, and a byte that does not fit it
-final_device : (lead header : List ℕ) (b : ℕ) (c : Class) → is_final_at c ≡ true → grow_body (dcs_header lead header) b c ≡ into (dcs lead header b [])
-final_device lead header b final_byte t = refl
-final_device lead header b c t = cc
+final_device : (between header : List ℕ) (b : ℕ) (c : Class) → is_final_at c ≡ true → grow_body (dcs_header between header) b c ≡ into (dcs between header b [])
+final_device between header b final_byte t = refl
+final_device between header b c t = cc
 
 -- a header byte that does not fit
-unfit_device : (lead header : List ℕ) (b : ℕ) (c : Class) → is_header_byte_at c ≡ true → has_shape (significant header ++ b ∷ []) ≡ false
-    → grow_body (dcs_header lead header) b c ≡ into (dcs_ignored lead header b [])
-unfit_device lead header b intermediate_byte t s = cond-false (has_shape (significant header ++ b ∷ [])) (into (dcs_header lead (header ++ b ∷ []))) (into (dcs_ignored lead header b [])) s
-unfit_device lead header b digit_byte t s = cond-false (has_shape (significant header ++ b ∷ [])) (into (dcs_header lead (header ++ b ∷ []))) (into (dcs_ignored lead header b [])) s
-unfit_device lead header b colon_byte t s = cond-false (has_shape (significant header ++ b ∷ [])) (into (dcs_header lead (header ++ b ∷ []))) (into (dcs_ignored lead header b [])) s
-unfit_device lead header b semicolon_byte t s = cond-false (has_shape (significant header ++ b ∷ [])) (into (dcs_header lead (header ++ b ∷ []))) (into (dcs_ignored lead header b [])) s
-unfit_device lead header b marker_byte t s = cond-false (has_shape (significant header ++ b ∷ [])) (into (dcs_header lead (header ++ b ∷ []))) (into (dcs_ignored lead header b [])) s
-unfit_device lead header b c t s = cc
+unfit_device : (between header : List ℕ) (b : ℕ) (c : Class) → is_header_byte_at c ≡ true → has_shape (significant header ++ b ∷ []) ≡ false
+    → grow_body (dcs_header between header) b c ≡ into (dcs_ignored between header b [])
+unfit_device between header b intermediate_byte t s = cond-false (has_shape (significant header ++ b ∷ [])) (into (dcs_header between (header ++ b ∷ []))) (into (dcs_ignored between header b [])) s
+unfit_device between header b digit_byte t s = cond-false (has_shape (significant header ++ b ∷ [])) (into (dcs_header between (header ++ b ∷ []))) (into (dcs_ignored between header b [])) s
+unfit_device between header b colon_byte t s = cond-false (has_shape (significant header ++ b ∷ [])) (into (dcs_header between (header ++ b ∷ []))) (into (dcs_ignored between header b [])) s
+unfit_device between header b semicolon_byte t s = cond-false (has_shape (significant header ++ b ∷ [])) (into (dcs_header between (header ++ b ∷ []))) (into (dcs_ignored between header b [])) s
+unfit_device between header b marker_byte t s = cond-false (has_shape (significant header ++ b ∷ [])) (into (dcs_header between (header ++ b ∷ []))) (into (dcs_ignored between header b [])) s
+unfit_device between header b c t s = cc
 
 -- noise holds no intermediate
 not_intermediate : (c : Class) → is_noise_at c ≡ true → is_intermediate_at c ≡ false
@@ -119,34 +119,34 @@ not_intermediate intermediate_byte t = cc
 not_intermediate c t = cc
 
 -- so a list of noise holds none
-no_intermediate : (lead : List ℕ) → EachIs is_noise lead → list_any is_intermediate lead ≡ false
-no_intermediate lead noise = list_any-none is_noise is_intermediate
-    (λ b t. is_intermediate-class b ∙ not_intermediate (class_of b) (sym (is_noise-class b) ∙ t)) lead noise
+no_intermediate : (between : List ℕ) → EachIs is_noise between → list_any is_intermediate between ≡ false
+no_intermediate between noise = list_any-none is_noise is_intermediate
+    (λ b t. is_intermediate-class b ∙ not_intermediate (class_of b) (sym (is_noise-class b) ∙ t)) between noise
 
 -- after noise a byte that begins another body does so
-introduce-noise : (lead : List ℕ) (b : ℕ) (body : Body) → EachIs is_noise lead → introduce lead b body ≡ into body
-introduce-noise lead b body noise = cond-false (list_any is_intermediate lead) (ended (escape lead) b) (into body) (no_intermediate lead noise)
+introduce-noise : (between : List ℕ) (b : ℕ) (body : Body) → EachIs is_noise between → introduce between b body ≡ into body
+introduce-noise between b body noise = cond-false (list_any is_intermediate between) (ended (escape between) b) (into body) (no_intermediate between noise)
 
 -- 5B after ESC and noise
-begin_control : (lead : List ℕ) → EachIs is_noise lead → grow (inside (escape lead)) 0x5B ≡ into (csi lead [])
+begin_control : (between : List ℕ) → EachIs is_noise between → grow (inside (escape between)) 0x5B ≡ into (csi between [])
 unfolding grow class_of class_below
-begin_control lead noise = introduce-noise lead 0x5B (csi lead []) noise
+begin_control between noise = introduce-noise between 0x5B (csi between []) noise
 
 -- 50 there
-begin_device : (lead : List ℕ) → EachIs is_noise lead → grow (inside (escape lead)) 0x50 ≡ into (dcs_header lead [])
+begin_device : (between : List ℕ) → EachIs is_noise between → grow (inside (escape between)) 0x50 ≡ into (dcs_header between [])
 unfolding grow class_of class_below
-begin_device lead noise = introduce-noise lead 0x50 (dcs_header lead []) noise
+begin_device between noise = introduce-noise between 0x50 (dcs_header between []) noise
 
 -- 5D there
-begin_command : (lead : List ℕ) → EachIs is_noise lead → grow (inside (escape lead)) 0x5D ≡ into (osc lead [])
+begin_command : (between : List ℕ) → EachIs is_noise between → grow (inside (escape between)) 0x5D ≡ into (osc between [])
 unfolding grow class_of class_below
-begin_command lead noise = introduce-noise lead 0x5D (osc lead []) noise
+begin_command between noise = introduce-noise between 0x5D (osc between []) noise
 
 -- 58, 5E and 5F there
-begin_ignored : (lead : List ℕ) (kind : ℕ) (c : Class) → is_string_kind_at c ≡ true → EachIs is_noise lead
-    → grow_body (escape lead) kind c ≡ into (sos_pm_apc lead kind [])
-begin_ignored lead kind string_byte t noise = introduce-noise lead kind (sos_pm_apc lead kind []) noise
-begin_ignored lead kind c t noise = cc
+begin_ignored : (between : List ℕ) (kind : ℕ) (c : Class) → is_string_kind_at c ≡ true → EachIs is_noise between
+    → grow_body (escape between) kind c ≡ into (sos_pm_apc between kind [])
+begin_ignored between kind string_byte t noise = introduce-noise between kind (sos_pm_apc between kind []) noise
+begin_ignored between kind c t noise = cc
 
 -- ESC after nothing
 begin_escape : grow nothing escape_byte ≡ into (escape [])
@@ -166,54 +166,54 @@ Runs-escape bytes each = Runs-append nothing (inside (escape [])) (inside (escap
     (λ p b t. grow-inside (escape p) b ∙ into_escape p b (class_of b) (sym (is_in_escape-class b) ∙ t)) bytes each)
 
 -- after ESC and noise comes a body of another kind
-Runs-lead : (lead : List ℕ) (b : ℕ) (part : List ℕ) (first body : Body) → EachIs is_noise lead → grow (inside (escape lead)) b ≡ into first
-    → Runs (inside first) part (inside body) → Runs nothing (escape_byte ∷ (lead ++ b ∷ part)) (inside body)
-Runs-lead lead b part first body noise begins r =
-    Runs-append nothing (inside (escape lead)) (inside body) (escape_byte ∷ lead) (b ∷ part)
-    (Runs-escape lead (EachIs-weaker is_noise (λ n. is_noise n || is_intermediate n) (λ n t. or_left (is_noise n) (is_intermediate n) t) lead noise))
-    (Runs-append (inside (escape lead)) (inside first) (inside body) (b ∷ []) part (Runs-one (inside (escape lead)) b (inside first) begins) r)
+Runs-between : (between : List ℕ) (b : ℕ) (part : List ℕ) (first body : Body) → EachIs is_noise between → grow (inside (escape between)) b ≡ into first
+    → Runs (inside first) part (inside body) → Runs nothing (escape_byte ∷ (between ++ b ∷ part)) (inside body)
+Runs-between between b part first body noise begins r =
+    Runs-append nothing (inside (escape between)) (inside body) (escape_byte ∷ between) (b ∷ part)
+    (Runs-escape between (EachIs-weaker is_noise (λ n. is_noise n || is_intermediate n) (λ n t. or_left (is_noise n) (is_intermediate n) t) between noise))
+    (Runs-append (inside (escape between)) (inside first) (inside body) (b ∷ []) part (Runs-one (inside (escape between)) b (inside first) begins) r)
 
 -- the header of a device control string
-Runs-device : (lead header : List ℕ) → IsBody (dcs_header lead header) → Runs (inside (dcs_header lead [])) header (inside (dcs_header lead header))
-Runs-device lead header h = Runs-each (λ x. inside (dcs_header lead x)) (λ b. is_noise b || is_header_byte b) (λ x. IsTrue (has_shape (significant x)))
+Runs-device : (between header : List ℕ) → IsBody (dcs_header between header) → Runs (inside (dcs_header between [])) header (inside (dcs_header between header))
+Runs-device between header h = Runs-each (λ x. inside (dcs_header between x)) (λ b. is_noise b || is_header_byte b) (λ x. IsTrue (has_shape (significant x)))
     (λ a b s. has_shape-significant a b s)
-    (λ p b t s. grow-inside (dcs_header lead p) b ∙ into_device lead p b (class_of b) refl (sym (is_in_header-class b) ∙ t) s) [] header h.header_bytes h.shaped
+    (λ p b t s. grow-inside (dcs_header between p) b ∙ into_device between p b (class_of b) refl (sym (is_in_header-class b) ∙ t) s) [] header h.header_bytes h.shaped
 
 -- a byte after a device control header, and the text after that
-Runs-after : (lead header : List ℕ) (b : ℕ) (text : List ℕ) (first body : Body) → IsBody (dcs_header lead header)
-    → grow_body (dcs_header lead header) b (class_of b) ≡ into first → Runs (inside first) text (inside body)
-    → Runs (inside (dcs_header lead [])) (header ++ b ∷ text) (inside body)
-Runs-after lead header b text first body h begins r =
-    Runs-append (inside (dcs_header lead [])) (inside (dcs_header lead header)) (inside body) header (b ∷ text) (Runs-device lead header h)
-    (Runs-append (inside (dcs_header lead header)) (inside first) (inside body) (b ∷ []) text
-    (Runs-one (inside (dcs_header lead header)) b (inside first) (grow-inside (dcs_header lead header) b ∙ begins)) r)
+Runs-after : (between header : List ℕ) (b : ℕ) (text : List ℕ) (first body : Body) → IsBody (dcs_header between header)
+    → grow_body (dcs_header between header) b (class_of b) ≡ into first → Runs (inside first) text (inside body)
+    → Runs (inside (dcs_header between [])) (header ++ b ∷ text) (inside body)
+Runs-after between header b text first body h begins r =
+    Runs-append (inside (dcs_header between [])) (inside (dcs_header between header)) (inside body) header (b ∷ text) (Runs-device between header h)
+    (Runs-append (inside (dcs_header between header)) (inside first) (inside body) (b ∷ []) text
+    (Runs-one (inside (dcs_header between header)) b (inside first) (grow-inside (dcs_header between header) b ∙ begins)) r)
 
 -- the text of a body runs to it
 pub Runs-body : (body : Body) → IsBody body → Runs nothing (body_text body) (inside body)
 Runs-body (escape bytes) h = Runs-escape bytes h
-Runs-body (csi lead header) h = Runs-lead lead 0x5B header (csi lead []) (csi lead header) h.0 (begin_control lead h.0)
-    (Runs-free (λ x. inside (csi lead x)) (λ b. is_noise b || is_header_byte b)
-    (λ p b t. grow-inside (csi lead p) b ∙ into_control lead p b (class_of b) (sym (is_in_header-class b) ∙ t)) header h.1)
-Runs-body (dcs_header lead header) h = Runs-lead lead 0x50 header (dcs_header lead []) (dcs_header lead header) h.noise (begin_device lead h.noise) (Runs-device lead header h)
-Runs-body (dcs lead header final text) h =
-    Runs-lead lead 0x50 (header ++ final ∷ text) (dcs_header lead []) (dcs lead header final text) h.begun.noise (begin_device lead h.begun.noise)
-    (Runs-after lead header final text (dcs lead header final []) (dcs lead header final text) h.begun
-    (final_device lead header final (class_of final) (sym (is_final-class final) ∙ h.hooked))
-    (Runs-free (λ x. inside (dcs lead header final x)) (is_text_byte string_terminator)
-    (λ p b t. grow-inside (dcs lead header final p) b ∙ into_hooked lead header final p b (class_of b) (sym (is_string_text-class b) ∙ t)) text h.text_bytes))
-Runs-body (dcs_ignored lead header byte text) h =
-    Runs-lead lead 0x50 (header ++ byte ∷ text) (dcs_header lead []) (dcs_ignored lead header byte text) h.begun.noise (begin_device lead h.begun.noise)
-    (Runs-after lead header byte text (dcs_ignored lead header byte []) (dcs_ignored lead header byte text) h.begun
-    (unfit_device lead header byte (class_of byte) (sym (is_header_byte-class byte) ∙ h.header_byte) (not-true (has_shape (significant header ++ byte ∷ [])) h.unshaped))
-    (Runs-free (λ x. inside (dcs_ignored lead header byte x)) (is_text_byte string_terminator)
-    (λ p b t. grow-inside (dcs_ignored lead header byte p) b ∙ into_dropped lead header byte p b (class_of b) (sym (is_string_text-class b) ∙ t)) text h.text_bytes))
-Runs-body (osc lead text) h = Runs-lead lead 0x5D text (osc lead []) (osc lead text) h.0 (begin_command lead h.0)
-    (Runs-free (λ x. inside (osc lead x)) (is_text_byte bell)
-    (λ p b t. grow-inside (osc lead p) b ∙ into_command lead p b (class_of b) (sym (is_command_text-class b) ∙ t)) text h.1)
-Runs-body (sos_pm_apc lead kind text) h = Runs-lead lead kind text (sos_pm_apc lead kind []) (sos_pm_apc lead kind text) h.0
-    (grow-inside (escape lead) kind ∙ begin_ignored lead kind (class_of kind) (sym (is_string_kind-class kind) ∙ h.1) h.0)
-    (Runs-free (λ x. inside (sos_pm_apc lead kind x)) (is_text_byte string_terminator)
-    (λ p b t. grow-inside (sos_pm_apc lead kind p) b ∙ into_ignored lead kind p b (class_of b) (sym (is_string_text-class b) ∙ t)) text h.2)
+Runs-body (csi between header) h = Runs-between between 0x5B header (csi between []) (csi between header) h.0 (begin_control between h.0)
+    (Runs-free (λ x. inside (csi between x)) (λ b. is_noise b || is_header_byte b)
+    (λ p b t. grow-inside (csi between p) b ∙ into_control between p b (class_of b) (sym (is_in_header-class b) ∙ t)) header h.1)
+Runs-body (dcs_header between header) h = Runs-between between 0x50 header (dcs_header between []) (dcs_header between header) h.noise (begin_device between h.noise) (Runs-device between header h)
+Runs-body (dcs between header final text) h =
+    Runs-between between 0x50 (header ++ final ∷ text) (dcs_header between []) (dcs between header final text) h.begun.noise (begin_device between h.begun.noise)
+    (Runs-after between header final text (dcs between header final []) (dcs between header final text) h.begun
+    (final_device between header final (class_of final) (sym (is_final-class final) ∙ h.hooked))
+    (Runs-free (λ x. inside (dcs between header final x)) (is_text_byte string_terminator)
+    (λ p b t. grow-inside (dcs between header final p) b ∙ into_hooked between header final p b (class_of b) (sym (is_string_text-class b) ∙ t)) text h.text_bytes))
+Runs-body (dcs_ignored between header byte text) h =
+    Runs-between between 0x50 (header ++ byte ∷ text) (dcs_header between []) (dcs_ignored between header byte text) h.begun.noise (begin_device between h.begun.noise)
+    (Runs-after between header byte text (dcs_ignored between header byte []) (dcs_ignored between header byte text) h.begun
+    (unfit_device between header byte (class_of byte) (sym (is_header_byte-class byte) ∙ h.header_byte) (not-true (has_shape (significant header ++ byte ∷ [])) h.unshaped))
+    (Runs-free (λ x. inside (dcs_ignored between header byte x)) (is_text_byte string_terminator)
+    (λ p b t. grow-inside (dcs_ignored between header byte p) b ∙ into_dropped between header byte p b (class_of b) (sym (is_string_text-class b) ∙ t)) text h.text_bytes))
+Runs-body (osc between text) h = Runs-between between 0x5D text (osc between []) (osc between text) h.0 (begin_command between h.0)
+    (Runs-free (λ x. inside (osc between x)) (is_text_byte bell)
+    (λ p b t. grow-inside (osc between p) b ∙ into_command between p b (class_of b) (sym (is_command_text-class b) ∙ t)) text h.1)
+Runs-body (sos_pm_apc between kind text) h = Runs-between between kind text (sos_pm_apc between kind []) (sos_pm_apc between kind text) h.0
+    (grow-inside (escape between) kind ∙ begin_ignored between kind (class_of kind) (sym (is_string_kind-class kind) ∙ h.1) h.0)
+    (Runs-free (λ x. inside (sos_pm_apc between kind x)) (is_text_byte string_terminator)
+    (λ p b t. grow-inside (sos_pm_apc between kind p) b ∙ into_ignored between kind p b (class_of b) (sym (is_string_text-class b) ∙ t)) text h.2)
 
 -- the front of a character
 start-lead : (b : ℕ) (c : Class) → is_lead_at c ≡ true → start b c ≡ more (front (b ∷ []))

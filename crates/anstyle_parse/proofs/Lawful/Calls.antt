@@ -84,18 +84,18 @@ lawful-dispatch header final calls ends rest =
     (λ e. (IsHeaderCall-header header final e ends, rest)) (λ e. rest)
 
 -- what an end calls after a hooked string, and elsewhere
-lawful-hooked_end : (lead header : List ℕ) (final : ℕ) (text : List ℕ) (end : End) (calls : List Call) → IsEnd (dcs lead header final text) end → AreLawful calls → (end ≡ unfinished → calls ≡ [])
-    → AreLawfulFrom true (end_calls (dcs lead header final text) end ++ calls)
-lawful-hooked_end lead header final text (complete byte) calls ends rest last = rest
-lawful-hooked_end lead header final text (cancelled byte) calls ends rest last = (cancel-executed byte ends, rest)
-lawful-hooked_end lead header final text broken_off calls ends rest last = rest
-lawful-hooked_end lead header final text unfinished calls ends rest last = subst (AreLawfulFrom true) (sym (last refl)) tt
+lawful-hooked_end : (between header : List ℕ) (final : ℕ) (text : List ℕ) (end : End) (calls : List Call) → IsEnd (dcs between header final text) end → AreLawful calls → (end ≡ unfinished → calls ≡ [])
+    → AreLawfulFrom true (end_calls (dcs between header final text) end ++ calls)
+lawful-hooked_end between header final text (complete byte) calls ends rest last = rest
+lawful-hooked_end between header final text (cancelled byte) calls ends rest last = (cancel-executed byte ends, rest)
+lawful-hooked_end between header final text broken_off calls ends rest last = rest
+lawful-hooked_end between header final text unfinished calls ends rest last = subst (AreLawfulFrom true) (sym (last refl)) tt
 
 -- the controls of two texts and then calls
-after_two : (lead header : List ℕ) (own calls : List Call) → AreLawful (own ++ calls) → AreLawful (((executes lead ++ executes header) ++ own) ++ calls)
-after_two lead header own calls rest =
-    subst (λ l. AreLawful (l ++ calls)) (sym (append_assoc (executes lead) (executes header) own))
-    (after lead (executes header ++ own) calls (after header own calls rest))
+after_two : (between header : List ℕ) (own calls : List Call) → AreLawful (own ++ calls) → AreLawful (((executes between ++ executes header) ++ own) ++ calls)
+after_two between header own calls rest =
+    subst (λ l. AreLawful (l ++ calls)) (sym (append_assoc (executes between) (executes header) own))
+    (after between (executes header ++ own) calls (after header own calls rest))
 
 is_character-replacement : is_character replacement ≡ true
 unfolding is_character is_within
@@ -105,41 +105,41 @@ is_character-replacement = refl
 lawful-sequence : (body : Body) (end : End) (calls : List Call) → IsBody body → IsEnd body end → AreLawful calls → (end ≡ unfinished → calls ≡ [])
     → AreLawful ((body_calls body ++ end_calls body end) ++ calls)
 lawful-sequence (escape bytes) (complete final) calls is ends rest last = after bytes (end_calls (escape bytes) (complete final)) calls (lawful-escape bytes final ends, rest)
-lawful-sequence (csi lead header) (complete final) calls is ends rest last =
-    after_two lead header (control_dispatch (significant header) final) calls (lawful-dispatch (significant header) final calls ends rest)
-lawful-sequence (dcs_header lead header) (complete byte) calls is ends rest last = after lead [] calls rest
-lawful-sequence (dcs_ignored lead header x text) (complete byte) calls is ends rest last = after lead [] calls rest
-lawful-sequence (osc lead text) (complete byte) calls is ends rest last = after lead (osc_dispatch (parts_of text) true ∷ []) calls (AreParts-parts_of text, rest)
-lawful-sequence (sos_pm_apc lead kind text) (complete byte) calls is ends rest last = after lead [] calls rest
+lawful-sequence (csi between header) (complete final) calls is ends rest last =
+    after_two between header (control_dispatch (significant header) final) calls (lawful-dispatch (significant header) final calls ends rest)
+lawful-sequence (dcs_header between header) (complete byte) calls is ends rest last = after between [] calls rest
+lawful-sequence (dcs_ignored between header x text) (complete byte) calls is ends rest last = after between [] calls rest
+lawful-sequence (osc between text) (complete byte) calls is ends rest last = after between (osc_dispatch (parts_of text) true ∷ []) calls (AreParts-parts_of text, rest)
+lawful-sequence (sos_pm_apc between kind text) (complete byte) calls is ends rest last = after between [] calls rest
 lawful-sequence (escape bytes) (cancelled byte) calls is ends rest last = after bytes (execute byte ∷ []) calls (cancel-executed byte ends, rest)
-lawful-sequence (csi lead header) (cancelled byte) calls is ends rest last = after_two lead header (execute byte ∷ []) calls (cancel-executed byte ends, rest)
-lawful-sequence (dcs_header lead header) (cancelled byte) calls is ends rest last = after lead (execute byte ∷ []) calls (cancel-executed byte ends, rest)
-lawful-sequence (dcs_ignored lead header x text) (cancelled byte) calls is ends rest last = after lead (execute byte ∷ []) calls (cancel-executed byte ends, rest)
-lawful-sequence (osc lead text) (cancelled byte) calls is ends rest last =
-    after lead (osc_dispatch (parts_of text) false ∷ execute byte ∷ []) calls (AreParts-parts_of text, (cancel-executed byte ends, rest))
-lawful-sequence (sos_pm_apc lead kind text) (cancelled byte) calls is ends rest last = after lead (execute byte ∷ []) calls (cancel-executed byte ends, rest)
+lawful-sequence (csi between header) (cancelled byte) calls is ends rest last = after_two between header (execute byte ∷ []) calls (cancel-executed byte ends, rest)
+lawful-sequence (dcs_header between header) (cancelled byte) calls is ends rest last = after between (execute byte ∷ []) calls (cancel-executed byte ends, rest)
+lawful-sequence (dcs_ignored between header x text) (cancelled byte) calls is ends rest last = after between (execute byte ∷ []) calls (cancel-executed byte ends, rest)
+lawful-sequence (osc between text) (cancelled byte) calls is ends rest last =
+    after between (osc_dispatch (parts_of text) false ∷ execute byte ∷ []) calls (AreParts-parts_of text, (cancel-executed byte ends, rest))
+lawful-sequence (sos_pm_apc between kind text) (cancelled byte) calls is ends rest last = after between (execute byte ∷ []) calls (cancel-executed byte ends, rest)
 lawful-sequence (escape bytes) broken_off calls is ends rest last = after bytes [] calls rest
-lawful-sequence (csi lead header) broken_off calls is ends rest last = after_two lead header [] calls rest
-lawful-sequence (dcs_header lead header) broken_off calls is ends rest last = after lead [] calls rest
-lawful-sequence (dcs_ignored lead header x text) broken_off calls is ends rest last = after lead [] calls rest
-lawful-sequence (osc lead text) broken_off calls is ends rest last = after lead (osc_dispatch (parts_of text) false ∷ []) calls (AreParts-parts_of text, rest)
-lawful-sequence (sos_pm_apc lead kind text) broken_off calls is ends rest last = after lead [] calls rest
+lawful-sequence (csi between header) broken_off calls is ends rest last = after_two between header [] calls rest
+lawful-sequence (dcs_header between header) broken_off calls is ends rest last = after between [] calls rest
+lawful-sequence (dcs_ignored between header x text) broken_off calls is ends rest last = after between [] calls rest
+lawful-sequence (osc between text) broken_off calls is ends rest last = after between (osc_dispatch (parts_of text) false ∷ []) calls (AreParts-parts_of text, rest)
+lawful-sequence (sos_pm_apc between kind text) broken_off calls is ends rest last = after between [] calls rest
 lawful-sequence (escape bytes) unfinished calls is ends rest last = after bytes [] calls rest
-lawful-sequence (csi lead header) unfinished calls is ends rest last = after_two lead header [] calls rest
-lawful-sequence (dcs_header lead header) unfinished calls is ends rest last = after lead [] calls rest
-lawful-sequence (dcs_ignored lead header x text) unfinished calls is ends rest last = after lead [] calls rest
-lawful-sequence (osc lead text) unfinished calls is ends rest last = after lead [] calls rest
-lawful-sequence (sos_pm_apc lead kind text) unfinished calls is ends rest last = after lead [] calls rest
-lawful-sequence (dcs lead header final text) end calls is ends rest last =
+lawful-sequence (csi between header) unfinished calls is ends rest last = after_two between header [] calls rest
+lawful-sequence (dcs_header between header) unfinished calls is ends rest last = after between [] calls rest
+lawful-sequence (dcs_ignored between header x text) unfinished calls is ends rest last = after between [] calls rest
+lawful-sequence (osc between text) unfinished calls is ends rest last = after between [] calls rest
+lawful-sequence (sos_pm_apc between kind text) unfinished calls is ends rest last = after between [] calls rest
+lawful-sequence (dcs between header final text) end calls is ends rest last =
     let shown = significant header in
     let hook_call = hook (groups_of shown) (collected_of shown) (ignore_of shown) final in
     let puts = map put (filter is_put text) in
-    let own = end_calls (dcs lead header final text) end in
-    subst (λ l. AreLawful (l ++ calls)) (sym (append_assoc (executes lead) (hook_call ∷ puts) own))
-    (after lead (hook_call ∷ (puts ++ own)) calls (
+    let own = end_calls (dcs between header final text) end in
+    subst (λ l. AreLawful (l ++ calls)) (sym (append_assoc (executes between) (hook_call ∷ puts) own))
+    (after between (hook_call ∷ (puts ++ own)) calls (
       IsHeaderCall-header shown final is.begun.shaped is.hooked,
       subst (AreLawfulFrom true) (sym (append_assoc puts own calls))
-          (lawful-puts (filter is_put text) (own ++ calls) (EachIs-filter is_put text) (lawful-hooked_end lead header final text end calls ends rest last)),
+          (lawful-puts (filter is_put text) (own ++ calls) (EachIs-filter is_put text) (lawful-hooked_end between header final text end calls ends rest last)),
     ))
 
 -- an item, before calls that may follow

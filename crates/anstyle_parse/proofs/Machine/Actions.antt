@@ -12,8 +12,8 @@ use Rattle.anstyle_parse.proofs.Arguments.TextFold.{without_text}
 use Rattle.anstyle_parse.specs.Machine.Step.{Machine, new_machine, dispatched, field_count, stored_count, pushed, extended, after_clear, after_collect, after_param, with_last_field, with_part, after_osc_put, AccumulatorStep, after_action, action_calls}
 
 -- a state with nothing in its registers
-abbrev pub plain : {A : Type 0} → State → A → Machine A
-plain state accumulator = record (new_machine accumulator) { state = state }
+abbrev pub new_in : {A : Type 0} → State → A → Machine A
+new_in state accumulator = record (new_machine accumulator) { state = state }
 
 -- a machine with the header of another
 abbrev pub with_header_of : {A B : Type 0} → Machine A → Machine B → Machine B
@@ -25,10 +25,10 @@ with_text_of m n = record n { closed_parts = m.closed_parts; open_part = m.open_
 
 -- a state with nothing but a header, and with nothing but a text
 abbrev pub headed : {A : Type 0} → State → A → Machine A → Machine A
-headed state accumulator m = with_header_of m (plain state accumulator)
+headed state accumulator m = with_header_of m (new_in state accumulator)
 
 abbrev pub texted : {A : Type 0} → State → A → Machine A → Machine A
-texted state accumulator m = with_text_of m (plain state accumulator)
+texted state accumulator m = with_text_of m (new_in state accumulator)
 
 -- the same, with the answers of the tests given
 abbrev pub collecting_by : {A : Type 0} → Bool → ℕ → Machine A → Machine A
@@ -160,10 +160,10 @@ is_of_header action = true
 -- what such an action does to the header comes of the header alone
 pub after_action-headed : {A : Type 0} (add : AccumulatorStep A) (action : Action) (state : State) (accumulator : A) (b : ℕ) (m : Machine A) → is_of_header action ≡ true
     → after_action add action b (headed state accumulator m) ≡ headed state accumulator (after_action add action b m)
-after_action-headed add Collect state accumulator b m e = collecting-with_header b m (plain state accumulator)
-after_action-headed add Param state accumulator b m e = with_parameter-with_header b m (plain state accumulator)
-after_action-headed add Hook state accumulator b m e = with_last_field-with_header b m (plain state accumulator)
-after_action-headed add CsiDispatch state accumulator b m e = with_last_field-with_header b m (plain state accumulator)
+after_action-headed add Collect state accumulator b m e = collecting-with_header b m (new_in state accumulator)
+after_action-headed add Param state accumulator b m e = with_parameter-with_header b m (new_in state accumulator)
+after_action-headed add Hook state accumulator b m e = with_last_field-with_header b m (new_in state accumulator)
+after_action-headed add CsiDispatch state accumulator b m e = with_last_field-with_header b m (new_in state accumulator)
 after_action-headed add OscStart state accumulator b m e = absurd (false≢true e)
 after_action-headed add OscPut state accumulator b m e = absurd (false≢true e)
 after_action-headed add OscEnd state accumulator b m e = absurd (false≢true e)
@@ -187,9 +187,9 @@ after_action-cleared add action b m e = refl
 pub action_calls-headed : {A : Type 0} (add : AccumulatorStep A) (action : Action) (state : State) (accumulator : A) (b : ℕ) (m : Machine A) → is_of_header action ≡ true
     → action_calls add action b (headed state accumulator m) ≡ action_calls add action b m
 action_calls-headed add Hook state accumulator b m e =
-    ap (λ (r : Machine _). dispatched hook b r ∷ []) (with_last_field-with_header b m (plain state accumulator))
+    ap (λ (r : Machine _). dispatched hook b r ∷ []) (with_last_field-with_header b m (new_in state accumulator))
 action_calls-headed add CsiDispatch state accumulator b m e =
-    ap (λ (r : Machine _). dispatched csi_dispatch b r ∷ []) (with_last_field-with_header b m (plain state accumulator))
+    ap (λ (r : Machine _). dispatched csi_dispatch b r ∷ []) (with_last_field-with_header b m (new_in state accumulator))
 action_calls-headed add OscStart state accumulator b m e = absurd (false≢true e)
 action_calls-headed add OscPut state accumulator b m e = absurd (false≢true e)
 action_calls-headed add OscEnd state accumulator b m e = absurd (false≢true e)

@@ -16,7 +16,7 @@ use Rattle.anstyle_parse.specs.Machine.Decoder.{decoded}
 use Rattle.anstyle_parse.proofs.Bytes.Classes.{Class, control_byte, bell_byte, cancel_byte, esc_byte, beyond_byte, class_of}
 use Rattle.anstyle_parse.proofs.Arguments.TextFold.{without_text}
 use Rattle.anstyle_parse.proofs.Machine.Table.{change_of, change_at-class}
-use Rattle.anstyle_parse.proofs.Machine.Actions.{plain, headed, texted, is_of_header, after_action-headed, after_action-cleared, action_calls-headed, with_last_field-with_header, with_last_field-cleared, with_part-with_text, with_part-without_text, storing-with_text, storing-without_text}
+use Rattle.anstyle_parse.proofs.Machine.Actions.{new_in, headed, texted, is_of_header, after_action-headed, after_action-cleared, action_calls-headed, with_last_field-with_header, with_last_field-cleared, with_part-with_text, with_part-without_text, storing-with_text, storing-without_text}
 
 -- where the byte broke a character, it is handled once more, in Ground
 abbrev pub after_answer_at : {A : Type 0} → AccumulatorStep A → Taken → Class → ℕ → Machine A → Machine A
@@ -78,8 +78,8 @@ entering add state b m = record (after_action add (entry_action state) b m) { st
 entering-headed : {A : Type 0} (add : AccumulatorStep A) (state old : State) (b : ℕ) (m : Machine A)
     → counted (entering add state b m) ≡ counted (entering add state b (headed old m.accumulator m))
 entering-headed add DcsPassthrough old b m =
-    ap (λ (r : Machine _). plain DcsPassthrough r.accumulator) (with_last_field-cleared b m)
-    ∙ ap (λ (r : Machine _). plain DcsPassthrough r.accumulator) (sym (with_last_field-with_header b m (plain old m.accumulator)))
+    ap (λ (r : Machine _). new_in DcsPassthrough r.accumulator) (with_last_field-cleared b m)
+    ∙ ap (λ (r : Machine _). new_in DcsPassthrough r.accumulator) (sym (with_last_field-with_header b m (new_in old m.accumulator)))
 entering-headed add state old b m = refl
 
 -- and so of its calls on the way in
@@ -158,18 +158,18 @@ text_stored : {A : Type 0} (b : ℕ) (m : Machine A) → m.state ≡ OscString �
 text_stored b m e =
     (ap (λ s. counted_in s (after_osc_put b m)) (ap (λ (r : Machine _). r.state) (storing-without_text b m) ∙ e)
     ∙ ap (λ (r : Machine _). texted r.state r.accumulator (after_osc_put b m)) (storing-without_text b m ∙ ap (λ s. record (without_text m) { state = s }) e))
-    ∙ ap counted (sym (storing-with_text b m (plain OscString m.accumulator)))
+    ∙ ap counted (sym (storing-with_text b m (new_in OscString m.accumulator)))
 
 -- out of the command
-text_left : {A : Type 0} (state : State) (b : ℕ) (m : Machine A) → plain state (with_part m).accumulator ≡ plain state (with_part (texted OscString m.accumulator m)).accumulator
+text_left : {A : Type 0} (state : State) (b : ℕ) (m : Machine A) → new_in state (with_part m).accumulator ≡ new_in state (with_part (texted OscString m.accumulator m)).accumulator
 text_left state b m =
-    ap (λ (r : Machine _). plain state r.accumulator) (with_part-without_text b m)
-    ∙ ap (λ (r : Machine _). plain state r.accumulator) (sym (with_part-with_text b m (plain OscString m.accumulator)))
+    ap (λ (r : Machine _). new_in state r.accumulator) (with_part-without_text b m)
+    ∙ ap (λ (r : Machine _). new_in state r.accumulator) (sym (with_part-with_text b m (new_in OscString m.accumulator)))
 
 -- its dispatch
 text_dispatched : {A : Type 0} (b : ℕ) (more : List Call) (m : Machine A)
     → osc_dispatch (with_part m).closed_parts (b == bell) ∷ more ≡ osc_dispatch (with_part (texted OscString m.accumulator m)).closed_parts (b == bell) ∷ more
-text_dispatched b more m = ap (λ (r : Machine _). osc_dispatch r.closed_parts (b == bell) ∷ more) (sym (with_part-with_text b m (plain OscString m.accumulator)))
+text_dispatched b more m = ap (λ (r : Machine _). osc_dispatch r.closed_parts (b == bell) ∷ more) (sym (with_part-with_text b m (new_in OscString m.accumulator)))
 
 -- a byte of each class in a command
 step_at-command : {A : Type 0} (add : AccumulatorStep A) (class : Class) (b : ℕ) (m : Machine A)

@@ -24,7 +24,7 @@ use Rattle.anstyle_parse.proofs.Arguments.TextFold.{text_after}
 use Rattle.anstyle_parse.proofs.Lists.Passing.{EachIs-filter, filter_all}
 use Rattle.anstyle_parse.proofs.Lists.Parts.{AllByRecursion-take}
 use Rattle.anstyle_parse.proofs.Canonical.Items.{IsHeader-each, escape_text-each}
-use Rattle.anstyle_parse.proofs.Machine.Actions.{plain, headed, texted}
+use Rattle.anstyle_parse.proofs.Machine.Actions.{new_in, headed, texted}
 use Rattle.anstyle_parse.proofs.Machine.Counted.{counted_in-state}
 use Rattle.anstyle_parse.proofs.Agreement.Values.{Phase, at_entry, in_parameters, in_intermediates, misfit, phase_of, fits, fits-phase_of, control_value, device_value, registers, escape_state, body_value, value_at}
 use Rattle.anstyle_parse.proofs.Agreement.Whole.{StandsAfter-value}
@@ -151,7 +151,7 @@ Saves-control phase header m replays =
     (tt, IsHeader-each header replays.bytes_are) (value-replayed control_value phase header m replays) (omega (arith, replays.size))
 
 -- one that has not the shape
-saves_misfit : Saves (escape_byte ∷ 0x5B ∷ 0x30 ∷ 0x3C ∷ []) (plain CsiIgnore [])
+saves_misfit : Saves (escape_byte ∷ 0x5B ∷ 0x30 ∷ 0x3C ∷ []) (new_in CsiIgnore [])
 unfolding grow class_of class_below is_marker is_parameter is_intermediate is_significant is_within
 saves_misfit = record { reaches = refl; short = omega arith }
 
@@ -171,7 +171,7 @@ Saves-device phase header m fit replays =
     (value-replayed device_value phase header m replays) (omega (arith, replays.size))
 
 -- one that is ignored
-saves_dropped : Saves (escape_byte ∷ 0x50 ∷ 0x30 ∷ 0x3C ∷ []) (plain DcsIgnore [])
+saves_dropped : Saves (escape_byte ∷ 0x50 ∷ 0x30 ∷ 0x3C ∷ []) (new_in DcsIgnore [])
 unfolding grow class_of class_below is_marker is_parameter is_intermediate is_significant is_within
 saves_dropped = record { reaches = refl; short = omega arith }
 
@@ -183,12 +183,12 @@ saves_device in_intermediates m h = Saves-device in_intermediates (header_so_far
 saves_device misfit m h = saves_dropped
 
 -- a string that is hooked, and one that is ignored
-saves_hooked : Saves (escape_byte ∷ 0x50 ∷ 0x40 ∷ []) (plain DcsPassthrough [])
+saves_hooked : Saves (escape_byte ∷ 0x50 ∷ 0x40 ∷ []) (new_in DcsPassthrough [])
 unfolding grow class_of class_below
 saves_hooked = record { reaches = refl; short = omega arith }
 
 -- a string of another kind
-saves_ignored : Saves (escape_byte ∷ 0x58 ∷ []) (plain SosPmApcString [])
+saves_ignored : Saves (escape_byte ∷ 0x58 ∷ []) (new_in SosPmApcString [])
 unfolding grow class_of class_below
 saves_ignored = record { reaches = refl; short = omega arith }
 
@@ -203,12 +203,12 @@ saves_command text =
 -- each open item
 saves_inside : (body : Body) → Saves (checkpoint_text (body_value body)) (body_value body)
 saves_inside (escape bytes) = saves_escape bytes (list_any is_intermediate bytes) refl
-saves_inside (csi lead header) = saves_control (phase_of (significant header)) (registers (significant header)) (Held-registers (significant header))
-saves_inside (dcs_header lead header) = saves_device (phase_of (significant header)) (registers (significant header)) (Held-registers (significant header))
-saves_inside (dcs lead header final text) = saves_hooked
-saves_inside (dcs_ignored lead header byte text) = saves_dropped
-saves_inside (osc lead text) = saves_command text
-saves_inside (sos_pm_apc lead kind text) = saves_ignored
+saves_inside (csi between header) = saves_control (phase_of (significant header)) (registers (significant header)) (Held-registers (significant header))
+saves_inside (dcs_header between header) = saves_device (phase_of (significant header)) (registers (significant header)) (Held-registers (significant header))
+saves_inside (dcs between header final text) = saves_hooked
+saves_inside (dcs_ignored between header byte text) = saves_dropped
+saves_inside (osc between text) = saves_command text
+saves_inside (sos_pm_apc between kind text) = saves_ignored
 
 -- nothing, a character that is begun, a sequence
 saves_open : (o : Open) → IsOpen o → Saves (checkpoint_text (value_at o)) (value_at o)

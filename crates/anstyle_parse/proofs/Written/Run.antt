@@ -173,10 +173,10 @@ module _ (R W T : Type 0) (source : SourceOf R) (sink : SinkOf W) where
       after_nil [] ys e = e
       after_nil (x ∷ xs) ys e = cc
 
-  pub Runs-plain : (text ending : List Call → List ℕ) (reader reader_after : R) (writer writer_after : W) (answer : Result T Fault) → ((calls : List Call) → ending calls ≡ [])
+  pub Runs-without_ending : (text ending : List Call → List ℕ) (reader reader_after : R) (writer writer_after : W) (answer : Result T Fault) → ((calls : List Call) → ending calls ≡ [])
       → RunsToEnding source sink text ending reader reader_after writer writer_after answer
       → Runs source sink text reader reader_after writer writer_after answer
-  Runs-plain text ending reader reader_after writer writer_after answer none ran = record {
+  Runs-without_ending text ending reader reader_after writer writer_after answer none ran = record {
     read = ran.read;
     calls = ran.calls;
     consumed = ran.consumed;

@@ -60,10 +60,13 @@ abbrev pub AreLawfulFrom : (hooked : Bool) → List Call → Type 0
 AreLawfulFrom hooked [] = ⊤
 AreLawfulFrom false (print character ∷ calls) = IsTrue (is_character character) × AreLawfulFrom false calls
 AreLawfulFrom false (execute byte ∷ calls) = IsTrue (is_executed byte) × AreLawfulFrom false calls
-AreLawfulFrom false (hook groups intermediates ignore final ∷ calls) = IsHeaderCall groups intermediates ignore final × AreLawfulFrom true calls
+AreLawfulFrom false (hook groups intermediates ignore final ∷ calls) =
+    IsHeaderCall groups intermediates ignore final × AreLawfulFrom true calls
 AreLawfulFrom false (osc_dispatch parts bell_terminated ∷ calls) = AreParts parts × AreLawfulFrom false calls
-AreLawfulFrom false (csi_dispatch groups intermediates ignore final ∷ calls) = IsHeaderCall groups intermediates ignore final × AreLawfulFrom false calls
-AreLawfulFrom false (esc_dispatch intermediates ignore final ∷ calls) = IsEscapeCall intermediates ignore final × AreLawfulFrom false calls
+AreLawfulFrom false (csi_dispatch groups intermediates ignore final ∷ calls) =
+    IsHeaderCall groups intermediates ignore final × AreLawfulFrom false calls
+AreLawfulFrom false (esc_dispatch intermediates ignore final ∷ calls) =
+    IsEscapeCall intermediates ignore final × AreLawfulFrom false calls
 AreLawfulFrom true (put byte ∷ calls) = IsTrue (is_put byte) × AreLawfulFrom true calls
 AreLawfulFrom true (unhook ∷ calls) = AreLawfulFrom false calls
 AreLawfulFrom hooked (call ∷ calls) = ⊥

@@ -13,7 +13,13 @@ bare m = record (new_machine m.accumulator) { state = m.state }
 
 -- these, and what a sequence's header has said so far
 abbrev pub with_header : {A : Type 0} → Machine A → Machine A
-with_header m = record (bare m) { collected = m.collected; ignoring = m.ignoring; closed_groups = m.closed_groups; open_group = m.open_group; number = m.number }
+with_header m = record (bare m) {
+  collected = m.collected;
+  ignoring = m.ignoring;
+  closed_groups = m.closed_groups;
+  open_group = m.open_group;
+  number = m.number;
+}
 
 -- these, and the text of an operating system command so far
 abbrev pub with_text : {A : Type 0} → Machine A → Machine A
@@ -49,11 +55,13 @@ unseen m = with_accumulator [] m
 
 -- The accumulator is the decoder of UTF-8: it takes every byte, and its steps go over the
 -- fronts that it holds, and answer, as the decoder's do; those of `add` answer its characters.
-pub record Decodes (A : Type 0) (front : A → List ℕ) (takes : A → ℕ → Type 0) (adds : A → ℕ → A × Option ℕ) (taken : AccumulatorStep A) : Type 0 where
+pub record Decodes (A : Type 0) (front : A → List ℕ) (takes : A → ℕ → Type 0)
+    (adds : A → ℕ → A × Option ℕ) (taken : AccumulatorStep A) : Type 0 where
   pub takes_bytes : (value : A) (b : ℕ) → b < 256 → takes value b
   pub steps : (value : A) (b : ℕ) → b < 256 → decoded (front value) b ≡ (front (taken value b).0, (taken value b).1)
   pub characters : (value : A) (b : ℕ) → b < 256
-      → (front (adds value b).0 ≡ (decoded (front value) b).0) × ((adds value b).1 ≡ character_in (decoded (front value) b).1)
+      → (front (adds value b).0 ≡ (decoded (front value) b).0)
+      × ((adds value b).1 ≡ character_in (decoded (front value) b).1)
 
 -- the list ends inside a character: its last item is one that is begun
 abbrev pub EndsInCharacter : List ℕ → Type 0

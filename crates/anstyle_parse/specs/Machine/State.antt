@@ -43,4 +43,5 @@ action_number BeginUtf8 = 15
 
 -- the variant of this number, or the number again where it is 16 or more
 abbrev pub HasNumber : {T : Type 0} → (T → ℕ) → ℕ → Result T ℕ → Type 0
-HasNumber number raw result = MatchResult result (λ variant. number variant ≡ raw) (λ refused. (refused ≡ raw) × (16 ≤ raw))
+HasNumber number raw result =
+    MatchResult result (λ variant. number variant ≡ raw) (λ refused. (refused ≡ raw) × (16 ≤ raw))

@@ -71,7 +71,9 @@ abbrev pub after_clear : {A : Type 0} → Machine A → Machine A
 after_clear m = record m { collected = []; ignoring = false; closed_groups = []; open_group = []; number = 0 }
 
 abbrev pub after_collect : {A : Type 0} → ℕ → Machine A → Machine A
-after_collect b m = if length m.collected == max_collected then record m { ignoring = true } else record m { collected = m.collected ++ b ∷ [] }
+after_collect b m =
+    if length m.collected == max_collected then record m { ignoring = true }
+    else record m { collected = m.collected ++ b ∷ [] }
 
 abbrev pub after_param : {A : Type 0} → ℕ → Machine A → Machine A
 after_param b m =
@@ -104,7 +106,9 @@ after_osc_start m = record m { closed_parts = []; open_part = [] }
 
 -- the text so far becomes a part, unless there are sixteen
 abbrev pub with_part : {A : Type 0} → Machine A → Machine A
-with_part m = if length m.closed_parts == max_osc_parts then m else record m { closed_parts = m.closed_parts ++ m.open_part ∷ []; open_part = [] }
+with_part m =
+    if length m.closed_parts == max_osc_parts then m
+    else record m { closed_parts = m.closed_parts ++ m.open_part ∷ []; open_part = [] }
 
 abbrev pub after_osc_put : {A : Type 0} → ℕ → Machine A → Machine A
 after_osc_put b m =
@@ -127,7 +131,8 @@ AccumulatorStep A = A → ℕ → A × Taken
 abbrev pub Completes : {A : Type 0} → AccumulatorStep A → A → A → List ℕ → ℕ → List ℕ → Type 0
 Completes add before now [] c left = ⊥
 Completes {A} add before now (b ∷ bytes) c left =
-    ((add now b ≡ (before, Char c)) × (bytes ≡ left)) ⊎ (((add now b).1 ≡ More) × Completes add before (add now b).0 bytes c left)
+    ((add now b ≡ (before, Char c)) × (bytes ≡ left))
+    ⊎ (((add now b).1 ≡ More) × Completes add before (add now b).0 bytes c left)
 
 -- the same from the first byte of a character on, which is not its last
 abbrev pub IsWhole : {A : Type 0} → AccumulatorStep A → A → ℕ → List ℕ → ℕ → List ℕ → Type 0
@@ -191,7 +196,8 @@ entry_action _ = Nop
 abbrev pub after_change : {A : Type 0} → AccumulatorStep A → State → Action → ℕ → Machine A → Machine A
 after_change add Anywhere action b m = after_action add action b m
 after_change add state action b m =
-    record (after_action add (entry_action state) b (after_action add action b (after_action add (exit_action m.state) b m))) { state = state }
+    let left = after_action add (exit_action m.state) b m in
+    record (after_action add (entry_action state) b (after_action add action b left)) { state = state }
 
 abbrev pub change_calls : {A : Type 0} → AccumulatorStep A → State → Action → ℕ → Machine A → List Call
 change_calls add Anywhere action b m = action_calls add action b m
@@ -207,7 +213,8 @@ state_after_answer (Char c) = Ground
 state_after_answer (Broken c) = Ground
 
 abbrev pub after_continuation : {A : Type 0} → AccumulatorStep A → ℕ → Machine A → Machine A
-after_continuation add b m = record m { accumulator = (add m.accumulator b).0; state = state_after_answer (add m.accumulator b).1 }
+after_continuation add b m =
+    record m { accumulator = (add m.accumulator b).0; state = state_after_answer (add m.accumulator b).1 }
 
 -- the byte broke a character
 abbrev pub IsBroken : Taken → Type 0

@@ -69,7 +69,8 @@ collected_of header = take max_collected (all_collected header)
 
 -- whether the header has more fields, or more collected bytes, than it shows
 unfoldable pub ignore_of : List ℕ → Bool
-ignore_of header = nat_lt max_fields (length (concat (grouped_fields header))) || nat_lt max_collected (length (all_collected header))
+ignore_of header =
+    nat_lt max_fields (length (concat (grouped_fields header))) || nat_lt max_collected (length (all_collected header))
 
 -- the bytes of an operating system command that are not dropped
 unfoldable pub is_kept : ℕ → Bool
@@ -79,9 +80,11 @@ is_kept b = is_within 0x20 0xFF b
 abbrev pub through_stored : ℕ → List ℕ → List ℕ
 through_stored n [] = []
 through_stored zero (b ∷ bytes) = []
-through_stored (suc n) (b ∷ bytes) = b ∷ (if b == semicolon then through_stored (suc n) bytes else through_stored n bytes)
+through_stored (suc n) (b ∷ bytes) =
+    b ∷ (if b == semicolon then through_stored (suc n) bytes else through_stored n bytes)
 
 -- The parts of an operating system command: of the kept bytes those through the 1024th
 -- that is stored, split at 3B; the first sixteen.
 unfoldable pub parts_of : List ℕ → List (List ℕ)
-parts_of text = take max_osc_parts (slice_split (λ b. b == semicolon) (through_stored max_osc_bytes (filter is_kept text)))
+parts_of text =
+    take max_osc_parts (slice_split (λ b. b == semicolon) (through_stored max_osc_bytes (filter is_kept text)))

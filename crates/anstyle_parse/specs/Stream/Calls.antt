@@ -29,20 +29,22 @@ is_put b = is_control b || is_within 0x20 0x7E b
 -- what a body calls before its end
 abbrev pub body_calls : Body → List Call
 body_calls (escape bytes) = executes bytes
-body_calls (csi lead header) = executes lead ++ executes header
-body_calls (dcs_header lead header) = executes lead
-body_calls (dcs lead header final text) =
-    executes lead ++ hook (groups_of (significant header)) (collected_of (significant header)) (ignore_of (significant header)) final
+body_calls (csi between header) = executes between ++ executes header
+body_calls (dcs_header between header) = executes between
+body_calls (dcs between header final text) =
+    executes between
+    ++ hook (groups_of (significant header)) (collected_of (significant header)) (ignore_of (significant header)) final
     ∷ map put (filter is_put text)
-body_calls (dcs_ignored lead header byte text) = executes lead
-body_calls (osc lead text) = executes lead
-body_calls (sos_pm_apc lead kind text) = executes lead
+body_calls (dcs_ignored between header byte text) = executes between
+body_calls (osc between text) = executes between
+body_calls (sos_pm_apc between kind text) = executes between
 
 -- the dispatch of an escape sequence, of a CSI whose header has the shape, of an
 -- operating system command
 abbrev pub escape_dispatch : List ℕ → ℕ → Call
 escape_dispatch bytes final =
-    esc_dispatch (take max_collected (filter is_intermediate bytes)) (nat_lt max_collected (length (filter is_intermediate bytes))) final
+    esc_dispatch (take max_collected (filter is_intermediate bytes))
+    (nat_lt max_collected (length (filter is_intermediate bytes))) final
 
 abbrev pub control_dispatch : List ℕ → ℕ → List Call
 control_dispatch header final =
@@ -51,13 +53,13 @@ control_dispatch header final =
 -- what its end calls
 abbrev pub end_calls : Body → End → List Call
 end_calls (escape bytes) (complete final) = escape_dispatch bytes final ∷ []
-end_calls (csi lead header) (complete final) = control_dispatch (significant header) final
-end_calls (dcs lead header final text) (complete byte) = unhook ∷ []
-end_calls (dcs lead header final text) (cancelled byte) = unhook ∷ execute byte ∷ []
-end_calls (dcs lead header final text) broken_off = unhook ∷ []
-end_calls (osc lead text) (complete byte) = osc_dispatch (parts_of text) true ∷ []
-end_calls (osc lead text) (cancelled byte) = osc_dispatch (parts_of text) false ∷ execute byte ∷ []
-end_calls (osc lead text) broken_off = osc_dispatch (parts_of text) false ∷ []
+end_calls (csi between header) (complete final) = control_dispatch (significant header) final
+end_calls (dcs between header final text) (complete byte) = unhook ∷ []
+end_calls (dcs between header final text) (cancelled byte) = unhook ∷ execute byte ∷ []
+end_calls (dcs between header final text) broken_off = unhook ∷ []
+end_calls (osc between text) (complete byte) = osc_dispatch (parts_of text) true ∷ []
+end_calls (osc between text) (cancelled byte) = osc_dispatch (parts_of text) false ∷ execute byte ∷ []
+end_calls (osc between text) broken_off = osc_dispatch (parts_of text) false ∷ []
 end_calls body (cancelled byte) = execute byte ∷ []
 end_calls body end = []
 

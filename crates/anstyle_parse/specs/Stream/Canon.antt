@@ -18,10 +18,12 @@ shows_no_more_intermediates intermediates = not (nat_lt (length intermediates) m
 -- what makes a header one that has more than it shows: one more field, or, where as many
 -- intermediates are shown as can be, one more of these
 abbrev pub one_more_field : List ℕ → Bool → List ℕ
-one_more_field intermediates ignore = if ignore && not (shows_no_more_intermediates intermediates) then semicolon ∷ [] else []
+one_more_field intermediates ignore =
+    if ignore && not (shows_no_more_intermediates intermediates) then semicolon ∷ [] else []
 
 abbrev pub one_more_intermediate : List ℕ → Bool → List ℕ
-one_more_intermediate intermediates ignore = if ignore && shows_no_more_intermediates intermediates then 0x20 ∷ [] else []
+one_more_intermediate intermediates ignore =
+    if ignore && shows_no_more_intermediates intermediates then 0x20 ∷ [] else []
 
 -- The header of a control sequence or a device control string: the marker, the parameter
 -- bytes, the intermediates.
@@ -44,11 +46,14 @@ command_end false = escape_byte ∷ 0x58 ∷ string_terminator ∷ []
 abbrev pub call_text : Call → List ℕ
 call_text (print character) = encode_utf8 character
 call_text (execute byte) = byte ∷ []
-call_text (hook groups intermediates ignore final) = escape_byte ∷ 0x50 ∷ (header_text groups intermediates ignore ++ final ∷ [])
+call_text (hook groups intermediates ignore final) =
+    escape_byte ∷ 0x50 ∷ (header_text groups intermediates ignore ++ final ∷ [])
 call_text (put byte) = byte ∷ []
 call_text unhook = string_terminator ∷ []
-call_text (osc_dispatch parts bell_terminated) = escape_byte ∷ 0x5D ∷ (join_with_byte semicolon parts ++ command_end bell_terminated)
-call_text (csi_dispatch groups intermediates ignore final) = escape_byte ∷ 0x5B ∷ (header_text groups intermediates ignore ++ final ∷ [])
+call_text (osc_dispatch parts bell_terminated) =
+    escape_byte ∷ 0x5D ∷ (join_with_byte semicolon parts ++ command_end bell_terminated)
+call_text (csi_dispatch groups intermediates ignore final) =
+    escape_byte ∷ 0x5B ∷ (header_text groups intermediates ignore ++ final ∷ [])
 call_text (esc_dispatch intermediates ignore final) = escape_byte ∷ (escape_text intermediates ignore ++ final ∷ [])
 
 -- the canonical text of a list of calls: their texts, joined

@@ -38,7 +38,8 @@ pub record IsProperFront (bytes : List ℕ) : Type 0 where
 
 -- the test for a prefix that is neither empty nor the whole: they begin a longer row
 unfoldable pub is_proper_front : List ℕ → Bool
-is_proper_front bytes = nat_lt 0 (length bytes) && list_any (λ row. begins row bytes && nat_lt (length bytes) (length row)) rows
+is_proper_front bytes =
+    nat_lt 0 (length bytes) && list_any (λ row. begins row bytes && nat_lt (length bytes) (length row)) rows
 
 -- the first byte of some well-formed sequence
 unfoldable pub is_lead : ℕ → Bool

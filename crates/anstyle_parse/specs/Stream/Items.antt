@@ -6,22 +6,22 @@ use Rattle.anstyle_parse.specs.Stream.Bytes.{is_within, is_cancel, is_escape, is
 use Rattle.anstyle_parse.specs.Stream.Characters.{is_lead, is_well_formed, IsFront, IsProperFront}
 use Rattle.anstyle_parse.specs.Stream.Arguments.{significant, has_shape}
 
--- The bodies, with their parts. lead is the noise between ESC and the byte that decides.
+-- The bodies, with their parts. `between` is the noise between ESC and the byte that decides.
 pub data Body : Type 0 where
   -- ESC intermediates
   escape : (bytes : List ℕ) → Body
   -- ESC [ header: a control sequence (CSI)
-  csi : (lead header : List ℕ) → Body
+  csi : (between header : List ℕ) → Body
   -- ESC P header: a device control string whose header has not ended
-  dcs_header : (lead header : List ℕ) → Body
+  dcs_header : (between header : List ℕ) → Body
   -- ESC P header final text: a device control string that is hooked
-  dcs : (lead header : List ℕ) (final : ℕ) (text : List ℕ) → Body
+  dcs : (between header : List ℕ) (final : ℕ) (text : List ℕ) → Body
   -- ESC P header byte text: one that is ignored, since the byte does not fit its header
-  dcs_ignored : (lead header : List ℕ) (byte : ℕ) (text : List ℕ) → Body
+  dcs_ignored : (between header : List ℕ) (byte : ℕ) (text : List ℕ) → Body
   -- ESC ] text: an operating system command (OSC)
-  osc : (lead text : List ℕ) → Body
+  osc : (between text : List ℕ) → Body
   -- ESC X, ESC ^ or ESC _ and text: a string that is ignored (SOS, PM, APC)
-  sos_pm_apc : (lead : List ℕ) (kind : ℕ) (text : List ℕ) → Body
+  sos_pm_apc : (between : List ℕ) (kind : ℕ) (text : List ℕ) → Body
 
 -- The ends. An open sequence is unfinished if it is last, else broken off.
 pub data End : Type 0 where
@@ -42,12 +42,12 @@ pub data Item : Type 0 where
 
 abbrev pub body_text : Body → List ℕ
 body_text (escape bytes) = escape_byte ∷ bytes
-body_text (csi lead header) = escape_byte ∷ (lead ++ 0x5B ∷ header)
-body_text (dcs_header lead header) = escape_byte ∷ (lead ++ 0x50 ∷ header)
-body_text (dcs lead header final text) = escape_byte ∷ (lead ++ 0x50 ∷ (header ++ final ∷ text))
-body_text (dcs_ignored lead header byte text) = escape_byte ∷ (lead ++ 0x50 ∷ (header ++ byte ∷ text))
-body_text (osc lead text) = escape_byte ∷ (lead ++ 0x5D ∷ text)
-body_text (sos_pm_apc lead kind text) = escape_byte ∷ (lead ++ kind ∷ text)
+body_text (csi between header) = escape_byte ∷ (between ++ 0x5B ∷ header)
+body_text (dcs_header between header) = escape_byte ∷ (between ++ 0x50 ∷ header)
+body_text (dcs between header final text) = escape_byte ∷ (between ++ 0x50 ∷ (header ++ final ∷ text))
+body_text (dcs_ignored between header byte text) = escape_byte ∷ (between ++ 0x50 ∷ (header ++ byte ∷ text))
+body_text (osc between text) = escape_byte ∷ (between ++ 0x5D ∷ text)
+body_text (sos_pm_apc between kind text) = escape_byte ∷ (between ++ kind ∷ text)
 
 abbrev pub end_text : End → List ℕ
 end_text (complete byte) = byte ∷ []
@@ -90,42 +90,43 @@ abbrev pub IsHeader : List ℕ → Type 0
 IsHeader header = EachIs (λ b. is_noise b || is_header_byte b) header
 
 -- the header of a device control string, and the noise before the byte that begins it
-pub record IsDcsHeader (lead header : List ℕ) : Type 0 where
-  pub noise : EachIs is_noise lead
+pub record IsDcsHeader (between header : List ℕ) : Type 0 where
+  pub noise : EachIs is_noise between
   pub header_bytes : IsHeader header
   pub shaped : IsTrue (has_shape (significant header))
 
 -- a final byte hooks the string, and its text goes up to ST
-pub record IsDcs (lead header : List ℕ) (final : ℕ) (text : List ℕ) : Type 0 where
-  pub begun : IsDcsHeader lead header
+pub record IsDcs (between header : List ℕ) (final : ℕ) (text : List ℕ) : Type 0 where
+  pub begun : IsDcsHeader between header
   pub hooked : IsTrue (is_final final)
   pub text_bytes : EachIs (is_text_byte string_terminator) text
 
 -- a byte of a header that leaves it without the shape of one: the string is ignored up to ST
-pub record IsDcsIgnored (lead header : List ℕ) (byte : ℕ) (text : List ℕ) : Type 0 where
-  pub begun : IsDcsHeader lead header
+pub record IsDcsIgnored (between header : List ℕ) (byte : ℕ) (text : List ℕ) : Type 0 where
+  pub begun : IsDcsHeader between header
   pub header_byte : IsTrue (is_header_byte byte)
   pub unshaped : IsTrue (not (has_shape (significant header ++ byte ∷ [])))
   pub text_bytes : EachIs (is_text_byte string_terminator) text
 
 abbrev pub IsBody : Body → Type 0
 IsBody (escape bytes) = EachIs (λ b. is_noise b || is_intermediate b) bytes
-IsBody (csi lead header) = EachIs is_noise lead × IsHeader header
-IsBody (dcs_header lead header) = IsDcsHeader lead header
-IsBody (dcs lead header final text) = IsDcs lead header final text
-IsBody (dcs_ignored lead header byte text) = IsDcsIgnored lead header byte text
-IsBody (osc lead text) = EachIs is_noise lead × EachIs (is_text_byte bell) text
-IsBody (sos_pm_apc lead kind text) = EachIs is_noise lead × IsTrue (is_string_kind kind) × EachIs (is_text_byte string_terminator) text
+IsBody (csi between header) = EachIs is_noise between × IsHeader header
+IsBody (dcs_header between header) = IsDcsHeader between header
+IsBody (dcs between header final text) = IsDcs between header final text
+IsBody (dcs_ignored between header byte text) = IsDcsIgnored between header byte text
+IsBody (osc between text) = EachIs is_noise between × EachIs (is_text_byte bell) text
+IsBody (sos_pm_apc between kind text) =
+    EachIs is_noise between × IsTrue (is_string_kind kind) × EachIs (is_text_byte string_terminator) text
 
 -- the byte completes the body
 abbrev pub completes : Body → ℕ → Bool
 completes (escape bytes) b = is_within 0x30 0x7E b && (list_any is_intermediate bytes || not (is_introducer b))
-completes (csi lead header) b = is_final b
-completes (dcs_header lead header) b = false
-completes (dcs lead header final text) b = b == string_terminator
-completes (dcs_ignored lead header byte text) b = b == string_terminator
-completes (osc lead text) b = b == bell
-completes (sos_pm_apc lead kind text) b = b == string_terminator
+completes (csi between header) b = is_final b
+completes (dcs_header between header) b = false
+completes (dcs between header final text) b = b == string_terminator
+completes (dcs_ignored between header byte text) b = b == string_terminator
+completes (osc between text) b = b == bell
+completes (sos_pm_apc between kind text) b = b == string_terminator
 
 abbrev pub IsEnd : Body → End → Type 0
 IsEnd body (complete byte) = IsTrue (completes body byte)

@@ -10,4 +10,5 @@ text_calls text = map print (chars text)
 
 -- The performer has received exactly the calls of the bytes, by what lists of calls do to it.
 abbrev pub HasReceivedTexts : {P : Type 0} → (P → List Call → P → Type 0) → (first : P) → List ℕ → P → Type 0
-HasReceivedTexts receives first bytes performer = (calls : List Call) × AreCalls bytes calls × receives first calls performer
+HasReceivedTexts receives first bytes performer =
+    (calls : List Call) × AreCalls bytes calls × receives first calls performer

@@ -16,7 +16,8 @@ IsEmpty parser = parser ≡ record { decoder = Empty }
 
 -- the Utf8Parser after a byte, and what `take` answers: the decoder's answer, over its front
 abbrev pub parser_after : Utf8Parser → ℕ → Utf8Parser × Taken
-parser_after parser b = (record { decoder = front_with (decoded (front_of parser) b).0 }, (decoded (front_of parser) b).1)
+parser_after parser b =
+    (record { decoder = front_with (decoded (front_of parser) b).0 }, (decoded (front_of parser) b).1)
 
 -- the same, and what `add` answers: the character alone
 abbrev pub parser_added : Utf8Parser → ℕ → Utf8Parser × Option ℕ

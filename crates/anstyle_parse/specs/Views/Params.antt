@@ -29,4 +29,6 @@ AreFew groups = (length groups ≤ max_fields) × (length (concat groups) ≤ ma
 
 -- the groups that an iterator has left: those from its place on
 abbrev pub groups_left : ParamsIter → List (List ℕ)
-groups_left iter = cut_at (starts_of (length iter.numbers.now - iter.place) (iter.starts / 2 ^ iter.place)) (drop iter.place iter.numbers.now)
+groups_left iter =
+    cut_at (starts_of (length iter.numbers.now - iter.place) (iter.starts / 2 ^ iter.place))
+    (drop iter.place iter.numbers.now)

@@ -27,9 +27,14 @@ const MAX_SHOWN: usize = 2;
 /// | `print` | the character in UTF-8 |
 /// | `execute`, `put` | the byte |
 /// | `unhook` | 9C |
-/// | `csi_dispatch`, `hook` | ESC and `[`, or ESC and `P`; the marker, one of `<=>?`, if there is one; the fields in decimal, with `:` between the fields of a group and `;` between groups; one more `;` if more came than is shown and there are fewer than two intermediates; the other intermediates; a space if more came and there are two; the final byte |
+/// | `csi_dispatch` | ESC and `[`; a header; the final byte |
+/// | `hook` | ESC and `P`; a header; the final byte |
 /// | `esc_dispatch` | ESC; the intermediates; a space if more came than are shown; the final byte |
 /// | `osc_dispatch` | ESC and `]`; the parts with `;` between them; BEL if BEL ended it, else 1B 58 9C |
+///
+/// A header is the marker, one of `<=>?`, if there is one; the fields in decimal, with `:` between
+/// the fields of a group and `;` between groups; one more `;` if more came than is shown and there
+/// are fewer than two intermediates; the other intermediates; a space if more came and there are two.
 ///
 /// So a command that BEL ended keeps its BEL. After any other command stands a string that
 /// makes no call: its ESC ends the command, `X` begins a string that is ignored, and 9C ends

@@ -109,7 +109,7 @@ pub fn write_calls<P: CallWriter<W>, R: Source, W: Sink>(
     ensures runs { RunsToEnding R.Source W.Sink P.text P.ending reader.old reader.new writer result.0 result.1 }
 
     // Where the text has no ending.
-    ensures plain { ((calls : List Call) → P.ending calls ≡ [])
+    ensures without_ending { ((calls : List Call) → P.ending calls ≡ [])
         → Runs R.Source W.Sink P.text reader.old reader.new writer result.0 result.1 }
 
     // With Ok nothing of it is held back.

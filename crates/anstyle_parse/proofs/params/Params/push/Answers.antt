@@ -1,47 +1,12 @@
-use Rattle.std.proofs.Common.{◌≡◌, ◌-◌, ◌+◌, ◌++◌, [], ◌∷◌, take, drop, set, arith, ap, ◌∙◌}
-use Rattle.anstyle_parse.specs.Stream.Groups.{cut_at}
-use Rattle.anstyle_parse.specs.Views.Params.{starts_of}
-use Rattle.anstyle_parse.proofs.Arguments.Starts.{field_total, Grown, grown-new, grown-same, cut_pushed}
+use Rattle.std.proofs.Common.{◌∷◌, [], arith, ap₂, ◌∙◌, length-append}
+use Rattle.anstyle_parse.specs.Stream.Groups.{shown_groups}
+use Rattle.anstyle_parse.specs.Views.Params.{closed_groups_of, open_group_of}
+use Rattle.anstyle_parse.proofs.Arguments.Lengths.{shown_groups-open}
 use Rattle.anstyle_parse.proofs.params.Params.push.Goals as goal
-use Rattle.anstyle_parse.proofs.params.Params.push.Goals.{then-self-eq0, else-self-eq0}
-
-pub start_bit-requires : goal.start_bit-requires
-start_bit-requires c =
-    let p = c.args.self.now in
-    omega (arith, field_total p.open_fields p.len p.starts p.numbers p.open_within (omega arith) p.first_starts)
-
-pub bounds-self-self : goal.bounds-self-self
-bounds-self-self c =
-    let p = c.args.self.now in
-    omega (arith, field_total p.open_fields p.len p.starts p.numbers p.open_within (omega arith) p.first_starts)
-
-pub invariant_of-self : goal.invariant_of-self
-invariant_of-self c =
-    let p = c.args.self.now in
-    let total = field_total p.open_fields p.len p.starts p.numbers p.open_within (omega arith) p.first_starts in
-    let grown : Grown p.len (p.len - p.open_fields) p.starts c.if-self-eq0.starts
-    = elim c.if-self-eq0.branch [
-      | then-self-eq0 w ↦ rw w.starts-is (grown-new p.len p.open_fields p.starts w.start_bit.result w.if-self-eq0.true p.none_above p.first_starts w.start_bit.ensures)
-      | else-self-eq0 w ↦ rw w.starts-is (grown-same p.len p.open_fields p.starts (omega (arith, w.if-self-eq0.false)) p.open_within p.none_above p.first_starts (p.open_is_last (omega (arith, w.if-self-eq0.false))))
-    ] in
-    record {
-      in_range = omega arith;
-      none_above = grown.below;
-      first_starts = λ some. grown.first;
-      open_within = omega arith;
-      open_is_last = λ some. absurd (omega arith);
-    }
 
 pub returns-clause-closed : goal.returns-clause-closed
 returns-clause-closed c =
     let p = c.args.self.now in
-    let total = field_total p.open_fields p.len p.starts p.numbers p.open_within (omega arith) p.first_starts in
-    let grown : Grown p.len (p.len - p.open_fields) p.starts c.if-self-eq0.starts
-    = elim c.if-self-eq0.branch [
-      | then-self-eq0 w ↦ rw w.starts-is (grown-new p.len p.open_fields p.starts w.start_bit.result w.if-self-eq0.true p.none_above p.first_starts w.start_bit.ensures)
-      | else-self-eq0 w ↦ rw w.starts-is (grown-same p.len p.open_fields p.starts (omega (arith, w.if-self-eq0.false)) p.open_within p.none_above p.first_starts (p.open_is_last (omega (arith, w.if-self-eq0.false))))
-    ] in
-    let count : p.len + 1 - 0 ≡ p.len + 1 = omega arith in
-    ap (λ n. cut_at (starts_of n c.if-self-eq0.starts) (set p.numbers p.len c.args.field)) count
-    ∙ (cut_pushed p.len (p.len - p.open_fields) p.open_fields c.if-self-eq0.starts c.args.field p.numbers grown.high (omega arith) (omega arith)
-    ∙ ap (λ starts. cut_at starts p.numbers ++ (take p.open_fields (drop (p.len - p.open_fields) p.numbers) ++ c.args.field ∷ []) ∷ []) grown.low)
+    c.close.ensures.closed
+    ∙ (ap₂ shown_groups c.extend.ensures.closed c.extend.ensures.open
+    ∙ shown_groups-open (closed_groups_of p) _ (omega (arith, length-append (open_group_of p) (c.args.field ∷ []))))

@@ -12,7 +12,7 @@ PYTHON = python3
 INSTALL = install
 
 PROGRAMS = ansi2text ansi2html parselog
-VERSION := $(shell sed -n 's/^version = "\(.*\)"$$/\1/p' examples/rust/Cargo.toml)
+VERSION := $(shell sed -n 's/^pub const VERSION: &str = "\(.*\)";$$/\1/p' crates/standard_streams/src/options.rt)
 MAJOR := $(firstword $(subst ., ,$(VERSION)))
 
 ARCHIVE = crates/ansi_c/out/libansi_c.a

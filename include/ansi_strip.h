@@ -40,6 +40,9 @@
 extern "C" {
 #endif
 
+/* The version of this header, and of the library and the programs beside it. */
+#define ANSI_STRIP_VERSION "0.1.0"
+
 /* The bytes of room with which ansi_strip_feed always goes on. */
 #define ANSI_STRIP_LEAST_ROOM 4
 

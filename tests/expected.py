@@ -8,11 +8,12 @@ BLOCK = 1 << 20
 
 
 class Program:
-    """A filter of standard input: its usage line, the words that it refuses, its modes; and the
-    words with which it writes a fragment or a whole page of HTML, if it does."""
+    """A filter of standard input: the words that it refuses, each with the line that it says then;
+    its modes; its own options, where it has options; and the words with which it writes a fragment
+    or a whole page of HTML, if it does."""
 
-    def __init__(self, name, usage, refused, modes, fragment=None, page=None):
-        self.name, self.usage, self.refused, self.modes = name, usage, refused, modes
+    def __init__(self, name, refused, modes, options=None, fragment=None, page=None):
+        self.name, self.refused, self.modes, self.options = name, refused, modes, options
         self.fragment, self.page = fragment, page
 
 
@@ -203,20 +204,42 @@ PAGE_TAIL = b"""\
 </html>
 """
 
+TITLE = "a<b>&\"' </title><script>"
+TITLED_HEAD = PAGE_HEAD.replace(b"Terminal output", b"a&lt;b&gt;&amp;&quot;&#39; &lt;/title&gt;&lt;script&gt;")
+
+
+def unknown(name, words, shown=None):
+    """Words of which the first is no option, and what is said then."""
+    is_option, shown = words[0].startswith("-"), shown or '"%s"' % words[0]
+    what = "unknown option %s" if is_option else "unknown word %s: a file is given by <"
+    return words, ("%s: %s (see %s --help)" % (name, what % shown, name)).encode()
+
+
+def refused_by(name, *more):
+    """What no program with options takes: names of files, other options, words that are none."""
+    rows = [["log.txt"], [""], ["-"], ["--"], ["-h"], ["--Help"], ["--help="], ["--version=1"], ["help"]]
+    rows += [["a", "--help"], ["--no", "--version"], ["--helpme"]]
+    shown = [unknown(name, ["\x1b[31m\n"], '"\\u{1b}[31m\\n"')]
+    return [unknown(name, words) for words in [*rows, *more]] + shown
+
+
 PROGRAMS = [
     Program(
         "parselog",
-        b"usage: parselog [log|canon]",
         [
-            ["other"],
-            ["log", "log"],
-            ["canon", "canon"],
-            ["log", "canon"],
-            ["canon", "-"],
-            ["log", ""],
-            [""],
-            ["Log"],
-            ["--help"],
+            (words, b"usage: parselog [log|canon]")
+            for words in (
+                ["other"],
+                ["log", "log"],
+                ["canon", "canon"],
+                ["log", "canon"],
+                ["canon", "-"],
+                ["log", ""],
+                [""],
+                ["Log"],
+                ["--help"],
+                ["--version"],
+            )
         ],
         [
             Mode(words, rows, line, hostile)
@@ -229,19 +252,25 @@ PROGRAMS = [
     ),
     Program(
         "ansi2text",
-        b"usage: ansi2text",
-        [["text"], ["-"], [""], ["--help"], ["a", "b"]],
+        refused_by("ansi2text", ["--page"], ["text"]),
         [Mode([], STRIP_ROWS, (b"\x1b[1mA\n", b"A\n"), STRIP_HOSTILE)],
+        options=[],
     ),
     Program(
         "ansi2html",
-        b"usage: ansi2html [page]",
-        [["fragment"], ["page", "page"], ["page", ""], ["-"], [""], ["--help"]],
+        refused_by("ansi2html", ["--title"], ["--titles=x"], ["--Page"], ["pages"], ["--page="], ["fragment"]),
         [
-            Mode(words, HTML_ROWS, (b"\x1b[mA\n", b"A\n"), HTML_HOSTILE, head, tail)
-            for words, head, tail in (([], b"", b""), (["page"], PAGE_HEAD, PAGE_TAIL))
+            Mode(words, HTML_ROWS, (b"\x1b[mA\n", b"A\n"), hostile, head, tail)
+            for words, hostile, head, tail in (
+                ([], HTML_HOSTILE, b"", b""),
+                (["page"], HTML_HOSTILE, PAGE_HEAD, PAGE_TAIL),
+                (["--page"], [], PAGE_HEAD, PAGE_TAIL),
+                (["--title=" + TITLE, "--page"], [], TITLED_HEAD, PAGE_TAIL),
+                (["--title=first", "page", "--title=" + TITLE], [], TITLED_HEAD, PAGE_TAIL),
+            )
         ],
+        options=["--page", "--title=TEXT"],
         fragment=[],
-        page=["page"],
+        page=["--page"],
     ),
 ]

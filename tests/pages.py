@@ -44,7 +44,7 @@ class Reader(html.parser.HTMLParser):
     def __init__(self, is_page):
         super().__init__()
         self.is_page, self.open, self.text, self.faults = is_page, [], "", []
-        self.declared, self.metas, self.style = [], [], ""
+        self.declared, self.metas, self.style, self.title = [], [], "", ""
 
     def handle_starttag(self, tag, attributes):
         if tag == "span":
@@ -72,6 +72,8 @@ class Reader(html.parser.HTMLParser):
             self.text += data
         elif "style" in self.open:
             self.style += data
+        elif "title" in self.open:
+            self.title += data
 
     def handle_decl(self, declaration):
         self.declared.append(declaration)
@@ -99,6 +101,14 @@ def differs(written, stripped, is_page):
     if reader.faults:
         return reader.faults[0]
     return page_differs(reader, written) if is_page else None
+
+
+def title_differs(written, title):
+    """Says how a page has another title than this, or answers None."""
+    reader = Reader(True)
+    reader.feed(written.decode())
+    reader.close()
+    return None if reader.title == title else "its title is %r, and not %r" % (reader.title, title)
 
 
 def page_differs(reader, written):

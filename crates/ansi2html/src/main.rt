@@ -8,33 +8,30 @@ mod words;
 
 use ansi_html::convert;
 use anstyle_parse::canon::FromRead;
-use form::Form;
-use standard_streams::{buffered, ended, failed, misused};
-use std::io;
+use standard_streams::{answered, asked_of, buffered, ended, failed, given_words};
 use std::process::ExitCode;
-use std::rt::Env;
-use words::form;
+use words::{HELP, OPTIONS, form, title};
 
 /// The name at the front of what the program says of failures.
 const PROGRAM: &str = "ansi2html";
 
 fn main(rt: HostRuntime) -> ExitCode {
-    let Ok(form) = chosen_form(&rt) else {
+    let Ok(words) = given_words(&rt) else {
         return failed(&rt, PROGRAM, "arguments not read");
     };
-    let Some(form) = form else {
-        return misused(&rt, "usage: ansi2html [page]");
+    if let Some(request) = asked_of(words.as_slice(), OPTIONS) {
+        return answered(&rt, PROGRAM, HELP, request);
+    }
+    let form = form(words.as_slice());
+    let Ok(head) = form.head(rt.alloc(), title(words.as_slice())) else {
+        return failed(&rt, PROGRAM, "out of memory");
     };
     let mut reader = FromRead::new(rt.stdin());
-    let ran = convert(form.head(), &mut reader, buffered(rt.stdout()), form.tail());
+    let ran = convert(
+        head.as_slice(),
+        &mut reader,
+        buffered(rt.stdout()),
+        form.tail(),
+    );
     ended(&rt, PROGRAM, ran)
-}
-
-/// The form that the arguments name.
-fn chosen_form(rt: &(impl Env + Alloc)) -> io::Result<Option<Form>> {
-    let mut arguments = std::env::args(rt)?;
-    let _program = arguments.next();
-    let first = arguments.next();
-    let more = arguments.next().is_some();
-    Ok(form(first.as_ref().map(|word| word.as_str()), more))
 }

@@ -1,26 +1,53 @@
-//! The words of the program: the form that its arguments name.
-ghost use Rattle.std.specs.Prelude.{◌≡◌, option_copied};
-ghost use Rattle.ansi2html.specs.Words.{form_of};
+//! The words of the program: what its options say.
+ghost use Rattle.std.specs.Prelude.{◌≡◌, codes, map, string_bytes, unwrap_or};
+ghost use Rattle.standard_streams.specs.Options.{last_value};
+ghost use Rattle.ansi2html.specs.Words.{asks_for_page, form_of, default_title};
 
-use crate::form::Form;
+use crate::form::{Form, TITLE};
+use standard_streams::value_of;
 
-/// The form that the arguments name: `first` is the first, and `more` says whether a second
-/// came. No argument means [`Form::Fragment`], and the one argument `page` [`Form::Page`].
-/// `None`, for anything else, means the usage line.
-pub fn form(first: Option<&str>, more: bool) -> Option<Form>
-    ensures { result ≡ form_of (option_copied first.entry) more }
+/// The options: `page` is the word of earlier versions.
+pub const OPTIONS: &[&str] = &["--page", "page", "--title="];
+
+/// What `--help` says.
+pub const HELP: &str = "\
+usage: ansi2html [--page] [--title=TEXT] < FILE
+
+Writes the text of standard input to standard output as HTML, in its colours:
+a fragment, to be put into a <pre> of a page in UTF-8, or a whole page.
+Input is UTF-8. No file is opened: one is given by <.
+
+  --page          write a whole page, light or dark as its reader has it;
+                  so does the word page
+  --title=TEXT    write a whole page with this title
+  --help          say this
+  --version       say which version it is
+
+Example, a listing as a page:
+  ls --color=always | ansi2html --page --title=Files > listing.html
+";
+
+/// The form that the words ask for: a page by `--page`, `page` or a title, and else a fragment.
+pub fn form(words: &[String]) -> Form
+    ensures { result ≡ form_of (map string_bytes words.now) }
 {
-    if more {
-        return None;
+    if words.iter().any(|word| asks_for_page(word.as_str())) {
+        Form::Page
+    } else {
+        Form::Fragment
     }
-    match first {
-        None => Some(Form::Fragment),
-        Some(word) => {
-            if word == "page" {
-                Some(Form::Page)
-            } else {
-                None
-            }
-        }
-    }
+}
+
+/// Whether a word asks for a page.
+fn asks_for_page(word: &str) -> bool
+    ensures { result ≡ asks_for_page word.now }
+{
+    word == "--page" || word == "page" || word.starts_with("--title=")
+}
+
+/// The title of the page: the last that the words say.
+pub fn title(words: &[String]) -> &str
+    ensures { result.now ≡ unwrap_or (last_value (codes "--title=") (map string_bytes words.now)) default_title }
+{
+    value_of(words, "--title=").unwrap_or(TITLE)
 }

@@ -1,9 +1,6 @@
 //! Writes what a terminal's screen shows at the end of standard input, as text.
 #![tactic(auto)]
 
-ghost use Rattle.std.specs.Prelude.{IfOk, IfSome};
-ghost use Rattle.ansi2screen.specs.Words.{IsTaken};
-
 #[cfg(test)]
 mod tests;
 mod words;
@@ -11,11 +8,11 @@ mod words;
 use ansi_screen::Screen;
 use anstyle_parse::io::{Fault, FromRead, Output, Source};
 use anstyle_parse::{Parser, Utf8Parser};
-use standard_streams::{buffered, ended, failed, misused};
-use std::io;
+use standard_streams::{
+    answered, asked_of, buffered, ended, failed, given_words, misused, value_of,
+};
 use std::process::ExitCode;
-use std::rt::Env;
-use words::{Size, USAGE, named_size};
+use words::{HELP, OPTIONS, SIZE, WRONG_SIZE, named_size};
 
 /// The name at the front of what the program says of failures.
 const PROGRAM: &str = "ansi2screen";
@@ -24,11 +21,14 @@ const PROGRAM: &str = "ansi2screen";
 const PIECE: usize = 4096;
 
 fn main(rt: HostRuntime) -> ExitCode {
-    let Ok(size) = chosen_size(&rt) else {
+    let Ok(words) = given_words(&rt) else {
         return failed(&rt, PROGRAM, "arguments not read");
     };
-    let Some(size) = size else {
-        return misused(&rt, USAGE);
+    if let Some(request) = asked_of(words.as_slice(), OPTIONS) {
+        return answered(&rt, PROGRAM, HELP, request);
+    }
+    let Some(size) = named_size(value_of(words.as_slice(), SIZE)) else {
+        return misused(&rt, WRONG_SIZE);
     };
     let Ok(mut screen) = Screen::new(rt.alloc(), size.columns, size.rows) else {
         return failed(&rt, PROGRAM, "out of memory");
@@ -52,15 +52,4 @@ fn read_all<R: Source>(reader: &mut R, screen: &mut Screen) -> Result<(), Fault>
         }
     }
     Err(Fault::Read)
-}
-
-/// The size that the arguments say.
-fn chosen_size(rt: &(impl Env + Alloc)) -> io::Result<Option<Size>>
-    ensures { IfOk result (λ size. IfSome size IsTaken) }
-{
-    let mut arguments = std::env::args(rt)?;
-    let _program = arguments.next();
-    let first = arguments.next();
-    let more = arguments.next().is_some();
-    Ok(named_size(first.as_ref().map(|word| word.as_str()), more))
 }

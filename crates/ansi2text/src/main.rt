@@ -6,28 +6,34 @@ mod tests;
 
 use ansi_strip::strip;
 use anstyle_parse::canon::FromRead;
-use standard_streams::{buffered, ended, failed, misused};
-use std::io;
+use standard_streams::{answered, asked_of, buffered, ended, failed, given_words};
 use std::process::ExitCode;
-use std::rt::Env;
 
 /// The name at the front of what the program says of failures.
 const PROGRAM: &str = "ansi2text";
 
-fn main(rt: HostRuntime) -> ExitCode {
-    match has_arguments(&rt) {
-        Err(_) => failed(&rt, PROGRAM, "arguments not read"),
-        Ok(true) => misused(&rt, "usage: ansi2text"),
-        Ok(false) => {
-            let mut reader = FromRead::new(rt.stdin());
-            ended(&rt, PROGRAM, strip(&mut reader, buffered(rt.stdout())))
-        }
-    }
-}
+/// What `--help` says.
+const HELP: &str = "\
+usage: ansi2text < FILE
 
-/// Whether the program was given an argument.
-fn has_arguments(rt: &(impl Env + Alloc)) -> io::Result<bool> {
-    let mut arguments = std::env::args(rt)?;
-    let _program = arguments.next();
-    Ok(arguments.next().is_some())
+Writes the text of standard input to standard output, without the escapes of
+terminals: colours, cursor moves, titles and the like. Input is UTF-8. No file is
+opened: one is given by <.
+
+  --help       say this
+  --version    say which version it is
+
+Example, which keeps a build's log as text:
+  make 2>&1 | ansi2text > build.log
+";
+
+fn main(rt: HostRuntime) -> ExitCode {
+    let Ok(words) = given_words(&rt) else {
+        return failed(&rt, PROGRAM, "arguments not read");
+    };
+    if let Some(request) = asked_of(words.as_slice(), &[]) {
+        return answered(&rt, PROGRAM, HELP, request);
+    }
+    let mut reader = FromRead::new(rt.stdin());
+    ended(&rt, PROGRAM, strip(&mut reader, buffered(rt.stdout())))
 }

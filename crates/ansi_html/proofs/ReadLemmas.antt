@@ -50,6 +50,11 @@ read-escaped_text attribute (b ∷ bytes) rest =
     ∙ reads_byte attribute (escaped_text bytes ++ rest) b
     ∙ ap (λ l. under attribute b ∷ l) (read-escaped_text attribute bytes rest)
 
+-- Reading an escaped text gives the text, in no span.
+pub read-escaped : (bytes : List ℕ) → read (escaped_text bytes) ≡ map (under []) bytes
+read-escaped bytes =
+    ap read (sym (append-nil (escaped_text bytes))) ∙ read-escaped_text [] bytes [] ∙ append-nil (map (under []) bytes)
+
 -- a value without a quote
 read-value : (so_far bytes rest : List ℕ) → AreSafe bytes → read_from (in_value so_far) (bytes ++ rest) ≡ read_from (in_value (so_far ++ bytes)) rest
 read-value so_far [] rest safe = ap (λ v. read_from (in_value v) rest) (sym (append-nil so_far))

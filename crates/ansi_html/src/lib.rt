@@ -9,15 +9,16 @@
 //! ```
 #![tactic(auto)]
 
-ghost use Rattle.std.specs.Prelude.{◌≡◌, ◌≤◌, ◌+◌, ◌*◌, ◌++◌, ℕ, List, OnOk, length, map};
+ghost use Rattle.std.specs.Prelude.{◌≡◌, ◌≤◌, ◌+◌, ◌*◌, ◌++◌, [], ℕ, List, OnOk, length, map};
 ghost use Rattle.std.specs.Str.{IsUtf8};
 ghost use Rattle.anstyle_parse.specs.Stream.Call.{Call};
 ghost use Rattle.anstyle_parse.specs.Stream.Calls.{AreCalls};
+ghost use Rattle.anstyle_parse.specs.Io.Output.{Adds};
 ghost use Rattle.anstyle_parse.specs.Io.Run.{RunsToEnding};
 ghost use Rattle.ansi_strip.specs.Strip.{stripped};
 ghost use Rattle.ansi_style.specs.Style.{plain};
-ghost use Rattle.ansi_html.specs.Html.{html_text, html_ending, html};
-ghost use Rattle.ansi_html.specs.Reader.{byte_of, read, shown_from};
+ghost use Rattle.ansi_html.specs.Html.{html_text, html_ending, html, escaped_text};
+ghost use Rattle.ansi_html.specs.Reader.{byte_of, under, read, shown_from};
 ghost use Rattle.ansi_html.specs.Grammar.{IsFragment};
 
 mod css;
@@ -25,8 +26,9 @@ mod performer;
 #[cfg(test)]
 mod tests;
 
-use anstyle_parse::canon::{Fault, Sink, Source, write_calls_between};
+use anstyle_parse::canon::{Fault, Output, Sink, Source, write_calls_between};
 pub use performer::HtmlWriter;
+use performer::put_escaped;
 
 /// Writes the text of all bytes that the reader gives as HTML, in the styles that the stream
 /// selects: a fragment for a `<pre>`. `head` is written before it and `tail` after it, as they
@@ -82,4 +84,15 @@ pub fn convert<R: Source, W: Sink>(
         → length (html calls) ≤ 278 * length bytes + 7 }
 {
     write_calls_between::<HtmlWriter<W>, R, W>(head, reader, writer, tail)
+}
+
+/// Writes a text as HTML, such as a title for the head of a page: `& < > " '` as character
+/// references, and each other byte as it is.
+pub fn put_text<W: Sink>(output: &mut Output<W>, text: &str)
+    ensures added { Adds W.Sink (escaped_text text.now) output.old output.new }
+
+    // No markup comes in: reading the HTML gives exactly the bytes of the text, in no span.
+    ensures read_back { read (escaped_text text.now) ≡ map (under []) text.now }
+{
+    put_escaped(output, text.as_bytes());
 }

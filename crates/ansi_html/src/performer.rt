@@ -131,7 +131,7 @@ fn after_clear(bytes: &[u8]) -> &[u8]
 
 /// Writes text, with a character reference for each byte that has a meaning in HTML; what is
 /// between them at once.
-fn put_escaped<W: Sink>(output: &mut Output<W>, text: &[u8])
+pub(crate) fn put_escaped<W: Sink>(output: &mut Output<W>, text: &[u8])
     ensures { Adds W.Sink (escaped_text text.now) output.old output.new }
 {
     let mut rest = text;

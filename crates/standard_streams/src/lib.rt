@@ -7,7 +7,10 @@ ghost use Rattle.anstyle_parse.specs.Io.Buffer.{writer_behind, held_back, is_by_
 ghost use Rattle.anstyle_parse.specs.Io.Devices.{writer_of, writer_failed};
 ghost use Rattle.standard_streams.specs.Words.{message_of};
 
+mod options;
+
 use anstyle_parse::io::{Buffer, Fault, FromWrite, Sink};
+pub use options::{Request, VERSION, answered, asked_of, given_words, value_of};
 use std::io::{IsTerminal, Write};
 use std::process::ExitCode;
 

@@ -1,7 +1,7 @@
 //! Every public item of every library, by its name, and every implementation that a type of theirs
 //! has of a trait of std: what is gone is missed here.
 use crate::{plain, write_last_style};
-use ansi_html::{HtmlWriter, convert};
+use ansi_html::{HtmlWriter, convert, put_text};
 use ansi_strip::{Stripper, is_layout, strip};
 use ansi_style::{Color, Hue, Style, Underline};
 use anstyle_parse::canon::{CanonWriter, MAX_CHECKPOINT, checkpoint};
@@ -19,12 +19,17 @@ use anstyle_parse::{
     AsciiParser, CharAccumulator, DefaultCharAccumulator, Params, ParamsIter, Parser, Perform,
     PerformText, Taken, Utf8Parser,
 };
-use standard_streams::{buffered, ended, failed, message, misused};
+use standard_streams::{
+    Request, VERSION, answered, asked_of, buffered, ended, failed, given_words, message, misused,
+    value_of,
+};
 use std::alloc::Global;
 use std::fmt::Debug;
+use std::io;
 use std::io::{ErrorKind, IsTerminal, Read, Write};
 use std::iter::FusedIterator;
 use std::process::ExitCode;
+use std::rt::Env;
 use std::test::Fail;
 use strip_pieces::{Fed, LEAST_ROOM, StreamState};
 use test_streams::{Paper, TROUBLES, Tape, narrow_papers, repeated};
@@ -171,6 +176,7 @@ fn names_of_runs(rt: HostRuntime) -> Result<(), Fail> {
     writes_calls(&HtmlWriter::over(Output::new(memory(rt.alloc()))));
 
     let mut output = Output::new(memory(rt.alloc()));
+    put_text(&mut output, "<");
     output.put(b"a");
     output.put_byte(b'b');
     output.put_char('c');
@@ -248,4 +254,12 @@ pub fn names_of_standard_streams<W: Write + IsTerminal + Drop>(
             misused(rt, ""),
         ],
     )
+}
+
+/// The words that programs share, which no test is given.
+pub fn names_of_options(rt: &(impl Env + AllocGlobal + Print + Eprint)) -> io::Result<ExitCode> {
+    let words = given_words(rt)?;
+    let value = value_of(words.as_slice(), "--title=").unwrap_or(VERSION);
+    let request = asked_of(words.as_slice(), &["--title="]).unwrap_or(Request::Unknown(value));
+    Ok(answered(rt, "", "", request))
 }

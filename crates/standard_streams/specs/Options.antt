@@ -1,0 +1,49 @@
+-- The words that a program is given.
+--
+-- Source: the GNU Coding Standards, 4.8 (command-line interfaces: options of two dashes, their
+-- values after =, --help and --version).
+use Rattle.std.specs.Prelude.{◌≡◌, ◌≢◌, ℕ, Bool, not, nat_eq, List, [], ◌∷◌, map, drop, length, codes, bytes_eq, Option, None, Some, MatchOption, if◌then◌else◌, ◌⊎◌}
+use Rattle.std.specs.Option.{option_or}
+use Rattle.std.specs.List.{list_any, find, starts_with, ends_with}
+use Rattle.standard_streams.specs.declared.options.Request.{Request}
+use Rattle.standard_streams.specs.declared.options.Request.TheVariants.{Help, Version, Unknown}
+use denote.Ref.{Bor}
+
+-- the texts that references are to
+abbrev pub texts : List (Bor (List ℕ)) → List (List ℕ)
+texts references = map (λ it. it.now) references
+
+-- a word is an option, or begins with it where the option ends in =
+abbrev pub is_option : (option word : List ℕ) → Bool
+is_option option word = if ends_with nat_eq option (codes "=") then starts_with nat_eq word option else bytes_eq word option
+
+-- a word is one of these options
+abbrev pub is_one_of : (options : List (List ℕ)) → (word : List ℕ) → Bool
+is_one_of options word = list_any (λ option. is_option option word) options
+
+-- What a word asks for that is no option of the program's own.
+abbrev pub Means : List ℕ → Request → Type 0
+Means word Help = word ≡ codes "--help"
+Means word Version = word ≡ codes "--version"
+Means word (Unknown given) = (given.now ≡ word) × (word ≢ codes "--help") × (word ≢ codes "--version")
+
+-- What the words ask for: nothing, where each is an option of the program's own, or what the first
+-- that is none says.
+abbrev pub Asks : (options words : List (List ℕ)) → Option Request → Type 0
+Asks options words asked =
+    MatchOption (find (λ word. not (is_one_of options word)) words) (asked ≡ None) (λ word. (request : Request) × (asked ≡ Some request) × Means word request)
+
+-- The status of a program that was asked this: 0 where it could be answered and else 1, and 2 for
+-- a word that it doesn't know.
+abbrev pub AnswersWith : Request → (status : ℕ) → Type 0
+AnswersWith (Unknown word) status = status ≡ 2
+AnswersWith _ status = (status ≡ 0) ⊎ (status ≡ 1)
+
+-- what follows an option, where a word begins with it
+abbrev pub after_option : (option word : List ℕ) → Option (List ℕ)
+after_option option word = if starts_with nat_eq word option then Some (drop (length option) word) else None
+
+-- What follows an option in the last of the words that begin with it.
+abbrev pub last_value : (option : List ℕ) → (words : List (List ℕ)) → Option (List ℕ)
+last_value option [] = None
+last_value option (word ∷ words) = option_or (last_value option words) (after_option option word)

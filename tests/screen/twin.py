@@ -23,18 +23,24 @@ def columns(c):
     return 2 if unicodedata.east_asian_width(c) in ("W", "F") else 1
 
 
+# the line drawing set, for 5F to 7E
+DRAWN = dict(zip("_`abcdefghijklmnopqrstuvwxyz{|}~", " ◆▒␉␌␍␊°±␤␋┘┐┌└┼⎺⎻─⎼⎽├┤┴┬│≤≥π≠£·"))
+
+
 class Place:
-    def __init__(self, row=0, column=0, is_relative=False):
+    def __init__(self, row=0, column=0, is_relative=False, draws=(False, False), shift=0):
         self.row, self.column, self.is_relative = row, column, is_relative
+        self.draws, self.shift = draws, shift
 
     def copy(self):
-        return Place(self.row, self.column, self.is_relative)
+        return Place(self.row, self.column, self.is_relative, self.draws, self.shift)
 
 
 class Display:
-    """Cells are pairs of a character and a part, row by row in one list."""
+    """Cells are triples of a character, a part and marks, row by row in one list."""
 
-    BLANK = (" ", WHOLE)
+    BLANK = (" ", WHOLE, "")
+    MARKS = 2
 
     def __init__(self, width, height):
         self.width, self.height = width, height
@@ -47,6 +53,7 @@ class Display:
         self.top, self.bottom = 0, self.height
         self.tabs = [column % 8 == 0 for column in range(self.width)]
         self.wraps, self.inserts, self.is_alternate = True, False, False
+        self.last = None
 
     def blanks(self):
         return [self.BLANK] * (self.width * self.height)
@@ -90,6 +97,14 @@ class Display:
         if self.cursor.column < self.width:
             stops = [c for c in range(self.cursor.column + 1, self.width) if self.tabs[c]]
             self.to_column(stops[0] if stops else self.width - 1)
+
+    def tab_back(self):
+        stops = [c for c in range(self.cursor.column) if self.tabs[c]]
+        self.to_column(stops[-1] if stops else 0)
+
+    def times(self, n, how):
+        for _ in range(min(n, self.width)):
+            how()
 
     def set_stop(self, stops):
         self.tabs[min(self.cursor.column, self.width - 1)] = stops
@@ -159,7 +174,11 @@ class Display:
     # -------------------------------------------------------------- printing
 
     def print(self, c):
+        if self.cursor.draws[self.cursor.shift]:
+            c = DRAWN.get(c, c)
         n = columns(c)
+        if n == 0:
+            self.mark(c)
         if not n:
             return
         if self.cursor.column + n > self.width:
@@ -171,9 +190,21 @@ class Display:
         if self.cursor.column + n <= self.width:
             if self.inserts:
                 self.insert_characters(n)
-            glyph = [(c, LEFT), (" ", RIGHT)] if n == 2 else [(c, WHOLE)]
+            glyph = [(c, LEFT, ""), (" ", RIGHT, "")] if n == 2 else [(c, WHOLE, "")]
             self.change(self.here(), self.here() + n, lambda run: glyph)
             self.cursor.column += n
+
+    def mark(self, mark):
+        at = self.here() - 1
+        if self.cursor.column:
+            if self.cells[at][1] == RIGHT:
+                at -= 1
+            c, part, marks = self.cells[at]
+            self.cells[at] = (c, part, (marks + mark)[: self.MARKS])
+
+    def print_again(self, c):
+        if self.cursor.column + columns(c) <= self.width:
+            self.print(c)
 
     # -------------------------------------------------------------- modes
 
@@ -215,6 +246,7 @@ class Display:
         self.cursor.is_relative, self.saved = False, Place()
         self.top, self.bottom = 0, self.height
         self.wraps, self.inserts = True, False
+        self.cursor.draws, self.cursor.shift = (False, False), 0
 
     # -------------------------------------------------------------- calls
 
@@ -229,6 +261,8 @@ class Display:
             self.index()
         elif byte == 0x0D:
             self.to_column(0)
+        elif byte in (0x0E, 0x0F):
+            self.cursor.shift = 0x0F - byte
 
     MOVES = {
         "A": lambda s, n, m: s.up(n),
@@ -243,6 +277,7 @@ class Display:
         "a": lambda s, n, m: s.to_column(s.cursor.column + n),
         "d": lambda s, n, m: s.to_line(n - 1),
         "f": lambda s, n, m: s.to_position(n - 1, m - 1),
+        "Z": lambda s, n, m: s.times(n, s.tab_back),
     }
     EDITS = {
         "@": lambda s, n, p: s.insert_characters(n),
@@ -273,6 +308,10 @@ class Display:
             self.scroll(self.moved_back, max(1, first))
         elif final == "T":
             self.scroll(self.moved_on, max(1, first))
+        elif final == "I":
+            self.times(max(1, first), self.tab)
+        elif final == "b" and self.last:
+            self.times(max(1, first), lambda: self.print_again(self.last))
         elif final == "r":
             self.margins(first, second)
         elif final == "g" and first == 0:
@@ -299,13 +338,20 @@ class Display:
         elif final == "c":
             self.reset()
 
+    def designate(self, mark, final):
+        g0, g1 = self.cursor.draws
+        if mark == "(":
+            self.cursor.draws = (final == "0", g1)
+        elif mark == ")":
+            self.cursor.draws = (g0, final == "0")
+
     # -------------------------------------------------------------- text
 
     def text(self):
         rows = []
         for row in range(self.height):
             cells = self.cells[row * self.width : (row + 1) * self.width]
-            rows.append("".join(c for c, part in cells if part != RIGHT).rstrip(" "))
+            rows.append("".join(c + marks for c, part, marks in cells if part != RIGHT).rstrip(" "))
         while rows and not rows[-1]:
             rows.pop()
         return "".join("%s\n" % row for row in rows)
@@ -318,6 +364,7 @@ def feed(display, data):
     while at < len(text):
         c = text[at]
         at += 1
+        last = None
         if c == "\x1b" and text[at] == "[":
             end = at + 1
             while not "@" <= text[end] <= "~":
@@ -338,11 +385,15 @@ def feed(display, data):
                 mark, at = mark + text[at], at + 1
             if not mark:
                 display.escape(text[at])
+            else:
+                display.designate(mark, text[at])
             at += 1
         elif c < " ":
             display.execute(ord(c))
         else:
             display.print(c)
+            last = c if columns(c) else None
+        display.last = last
 
 
 def show(data, width, height):

@@ -1,22 +1,33 @@
 -- Calls that change nothing but the cursor; and what a reset leaves.
-use Rattle.std.proofs.Common.{◌≡◌, inl, inr, ℕ, true, false, List, [], ◌∷◌, ◌++◌, refl, ap, sym, ◌∙◌}
+use Rattle.std.proofs.Common.{◌≡◌, inl, inr, ℕ, zero, suc, arith, true, false, List, [], ◌∷◌, ◌++◌, refl, ap, sym, ◌∙◌}
+use Rattle.std.specs.Prelude.{min}
+use Rattle.std.proofs.lemmas.Bool.{ne_eqb}
 use Rattle.anstyle_parse.specs.Stream.Call.{Call, print, execute, hook, put, unhook, osc_dispatch, csi_dispatch, esc_dispatch}
 use Rattle.anstyle_parse.proofs.Division.Only.{AreCalls-only}
 use Rattle.ansi_screen.specs.declared.place.Place.{Place}
 use Rattle.ansi_screen.specs.declared.function.Move.{Move}
-use Rattle.ansi_screen.specs.declared.function.Move.TheVariants.{Up, Down, Forward, Back, NextLine, PrecedingLine, Column, Line, Position}
+use Rattle.ansi_screen.specs.declared.function.Move.TheVariants.{Up, Down, Forward, Back, NextLine, PrecedingLine, Column, Line, Position, BackTab}
 use Rattle.ansi_screen.specs.declared.function.Function.{Function}
-use Rattle.ansi_screen.specs.declared.function.Function.TheVariants.{Moves}
+use Rattle.ansi_screen.specs.declared.function.Function.TheVariants.{Moves, Nothing}
 use Rattle.ansi_screen.specs.declared.function.Setting.TheVariants.{Rendition}
-use Rattle.ansi_screen.specs.Display.{Display, fresh}
-use Rattle.ansi_screen.specs.Moves.{settled}
+use Rattle.ansi_screen.specs.Display.{Display}
 use Rattle.ansi_screen.specs.Modes.{restored}
-use Rattle.ansi_screen.specs.After.{function_of, moved, set, controlled, sequenced, escaped, after, after_all, Shows, first_of, second_of}
+use Rattle.ansi_screen.specs.Moves.{settled, tabbed_back, back_times}
+use Rattle.ansi_screen.specs.After.{State, new_state, function_of, moved, set, controlled, sequenced, escaped, designated, is_repeat, after, after_all, Shows, first_of, second_of, count}
 use Rattle.ansi_screen.specs.Laws.{reset, save, restore, IsMoveOrStyle, AreMovesAndStyles}
 
 -- the display with another cursor
 abbrev at_place : Place → Display → Display
 at_place place d = record d { cursor = place }
+
+one-back : (d : Display) → tabbed_back d ≡ at_place (tabbed_back d).cursor d
+unfolding tabbed_back
+one-back d = refl
+
+back-cursor : (n : ℕ) (d : Display) → back_times n d ≡ at_place (back_times n d).cursor d
+back-cursor zero d = refl
+back-cursor (suc n) d =
+    one-back (back_times n d) ∙ ap (at_place (tabbed_back (back_times n d)).cursor) (back-cursor n d)
 
 moved-cursor : (move : Move) (n m : ℕ) (d : Display) → moved move n m (settled d) ≡ at_place (moved move n m (settled d)).cursor d
 unfolding moved
@@ -29,6 +40,7 @@ moved-cursor PrecedingLine n m d = refl
 moved-cursor Column n m d = refl
 moved-cursor Line n m d = refl
 moved-cursor Position n m d = refl
+moved-cursor BackTab n m d = back-cursor (min (count n) d.width) (settled d)
 
 controlled-moves : (function : Function) (move : Move) (groups : List (List ℕ)) (d : Display) → function ≡ Moves move
     → controlled function groups d ≡ moved move (first_of groups) (second_of groups) (settled d)
@@ -44,70 +56,88 @@ style-cursor : (groups : List (List ℕ)) (d : Display) → set Rendition groups
 unfolding set
 style-cursor groups d = refl
 
-after-sequence : (groups : List (List ℕ)) (final : ℕ) (d : Display) → after (csi_dispatch groups [] false final) d ≡ controlled (function_of final) groups d
+-- a control sequence that moves the cursor or selects a style is not REP
+repeat-nothing : function_of 0x62 ≡ Nothing
+unfolding function_of
+repeat-nothing = refl
+
+no-repeat : (final : ℕ) → (final ≡ 0x62 → ⊥) → is_repeat [] false final ≡ false
+unfolding is_repeat
+no-repeat final other = rw (ne_eqb final 0x62 other) refl
+
+move-other : (final : ℕ) (move : Move) → function_of final ≡ Moves move → final ≡ 0x62 → ⊥
+move-other final move is e = let none : function_of final ≡ Nothing = ap function_of e ∙ repeat-nothing in cc
+
+after-sequence : (groups : List (List ℕ)) (final : ℕ) (s : State) → is_repeat [] false final ≡ false
+    → (after (csi_dispatch groups [] false final) s).display ≡ controlled (function_of final) groups s.display
 unfolding sequenced
-after-sequence groups final d = refl
+after-sequence groups final s other = rw other refl
 
 -- where a call comes to a display that differs in its cursor alone, it does so itself
-as-place : (call : Call) (d e : Display) → after call d ≡ e → e ≡ at_place e.cursor d → after call d ≡ at_place (after call d).cursor d
-as-place call d e is kept = is ∙ (kept ∙ ap (λ (x : Display). at_place x.cursor d) (sym is))
+as-place : (d e f : Display) → f ≡ e → e ≡ at_place e.cursor d → f ≡ at_place f.cursor d
+as-place d e f is kept = is ∙ (kept ∙ ap (λ (x : Display). at_place x.cursor d) (sym is))
 
-kept : (call : Call) (d : Display) → IsMoveOrStyle call → after call d ≡ at_place (after call d).cursor d
-kept (csi_dispatch groups [] false final) d (inl (move, is)) =
-    as-place (csi_dispatch groups [] false final) d (moved move (first_of groups) (second_of groups) (settled d))
-    (after-sequence groups final d ∙ controlled-moves (function_of final) move groups d is) (moved-cursor move (first_of groups) (second_of groups) d)
-kept (csi_dispatch groups [] false final) d (inr is) =
-    as-place (csi_dispatch groups [] false final) d (set Rendition groups d)
-    (after-sequence groups final d ∙ controlled-style final groups d is) (style-cursor groups d)
-kept (csi_dispatch groups [] true final) d never = absurd never
-kept (csi_dispatch groups (mark ∷ marks) ignore final) d never = absurd never
-kept (print c) d never = absurd never
-kept (execute byte) d never = absurd never
-kept (hook groups intermediates ignore final) d never = absurd never
-kept (put byte) d never = absurd never
-kept unhook d never = absurd never
-kept (osc_dispatch parts bell) d never = absurd never
-kept (esc_dispatch intermediates ignore final) d never = absurd never
+kept : (call : Call) (s : State) → IsMoveOrStyle call → (after call s).display ≡ at_place (after call s).display.cursor s.display
+kept (csi_dispatch groups [] false final) s (inl (move, is)) =
+    as-place s.display (moved move (first_of groups) (second_of groups) (settled s.display)) _
+    (after-sequence groups final s (no-repeat final (move-other final move is)) ∙ controlled-moves (function_of final) move groups s.display is)
+    (moved-cursor move (first_of groups) (second_of groups) s.display)
+kept (csi_dispatch groups [] false final) s (inr is) =
+    as-place s.display (set Rendition groups s.display) _
+    (after-sequence groups final s (no-repeat final (λ e. omega arith)) ∙ controlled-style final groups s.display is) (style-cursor groups s.display)
+kept (csi_dispatch groups [] true final) s never = absurd never
+kept (csi_dispatch groups (mark ∷ marks) ignore final) s never = absurd never
+kept (print c) s never = absurd never
+kept (execute byte) s never = absurd never
+kept (hook groups intermediates ignore final) s never = absurd never
+kept (put byte) s never = absurd never
+kept unhook s never = absurd never
+kept (osc_dispatch parts bell) s never = absurd never
+kept (esc_dispatch intermediates ignore final) s never = absurd never
 
-all-kept : (calls : List Call) (d : Display) → AreMovesAndStyles calls → after_all calls d ≡ at_place (after_all calls d).cursor d
-all-kept [] d are = refl
-all-kept (call ∷ calls) d are =
-    all-kept calls (after call d) are.1 ∙ ap (λ (e : Display). at_place (after_all calls (after call d)).cursor e) (kept call d are.0)
+all-kept : (calls : List Call) (s : State) → AreMovesAndStyles calls → (after_all calls s).display ≡ at_place (after_all calls s).display.cursor s.display
+all-kept [] s are = refl
+all-kept (call ∷ calls) s are =
+    all-kept calls (after call s) are.1 ∙ ap (λ (e : Display). at_place (after_all calls (after call s)).display.cursor e) (kept call s are.0)
 
-after_all-append : (first second : List Call) (d : Display) → after_all (first ++ second) d ≡ after_all second (after_all first d)
-after_all-append [] second d = refl
-after_all-append (call ∷ calls) second d = after_all-append calls second (after call d)
+pub after_all-append : (first second : List Call) (s : State) → after_all (first ++ second) s ≡ after_all second (after_all first s)
+after_all-append [] second s = refl
+after_all-append (call ∷ calls) second s = after_all-append calls second (after call s)
 
 restored-saved : (place : Place) (d : Display) → d.saved.is_relative ≡ false → restored (at_place place d) ≡ at_place d.saved d
 unfolding restored
 restored-saved place d absolute = rw absolute refl
 
-after-save : (d : Display) → after save d ≡ record d { saved = d.cursor }
-unfolding escaped
-after-save d = refl
+after-save : (s : State) → (after save s).display ≡ record s.display { saved = s.display.cursor }
+unfolding designated escaped
+after-save s = refl
 
-after-restore : (d : Display) → after restore d ≡ restored d
-unfolding escaped
-after-restore d = refl
+after-restore : (s : State) → (after restore s).display ≡ restored s.display
+unfolding designated escaped
+after-restore s = refl
 
-pub after-reset : (d : Display) → after reset d ≡ fresh d.width d.height
-unfolding escaped
-after-reset d = refl
+pub after-reset : (s : State) → after reset s ≡ new_state s.display.width s.display.height
+unfolding designated escaped
+after-reset s = refl
 
-pub enclosed-restores : (calls : List Call) (d : Display) → AreMovesAndStyles calls → d.cursor.is_relative ≡ false
-    → after_all (save ∷ (calls ++ restore ∷ [])) d ≡ record d { saved = d.cursor }
-enclosed-restores calls d are absolute =
-    let start : Display = record d { saved = d.cursor } in
-    ap (λ (e : Display). after_all (calls ++ restore ∷ []) e) (after-save d)
-    ∙ (after_all-append calls (restore ∷ []) start
-    ∙ (after-restore (after_all calls start)
-    ∙ (ap restored (all-kept calls start are) ∙ restored-saved (after_all calls start).cursor start absolute)))
+pub enclosed-restores : (calls : List Call) (s : State) → AreMovesAndStyles calls → s.display.cursor.is_relative ≡ false
+    → (after_all (save ∷ (calls ++ restore ∷ [])) s).display ≡ record s.display { saved = s.display.cursor }
+enclosed-restores calls s are absolute =
+    let start : State = after save s in
+    let begun : start.display ≡ record s.display { saved = s.display.cursor } = after-save s in
+    let end : State = after_all calls start in
+    let saved_absolute : start.display.saved.is_relative ≡ false = ap (λ (d : Display). d.saved.is_relative) begun ∙ absolute in
+    ap (λ (e : State). e.display) (after_all-append calls (restore ∷ []) start)
+    ∙ (after-restore end
+    ∙ (ap restored (all-kept calls start are)
+    ∙ (restored-saved end.display.cursor start.display saved_absolute
+    ∙ ap (λ (d : Display). at_place d.saved d) begun)))
 
-pub reset-forgets : (calls : List Call) (a b : Display) → a.width ≡ b.width → a.height ≡ b.height
+pub reset-forgets : (calls : List Call) (a b : State) → a.display.width ≡ b.display.width → a.display.height ≡ b.display.height
     → after_all (reset ∷ calls) a ≡ after_all (reset ∷ calls) b
 reset-forgets calls a b same_width same_height =
-    ap (after_all calls) (after-reset a ∙ (ap (λ n. fresh n a.height) same_width ∙ (ap (λ n. fresh b.width n) same_height ∙ sym (after-reset b))))
+    ap (after_all calls) (after-reset a ∙ (ap (λ n. new_state n a.display.height) same_width ∙ (ap (λ n. new_state b.display.width n) same_height ∙ sym (after-reset b))))
 
-pub Shows-only : (bytes : List ℕ) (old first second : Display) → Shows old bytes first → Shows old bytes second → first ≡ second
+pub Shows-only : (bytes : List ℕ) (old first second : State) → Shows old bytes first → Shows old bytes second → first ≡ second
 Shows-only bytes old first second (calls, are, is) (others, are_others, is_other) =
     is ∙ (ap (λ (l : List Call). after_all l old) (AreCalls-only bytes calls others are are_others) ∙ sym is_other)

@@ -1,4 +1,5 @@
 pub mod CellLemmas
+pub mod GridLemmas
 pub mod RangeLemmas
 pub mod TextLemmas
 pub mod CallLemmas

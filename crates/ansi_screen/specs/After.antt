@@ -2,22 +2,23 @@
 --
 -- Sources: xterm's ctlseqs, "Controls beginning with ESC" and "Functions using CSI"; ECMA-48,
 -- 8.3, for the names.
-use Rattle.std.specs.Prelude.{◌≡◌, ℕ, ◌+◌, ◌-◌, max, true, false, ◌&&◌, ◌||◌, not, ◌==◌, List, [], ◌∷◌, length, if◌then◌else◌}
+use Rattle.std.specs.Prelude.{◌≡◌, ℕ, ◌+◌, ◌-◌, min, max, Option, None, Some, Bool, true, false, ◌&&◌, ◌||◌, not, ◌==◌, List, [], ◌∷◌, length, if◌then◌else◌}
 use Rattle.anstyle_parse.specs.Stream.Call.{Call, print, execute, hook, put, unhook, osc_dispatch, csi_dispatch, esc_dispatch}
 use Rattle.anstyle_parse.specs.Stream.Calls.{AreCalls}
 use Rattle.ansi_screen.specs.declared.function.Edit.{Edit}
 use Rattle.ansi_screen.specs.declared.function.Edit.TheVariants.{InsertCharacters, EraseInDisplay, EraseInLine, InsertLines, DeleteLines, DeleteCharacters, EraseCharacters}
 use Rattle.ansi_screen.specs.declared.function.Move.{Move}
-use Rattle.ansi_screen.specs.declared.function.Move.TheVariants.{Up, Down, Forward, Back, NextLine, PrecedingLine, Column, Line, Position}
+use Rattle.ansi_screen.specs.declared.function.Move.TheVariants.{Up, Down, Forward, Back, NextLine, PrecedingLine, Column, Line, Position, BackTab}
 use Rattle.ansi_screen.specs.declared.function.Setting.{Setting}
-use Rattle.ansi_screen.specs.declared.function.Setting.TheVariants.{Rendition, SetModes, ResetModes, Margins, ScrollUp, ScrollDown, ClearStops}
+use Rattle.ansi_screen.specs.declared.function.Setting.TheVariants.{Rendition, SetModes, ResetModes, Margins, ScrollUp, ScrollDown, ForwardTab, ClearStops}
 use Rattle.ansi_screen.specs.declared.function.Function.{Function}
 use Rattle.ansi_screen.specs.declared.function.Function.TheVariants.{Edits, Moves, Sets, Nothing}
 use Rattle.ansi_screen.specs.Display.{Display, fresh}
-use Rattle.ansi_screen.specs.Moves.{to_column, settled, up, down, to_line, to_position, tabbed, with_stop, cleared_stops}
+use Rattle.ansi_screen.specs.Moves.{to_column, settled, up, down, to_line, to_position, tabbed, tabbed_times, back_times, with_stop, cleared_stops}
 use Rattle.ansi_screen.specs.Edits.{erased_display, erased_line, erased_characters, deleted_characters, inserted_characters, inserted_lines, deleted_lines, scrolled_up, scrolled_down, index, reverse_index}
-use Rattle.ansi_screen.specs.Print.{printed}
-use Rattle.ansi_screen.specs.Modes.{with_style, saving, restored, with_margins, with_modes, with_mode, with_private_mode, softly_reset, first_field}
+use Rattle.ansi_screen.specs.Print.{printed, printed_times}
+use Rattle.ansi_screen.specs.Widths.{is_shown, columns}
+use Rattle.ansi_screen.specs.Modes.{with_style, shifted, with_charset, saving, restored, with_margins, with_modes, with_mode, with_private_mode, softly_reset, first_field}
 
 -- The control functions by their final byte.
 unfoldable pub function_of : ℕ → Function
@@ -33,6 +34,8 @@ function_of final =
     else if final == 0x46 then Moves PrecedingLine
     else if final == 0x47 then Moves Column
     else if final == 0x48 then Moves Position
+    -- I: CHT
+    else if final == 0x49 then Sets ForwardTab
     -- J, K: ED, EL
     else if final == 0x4A then Edits EraseInDisplay
     else if final == 0x4B then Edits EraseInLine
@@ -45,6 +48,8 @@ function_of final =
     else if final == 0x54 then Sets ScrollDown
     -- X: ECH
     else if final == 0x58 then Edits EraseCharacters
+    -- Z: CBT
+    else if final == 0x5A then Moves BackTab
     -- `, a: HPA, HPR
     else if final == 0x60 then Moves Column
     else if final == 0x61 then Moves Forward
@@ -96,6 +101,7 @@ moved PrecedingLine n column d = to_column 0 (up (count n) d)
 moved Column n column d = to_column (count n - 1) d
 moved Line n column d = to_line (count n - 1) d
 moved Position n column d = to_position (count n - 1) (count column - 1) d
+moved BackTab n column d = back_times (min (count n) d.width) d
 
 -- What leaves a pending wrap as it is.
 unfoldable pub set : Setting → List (List ℕ) → Display → Display
@@ -105,6 +111,7 @@ set ResetModes groups d = with_modes (with_mode false) groups d
 set Margins groups d = with_margins (first_of groups) (second_of groups) d
 set ScrollUp groups d = scrolled_up (count (first_of groups)) d
 set ScrollDown groups d = scrolled_down (count (first_of groups)) d
+set ForwardTab groups d = tabbed_times (min (count (first_of groups)) d.width) d
 set ClearStops groups d = cleared_stops (first_of groups) d
 
 unfoldable pub controlled : Function → List (List ℕ) → Display → Display
@@ -123,13 +130,15 @@ sequenced groups (mark ∷ []) final d =
     else d
 sequenced groups (mark ∷ other ∷ others) final d = d
 
--- BS, HT, LF VT FF, CR
+-- BS, HT, LF VT FF, CR, SO, SI
 unfoldable pub executed : ℕ → Display → Display
 executed byte d =
     if byte == 0x08 then (let place = settled d in to_column (place.cursor.column - 1) place)
     else if byte == 0x09 then tabbed d
     else if byte == 0x0A || byte == 0x0B || byte == 0x0C then index (settled d)
     else if byte == 0x0D then to_column 0 d
+    else if byte == 0x0E then shifted true d
+    else if byte == 0x0F then shifted false d
     else d
 
 -- ESC 7, 8, D, E, H, M, c: DECSC, DECRC, IND, NEL, HTS, RI, RIS
@@ -144,22 +153,60 @@ escaped final d =
     else if final == 0x63 then fresh d.width d.height
     else d
 
+-- An escape sequence with an intermediate designates a character set.
+unfoldable pub designated : List ℕ → ℕ → Display → Display
+designated [] final d = escaped final d
+designated (mark ∷ []) final d = with_charset mark final d
+designated (mark ∷ other ∷ others) final d = d
+
 -- The display after a call. What more came than a call shows, makes it one that is not known.
-abbrev pub after : Call → Display → Display
-after (print c) d = printed c d
-after (execute byte) d = executed byte d
-after (csi_dispatch groups intermediates ignore final) d = if ignore then d else sequenced groups intermediates final d
-after (esc_dispatch intermediates ignore final) d = if length intermediates == 0 && not ignore then escaped final d else d
-after (hook groups intermediates ignore final) d = d
-after (put byte) d = d
-after unhook d = d
-after (osc_dispatch parts bell_terminated) d = d
+abbrev pub displayed : Call → Display → Display
+displayed (print c) d = printed c d
+displayed (execute byte) d = executed byte d
+displayed (csi_dispatch groups intermediates ignore final) d = if ignore then d else sequenced groups intermediates final d
+displayed (esc_dispatch intermediates ignore final) d = if ignore then d else designated intermediates final d
+displayed (hook groups intermediates ignore final) d = d
+displayed (put byte) d = d
+displayed unhook d = d
+displayed (osc_dispatch parts bell_terminated) d = d
 
--- the display after a list of calls
-abbrev pub after_all : List Call → Display → Display
-after_all [] d = d
-after_all (call ∷ calls) d = after_all calls (after call d)
+-- REP prints the character of the call just before again, and changes nothing behind any other
+-- call, also behind another REP: what it repeats is kept beside the display.
+pub record State : Type 0 where
+  pub display : Display
+  pub last : Option ℕ
 
--- The bytes lead from one display to another: by the calls that a new parser makes of them.
-abbrev pub Shows : Display → List ℕ → Display → Type 0
+-- a new screen
+abbrev pub new_state : ℕ → ℕ → State
+new_state width height = record { display = fresh width height; last = None }
+
+-- marks, and what has no glyph, are not repeated
+unfoldable pub repeatable : ℕ → Option ℕ
+repeatable c = if is_shown c && not (columns c == 0) then Some c else None
+
+unfoldable pub is_repeat : List ℕ → Bool → ℕ → Bool
+is_repeat intermediates ignore final = length intermediates == 0 && not ignore && final == 0x62
+
+unfoldable pub repeated : ℕ → Option ℕ → Display → Display
+repeated n None d = d
+repeated n (Some c) d = printed_times (min n d.width) c d
+
+-- The screen after a call.
+abbrev pub after : Call → State → State
+after (print c) s = record { display = printed c s.display; last = repeatable c }
+after (csi_dispatch groups intermediates ignore final) s = record {
+  display =
+      if is_repeat intermediates ignore final then repeated (count (first_of groups)) s.last s.display
+      else displayed (csi_dispatch groups intermediates ignore final) s.display;
+  last = None;
+}
+after call s = record { display = displayed call s.display; last = None }
+
+-- the screen after a list of calls
+abbrev pub after_all : List Call → State → State
+after_all [] s = s
+after_all (call ∷ calls) s = after_all calls (after call s)
+
+-- The bytes lead from one screen to another: by the calls that a new parser makes of them.
+abbrev pub Shows : State → List ℕ → State → Type 0
 Shows old bytes new = (calls : List Call) × AreCalls bytes calls × (new ≡ after_all calls old)

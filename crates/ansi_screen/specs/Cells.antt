@@ -6,16 +6,31 @@ use Rattle.std.specs.Prelude.{ℕ, ◌+◌, ◌-◌, min, Bool, true, false, ◌
 use Rattle.ansi_style.specs.declared.style.Style.{Style}
 use Rattle.ansi_style.specs.Style.{plain}
 use Rattle.ansi_screen.specs.declared.cell.Cell.{Cell}
+use Rattle.ansi_screen.specs.declared.cell.Marks.{Marks}
+use Rattle.ansi_screen.specs.declared.cell.Marks.TheVariants.{Unmarked, One, Two}
 use Rattle.ansi_screen.specs.declared.cell.Part.{Part}
 use Rattle.ansi_screen.specs.declared.cell.Part.TheVariants.{Whole, Left, Right}
 
+-- a character without marks
+abbrev pub plain_cell : ℕ → Style → Part → Cell
+plain_cell c style part = record { character = c; marks = Unmarked; style = style; part = part }
+
 -- What is erased shows the background that is selected, and nothing else of the style.
 abbrev pub blank : Style → Cell
-blank style = record { character = 0x20; style = record plain { background = style.background }; part = Whole }
+blank style = plain_cell 0x20 (record plain { background = style.background }) Whole
 
 -- a half of a wide character that has lost the other: a space in its own style
 abbrev pub emptied : Cell → Cell
-emptied cell = record { character = 0x20; style = cell.style; part = Whole }
+emptied cell = plain_cell 0x20 cell.style Whole
+
+-- A cell keeps two marks, as xterm does unless it is told otherwise; the others are lost.
+abbrev pub one_more : ℕ → Marks → Marks
+one_more mark Unmarked = One mark
+one_more mark (One first) = Two first mark
+one_more mark (Two first second) = Two first second
+
+abbrev pub with_mark : ℕ → Cell → Cell
+with_mark mark cell = record cell { marks = one_more mark cell.marks }
 
 abbrev pub is_right : Part → Bool
 is_right Whole = false
@@ -25,6 +40,12 @@ is_right Right = true
 -- the cell at a place; a plain blank past the end
 abbrev pub cell_at : ℕ → List Cell → Cell
 cell_at place cells = slice_index_or cells place (blank plain)
+
+-- A mark goes to the cell before a place; where that is a right half, to its left half.
+unfoldable pub marked_before : ℕ → ℕ → List Cell → List Cell
+marked_before mark place cells =
+    let at = if is_right (cell_at (place - 1) cells).part then place - 2 else place - 1 in
+    slice_set cells at (with_mark mark (cell_at at cells))
 
 -- A wide character whose right half stands at the place, so that its left half stands before
 -- it, becomes two blanks: so xterm does wherever it changes one of the halves.

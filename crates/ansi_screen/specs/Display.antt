@@ -4,6 +4,7 @@
 use Rattle.std.specs.Prelude.{◌≡◌, ℕ, zero, suc, ◌+◌, ◌*◌, ◌%◌, ◌<◌, ◌≤◌, Bool, true, false, ◌==◌, List, [], ◌∷◌, ◌++◌, length, take, drop, replicate}
 use Rattle.ansi_style.specs.Style.{plain}
 use Rattle.ansi_screen.specs.declared.cell.Cell.{Cell}
+use Rattle.ansi_screen.specs.declared.place.Charsets.{Charsets}
 use Rattle.ansi_screen.specs.declared.place.Place.{Place}
 use Rattle.ansi_screen.specs.Cells.{blank}
 
@@ -12,7 +13,7 @@ pub record Display : Type 0 where
   pub width : ℕ
   pub height : ℕ
   pub cells : List Cell
-  -- the cursor: row, column, the style of what comes next, and the origin mode (DECOM). Its
+  -- the cursor: row, column, the style of what comes next, the origin mode (DECOM) and sets. Its
   -- column is the width where the last column was printed and a wrap is pending.
   pub cursor : Place
   -- what DECSC saved
@@ -38,9 +39,13 @@ most_columns = 1000
 abbrev pub most_rows : ℕ
 most_rows = 1000
 
+-- both character sets are letters, and the first is used
+abbrev pub letters : Charsets
+letters = record { g0_draws = false; g1_draws = false; uses_g1 = false }
+
 -- the top left place, plain, counted from the screen's first row
 abbrev pub home : Place
-home = record { row = 0; column = 0; style = plain; is_relative = false }
+home = record { row = 0; column = 0; style = plain; is_relative = false; charsets = letters }
 
 -- a stop in each eighth column, of so many columns
 abbrev pub stops : ℕ → List Bool

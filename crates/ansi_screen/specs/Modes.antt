@@ -6,7 +6,7 @@ use Rattle.std.specs.Prelude.{ℕ, ◌-◌, min, max, Bool, true, false, ◌&&�
 use Rattle.ansi_style.specs.Style.{plain}
 use Rattle.ansi_style.specs.Rendition.{selected}
 use Rattle.ansi_screen.specs.Cells.{blank}
-use Rattle.ansi_screen.specs.Display.{Display, home}
+use Rattle.ansi_screen.specs.Display.{Display, home, letters}
 use Rattle.ansi_screen.specs.Moves.{to_row, to_position}
 use Rattle.ansi_screen.specs.Edits.{space}
 
@@ -17,6 +17,17 @@ with_style groups d = record d { cursor = record d.cursor { style = selected gro
 -- DECSC
 abbrev pub saving : Display → Display
 saving d = record d { saved = d.cursor }
+
+-- SO and SI: G1 is used, or G0
+abbrev pub shifted : Bool → Display → Display
+shifted on d = record d { cursor = record d.cursor { charsets = record d.cursor.charsets { uses_g1 = on } } }
+
+-- ESC ( and ESC ): G0 or G1 is the line drawing set for 0, and for all else letters
+unfoldable pub with_charset : ℕ → ℕ → Display → Display
+with_charset mark final d =
+    if mark == 0x28 then record d { cursor = record d.cursor { charsets = record d.cursor.charsets { g0_draws = final == 0x30 } } }
+    else if mark == 0x29 then record d { cursor = record d.cursor { charsets = record d.cursor.charsets { g1_draws = final == 0x30 } } }
+    else d
 
 -- in origin mode the cursor is within the margins
 abbrev pub into_margins : Display → Display
@@ -65,10 +76,10 @@ to_main d =
 unfoldable pub with_alternate : Bool → Display → Display
 with_alternate on d = if on then to_alternate d else restored (to_main d)
 
--- DECSTR: margins, modes, style and what DECSC saved as they are on a new screen; the cursor stays
+-- DECSTR: margins, modes, style, sets and what DECSC saved as they are on a new screen; the cursor stays
 unfoldable pub softly_reset : Display → Display
 softly_reset d = record d {
-  cursor = record d.cursor { style = plain; is_relative = false };
+  cursor = record d.cursor { style = plain; is_relative = false; charsets = letters };
   saved = home;
   top = 0;
   bottom = d.height;

@@ -1,8 +1,8 @@
 -- Moves of the cursor, and tabs.
 --
 -- Sources: xterm's ctlseqs; ECMA-48, 8.3 (CUU, CUD, CUF, CUB, CNL, CPL, CHA, CUP, HVP, VPA,
--- HPA, HT, HTS, TBC); the VT510 manual, for margins and the origin mode.
-use Rattle.std.specs.Prelude.{ℕ, suc, ◌+◌, ◌-◌, min, max, Bool, true, false, ◌==◌, nat_lt, List, [], ◌∷◌, drop, replicate, slice_set, length, if◌then◌else◌}
+-- HPA, HT, CHT, CBT, HTS, TBC); the VT510 manual, for margins and the origin mode.
+use Rattle.std.specs.Prelude.{ℕ, zero, suc, ◌+◌, ◌-◌, min, max, Bool, true, false, ◌==◌, nat_lt, List, [], ◌∷◌, drop, replicate, slice_index_or, slice_set, length, if◌then◌else◌}
 use Rattle.ansi_screen.specs.Display.{Display}
 
 -- to a row and to a column, at most the last
@@ -43,6 +43,24 @@ unfoldable pub tabbed : Display → Display
 tabbed d =
     if d.cursor.column == d.width then d
     else to_column (d.cursor.column + 1 + before_stop (drop (d.cursor.column + 1) d.tabs)) d
+
+-- CHT: so many of them
+abbrev pub tabbed_times : ℕ → Display → Display
+tabbed_times zero d = d
+tabbed_times (suc n) d = tabbed (tabbed_times n d)
+
+-- the last stop before a column; the first column, where there is none
+abbrev pub stop_before : ℕ → List Bool → ℕ
+stop_before zero stops = 0
+stop_before (suc column) stops = if slice_index_or stops column false then column else stop_before column stops
+
+-- CBT: so many stops back
+unfoldable pub tabbed_back : Display → Display
+tabbed_back d = to_column (stop_before d.cursor.column d.tabs) d
+
+abbrev pub back_times : ℕ → Display → Display
+back_times zero d = d
+back_times (suc n) d = tabbed_back (back_times n d)
 
 -- the cursor's column; the last, where a wrap is pending
 abbrev pub column_of : Display → ℕ

@@ -1,21 +1,24 @@
 -- Printing a character.
 --
--- Sources: xterm's ctlseqs (DECAWM, IRM); the VT510 manual, "DECAWM".
-use Rattle.std.specs.Prelude.{ℕ, ◌+◌, ◌&&◌, ◌==◌, nat_lt, List, [], ◌∷◌, if◌then◌else◌}
+-- Sources: xterm's ctlseqs (DECAWM, IRM, REP, "Designate G0 Character Set"); the VT510 manual,
+-- "DECAWM"; for line drawing the VT220's "DEC Special Graphics", in Unicode's characters.
+use Rattle.std.specs.Prelude.{ℕ, zero, suc, ◌+◌, ◌-◌, Bool, ◌==◌, nat_lt, nat_le, List, [], ◌∷◌, slice_index, if◌then◌else◌}
+use Rattle.anstyle_parse.specs.Stream.Bytes.{is_within}
 use Rattle.ansi_style.specs.declared.style.Style.{Style}
 use Rattle.ansi_screen.specs.declared.cell.Cell.{Cell}
 use Rattle.ansi_screen.specs.declared.cell.Part.TheVariants.{Whole, Left, Right}
-use Rattle.ansi_screen.specs.Cells.{change}
+use Rattle.ansi_screen.specs.declared.place.Charsets.{Charsets}
+use Rattle.ansi_screen.specs.Cells.{plain_cell, change, marked_before}
 use Rattle.ansi_screen.specs.Display.{Display, here}
 use Rattle.ansi_screen.specs.Moves.{to_column, settled}
-use Rattle.ansi_screen.specs.Edits.{index, inserted_characters}
+use Rattle.ansi_screen.specs.Edits.{with_cells, index, inserted_characters}
 use Rattle.ansi_screen.specs.Widths.{is_shown, columns}
 
 -- the cells of a character of one column, or of two
 abbrev pub glyph : ℕ → ℕ → Style → List Cell
 glyph n c style =
-    if n == 2 then record { character = c; style = style; part = Left } ∷ record { character = 0x20; style = style; part = Right } ∷ []
-    else record { character = c; style = style; part = Whole } ∷ []
+    if n == 2 then plain_cell c style Left ∷ plain_cell 0x20 style Right ∷ []
+    else plain_cell c style Whole ∷ []
 
 -- Where the row has no room for so many columns: with autowrap the cursor goes to the start of
 -- the next row, and else to the last column.
@@ -39,6 +42,38 @@ with_glyph n c d = record d {
 unfoldable pub put : ℕ → ℕ → Display → Display
 put n c d = if nat_lt d.width (d.cursor.column + n) then d else with_glyph n c (with_room n d)
 
--- what takes no column shows nothing
+-- What takes no column is a mark of the character before the cursor; in the first column it is lost.
+unfoldable pub marked : ℕ → Display → Display
+marked c d = if d.cursor.column == 0 then d else with_cells (marked_before c (here d) d.cells) d
+
+unfoldable pub shown : ℕ → Display → Display
+shown c d =
+    if columns c == 0 then marked c d
+    else put (columns c) c (wrapped (columns c) d)
+
+-- the line drawing set: what stands for 5F to 7E
+abbrev pub line_drawing : List ℕ
+line_drawing =
+    0x20 ∷ 0x25C6 ∷ 0x2592 ∷ 0x2409 ∷ 0x240C ∷ 0x240D ∷ 0x240A ∷ 0xB0
+    ∷ 0xB1 ∷ 0x2424 ∷ 0x240B ∷ 0x2518 ∷ 0x2510 ∷ 0x250C ∷ 0x2514 ∷ 0x253C
+    ∷ 0x23BA ∷ 0x23BB ∷ 0x2500 ∷ 0x23BC ∷ 0x23BD ∷ 0x251C ∷ 0x2524 ∷ 0x2534
+    ∷ 0x252C ∷ 0x2502 ∷ 0x2264 ∷ 0x2265 ∷ 0x3C0 ∷ 0x2260 ∷ 0xA3 ∷ 0xB7 ∷ []
+
+unfoldable pub drawn : ℕ → ℕ
+drawn c = if is_within 0x5F 0x7E c then slice_index line_drawing (c - 0x5F) else c
+
+-- whether the set that is used is the line drawing set
+abbrev pub draws : Charsets → Bool
+draws sets = if sets.uses_g1 then sets.g1_draws else sets.g0_draws
+
+-- A character of the stream. What has no glyph, as DEL, shows nothing.
 unfoldable pub printed : ℕ → Display → Display
-printed c d = if is_shown c && nat_lt 0 (columns c) then put (columns c) c (wrapped (columns c) d) else d
+printed c d = if is_shown c then shown (if draws d.cursor.charsets then drawn c else c) d else d
+
+-- REP prints a character again, as often as it is told and the row has room for it.
+unfoldable pub printed_again : ℕ → Display → Display
+printed_again c d = if nat_le (d.cursor.column + columns c) d.width then printed c d else d
+
+abbrev pub printed_times : ℕ → ℕ → Display → Display
+printed_times zero c d = d
+printed_times (suc n) c d = printed_again c (printed_times n c d)

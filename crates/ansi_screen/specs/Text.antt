@@ -1,23 +1,36 @@
 -- What a display shows as text: its rows, without blanks at their ends and without blank rows
 -- at the end.
-use Rattle.std.specs.Prelude.{ℕ, zero, suc, Bool, ◌&&◌, not, ◌==◌, List, [], ◌∷◌, ◌++◌, take, encode_utf8, if◌then◌else◌}
+use Rattle.std.specs.Prelude.{ℕ, zero, suc, Bool, true, false, ◌&&◌, not, ◌==◌, List, [], ◌∷◌, ◌++◌, take, encode_utf8, if◌then◌else◌}
 use Rattle.std.specs.List.{flat_map}
 use Rattle.ansi_screen.specs.declared.cell.Cell.{Cell}
+use Rattle.ansi_screen.specs.declared.cell.Marks.{Marks}
+use Rattle.ansi_screen.specs.declared.cell.Marks.TheVariants.{Unmarked, One, Two}
 use Rattle.ansi_screen.specs.Cells.{is_right}
 use Rattle.ansi_screen.specs.Display.{Display, row_cells}
 
--- a space, in whatever style
+-- the characters of no column that came behind a cell's own
+abbrev pub marks_text : Marks → List ℕ
+marks_text Unmarked = []
+marks_text (One first) = encode_utf8 first
+marks_text (Two first second) = encode_utf8 first ++ encode_utf8 second
+
+abbrev pub is_unmarked : Marks → Bool
+is_unmarked Unmarked = true
+is_unmarked (One first) = false
+is_unmarked (Two first second) = false
+
+-- a space without marks, in whatever style
 unfoldable pub is_blank : Cell → Bool
-is_blank cell = cell.character == 0x20 && not (is_right cell.part)
+is_blank cell = cell.character == 0x20 && not (is_right cell.part) && is_unmarked cell.marks
 
 -- how many cells come up to the last that is not blank, and with it
 abbrev pub used : List Cell → ℕ
 used [] = 0
 used (cell ∷ cells) = if used cells == 0 && is_blank cell then 0 else suc (used cells)
 
--- a cell's character; the right half of a wide one has none
+-- a cell's character and its marks; the right half of a wide one has none
 unfoldable pub cell_text : Cell → List ℕ
-cell_text cell = if is_right cell.part then [] else encode_utf8 cell.character
+cell_text cell = if is_right cell.part then [] else encode_utf8 cell.character ++ marks_text cell.marks
 
 -- a row, without the blanks at its end
 abbrev pub row_text : List Cell → List ℕ

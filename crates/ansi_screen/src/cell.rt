@@ -13,16 +13,52 @@ pub enum Part {
     Right,
 }
 
-/// A place of the screen: a character and its style.
+/// The characters of no column that came behind a cell's own: at most two are kept.
+#[derive(Debug, Clone, Copy, PartialEq, Eq)]
+pub enum Marks {
+    Unmarked,
+    One(char),
+    Two(char, char),
+}
+
+impl Marks {
+    ghost use Rattle.ansi_screen.specs.Cells.{one_more};
+
+    /// With one more, where there is room.
+    fn with(self, mark: char) -> Marks
+        ensures { result ≡ one_more mark self }
+    {
+        match self {
+            Marks::Unmarked => Marks::One(mark),
+            Marks::One(first) => Marks::Two(first, mark),
+            Marks::Two(first, second) => Marks::Two(first, second),
+        }
+    }
+}
+
+/// A place of the screen: a character with its marks, and its style.
 #[derive(Debug, Clone, Copy, PartialEq, Eq)]
 pub struct Cell {
     pub character: char,
+    pub marks: Marks,
     pub style: Style,
     pub part: Part,
 }
 
 impl Cell {
-    ghost use Rattle.ansi_screen.specs.Cells.{blank, emptied, is_right};
+    ghost use Rattle.ansi_screen.specs.Cells.{plain_cell, blank, emptied, is_right, with_mark};
+
+    /// A character alone.
+    pub(crate) fn unmarked(character: char, style: Style, part: Part) -> Cell
+        ensures { result ≡ plain_cell character style part }
+    {
+        Cell {
+            character,
+            marks: Marks::Unmarked,
+            style,
+            part,
+        }
+    }
 
     /// A space in the background of the style, and in nothing else of it.
     pub fn blank(style: Style) -> Cell
@@ -30,11 +66,7 @@ impl Cell {
     {
         let mut plain = Style::default();
         plain.background = style.background;
-        Cell {
-            character: ' ',
-            style: plain,
-            part: Part::Whole,
-        }
+        Cell::unmarked(' ', plain, Part::Whole)
     }
 
     /// Whether it is the right half of a wide character.
@@ -48,10 +80,16 @@ impl Cell {
     pub(crate) fn emptied(self) -> Cell
         ensures { result ≡ emptied self }
     {
+        Cell::unmarked(' ', self.style, Part::Whole)
+    }
+
+    /// With one mark more, where there is room.
+    pub(crate) fn with_mark(self, mark: char) -> Cell
+        ensures { result ≡ with_mark mark self }
+    {
         Cell {
-            character: ' ',
-            style: self.style,
-            part: Part::Whole,
+            marks: self.marks.with(mark),
+            ..self
         }
     }
 }

@@ -42,6 +42,8 @@ pub(crate) enum Move {
     Line,
     /// CUP, HVP
     Position,
+    /// CBT
+    BackTab,
 }
 
 /// What leaves a pending wrap as it is.
@@ -59,6 +61,8 @@ pub(crate) enum Setting {
     ScrollUp,
     /// SD
     ScrollDown,
+    /// CHT
+    ForwardTab,
     /// TBC
     ClearStops,
 }
@@ -88,6 +92,7 @@ impl Function {
             b'F' => Function::Moves(Move::PrecedingLine),
             b'G' => Function::Moves(Move::Column),
             b'H' => Function::Moves(Move::Position),
+            b'I' => Function::Sets(Setting::ForwardTab),
             b'J' => Function::Edits(Edit::EraseInDisplay),
             b'K' => Function::Edits(Edit::EraseInLine),
             b'L' => Function::Edits(Edit::InsertLines),
@@ -96,6 +101,7 @@ impl Function {
             b'S' => Function::Sets(Setting::ScrollUp),
             b'T' => Function::Sets(Setting::ScrollDown),
             b'X' => Function::Edits(Edit::EraseCharacters),
+            b'Z' => Function::Moves(Move::BackTab),
             b'`' => Function::Moves(Move::Column),
             b'a' => Function::Moves(Move::Forward),
             b'd' => Function::Moves(Move::Line),

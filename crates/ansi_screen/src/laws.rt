@@ -2,8 +2,7 @@
 ghost use Rattle.std.specs.Prelude.{◌≡◌, ℕ, false, List, [], ◌∷◌, ◌++◌};
 ghost use Rattle.std.specs.List.{flat_map};
 ghost use Rattle.anstyle_parse.specs.Stream.Call.{Call};
-ghost use Rattle.ansi_screen.specs.Display.{Display, fresh};
-ghost use Rattle.ansi_screen.specs.After.{after, after_all, Shows};
+ghost use Rattle.ansi_screen.specs.After.{State, new_state, after, after_all, Shows};
 ghost use Rattle.ansi_screen.specs.Laws.{reset, save, restore, AreMovesAndStyles};
 
 use crate::screen::Screen;
@@ -18,20 +17,21 @@ pub fn show(screen: &mut Screen, pieces: &[&[u8]])
 
 /// What it shows is determined: from equal screens equal bytes lead to equal screens.
 pub fn determined()
-    ensures { (old first second : Display) (bytes : List ℕ) → Shows old bytes first
+    ensures { (old first second : State) (bytes : List ℕ) → Shows old bytes first
         → Shows old bytes second → first ≡ second }
 {}
 
 /// ESC c makes every screen a new one of its size; so after it, nothing counts that came before.
 pub fn reset()
-    ensures new { (screen : Display) → after reset screen ≡ fresh screen.width screen.height }
-    ensures forgets { (a b : Display) (calls : List Call) → a.width ≡ b.width → a.height ≡ b.height
+    ensures new { (screen : State) → after reset screen ≡ new_state screen.display.width screen.display.height }
+    ensures forgets { (a b : State) (calls : List Call) → a.display.width ≡ b.display.width → a.display.height ≡ b.display.height
         → after_all (reset ∷ calls) a ≡ after_all (reset ∷ calls) b }
 {}
 
 /// ESC 7 and ESC 8 enclose moves and styles: out of origin mode, nothing of them is left.
 pub fn enclosed()
-    ensures { (screen : Display) (calls : List Call) → AreMovesAndStyles calls
-        → screen.cursor.is_relative ≡ false
-        → after_all (save ∷ (calls ++ restore ∷ [])) screen ≡ record screen { saved = screen.cursor } }
+    ensures { (screen : State) (calls : List Call) → AreMovesAndStyles calls
+        → screen.display.cursor.is_relative ≡ false
+        → (after_all (save ∷ (calls ++ restore ∷ [])) screen).display
+        ≡ record screen.display { saved = screen.display.cursor } }
 {}

@@ -6,7 +6,9 @@
 #![tactic(auto)]
 
 mod cell;
+mod display;
 mod function;
+mod grid;
 pub mod laws;
 mod place;
 mod runs;
@@ -17,6 +19,6 @@ mod tests;
 mod text;
 mod width;
 
-pub use cell::{Cell, Part};
-pub use place::Place;
+pub use cell::{Cell, Marks, Part};
+pub use place::{Charsets, Place};
 pub use screen::{MAX_COLUMNS, MAX_ROWS, MIN_COLUMNS, MIN_ROWS, Screen};

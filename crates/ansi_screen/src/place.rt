@@ -1,6 +1,16 @@
 //! A place of the cursor, and what is kept with it.
 use ansi_style::Style;
 
+/// The character sets: whether G0 and G1 are the line drawing set, in which lower case letters
+/// are lines, and which of the two is used.
+#[derive(Debug, Clone, Copy, PartialEq, Eq)]
+pub struct Charsets {
+    pub g0_draws: bool,
+    pub g1_draws: bool,
+    /// Between SO and SI.
+    pub uses_g1: bool,
+}
+
 /// Where the cursor is, and what DECSC saves with it.
 #[derive(Debug, Clone, Copy, PartialEq, Eq)]
 pub struct Place {
@@ -12,6 +22,35 @@ pub struct Place {
     pub style: Style,
     /// The origin mode: lines are counted from the upper margin.
     pub is_relative: bool,
+    pub charsets: Charsets,
+}
+
+impl Charsets {
+    ghost use Rattle.std.specs.Prelude.{◌≡◌};
+    ghost use Rattle.ansi_screen.specs.Display.{letters};
+    ghost use Rattle.ansi_screen.specs.Print.{draws};
+
+    /// Letters in both sets, and G0 is used.
+    pub(crate) fn letters() -> Charsets
+        ensures { result ≡ letters }
+    {
+        Charsets {
+            g0_draws: false,
+            g1_draws: false,
+            uses_g1: false,
+        }
+    }
+
+    /// Whether the set that is used is the line drawing set.
+    pub(crate) fn draws(self) -> bool
+        ensures { result ≡ draws self }
+    {
+        if self.uses_g1 {
+            self.g1_draws
+        } else {
+            self.g0_draws
+        }
+    }
 }
 
 impl Place {
@@ -27,6 +66,7 @@ impl Place {
             column: 0,
             style: Style::default(),
             is_relative: false,
+            charsets: Charsets::letters(),
         }
     }
 }

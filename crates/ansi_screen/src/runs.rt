@@ -1,8 +1,10 @@
-//! Edits of cells in a row, or in several: each changes the cells from one place up to another.
-ghost use Rattle.std.specs.Prelude.{◌≡◌, ◌≤◌, length};
-ghost use Rattle.ansi_screen.specs.Cells.{cut, change, erased, moved_back, moved_on, deleted, inserted};
+//! Edits of cells in a row, or in several.
+ghost use Rattle.std.specs.Prelude.{◌≡◌, ◌+◌, ◌<◌, ◌≤◌, length};
+ghost use Rattle.ansi_screen.specs.Cells.{cut, marked_before, change, erased, moved_back, moved_on, deleted, inserted};
+ghost use Rattle.ansi_screen.specs.Print.{glyph};
 
-use crate::cell::Cell;
+use crate::cell::{Cell, Part};
+use ansi_style::Style;
 
 /// Makes blanks of the halves of a wide character whose right half stands at `place`.
 #[tactic(auto, unfolding(crate::specs::Cells::cut))]
@@ -68,4 +70,56 @@ pub(crate) fn insert(cells: &mut [Cell], start: usize, end: usize, count: usize,
     cut(cells, end);
     cut(cells, start);
     move_on(&mut cells[start..end], count, blank);
+}
+
+/// A mark of the character that stands before `place`.
+#[tactic(auto, unfolding(crate::specs::Cells::marked_before))]
+pub(crate) fn mark_before(cells: &mut [Cell], place: usize, mark: char)
+    requires some { 0 < place }
+    requires within { place ≤ length cells.old }
+    ensures marked { cells.new ≡ marked_before mark place cells.old }
+    ensures length { length cells.new ≡ length cells.old }
+{
+    let last = place - 1;
+    let base = if cells[last].is_right() {
+        last.saturating_sub(1)
+    } else {
+        last
+    };
+    cells[base] = cells[base].with_mark(mark);
+}
+
+/// A character of so many columns.
+pub(crate) fn put(cells: &mut [Cell], place: usize, columns: u16, c: char, style: Style)
+    requires some { 1 ≤ columns }
+    requires few { columns ≤ 2 }
+    requires within { place + columns ≤ length cells.old }
+    ensures { cells.new ≡ change place (place + columns) (λ run. glyph columns c style) cells.old }
+{
+    if columns == 2 {
+        put_wide(cells, place, c, style);
+    } else {
+        put_narrow(cells, place, c, style);
+    }
+}
+
+/// A character of one column.
+fn put_narrow(cells: &mut [Cell], place: usize, c: char, style: Style)
+    requires { place < length cells.old }
+    ensures { cells.new ≡ change place (place + 1) (λ run. glyph 1 c style) cells.old }
+{
+    cut(cells, place + 1);
+    cut(cells, place);
+    cells[place] = Cell::unmarked(c, style, Part::Whole);
+}
+
+/// A character of two columns.
+fn put_wide(cells: &mut [Cell], place: usize, c: char, style: Style)
+    requires { place + 1 < length cells.old }
+    ensures { cells.new ≡ change place (place + 2) (λ run. glyph 2 c style) cells.old }
+{
+    cut(cells, place + 2);
+    cut(cells, place);
+    cells[place] = Cell::unmarked(c, style, Part::Left);
+    cells[place + 1] = Cell::unmarked(' ', style, Part::Right);
 }

@@ -1,16 +1,12 @@
-//! A screen in memory that is taken once.
-ghost use Rattle.std.specs.Prelude.{◌≡◌, ◌+◌, ◌*◌, ◌<◌, ◌≤◌, length, IfOk};
-
-mod edits;
-mod modes;
-mod moves;
-mod performer;
-mod print;
+//! A screen as a performer.
+ghost use Rattle.std.specs.Prelude.{◌≡◌, ◌<◌, ◌≤◌, length, IfOk};
+ghost use Rattle.ansi_screen.specs.After.{repeatable, is_repeat};
 
 use crate::cell::Cell;
+use crate::display::{Display, first_of};
 use crate::place::Place;
-use crate::tabs::reset_stops;
-use ansi_style::Style;
+use crate::width::{columns, is_shown};
+use anstyle_parse::{Params, Perform};
 use std::alloc::{AllocError, Global};
 use std::marker::Model;
 
@@ -29,70 +25,45 @@ pub const MAX_ROWS: usize = 1000;
 /// Memory is taken by [`Screen::new`] alone.
 #[derive(Drop)]
 pub struct Screen {
-    width: usize,
-    height: usize,
-    /// Row by row.
-    cells: Vec<Cell>,
-    cursor: Place,
-    /// What DECSC saved.
-    saved: Place,
-    /// The rows from `top` up to `bottom` scroll.
-    top: usize,
-    bottom: usize,
-    /// For each column, whether a tab stops there.
-    tabs: Vec<bool>,
-    /// DECAWM, IRM, DECTCEM.
-    wraps: bool,
-    inserts: bool,
-    is_visible: bool,
-    /// While the alternate screen shows: the main one's cells, and what it has saved.
-    is_alternate: bool,
-    hidden: Vec<Cell>,
-    hidden_saved: Place,
+    display: Display,
+    /// What REP repeats: the character of the call just before.
+    last: Option<char>,
 }
 
 impl Model for Screen {
-    ghost use Rattle.ansi_screen.specs.Display.{Display, IsSized};
+    ghost use Rattle.ansi_screen.specs.After.{State};
 
-    ghost Value = { Display };
+    ghost Value = { State };
 
     ghost view = { λ s. record {
-      width = s.width;
-      height = s.height;
-      cells = s.cells.items;
-      cursor = s.cursor;
-      saved = s.saved;
-      top = s.top;
-      bottom = s.bottom;
-      tabs = s.tabs.items;
-      wraps = s.wraps;
-      inserts = s.inserts;
-      is_visible = s.is_visible;
-      is_alternate = s.is_alternate;
-      hidden = s.hidden.items;
-      hidden_saved = s.hidden_saved;
+      display = s.display;
+      last = s.last;
     } };
+}
 
-    ghost invariant = { λ s. IsSized (record {
-      width = s.width;
-      height = s.height;
-      cells = s.cells.items;
-      cursor = s.cursor;
-      saved = s.saved;
-      top = s.top;
-      bottom = s.bottom;
-      tabs = s.tabs.items;
-      wraps = s.wraps;
-      inserts = s.inserts;
-      is_visible = s.is_visible;
-      is_alternate = s.is_alternate;
-      hidden = s.hidden.items;
-      hidden_saved = s.hidden_saved;
-    }) };
+/// What REP repeats behind a character.
+#[tactic(auto, unfolding(crate::specs::After::repeatable))]
+fn repeatable(c: char) -> Option<char>
+    ensures { result ≡ repeatable c }
+{
+    if is_shown(c) && columns(c) != 0 {
+        Some(c)
+    } else {
+        None
+    }
+}
+
+/// Whether a control sequence is REP.
+#[tactic(auto, unfolding(crate::specs::After::is_repeat))]
+fn is_repeat(intermediates: &[u8], ignore: bool, final_byte: u8) -> bool
+    ensures { result ≡ is_repeat intermediates.now ignore final_byte }
+{
+    intermediates.is_empty() && !ignore && final_byte == b'b'
 }
 
 impl Screen {
-    ghost use Rattle.ansi_screen.specs.Display.{fresh, IsSized, row_start, row_end, here, row_cells};
+    ghost use Rattle.ansi_screen.specs.Display.{IsSized, row_cells};
+    ghost use Rattle.ansi_screen.specs.After.{new_state};
 
     /// A blank screen of so many columns and rows, with the cursor at its top left. `Err` means
     /// that memory is wanting.
@@ -101,88 +72,108 @@ impl Screen {
         requires max_columns { columns ≤ MAX_COLUMNS }
         requires min_rows { MIN_ROWS ≤ rows }
         requires max_rows { rows ≤ MAX_ROWS }
-        ensures { IfOk result (λ screen. screen ≡ fresh columns rows) }
+        ensures { IfOk result (λ screen. screen ≡ new_state columns rows) }
     {
-        let size = rows * columns;
-        let blank = Cell::blank(Style::default());
-        let cells = Vec::from_elem(alloc, blank, size)?;
-        let hidden = Vec::from_elem(alloc, blank, size)?;
-        let mut tabs = Vec::from_elem(alloc, false, columns)?;
-        reset_stops(tabs.as_mut_slice());
+        let display = Display::new(alloc, columns, rows)?;
         Ok(Screen {
-            width: columns,
-            height: rows,
-            cells,
-            cursor: Place::home(),
-            saved: Place::home(),
-            top: 0,
-            bottom: rows,
-            tabs,
-            wraps: true,
-            inserts: false,
-            is_visible: true,
-            is_alternate: false,
-            hidden,
-            hidden_saved: Place::home(),
+            display,
+            last: None,
         })
     }
 
     /// How many columns it has.
     pub fn columns(&self) -> usize
-        ensures columns { result ≡ self.now.width }
-        ensures sized { IsSized self.now }
+        ensures columns { result ≡ self.now.display.width }
+        ensures sized { IsSized self.now.display }
     {
-        self.width
+        self.display.columns()
     }
 
     /// How many rows it has.
     pub fn rows(&self) -> usize
-        ensures rows { result ≡ self.now.height }
-        ensures sized { IsSized self.now }
+        ensures rows { result ≡ self.now.display.height }
+        ensures sized { IsSized self.now.display }
     {
-        self.height
+        self.display.rows()
     }
 
     /// The cells of a row, counted from 0.
     pub fn row(&self, row: usize) -> &[Cell]
-        requires { row < self.now.height }
-        ensures cells { result.now ≡ row_cells row self.now }
-        ensures columns { length result.now ≡ self.now.width }
+        requires { row < self.now.display.height }
+        ensures cells { result.now ≡ row_cells row self.now.display }
+        ensures columns { length result.now ≡ self.now.display.width }
     {
-        let start = row * self.width;
-        &self.cells.as_slice()[start..start + self.width]
+        self.display.row(row)
     }
 
     /// Where the cursor is, with the style of what comes next.
     pub fn cursor(&self) -> Place
-        ensures { result ≡ self.now.cursor }
+        ensures { result ≡ self.now.display.cursor }
     {
-        self.cursor
+        self.display.cursor()
     }
 
     /// Whether the cursor is shown.
     pub fn is_cursor_visible(&self) -> bool
-        ensures { result ≡ self.now.is_visible }
+        ensures { result ≡ self.now.display.is_visible }
     {
-        self.is_visible
+        self.display.is_visible()
     }
 
-    /// Where the cursor's row begins in the list of cells.
-    fn row_start(&self) -> usize
-        ensures place { result ≡ row_start self.now }
-        ensures within { row_end self.now ≤ length self.now.cells }
-        ensures limit { row_end self.now ≤ 1000000 }
+    /// What it shows.
+    pub(crate) fn display(&self) -> &Display
+        ensures { result.now ≡ self.now.display }
     {
-        self.cursor.row * self.width
+        &self.display
+    }
+}
+
+/// After each call it is what the definition says of the one before and the call.
+impl Perform for Screen {
+    ghost use Rattle.ansi_screen.specs.After.{after};
+
+    ghost means = { λ old call new. new ≡ after call old };
+
+    fn print(&mut self, c: char) {
+        self.display.print(c);
+        self.last = repeatable(c);
     }
 
-    /// Where the cursor is in the list of cells.
-    fn here(&self) -> usize
-        requires { self.now.cursor.column < self.now.width }
-        ensures place { result ≡ here self.now }
-        ensures within { row_end self.now ≤ length self.now.cells }
-        ensures limit { row_end self.now ≤ 1000000 }
-    {
-        self.row_start() + self.cursor.column
+    fn execute(&mut self, byte: u8) {
+        self.display.execute(byte);
+        self.last = None;
+    }
+
+    fn hook(&mut self, _params: &Params, _intermediates: &[u8], _ignore: bool, _action: u8) {
+        self.last = None;
+    }
+
+    fn put(&mut self, _byte: u8) {
+        self.last = None;
+    }
+
+    fn unhook(&mut self) {
+        self.last = None;
+    }
+
+    fn osc_dispatch(&mut self, _params: &[&[u8]], _bell_terminated: bool) {
+        self.last = None;
+    }
+
+    fn csi_dispatch(&mut self, params: &Params, intermediates: &[u8], ignore: bool, action: u8) {
+        if is_repeat(intermediates, ignore, action) {
+            let count = first_of(params).max(1);
+            self.display.repeat(count, self.last);
+        } else if !ignore {
+            self.display.sequence(params, intermediates, action);
+        }
+        self.last = None;
+    }
+
+    fn esc_dispatch(&mut self, intermediates: &[u8], ignore: bool, byte: u8) {
+        if !ignore {
+            self.display.designate(intermediates, byte);
+        }
+        self.last = None;
     }
 }

@@ -1,7 +1,7 @@
 //! Where tabs stop.
 ghost use Rattle.std.specs.Prelude.{◌≡◌, ◌≤◌, length};
 ghost use Rattle.ansi_screen.specs.Display.{stops};
-ghost use Rattle.ansi_screen.specs.Moves.{before_stop};
+ghost use Rattle.ansi_screen.specs.Moves.{before_stop, stop_before};
 
 /// How far apart the first stops are.
 const STEP: usize = 8;
@@ -26,4 +26,18 @@ pub(crate) fn columns_before_stop(tabs: &[bool]) -> usize
         }
     }
     tabs.len()
+}
+
+/// The last stop before the column; the first column, where there is none.
+pub(crate) fn stop_before(tabs: &[bool], column: usize) -> usize
+    requires { column ≤ length tabs.now }
+    ensures { result ≡ stop_before column tabs.now }
+{
+    let mut last = 0;
+    for before in 0..column {
+        if tabs[before] {
+            last = before;
+        }
+    }
+    last
 }

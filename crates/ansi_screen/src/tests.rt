@@ -18,8 +18,7 @@ fn place(row: usize, column: usize) -> Place {
     Place {
         row,
         column,
-        style: Style::default(),
-        is_relative: false,
+        ..Place::home()
     }
 }
 

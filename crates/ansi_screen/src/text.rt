@@ -1,18 +1,19 @@
 //! What a screen shows, as text.
 ghost use Rattle.std.specs.Prelude.{◌≡◌, ◌≤◌, ◌<◌, length};
 ghost use Rattle.anstyle_parse.specs.Io.Output.{Adds};
-ghost use Rattle.ansi_screen.specs.Text.{is_blank, used, cell_text, row_text, used_rows, rows_text, text_of};
+ghost use Rattle.ansi_screen.specs.Text.{is_blank, used, cell_text, row_text, used_rows, rows_text, text_of, marks_text};
 
-use crate::cell::Cell;
+use crate::cell::{Cell, Marks};
+use crate::display::Display;
 use crate::screen::Screen;
 use anstyle_parse::io::{Output, Sink};
 
-/// Whether the cell is a space, in whatever style.
+/// Whether the cell is a space without marks, in whatever style.
 #[tactic(auto, unfolding(crate::specs::Text::is_blank))]
 fn is_blank(cell: Cell) -> bool
     ensures { result ≡ is_blank cell }
 {
-    cell.character == ' ' && !cell.is_right()
+    cell.character == ' ' && !cell.is_right() && matches!(cell.marks, Marks::Unmarked)
 }
 
 /// How many cells come up to the last that is not blank.
@@ -29,13 +30,28 @@ fn used(cells: &[Cell]) -> usize
     used
 }
 
-/// Writes the character of a cell, unless it is a right half.
+/// Writes marks.
+fn put_marks<W: Sink>(output: &mut Output<W>, marks: Marks)
+    ensures { Adds W.Sink (marks_text marks) output.old output.new }
+{
+    match marks {
+        Marks::Unmarked => {}
+        Marks::One(first) => output.put_char(first),
+        Marks::Two(first, second) => {
+            output.put_char(first);
+            output.put_char(second);
+        }
+    }
+}
+
+/// Writes the character of a cell, unless it is a right half, and its marks.
 #[tactic(auto, unfolding(crate::specs::Text::cell_text))]
 fn put_cell<W: Sink>(output: &mut Output<W>, cell: Cell)
     ensures { Adds W.Sink (cell_text cell) output.old output.new }
 {
     if !cell.is_right() {
         output.put_char(cell.character);
+        put_marks(output, cell.marks);
     }
 }
 
@@ -49,7 +65,7 @@ fn put_row<W: Sink>(output: &mut Output<W>, cells: &[Cell])
     }
 }
 
-impl Screen {
+impl Display {
     /// How many rows come up to the last that is not blank.
     fn used_rows(&self) -> usize
         ensures used { result ≡ used_rows self.now.height self.now }
@@ -64,9 +80,8 @@ impl Screen {
         end
     }
 
-    /// Writes what the screen shows as text in UTF-8: each row without the blanks at its end,
-    /// and a line feed, without the blank rows at the end.
-    pub fn write_text<W: Sink>(&self, output: &mut Output<W>)
+    /// Writes its rows that are used.
+    fn write_rows<W: Sink>(&self, output: &mut Output<W>)
         ensures { Adds W.Sink (text_of self.now) output.old output.new }
     {
         let end = self.used_rows();
@@ -74,5 +89,15 @@ impl Screen {
             put_row(output, self.row(row));
             output.put_byte(b'\n');
         }
+    }
+}
+
+impl Screen {
+    /// Writes what the screen shows as text in UTF-8: each row without the blanks at its end,
+    /// and a line feed, without the blank rows at the end.
+    pub fn write_text<W: Sink>(&self, output: &mut Output<W>)
+        ensures { Adds W.Sink (text_of self.now.display) output.old output.new }
+    {
+        self.display().write_rows(output);
     }
 }

@@ -6,7 +6,9 @@ use crate::{
     strip_two_pieces, write_last_style,
 };
 use ansi_screen::laws::{determined, enclosed, reset, show};
-use ansi_screen::{Cell, MAX_COLUMNS, MAX_ROWS, MIN_COLUMNS, MIN_ROWS, Part, Place, Screen};
+use ansi_screen::{
+    Cell, Charsets, MAX_COLUMNS, MAX_ROWS, MIN_COLUMNS, MIN_ROWS, Marks, Part, Place, Screen,
+};
 use ansi_style::Style;
 use anstyle_parse::canon::{FromWrite, Output};
 use std::test::Fail;
@@ -70,7 +72,10 @@ fn pages(rt: HostRuntime) {
 #[test]
 fn a_screen_shows_a_stream(rt: HostRuntime) -> Result<(), Fail> {
     let mut screen = Screen::new(rt.alloc(), MIN_COLUMNS, MIN_ROWS)?;
-    show(&mut screen, &[b"a", b"\x1b[1mb"]);
+    show(
+        &mut screen,
+        &[b"a", b"\x1b[1m\x1b(0x", "\u{301}".as_bytes()],
+    );
     determined();
     enclosed();
     reset();
@@ -79,7 +84,8 @@ fn a_screen_shows_a_stream(rt: HostRuntime) -> Result<(), Fail> {
     let mut style = Style::default();
     style.bold = true;
     let cell = Cell {
-        character: 'b',
+        character: '│',
+        marks: Marks::One('\u{301}'),
         style,
         part: Part::Whole,
     };
@@ -89,6 +95,11 @@ fn a_screen_shows_a_stream(rt: HostRuntime) -> Result<(), Fail> {
         column: 2,
         style,
         is_relative: false,
+        charsets: Charsets {
+            g0_draws: true,
+            g1_draws: false,
+            uses_g1: false,
+        },
     };
     assert_eq!(rt; screen.cursor(), place);
     assert_eq!(rt; (MAX_COLUMNS, MAX_ROWS), (1000, 1000));

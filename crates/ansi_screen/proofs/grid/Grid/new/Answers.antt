@@ -1,0 +1,12 @@
+-- As many of the blanks as are shown.
+use Rattle.std.proofs.Common.{◌≡◌, ◌*◌, arith, rules}
+use Rattle.std.specs.Prelude.{replicate}
+use Rattle.std.proofs.lemmas.List.{take-replicate}
+use Rattle.ansi_style.specs.Style.{plain}
+use Rattle.ansi_screen.specs.Cells.{blank}
+use Rattle.ansi_screen.proofs.grid.Grid.new.Goals as goal
+
+pub returns : goal.returns
+returns c =
+    let all : c.in_ok-memory.memory.items ≡ replicate (2 * c.args.size) (blank plain) = search rules in
+    rw all (take-replicate c.args.size (2 * c.args.size) (blank plain) (omega arith))

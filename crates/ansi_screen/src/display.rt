@@ -1,0 +1,177 @@
+//! A terminal's display in memory that is taken once.
+ghost use Rattle.std.specs.Prelude.{◌≡◌, ◌+◌, ◌*◌, ◌<◌, ◌≤◌, length, IfOk};
+
+mod edits;
+mod modes;
+mod moves;
+mod performer;
+mod print;
+
+use crate::cell::Cell;
+use crate::grid::Grid;
+use crate::place::Place;
+use crate::screen::{MAX_COLUMNS, MAX_ROWS, MIN_COLUMNS, MIN_ROWS};
+use crate::tabs::reset_stops;
+pub(crate) use performer::first_of;
+use std::alloc::{AllocError, Global};
+use std::marker::Model;
+
+/// Cells in rows, the cursor, margins, tabs and modes, and the alternate screen.
+#[derive(Drop)]
+pub(crate) struct Display {
+    width: usize,
+    height: usize,
+    /// Row by row.
+    cells: Grid,
+    cursor: Place,
+    /// What DECSC saved.
+    saved: Place,
+    /// The rows from `top` up to `bottom` scroll.
+    top: usize,
+    bottom: usize,
+    /// For each column, whether a tab stops there.
+    tabs: Vec<bool>,
+    /// DECAWM, IRM, DECTCEM.
+    wraps: bool,
+    inserts: bool,
+    is_visible: bool,
+    /// While the alternate screen shows: the main one's cells, and what it has saved.
+    is_alternate: bool,
+    hidden: Grid,
+    hidden_saved: Place,
+}
+
+impl Model for Display {
+    ghost use Rattle.ansi_screen.specs.Display.{Display, IsSized};
+
+    ghost Value = { Display };
+
+    ghost view = { λ s. record {
+      width = s.width;
+      height = s.height;
+      cells = s.cells;
+      cursor = s.cursor;
+      saved = s.saved;
+      top = s.top;
+      bottom = s.bottom;
+      tabs = s.tabs.items;
+      wraps = s.wraps;
+      inserts = s.inserts;
+      is_visible = s.is_visible;
+      is_alternate = s.is_alternate;
+      hidden = s.hidden;
+      hidden_saved = s.hidden_saved;
+    } };
+
+    ghost invariant = { λ s. IsSized (record {
+      width = s.width;
+      height = s.height;
+      cells = s.cells;
+      cursor = s.cursor;
+      saved = s.saved;
+      top = s.top;
+      bottom = s.bottom;
+      tabs = s.tabs.items;
+      wraps = s.wraps;
+      inserts = s.inserts;
+      is_visible = s.is_visible;
+      is_alternate = s.is_alternate;
+      hidden = s.hidden;
+      hidden_saved = s.hidden_saved;
+    }) };
+}
+
+impl Display {
+    ghost use Rattle.ansi_screen.specs.Display.{fresh, IsSized, row_start, row_end, here, row_cells};
+
+    /// A blank screen of so many columns and rows, with the cursor at its top left. `Err` means
+    /// that memory is wanting.
+    pub(crate) fn new(alloc: Global, columns: usize, rows: usize) -> Result<Display, AllocError>
+        requires min_columns { MIN_COLUMNS ≤ columns }
+        requires max_columns { columns ≤ MAX_COLUMNS }
+        requires min_rows { MIN_ROWS ≤ rows }
+        requires max_rows { rows ≤ MAX_ROWS }
+        ensures { IfOk result (λ display. display ≡ fresh columns rows) }
+    {
+        let size = rows * columns;
+        let cells = Grid::new(alloc, size)?;
+        let hidden = Grid::new(alloc, size)?;
+        let mut tabs = Vec::from_elem(alloc, false, columns)?;
+        reset_stops(tabs.as_mut_slice());
+        Ok(Display {
+            width: columns,
+            height: rows,
+            cells,
+            cursor: Place::home(),
+            saved: Place::home(),
+            top: 0,
+            bottom: rows,
+            tabs,
+            wraps: true,
+            inserts: false,
+            is_visible: true,
+            is_alternate: false,
+            hidden,
+            hidden_saved: Place::home(),
+        })
+    }
+
+    /// How many columns it has.
+    pub(crate) fn columns(&self) -> usize
+        ensures columns { result ≡ self.now.width }
+        ensures sized { IsSized self.now }
+    {
+        self.width
+    }
+
+    /// How many rows it has.
+    pub(crate) fn rows(&self) -> usize
+        ensures rows { result ≡ self.now.height }
+        ensures sized { IsSized self.now }
+    {
+        self.height
+    }
+
+    /// The cells of a row, counted from 0.
+    pub(crate) fn row(&self, row: usize) -> &[Cell]
+        requires { row < self.now.height }
+        ensures cells { result.now ≡ row_cells row self.now }
+        ensures columns { length result.now ≡ self.now.width }
+    {
+        let start = row * self.width;
+        &self.cells.as_slice()[start..start + self.width]
+    }
+
+    /// Where the cursor is, with the style of what comes next.
+    pub(crate) fn cursor(&self) -> Place
+        ensures { result ≡ self.now.cursor }
+    {
+        self.cursor
+    }
+
+    /// Whether the cursor is shown.
+    pub(crate) fn is_visible(&self) -> bool
+        ensures { result ≡ self.now.is_visible }
+    {
+        self.is_visible
+    }
+
+    /// Where the cursor's row begins in the list of cells.
+    fn row_start(&self) -> usize
+        ensures place { result ≡ row_start self.now }
+        ensures within { row_end self.now ≤ length self.now.cells }
+        ensures limit { row_end self.now ≤ 1000000 }
+    {
+        self.cursor.row * self.width
+    }
+
+    /// Where the cursor is in the list of cells.
+    fn here(&self) -> usize
+        requires { self.now.cursor.column < self.now.width }
+        ensures place { result ≡ here self.now }
+        ensures within { row_end self.now ≤ length self.now.cells }
+        ensures limit { row_end self.now ≤ 1000000 }
+    {
+        self.row_start() + self.cursor.column
+    }
+}

@@ -1,0 +1,148 @@
+//! Printing a character.
+ghost use Rattle.std.specs.Prelude.{◌≡◌, ◌+◌, ◌<◌, ◌≤◌, min};
+ghost use Rattle.ansi_screen.specs.Print.{drawn, wrapped, with_room, with_glyph, put, marked, shown, printed, printed_again, printed_times};
+ghost use Rattle.ansi_screen.specs.After.{repeated};
+
+use super::Display;
+use crate::width::{columns, is_shown};
+
+/// What the line drawing set shows in place of U+005F to U+007E.
+const LINE_DRAWING: [char; 32] = [
+    ' ', '◆', '▒', '␉', '␌', '␍', '␊', '°', '±', '␤', '␋', '┘', '┐', '┌', '└', '┼', '⎺', '⎻', '─',
+    '⎼', '⎽', '├', '┤', '┴', '┬', '│', '≤', '≥', 'π', '≠', '£', '·',
+];
+
+/// What the line drawing set shows in place of a character.
+#[tactic(auto, unfolding(crate::specs::Print::drawn, anstyle_parse::specs::Stream::Bytes::is_within))]
+fn drawn(c: char) -> char
+    ensures { result ≡ drawn c }
+{
+    if '_' <= c && c <= '~' {
+        LINE_DRAWING[(u32::from(c) - 0x5F) as usize]
+    } else {
+        c
+    }
+}
+
+impl Display {
+    /// A character of the stream.
+    #[tactic(auto, unfolding(crate::specs::Print::printed))]
+    pub(crate) fn print(&mut self, c: char)
+        ensures { self.new ≡ printed c self.old }
+    {
+        if is_shown(c) {
+            let draws = self.cursor.charsets.draws();
+            self.show(if draws { drawn(c) } else { c });
+        }
+    }
+
+    /// A character that is shown.
+    #[tactic(auto, unfolding(crate::specs::Print::shown))]
+    fn show(&mut self, c: char)
+        ensures { self.new ≡ shown c self.old }
+    {
+        let columns = columns(c);
+        if columns == 0 {
+            self.mark(c);
+        } else {
+            self.wrap(columns);
+            self.put_character(columns, c);
+        }
+    }
+
+    /// A mark of the character before the cursor.
+    #[tactic(auto, unfolding(crate::specs::Print::marked))]
+    fn mark(&mut self, c: char)
+        ensures { self.new ≡ marked c self.old }
+    {
+        if 0 < self.cursor.column {
+            let here = self.row_start() + self.cursor.column;
+            self.cells.mark_before(here, c);
+        }
+    }
+
+    /// The character again, where the row has room for it.
+    #[tactic(auto, unfolding(crate::specs::Print::printed_again))]
+    fn print_again(&mut self, c: char)
+        ensures { self.new ≡ printed_again c self.old }
+    {
+        if self.cursor.column + usize::from(columns(c)) <= self.width {
+            self.print(c);
+        }
+    }
+
+    /// REP
+    fn print_times(&mut self, count: usize, c: char)
+        ensures { self.new ≡ printed_times count c self.old }
+    {
+        for _done in 0..count {
+            self.print_again(c);
+        }
+    }
+
+    /// REP, of the character that was printed just before.
+    #[tactic(auto, unfolding(crate::specs::After::repeated))]
+    pub(crate) fn repeat(&mut self, count: u16, last: Option<char>)
+        ensures { self.new ≡ repeated count last self.old }
+    {
+        if let Some(c) = last {
+            let count = usize::from(count).min(self.width);
+            self.print_times(count, c);
+        }
+    }
+
+    /// Where the row has no room for so many columns, to the next row, or to the last column.
+    #[tactic(auto, unfolding(crate::specs::Print::wrapped))]
+    fn wrap(&mut self, columns: u16)
+        ensures { self.new ≡ wrapped columns self.old }
+    {
+        if self.width < self.cursor.column + usize::from(columns) {
+            if self.wraps {
+                self.to_column(0);
+                self.index();
+            } else {
+                self.settle();
+            }
+        }
+    }
+
+    /// The character, where there is room for it.
+    #[tactic(auto, unfolding(crate::specs::Print::put))]
+    fn put_character(&mut self, columns: u16, c: char)
+        requires some { 1 ≤ columns }
+        requires few { columns ≤ 2 }
+        ensures { self.new ≡ put columns c self.old }
+    {
+        if self.cursor.column + usize::from(columns) <= self.width {
+            self.make_room(columns);
+            self.put_glyph(columns, c);
+        }
+    }
+
+    /// In insert mode the rest of the row moves.
+    #[tactic(auto, unfolding(crate::specs::Print::with_room))]
+    fn make_room(&mut self, columns: u16)
+        requires { self.old.cursor.column < self.old.width }
+        ensures room { self.new ≡ with_room columns self.old }
+        ensures width { self.new.width ≡ self.old.width }
+        ensures cursor { self.new.cursor ≡ self.old.cursor }
+    {
+        if self.inserts {
+            self.insert_characters(columns);
+        }
+    }
+
+    /// The cells of the character, and the cursor past them.
+    #[tactic(auto, unfolding(crate::specs::Print::with_glyph))]
+    fn put_glyph(&mut self, columns: u16, c: char)
+        requires some { 1 ≤ columns }
+        requires few { columns ≤ 2 }
+        requires fits { self.old.cursor.column + columns ≤ self.old.width }
+        ensures { self.new ≡ with_glyph columns c self.old }
+    {
+        let here = self.here();
+        let style = self.cursor.style;
+        self.cells.put(here, columns, c, style);
+        self.cursor.column += usize::from(columns);
+    }
+}

@@ -1,0 +1,194 @@
+//! The cells of a screen, in memory in which all of them can move on.
+ghost use Rattle.std.specs.Prelude.{◌≡◌, ◌+◌, ◌<◌, ◌≤◌, length, take, drop, replicate, IfOk};
+ghost use Rattle.ansi_style.specs.Style.{plain};
+ghost use Rattle.ansi_screen.specs.Cells.{blank, marked_before, within, change, erased, moved_back, moved_on, deleted, inserted};
+ghost use Rattle.ansi_screen.specs.Print.{glyph};
+
+use crate::cell::Cell;
+use crate::runs;
+use ansi_style::Style;
+use std::alloc::{AllocError, Global};
+use std::marker::Model;
+
+/// Cells, of which a window is shown. Where all rows scroll up, the window moves instead of them.
+#[derive(Drop)]
+pub(crate) struct Grid {
+    /// Twice as many as are shown.
+    memory: Vec<Cell>,
+    /// Where those that are shown begin.
+    start: usize,
+    /// How many are shown.
+    size: usize,
+}
+
+impl Model for Grid {
+    ghost use Rattle.std.specs.Prelude.{◌+◌, ◌≤◌, List, length, take, drop};
+    ghost use Rattle.ansi_screen.specs.declared.cell.Cell.{Cell};
+
+    ghost Value = { List Cell };
+
+    ghost view = { λ grid. take grid.size (drop grid.start grid.memory.items) };
+
+    ghost invariant = { λ grid. grid.start + grid.size ≤ length grid.memory.items };
+}
+
+impl Grid {
+    /// So many blank cells.
+    pub(crate) fn new(alloc: Global, size: usize) -> Result<Grid, AllocError>
+        requires { size ≤ 1000000 }
+        ensures { IfOk result (λ grid. grid ≡ replicate size (blank plain)) }
+    {
+        let blank = Cell::blank(Style::default());
+        let memory = Vec::from_elem(alloc, blank, 2 * size)?;
+        Ok(Grid {
+            memory,
+            start: 0,
+            size,
+        })
+    }
+
+    /// How many cells are shown.
+    pub(crate) fn len(&self) -> usize
+        ensures { result ≡ length self.now }
+    {
+        self.size
+    }
+
+    /// The cells that are shown.
+    pub(crate) fn as_slice(&self) -> &[Cell]
+        ensures { result.now ≡ self.now }
+    {
+        &self.memory.as_slice()[self.start..self.start + self.size]
+    }
+
+    /// All of them are as this one.
+    pub(crate) fn fill(&mut self, cell: Cell)
+        ensures cells { self.new ≡ replicate (length self.old) cell }
+        ensures length { length self.new ≡ length self.old }
+    {
+        self.memory.as_mut_slice()[self.start..self.start + self.size].fill(cell);
+    }
+
+    /// Blanks from `start` up to `end`.
+    pub(crate) fn erase(&mut self, start: usize, end: usize, blank: Cell)
+        requires order { start ≤ end }
+        requires within { end ≤ length self.old }
+        ensures cells { self.new ≡ change start end (erased blank) self.old }
+        ensures length { length self.new ≡ length self.old }
+    {
+        let shown = &mut self.memory.as_mut_slice()[self.start..self.start + self.size];
+        runs::erase(shown, start, end, blank);
+    }
+
+    /// Deletes cells from `start` on; those up to `end` move there.
+    pub(crate) fn delete(&mut self, start: usize, end: usize, count: usize, blank: Cell)
+        requires order { start ≤ end }
+        requires within { end ≤ length self.old }
+        ensures cells { self.new ≡ deleted count start end blank self.old }
+        ensures length { length self.new ≡ length self.old }
+    {
+        let shown = &mut self.memory.as_mut_slice()[self.start..self.start + self.size];
+        runs::delete(shown, start, end, count, blank);
+    }
+
+    /// Inserts blanks at `start`; the cells from there on move, and those past `end` are lost.
+    pub(crate) fn insert(&mut self, start: usize, end: usize, count: usize, blank: Cell)
+        requires order { start ≤ end }
+        requires within { end ≤ length self.old }
+        ensures cells { self.new ≡ inserted count start end blank self.old }
+        ensures length { length self.new ≡ length self.old }
+    {
+        let shown = &mut self.memory.as_mut_slice()[self.start..self.start + self.size];
+        runs::insert(shown, start, end, count, blank);
+    }
+
+    /// A character of so many columns.
+    pub(crate) fn put(&mut self, place: usize, columns: u16, c: char, style: Style)
+        requires some { 1 ≤ columns }
+        requires few { columns ≤ 2 }
+        requires within { place + columns ≤ length self.old }
+        ensures cells { self.new ≡ change place (place + columns) (λ run. glyph columns c style) self.old }
+        ensures length { length self.new ≡ length self.old }
+    {
+        let shown = &mut self.memory.as_mut_slice()[self.start..self.start + self.size];
+        runs::put(shown, place, columns, c, style);
+    }
+
+    /// A mark of the character that stands before `place`.
+    pub(crate) fn mark_before(&mut self, place: usize, mark: char)
+        requires some { 0 < place }
+        requires within { place ≤ length self.old }
+        ensures cells { self.new ≡ marked_before mark place self.old }
+        ensures length { length self.new ≡ length self.old }
+    {
+        let shown = &mut self.memory.as_mut_slice()[self.start..self.start + self.size];
+        runs::mark_before(shown, place, mark);
+    }
+
+    /// The cells from `first` up to `last` move on by as many as `count`; blanks come before them.
+    pub(crate) fn move_on(&mut self, first: usize, last: usize, count: usize, blank: Cell)
+        requires order { first ≤ last }
+        requires within { last ≤ length self.old }
+        ensures cells { self.new ≡ within first last (moved_on count blank) self.old }
+        ensures length { length self.new ≡ length self.old }
+    {
+        let shown = &mut self.memory.as_mut_slice()[self.start..self.start + self.size];
+        runs::move_on(&mut shown[first..last], count, blank);
+    }
+
+    /// The cells from `first` up to `last` move back by as many as `count`; blanks follow them.
+    pub(crate) fn move_back(&mut self, first: usize, last: usize, count: usize, blank: Cell)
+        requires order { first ≤ last }
+        requires within { last ≤ length self.old }
+        ensures cells { self.new ≡ within first last (moved_back count blank) self.old }
+        ensures length { length self.new ≡ length self.old }
+    {
+        if last - first == self.size && self.size <= self.memory.len() - self.size {
+            let (start, size) = (self.start, self.size);
+            self.start = go_on(self.memory.as_mut_slice(), start, size, count, blank);
+        } else {
+            let shown = &mut self.memory.as_mut_slice()[self.start..self.start + self.size];
+            runs::move_back(&mut shown[first..last], count, blank);
+        }
+    }
+}
+
+/// The window of so many cells from `start` on goes on by as many as `count`, and blanks come into
+/// it. The answer is where it begins then. Where there is no more room, all go to the front first.
+fn go_on(memory: &mut [Cell], start: usize, size: usize, count: usize, blank: Cell) -> usize
+    requires window { start + size ≤ length memory.old }
+    requires room { size + size ≤ length memory.old }
+    ensures window { result + size ≤ length memory.new }
+    ensures cells { take size (drop result memory.new) ≡ moved_back count blank (take size (drop start memory.old)) }
+{
+    let count = count.min(size);
+    let first = with_room(memory, start, size, count);
+    clear(memory, first + size, first + size + count, blank);
+    first + count
+}
+
+/// Where the window begins then: where it was, if there is room for so many cells behind it, and
+/// else at the front, to which all cells go.
+fn with_room(memory: &mut [Cell], start: usize, size: usize, count: usize) -> usize
+    requires window { start + size ≤ length memory.old }
+    requires room { size + count ≤ length memory.old }
+    ensures length { length memory.new ≡ length memory.old }
+    ensures room { result + size + count ≤ length memory.new }
+    ensures cells { take size (drop result memory.new) ≡ take size (drop start memory.old) }
+{
+    if start + size + count <= memory.len() {
+        start
+    } else {
+        memory.rotate_left(start);
+        0
+    }
+}
+
+/// Blanks from `start` up to `end`, without a look at halves of wide characters.
+fn clear(cells: &mut [Cell], start: usize, end: usize, blank: Cell)
+    requires order { start ≤ end }
+    requires within { end ≤ length cells.old }
+    ensures { cells.new ≡ within start end (erased blank) cells.old }
+{
+    cells[start..end].fill(blank);
+}

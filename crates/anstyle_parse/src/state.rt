@@ -20,17 +20,9 @@ pub fn state_change(state: State, byte: u8) -> (State, Action)
     ensures state { result.0 ≡ (change_at state byte).state }
     ensures action { result.1 ≡ (change_at state byte).action }
 {
-    let own = table::row(state)[byte as usize];
-    let cell = if own == NO_CHANGE {
-        table::row(State::Anywhere)[byte as usize]
-    } else {
-        own
-    };
+    let cell = table::row(state)[byte as usize];
     unpack(cell)
 }
-
-/// The cell of a byte that a row does not name.
-const NO_CHANGE: u8 = 0x00;
 
 /// The new state and the action of a cell.
 #[inline(always)]

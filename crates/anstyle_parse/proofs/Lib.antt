@@ -11,3 +11,4 @@ pub mod Resume
 pub mod Written
 pub mod Streams
 pub mod Headline
+pub mod Counted

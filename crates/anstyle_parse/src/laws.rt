@@ -2,9 +2,9 @@
 //!
 //! They hold of all bytes and all calls. The first is what the crate promises; of the others
 //! nearly each speaks of definitions alone, and is the contract of a function that does nothing.
-ghost use Rattle.std.specs.Prelude.{◌≡◌, ◌≤◌, ◌*◌, ◌↔◌, ℕ, List, [], ◌∷◌, ◌++◌, length, IsTrue};
+ghost use Rattle.std.specs.Prelude.{◌≡◌, ◌≤◌, ◌+◌, ◌*◌, ◌↔◌, ℕ, List, [], ◌∷◌, ◌++◌, length, min, IsTrue};
 ghost use Rattle.std.specs.Cmp.{IsEquivalence};
-ghost use Rattle.std.specs.List.{flat_map};
+ghost use Rattle.std.specs.List.{flat_map, sum_by};
 ghost use Rattle.anstyle_parse.specs.Views.Accumulator.{front_of, parser_after};
 ghost use Rattle.anstyle_parse.specs.Stream.Bytes.{escape_byte, is_cancel};
 ghost use Rattle.anstyle_parse.specs.Stream.Call.{Call, Goes};
@@ -75,6 +75,23 @@ fn take_piece<P: Perform>(parser: &mut Parser, performer: &mut P, piece: &[u8])
 /// begun and some bytes after them make them a well-formed sequence.
 pub fn front_of_a_character()
     ensures { (bytes : List ℕ) → (IsTrue (is_proper_front bytes) ↔ IsProperFront bytes) }
+{}
+
+/// A performer that counts, up to a limit.
+///
+/// Where each call adds a number of its own to a count, a list of calls adds their sum; and where
+/// each adds one, as many as they are.
+pub fn counted<P: Perform>()
+    ensures sum { (count : P → ℕ) (weight : Call → ℕ) (limit : ℕ)
+        → ((old : P) (call : Call) (new : P) → P.means old call new
+        → count new ≡ min limit (count old + weight call))
+        → (first last : P) (calls : List Call) → count first ≤ limit → Goes P.means first calls last
+        → count last ≡ min limit (count first + sum_by weight calls) }
+    ensures number { (count : P → ℕ) (limit : ℕ)
+        → ((old : P) (call : Call) (new : P) → P.means old call new
+        → count new ≡ min limit (count old + 1))
+        → (first last : P) (calls : List Call) → count first ≤ limit → Goes P.means first calls last
+        → count last ≡ min limit (count first + length calls) }
 {}
 
 /// Lawful exactly: the calls that bytes make are a lawful list, and every lawful list is made

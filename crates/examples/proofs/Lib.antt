@@ -1,1 +1,1 @@
-mod CountLemmas
+mod QuietLemmas

@@ -2,6 +2,7 @@
 ghost use Rattle.std.specs.Prelude.{◌≡◌};
 ghost use Rattle.examples.specs.Counting.{one_more, IsCountOfCalls};
 
+use anstyle_parse::laws::counted;
 use anstyle_parse::{Params, Parser, Perform, Utf8Parser};
 
 /// Counts the calls, up to the greatest `u64`.
@@ -69,5 +70,6 @@ pub fn calls_made(bytes: &[u8]) -> u64
     let mut parser = Parser::<Utf8Parser>::new();
     let mut counter = CallCounter { count: 0 };
     parser.advance_all(&mut counter, bytes);
+    counted::<CallCounter>();
     counter.count
 }

@@ -1,5 +1,5 @@
-//! Code as users write it. docs/USING.md shows `plain_text`, `counter` and
-//! `last_style`, word for word.
+//! Code as users write it. docs/USING.md shows `plain_text`, `counter`, `call_counter`
+//! and `last_style`, word for word.
 #![tactic(auto)]
 
 mod call_counter;

@@ -11,8 +11,8 @@ use anstyle_parse::io::{
 };
 use anstyle_parse::laws::{
     action_as_number, bounds, calls_are_lawful, cancelled, canonical_again, canonical_text, clones,
-    default_variants, equal_accumulators, equal_parsers, equal_texts, equal_variants, forgotten,
-    front_of_a_character, headline, lawful_exactly, replay, state_as_number,
+    counted, default_variants, equal_accumulators, equal_parsers, equal_texts, equal_variants,
+    forgotten, front_of_a_character, headline, lawful_exactly, replay, state_as_number,
 };
 use anstyle_parse::state::{Action, State, state_change};
 use anstyle_parse::{
@@ -101,6 +101,7 @@ fn names_of_the_laws(rt: HostRuntime) {
     canonical_again();
     bounds();
     canonical_text::<Memory>();
+    counted::<Style>();
     forgotten::<Utf8Parser>();
     cancelled::<Utf8Parser>();
     equal_parsers();

@@ -1,4 +1,4 @@
-use Rattle.examples.proofs.CountLemmas.{Goes-same}
+use Rattle.examples.proofs.QuietLemmas.{Goes-same}
 use Rattle.examples.proofs.quiet.stay_quiet.Goals as goal
 
 pub returns : goal.returns

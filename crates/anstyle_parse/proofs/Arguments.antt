@@ -7,4 +7,5 @@ pub mod Shown
 pub mod HeaderFold
 pub mod TextFold
 pub mod Stored
+pub mod Taken
 pub mod Written

@@ -1,6 +1,7 @@
 -- What contracts show of private fields: parameters as groups, a parser as a machine, an
 -- accumulator as the front of a character, what runs and texts lead to, a canonical writer as its output.
 pub mod Params
+pub mod Fields
 pub mod Header
 pub mod Command
 pub mod Parser

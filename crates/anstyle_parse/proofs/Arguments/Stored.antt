@@ -29,7 +29,7 @@ module _ (text lengths more : List ℕ) (parts closed : ℕ) (summed : total (ta
   pub drop_longer : drop closed (text ++ more) ≡ drop closed text ++ more
   drop_longer = drop-append-le closed text more within
 
-AreBelow-later : (limit : ℕ) (text left : List ℕ) → AreBelow limit (text ++ left) → AreBelow limit left
+pub AreBelow-later : (limit : ℕ) (text left : List ℕ) → AreBelow limit (text ++ left) → AreBelow limit left
 AreBelow-later limit [] left below = below
 AreBelow-later limit (b ∷ text) left below = AreBelow-later limit text left below.1
 

@@ -1,12 +1,16 @@
 //! The header of a sequence: its markers and intermediates, and its fields.
 ghost use Rattle.std.specs.Prelude.{◌≡◌, ◌≤◌, ⊤};
-ghost use Rattle.anstyle_parse.specs.Stream.Arguments.{max_collected};
+ghost use Rattle.anstyle_parse.specs.Stream.Arguments.{max_collected, max_field};
+ghost use Rattle.anstyle_parse.specs.Stream.Bytes.{is_within, colon, semicolon};
+ghost use Rattle.anstyle_parse.specs.Views.Fields.{number_with, TakesDigits, TakesFields};
 
 use crate::params::Params;
 use std::alloc::AllocError;
 
 /// The intermediates and markers that are kept at most.
 const MAX_INTERMEDIATES: usize = 2;
+/// The greatest number of a field: greater ones are taken for this one.
+const MAX_FIELD: u32 = 65535;
 
 /// What a header has said so far.
 #[derive(Debug, PartialEq, Eq, Drop)]
@@ -98,9 +102,30 @@ impl Header {
             self.params.extend(self.number);
             self.number = 0;
         } else {
-            let digit = u16::from(byte.saturating_sub(b'0'));
-            self.number = self.number.saturating_mul(10).saturating_add(digit);
+            self.number = with_digit(u32::from(self.number), byte) as u16;
         }
+    }
+
+    /// Takes the digits and separators at the front, as long as there is room for a field, and
+    /// answers the rest.
+    #[inline(always)]
+    pub(super) fn fields<'a>(&mut self, bytes: &'a [u8]) -> &'a [u8]
+        ensures { TakesFields (heading_of self.old) bytes.now (heading_of self.new) result.now }
+    {
+        let mut rest = bytes;
+        'fields: while !self.params.is_full() {
+            let (number, behind) = digits(self.number, rest);
+            self.number = number;
+            let Some((separator, further)) = behind.split_first() else {
+                return behind;
+            };
+            if !is_separator(*separator) {
+                return behind;
+            }
+            self.param(*separator);
+            rest = further;
+        }
+        rest
     }
 
     /// Closes the last field, which no separator ends, before a dispatch. Where 32 fields are
@@ -115,6 +140,50 @@ impl Header {
             self.params.push(self.number);
         }
     }
+}
+
+/// A digit of a field.
+#[inline(always)]
+#[tactic(auto, unfolding(crate::specs::Stream::Bytes::is_within))]
+fn is_digit(byte: u8) -> bool
+    ensures { result ≡ is_within 0x30 0x39 byte }
+{
+    matches!(byte, b'0'..=b'9')
+}
+
+/// What ends a field: `:` or `;`.
+#[inline(always)]
+#[tactic(auto, unfolding(crate::specs::Stream::Bytes::is_within))]
+fn is_separator(byte: u8) -> bool
+    ensures { result ≡ is_within colon semicolon byte }
+{
+    matches!(byte, b':'..=b';')
+}
+
+/// Takes the digits at the front into a number, and answers the rest.
+#[inline(always)]
+fn digits<'a>(number: u16, bytes: &'a [u8]) -> (u16, &'a [u8])
+    ensures { TakesDigits number bytes.now result.0 result.1.now }
+{
+    let mut value = u32::from(number);
+    let mut rest = bytes;
+    'digits: while let Some((digit, behind)) = rest.split_first() {
+        if !is_digit(*digit) {
+            break;
+        }
+        value = with_digit(value, *digit);
+        rest = behind;
+    }
+    (value as u16, rest)
+}
+
+/// The number with one digit more, as far as a field can be.
+#[inline(always)]
+fn with_digit(number: u32, digit: u8) -> u32
+    requires { number ≤ max_field }
+    ensures { result ≡ number_with number digit }
+{
+    (number * 10 + u32::from(digit.saturating_sub(b'0'))).min(MAX_FIELD)
 }
 
 /// What a header has said, for a dispatch and for a checkpoint.

@@ -3,9 +3,9 @@
 //! Each function takes what goes together at the front of the bytes and answers the rest. Its
 //! clause says that going on from where it leaves with the rest is taking all bytes one after
 //! another. A byte that is in no run goes through the table.
-ghost use Rattle.std.specs.Prelude.{◌≡◌, ◌≢◌, ◌≤◌, ◌∷◌, ◌⊎◌, IsTrue, length};
+ghost use Rattle.std.specs.Prelude.{◌≡◌, ◌≢◌, ◌≤◌, ◌-◌, ◌∷◌, ◌⊎◌, IsTrue, length};
 ghost use Rattle.std.specs.Prelude.{take};
-ghost use Rattle.anstyle_parse.specs.Stream.Bytes.{is_within, is_parameter, is_final};
+ghost use Rattle.anstyle_parse.specs.Stream.Bytes.{is_within, is_final};
 ghost use Rattle.anstyle_parse.specs.Stream.Call.{Goes};
 ghost use Rattle.anstyle_parse.specs.Machine.Table.{◌by◌, change_at};
 ghost use Rattle.anstyle_parse.specs.Stream.Items.{EachIs};
@@ -95,27 +95,31 @@ impl<C: CharAccumulator> Parser<C> {
         ensures calls { Goes P.means performer.old (calls_made C.taken self.old bytes.now) performer.new }
     {
         let mut rest = bytes;
-        'rest: while let Some((first, behind)) = rest.split_first() {
-            rest = self.take_first(performer, *first, behind);
+        'rest: while !rest.is_empty() {
+            rest = self.take_first(performer, rest);
         }
     }
 
-    /// The first byte, and those after it that go with it.
+    /// The first byte, and those after it that go with it; nothing, where there is none.
     #[inline(always)]
     pub(super) fn take_first<'a, P: Perform>(
         &mut self,
         performer: &mut P,
-        first: u8,
-        behind: &'a [u8],
+        bytes: &'a [u8],
     ) -> &'a [u8]
-        requires { CanTakeAll C.takes self.old (first ∷ behind.now) }
-        ensures { Takes C.takes C.taken P.means self.old performer.old first behind.now
+        requires { CanTakeAll C.takes self.old bytes.now }
+        ensures leads { LeadsTo C.takes C.taken P.means self.old performer.old bytes.now
             self.new performer.new result.now }
+        ensures onward { length result.now ≤ length bytes.now - 1 }
     {
+        let Some((first, behind)) = bytes.split_first() else {
+            return bytes;
+        };
+        let first = *first;
         match self.state {
             State::Ground => self.take_in_ground(performer, first, behind),
             State::Escape => self.take_after_escape(performer, first, behind),
-            State::CsiEntry | State::CsiParam => self.take_in_header(performer, first, behind),
+            State::CsiEntry | State::CsiParam => self.take_in_header(performer, bytes),
             State::OscString => self.take_in_command(performer, first, behind),
             State::DcsPassthrough => self.take_run(performer, Run::OfHookedString, first, behind),
             State::SosPmApcString | State::DcsIgnore => {
@@ -244,7 +248,7 @@ impl<C: CharAccumulator> Parser<C> {
         self.take_by_table(performer, first, behind)
     }
 
-    /// ESC, and with it the byte that begins a control sequence.
+    /// ESC, and with it a control sequence that it begins, as far as that stands here.
     #[inline(always)]
     fn take_escape<'a, P: Perform>(
         &mut self,
@@ -262,7 +266,7 @@ impl<C: CharAccumulator> Parser<C> {
         if let Some((next, rest)) = behind.split_first() {
             if *next == b'[' {
                 self.step_by_answer(performer, State::CsiEntry, Action::Nop, *next);
-                return rest;
+                return self.take_in_header(performer, rest);
             }
         }
         behind
@@ -298,15 +302,6 @@ impl<C: CharAccumulator> Parser<C> {
     }
 }
 
-/// A digit of a field, or a separator.
-#[inline(always)]
-#[tactic(auto, unfolding(crate::specs::Stream::Bytes::is_within, crate::specs::Stream::Bytes::is_parameter))]
-fn is_parameter_byte(byte: u8) -> bool
-    ensures { result ≡ is_parameter byte }
-{
-    matches!(byte, 0x30..=0x3B)
-}
-
 /// What ends a control sequence.
 #[inline(always)]
 #[tactic(auto, unfolding(crate::specs::Stream::Bytes::is_within, crate::specs::Stream::Bytes::is_final))]
@@ -320,47 +315,44 @@ fn is_final_byte(byte: u8) -> bool
 impl<C: CharAccumulator> Parser<C> {
     ghost use Rattle.anstyle_parse.specs.Views.Parser.{CanTakeAll};
 
-    /// Fields, or the end of the sequence.
+    /// Fields and the end of the sequence, as far as they stand here; or another byte.
     #[inline(always)]
-    fn take_in_header<'a, P: Perform>(
+    pub(super) fn take_in_header<'a, P: Perform>(
         &mut self,
         performer: &mut P,
-        first: u8,
-        behind: &'a [u8],
+        bytes: &'a [u8],
     ) -> &'a [u8]
         requires header { (self.old.state ≡ State.CsiEntry) ⊎ (self.old.state ≡ State.CsiParam) }
-        requires can { CanTakeAll C.takes self.old (first ∷ behind.now) }
-        ensures { Takes C.takes C.taken P.means self.old performer.old first behind.now
+        requires can { CanTakeAll C.takes self.old bytes.now }
+        ensures leads { LeadsTo C.takes C.taken P.means self.old performer.old bytes.now
             self.new performer.new result.now }
+        ensures onward { length result.now ≤ length bytes.now - 1 }
     {
-        if is_parameter_byte(first) {
-            return self.take_fields(first, behind);
+        let rest = self.take_fields(bytes);
+        match rest.split_first() {
+            Some((last, behind)) => {
+                if is_final_byte(*last) {
+                    self.step_by_answer(performer, State::Ground, Action::CsiDispatch, *last);
+                    return behind;
+                }
+                self.take_by_table(performer, *last, behind)
+            }
+            None => rest,
         }
-        if is_final_byte(first) {
-            self.step_by_answer(performer, State::Ground, Action::CsiDispatch, first);
-            return behind;
-        }
-        self.take_by_table(performer, first, behind)
     }
 
     /// The bytes of fields.
     #[inline(always)]
-    fn take_fields<'a>(&mut self, first: u8, behind: &'a [u8]) -> &'a [u8]
+    fn take_fields<'a>(&mut self, bytes: &'a [u8]) -> &'a [u8]
         requires header { (self.old.state ≡ State.CsiEntry) ⊎ (self.old.state ≡ State.CsiParam) }
-        requires parameter { IsTrue (is_parameter first) }
-        requires can { CanTakeAll C.takes self.old (first ∷ behind.now) }
-        ensures leads { LeadsQuietlyTo C.takes C.taken self.old (first ∷ behind.now) self.new result.now }
-        ensures within { length result.now ≤ length behind.now }
+        requires can { CanTakeAll C.takes self.old bytes.now }
+        ensures leads { LeadsQuietlyTo C.takes C.taken self.old bytes.now self.new result.now }
+        ensures header { (self.new.state ≡ State.CsiEntry) ⊎ (self.new.state ≡ State.CsiParam) }
+        ensures within { length result.now ≤ length bytes.now }
     {
-        self.header.param(first);
-        self.state = State::CsiParam;
-        let mut rest = behind;
-        'fields: while let Some((next, further)) = rest.split_first() {
-            if !is_parameter_byte(*next) {
-                break;
-            }
-            self.header.param(*next);
-            rest = further;
+        let rest = self.header.fields(bytes);
+        if rest.len() < bytes.len() {
+            self.state = State::CsiParam;
         }
         rest
     }

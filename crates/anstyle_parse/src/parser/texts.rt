@@ -164,7 +164,7 @@ impl Parser<Utf8Parser> {
                     }
                     None => self.take_in_ground(performer, *first, behind),
                 },
-                _ => self.take_first(performer, *first, behind),
+                _ => self.take_first(performer, rest),
             };
         }
     }

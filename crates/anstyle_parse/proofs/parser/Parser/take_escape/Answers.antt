@@ -1,9 +1,9 @@
-use Rattle.std.proofs.Common.{◌≡◌, arith, ap, ◌∙◌, sym}
-use Rattle.anstyle_parse.specs.declared.state.definitions.State.TheVariants.{Escape, Utf8}
+use Rattle.std.proofs.Common.{◌≡◌, arith, ap, ◌∙◌, sym, inl}
+use Rattle.anstyle_parse.specs.declared.state.definitions.State.TheVariants.{CsiEntry, Escape, Utf8}
 use Rattle.anstyle_parse.specs.declared.state.definitions.Action.TheVariants.{Nop}
 use Rattle.anstyle_parse.specs.Machine.Step.{Machine}
 use Rattle.anstyle_parse.specs.Views.Parser.{machine_of}
-use Rattle.anstyle_parse.proofs.Machine.Runs.{change_at-escape, change_at-introducer, state-by, LeadsTo-first, LeadsTo-byte, Takes-byte}
+use Rattle.anstyle_parse.proofs.Machine.Runs.{change_at-escape, change_at-introducer, state-by, LeadsTo-first, LeadsTo-byte, LeadsTo-trans, Takes-byte}
 use Rattle.anstyle_parse.proofs.parser.Parser.take_escape.Goals as goal
 use Rattle.anstyle_parse.proofs.parser.Parser.take_escape.Goals.{After-step_by_answer}
 
@@ -27,18 +27,39 @@ step_by_answer-requires-then-next-eq91-clause-outside g c = λ inside.
     let differ : Escape ≡ Utf8 = sym escape ∙ inside in
     absurd (cc (differ))
 
+pub take_in_header-requires-clause-header : goal.take_in_header-requires-clause-header
+take_in_header-requires-clause-header g c =
+    let n = g.C.CharAccumulator in
+    let m = machine_of c.args.self.now in
+    let escape = ap (λ (x : Machine g.row.C.Denot). x.state) c.step_by_answer.ensures.machine
+    ∙ state-by n.taken c.args.first m Escape Nop (λ h. absurd (cc (c.requires.ground, h))) (λ h. absurd (cc)) (change_at-escape m.state c.args.first c.requires.ground c.requires.escape) in
+    let second = machine_of c.step_by_answer.new.self in
+    inl (ap (λ (x : Machine g.row.C.Denot). x.state) c.step_by_answer-then-next-eq91.ensures.machine
+    ∙ state-by n.taken c.in-Some.next.now second CsiEntry Nop (λ h. absurd (cc (escape, h))) (λ h. absurd (cc))
+    (change_at-introducer second.state c.in-Some.next.now escape c.if-next-eq91.true))
+
+pub take_in_header-requires-clause-can : goal.take_in_header-requires-clause-can
+take_in_header-requires-clause-can g c =
+    let n = g.C.CharAccumulator in
+    let means = g.P.Perform.means in
+    let begun = LeadsTo-byte n.takes n.taken means c.args.self.now c.step_by_answer.new.self c.args.performer.now c.step_by_answer.new.performer
+    c.args.first c.args.behind.now c.requires.can c.step_by_answer.ensures.machine c.step_by_answer.ensures.calls in
+    (LeadsTo-first n.takes n.taken means c.in-Some.ensures.cases.0 begun
+    (λ can. LeadsTo-byte n.takes n.taken means c.step_by_answer.new.self c.step_by_answer-then-next-eq91.new.self c.step_by_answer.new.performer c.step_by_answer-then-next-eq91.new.performer
+    c.in-Some.next.now c.in-Some.rest.now can c.step_by_answer-then-next-eq91.ensures.machine c.step_by_answer-then-next-eq91.ensures.calls)).can
+
 pub returns-then-next-eq91 : goal.returns-then-next-eq91
 returns-then-next-eq91 g c =
     let n = g.C.CharAccumulator in
     let means = g.P.Perform.means in
     let begun = LeadsTo-byte n.takes n.taken means c.args.self.now c.step_by_answer.new.self c.args.performer.now c.step_by_answer.new.performer
     c.args.first c.args.behind.now c.requires.can c.step_by_answer.ensures.machine c.step_by_answer.ensures.calls in
+    let introduced = LeadsTo-first n.takes n.taken means c.in-Some.ensures.cases.0 begun
+    (λ can. LeadsTo-byte n.takes n.taken means c.step_by_answer.new.self c.step_by_answer-then-next-eq91.new.self c.step_by_answer.new.performer c.step_by_answer-then-next-eq91.new.performer
+    c.in-Some.next.now c.in-Some.rest.now can c.step_by_answer-then-next-eq91.ensures.machine c.step_by_answer-then-next-eq91.ensures.calls) in
     record {
-      leads =
-          LeadsTo-first n.takes n.taken means c.in-Some.ensures.cases.0 begun
-          (λ can. LeadsTo-byte n.takes n.taken means c.step_by_answer.new.self c.step_by_answer-then-next-eq91.new.self c.step_by_answer.new.performer c.step_by_answer-then-next-eq91.new.performer
-          c.in-Some.next.now c.in-Some.rest.now can c.step_by_answer-then-next-eq91.ensures.machine c.step_by_answer-then-next-eq91.ensures.calls);
-      within = omega (arith, c.in-Some.ensures.cases.1);
+      leads = LeadsTo-trans n.takes n.taken means introduced c.take_in_header.ensures.leads;
+      within = omega (arith, c.in-Some.ensures.cases.1, c.take_in_header.ensures.onward);
     }
 
 pub returns-else-next-eq91 : goal.returns-else-next-eq91

@@ -1,20 +1,16 @@
-use Rattle.std.proofs.Common.{◌∷◌, sym, ◌∙◌}
-use Rattle.anstyle_parse.proofs.Machine.Runs.{change_at-final, Takes-byte, LeadsTo-quiet}
+use Rattle.std.proofs.Common.{sym, ◌∙◌}
+use Rattle.anstyle_parse.proofs.Machine.Runs.{change_at-final, LeadsTo-byte, LeadsTo-first, LeadsTo-quiet}
 use Rattle.anstyle_parse.proofs.parser.Parser.take_in_header.Goals as goal
 
 pub step_by_answer-requires-clause-known : goal.step_by_answer-requires-clause-known
 step_by_answer-requires-clause-known g c =
-    change_at-final c.args.self.now.state c.args.first c.requires.header (sym c.is_final_byte.ensures ∙ c.if-is_final_byte.true)
+    change_at-final c.take_fields-rest.new.self.state c.in-Some.last.now c.take_fields-rest.ensures.header (sym c.is_final_byte.ensures ∙ c.if-is_final_byte.true)
 
-pub returns-then-is_final_byte : goal.returns-then-is_final_byte
-returns-then-is_final_byte g c =
-    Takes-byte g.C.CharAccumulator.takes g.C.CharAccumulator.taken g.P.Perform.means c.args.self.now c.step_by_answer.new.self c.args.performer.now c.step_by_answer.new.performer
-    c.args.first c.args.behind.now c.requires.can c.step_by_answer.ensures.machine c.step_by_answer.ensures.calls
-
-pub returns-then-is_parameter_byte : goal.returns-then-is_parameter_byte
-returns-then-is_parameter_byte g c =
-    record {
-      leads = LeadsTo-quiet g.C.CharAccumulator.takes g.C.CharAccumulator.taken g.P.Perform.means c.args.self.now c.take_fields.new.self c.args.performer.now
-          (c.args.first ∷ c.args.behind.now) c.take_fields.result.now c.take_fields.ensures.leads;
-      within = c.take_fields.ensures.within;
-    }
+pub returns-then-is_final_byte-clause-leads : goal.returns-then-is_final_byte-clause-leads
+returns-then-is_final_byte-clause-leads g c =
+    let n = g.C.CharAccumulator in
+    let means = g.P.Perform.means in
+    let fields = LeadsTo-quiet n.takes n.taken means c.args.self.now c.take_fields-rest.new.self c.args.performer.now c.args.bytes.now c.take_fields-rest.result.now c.take_fields-rest.ensures.leads in
+    LeadsTo-first n.takes n.taken means c.in-Some.ensures.cases.0 fields
+    (λ can. LeadsTo-byte n.takes n.taken means c.take_fields-rest.new.self c.step_by_answer.new.self c.args.performer.now c.step_by_answer.new.performer
+    c.in-Some.last.now c.in-Some.behind.now can c.step_by_answer.ensures.machine c.step_by_answer.ensures.calls)

@@ -1,4 +1,4 @@
-use Rattle.std.proofs.Common.{inl}
+use Rattle.std.proofs.Common.{inl, refl}
 use Rattle.anstyle_parse.proofs.Machine.Texts.{LeadsByTextTo-run, LeadsByTextTo-text}
 use Rattle.anstyle_parse.proofs.parser.texts.Parser+Utf8Parser.take_texts.Goals as goal
 
@@ -25,4 +25,4 @@ pub rest-preserved : goal.rest-preserved
 rest-preserved g c =
     let n = g.P.PerformText in
     let m = g.met.P.PerformText in
-    LeadsByTextTo-run g.P.Perform.means n.receives m.receives_none m.receives_one m.receives_more c.in-Some.ensures.cases.0 c.rest.invariant c.take_first-rest.ensures.leads
+    LeadsByTextTo-run g.P.Perform.means n.receives m.receives_none m.receives_one m.receives_more refl c.rest.invariant c.take_first-rest.ensures.leads

@@ -23,8 +23,6 @@ ghost use Rattle.ansi_html.specs.Grammar.{IsFragment};
 
 mod css;
 mod performer;
-#[cfg(test)]
-mod tests;
 
 use anstyle_parse::canon::{Fault, Output, Sink, Source, write_calls_between};
 pub use performer::HtmlWriter;

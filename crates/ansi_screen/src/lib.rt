@@ -14,8 +14,6 @@ mod place;
 mod runs;
 mod screen;
 mod tabs;
-#[cfg(test)]
-mod tests;
 mod text;
 mod width;
 

@@ -14,8 +14,6 @@ ghost use Rattle.ansi_strip.specs.Strip.{stripped};
 
 pub mod laws;
 mod performer;
-#[cfg(test)]
-mod tests;
 
 use anstyle_parse::canon::{Fault, Sink, Source, write_calls};
 pub use performer::{Stripper, is_layout};

@@ -16,7 +16,5 @@ mod codes;
 pub mod laws;
 mod select;
 mod style;
-#[cfg(test)]
-mod tests;
 
 pub use style::{Color, Hue, Style, Underline};

@@ -16,8 +16,6 @@ pub mod laws;
 mod saved;
 mod slice_writer;
 mod state;
-#[cfg(test)]
-mod tests;
 
 pub use feeding::{Fed, LEAST_ROOM};
 pub use state::StreamState;

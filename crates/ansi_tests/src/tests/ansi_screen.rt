@@ -1,6 +1,6 @@
 //! What the text of a screen does not say: styles, halves, the cursor. Rows of text stand in
 //! tests/screen_twin.
-use crate::{Part, Place, Screen};
+use ansi_screen::{Part, Place, Screen};
 use ansi_style::{Color, Hue, Style};
 use anstyle_parse::{Parser, Utf8Parser};
 use std::alloc::{AllocError, Global};

@@ -1,6 +1,6 @@
 //! HTML worked by hand: clauses say that it is read back, and not that it has as few spans as
 //! these rows, nor that the definitions' colours and declarations are those of CSS and xterm.
-use crate::convert;
+use ansi_html::convert;
 use anstyle_parse::canon::{FromRead, FromWrite};
 use std::alloc::Global;
 use std::process::Abort;

@@ -1,7 +1,7 @@
 //! Worked rows, which say of the definition what no clause can: that this is what one wants left.
 //! More stand in `tests/expected.py`.
 
-use crate::strip;
+use ansi_strip::strip;
 use anstyle_parse::canon::{FromRead, FromWrite};
 use std::process::Abort;
 

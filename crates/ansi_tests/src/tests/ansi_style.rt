@@ -1,6 +1,6 @@
 //! Selections worked by hand from ECMA-48, T.416 and xterm's ctlseqs: no clause says that the
 //! definitions' table is theirs.
-use crate::{Color, Hue, Style, Underline};
+use ansi_style::{Color, Hue, Style, Underline};
 use anstyle_parse::canon::{FromWrite, Output};
 use anstyle_parse::{Parser, Utf8Parser};
 use std::test::Fail;

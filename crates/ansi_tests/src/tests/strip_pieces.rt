@@ -1,6 +1,6 @@
 //! Streams in pieces of every size, with every room: that every call goes on, and what is left,
 //! worked by hand. No clause says that these rows are what one wants left.
-use crate::{LEAST_ROOM, StreamState};
+use strip_pieces::{LEAST_ROOM, StreamState};
 use std::process::Abort;
 
 /// Streams with what is left of them.

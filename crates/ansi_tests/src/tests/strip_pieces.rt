@@ -1,7 +1,7 @@
 //! Streams in pieces of every size, with every room: that every call goes on, and what is left,
 //! worked by hand. No clause says that these rows are what one wants left.
-use strip_pieces::{LEAST_ROOM, StreamState};
 use std::process::Abort;
+use strip_pieces::{LEAST_ROOM, StreamState};
 
 /// Streams with what is left of them.
 const ROWS: [(&[u8], &[u8]); 6] = [

@@ -78,6 +78,9 @@ def record(command, keys, seconds):
 
 
 def main():
+    if sys.argv[1:] == ["--help"]:
+        print(__doc__.strip())
+        return
     if len(sys.argv) < 2 or sys.argv[1].startswith("-"):
         sys.exit(__doc__)
     folder, names = sys.argv[1], sys.argv[2:] or list(PROGRAMS)

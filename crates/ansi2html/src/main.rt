@@ -8,7 +8,7 @@ mod words;
 
 use ansi_html::convert;
 use anstyle_parse::canon::FromRead;
-use standard_streams::{answered, asked_of, buffered, ended, failed, given_words};
+use standard_streams::{answered, asked_of, buffered, ended_with_reason, failed, given_words};
 use std::process::ExitCode;
 use words::{HELP, OPTIONS, form, title};
 
@@ -33,5 +33,5 @@ fn main(rt: HostRuntime) -> ExitCode {
         buffered(rt.stdout()),
         form.tail(),
     );
-    ended(&rt, PROGRAM, ran)
+    ended_with_reason(&rt, PROGRAM, reader, ran)
 }

@@ -9,7 +9,7 @@ use ansi_screen::Screen;
 use anstyle_parse::io::{Fault, FromRead, Output, Source};
 use anstyle_parse::{Parser, Utf8Parser};
 use standard_streams::{
-    answered, asked_of, buffered, ended, failed, given_words, misused, value_of,
+    answered, asked_of, buffered, ended_with_reason, failed, given_words, misused, value_of,
 };
 use std::process::ExitCode;
 use words::{HELP, OPTIONS, SIZE, WRONG_SIZE, named_size};
@@ -33,11 +33,12 @@ fn main(rt: HostRuntime) -> ExitCode {
     let Ok(mut screen) = Screen::new(rt.alloc(), size.columns, size.rows) else {
         return failed(&rt, PROGRAM, "out of memory");
     };
-    let read = read_all(&mut FromRead::new(rt.stdin()), &mut screen);
+    let mut reader = FromRead::new(rt.stdin());
+    let read = read_all(&mut reader, &mut screen);
     let mut output = Output::new(buffered(rt.stdout()));
     screen.write_text(&mut output);
     let (writer, answer) = output.finish();
-    ended(&rt, PROGRAM, (writer, read.and(answer)))
+    ended_with_reason(&rt, PROGRAM, reader, (writer, read.and(answer)))
 }
 
 /// Gives the screen what the reader gives, through a new parser.

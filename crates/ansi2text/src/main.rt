@@ -6,7 +6,7 @@ mod tests;
 
 use ansi_strip::strip;
 use anstyle_parse::canon::FromRead;
-use standard_streams::{answered, asked_of, buffered, ended, failed, given_words};
+use standard_streams::{answered, asked_of, buffered, ended_with_reason, failed, given_words};
 use std::process::ExitCode;
 
 /// The name at the front of what the program says of failures.
@@ -35,5 +35,6 @@ fn main(rt: HostRuntime) -> ExitCode {
         return answered(&rt, PROGRAM, HELP, request);
     }
     let mut reader = FromRead::new(rt.stdin());
-    ended(&rt, PROGRAM, strip(&mut reader, buffered(rt.stdout())))
+    let ran = strip(&mut reader, buffered(rt.stdout()));
+    ended_with_reason(&rt, PROGRAM, reader, ran)
 }

@@ -112,3 +112,31 @@ fn two_rows(rt: HostRuntime) {
         assert_eq!(rt; paper.text.as_slice(), b"\x61".as_slice(), "{error:?}");
     }
 }
+
+/// The error that reader and writer keep is that of the call that failed, of whatever kind.
+#[test]
+fn errors(rt: HostRuntime) {
+    for error in [ErrorKind::Other, ErrorKind::Interrupted] {
+        let mut tape = Tape::by_byte(COLOURED);
+        tape.fails_at = 7;
+        tape.error = error;
+        let mut reader = FromRead::new(tape);
+        let (writer, _) = strip(&mut reader, FromWrite::new(Paper::new(rt.alloc())));
+        assert_eq!(rt; reader.error().map(|it| it.kind()), Some(error));
+        assert!(rt; writer.error().is_none());
+        let mut paper = Paper::new(rt.alloc());
+        paper.flush_error = Some(error);
+        let mut reader = FromRead::new(Tape::by_byte(COLOURED));
+        let (writer, _) = strip(&mut reader, FromWrite::new(paper));
+        assert_eq!(rt; writer.error().map(|it| it.kind()), Some(error));
+        assert!(rt; reader.error().is_none());
+    }
+    for trouble in TROUBLES {
+        for paper in narrow_papers(rt.alloc(), 1, trouble) {
+            let mut reader = FromRead::new(Tape::by_byte(COLOURED));
+            let (writer, _) = strip(&mut reader, FromWrite::new(paper));
+            let kind = trouble.unwrap_or(ErrorKind::WriteZero);
+            assert_eq!(rt; writer.error().map(|it| it.kind()), Some(kind));
+        }
+    }
+}

@@ -7,6 +7,8 @@ use Rattle.std.specs.Option.{option_or}
 use Rattle.std.specs.List.{list_any, find, starts_with, ends_with}
 use Rattle.standard_streams.specs.declared.options.Request.{Request}
 use Rattle.standard_streams.specs.declared.options.Request.TheVariants.{Help, Version, Unknown}
+use Rattle.std.specs.declared.io.Error.{Error}
+use Rattle.standard_streams.specs.Words.{status_of}
 use denote.Ref.{Bor}
 
 -- the texts that references are to
@@ -33,11 +35,11 @@ abbrev pub Asks : (options words : List (List ℕ)) → Option Request → Type 
 Asks options words asked =
     MatchOption (find (λ word. not (is_one_of options word)) words) (asked ≡ None) (λ word. (request : Request) × (asked ≡ Some request) × Means word request)
 
--- The status of a program that was asked this: 0 where it could be answered and else 1, and 2 for
--- a word that it doesn't know.
+-- The status of a program that was asked this: 2 for a word that it doesn't know; else 0, or that of
+-- an output that failed.
 abbrev pub AnswersWith : Request → (status : ℕ) → Type 0
 AnswersWith (Unknown word) status = status ≡ 2
-AnswersWith _ status = (status ≡ 0) ⊎ (status ≡ 1)
+AnswersWith _ status = (status ≡ 0) ⊎ ((error : Error) × (status ≡ status_of (Some error)))
 
 -- what follows an option, where a word begins with it
 abbrev pub after_option : (option word : List ℕ) → Option (List ℕ)

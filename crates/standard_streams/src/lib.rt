@@ -1,21 +1,25 @@
 //! What the programs that filter standard input share: how they write, and how they end.
 #![tactic(auto)]
 
-ghost use Rattle.std.specs.Prelude.{◌≡◌, [], false, OnOk, OnErr};
+ghost use Rattle.std.specs.Prelude.{◌≡◌, [], false, OnOk, OnErr, IfErr};
 ghost use Rattle.std.specs.Process.{exit_status};
 ghost use Rattle.anstyle_parse.specs.Io.Buffer.{writer_behind, held_back, is_by_line};
-ghost use Rattle.anstyle_parse.specs.Io.Devices.{writer_of, writer_failed};
-ghost use Rattle.standard_streams.specs.Words.{message_of};
+ghost use Rattle.anstyle_parse.specs.Io.Devices.{writer_of, writer_error, writer_failed};
+ghost use Rattle.standard_streams.specs.Words.{message_of, is_broken_pipe, status_of, status_after};
 
 mod options;
 
-use anstyle_parse::io::{Buffer, Fault, FromWrite, Sink};
+use anstyle_parse::io::{Buffer, Fault, FromRead, FromWrite, Sink};
 pub use options::{Request, VERSION, answered, asked_of, given_words, value_of};
-use std::io::{IsTerminal, Write};
+use std::io;
+use std::io::{ErrorKind, IsTerminal, Read, Write};
 use std::process::ExitCode;
 
 /// The status of a program that failed.
 const FAILED: u8 = 1;
+
+/// The status of a program whose output nobody reads any more: 128 and the number of SIGPIPE.
+const READER_GONE: u8 = 141;
 
 /// The status of a program whose arguments say nothing that it knows.
 const MISUSED: u8 = 2;
@@ -70,6 +74,62 @@ pub fn ended<W: Sink + Drop>(
     match answer {
         Ok(()) => ExitCode::SUCCESS,
         Err(fault) => failed(rt, program, message(output.fault_behind(fault))),
+    }
+}
+
+/// The same, which says on standard error why: the words of the error of std after the fault's. Where
+/// nobody reads the output any more it says nothing and the status is 141, as of a program that
+/// SIGPIPE has ended.
+pub fn ended_with_reason<R: Read + Drop, W: Write + Drop>(
+    rt: &impl Eprint,
+    program: &str,
+    reader: FromRead<R>,
+    ran: (Buffer<FromWrite<W>>, Result<(), Fault>),
+) -> ExitCode
+    ensures went_well { OnOk ran.1 (exit_status result ≡ 0) }
+    ensures fault { IfErr ran.1
+        (λ fault. exit_status result ≡ status_after fault (writer_error (writer_behind ran.0))) }
+{
+    let (output, answer) = ran;
+    match answer {
+        Ok(()) => ExitCode::SUCCESS,
+        Err(Fault::Read) => reported(rt, program, message(Fault::Read), reader.error()),
+        Err(fault) => {
+            let what = message(output.fault_behind(fault));
+            let writer = output.into_inner();
+            output_failed(rt, program, what, writer.error())
+        }
+    }
+}
+
+/// The end of a program whose output failed with this error, if it is known.
+fn output_failed(rt: &impl Eprint, program: &str, what: &str, error: Option<io::Error>) -> ExitCode
+    ensures { exit_status result ≡ status_of error }
+{
+    match error {
+        Some(error) if is_broken_pipe(error.kind()) => ExitCode::from(READER_GONE),
+        _ => reported(rt, program, what, error),
+    }
+}
+
+/// Whether an error of this kind says that nobody reads the output any more.
+fn is_broken_pipe(kind: ErrorKind) -> bool
+    ensures { result ≡ is_broken_pipe kind }
+{
+    matches!(kind, ErrorKind::BrokenPipe)
+}
+
+/// Writes a line on standard error, the program's name, what failed and the words of the error,
+/// where there is one, and answers status 1. Where that can't be written nothing is done about it.
+fn reported(rt: &impl Eprint, program: &str, what: &str, error: Option<io::Error>) -> ExitCode
+    ensures { exit_status result ≡ 1 }
+{
+    match error {
+        None => failed(rt, program, what),
+        Some(error) => {
+            let _ = eprintln!(rt; "{program}: {what}: {error}");
+            ExitCode::from(FAILED)
+        }
     }
 }
 

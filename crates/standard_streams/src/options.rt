@@ -3,7 +3,8 @@ ghost use Rattle.std.specs.Prelude.{◌≡◌, map, string_bytes, option_copied}
 ghost use Rattle.std.specs.Process.{exit_status};
 ghost use Rattle.standard_streams.specs.Options.{texts, is_option, is_one_of, Asks, Means, AnswersWith, after_option, last_value};
 
-use crate::{MISUSED, failed};
+use crate::{MISUSED, message, output_failed};
+use anstyle_parse::io::Fault;
 use std::io;
 use std::process::ExitCode;
 use std::rt::Env;
@@ -89,8 +90,9 @@ fn after<'a>(word: &'a str, option: &str) -> Option<&'a str>
 }
 
 /// The end of a program whose words ask for this: `help` is what it says of itself. Standard input
-/// is not read. The status is 0, or where standard output does not take the answer 1, and 2
-/// for a word that the program doesn't know, which a line on standard error shows.
+/// is not read. The status is 0, or where standard output does not take the answer as
+/// [`ended_with_reason`](crate::ended_with_reason) has it, and 2 for a word that the program
+/// doesn't know, which a line on standard error shows.
 pub fn answered(
     rt: &(impl Print + Eprint),
     program: &str,
@@ -106,7 +108,7 @@ pub fn answered(
     };
     match printed {
         Ok(()) => ExitCode::SUCCESS,
-        Err(_) => failed(rt, program, "write failed"),
+        Err(error) => output_failed(rt, program, message(Fault::Write), Some(error)),
     }
 }
 

@@ -1,11 +1,13 @@
 //! Where bytes come from, and where they go.
 ghost use Rattle.std.specs.Prelude.{◌≡◌, ◌<◌, ◌≤◌, ℕ, Bool, true, false, List, Option, None, Some, length, take, IsTrue, IfSome, IfNone, OnSome, ⊤};
 ghost use Rattle.std.specs.Bool.{OnTrue, OnFalse};
+ghost use Rattle.std.specs.Option.{option_or};
 ghost use Rattle.std.specs.Io.KnownBytes.{Keeps, Appends, Consumes, IsAtEnd};
 ghost use Rattle.anstyle_parse.specs.declared.io.Fault.{Fault as AFault};
 ghost use Rattle.anstyle_parse.specs.declared.io.Fault.TheVariants.{Write as AWrite, Flush as AFlush};
 
 use super::Fault;
+use std::io;
 use std::io::{Read, Write};
 
 /// Gives bytes.
@@ -78,21 +80,19 @@ pub trait Sink {
 #[derive(Drop)]
 pub struct FromRead<R> {
     inner: R,
-    failed: bool,
+    /// The error of the first read that failed.
+    error: Option<io::Error>,
 }
 
 impl<R: Read> FromRead<R> {
-    ghost use Rattle.anstyle_parse.specs.Io.Devices.{reader_of, reader_failed};
+    ghost use Rattle.anstyle_parse.specs.Io.Devices.{reader_of, reader_error, reader_failed};
 
     /// The reader, which has not failed so far.
     pub fn new(inner: R) -> FromRead<R>
         ensures inner { reader_of result ≡ inner }
         ensures not_failed { reader_failed result ≡ false }
     {
-        FromRead {
-            inner,
-            failed: false,
-        }
+        FromRead { inner, error: None }
     }
 
     /// The reader as it stands.
@@ -100,6 +100,24 @@ impl<R: Read> FromRead<R> {
         ensures { result ≡ reader_of self }
     {
         self.inner
+    }
+
+    /// The error of the first read that failed.
+    pub fn error(&self) -> Option<io::Error>
+        ensures { result ≡ reader_error self.now }
+    {
+        self.error
+    }
+
+    /// Keeps the error of a read that failed, where it is the first.
+    fn keep(&mut self, error: io::Error)
+        ensures inner { reader_of self.new ≡ reader_of self.old }
+        ensures first { reader_error self.new ≡ option_or (reader_error self.old) (Some error) }
+        ensures failed { IsTrue (reader_failed self.new) }
+    {
+        if self.error.is_none() {
+            self.error = Some(error);
+        }
     }
 }
 
@@ -115,8 +133,8 @@ impl<R: Read> Source for FromRead<R> {
     fn read(&mut self, into: &mut [u8]) -> Option<usize> {
         match self.inner.read(into) {
             Ok(count) => Some(count),
-            Err(_) => {
-                self.failed = true;
+            Err(error) => {
+                self.keep(error);
                 None
             }
         }
@@ -130,17 +148,24 @@ pub struct FromWrite<W> {
     inner: W,
     /// What the last call that failed was.
     fault: Option<Fault>,
+    /// The error of the first call that failed.
+    error: Option<io::Error>,
 }
 
 impl<W: Write> FromWrite<W> {
-    ghost use Rattle.anstyle_parse.specs.Io.Devices.{writer_of, writer_fault, writer_failed};
+    ghost use Rattle.anstyle_parse.specs.Io.Devices.{writer_of, writer_fault, writer_error, writer_failed};
 
     /// The writer, which has not failed so far.
     pub fn new(inner: W) -> FromWrite<W>
         ensures inner { writer_of result ≡ inner }
         ensures not_failed { writer_fault result ≡ None }
+        ensures no_error { writer_error result ≡ None }
     {
-        FromWrite { inner, fault: None }
+        FromWrite {
+            inner,
+            fault: None,
+            error: None,
+        }
     }
 
     /// The writer as it stands. Nothing is flushed.
@@ -148,6 +173,26 @@ impl<W: Write> FromWrite<W> {
         ensures { result ≡ writer_of self }
     {
         self.inner
+    }
+
+    /// The error of the first write or flush that failed. That of a write which took none of some
+    /// bytes is of the kind `WriteZero`.
+    pub fn error(&self) -> Option<io::Error>
+        ensures { result ≡ writer_error self.now }
+    {
+        self.error
+    }
+
+    /// Keeps what a call that failed was, and its error where it is the first.
+    fn keep(&mut self, fault: Fault, error: io::Error)
+        ensures inner { writer_of self.new ≡ writer_of self.old }
+        ensures fault { writer_fault self.new ≡ Some fault }
+        ensures first { writer_error self.new ≡ option_or (writer_error self.old) (Some error) }
+    {
+        self.fault = Some(fault);
+        if self.error.is_none() {
+            self.error = Some(error);
+        }
     }
 }
 
@@ -163,8 +208,12 @@ impl<W: Write> Sink for FromWrite<W> {
     fn write(&mut self, bytes: &[u8]) -> Option<usize> {
         match self.inner.write(bytes) {
             Ok(count) if count > 0 || bytes.is_empty() => Some(count),
-            _ => {
-                self.fault = Some(Fault::Write);
+            Ok(_) => {
+                self.keep(Fault::Write, io::Error::from(io::ErrorKind::WriteZero));
+                None
+            }
+            Err(error) => {
+                self.keep(Fault::Write, error);
                 None
             }
         }
@@ -173,8 +222,8 @@ impl<W: Write> Sink for FromWrite<W> {
     fn flush(&mut self) -> bool {
         match self.inner.flush() {
             Ok(()) => true,
-            Err(_) => {
-                self.fault = Some(Fault::Flush);
+            Err(error) => {
+                self.keep(Fault::Flush, error);
                 false
             }
         }

@@ -20,8 +20,8 @@ use anstyle_parse::{
     PerformText, Taken, Utf8Parser,
 };
 use standard_streams::{
-    Request, VERSION, answered, asked_of, buffered, ended, failed, given_words, message, misused,
-    value_of,
+    Request, VERSION, answered, asked_of, buffered, ended, ended_with_reason, failed, given_words,
+    message, misused, value_of,
 };
 use std::alloc::Global;
 use std::fmt::Debug;
@@ -244,14 +244,16 @@ fn memory(alloc: Global) -> Memory {
 pub fn names_of_standard_streams<W: Write + IsTerminal + Drop>(
     rt: &impl Eprint,
     output: W,
-    other: W,
-) -> (Buffer<FromWrite<W>>, [ExitCode; 3]) {
+    [other, last]: [W; 2],
+) -> (Buffer<FromWrite<W>>, [ExitCode; 4]) {
     let ran = (buffered(other), Err(Fault::Read));
+    let reader = FromRead::new(b"".as_slice());
     (
         buffered(output),
         [
             failed(rt, "", message(Fault::Read)),
             ended(rt, "", ran),
+            ended_with_reason(rt, "", reader, (buffered(last), Ok(()))),
             misused(rt, ""),
         ],
     )

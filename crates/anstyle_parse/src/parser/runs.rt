@@ -117,7 +117,7 @@ impl<C: CharAccumulator> Parser<C> {
         };
         let first = *first;
         match self.state {
-            State::Ground => self.take_in_ground(performer, first, behind),
+            State::Ground => self.take_in_ground(performer, bytes),
             State::Escape => self.take_after_escape(performer, first, behind),
             State::CsiEntry | State::CsiParam => self.take_in_header(performer, bytes),
             State::OscString => self.take_in_command(performer, first, behind),
@@ -218,19 +218,23 @@ impl<C: CharAccumulator> Parser<C> {
 impl<C: CharAccumulator> Parser<C> {
     ghost use Rattle.anstyle_parse.specs.Views.Parser.{CanTakeAll};
 
-    /// Printed bytes, a whole character, or a sequence that begins.
+    /// Printed bytes, whole characters, or a sequence that begins.
     #[inline(always)]
     pub(super) fn take_in_ground<'a, P: Perform>(
         &mut self,
         performer: &mut P,
-        first: u8,
-        behind: &'a [u8],
+        bytes: &'a [u8],
     ) -> &'a [u8]
         requires ground { self.old.state ≡ State.Ground }
-        requires can { CanTakeAll C.takes self.old (first ∷ behind.now) }
-        ensures { Takes C.takes C.taken P.means self.old performer.old first behind.now
+        requires can { CanTakeAll C.takes self.old bytes.now }
+        ensures leads { LeadsTo C.takes C.taken P.means self.old performer.old bytes.now
             self.new performer.new result.now }
+        ensures onward { length result.now ≤ length bytes.now - 1 }
     {
+        let Some((first, behind)) = bytes.split_first() else {
+            return bytes;
+        };
+        let first = *first;
         if Run::Printed.has(first) {
             return self.take_run(performer, Run::Printed, first, behind);
         }
@@ -241,11 +245,34 @@ impl<C: CharAccumulator> Parser<C> {
             self.step_by_answer(performer, State::Anywhere, Action::Execute, first);
             return behind;
         }
-        if let Some((c, rest)) = self.accumulator.whole(first, behind) {
-            performer.print(c);
+        let rest = self.take_characters(performer, bytes);
+        if rest.len() < bytes.len() {
             return rest;
         }
-        self.take_by_table(performer, first, behind)
+        let Some((other, further)) = rest.split_first() else {
+            return rest;
+        };
+        self.take_by_table(performer, *other, further)
+    }
+
+    /// Whole characters, one after another.
+    #[inline(always)]
+    fn take_characters<'a, P: Perform>(&self, performer: &mut P, bytes: &'a [u8]) -> &'a [u8]
+        requires ground { self.now.state ≡ State.Ground }
+        requires can { CanTakeAll C.takes self.now bytes.now }
+        ensures leads { LeadsTo C.takes C.taken P.means self.now performer.old bytes.now
+            self.now performer.new result.now }
+        ensures within { length result.now ≤ length bytes.now }
+    {
+        let mut rest = bytes;
+        'characters: while let Some((first, behind)) = rest.split_first() {
+            let Some((c, further)) = self.accumulator.whole(*first, behind) else {
+                break;
+            };
+            performer.print(c);
+            rest = further;
+        }
+        rest
     }
 
     /// ESC, and with it a control sequence that it begins, as far as that stands here.

@@ -3,7 +3,7 @@
 //! Each function takes what goes together at the front of the bytes and answers the rest. Its
 //! clause says that going on from where it leaves with the rest is taking all bytes one after
 //! another. A byte that is in no run goes through the table.
-ghost use Rattle.std.specs.Prelude.{◌≡◌, ◌≢◌, ◌≤◌, ◌-◌, ◌∷◌, ◌⊎◌, IsTrue, length};
+ghost use Rattle.std.specs.Prelude.{◌≡◌, ◌≢◌, ◌≤◌, ◌-◌, ◌∷◌, ◌⊎◌, ◌||◌, IsTrue, length};
 ghost use Rattle.std.specs.Prelude.{take};
 ghost use Rattle.anstyle_parse.specs.Stream.Bytes.{is_within, is_final};
 ghost use Rattle.anstyle_parse.specs.Stream.Call.{Goes};
@@ -214,6 +214,15 @@ impl<C: CharAccumulator> Parser<C> {
     }
 }
 
+/// A high byte that is no control and begins no character: 9D..C1 and F5..FF.
+#[inline(always)]
+#[tactic(auto, unfolding(crate::specs::Stream::Bytes::is_within))]
+fn begins_nothing(byte: u8) -> bool
+    ensures { result ≡ (is_within 0x9D 0xC1 byte || is_within 0xF5 0xFF byte) }
+{
+    matches!(byte, 0x9D..=0xC1 | 0xF5..=0xFF)
+}
+
 /// The ground state.
 impl<C: CharAccumulator> Parser<C> {
     ghost use Rattle.anstyle_parse.specs.Views.Parser.{CanTakeAll};
@@ -243,6 +252,10 @@ impl<C: CharAccumulator> Parser<C> {
         }
         if first < CANCEL {
             self.step_by_answer(performer, State::Anywhere, Action::Execute, first);
+            return behind;
+        }
+        if begins_nothing(first) {
+            self.step_by_answer(performer, State::Anywhere, Action::Nop, first);
             return behind;
         }
         let rest = self.take_characters(performer, bytes);

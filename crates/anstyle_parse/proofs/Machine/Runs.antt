@@ -1,9 +1,9 @@
 -- Runs one after another, and the runs of each kind of bytes.
 use Rattle.std.proofs.Common.{◌≡◌, ℕ, ◌<◌, ◌≤◌, ◌⊎◌, arith, Bool, IsTrue, cond, eqb, refl, List, length, [], ◌∷◌, ◌++◌, ⊎_elim, inl, map, take, drop, ap, sym, ◌∙◌, subst, append_assoc}
-use Rattle.std.specs.Prelude.{nat_le}
+use Rattle.std.specs.Prelude.{nat_le, ◌||◌}
 use Rattle.std.specs.List.{range_with_len}
 use Rattle.std.proofs.lemmas.List.{take-append-drop}
-use Rattle.std.proofs.lemmas.Bool.{cond-true, cond_both, and_from, and_parts, leb-true, le-leb}
+use Rattle.std.proofs.lemmas.Bool.{cond-true, cond_both, and_from, and_parts, leb-true, le-leb, or_cases}
 use Rattle.anstyle_parse.specs.declared.state.definitions.State.{State}
 use Rattle.anstyle_parse.specs.declared.state.definitions.State.TheVariants.{Anywhere, CsiEntry, CsiIgnore, CsiParam, DcsIgnore, DcsPassthrough, Escape, Ground, OscString, SosPmApcString, Utf8}
 use Rattle.anstyle_parse.specs.declared.state.definitions.Action.{Action}
@@ -131,6 +131,15 @@ pub change_at-introducer : (state : State) (b : ℕ) → state ≡ Escape → b 
 unfolding change_at is_within
 change_at-introducer state b is byte =
     ap (λ s. change_at s b) is ∙ ap (λ n. change_at Escape n) byte
+
+pub change_at-nothing : (state : State) (b : ℕ) → state ≡ Ground → IsTrue (is_within 0x9D 0xC1 b || is_within 0xF5 0xFF b) → change_at state b ≡ (Anywhere by Nop)
+unfolding change_at is_within
+change_at-nothing state b is nothing =
+    ap (λ s. change_at s b) is
+    ∙ ⊎_elim
+    (λ low. change_at-within Ground 0x9D 0xC1 (Anywhere by Nop) (omega arith) b low refl)
+    (λ high. change_at-within Ground 0xF5 0xFF (Anywhere by Nop) (omega arith) b high refl)
+    (or_cases (is_within 0x9D 0xC1 b) (is_within 0xF5 0xFF b) nothing)
 
 pub change_at-final : (state : State) (b : ℕ) → (state ≡ CsiEntry) ⊎ (state ≡ CsiParam) → IsTrue (is_final b) → change_at state b ≡ (Ground by CsiDispatch)
 unfolding change_at is_within is_final

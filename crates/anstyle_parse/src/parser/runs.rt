@@ -3,7 +3,7 @@
 //! Each function takes what goes together at the front of the bytes and answers the rest. Its
 //! clause says that going on from where it leaves with the rest is taking all bytes one after
 //! another. A byte that is in no run goes through the table.
-ghost use Rattle.std.specs.Prelude.{◌≡◌, ◌≢◌, ◌≤◌, ◌-◌, ◌∷◌, ◌⊎◌, IsTrue, length};
+ghost use Rattle.std.specs.Prelude.{◌≡◌, ◌≢◌, ◌≤◌, ◌-◌, ◌∷◌, ◌⊎◌, ◌||◌, IsTrue, length};
 ghost use Rattle.std.specs.Prelude.{take};
 ghost use Rattle.anstyle_parse.specs.Stream.Bytes.{is_within, is_final};
 ghost use Rattle.anstyle_parse.specs.Stream.Call.{Goes};
@@ -117,7 +117,7 @@ impl<C: CharAccumulator> Parser<C> {
         };
         let first = *first;
         match self.state {
-            State::Ground => self.take_in_ground(performer, first, behind),
+            State::Ground => self.take_in_ground(performer, bytes),
             State::Escape => self.take_after_escape(performer, first, behind),
             State::CsiEntry | State::CsiParam => self.take_in_header(performer, bytes),
             State::OscString => self.take_in_command(performer, first, behind),
@@ -214,23 +214,36 @@ impl<C: CharAccumulator> Parser<C> {
     }
 }
 
+/// A high byte that is no control and begins no character: 9D..C1 and F5..FF.
+#[inline(always)]
+#[tactic(auto, unfolding(crate::specs::Stream::Bytes::is_within))]
+fn begins_nothing(byte: u8) -> bool
+    ensures { result ≡ (is_within 0x9D 0xC1 byte || is_within 0xF5 0xFF byte) }
+{
+    matches!(byte, 0x9D..=0xC1 | 0xF5..=0xFF)
+}
+
 /// The ground state.
 impl<C: CharAccumulator> Parser<C> {
     ghost use Rattle.anstyle_parse.specs.Views.Parser.{CanTakeAll};
 
-    /// Printed bytes, a whole character, or a sequence that begins.
+    /// Printed bytes, whole characters, or a sequence that begins.
     #[inline(always)]
     pub(super) fn take_in_ground<'a, P: Perform>(
         &mut self,
         performer: &mut P,
-        first: u8,
-        behind: &'a [u8],
+        bytes: &'a [u8],
     ) -> &'a [u8]
         requires ground { self.old.state ≡ State.Ground }
-        requires can { CanTakeAll C.takes self.old (first ∷ behind.now) }
-        ensures { Takes C.takes C.taken P.means self.old performer.old first behind.now
+        requires can { CanTakeAll C.takes self.old bytes.now }
+        ensures leads { LeadsTo C.takes C.taken P.means self.old performer.old bytes.now
             self.new performer.new result.now }
+        ensures onward { length result.now ≤ length bytes.now - 1 }
     {
+        let Some((first, behind)) = bytes.split_first() else {
+            return bytes;
+        };
+        let first = *first;
         if Run::Printed.has(first) {
             return self.take_run(performer, Run::Printed, first, behind);
         }
@@ -241,11 +254,38 @@ impl<C: CharAccumulator> Parser<C> {
             self.step_by_answer(performer, State::Anywhere, Action::Execute, first);
             return behind;
         }
-        if let Some((c, rest)) = self.accumulator.whole(first, behind) {
-            performer.print(c);
+        if begins_nothing(first) {
+            self.step_by_answer(performer, State::Anywhere, Action::Nop, first);
+            return behind;
+        }
+        let rest = self.take_characters(performer, bytes);
+        if rest.len() < bytes.len() {
             return rest;
         }
-        self.take_by_table(performer, first, behind)
+        let Some((other, further)) = rest.split_first() else {
+            return rest;
+        };
+        self.take_by_table(performer, *other, further)
+    }
+
+    /// Whole characters, one after another.
+    #[inline(always)]
+    fn take_characters<'a, P: Perform>(&self, performer: &mut P, bytes: &'a [u8]) -> &'a [u8]
+        requires ground { self.now.state ≡ State.Ground }
+        requires can { CanTakeAll C.takes self.now bytes.now }
+        ensures leads { LeadsTo C.takes C.taken P.means self.now performer.old bytes.now
+            self.now performer.new result.now }
+        ensures within { length result.now ≤ length bytes.now }
+    {
+        let mut rest = bytes;
+        'characters: while let Some((first, behind)) = rest.split_first() {
+            let Some((c, further)) = self.accumulator.whole(*first, behind) else {
+                break;
+            };
+            performer.print(c);
+            rest = further;
+        }
+        rest
     }
 
     /// ESC, and with it a control sequence that it begins, as far as that stands here.

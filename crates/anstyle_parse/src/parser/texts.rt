@@ -155,14 +155,14 @@ impl Parser<Utf8Parser> {
         ensures calls { P.receives performer.old (calls_made parser_after self.old bytes.now) performer.new }
     {
         let mut rest = bytes;
-        'rest: while let Some((first, behind)) = rest.split_first() {
+        'rest: while let Some((first, _)) = rest.split_first() {
             rest = match self.state {
                 State::Ground => match self.text_at(*first, rest) {
                     Some((text, further)) => {
                         performer.print_text(text);
                         further
                     }
-                    None => self.take_in_ground(performer, *first, behind),
+                    None => self.take_in_ground(performer, rest),
                 },
                 _ => self.take_first(performer, rest),
             };

@@ -19,7 +19,7 @@ pub rest-preserved-in-None : goal.rest-preserved-in-None
 rest-preserved-in-None g c =
     let n = g.P.PerformText in
     let m = g.met.P.PerformText in
-    LeadsByTextTo-run g.P.Perform.means n.receives m.receives_none m.receives_one m.receives_more c.in-Some.ensures.cases.0 c.rest.invariant c.take_in_ground.ensures.leads
+    LeadsByTextTo-run g.P.Perform.means n.receives m.receives_none m.receives_one m.receives_more refl c.rest.invariant c.take_in_ground.ensures.leads
 
 pub rest-preserved : goal.rest-preserved
 rest-preserved g c =

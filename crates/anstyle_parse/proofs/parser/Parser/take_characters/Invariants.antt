@@ -1,0 +1,12 @@
+use Rattle.std.proofs.Common.{◌≤◌, length}
+use Rattle.anstyle_parse.specs.Views.Runs.{LeadsTo}
+use Rattle.anstyle_parse.proofs.parser.Parser.take_characters.Given as goal
+
+abbrev pub invariant-characters : goal.invariant-characters
+invariant-characters g l = record {
+  leads : LeadsTo g.C.CharAccumulator.takes g.C.CharAccumulator.taken g.P.Perform.means l.self l.fn.performer l.bytes l.self l.performer l.rest;
+  within : length l.rest ≤ length l.bytes;
+}
+
+abbrev pub decreases-characters : goal.decreases-characters
+decreases-characters g l = length l.rest

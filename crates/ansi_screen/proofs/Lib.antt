@@ -1,5 +1,9 @@
 pub mod CellLemmas
 pub mod GridLemmas
+pub mod PairLemmas
+pub mod WholeLemmas
+pub mod KeptLemmas
+pub mod KeptCalls
 pub mod RangeLemmas
 pub mod TextLemmas
 pub mod CallLemmas

@@ -6,6 +6,7 @@ pub mod Ranges
 pub mod Widths
 pub mod Print
 pub mod Modes
+pub mod Reachable
 pub mod After
 pub mod Text
 pub mod Laws

@@ -1,7 +1,9 @@
 //! Laws of screens.
-ghost use Rattle.std.specs.Prelude.{◌≡◌, ℕ, false, List, [], ◌∷◌, ◌++◌};
+ghost use Rattle.std.specs.Prelude.{◌≡◌, ◌≤◌, ℕ, false, List, [], ◌∷◌, ◌++◌};
 ghost use Rattle.std.specs.List.{flat_map};
 ghost use Rattle.anstyle_parse.specs.Stream.Call.{Call};
+ghost use Rattle.ansi_screen.specs.Display.{most_columns, most_rows};
+ghost use Rattle.ansi_screen.specs.Reachable.{IsScreen};
 ghost use Rattle.ansi_screen.specs.After.{State, new_state, after, after_all, Shows};
 ghost use Rattle.ansi_screen.specs.Laws.{reset, save, restore, AreMovesAndStyles};
 
@@ -14,6 +16,16 @@ pub fn show(screen: &mut Screen, pieces: &[&[u8]])
 {
     anstyle_parse::laws::headline(screen, pieces);
 }
+
+/// Each screen that a stream leads to from a new one, and each that a call leads to from such a
+/// screen, is within its sizes, has the halves of wide characters in pairs, each pair in one row,
+/// and in origin mode the cursor within the margins.
+pub fn reachable()
+    ensures new { (columns rows : ℕ) → 2 ≤ columns → columns ≤ most_columns → 1 ≤ rows → rows ≤ most_rows
+        → IsScreen (new_state columns rows).display }
+    ensures kept { (screen : State) (call : Call) → IsScreen screen.display → IsScreen (after call screen).display }
+    ensures shown { (old new : State) (bytes : List ℕ) → IsScreen old.display → Shows old bytes new → IsScreen new.display }
+{}
 
 /// What it shows is determined: from equal screens equal bytes lead to equal screens.
 pub fn determined()

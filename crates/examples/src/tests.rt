@@ -5,7 +5,7 @@ use crate::{
     Quiet, calls_made, canonical, html, make_first_calls, plain, printed, stay_quiet,
     strip_two_pieces, write_last_style,
 };
-use ansi_screen::laws::{determined, enclosed, reset, show};
+use ansi_screen::laws::{determined, enclosed, reachable, reset, show};
 use ansi_screen::{
     Cell, Charsets, MAX_COLUMNS, MAX_ROWS, MIN_COLUMNS, MIN_ROWS, Marks, Part, Place, Screen,
 };
@@ -77,6 +77,7 @@ fn a_screen_shows_a_stream(rt: HostRuntime) -> Result<(), Fail> {
         &[b"a", b"\x1b[1m\x1b(0x", "\u{301}".as_bytes()],
     );
     determined();
+    reachable();
     enclosed();
     reset();
     assert_eq!(rt; screen.rows(), 1);

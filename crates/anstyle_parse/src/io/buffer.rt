@@ -105,9 +105,22 @@ impl<W: Sink> Buffer<W> {
             self.held.clear();
             true
         } else {
-            self.held = rest_of(self.held.as_slice(), count);
+            self.keep_from(count);
             false
         }
+    }
+
+    /// Drops the first `count` of the bytes that are held back. It is out of line: a function pays
+    /// for the size of its locals at each entry.
+    #[inline(never)]
+    fn keep_from(&mut self, count: usize)
+        requires { count ≤ length (held_back self.old) }
+        ensures held { held_back self.new ≡ drop count (held_back self.old) }
+        ensures writer { writer_behind self.new ≡ writer_behind self.old }
+        ensures same_mode { is_by_line self.new ≡ is_by_line self.old }
+        ensures not_told { buffer_failed self.new ≡ buffer_failed self.old }
+    {
+        self.held = rest_of(self.held.as_slice(), count);
     }
 }
 

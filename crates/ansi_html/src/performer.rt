@@ -250,6 +250,10 @@ impl<W: Sink> CallWriter<W> for HtmlWriter<W> {
         &self.output
     }
 
+    fn pass_on(&mut self) {
+        self.output.pass_on();
+    }
+
     fn into_output(self) -> Output<W> {
         let HtmlWriter {
             mut output,

@@ -103,6 +103,10 @@ impl<W: Sink> CallWriter<W> for Stripper<W> {
         &self.output
     }
 
+    fn pass_on(&mut self) {
+        self.output.pass_on();
+    }
+
     fn into_output(self) -> Output<W> {
         self.output
     }

@@ -25,7 +25,7 @@ const READER_GONE: u8 = 141;
 const MISUSED: u8 = 2;
 
 /// The output behind a [`Buffer`], as a program writes to it: on a terminal each line is handed
-/// on when it ends, and else 8 KiB at a time. The buffer holds nothing, and nothing has failed.
+/// on when it ends, and else 8 KiB at a time; a run hands on what is left before each read. The buffer holds nothing, and nothing has failed.
 pub fn buffered<W: Write + IsTerminal>(output: W) -> Buffer<FromWrite<W>>
     ensures output { writer_of (writer_behind result) ≡ output }
     ensures empty { held_back result ≡ [] }

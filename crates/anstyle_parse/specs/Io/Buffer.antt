@@ -25,9 +25,9 @@ is_by_line buffer = buffer.by_line
 abbrev pub buffer_contents : {W : Type 0} → (W → Option (List ℕ)) → Buffer W → Option (List ℕ)
 buffer_contents contents buffer = append_known (contents (writer_behind buffer)) (held_back buffer)
 
--- whether the writer behind it has failed
-abbrev pub buffer_failed : {W : Type 0} → (W → Bool) → Buffer W → Bool
-buffer_failed has_failed buffer = has_failed (writer_behind buffer)
+-- whether a write or a flush of it has failed
+abbrev pub buffer_failed : {W : Type 0} → Buffer W → Bool
+buffer_failed buffer = buffer.failed
 
 -- A prefix of what was held back was handed on, and the rest is still held back.
 abbrev pub HandsOn : {W : Type 0} → (W → Option (List ℕ)) → Buffer W → Buffer W → Type 0

@@ -1,5 +1,5 @@
 //! A writer that hands on many bytes at once.
-ghost use Rattle.std.specs.Prelude.{◌≡◌, ◌≢◌, ◌<◌, ◌≤◌, true, false, [], length, take, drop, IsTrue};
+ghost use Rattle.std.specs.Prelude.{◌≡◌, ◌≢◌, ◌<◌, ◌≤◌, ◌⊎◌, true, false, [], length, take, drop, IsTrue};
 ghost use Rattle.std.specs.Bool.{OnTrue, OnFalse};
 ghost use Rattle.std.specs.Io.KnownBytes.{Keeps, Appends};
 ghost use Rattle.anstyle_parse.specs.Io.Buffer.{buffer_capacity};
@@ -24,21 +24,28 @@ pub struct Buffer<W> {
     writer: W,
     held: ArrayVec<u8, CAPACITY>,
     by_line: bool,
+    /// Whether a write or a flush has failed.
+    failed: bool,
+    /// Whether bytes could not be passed on, which is still to be answered.
+    owed: bool,
 }
 
 impl<W: Sink> Buffer<W> {
-    ghost use Rattle.anstyle_parse.specs.Io.Buffer.{writer_behind, held_back, is_by_line, buffer_contents, fault_behind, HandsOn};
+    ghost use Rattle.anstyle_parse.specs.Io.Buffer.{writer_behind, held_back, is_by_line, buffer_contents, buffer_failed, fault_behind, HandsOn};
 
     /// A buffer that holds nothing back, in front of the writer.
     pub fn new(writer: W) -> Buffer<W>
         ensures writer { writer_behind result ≡ writer }
         ensures empty { held_back result ≡ [] }
         ensures not_by_line { is_by_line result ≡ false }
+        ensures not_failed { buffer_failed result ≡ false }
     {
         Buffer {
             writer,
             held: ArrayVec::new(),
             by_line: false,
+            failed: false,
+            owed: false,
         }
     }
 
@@ -47,11 +54,14 @@ impl<W: Sink> Buffer<W> {
         ensures writer { writer_behind result ≡ writer }
         ensures empty { held_back result ≡ [] }
         ensures by_line { is_by_line result ≡ true }
+        ensures not_failed { buffer_failed result ≡ false }
     {
         Buffer {
             writer,
             held: ArrayVec::new(),
             by_line: true,
+            failed: false,
+            owed: false,
         }
     }
 
@@ -88,15 +98,29 @@ impl<W: Sink> Buffer<W> {
         ensures was_a_write { OnFalse result (W.failed_as (writer_behind self.new) AWrite) }
         ensures left { OnFalse result (held_back self.new ≢ []) }
         ensures same_mode { is_by_line self.new ≡ is_by_line self.old }
+        ensures not_told { buffer_failed self.new ≡ buffer_failed self.old }
     {
         let count = write_out(&mut self.writer, self.held.as_slice());
         if count == self.held.len() {
             self.held.clear();
             true
         } else {
-            self.held = rest_of(self.held.as_slice(), count);
+            self.keep_from(count);
             false
         }
+    }
+
+    /// Drops the first `count` of the bytes that are held back. It is out of line: a function pays
+    /// for the size of its locals at each entry.
+    #[inline(never)]
+    fn keep_from(&mut self, count: usize)
+        requires { count ≤ length (held_back self.old) }
+        ensures held { held_back self.new ≡ drop count (held_back self.old) }
+        ensures writer { writer_behind self.new ≡ writer_behind self.old }
+        ensures same_mode { is_by_line self.new ≡ is_by_line self.old }
+        ensures not_told { buffer_failed self.new ≡ buffer_failed self.old }
+    {
+        self.held = rest_of(self.held.as_slice(), count);
     }
 }
 
@@ -136,7 +160,7 @@ impl<W: Sink> Sink for Buffer<W> {
 
     ghost contents = { buffer_contents W.contents };
 
-    ghost has_failed = { buffer_failed W.has_failed };
+    ghost has_failed = { buffer_failed };
 
     ghost failed_as = { FailedBehind W.failed_as };
 
@@ -161,6 +185,8 @@ impl<W: Sink> Sink for Buffer<W> {
             (buffer_contents W.contents self.new)) }
         ensures failed { IfNone result (IsTrue (W.has_failed (writer_behind self.new))) }
         ensures was_a_write { IfNone result (W.failed_as (writer_behind self.new) AWrite) }
+        ensures not_told { OnSome result (buffer_failed self.new ≡ buffer_failed self.old) }
+        ensures told { IfNone result (IsTrue (buffer_failed self.new)) }
         ensures same_mode { is_by_line self.new ≡ is_by_line self.old }
     {
         let ends_line = self.by_line && bytes.last() == Some(&b'\n');
@@ -182,15 +208,46 @@ impl<W: Sink> Sink for Buffer<W> {
             ≡ W.has_failed (writer_behind self.old)) }
         ensures failed { OnFalse result (IsTrue (W.has_failed (writer_behind self.new))) }
         ensures behind { OnFalse result (FailedBehind W.failed_as self.new AFlush) }
+        ensures not_told { OnTrue result (buffer_failed self.new ≡ buffer_failed self.old) }
+        ensures told { OnFalse result (IsTrue (buffer_failed self.new)) }
         ensures same_mode { is_by_line self.new ≡ is_by_line self.old }
     {
-        self.hand_on() && self.writer.flush()
+        let went_well = !self.owes_a_fault() && self.hand_on() && self.writer.flush();
+        self.owed = false;
+        if !went_well {
+            self.failed = true;
+        }
+        went_well
+    }
+
+    /// Hands on what is held back. Where that fails what the writer did not take stays held back,
+    /// and nothing is answered: the flush, or a write that finds no room or ends a line, fails, and
+    /// until then no more is tried.
+    fn pass_on(&mut self)
+        ensures nothing_passed { Keeps (buffer_contents W.contents self.old) (buffer_contents W.contents self.new) }
+        ensures from_the_front { HandsOn W.contents self.old self.new }
+        ensures tried { (held_back self.new ≡ []) ⊎ IsTrue (W.has_failed (writer_behind self.new)) }
+        ensures not_told { buffer_failed self.new ≡ buffer_failed self.old }
+        ensures same_mode { is_by_line self.new ≡ is_by_line self.old }
+    {
+        if !self.owes_a_fault() {
+            self.owed = !self.hand_on();
+        }
     }
 }
 
 impl<W: Sink> Buffer<W> {
     ghost use Rattle.std.specs.Prelude.{IfSome, IfNone, OnSome};
-    ghost use Rattle.anstyle_parse.specs.Io.Buffer.{writer_behind, held_back, is_by_line, buffer_contents};
+    ghost use Rattle.anstyle_parse.specs.Io.Buffer.{writer_behind, held_back, is_by_line, buffer_contents, buffer_failed};
+
+    /// Whether bytes that are held back could not be passed on, and no answer has said so.
+    fn owes_a_fault(&self) -> bool
+        ensures failed { OnTrue result (IsTrue (W.has_failed (writer_behind self.now))) }
+        ensures was_a_write { OnTrue result (W.failed_as (writer_behind self.now) AWrite) }
+        ensures left { OnTrue result (held_back self.now ≢ []) }
+    {
+        self.owed && !self.held.is_empty() && self.writer.has_failed_write()
+    }
 
     /// Takes bytes that can't just be held back too. By line, what is held back is handed on and
     /// the bytes are written after it. Else, where there is no room what is held back is handed on
@@ -209,14 +266,26 @@ impl<W: Sink> Buffer<W> {
         ensures was_a_write { IfNone result (W.failed_as (writer_behind self.new) AWrite) }
         ensures lines_at_once { OnSome result (IsTrue (is_by_line self.old)
             → held_back self.new ≡ []) }
+        ensures not_told { OnSome result (buffer_failed self.new ≡ buffer_failed self.old) }
+        ensures told { IfNone result (IsTrue (buffer_failed self.new)) }
         ensures same_mode { is_by_line self.new ≡ is_by_line self.old }
     {
+        if self.owes_a_fault() {
+            self.owed = false;
+            self.failed = true;
+            return None;
+        }
         let is_full = self.held.is_full();
         if (self.by_line || is_full) && !self.hand_on() {
+            self.failed = true;
             return None;
         }
         if self.by_line {
-            return self.writer.write(bytes);
+            let written = self.writer.write(bytes);
+            if written.is_none() {
+                self.failed = true;
+            }
+            return written;
         }
         let count = bytes.len().min(CAPACITY - self.held.len());
         let _ = self.held.try_extend_from_slice(&bytes[..count]);

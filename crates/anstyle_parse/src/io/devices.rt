@@ -73,6 +73,22 @@ pub trait Sink {
         ensures not_failed { OnTrue result (has_failed self.new ≡ has_failed self.old) }
         ensures failed { OnFalse result (IsTrue (has_failed self.new)) }
         ensures was_a_flush { OnFalse result (failed_as self.new AFlush) };
+
+    /// Whether it is known that the last call that failed was a write. With false nothing is known.
+    fn has_failed_write(&self) -> bool
+        ensures failed { OnTrue result (IsTrue (has_failed self.now)) }
+        ensures was_a_write { OnTrue result (failed_as self.now AWrite) }
+    {
+        false
+    }
+
+    /// Hands on what is held back, where bytes are held back, and is no flush. Where that fails
+    /// nothing is answered: what could not be handed on stays held back, and a later write or the
+    /// flush says so. A writer that holds nothing back does nothing.
+    fn pass_on(&mut self)
+        ensures nothing_passed { Keeps (contents self.old) (contents self.new) }
+        ensures not_told { has_failed self.new ≡ has_failed self.old }
+    {}
 }
 
 /// A reader of std as a [`Source`]. An error of whatever kind is a failure, `Interrupted`
@@ -217,6 +233,10 @@ impl<W: Write> Sink for FromWrite<W> {
                 None
             }
         }
+    }
+
+    fn has_failed_write(&self) -> bool {
+        matches!(self.fault, Some(Fault::Write))
     }
 
     fn flush(&mut self) -> bool {

@@ -26,7 +26,8 @@ pub enum Stop {
 
 /// Gives what the reader gives to a new parser, in pieces of at most 4096 bytes, until the
 /// reader ends or fails or the performer's output keeps a fault. At most 2^64 - 1 reads are made.
-/// The parser hands on texts ([`Parser::advance_texts`]).
+/// The parser hands on texts ([`Parser::advance_texts`]). What was written of a piece is handed on
+/// before the next read.
 pub fn drive<P: CallWriter<W>, R: Source, W: Sink>(reader: &mut R, performer: &mut P) -> Stop
     requires { fault_in (P.output_in performer.old) ≡ None }
     ensures { Drives R.Source P.receives P.output_in reader.old reader.new performer.old performer.new result }
@@ -39,6 +40,7 @@ pub fn drive<P: CallWriter<W>, R: Source, W: Sink>(reader: &mut R, performer: &m
             Some(0) => return Stop::AtEnd,
             Some(count) => {
                 parser.advance_texts(performer, &piece[..count]);
+                performer.pass_on();
                 if performer.output().fault().is_some() {
                     return Stop::AtFault;
                 }
@@ -72,6 +74,12 @@ pub trait CallWriter<W: Sink>: PerformText {
     /// The output that it writes to.
     fn output(&self) -> &Output<W>
         ensures { result.now ≡ output_in self.now };
+
+    /// Hands on what the writer of the output holds back ([`Output::pass_on`]), before more is
+    /// read: as if it had received no call.
+    fn pass_on(&mut self)
+        ensures { Self.receives self.old [] self.new }
+    {}
 
     /// Writes what is still to be written, and hands the output back.
     fn into_output(self) -> Output<W>

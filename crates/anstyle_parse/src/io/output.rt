@@ -107,6 +107,16 @@ impl<W: Sink> Output<W> {
         self.put(c.encode_utf8(&mut bytes).as_bytes());
     }
 
+    /// Hands on what the writer holds back, as [`Sink::pass_on`] has it. After a fault nothing
+    /// happens.
+    pub fn pass_on(&mut self)
+        ensures { Adds W.Sink [] self.old self.new }
+    {
+        if self.fault.is_none() {
+            self.writer.pass_on();
+        }
+    }
+
     /// The fault that stopped it.
     pub fn fault(&self) -> Option<Fault>
         ensures { result ≡ fault_in self.now }

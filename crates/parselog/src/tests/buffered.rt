@@ -156,7 +156,7 @@ fn writes_of_much_that_fail(rt: HostRuntime) -> Result<(), Fail> {
             let written = assert_front(&rt, text.as_slice(), paper, want);
             assert_eq!(rt; written, room.min(length), "{length} bytes");
         }
-        for fails_at in 1..=20u64 {
+        for fails_at in 1..=22u64 {
             let mut paper = Paper::new(rt.alloc());
             paper.each = 1000;
             paper.fails_at = fails_at;
@@ -172,13 +172,14 @@ fn writes_of_much_that_fail(rt: HostRuntime) -> Result<(), Fail> {
     Ok(())
 }
 
-/// How many writes of at most 1000 bytes each hand on so many bytes, 8192 at a time.
+/// How many writes of at most 1000 bytes each hand on so many bytes, 4096 at a time, as they are
+/// read.
 fn writes_of(length: usize) -> u64 {
     match length {
-        8191 | 8192 => 9,
-        8193 => 10,
-        16_384 => 18,
-        _ => 19,
+        8191 | 8192 => 10,
+        8193 => 11,
+        16_384 => 20,
+        _ => 21,
     }
 }
 

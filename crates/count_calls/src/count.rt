@@ -101,16 +101,25 @@ impl Perform for Count {
 
 /// The calls of the bytes, handed on in pieces of this size, or each by `advance` where it is 0.
 pub fn count_of(bytes: &[u8], size: usize) -> Count {
+    if size == 0 {
+        return count_by_byte(bytes);
+    }
     let mut count = Count::default();
     let mut parser = Parser::<Utf8Parser>::new();
-    if size == 0 {
-        for byte in bytes {
-            parser.advance(&mut count, *byte);
-        }
-    } else {
-        for piece in bytes.chunks(size) {
-            parser.advance_all(&mut count, piece);
-        }
+    for piece in bytes.chunks(size) {
+        parser.advance_all(&mut count, piece);
+    }
+    count
+}
+
+/// Each byte by `advance`. It is out of line: so neither loop is compiled with the registers that
+/// the other leaves.
+#[inline(never)]
+fn count_by_byte(bytes: &[u8]) -> Count {
+    let mut count = Count::default();
+    let mut parser = Parser::<Utf8Parser>::new();
+    for byte in bytes {
+        parser.advance(&mut count, *byte);
     }
     count
 }

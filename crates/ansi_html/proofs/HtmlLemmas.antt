@@ -1,5 +1,5 @@
 -- Text as HTML.
-use Rattle.std.proofs.Common.{◌≡◌, ◌≢◌, ◌<◌, ◌≤◌, ℕ, Bool, true, false, ⊎_elim, ◌||◌, eqb, List, [], ◌∷◌, ◌++◌, ◌-◌, length, take, refl, sym, ap, ◌∙◌, subst, arith, append_assoc, length-append}
+use Rattle.std.proofs.Common.{◌≡◌, ◌≢◌, ◌<◌, ◌≤◌, ℕ, Bool, true, false, ⊎_elim, ◌||◌, eqb, List, [], ◌∷◌, ◌++◌, ◌-◌, length, take, refl, sym, ap, ◌∙◌, subst, arith, append_assoc, append-nil, length-append}
 use Rattle.std.specs.Prelude.{not, encode_utf8, if◌then◌else◌}
 use Rattle.std.specs.List.{AllByRecursion}
 use Rattle.std.proofs.lemmas.Grind.{flat_map-append}
@@ -73,6 +73,9 @@ escaped-clear b clear =
     let h2 = or_parts (eqb b 0x3E) _ h1.1 in
     let h3 = or_parts (eqb b 0x22) (eqb b 0x27) h2.1 in
     rw (h0.0, h1.0, h2.0, h3.0, h3.1) refl
+
+pub escaped_one : (b : ℕ) → escaped_text (b ∷ []) ≡ escaped b
+escaped_one b = append-nil (escaped b)
 
 pub escaped_text-clear : (bytes : List ℕ) → AreClear bytes → escaped_text bytes ≡ bytes
 escaped_text-clear [] clear = refl

@@ -129,9 +129,20 @@ fn after_clear(bytes: &[u8]) -> &[u8]
     rest
 }
 
-/// Writes text, with a character reference for each byte that has a meaning in HTML; what is
-/// between them at once.
+/// Writes text, with a character reference for each byte that has a meaning in HTML.
+#[inline]
+#[tactic(auto, using(crate::proofs::HtmlLemmas::escaped_one))]
 pub(crate) fn put_escaped<W: Sink>(output: &mut Output<W>, text: &[u8])
+    ensures { Adds W.Sink (escaped_text text.now) output.old output.new }
+{
+    match text {
+        [byte] => put_reference(output, *byte),
+        _ => put_in_parts(output, text),
+    }
+}
+
+/// The same, with what is between these bytes at once.
+fn put_in_parts<W: Sink>(output: &mut Output<W>, text: &[u8])
     ensures { Adds W.Sink (escaped_text text.now) output.old output.new }
 {
     let mut rest = text;

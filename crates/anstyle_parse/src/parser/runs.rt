@@ -288,7 +288,8 @@ impl<C: CharAccumulator> Parser<C> {
         rest
     }
 
-    /// ESC, and with it a control sequence that it begins, as far as that stands here.
+    /// ESC, and with it a control sequence that it begins, as far as that stands here, or the byte
+    /// that begins a command.
     #[inline(always)]
     fn take_escape<'a, P: Perform>(
         &mut self,
@@ -307,6 +308,10 @@ impl<C: CharAccumulator> Parser<C> {
             if *next == b'[' {
                 self.step_by_answer(performer, State::CsiEntry, Action::Nop, *next);
                 return self.take_in_header(performer, rest);
+            }
+            if *next == b']' {
+                self.step_by_answer(performer, State::OscString, Action::Nop, *next);
+                return rest;
             }
         }
         behind

@@ -3,7 +3,7 @@ use Rattle.anstyle_parse.specs.declared.state.definitions.State.TheVariants.{Csi
 use Rattle.anstyle_parse.specs.declared.state.definitions.Action.TheVariants.{Nop}
 use Rattle.anstyle_parse.specs.Machine.Step.{Machine}
 use Rattle.anstyle_parse.specs.Views.Parser.{machine_of}
-use Rattle.anstyle_parse.proofs.Machine.Runs.{change_at-escape, change_at-introducer, state-by, LeadsTo-first, LeadsTo-byte, LeadsTo-trans, Takes-byte}
+use Rattle.anstyle_parse.proofs.Machine.Runs.{change_at-escape, change_at-introducer, change_at-command, state-by, LeadsTo-first, LeadsTo-byte, LeadsTo-trans, Takes-byte}
 use Rattle.anstyle_parse.proofs.parser.Parser.take_escape.Goals as goal
 use Rattle.anstyle_parse.proofs.parser.Parser.take_escape.Goals.{After-step_by_answer}
 
@@ -20,6 +20,23 @@ step_by_answer-requires-then-next-eq91-clause-known g c =
 
 pub step_by_answer-requires-then-next-eq91-clause-outside : goal.step_by_answer-requires-then-next-eq91-clause-outside
 step_by_answer-requires-then-next-eq91-clause-outside g c = λ inside.
+    let n = g.C.CharAccumulator in
+    let m = machine_of c.args.self.now in
+    let escape = ap (λ (x : Machine g.row.C.Denot). x.state) c.step_by_answer.ensures.machine
+    ∙ state-by n.taken c.args.first m Escape Nop (λ h. absurd (cc (c.requires.ground, h))) (λ h. absurd (cc)) (change_at-escape m.state c.args.first c.requires.ground c.requires.escape) in
+    let differ : Escape ≡ Utf8 = sym escape ∙ inside in
+    absurd (cc (differ))
+
+pub step_by_answer-requires-then-next-eq93-clause-known : goal.step_by_answer-requires-then-next-eq93-clause-known
+step_by_answer-requires-then-next-eq93-clause-known g c =
+    let n = g.C.CharAccumulator in
+    let m = machine_of c.args.self.now in
+    let escape = ap (λ (x : Machine g.row.C.Denot). x.state) c.step_by_answer.ensures.machine
+    ∙ state-by n.taken c.args.first m Escape Nop (λ h. absurd (cc (c.requires.ground, h))) (λ h. absurd (cc)) (change_at-escape m.state c.args.first c.requires.ground c.requires.escape) in
+    change_at-command c.step_by_answer.new.self.state c.in-Some.next.now escape c.if-next-eq93.true
+
+pub step_by_answer-requires-then-next-eq93-clause-outside : goal.step_by_answer-requires-then-next-eq93-clause-outside
+step_by_answer-requires-then-next-eq93-clause-outside g c = λ inside.
     let n = g.C.CharAccumulator in
     let m = machine_of c.args.self.now in
     let escape = ap (λ (x : Machine g.row.C.Denot). x.state) c.step_by_answer.ensures.machine
@@ -62,8 +79,22 @@ returns-then-next-eq91 g c =
       within = omega (arith, c.in-Some.ensures.cases.1, c.take_in_header.ensures.onward);
     }
 
-pub returns-else-next-eq91 : goal.returns-else-next-eq91
-returns-else-next-eq91 g c =
+pub returns-then-next-eq93 : goal.returns-then-next-eq93
+returns-then-next-eq93 g c =
+    let n = g.C.CharAccumulator in
+    let means = g.P.Perform.means in
+    let begun = LeadsTo-byte n.takes n.taken means c.args.self.now c.step_by_answer.new.self c.args.performer.now c.step_by_answer.new.performer
+    c.args.first c.args.behind.now c.requires.can c.step_by_answer.ensures.machine c.step_by_answer.ensures.calls in
+    record {
+      leads =
+          LeadsTo-first n.takes n.taken means c.in-Some.ensures.cases.0 begun
+          (λ can. LeadsTo-byte n.takes n.taken means c.step_by_answer.new.self c.step_by_answer-then-next-eq93.new.self c.step_by_answer.new.performer c.step_by_answer-then-next-eq93.new.performer
+          c.in-Some.next.now c.in-Some.rest.now can c.step_by_answer-then-next-eq93.ensures.machine c.step_by_answer-then-next-eq93.ensures.calls);
+      within = omega (arith, c.in-Some.ensures.cases.1);
+    }
+
+pub returns-else-next-eq93 : goal.returns-else-next-eq93
+returns-else-next-eq93 g c =
     Takes-byte g.C.CharAccumulator.takes g.C.CharAccumulator.taken g.P.Perform.means c.args.self.now c.step_by_answer.new.self c.args.performer.now c.step_by_answer.new.performer
     c.args.first c.args.behind.now c.requires.can c.step_by_answer.ensures.machine c.step_by_answer.ensures.calls
 

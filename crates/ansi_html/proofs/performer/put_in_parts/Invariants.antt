@@ -2,7 +2,7 @@
 use Rattle.std.proofs.Common.{◌≡◌, ◌++◌, List, ℕ, length}
 use Rattle.anstyle_parse.specs.Io.Output.{Adds}
 use Rattle.ansi_html.specs.Html.{escaped_text}
-use Rattle.ansi_html.proofs.performer.put_escaped.Given as goal
+use Rattle.ansi_html.proofs.performer.put_in_parts.Given as goal
 
 abbrev pub invariant-text : goal.invariant-text
 invariant-text g l = record {

@@ -4,7 +4,7 @@ use Rattle.anstyle_parse.specs.Io.Output.{Adds}
 use Rattle.anstyle_parse.proofs.Written.Output.{Adds-nil, Adds-append}
 use Rattle.ansi_html.specs.Html.{escaped, escaped_text}
 use Rattle.ansi_html.proofs.HtmlLemmas.{clear_before, escaped_text-begun}
-use Rattle.ansi_html.proofs.performer.put_escaped.Goals as goal
+use Rattle.ansi_html.proofs.performer.put_in_parts.Goals as goal
 
 pub text-init : goal.text-init
 text-init g c = record { done = []; whole = refl; added = Adds-nil g.W.Sink c.args.output.now }

@@ -1,7 +1,7 @@
 #!/usr/bin/env python3
 """Compares what a program writes with what a peer writes of the same bytes.
 
-Usage: bench/compare.py PROGRAM PEER [--length N] [--streams N] [--seed WORD]
+Usage: bench/compare.py PROGRAM PEER [--cut] [--length N] [--streams N] [--seed WORD]
 
 PROGRAM and PEER are commands that read standard input, such as 'out/parselog log' and a program
 built of the Rust crate's sources, or a model. They are given
@@ -13,17 +13,22 @@ built of the Rust crate's sources, or a model. They are given
     damaged or cut anywhere.
 
 Many go in one run, with bytes between two after which every parser is as new; so pieces that a
-program reads end anywhere too. The shortest differences are shown first, made smaller.
+program reads end anywhere too. With --cut PROGRAM is handed each of them cut in two at every place, once for
+each place, and a read of it brings one piece; PEER reads the same bytes. After a beginning only each byte
+stands then. The shortest differences are shown first, made smaller.
 """
 
 import argparse
 import concurrent.futures
+import contextlib
 import itertools
 import os
 import random
 import shlex
+import socket
 import subprocess
 import sys
+import threading
 
 # ESC ends what is open (or breaks a character), ESC begins a sequence, 18 cancels it; 0A shows.
 BETWEEN = b"\x1b\x1b\x18\n"
@@ -44,7 +49,8 @@ BEGINNINGS = [
     *(b"\x1b]" + it for it in COMMANDS),
     *(bytes.fromhex(it) for it in ("E2 82", "ED", "EF BF", "F0 9F 98", "F4")),
 ]
-CHUNK = 1 << 18  # the bytes of one run
+CHUNK = 1 << 18  # the bytes of one run, each place that they are cut at counted
+PIECE = 4096  # the bytes of a read, at most
 SHOWN = 10  # so many differences end the search
 
 
@@ -57,9 +63,9 @@ def short_strings(length):
             yield bytes(letters)
 
 
-def continued_strings():
+def continued_strings(length):
     tails = [bytes([it]) for it in range(256)]
-    tails += [bytes(it) for it in itertools.product(LETTERS, repeat=2)]
+    tails += [bytes(it) for it in itertools.product(LETTERS, repeat=2) if length > 1]
     for beginning in sorted(BEGINNINGS, key=len):
         for tail in tails:
             yield beginning + tail
@@ -138,15 +144,42 @@ def random_streams(number, seed):
 # ------------------------------------------------------------------ comparing
 
 
+def cut_at_each_place(inputs):
+    """The pieces of each, cut in two once for each place, with what stands between two."""
+    for it in inputs:
+        for place in range(1, max(len(it), 2)):
+            yield from filter(None, (it[:place], it[place:], BETWEEN))
+
+
+def hand_on(pieces, to):
+    with to, contextlib.suppress(BrokenPipeError, ConnectionResetError):
+        for it in pieces:
+            for at in range(0, len(it), PIECE):
+                to.sendall(it[at : at + PIECE])
+
+
+def run(command, pieces):
+    """How a program ends, and what it writes, where a read brings one of these, or 4096 bytes of it."""
+    ours, its = socket.socketpair(socket.AF_UNIX, socket.SOCK_SEQPACKET)
+    with subprocess.Popen(command, stdin=its, stdout=subprocess.PIPE) as ran:
+        its.close()
+        sender = threading.Thread(target=hand_on, args=(pieces, ours))
+        sender.start()
+        written = ran.stdout.read()
+        sender.join()
+    return ran.returncode, written
+
+
 class Pair:
-    def __init__(self, program, peer):
-        self.commands = shlex.split(program), shlex.split(peer)
+    def __init__(self, program, peer, is_cut):
+        self.program, self.peer, self.is_cut = shlex.split(program), shlex.split(peer), is_cut
 
     def differ(self, inputs):
         """Whether the two end or write otherwise on these, handed over in one run."""
-        data = b"".join(it + BETWEEN for it in inputs)
-        ran = [subprocess.run(it, input=data, stdout=subprocess.PIPE) for it in self.commands]
-        return len({(it.returncode, it.stdout) for it in ran}) > 1
+        pieces = list(cut_at_each_place(inputs) if self.is_cut else (it + BETWEEN for it in inputs))
+        data = b"".join(pieces)
+        peer = subprocess.run(self.peer, input=data, stdout=subprocess.PIPE)
+        return run(self.program, pieces if self.is_cut else [data]) != (peer.returncode, peer.stdout)
 
     def different(self, inputs):
         """The first few of these on which the two differ."""
@@ -175,11 +208,11 @@ class Pair:
         return one
 
 
-def chunks(inputs):
+def chunks(inputs, is_cut):
     chunk, size = [], 0
     for it in inputs:
         chunk.append(it)
-        size += len(it) + len(BETWEEN)
+        size += (len(it) + len(BETWEEN)) * (max(len(it), 1) if is_cut else 1)
         if size >= CHUNK:
             yield chunk
             chunk, size = [], 0
@@ -192,7 +225,7 @@ def compare(pair, name, inputs):
     count = size = 0
     found = []
     with concurrent.futures.ThreadPoolExecutor(os.cpu_count()) as pool:
-        todo = chunks(inputs)
+        todo = chunks(inputs, pair.is_cut)
         while len(found) < SHOWN:
             some = list(itertools.islice(todo, 4 * os.cpu_count()))
             if not some:
@@ -214,15 +247,16 @@ def main():
     asked = argparse.ArgumentParser(usage=__doc__)
     asked.add_argument("program")
     asked.add_argument("peer")
+    asked.add_argument("--cut", action="store_true")
     asked.add_argument("--length", type=int, default=4)
     asked.add_argument("--streams", type=int, default=20000)
     asked.add_argument("--seed", default="1")
     given = asked.parse_args()
-    pair = Pair(given.program, given.peer)
+    pair = Pair(given.program, given.peer, given.cut)
     short = "every string of up to %d of %d letters" % (given.length, len(LETTERS))
     well = [
         compare(pair, short, short_strings(given.length)),
-        compare(pair, "strings after %d beginnings" % len(BEGINNINGS), continued_strings()),
+        compare(pair, "strings after %d beginnings" % len(BEGINNINGS), continued_strings(1 if given.cut else 2)),
         compare(pair, "random streams", random_streams(given.streams, given.seed)),
     ]
     return 0 if all(well) else 1

@@ -31,7 +31,8 @@ buffer_failed buffer = buffer.failed
 
 -- A prefix of what was held back was handed on, and the rest is still held back.
 abbrev pub HandsOn : {W : Type 0} → (W → Option (List ℕ)) → Buffer W → Buffer W → Type 0
-HandsOn contents old new = (handed : List ℕ) × (held_back old ≡ handed ++ held_back new) × Appends (contents (writer_behind old)) (contents (writer_behind new)) handed
+HandsOn contents old new = (handed : List ℕ) × (held_back old ≡ handed ++ held_back new)
+    × Appends (contents (writer_behind old)) (contents (writer_behind new)) handed
 
 -- what a fault was at the writer behind it: a flush that left bytes held back is a write
 abbrev pub fault_behind : Fault → (held : List ℕ) → Fault
@@ -48,7 +49,8 @@ EndsLine bytes = slice_get bytes (length bytes - 1) ≡ Some 0x0A
 
 -- The bytes can wait: there is room for them, and they end no line that is to be handed on.
 abbrev pub CanWait : {W : Type 0} → Buffer W → List ℕ → Type 0
-CanWait buffer bytes = (length (held_back buffer) + length bytes ≤ buffer_capacity) × (IsTrue (is_by_line buffer) → ¬ EndsLine bytes)
+CanWait buffer bytes =
+    (length (held_back buffer) + length bytes ≤ buffer_capacity) × (IsTrue (is_by_line buffer) → ¬ EndsLine bytes)
 
 -- The bytes are held back with those before, and nothing is handed on.
 abbrev pub HoldsBack : {W : Type 0} → List ℕ → Buffer W → Buffer W → Type 0

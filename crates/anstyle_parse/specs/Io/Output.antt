@@ -45,7 +45,8 @@ AddsTexts sink output_of text old calls new = Adds sink (flat_map text calls) (o
 -- What comes of a flush: Ok, or the fault Flush where the writer failed, and that by a flush.
 abbrev pub Flushes : {W T : Type 0} → SinkOf W → Result T Fault → W → W → Type 0
 Flushes sink answer old new =
-    MatchResult answer (λ _. sink.has_failed new ≡ sink.has_failed old) (λ fault. (fault ≡ Flush) × IsTrue (sink.has_failed new) × sink.failed_as new Flush)
+    MatchResult answer (λ _. sink.has_failed new ≡ sink.has_failed old)
+    (λ fault. (fault ≡ Flush) × IsTrue (sink.has_failed new) × sink.failed_as new Flush)
 
 -- The end of an output. Where a fault is kept, that is the answer; else the writer is
 -- flushed. Nothing is written.

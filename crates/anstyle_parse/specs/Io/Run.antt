@@ -24,14 +24,15 @@ StopsAs AtFault at_end fault failed failed_after count = IsSome fault × (failed
 StopsAs AtRead at_end fault failed failed_after count = (fault ≡ None) × (IsTrue failed_after ⊎ (most_reads ≤ count))
 
 -- A new parser was given what the reader gave, and its performer received the calls.
-pub record Drives {R W P : Type 0} (source : SourceOf R) (receives : P → List Call → P → Type 0) (output_of : P → Output W)
-    (reader reader_after : R) (performer performer_after : P) (stop : Stop) : Type 0 where
+pub record Drives {R W P : Type 0} (source : SourceOf R) (receives : P → List Call → P → Type 0)
+    (output_of : P → Output W) (reader reader_after : R) (performer performer_after : P) (stop : Stop) : Type 0 where
   pub read : List ℕ
   pub calls : List Call
   pub consumed : Consumes (source.remaining reader) (source.remaining reader_after) read
   pub are_calls : AreCalls read calls
   pub received : receives performer calls performer_after
-  pub stops : StopsAs stop (IsTrue source.zero_is_end → IsAtEnd (source.remaining reader_after)) (fault_in (output_of performer_after)) (source.has_failed reader) (source.has_failed reader_after) (length read)
+  pub stops : StopsAs stop (IsTrue source.zero_is_end → IsAtEnd (source.remaining reader_after))
+      (fault_in (output_of performer_after)) (source.has_failed reader) (source.has_failed reader_after) (length read)
 
 -- Where a write failed, a proper prefix of the text is written, and else all of it.
 abbrev pub WritesText : {T : Type 0} → Result T Fault → (before after : Option (List ℕ)) → List ℕ → Type 0
@@ -49,8 +50,10 @@ pub record BreaksOff (before after : Option (List ℕ)) (text ending : List ℕ)
 -- What is written of a text and its ending. Where a write failed, a proper prefix of both.
 -- Where a read failed, the text, and all of the ending, or where a write of it then failed too
 -- a proper prefix of it. Else both.
-abbrev pub WritesEnded : {T : Type 0} → Result T Fault → (writer_failed : Bool) → (before after : Option (List ℕ)) → (text ending : List ℕ) → Type 0
-WritesEnded (Err Read) writer_failed before after text ending = Appends before after (text ++ ending) ⊎ (BreaksOff before after text ending × IsTrue writer_failed)
+abbrev pub WritesEnded : {T : Type 0} → Result T Fault → (writer_failed : Bool) → (before after : Option (List ℕ))
+    → (text ending : List ℕ) → Type 0
+WritesEnded (Err Read) writer_failed before after text ending =
+    Appends before after (text ++ ending) ⊎ (BreaksOff before after text ending × IsTrue writer_failed)
 WritesEnded answer writer_failed before after text ending = WritesText answer before after (text ++ ending)
 
 -- Where reads and writes went well, nothing is left to be read.
@@ -64,28 +67,35 @@ LeavesNothing (Err _) remaining = ⊤
 abbrev pub IsCausedBy : {W T : Type 0} → SinkOf W → Result T Fault → (reader_failed : Bool) → W → ℕ → Type 0
 IsCausedBy sink (Ok done) reader_failed writer count = (reader_failed ≡ false) × (sink.has_failed writer ≡ false)
 IsCausedBy sink (Err Read) reader_failed writer count = IsTrue reader_failed ⊎ (most_reads ≤ count)
-IsCausedBy sink (Err Write) reader_failed writer count = (reader_failed ≡ false) × IsTrue (sink.has_failed writer) × sink.failed_as writer Write
-IsCausedBy sink (Err Flush) reader_failed writer count = (reader_failed ≡ false) × IsTrue (sink.has_failed writer) × sink.failed_as writer Flush
+IsCausedBy sink (Err Write) reader_failed writer count =
+    (reader_failed ≡ false) × IsTrue (sink.has_failed writer) × sink.failed_as writer Write
+IsCausedBy sink (Err Flush) reader_failed writer count =
+    (reader_failed ≡ false) × IsTrue (sink.has_failed writer) × sink.failed_as writer Flush
 
 -- A run: the bytes that were read and their calls, what was written, what is left unread,
 -- and the cause of the answer.
 pub record Runs {R W T : Type 0} (source : SourceOf R) (sink : SinkOf W)
-    (text : List Call → List ℕ) (reader reader_after : R) (writer writer_after : W) (answer : Result T Fault) : Type 0 where
+    (text : List Call → List ℕ) (reader reader_after : R) (writer writer_after : W)
+    (answer : Result T Fault) : Type 0 where
   pub read : List ℕ
   pub calls : List Call
   pub consumed : Consumes (source.remaining reader) (source.remaining reader_after) read
   pub are_calls : AreCalls read calls
   pub written : WritesText answer (sink.contents writer) (sink.contents writer_after) (text calls)
   pub unread : IsTrue source.zero_is_end → LeavesNothing answer (source.remaining reader_after)
-  pub causes : source.has_failed reader ≡ false → sink.has_failed writer ≡ false → IsCausedBy sink answer (source.has_failed reader_after) writer_after (length read)
+  pub causes : source.has_failed reader ≡ false → sink.has_failed writer ≡ false
+      → IsCausedBy sink answer (source.has_failed reader_after) writer_after (length read)
 
 -- The same where the text of the calls has an ending.
 pub record RunsToEnding {R W T : Type 0} (source : SourceOf R) (sink : SinkOf W)
-    (text ending : List Call → List ℕ) (reader reader_after : R) (writer writer_after : W) (answer : Result T Fault) : Type 0 where
+    (text ending : List Call → List ℕ) (reader reader_after : R) (writer writer_after : W)
+    (answer : Result T Fault) : Type 0 where
   pub read : List ℕ
   pub calls : List Call
   pub consumed : Consumes (source.remaining reader) (source.remaining reader_after) read
   pub are_calls : AreCalls read calls
-  pub written : WritesEnded answer (sink.has_failed writer_after) (sink.contents writer) (sink.contents writer_after) (text calls) (ending calls)
+  pub written : WritesEnded answer (sink.has_failed writer_after) (sink.contents writer) (sink.contents writer_after)
+      (text calls) (ending calls)
   pub unread : IsTrue source.zero_is_end → LeavesNothing answer (source.remaining reader_after)
-  pub causes : source.has_failed reader ≡ false → sink.has_failed writer ≡ false → IsCausedBy sink answer (source.has_failed reader_after) writer_after (length read)
+  pub causes : source.has_failed reader ≡ false → sink.has_failed writer ≡ false
+      → IsCausedBy sink answer (source.has_failed reader_after) writer_after (length read)

@@ -27,12 +27,14 @@ pub record LeadsTo {C P : Type 0} (takes : C → ℕ → Type 0) (adds : Accumul
 
 -- the same from a first byte on, which is not left
 pub record Takes {C P : Type 0} (takes : C → ℕ → Type 0) (adds : AccumulatorStep C) (means : P → Call → P → Type 0)
-    (old : Parser C) (before : P) (first : ℕ) (behind : List ℕ) (new : Parser C) (after : P) (left : List ℕ) : Type 0 where
+    (old : Parser C) (before : P) (first : ℕ) (behind : List ℕ) (new : Parser C) (after : P)
+    (left : List ℕ) : Type 0 where
   pub leads : LeadsTo takes adds means old before (first ∷ behind) new after left
   pub within : length left ≤ length behind
 
 -- the same with no call on the way
-pub record LeadsQuietlyTo {C : Type 0} (takes : C → ℕ → Type 0) (adds : AccumulatorStep C) (old : Parser C) (bytes : List ℕ) (new : Parser C) (left : List ℕ) : Type 0 where
+pub record LeadsQuietlyTo {C : Type 0} (takes : C → ℕ → Type 0) (adds : AccumulatorStep C)
+    (old : Parser C) (bytes : List ℕ) (new : Parser C) (left : List ℕ) : Type 0 where
   pub can : CanTakeAll takes new left
   pub machine : machine_after adds left (machine_of new) ≡ machine_after adds bytes (machine_of old)
   pub calls : machine_calls adds left (machine_of new) ≡ machine_calls adds bytes (machine_of old)
@@ -59,9 +61,11 @@ run_calls OfIgnoredHeader b = []
 
 -- in this state each byte of the run does that, and keeps the state
 abbrev pub KeepsTo : Run → State → Type 0
-KeepsTo run state = (state ≢ Utf8) × ((b : ℕ) → IsTrue (is_of_run run b) → change_at state b ≡ (Anywhere by run_action run))
+KeepsTo run state =
+    (state ≢ Utf8) × ((b : ℕ) → IsTrue (is_of_run run b) → change_at state b ≡ (Anywhere by run_action run))
 
 -- the performer goes from before to after by the calls of each byte in turn
 abbrev pub AreMade : {P : Type 0} → (P → Call → P → Type 0) → (ℕ → List Call) → P → List ℕ → P → Type 0
 AreMade means calls before [] after = after ≡ before
-AreMade {P} means calls before (b ∷ bytes) after = (mid : P) × Goes means before (calls b) mid × AreMade means calls mid bytes after
+AreMade {P} means calls before (b ∷ bytes) after =
+    (mid : P) × Goes means before (calls b) mid × AreMade means calls mid bytes after

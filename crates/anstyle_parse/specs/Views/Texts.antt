@@ -13,7 +13,8 @@ use Rattle.anstyle_parse.specs.Views.Parser.{machine_of}
 
 -- the bytes begin with whole characters that can be printed, and these bytes are left
 abbrev pub BeginWithText : List ℕ → (left : List ℕ) → Type 0
-BeginWithText bytes left = (characters : List ℕ) × EachIs is_character characters × (bytes ≡ encode_utf8_all characters ++ left)
+BeginWithText bytes left =
+    (characters : List ℕ) × EachIs is_character characters × (bytes ≡ encode_utf8_all characters ++ left)
 
 -- in the ground state, and no character is begun
 abbrev pub AtText : Parser Utf8Parser → Type 0
@@ -31,8 +32,10 @@ pub record IsTextAt (parser : Parser Utf8Parser) (bytes text left : List ℕ) : 
 -- Going on from here with what is left is going from the start with all bytes, and what calls
 -- are made on the way the performer has received.
 pub record LeadsByTextTo {P : Type 0} (receives : P → List Call → P → Type 0)
-    (old : Parser Utf8Parser) (before : P) (bytes : List ℕ) (new : Parser Utf8Parser) (after : P) (left : List ℕ) : Type 0 where
+    (old : Parser Utf8Parser) (before : P) (bytes : List ℕ) (new : Parser Utf8Parser) (after : P)
+    (left : List ℕ) : Type 0 where
   pub machine : machine_after parser_after left (machine_of new) ≡ machine_after parser_after bytes (machine_of old)
   pub made : List Call
-  pub joined : machine_calls parser_after bytes (machine_of old) ≡ made ++ machine_calls parser_after left (machine_of new)
+  pub joined : machine_calls parser_after bytes (machine_of old)
+      ≡ made ++ machine_calls parser_after left (machine_of new)
   pub received : receives before made after

@@ -322,7 +322,7 @@ impl<C: CharAccumulator> Parser<C> {
 impl<C: CharAccumulator> Parser<C> {
     ghost use Rattle.anstyle_parse.specs.Views.Parser.{CanTakeAll};
 
-    /// What ends a string, or begins a command; another byte by the table.
+    /// What ends a string; another byte by the table.
     #[inline(always)]
     fn take_after_escape<'a, P: Perform>(
         &mut self,
@@ -337,10 +337,6 @@ impl<C: CharAccumulator> Parser<C> {
     {
         if first == b'\\' {
             self.step_by_answer(performer, State::Ground, Action::EscDispatch, first);
-            return behind;
-        }
-        if first == b']' {
-            self.step_by_answer(performer, State::OscString, Action::Nop, first);
             return behind;
         }
         self.take_by_table(performer, first, behind)

@@ -1,18 +1,10 @@
-use Rattle.anstyle_parse.proofs.Machine.Runs.{change_at-string_end, change_at-command, Takes-byte}
+use Rattle.anstyle_parse.proofs.Machine.Runs.{change_at-string_end, Takes-byte}
 use Rattle.anstyle_parse.proofs.parser.Parser.take_after_escape.Goals as goal
 
 pub step_by_answer-requires-clause-known : goal.step_by_answer-requires-clause-known
 step_by_answer-requires-clause-known g c = change_at-string_end c.args.self.now.state c.args.first c.requires.escape c.if-first-eq92.true
 
-pub step_by_answer-requires-then-first-eq93-clause-known : goal.step_by_answer-requires-then-first-eq93-clause-known
-step_by_answer-requires-then-first-eq93-clause-known g c = change_at-command c.args.self.now.state c.args.first c.requires.escape c.if-first-eq93.true
-
 pub returns-then-first-eq92 : goal.returns-then-first-eq92
 returns-then-first-eq92 g c =
     Takes-byte g.C.CharAccumulator.takes g.C.CharAccumulator.taken g.P.Perform.means c.args.self.now c.step_by_answer.new.self c.args.performer.now c.step_by_answer.new.performer
     c.args.first c.args.behind.now c.requires.can c.step_by_answer.ensures.machine c.step_by_answer.ensures.calls
-
-pub returns-then-first-eq93 : goal.returns-then-first-eq93
-returns-then-first-eq93 g c =
-    Takes-byte g.C.CharAccumulator.takes g.C.CharAccumulator.taken g.P.Perform.means c.args.self.now c.step_by_answer-then-first-eq93.new.self c.args.performer.now c.step_by_answer-then-first-eq93.new.performer
-    c.args.first c.args.behind.now c.requires.can c.step_by_answer-then-first-eq93.ensures.machine c.step_by_answer-then-first-eq93.ensures.calls

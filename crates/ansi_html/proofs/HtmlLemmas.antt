@@ -81,6 +81,13 @@ pub escaped_text-clear : (bytes : List ℕ) → AreClear bytes → escaped_text 
 escaped_text-clear [] clear = refl
 escaped_text-clear (b ∷ bytes) clear = ap (λ l. l ++ escaped_text bytes) (escaped-clear b clear.0) ∙ ap (λ l. b ∷ l) (escaped_text-clear bytes clear.1)
 
+-- a character, escaped
+pub escaped_ascii : (c : ℕ) → c < 0x80 → escaped_text (encode_utf8 c) ≡ escaped c
+escaped_ascii c ascii = ap escaped_text (encode_one c ascii) ∙ escaped_one c
+
+pub escaped_high : (c : ℕ) → 0x80 ≤ c → escaped_text (encode_utf8 c) ≡ encode_utf8 c
+escaped_high c high = escaped_text-clear (encode_utf8 c) (AreClear-high (encode_utf8 c) (AreHigh-encode c high))
+
 -- bytes with no meaning, one after another
 AreClear-append : (bytes more : List ℕ) → AreClear bytes → AreClear more → AreClear (bytes ++ more)
 AreClear-append [] more first second = second

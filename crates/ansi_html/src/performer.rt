@@ -1,5 +1,5 @@
 //! The performer that writes HTML.
-ghost use Rattle.std.specs.Prelude.{◌≡◌, [], false, refl};
+ghost use Rattle.std.specs.Prelude.{◌≡◌, [], false, encode_utf8, refl};
 ghost use Rattle.anstyle_parse.specs.Io.Output.{Adds};
 ghost use Rattle.ansi_style.specs.Style.{plain};
 ghost use Rattle.ansi_html.specs.Css.{css};
@@ -158,6 +158,19 @@ fn put_in_parts<W: Sink>(output: &mut Output<W>, text: &[u8])
     }
 }
 
+/// Writes a character, of which none but those of ASCII has a meaning in HTML.
+#[inline]
+#[tactic(auto, using(crate::proofs::HtmlLemmas::escaped_ascii, crate::proofs::HtmlLemmas::escaped_high))]
+fn put_character<W: Sink>(output: &mut Output<W>, c: char)
+    ensures { Adds W.Sink (escaped_text (encode_utf8 c)) output.old output.new }
+{
+    if c.is_ascii() {
+        put_reference(output, c as u8);
+    } else {
+        output.put_char(c);
+    }
+}
+
 /// Writes a byte, as a character reference where it has a meaning in HTML.
 fn put_reference<W: Sink>(output: &mut Output<W>, byte: u8)
     ensures { Adds W.Sink (escaped byte) output.old output.new }
@@ -179,9 +192,8 @@ impl<W: Sink> Perform for HtmlWriter<W> {
 
     #[inline]
     fn print(&mut self, c: char) {
-        let mut bytes = [0; 4];
         self.begin_text();
-        put_escaped(&mut self.output, c.encode_utf8(&mut bytes).as_bytes());
+        put_character(&mut self.output, c);
     }
 
     #[inline]

@@ -1,4 +1,5 @@
-use Rattle.std.proofs.Common.{List, ℕ, ◌++◌, sym, ap, subst, ◌∙◌}
+use Rattle.std.proofs.Common.{List, ℕ, ◌++◌, sym, subst, ◌∙◌}
+use Rattle.std.specs.Prelude.{encode_utf8}
 use Rattle.anstyle_parse.specs.Io.Output.{Adds}
 use Rattle.anstyle_parse.proofs.Written.Output.{Adds-append}
 use Rattle.ansi_html.specs.Html.{change, escaped_text}
@@ -11,11 +12,9 @@ returns g c =
     let before = c.args.self.now in
     let shown = shown_of before in
     let style = style_of before in
-    let bytes = c.as_bytes.result.now in
-    let same = c.as_bytes.ensures.value ∙ c.encode_utf8.ensures.value in
     record {
       style = c.begin_text.ensures.style;
       shown = c.begin_text.ensures.shown ∙ sym (shown_after-encode shown style c.args.c);
-      added = subst (λ (text : List ℕ). Adds g.W.Sink text (output_of before) c.put_escaped.new.output) (ap (λ t. change shown style ++ escaped_text t) same ∙ sym (text_html-encode shown style c.args.c))
-          (Adds-append g.W.Sink (change shown style) (escaped_text bytes) (output_of before) (output_of c.begin_text.new.self) c.put_escaped.new.output c.begin_text.ensures.added c.put_escaped.ensures);
+      added = subst (λ (text : List ℕ). Adds g.W.Sink text (output_of before) c.put_character.new.output) (sym (text_html-encode shown style c.args.c))
+          (Adds-append g.W.Sink (change shown style) (escaped_text (encode_utf8 c.args.c)) (output_of before) (output_of c.begin_text.new.self) c.put_character.new.output c.begin_text.ensures.added c.put_character.ensures);
     }

@@ -3,7 +3,7 @@
 //! Each function takes what goes together at the front of the bytes and answers the rest. Its
 //! clause says that going on from where it leaves with the rest is taking all bytes one after
 //! another. A byte that is in no run goes through the table.
-ghost use Rattle.std.specs.Prelude.{◌≡◌, ◌≢◌, ◌≤◌, ◌-◌, ◌∷◌, ◌⊎◌, ◌||◌, IsTrue, length};
+ghost use Rattle.std.specs.Prelude.{◌≡◌, ◌≢◌, ◌≤◌, ◌+◌, ◌-◌, ◌∷◌, ◌⊎◌, ◌||◌, ℕ, IsTrue, length};
 ghost use Rattle.std.specs.Prelude.{take};
 ghost use Rattle.anstyle_parse.specs.Stream.Bytes.{is_within, is_final};
 ghost use Rattle.anstyle_parse.specs.Stream.Call.{Goes};
@@ -12,14 +12,13 @@ ghost use Rattle.anstyle_parse.specs.Stream.Items.{EachIs};
 ghost use Rattle.anstyle_parse.specs.Views.Runs.{Takes, LeadsTo, LeadsQuietlyTo, KeepsTo, is_of_run, run_calls, AreMade};
 
 use super::Parser;
+use super::chunks::{CHUNK, outside};
 use super::command::is_plain_byte;
 use crate::accumulator::CharAccumulator;
 use crate::controls::{BELL, CANCEL, ESCAPE, SPACE};
 use crate::perform::Perform;
 use crate::state::{Action, State};
-
-/// How many bytes are tested at once.
-const CHUNK: usize = 16;
+use std::simd::prelude::*;
 
 /// Bytes that leave the machine as it is.
 #[derive(Clone, Copy, PartialEq, Eq)]
@@ -48,16 +47,25 @@ impl Run {
         }
     }
 
-    /// Whether all are of the run. It has no early exit, so that a chunk is tested at once.
+    /// How many bytes are of the run, from 20 on.
     #[inline(always)]
-    fn has_all(self, bytes: &[u8]) -> bool
-        ensures { IsTrue result → EachIs (λ b. is_of_run self b) bytes.now }
+    fn count(self) -> u8
+        ensures of_run { (b : ℕ) → is_of_run self b ≡ is_within 0x20 (0x1F + result) b }
+        ensures few { result ≤ 0x60 }
     {
-        let mut all = true;
-        for byte in bytes {
-            all = all & self.has(*byte);
+        match self {
+            Run::Printed | Run::OfIgnoredString => 0x60,
+            Run::OfHookedString => 0x5F,
+            Run::OfIgnoredHeader => 0x20,
         }
-        all
+    }
+
+    /// Whether all are of the run.
+    #[inline(always)]
+    fn has_all(self, chunk: &[u8; CHUNK]) -> bool
+        ensures { IsTrue result → EachIs (λ b. is_of_run self b) chunk.now }
+    {
+        outside(u8x16::from_array(*chunk), self.count()) == 0
     }
 
     /// Makes the call of a byte of the run, if it has one.

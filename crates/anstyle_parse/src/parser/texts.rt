@@ -1,21 +1,21 @@
 //! Texts: characters that are printed one after another, and handed on at once.
-ghost use Rattle.std.specs.Prelude.{◌≡◌, ◌≤◌, ◌||◌, ◌++◌, ℕ, List, IfSome, length, map, not};
+ghost use Rattle.std.specs.Prelude.{◌≡◌, ◌≤◌, ◌||◌, ◌++◌, ℕ, List, IfSome, length};
 ghost use Rattle.std.specs.List.{prefix_len};
-ghost use Rattle.std.specs.Simd.Lanes.{mask_l};
 ghost use Rattle.anstyle_parse.specs.Stream.Bytes.{is_within};
 ghost use Rattle.anstyle_parse.specs.Stream.Characters.{is_lead};
 ghost use Rattle.anstyle_parse.specs.Views.Accumulator.{front_of, parser_after};
 ghost use Rattle.anstyle_parse.specs.Views.Texts.{BeginWithText, IsTextAt};
 
+use super::Parser;
+use super::chunks::{CHUNK, outside};
 use crate::accumulator::Utf8Parser;
-use crate::parser::Parser;
 use crate::perform::PerformText;
 use crate::state::State;
 use crate::utf8::{Front, whole};
 use std::simd::prelude::*;
 
-/// How many bytes are tested at once.
-const CHUNK: usize = 16;
+/// How many bytes are characters of their own and printed, from 20 on.
+const PRINTED: u8 = 0x60;
 
 /// A byte that is a character of its own and is printed: 20..7F.
 #[inline(always)]
@@ -35,24 +35,13 @@ fn begins_text(byte: u8) -> bool
     matches!(byte, 0x20..=0x7F | 0xC2..=0xF4)
 }
 
-/// A bit for each byte, the lowest for the first: whether it is not printed. All are tested at
-/// once: with 20 taken off, modulo 100, the printed ones are those below 60.
-#[inline(always)]
-fn unprinted(bytes: u8x16) -> u64
-    ensures { result ≡ mask_l (map (λ b. not (is_within 0x20 0x7F b)) bytes) }
-{
-    (bytes - u8x16::splat(0x20))
-        .simd_ge(u8x16::splat(0x60))
-        .to_bitmask()
-}
-
 /// How many bytes of a chunk come before the first that is not printed.
 #[inline(always)]
 fn printed_count(chunk: &[u8; CHUNK]) -> usize
     ensures within { result ≤ length chunk.now }
     ensures count { result ≡ prefix_len (λ b. is_within 0x20 0x7F b) chunk.now }
 {
-    let others = unprinted(u8x16::from_array(*chunk));
+    let others = outside(u8x16::from_array(*chunk), PRINTED);
     if others == 0 {
         CHUNK
     } else {

@@ -11,7 +11,7 @@ CC = cc
 PYTHON = python3
 INSTALL = install
 
-PROGRAMS = ansi2text ansi2html parselog
+PROGRAMS = ansi2text ansi2html ansi2screen parselog
 VERSION := $(shell sed -n 's/^pub const VERSION: &str = "\(.*\)";$$/\1/p' crates/standard_streams/src/options.rt)
 MAJOR := $(firstword $(subst ., ,$(VERSION)))
 

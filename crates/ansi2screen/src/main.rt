@@ -6,8 +6,7 @@ mod tests;
 mod words;
 
 use ansi_screen::Screen;
-use anstyle_parse::io::{Fault, FromRead, Output, Source};
-use anstyle_parse::{Parser, Utf8Parser};
+use anstyle_parse::io::{FromRead, Output, perform_to_end};
 use standard_streams::{
     answered, asked_of, buffered, ended_with_reason, failed, given_words, misused, value_of,
 };
@@ -16,9 +15,6 @@ use words::{HELP, OPTIONS, SIZE, WRONG_SIZE, named_size};
 
 /// The name at the front of what the program says of failures.
 const PROGRAM: &str = "ansi2screen";
-
-/// The bytes that one read is asked for.
-const PIECE: usize = 4096;
 
 fn main(rt: HostRuntime) -> ExitCode {
     let Ok(words) = given_words(&rt) else {
@@ -34,23 +30,9 @@ fn main(rt: HostRuntime) -> ExitCode {
         return failed(&rt, PROGRAM, "out of memory");
     };
     let mut reader = FromRead::new(rt.stdin());
-    let read = read_all(&mut reader, &mut screen);
+    let read = perform_to_end(&mut reader, &mut screen);
     let mut output = Output::new(buffered(rt.stdout()));
     screen.write_text(&mut output);
     let (writer, answer) = output.finish();
     ended_with_reason(&rt, PROGRAM, reader, (writer, read.and(answer)))
-}
-
-/// Gives the screen what the reader gives, through a new parser.
-fn read_all<R: Source>(reader: &mut R, screen: &mut Screen) -> Result<(), Fault> {
-    let mut parser = Parser::<Utf8Parser>::new();
-    let mut piece = [0; PIECE];
-    for _ in 0..u64::MAX {
-        match reader.read(&mut piece) {
-            None => return Err(Fault::Read),
-            Some(0) => return Ok(()),
-            Some(count) => parser.advance_all(screen, &piece[..count]),
-        }
-    }
-    Err(Fault::Read)
 }

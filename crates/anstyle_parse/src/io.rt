@@ -7,7 +7,7 @@ mod output;
 
 pub use buffer::Buffer;
 pub use devices::{FromRead, FromWrite, Sink, Source};
-pub use engine::{CallWriter, Stop, drive, write_calls, write_calls_between};
+pub use engine::{CallWriter, Stop, drive, perform_to_end, write_calls, write_calls_between};
 pub use output::Output;
 
 /// What went wrong with a reader or a writer.

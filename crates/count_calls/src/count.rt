@@ -1,6 +1,4 @@
 //! The performer that counts, and how it is fed.
-ghost use Rattle.std.specs.Prelude.{⊤};
-
 use anstyle_parse::{Params, Parser, Perform, Utf8Parser};
 
 /// The number of calls, and the sum of their kinds and arguments, which wraps.
@@ -48,7 +46,7 @@ impl Count {
 }
 
 impl Perform for Count {
-    ghost means = { λ _ _ _. ⊤ };
+    ghost means = { λ _ _ _. Unit {0} };
 
     #[inline]
     fn print(&mut self, c: char) {

@@ -5,7 +5,7 @@ ghost use Rattle.std.specs.Prelude.{◌≡◌, [], false, OnOk, OnErr, IfErr};
 ghost use Rattle.std.specs.Process.{exit_status};
 ghost use Rattle.anstyle_parse.specs.Io.Buffer.{writer_behind, held_back, is_by_line};
 ghost use Rattle.anstyle_parse.specs.Io.Devices.{writer_of, writer_error, writer_failed};
-ghost use Rattle.standard_streams.specs.Words.{message_of, is_broken_pipe, status_of, status_after};
+ghost use Rattle.standard_streams.specs.Words.{message_of, is_broken_pipe, answer_behind, status_of, status_after};
 
 mod options;
 
@@ -25,7 +25,8 @@ const READER_GONE: u8 = 141;
 const MISUSED: u8 = 2;
 
 /// The output behind a [`Buffer`], as a program writes to it: on a terminal each line is handed
-/// on when it ends, and else 8 KiB at a time; a run hands on what is left before each read. The buffer holds nothing, and nothing has failed.
+/// on when it ends, and else 8 KiB at a time; a run hands on what is left before each read. The
+/// buffer holds nothing, and nothing has failed.
 pub fn buffered<W: Write + IsTerminal>(output: W) -> Buffer<FromWrite<W>>
     ensures output { writer_of (writer_behind result) ≡ output }
     ensures empty { held_back result ≡ [] }
@@ -71,10 +72,7 @@ pub fn ended<W: Sink + Drop>(
     ensures fault { OnErr ran.1 (exit_status result ≡ 1) }
 {
     let (output, answer) = ran;
-    match answer {
-        Ok(()) => ExitCode::SUCCESS,
-        Err(fault) => failed(rt, program, message(output.fault_behind(fault))),
-    }
+    ended_by(rt, program, answer_behind(&output, answer), None)
 }
 
 /// The same, which says on standard error why: the words of the error of std after the fault's. Where
@@ -91,14 +89,35 @@ pub fn ended_with_reason<R: Read + Drop, W: Write + Drop>(
         (λ fault. exit_status result ≡ status_after fault (writer_error (writer_behind ran.0))) }
 {
     let (output, answer) = ran;
+    let answer = answer_behind(&output, answer);
+    let error = match answer {
+        Err(Fault::Read) => reader.error(),
+        _ => output.into_inner().error(),
+    };
+    ended_by(rt, program, answer, error)
+}
+
+/// The answer of a run, with its fault as it was at the output behind the buffer.
+fn answer_behind<W: Sink>(output: &Buffer<W>, answer: Result<(), Fault>) -> Result<(), Fault>
+    ensures { result ≡ answer_behind answer (held_back output.now) }
+{
+    answer.map_err(|fault| output.fault_behind(fault))
+}
+
+/// The end of a program that this came of, with the error of what failed, if it is known.
+fn ended_by(
+    rt: &impl Eprint,
+    program: &str,
+    answer: Result<(), Fault>,
+    error: Option<io::Error>,
+) -> ExitCode
+    ensures went_well { OnOk answer (exit_status result ≡ 0) }
+    ensures fault { IfErr answer (λ fault. exit_status result ≡ status_after fault error) }
+{
     match answer {
         Ok(()) => ExitCode::SUCCESS,
-        Err(Fault::Read) => reported(rt, program, message(Fault::Read), reader.error()),
-        Err(fault) => {
-            let what = message(output.fault_behind(fault));
-            let writer = output.into_inner();
-            output_failed(rt, program, what, writer.error())
-        }
+        Err(Fault::Read) => reported(rt, program, message(Fault::Read), error),
+        Err(fault) => output_failed(rt, program, message(fault), error),
     }
 }
 

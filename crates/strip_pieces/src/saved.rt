@@ -61,4 +61,6 @@ impl Sink for Saved {
     fn flush(&mut self) -> bool {
         true
     }
+
+    fn pass_on(&mut self) {}
 }

@@ -9,7 +9,7 @@ use Rattle.anstyle_parse.specs.declared.io.engine.Stop.{Stop}
 use Rattle.anstyle_parse.specs.declared.io.output.Output.{Output}
 use Rattle.anstyle_parse.specs.declared.io.engine.Stop.TheVariants.{AtEnd, AtFault, AtRead}
 use Rattle.anstyle_parse.specs.Stream.Call.{Call}
-use Rattle.anstyle_parse.specs.Stream.Calls.{AreCalls}
+use Rattle.anstyle_parse.specs.Stream.Calls.{AreCalls, HasReceived}
 use Rattle.anstyle_parse.specs.Io.Output.{AppendsPrefix, fault_in}
 
 -- the reads of one run at most
@@ -22,6 +22,21 @@ abbrev pub StopsAs : Stop → (at_end : Type 0) → (fault : Option Fault) → (
 StopsAs AtEnd at_end fault failed failed_after count = at_end × (fault ≡ None) × (failed_after ≡ failed)
 StopsAs AtFault at_end fault failed failed_after count = IsSome fault × (failed_after ≡ failed)
 StopsAs AtRead at_end fault failed failed_after count = (fault ≡ None) × (IsTrue failed_after ⊎ (most_reads ≤ count))
+
+-- Why no more was read: the reader is at its end; or a read failed, or as many bytes were read as
+-- reads are made at most, each of which gave some.
+abbrev pub EndsAs : {T : Type 0} → Result T Fault → (at_end : Type 0) → (failed failed_after : Bool) → ℕ → Type 0
+EndsAs (Ok done) at_end failed failed_after count = at_end × (failed_after ≡ failed)
+EndsAs (Err Read) at_end failed failed_after count = IsTrue failed_after ⊎ (most_reads ≤ count)
+EndsAs (Err _) at_end failed failed_after count = ⊥
+
+-- A new parser was given what the reader gave, and its performer has received exactly the calls.
+pub record PerformsToEnd {R P T : Type 0} (source : SourceOf R) (means : P → Call → P → Type 0)
+    (reader reader_after : R) (performer performer_after : P) (answer : Result T Fault) : Type 0 where
+  pub read : List ℕ
+  pub consumed : Consumes (source.remaining reader) (source.remaining reader_after) read
+  pub received : HasReceived means performer read performer_after
+  pub ends : EndsAs answer (IsTrue source.zero_is_end → IsAtEnd (source.remaining reader_after)) (source.has_failed reader) (source.has_failed reader_after) (length read)
 
 -- A new parser was given what the reader gave, and its performer received the calls.
 pub record Drives {R W P : Type 0} (source : SourceOf R) (receives : P → List Call → P → Type 0)

@@ -1,5 +1,5 @@
 //! Where bytes come from, and where they go.
-ghost use Rattle.std.specs.Prelude.{◌≡◌, ◌<◌, ◌≤◌, ℕ, Bool, true, false, List, Option, None, Some, length, take, IsTrue, IfSome, IfNone, OnSome, ⊤};
+ghost use Rattle.std.specs.Prelude.{◌≡◌, ◌<◌, ◌≤◌, ◌↔◌, ℕ, Bool, true, false, List, Option, None, Some, is_some, length, take, IsTrue, IfSome, IsSome, IfNone, OnSome, ⊤};
 ghost use Rattle.std.specs.Bool.{OnTrue, OnFalse};
 ghost use Rattle.std.specs.Option.{option_or};
 ghost use Rattle.std.specs.Io.KnownBytes.{Keeps, Appends, Consumes, IsAtEnd};
@@ -42,7 +42,7 @@ pub trait Source {
 /// An implementation tells in `contents` which bytes it has taken, where it knows them, in
 /// `has_failed` whether a write or a flush has failed, where it knows it, in `failed_as` what the
 /// last call that failed was, and, where it holds bytes back, in `holds_nothing` when it holds
-/// none.
+/// none, and in `has_passed_on` how it stands when it was asked to pass on what it held.
 pub trait Sink {
     // The bytes that it has taken, where they are known.
     ghost contents: { Self → Option (List ℕ) };
@@ -52,6 +52,8 @@ pub trait Sink {
     ghost failed_as: { Self → AFault → Type 0 } = { λ _ _. ⊤ };
     // None of these bytes is held back.
     ghost holds_nothing: { Self → Type 0 } = { λ _. ⊤ };
+    // What was held back was passed on, as far as that went well.
+    ghost has_passed_on: { Self → Type 0 } = { λ _. ⊤ };
 
     /// Takes bytes from the front of the slice, and answers how many: of some bytes at
     /// least 1. `None` where it failed, and then no byte passed.
@@ -88,7 +90,7 @@ pub trait Sink {
     fn pass_on(&mut self)
         ensures nothing_passed { Keeps (contents self.old) (contents self.new) }
         ensures not_told { has_failed self.new ≡ has_failed self.old }
-    {}
+        ensures passed_on { has_passed_on self.new };
 }
 
 /// A reader of std as a [`Source`]. An error of whatever kind is a failure, `Interrupted`
@@ -118,9 +120,10 @@ impl<R: Read> FromRead<R> {
         self.inner
     }
 
-    /// The error of the first read that failed.
+    /// The error of the first read that failed: there is one exactly where a read has failed.
     pub fn error(&self) -> Option<io::Error>
-        ensures { result ≡ reader_error self.now }
+        ensures error { result ≡ reader_error self.now }
+        ensures known { IsSome result ↔ IsTrue (reader_failed self.now) }
     {
         self.error
     }
@@ -138,7 +141,7 @@ impl<R: Read> FromRead<R> {
 }
 
 impl<R: Read> Source for FromRead<R> {
-    ghost use Rattle.anstyle_parse.specs.Io.Devices.{reader_of, reader_failed};
+    ghost use Rattle.anstyle_parse.specs.Io.Devices.{reader_of, reader_error, reader_failed};
 
     ghost remaining = { λ source. R.remaining (reader_of source) };
 
@@ -146,7 +149,23 @@ impl<R: Read> Source for FromRead<R> {
 
     ghost zero_is_end = { true };
 
-    fn read(&mut self, into: &mut [u8]) -> Option<usize> {
+    /// One read of the reader within. The error of the first that fails is kept, whatever comes
+    /// later.
+    fn read(&mut self, into: &mut [u8]) -> Option<usize>
+        ensures within { IfSome result (λ count. count ≤ length into.new) }
+        ensures passed { IfSome result (λ count. Consumes (R.remaining (reader_of self.old))
+            (R.remaining (reader_of self.new)) (take count into.new)) }
+        ensures end { IfSome result (λ count. count ≡ 0 → 0 < length into.new
+            → IsAtEnd (R.remaining (reader_of self.new))) }
+        ensures not_failed { OnSome result (reader_failed self.new ≡ reader_failed self.old) }
+        ensures nothing_passed { IfNone result (Keeps (R.remaining (reader_of self.old))
+            (R.remaining (reader_of self.new))) }
+        ensures failed { IfNone result (IsTrue (reader_failed self.new)) }
+        ensures same_error { OnSome result (reader_error self.new ≡ reader_error self.old) }
+        ensures some_error { IfNone result (IsSome (reader_error self.new)) }
+        ensures first_error { OnSome (reader_error self.old)
+            (reader_error self.new ≡ reader_error self.old) }
+    {
         match self.inner.read(into) {
             Ok(count) => Some(count),
             Err(error) => {
@@ -166,6 +185,7 @@ pub struct FromWrite<W> {
     fault: Option<Fault>,
     /// The error of the first call that failed.
     error: Option<io::Error>,
+    ghost error_kept: { is_some error ≡ is_some fault },
 }
 
 impl<W: Write> FromWrite<W> {
@@ -191,10 +211,11 @@ impl<W: Write> FromWrite<W> {
         self.inner
     }
 
-    /// The error of the first write or flush that failed. That of a write which took none of some
-    /// bytes is of the kind `WriteZero`.
+    /// The error of the first write or flush that failed: there is one exactly where one has failed.
+    /// That of a write which took none of some bytes is of the kind `WriteZero`.
     pub fn error(&self) -> Option<io::Error>
-        ensures { result ≡ writer_error self.now }
+        ensures error { result ≡ writer_error self.now }
+        ensures known { IsSome result ↔ IsTrue (writer_failed self.now) }
     {
         self.error
     }
@@ -213,7 +234,7 @@ impl<W: Write> FromWrite<W> {
 }
 
 impl<W: Write> Sink for FromWrite<W> {
-    ghost use Rattle.anstyle_parse.specs.Io.Devices.{writer_of, writer_fault, writer_failed};
+    ghost use Rattle.anstyle_parse.specs.Io.Devices.{writer_of, writer_fault, writer_error, writer_failed};
 
     ghost contents = { λ sink. W.contents (writer_of sink) };
 
@@ -221,7 +242,23 @@ impl<W: Write> Sink for FromWrite<W> {
 
     ghost failed_as = { λ sink fault. writer_fault sink ≡ Some fault };
 
-    fn write(&mut self, bytes: &[u8]) -> Option<usize> {
+    /// One write of the writer within. The error of the first call that fails is kept, whatever
+    /// comes later.
+    fn write(&mut self, bytes: &[u8]) -> Option<usize>
+        ensures within { IfSome result (λ count. count ≤ length bytes.now) }
+        ensures some { IfSome result (λ count. 0 < length bytes.now → 0 < count) }
+        ensures passed { IfSome result (λ count. Appends (W.contents (writer_of self.old))
+            (W.contents (writer_of self.new)) (take count bytes.now)) }
+        ensures not_failed { OnSome result (writer_failed self.new ≡ writer_failed self.old) }
+        ensures nothing_passed { IfNone result (Keeps (W.contents (writer_of self.old))
+            (W.contents (writer_of self.new))) }
+        ensures failed { IfNone result (IsTrue (writer_failed self.new)) }
+        ensures was_a_write { IfNone result (writer_fault self.new ≡ Some AWrite) }
+        ensures same_error { OnSome result (writer_error self.new ≡ writer_error self.old) }
+        ensures some_error { IfNone result (IsSome (writer_error self.new)) }
+        ensures first_error { OnSome (writer_error self.old)
+            (writer_error self.new ≡ writer_error self.old) }
+    {
         match self.inner.write(bytes) {
             Ok(count) if count > 0 || bytes.is_empty() => Some(count),
             Ok(_) => {
@@ -239,7 +276,18 @@ impl<W: Write> Sink for FromWrite<W> {
         matches!(self.fault, Some(Fault::Write))
     }
 
-    fn flush(&mut self) -> bool {
+    /// One flush of the writer within, which keeps its error as a write does.
+    fn flush(&mut self) -> bool
+        ensures nothing_passed { Keeps (W.contents (writer_of self.old))
+            (W.contents (writer_of self.new)) }
+        ensures not_failed { OnTrue result (writer_failed self.new ≡ writer_failed self.old) }
+        ensures failed { OnFalse result (IsTrue (writer_failed self.new)) }
+        ensures was_a_flush { OnFalse result (writer_fault self.new ≡ Some AFlush) }
+        ensures same_error { OnTrue result (writer_error self.new ≡ writer_error self.old) }
+        ensures some_error { OnFalse result (IsSome (writer_error self.new)) }
+        ensures first_error { OnSome (writer_error self.old)
+            (writer_error self.new ≡ writer_error self.old) }
+    {
         match self.inner.flush() {
             Ok(()) => true,
             Err(error) => {
@@ -248,4 +296,6 @@ impl<W: Write> Sink for FromWrite<W> {
             }
         }
     }
+
+    fn pass_on(&mut self) {}
 }

@@ -1,14 +1,14 @@
 //! From a reader to a writer: the bytes go through a new parser to a performer, which writes.
-ghost use Rattle.std.specs.Prelude.{◌≡◌, ◌++◌, [], ℕ, List, None, OnOk};
+ghost use Rattle.std.specs.Prelude.{◌≡◌, ◌≢◌, ◌⊎◌, ◌++◌, [], ℕ, List, None, OnOk};
 ghost use Rattle.anstyle_parse.specs.declared.io.output.Output.{Output as AnOutput};
 ghost use Rattle.anstyle_parse.specs.Stream.Call.{Call};
-ghost use Rattle.anstyle_parse.specs.Io.Output.{fault_in, Adds};
-ghost use Rattle.anstyle_parse.specs.Io.Run.{Drives, Runs, RunsToEnding};
+ghost use Rattle.anstyle_parse.specs.Io.Output.{fault_in, Adds, HasPassedOn};
+ghost use Rattle.anstyle_parse.specs.Io.Run.{Drives, PerformsToEnd, Runs, RunsToEnding};
 
 use super::{Fault, Output, Sink, Source};
 use crate::accumulator::Utf8Parser;
 use crate::parser::Parser;
-use crate::perform::PerformText;
+use crate::perform::{Perform, PerformText};
 
 /// The bytes that one read is asked for.
 const PIECE: usize = 4096;
@@ -24,13 +24,35 @@ pub enum Stop {
     AtRead,
 }
 
+/// Gives what the reader gives to a new parser, in pieces of at most 4096 bytes, until the reader
+/// ends: for a performer that is given, as a screen. `Err(Fault::Read)` means that a read failed,
+/// or that 2^64 - 1 reads all gave bytes; the performer has received what was read by then.
+pub fn perform_to_end<P: Perform, R: Source>(reader: &mut R, performer: &mut P) -> Result<(), Fault>
+    ensures { PerformsToEnd R.Source P.means reader.old reader.new performer.old performer.new result }
+{
+    let mut parser = Parser::<Utf8Parser>::new();
+    let mut piece = [0; PIECE];
+    for turn in 0..u64::MAX {
+        match reader.read(&mut piece) {
+            None => return Err(Fault::Read),
+            Some(0) => return Ok(()),
+            Some(count) => parser.advance_all(performer, &piece[..count]),
+        }
+    }
+    Err(Fault::Read)
+}
+
 /// Gives what the reader gives to a new parser, in pieces of at most 4096 bytes, until the
 /// reader ends or fails or the performer's output keeps a fault. At most 2^64 - 1 reads are made.
 /// The parser hands on texts ([`Parser::advance_texts`]). What was written of a piece is handed on
 /// before the next read.
 pub fn drive<P: CallWriter<W>, R: Source, W: Sink>(reader: &mut R, performer: &mut P) -> Stop
     requires { fault_in (P.output_in performer.old) ≡ None }
-    ensures { Drives R.Source P.receives P.output_in reader.old reader.new performer.old performer.new result }
+    ensures drives { Drives R.Source P.receives P.output_in reader.old reader.new performer.old performer.new result }
+
+    // What was written of a piece was passed on before the next read, the last one too.
+    ensures passed_on { result ≢ Stop.AtFault → (performer.new ≡ performer.old)
+        ⊎ HasPassedOn W.Sink (P.output_in performer.new) }
 {
     let mut parser = Parser::<Utf8Parser>::new();
     let mut piece = [0; PIECE];
@@ -78,8 +100,8 @@ pub trait CallWriter<W: Sink>: PerformText {
     /// Hands on what the writer of the output holds back ([`Output::pass_on`]), before more is
     /// read: as if it had received no call.
     fn pass_on(&mut self)
-        ensures { Self.receives self.old [] self.new }
-    {}
+        ensures received { Self.receives self.old [] self.new }
+        ensures passed_on { HasPassedOn W.Sink (output_in self.new) };
 
     /// Writes what is still to be written, and hands the output back.
     fn into_output(self) -> Output<W>

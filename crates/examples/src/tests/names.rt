@@ -6,8 +6,8 @@ use ansi_strip::{Stripper, is_layout, strip};
 use ansi_style::{Color, Hue, Style, Underline};
 use anstyle_parse::canon::{CanonWriter, MAX_CHECKPOINT, checkpoint};
 use anstyle_parse::io::{
-    Buffer, CallWriter, Fault, FromRead, FromWrite, Output, Sink, Source, Stop, drive, write_calls,
-    write_calls_between,
+    Buffer, CallWriter, Fault, FromRead, FromWrite, Output, Sink, Source, Stop, drive,
+    perform_to_end, write_calls, write_calls_between,
 };
 use anstyle_parse::laws::{
     action_as_number, bounds, calls_are_lawful, cancelled, canonical_again, canonical_text, clones,
@@ -165,6 +165,10 @@ fn names_of_runs(rt: HostRuntime) -> Result<(), Fail> {
         b">",
     );
     assert_eq!(rt; answer, Ok(()));
+    let mut style = Style::default();
+    let mut reader = FromRead::new(b"\x1b[1m".as_slice());
+    assert_eq!(rt; perform_to_end(&mut reader, &mut style), Ok(()));
+    assert!(rt; style != Style::default());
     let (text, answer) = checkpoint(&Parser::<Utf8Parser>::new(), memory(rt.alloc()));
     assert_eq!(rt; answer, Ok(()));
     assert!(rt; text.into_inner().len() <= MAX_CHECKPOINT);

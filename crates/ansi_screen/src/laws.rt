@@ -58,8 +58,8 @@ pub fn plain_text()
         → Shows (new_state columns rows) (lines_text lines) new → new.display.cells ≡ page columns rows lines }
 {}
 
-/// A row is written anew: a carriage return, a text that fits into the row, and EL show as if what
-/// was printed on that row before had never been printed.
+/// A row is written anew, as by a progress bar: a carriage return, a text that has room in the row, and EL
+/// show as if what was printed before, from the cursor on and with room too, had never been printed.
 pub fn rewritten()
     ensures { (screen : State) (before text : List ℕ) → IsScreen screen.display
         → screen.display.cursor.column + text_columns before ≤ screen.display.width → text_columns text ≤ screen.display.width

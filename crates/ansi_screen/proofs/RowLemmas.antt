@@ -286,7 +286,7 @@ inserted-free from end n gap cells some order inside whole free =
     (clear-cut_other from from (cut end once) (clear-cut_other end from once (clear-cut_other place from cells free)))
     (λ reached less. right-on n (from - from) gap run _ refl whole (λ past in_run. absurd (omega arith)) (omega arith))
 
--- in the last column but one of a row no pair goes on into the next row
+-- no pair goes over the end of a row
 row_end-free : (d : Display) → IsScreen d → IsFree (row_end d) d.cells
 row_end-free d s =
     let next : (d.cursor.row + 1) * d.width ≡ row_end d = omega (arith, suc-mul d.cursor.row d.width) in

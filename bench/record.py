@@ -7,7 +7,7 @@ Each program runs on a terminal of its own of 120 columns and 40 rows, is sent k
 another, and is ended; what it wrote stands in FOLDER/NAME.bin. Programs that are not installed
 are left out, and said. The recordings are made anew each time and are not kept here: they hold
 what the machine's own files and processes are called. bench/measure.py takes the folder by
---recordings.
+--recordings, and tests/screen/compare.py takes the files.
 """
 
 import fcntl
@@ -28,9 +28,12 @@ ARROW_DOWN, PAGE_DOWN = b"\x1b[B", b"\x1b[6~"
 
 # name: the command, the keys that it is sent, and for how many seconds it runs
 PROGRAMS = {
+    "gcc": (["gcc", "-fsyntax-only", "-fdiagnostics-color=always", "-x", "c", os.path.abspath(__file__)], [], 4),
+    "git": (["git", "-c", "pager.log=less -R", "log", "--graph", "--stat"], [b" ", b" ", b"/a\r", b"n", b"G"], 5),
     "htop": (["htop", "-d", "3"], [b"t", ARROW_DOWN, ARROW_DOWN, b"t", b"H", b"P"], 5),
     "less": (["less", "-R", "/etc/services"], [b" ", b" ", b"/tcp\r", b"n", b"n", b"g", b"G"], 4),
     "ls": (["ls", "--color=always", "--hyperlink=always", "-la", "/usr/lib", "/usr/bin"], [], 4),
+    "man": (["man", "ls"], [b" ", b" ", b"/sort\r", b"n", b"g"], 5),
     "mc": (["mc", "-u"], [ARROW_DOWN, b"\t", ARROW_DOWN, b"\x1b3", PAGE_DOWN, b"\x1b0", b"\x1b9"], 6),
     "nano": (["nano", "/etc/services"], [b"\x17tcp\r", b"\x16", b"\x16", b"\x19", b"hello"], 5),
     "tmux": (
@@ -38,8 +41,9 @@ PROGRAMS = {
         [b"\x02%", b"ls --color /etc\r", b"\x02\""],
         5,
     ),
+    "top": (["top", "-d", "0.5", "-n", "4"], [], 5),
     "vim": (
-        ["vim", "-u", "NONE", "-c", "syntax on", "-c", "set number hlsearch", os.path.abspath(__file__)],
+        ["vim", "-n", "-u", "NONE", "-c", "syntax on", "-c", "set number hlsearch", os.path.abspath(__file__)],
         [b"/def\r", b"n", b"\x06", b"\x06", b":split\r", b"Gohello \xe2\x82\xac \xf0\x9f\x98\x80\x1b", b"gg"],
         6,
     ),
@@ -47,12 +51,12 @@ PROGRAMS = {
 }
 
 
-def record(command, keys, seconds):
+def record(command, keys, seconds, columns=COLUMNS, rows=ROWS):
     """What the command writes to its terminal."""
     process, terminal = pty.fork()
     if process == 0:
+        fcntl.ioctl(0, termios.TIOCSWINSZ, struct.pack("HHHH", rows, columns, 0, 0))
         os.execvpe(command[0], command, dict(os.environ, TERM="xterm-256color", LANG="C.UTF-8", COLORTERM="truecolor"))
-    fcntl.ioctl(terminal, termios.TIOCSWINSZ, struct.pack("HHHH", ROWS, COLUMNS, 0, 0))
     written, started, next_key = b"", time.monotonic(), time.monotonic() + 3 * BETWEEN
     keys = list(keys)
     while time.monotonic() - started < seconds and len(written) < MOST:

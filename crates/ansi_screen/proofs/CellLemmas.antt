@@ -25,7 +25,7 @@ cut-split cells place t l r d e f some inside test is_true left right =
     rw (some_before, is, left_is, right_is) refl
 
 -- where none stands, nothing is cut
-cut-none : (cells : List Cell) (place : ℕ) → (nat_lt 0 place && is_right (cell_at place cells).part) ≡ false → cells ≡ cut place cells
+pub cut-none : (cells : List Cell) (place : ℕ) → (nat_lt 0 place && is_right (cell_at place cells).part) ≡ false → cells ≡ cut place cells
 unfolding cut
 cut-none cells place is_false = rw is_false refl
 
@@ -44,7 +44,7 @@ pub cut-first : (cells : List Cell) (place : ℕ) → place ≤ 0 → cells ≡ 
 cut-first cells place first = cut-none cells place (and_left (nat_lt 0 place) (is_right (cell_at place cells).part) (le-ltb 0 place first))
 
 -- one cell is set
-set-one : (cells : List Cell) (place : ℕ) (cell : Cell) → place < length cells
+pub set-one : (cells : List Cell) (place : ℕ) (cell : Cell) → place < length cells
     → set cells place cell ≡ within place (place + 1) (λ run. cell ∷ []) cells
 set-one cells place cell inside =
     let next : place + (place + 1 - place) ≡ suc place = omega arith in

@@ -67,7 +67,7 @@ kept-marked c d s =
     kept-if (d.cursor.column == 0) d (with_cells (marked_before c (here d) d.cells) d) (λ first. s)
     (λ other. kept-cells (marked_before c (here d) d.cells) d s (length-marked c (here d) d.cells) (whole-marked d.width c (here d) d.cells s.whole))
 
-columns-few : (c : ℕ) (t u : Bool) → is_among c no_column ≡ t → is_among c two_columns ≡ u → columns c ≤ 2
+pub columns-few : (c : ℕ) (t u : Bool) → is_among c no_column ≡ t → is_among c two_columns ≡ u → columns c ≤ 2
 unfolding columns
 columns-few c true u none two = rw none (omega arith)
 columns-few c false true none two = rw (none, two) (omega arith)

@@ -8,3 +8,5 @@ pub mod RangeLemmas
 pub mod TextLemmas
 pub mod CallLemmas
 pub mod LawLemmas
+pub mod PlainLemmas
+pub mod RowLemmas

@@ -197,7 +197,7 @@ paired-glyph : (n c : ℕ) (style : Style) (t : Bool) → nat_eq n 2 ≡ t → A
 paired-glyph n c style true is = rw is (refl, (refl, refl))
 paired-glyph n c style false is = rw is (refl, refl)
 
-length-glyph : (n c : ℕ) (style : Style) (t : Bool) → nat_eq n 2 ≡ t → 1 ≤ n → n ≤ 2 → length (glyph n c style) ≡ n
+pub length-glyph : (n c : ℕ) (style : Style) (t : Bool) → nat_eq n 2 ≡ t → 1 ≤ n → n ≤ 2 → length (glyph n c style) ≡ n
 length-glyph n c style true is some few = rw is (sym (eqb-true n 2 is))
 length-glyph n c style false is some few =
     let other : n ≡ 2 → ⊥ = eqb-false n 2 is in
@@ -225,7 +225,7 @@ paired-same behind (y ∷ xs) zero x same are =
     (ap is_right same ∙ are.0, subst (λ t. ArePaired t xs) (sym (ap is_left same)) are.1)
 paired-same behind (y ∷ xs) (suc i) x same are = (are.0, paired-same (is_left y.part) xs i x same are.1)
 
-right-same : (xs : List Cell) (i j : ℕ) (x : Cell) → x.part ≡ (cell_at i xs).part → is_right (cell_at j xs).part ≡ false → is_right (cell_at j (set xs i x)).part ≡ false
+pub right-same : (xs : List Cell) (i j : ℕ) (x : Cell) → x.part ≡ (cell_at i xs).part → is_right (cell_at j xs).part ≡ false → is_right (cell_at j (set xs i x)).part ≡ false
 right-same [] i j x same free = free
 right-same (y ∷ xs) zero zero x same free = ap is_right same ∙ free
 right-same (y ∷ xs) zero (suc j) x same free = free

@@ -1,8 +1,16 @@
 -- What the laws speak of.
-use Rattle.std.specs.Prelude.{◌≡◌, ◌⊎◌, false, List, [], ◌∷◌}
-use Rattle.anstyle_parse.specs.Stream.Call.{Call, csi_dispatch, esc_dispatch}
+use Rattle.std.specs.Prelude.{◌≡◌, ◌⊎◌, ℕ, ◌+◌, ◌-◌, ◌≤◌, false, true, List, [], ◌∷◌, ◌++◌, length, map, replicate, encode_utf8}
+use Rattle.std.specs.List.{AllByRecursion, flat_map}
+use Rattle.anstyle_parse.specs.Stream.Call.{Call, print, execute, csi_dispatch, esc_dispatch}
+use Rattle.anstyle_parse.specs.Laws.Lawful.{is_character}
+use Rattle.ansi_style.specs.Style.{plain}
+use Rattle.ansi_screen.specs.declared.cell.Cell.{Cell}
+use Rattle.ansi_screen.specs.declared.cell.Part.TheVariants.{Whole}
 use Rattle.ansi_screen.specs.declared.function.Move.{Move}
 use Rattle.ansi_screen.specs.declared.function.Function.TheVariants.{Moves}
+use Rattle.ansi_screen.specs.Cells.{plain_cell, blank}
+use Rattle.ansi_screen.specs.Display.{blanks}
+use Rattle.ansi_screen.specs.Widths.{is_shown, columns}
 use Rattle.ansi_screen.specs.After.{function_of}
 
 -- ESC c, ESC 7 and ESC 8: RIS, DECSC, DECRC
@@ -24,3 +32,49 @@ IsMoveOrStyle call = ⊥
 abbrev pub AreMovesAndStyles : List Call → Type 0
 AreMovesAndStyles [] = Unit {0}
 AreMovesAndStyles (call ∷ calls) = IsMoveOrStyle call × AreMovesAndStyles calls
+
+-- CR, LF, and EL as ESC [ K makes it
+abbrev pub carriage_return : Call
+carriage_return = execute 0x0D
+
+abbrev pub line_feed : Call
+line_feed = execute 0x0A
+
+abbrev pub erase_rest : Call
+erase_rest = csi_dispatch ((0 ∷ []) ∷ []) [] false 0x4B
+
+-- the characters of a text, printed; and those of lines, with CR LF between the lines
+abbrev pub printing : List ℕ → List Call
+printing text = map print text
+
+abbrev pub typing : List (List ℕ) → List Call
+typing [] = []
+typing (line ∷ []) = printing line
+typing (line ∷ next ∷ lines) = printing line ++ carriage_return ∷ line_feed ∷ typing (next ∷ lines)
+
+-- the bytes of these lines: UTF-8
+abbrev pub lines_text : List (List ℕ) → List ℕ
+lines_text [] = []
+lines_text (line ∷ []) = flat_map encode_utf8 line
+lines_text (line ∷ next ∷ lines) = flat_map encode_utf8 line ++ 0x0D ∷ 0x0A ∷ lines_text (next ∷ lines)
+
+-- a character that is shown in one column; a line of them that has room in a row
+abbrev pub IsNarrow : ℕ → Type 0
+IsNarrow c = (is_character c ≡ true) × (is_shown c ≡ true) × (columns c ≡ 1)
+
+pub record FitsIn (width : ℕ) (line : List ℕ) : Type 0 where
+  pub no_longer : length line ≤ width
+  pub narrow : AllByRecursion IsNarrow line
+
+-- the cells of a row that shows a line: its characters, plain, and blanks behind them
+abbrev pub line_cells : ℕ → List ℕ → List Cell
+line_cells width line = map (λ c. plain_cell c plain Whole) line ++ replicate (width - length line) (blank plain)
+
+-- the cells of a screen that shows lines, each in a row, from the first on; the other rows are blank
+abbrev pub page : ℕ → ℕ → List (List ℕ) → List Cell
+page width height lines = flat_map (line_cells width) lines ++ blanks width (height - length lines)
+
+-- how many columns the characters of a text take
+abbrev pub text_columns : List ℕ → ℕ
+text_columns [] = 0
+text_columns (c ∷ text) = columns c + text_columns text

@@ -1,11 +1,11 @@
 //! Laws of screens.
-ghost use Rattle.std.specs.Prelude.{◌≡◌, ◌≤◌, ℕ, false, List, [], ◌∷◌, ◌++◌};
-ghost use Rattle.std.specs.List.{flat_map};
+ghost use Rattle.std.specs.Prelude.{◌≡◌, ◌≤◌, ◌+◌, ℕ, false, List, [], ◌∷◌, ◌++◌, length};
+ghost use Rattle.std.specs.List.{flat_map, AllByRecursion};
 ghost use Rattle.anstyle_parse.specs.Stream.Call.{Call};
 ghost use Rattle.ansi_screen.specs.Display.{most_columns, most_rows};
 ghost use Rattle.ansi_screen.specs.Reachable.{IsScreen};
 ghost use Rattle.ansi_screen.specs.After.{State, new_state, after, after_all, Shows};
-ghost use Rattle.ansi_screen.specs.Laws.{reset, save, restore, AreMovesAndStyles};
+ghost use Rattle.ansi_screen.specs.Laws.{reset, save, restore, AreMovesAndStyles, carriage_return, erase_rest, printing, typing, lines_text, FitsIn, page, text_columns};
 
 use crate::screen::Screen;
 
@@ -46,4 +46,23 @@ pub fn enclosed()
         → screen.display.cursor.is_relative ≡ false
         → (after_all (save ∷ (calls ++ restore ∷ [])) screen).display
         ≡ record screen.display { saved = screen.display.cursor } }
+{}
+
+/// Plain text comes through: lines of characters of one column each, no longer than the rows of a new
+/// screen and no more than these, with CR LF between them, come each into a row of its own, from
+/// the first row on; the rest of these rows and all other rows stay blank.
+pub fn plain_text()
+    ensures calls { (columns rows : ℕ) (lines : List (List ℕ)) → length lines ≤ rows → AllByRecursion (FitsIn columns) lines
+        → (after_all (typing lines) (new_state columns rows)).display.cells ≡ page columns rows lines }
+    ensures bytes { (columns rows : ℕ) (lines : List (List ℕ)) (new : State) → length lines ≤ rows → AllByRecursion (FitsIn columns) lines
+        → Shows (new_state columns rows) (lines_text lines) new → new.display.cells ≡ page columns rows lines }
+{}
+
+/// A row is written anew, as by a progress bar: a carriage return, a text that has room in the row, and EL
+/// show as if what was printed before, from the cursor on and with room too, had never been printed.
+pub fn rewritten()
+    ensures { (screen : State) (before text : List ℕ) → IsScreen screen.display
+        → screen.display.cursor.column + text_columns before ≤ screen.display.width → text_columns text ≤ screen.display.width
+        → after_all (printing before ++ carriage_return ∷ (printing text ++ erase_rest ∷ [])) screen
+        ≡ after_all (carriage_return ∷ (printing text ++ erase_rest ∷ [])) screen }
 {}

@@ -5,7 +5,7 @@ use crate::{
     Quiet, calls_made, canonical, html, make_first_calls, plain, printed, stay_quiet,
     strip_two_pieces, write_last_style,
 };
-use ansi_screen::laws::{determined, enclosed, reachable, reset, show};
+use ansi_screen::laws::{determined, enclosed, plain_text, reachable, reset, rewritten, show};
 use ansi_screen::{
     Cell, Charsets, MAX_COLUMNS, MAX_ROWS, MIN_COLUMNS, MIN_ROWS, Marks, Part, Place, Screen,
 };
@@ -79,6 +79,8 @@ fn a_screen_shows_a_stream(rt: HostRuntime) -> Result<(), Fail> {
     determined();
     reachable();
     enclosed();
+    plain_text();
+    rewritten();
     reset();
     assert_eq!(rt; screen.rows(), 1);
     assert_eq!(rt; screen.columns(), 2);

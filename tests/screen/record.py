@@ -1,0 +1,127 @@
+#!/usr/bin/env python3
+"""Records progress as programs draw it, for tests/screen_twin.
+
+Usage: tests/screen/record.py FOLDER [NAME]..
+
+Each program runs on a terminal of its own of 80 columns and 24 rows; what it wrote stands in
+FOLDER/NAME. pip and npm download a package of this script's own, from a server of its own on this
+machine that hands it out slowly, as curl does; git clones this repository; apt-get, run by root,
+installs less anew. Programs that are not installed are left out, and said. docker is not among them: it
+draws progress for an engine alone, and none ran where the kept recordings were made.
+"""
+
+import http.server
+import importlib.util
+import io
+import json
+import os
+import shutil
+import sys
+import tarfile
+import tempfile
+import threading
+import time
+import zipfile
+
+sys.dont_write_bytecode = True
+
+ROOT = os.path.dirname(os.path.dirname(os.path.dirname(os.path.realpath(__file__))))
+ROWS, COLUMNS = 24, 80
+# The bytes of a package and of a piece of it, and the seconds between two pieces.
+SIZE, PIECE, PAUSE = 3 << 20, 1 << 17, 0.1
+NPM = "npm install --registry=AT --cache=INTO/cache --no-audit --no-fund --no-update-notifier slow"
+PIP = "python3 -m pip --isolated --disable-pip-version-check download --no-cache-dir --index-url=AT/simple -d INTO slow"
+WHEEL = "slow-1.0-py3-none-any.whl"
+
+# name: the command, in which AT is the server and INTO an empty folder, and for how many seconds it runs at most
+PROGRAMS = {
+    "apt": ("apt-get install --reinstall -y -o Dpkg::Progress-Fancy=1 -o Dir::Ignore-Files-Silently::=. less", 60),
+    "curl": ("curl -o /dev/null AT/slow.tgz", 20),
+    "curl_bar": ("curl -# -o /dev/null AT/slow.tgz", 20),
+    "git_clone": ("git clone --no-local --progress %s INTO/clone" % ROOT, 30),
+    "npm": ("cd INTO && " + NPM, 30),
+    "pip": (PIP, 30),
+}
+
+
+def wheel():
+    """A wheel of bytes that do not compress."""
+    data = io.BytesIO()
+    with zipfile.ZipFile(data, "w") as file:
+        file.writestr("slow/data", os.urandom(SIZE))
+        file.writestr("slow-1.0.dist-info/METADATA", "Metadata-Version: 2.1\nName: slow\nVersion: 1.0\n")
+        file.writestr("slow-1.0.dist-info/WHEEL", "Wheel-Version: 1.0\nRoot-Is-Purelib: true\nTag: py3-none-any\n")
+        file.writestr("slow-1.0.dist-info/RECORD", "")
+    return data.getvalue()
+
+
+def tarball():
+    """A package of npm of such bytes."""
+    data = io.BytesIO()
+    with tarfile.open(fileobj=data, mode="w:gz") as file:
+        for name, text in (("package.json", b'{"name": "slow", "version": "1.0.0"}'), ("data", os.urandom(SIZE))):
+            entry = tarfile.TarInfo("package/" + name)
+            entry.size = len(text)
+            file.addfile(entry, io.BytesIO(text))
+    return data.getvalue()
+
+
+class Server(http.server.BaseHTTPRequestHandler):
+    """An index of pip, a registry of npm, and the package of each."""
+
+    def log_message(self, *words):
+        pass
+
+    def do_GET(self):
+        at = "http://127.0.0.1:%d" % self.server.server_port
+        kind, data = "text/html", b'<a href="/%s">%s</a>' % (WHEEL.encode(), WHEEL.encode())
+        if self.path in ("/" + WHEEL, "/slow.tgz"):
+            kind, data = "application/octet-stream", self.server.files[self.path]
+        elif self.path == "/slow":
+            version = {"name": "slow", "version": "1.0.0", "dist": {"tarball": at + "/slow.tgz"}}
+            found = {"name": "slow", "dist-tags": {"latest": "1.0.0"}, "versions": {"1.0.0": version}}
+            kind, data = "application/json", json.dumps(found).encode()
+        self.send_response(200)
+        self.send_header("Content-Type", kind)
+        self.send_header("Content-Length", str(len(data)))
+        self.end_headers()
+        for start in range(0, len(data), PIECE):
+            self.wfile.write(data[start:start + PIECE])
+            time.sleep(PAUSE if len(data) > PIECE else 0)
+
+
+def recorder():
+    """The function of bench/record.py that runs a program on a terminal."""
+    spec = importlib.util.spec_from_file_location("record_programs", os.path.join(ROOT, "bench", "record.py"))
+    module = importlib.util.module_from_spec(spec)
+    spec.loader.exec_module(module)
+    return module.record
+
+
+def main():
+    if sys.argv[1:] == ["--help"]:
+        print(__doc__.strip())
+        return
+    if len(sys.argv) < 2 or sys.argv[1].startswith("-"):
+        sys.exit(__doc__)
+    folder, names = sys.argv[1], sys.argv[2:] or list(PROGRAMS)
+    os.makedirs(folder, exist_ok=True)
+    server = http.server.ThreadingHTTPServer(("127.0.0.1", 0), Server)
+    server.files = {"/" + WHEEL: wheel(), "/slow.tgz": tarball()}
+    threading.Thread(target=server.serve_forever, daemon=True).start()
+    for name in names:
+        command, seconds = PROGRAMS[name]
+        if shutil.which(name.split("_")[0] if name != "apt" else "apt-get") is None:
+            print("%s is not installed, and is left out" % name)
+            continue
+        with tempfile.TemporaryDirectory() as into:
+            command = command.replace("AT", "http://127.0.0.1:%d" % server.server_port).replace("INTO", into)
+            written = recorder()(["sh", "-c", command], [], seconds, COLUMNS, ROWS)
+        with open(os.path.join(folder, name), "wb") as file:
+            file.write(written)
+        print("%-9s %7d bytes" % (name, len(written)), flush=True)
+    server.shutdown()
+
+
+if __name__ == "__main__":
+    main()

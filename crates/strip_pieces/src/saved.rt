@@ -61,6 +61,4 @@ impl Sink for Saved {
     fn flush(&mut self) -> bool {
         true
     }
-
-    fn pass_on(&mut self) {}
 }

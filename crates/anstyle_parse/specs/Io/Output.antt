@@ -38,10 +38,6 @@ abbrev pub Adds : {W : Type 0} → SinkOf W → List ℕ → Output W → Output
 Adds sink text old new =
     MatchOption (fault_in old) (AddsAll sink text old new ⊎ AddsPrefix sink text old new) (λ fault. new ≡ old)
 
--- Unless a fault is kept, what the writer held back was passed on, as far as that went well.
-abbrev pub HasPassedOn : {W : Type 0} → SinkOf W → Output W → Type 0
-HasPassedOn sink output = fault_in output ≡ None → sink.has_passed_on (writer_in output)
-
 -- A performer, seen as its output, has added the texts of the calls, joined.
 abbrev pub AddsTexts : {P W : Type 0} → SinkOf W → (P → Output W) → (text : Call → List ℕ) → P → List Call → P → Type 0
 AddsTexts sink output_of text old calls new = Adds sink (flat_map text calls) (output_of old) (output_of new)

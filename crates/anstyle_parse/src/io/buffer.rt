@@ -167,9 +167,6 @@ impl<W: Sink> Sink for Buffer<W> {
     ghost holds_nothing = { λ buffer. (held_back buffer ≡ [])
         × W.holds_nothing (writer_behind buffer) };
 
-    ghost has_passed_on = { λ buffer. (held_back buffer ≡ [])
-        ⊎ IsTrue (W.has_failed (writer_behind buffer)) };
-
     /// Holds the bytes back where they can wait: where there is room for them, and by line where
     /// they end no line. By line, after bytes that end a line nothing is held back.
     #[inline]

@@ -42,7 +42,7 @@ pub trait Source {
 /// An implementation tells in `contents` which bytes it has taken, where it knows them, in
 /// `has_failed` whether a write or a flush has failed, where it knows it, in `failed_as` what the
 /// last call that failed was, and, where it holds bytes back, in `holds_nothing` when it holds
-/// none, and in `has_passed_on` how it stands when it was asked to pass on what it held.
+/// none.
 pub trait Sink {
     // The bytes that it has taken, where they are known.
     ghost contents: { Self → Option (List ℕ) };
@@ -52,8 +52,6 @@ pub trait Sink {
     ghost failed_as: { Self → AFault → Type 0 } = { λ _ _. ⊤ };
     // None of these bytes is held back.
     ghost holds_nothing: { Self → Type 0 } = { λ _. ⊤ };
-    // What was held back was passed on, as far as that went well.
-    ghost has_passed_on: { Self → Type 0 } = { λ _. ⊤ };
 
     /// Takes bytes from the front of the slice, and answers how many: of some bytes at
     /// least 1. `None` where it failed, and then no byte passed.
@@ -90,7 +88,7 @@ pub trait Sink {
     fn pass_on(&mut self)
         ensures nothing_passed { Keeps (contents self.old) (contents self.new) }
         ensures not_told { has_failed self.new ≡ has_failed self.old }
-        ensures passed_on { has_passed_on self.new };
+    {}
 }
 
 /// A reader of std as a [`Source`]. An error of whatever kind is a failure, `Interrupted`
@@ -296,6 +294,4 @@ impl<W: Write> Sink for FromWrite<W> {
             }
         }
     }
-
-    fn pass_on(&mut self) {}
 }

@@ -2,7 +2,7 @@
 ghost use Rattle.std.specs.Prelude.{◌≡◌, ◌∷◌, [], ℕ, List, decimal, if◌then◌else◌, None, Some, Ok, Err, IsNone, OnSome, OnOk, OnErr, IsTrue, encode_utf8};
 ghost use Rattle.std.specs.Io.KnownBytes.{Keeps};
 ghost use Rattle.anstyle_parse.specs.Stream.Groups.{fields_text, groups_text};
-ghost use Rattle.anstyle_parse.specs.Io.Output.{Adds, HasPassedOn};
+ghost use Rattle.anstyle_parse.specs.Io.Output.{Adds};
 
 use super::{Fault, Sink};
 use crate::params::Params;
@@ -110,8 +110,7 @@ impl<W: Sink> Output<W> {
     /// Hands on what the writer holds back, as [`Sink::pass_on`] has it. After a fault nothing
     /// happens.
     pub fn pass_on(&mut self)
-        ensures adds { Adds W.Sink [] self.old self.new }
-        ensures passed_on { HasPassedOn W.Sink self.new }
+        ensures { Adds W.Sink [] self.old self.new }
     {
         if self.fault.is_none() {
             self.writer.pass_on();

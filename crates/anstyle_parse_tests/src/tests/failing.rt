@@ -54,8 +54,6 @@ impl Sink for Failing {
         }
         !self.flush_fails
     }
-
-    fn pass_on(&mut self) {}
 }
 
 // As a writer of std: without room a write takes 0, and only a flush fails.

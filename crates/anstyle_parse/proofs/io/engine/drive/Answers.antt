@@ -1,5 +1,5 @@
 -- A piece more is read, and its calls are made.
-use Rattle.std.proofs.Common.{◌++◌, [], inl, inr, is_some, take, refl, sym, ap, ◌∙◌, arith, length-append, length-take, append-nil, subst}
+use Rattle.std.proofs.Common.{◌++◌, [], is_some, take, refl, sym, ap, ◌∙◌, arith, length-append, length-take, append-nil, subst}
 use Rattle.std.proofs.KnownBytes.{Consumes-nil, Consumes-trans}
 use Rattle.anstyle_parse.specs.Views.Accumulator.{parser_after}
 use Rattle.anstyle_parse.specs.Machine.Step.{machine_calls}
@@ -22,11 +22,10 @@ loop-turn-init g c = record {
   not_failed = refl;
   counted = omega arith;
   room = refl;
-  passed_on = inl refl;
 }
 
-pub returns-then-is_some-clause-drives : goal.returns-then-is_some-clause-drives
-returns-then-is_some-clause-drives g c =
+pub returns-then-is_some : goal.returns-then-is_some
+returns-then-is_some g c =
     let before = c.loop-turn.invariant in
     let bytes = take c.in-Some.count c.read.new.into in
     let more = machine_calls parser_after bytes (machine_of c.loop-turn.parser) in
@@ -37,7 +36,7 @@ returns-then-is_some-clause-drives g c =
       are_calls = subst (AreCalls (before.read ++ bytes)) (sym (append-nil (before.calls ++ more))) (c.advance_texts.ensures.stream before.read before.stands before.calls before.are_calls);
       received = g.met.P.PerformText.receives_more c.args.performer.now c.advance_texts.new.performer c.pass_on.new.self (before.calls ++ more) []
           (g.met.P.PerformText.receives_more c.args.performer.now c.loop-turn.performer c.advance_texts.new.performer before.calls more before.received c.advance_texts.ensures.calls)
-          c.pass_on.ensures.received;
+          c.pass_on.ensures;
       stops = (sym (c.is_some.ensures ∙ ap is_some (c.fault.ensures ∙ ap fault_in c.output.ensures)) ∙ c.if-is_some.true, c.in-Some.ensures.not_failed ∙ before.not_failed);
     }
 
@@ -53,11 +52,10 @@ loop-turn-preserved g c =
       are_calls = subst (AreCalls (before.read ++ bytes)) (sym (append-nil (before.calls ++ more))) (c.advance_texts.ensures.stream before.read before.stands before.calls before.are_calls);
       received = g.met.P.PerformText.receives_more c.args.performer.now c.advance_texts.new.performer c.pass_on.new.self (before.calls ++ more) []
           (g.met.P.PerformText.receives_more c.args.performer.now c.loop-turn.performer c.advance_texts.new.performer before.calls more before.received c.advance_texts.ensures.calls)
-          c.pass_on.ensures.received;
+          c.pass_on.ensures;
       stands = c.advance_texts.ensures.stands before.read before.stands;
       no_fault = None-from_is_some (fault_in (g.P.CallWriter.output_in c.pass_on.new.self)) (sym (c.is_some.ensures ∙ ap is_some (c.fault.ensures ∙ ap fault_in c.output.ensures)) ∙ c.if-is_some.false);
       not_failed = c.in-Some.ensures.not_failed ∙ before.not_failed;
       counted = omega (arith, before.counted, length-append before.read bytes, length-take c.in-Some.count c.read.new.into, c.in-Some.ensures.within, c.in-Some.count-test);
       room = c.read.auto.into ∙ before.room;
-      passed_on = inr c.pass_on.ensures.passed_on;
     }

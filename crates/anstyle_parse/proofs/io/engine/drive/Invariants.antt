@@ -1,11 +1,11 @@
 -- What is read so far has gone to the performer, and nothing failed.
-use Rattle.std.proofs.Common.{◌≡◌, ◌≤◌, ◌⊎◌, List, ℕ, None, length}
+use Rattle.std.proofs.Common.{◌≡◌, ◌≤◌, List, ℕ, None, length}
 use Rattle.std.specs.Io.KnownBytes.{Consumes}
 use Rattle.anstyle_parse.specs.Views.Accumulator.{front_of}
 use Rattle.anstyle_parse.specs.Stream.Call.{Call}
 use Rattle.anstyle_parse.specs.Stream.Calls.{AreCalls}
 use Rattle.anstyle_parse.specs.Views.Parser.{IsAfter}
-use Rattle.anstyle_parse.specs.Io.Output.{fault_in, HasPassedOn}
+use Rattle.anstyle_parse.specs.Io.Output.{fault_in}
 use Rattle.anstyle_parse.proofs.io.engine.drive.Given as goal
 
 abbrev pub invariant-loop-turn : goal.invariant-loop-turn
@@ -20,5 +20,4 @@ invariant-loop-turn g l = record {
   not_failed : g.R.Source.has_failed l.reader ≡ g.R.Source.has_failed l.initial.reader;
   counted : l.turn ≤ length read;
   room : length l.piece ≡ 4096;
-  passed_on : (l.performer ≡ l.initial.performer) ⊎ HasPassedOn g.W.Sink (g.P.CallWriter.output_in l.performer);
 }

@@ -10,10 +10,10 @@ use test_streams::{Paper, TROUBLES, Tape, narrow_papers};
 /// 9 bytes, of which the sixth and the last are text; the span is still open.
 const COLOURED: &[u8] = b"\x1b[31mh\x1b[1mi";
 
-const RED: &[u8] = b"<span style=\"color:light-dark(#cf222e,#ff7b72);\">h</span>";
+const RED: &[u8] = b"<span style=\"color:#cf222e;color:light-dark(#cf222e,#ff7b72);\">h</span>";
 
 const BOLD_RED: &[u8] =
-    b"<span style=\"color:light-dark(#cf222e,#ff7b72);font-weight:bold;\">i</span>";
+    b"<span style=\"color:#cf222e;color:light-dark(#cf222e,#ff7b72);font-weight:bold;\">i</span>";
 
 /// What closes a span, before further text or at the end.
 const END: &[u8] = b"</span>";

@@ -8,13 +8,18 @@ use Rattle.ansi_strip.specs.Strip.{stripped_call}
 use Rattle.ansi_style.specs.declared.style.Style.{Style}
 use Rattle.ansi_style.specs.Style.{plain}
 use Rattle.ansi_style.specs.Rendition.{style_after}
+use Rattle.ansi_html.specs.declared.css.Scheme.{Scheme}
+use Rattle.ansi_html.specs.declared.css.Scheme.TheVariants.{Both}
 use Rattle.ansi_html.specs.declared.performer.HtmlWriter.{HtmlWriter}
 use Rattle.ansi_html.specs.Html.{text_html, shown_after, html_from, shown_at_end, span_end}
 
--- the output that it writes to; the style of the last text; the style that is selected, which is
+-- the output that it writes to; the scheme of its colours; the style of the last text; the style that is selected, which is
 -- that one where no other has been selected since
 abbrev pub output_of : {W : Type 0} → HtmlWriter W → Output W
 output_of performer = performer.output
+
+abbrev pub scheme_of : {W : Type 0} → HtmlWriter W → Scheme
+scheme_of performer = performer.scheme
 
 abbrev pub shown_of : {W : Type 0} → HtmlWriter W → Style
 shown_of performer = performer.shown
@@ -25,8 +30,9 @@ next_of performer = performer.next
 abbrev pub style_of : {W : Type 0} → HtmlWriter W → Style
 style_of performer = unwrap_or (next_of performer) (shown_of performer)
 
--- plain text, and no span is open
+-- plain text in colours for all pages, and no span is open
 pub record IsNew {W : Type 0} (performer : HtmlWriter W) : Type 0 where
+  pub scheme : scheme_of performer ≡ Both
   pub style : style_of performer ≡ plain
   pub shown : shown_of performer ≡ plain
 
@@ -36,9 +42,11 @@ unwritten performer = span_end (shown_of performer)
 
 -- A call selects a style, or its text is written.
 pub record Takes {W : Type 0} (sink : SinkOf W) (old : HtmlWriter W) (call : Call) (new : HtmlWriter W) : Type 0 where
+  pub scheme : scheme_of new ≡ scheme_of old
   pub style : style_of new ≡ style_after call (style_of old)
   pub shown : shown_of new ≡ shown_after (shown_of old) (style_of old) (stripped_call call)
-  pub added : Adds sink (text_html (shown_of old) (style_of old) (stripped_call call)) (output_of old) (output_of new)
+  pub added : Adds sink (text_html (scheme_of old) (shown_of old) (style_of old) (stripped_call call))
+      (output_of old) (output_of new)
 
 -- the style that is selected after the calls
 abbrev pub style_at_end : Style → List Call → Style
@@ -48,6 +56,7 @@ style_at_end style (call ∷ calls) = style_at_end (style_after call style) call
 -- The calls, one after another.
 pub record TakesAll {W : Type 0} (sink : SinkOf W)
     (old : HtmlWriter W) (calls : List Call) (new : HtmlWriter W) : Type 0 where
+  pub scheme : scheme_of new ≡ scheme_of old
   pub style : style_of new ≡ style_at_end (style_of old) calls
   pub shown : shown_of new ≡ shown_at_end (shown_of old) (style_of old) calls
-  pub added : Adds sink (html_from (shown_of old) (style_of old) calls) (output_of old) (output_of new)
+  pub added : Adds sink (html_from (scheme_of old) (shown_of old) (style_of old) calls) (output_of old) (output_of new)

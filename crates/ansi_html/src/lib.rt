@@ -9,22 +9,28 @@
 //! ```
 #![tactic(auto)]
 
-ghost use Rattle.std.specs.Prelude.{◌≡◌, ◌≤◌, ◌+◌, ◌*◌, ◌++◌, [], ℕ, List, OnOk, length, map};
+ghost use Rattle.std.specs.Prelude.{◌≡◌, ◌≤◌, ◌+◌, ◌*◌, ◌++◌, [], ℕ, false, List, OnOk, length, map};
 ghost use Rattle.std.specs.Str.{IsUtf8};
 ghost use Rattle.anstyle_parse.specs.Stream.Call.{Call};
 ghost use Rattle.anstyle_parse.specs.Stream.Calls.{AreCalls};
 ghost use Rattle.anstyle_parse.specs.Io.Output.{Adds};
 ghost use Rattle.anstyle_parse.specs.Io.Run.{RunsToEnding};
 ghost use Rattle.ansi_strip.specs.Strip.{stripped};
+ghost use Rattle.ansi_style.specs.declared.style.Style.{Style};
 ghost use Rattle.ansi_style.specs.Style.{plain};
+ghost use Rattle.ansi_html.specs.declared.css.Scheme.TheVariants.{Both};
+ghost use Rattle.ansi_html.specs.Css.{selects_both, colors_css};
 ghost use Rattle.ansi_html.specs.Html.{html_text, html_ending, html, escaped_text};
 ghost use Rattle.ansi_html.specs.Reader.{byte_of, under, read, shown_from};
-ghost use Rattle.ansi_html.specs.Grammar.{IsFragment};
+ghost use Rattle.ansi_html.specs.Grammar.{AreReadable, IsFragment};
 
+pub mod contrast;
 mod css;
+mod palette;
 mod performer;
 
 use anstyle_parse::canon::{Fault, Output, Sink, Source, write_calls_between};
+pub use css::Scheme;
 pub use performer::HtmlWriter;
 use performer::put_escaped;
 
@@ -56,7 +62,7 @@ pub fn convert<R: Source, W: Sink>(
 ) -> (W, Result<(), Fault>)
     // What is written is the head, the HTML of the calls of what was read, and the tail.
     ensures runs { RunsToEnding R.Source W.Sink
-        (λ calls. head.now ++ html_text calls) (λ calls. html_ending calls ++ tail.now)
+        (λ calls. head.now ++ html_text Both calls) (λ calls. html_ending calls ++ tail.now)
         reader.old reader.new writer result.0 result.1 }
 
     // With Ok nothing of it is held back.
@@ -65,21 +71,26 @@ pub fn convert<R: Source, W: Sink>(
     // The headline: reading the HTML, before a browser's changes of newlines, gives exactly the
     // bytes of the stripped text, each with the declarations of the style that the stream has
     // selected there.
-    ensures read_back { (calls : List Call) → read (html calls) ≡ shown_from plain calls }
-    ensures text { (calls : List Call) → map byte_of (read (html calls)) ≡ stripped calls }
+    ensures read_back { (calls : List Call) → read (html Both calls) ≡ shown_from Both plain calls }
+    ensures text { (calls : List Call) → map byte_of (read (html Both calls)) ≡ stripped calls }
 
-    // No markup comes in: it is text and spans that do not nest, with declarations from a
-    // fixed vocabulary.
+    // Text is read: the colours of a style have WCAG's 4.5:1 with the page, or with the ground
+    // that the stream has selected alone. Where it has selected both colours, it may differ.
+    ensures contrast { (style : Style) → selects_both style ≡ false
+        → AreReadable Both (colors_css Both style) }
+
+    // No markup comes in: it is text and spans that do not nest, with such colours and with
+    // declarations from a fixed vocabulary.
     ensures grammar { (bytes : List ℕ) (calls : List Call) → AreCalls bytes calls
-        → IsFragment (html calls) }
+        → IsFragment Both (html Both calls) }
 
     // It is UTF-8, whatever was read.
     ensures utf8 { (bytes : List ℕ) (calls : List Call) → AreCalls bytes calls
-        → IsUtf8 (html calls) }
+        → IsUtf8 (html Both calls) }
 
-    // It has at most 278 bytes for each byte that was read, and 7 more.
+    // It has at most 306 bytes for each byte that was read, and 7 more.
     ensures bound { (bytes : List ℕ) (calls : List Call) → AreCalls bytes calls
-        → length (html calls) ≤ 278 * length bytes + 7 }
+        → length (html Both calls) ≤ 306 * length bytes + 7 }
 {
     write_calls_between::<HtmlWriter<W>, R, W>(head, reader, writer, tail)
 }

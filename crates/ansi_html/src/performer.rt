@@ -6,7 +6,7 @@ ghost use Rattle.ansi_html.specs.Css.{css};
 ghost use Rattle.ansi_html.specs.Grammar.{is_special, AreClear, BeginWithClear};
 ghost use Rattle.ansi_html.specs.Html.{span_begin, span_end, change, escaped, escaped_text};
 
-use crate::css::put_css;
+use crate::css::{Scheme, put_css};
 use ansi_strip::is_layout;
 use ansi_style::Style;
 use anstyle_parse::canon::{CallWriter, Output, Sink};
@@ -18,13 +18,15 @@ use anstyle_parse::{Params, Perform, PerformText};
 /// (0D), is text; `& < > " '` are written as character references. Text that is not plain
 /// stands in `<span style="…">…</span>`, one for each run of equal style. A span is opened only
 /// before text, and closed before text of another style or at the end. All other calls write
-/// nothing.
+/// nothing. Its colours are for light pages and dark ones.
 ///
 /// No memory is taken. A write that fails stops it: nothing more is written, and the fault is
 /// kept.
 #[derive(Drop)]
 pub struct HtmlWriter<W> {
     output: Output<W>,
+    /// The pages that the colours are for.
+    scheme: Scheme,
     /// The style of the last text; plain where no span is open.
     shown: Style,
     /// The style that is selected for what comes, where a sequence has selected one since.
@@ -33,14 +35,15 @@ pub struct HtmlWriter<W> {
 
 impl<W: Sink> HtmlWriter<W> {
     ghost use Rattle.std.specs.Prelude.{◌∷◌, None};
-    ghost use Rattle.ansi_html.specs.Writer.{output_of, style_of, shown_of, next_of};
+    ghost use Rattle.ansi_html.specs.Writer.{output_of, scheme_of, style_of, shown_of, next_of};
 
     /// Text of the selected style may follow.
     #[inline]
     fn begin_text(&mut self)
+        ensures scheme { scheme_of self.new ≡ scheme_of self.old }
         ensures style { style_of self.new ≡ style_of self.old }
         ensures shown { shown_of self.new ≡ style_of self.old }
-        ensures added { Adds W.Sink (change (shown_of self.old) (style_of self.old))
+        ensures added { Adds W.Sink (change (scheme_of self.old) (shown_of self.old) (style_of self.old))
             (output_of self.old) (output_of self.new) }
     {
         if let Some(style) = self.next {
@@ -50,26 +53,28 @@ impl<W: Sink> HtmlWriter<W> {
 
     /// Text of this style may follow.
     fn change_to(&mut self, style: Style)
+        ensures scheme { scheme_of self.new ≡ scheme_of self.old }
         ensures next { next_of self.new ≡ None }
         ensures shown { shown_of self.new ≡ style }
-        ensures added { Adds W.Sink (change (shown_of self.old) style) (output_of self.old) (output_of self.new) }
+        ensures added { Adds W.Sink (change (scheme_of self.old) (shown_of self.old) style)
+            (output_of self.old) (output_of self.new) }
     {
         self.next = None;
         if self.shown != style {
             put_span_end(&mut self.output, self.shown);
-            put_span_begin(&mut self.output, style);
+            put_span_begin(&mut self.output, self.scheme, style);
             self.shown = style;
         }
     }
 }
 
 /// Opens a span of the style, unless it is plain.
-fn put_span_begin<W: Sink>(output: &mut Output<W>, style: Style)
-    ensures { Adds W.Sink (span_begin style) output.old output.new }
+fn put_span_begin<W: Sink>(output: &mut Output<W>, scheme: Scheme, style: Style)
+    ensures { Adds W.Sink (span_begin scheme style) output.old output.new }
 {
     if style != Style::default() {
         output.put(b"<span style=\"");
-        put_css(output, style);
+        put_css(output, scheme, style);
         output.put(b"\">");
     }
 }
@@ -232,6 +237,7 @@ impl<W: Sink> PerformText for HtmlWriter<W> {
 }
 
 impl<W: Sink> CallWriter<W> for HtmlWriter<W> {
+    ghost use Rattle.ansi_html.specs.declared.css.Scheme.TheVariants.{Both};
     ghost use Rattle.ansi_html.specs.Html.{html_text, html_ending};
     ghost use Rattle.ansi_html.specs.Writer.{IsNew, output_of, unwritten as end_of_span};
     ghost use Rattle.ansi_html.specs.AddingProof.{Adds-html, end_of_span-html};
@@ -240,7 +246,7 @@ impl<W: Sink> CallWriter<W> for HtmlWriter<W> {
 
     ghost is_new = { IsNew };
 
-    ghost text = { html_text };
+    ghost text = { html_text Both };
 
     ghost ending = { html_ending };
 
@@ -252,6 +258,7 @@ impl<W: Sink> CallWriter<W> for HtmlWriter<W> {
     {
         HtmlWriter {
             output,
+            scheme: Scheme::Both,
             shown: Style::default(),
             next: None,
         }

@@ -1,7 +1,8 @@
 //! Every public item of every library, by its name, and every implementation that a type of theirs
 //! has of a trait of std: what is gone is missed here.
 use crate::{plain, write_last_style};
-use ansi_html::{HtmlWriter, convert, put_text};
+use ansi_html::contrast::{BLACK, Rgb, WHITE, linear};
+use ansi_html::{HtmlWriter, Scheme, convert, put_text};
 use ansi_strip::{Stripper, is_layout, strip};
 use ansi_style::{Color, Hue, Style, Underline};
 use anstyle_parse::canon::{CanonWriter, MAX_CHECKPOINT, checkpoint};
@@ -195,6 +196,14 @@ fn names_of_runs(rt: HostRuntime) -> Result<(), Fail> {
 
 #[test]
 fn names_of_styles_and_pieces(rt: HostRuntime) {
+    is_plain(Scheme::Both);
+    is_plain(Rgb {
+        red: 1,
+        green: 2,
+        blue: 3,
+    });
+    assert!(rt; linear(255) == 1_000_000);
+    assert!(rt; BLACK.is_read_on_light() && WHITE.is_read_on_dark());
     is_plain(Hue::Black);
     is_plain(Color::Default);
     is_plain(Color::Named(Hue::at(1)));

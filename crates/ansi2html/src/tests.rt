@@ -1,6 +1,6 @@
 //! `convert` with reads, writes and flushes of std that fail in turn: no clause says what an adapter
 //! does where the stream within fails.
-use ansi_html::convert;
+use ansi_html::{Scheme, convert};
 use anstyle_parse::canon::{Fault, FromRead, FromWrite};
 use std::alloc::Global;
 use std::io::ErrorKind;
@@ -21,7 +21,7 @@ const END: &[u8] = b"</span>";
 /// What convert answers between `a` and `z`, and its reader and writer afterwards.
 fn convert_over<'a>(tape: Tape<'a>, paper: Paper) -> (Tape<'a>, Paper, Result<(), Fault>) {
     let mut reader = FromRead::new(tape);
-    let (writer, answer) = convert(b"a", &mut reader, FromWrite::new(paper), b"z");
+    let (writer, answer) = convert(Scheme::Both, b"a", &mut reader, FromWrite::new(paper), b"z");
     (reader.into_inner(), writer.into_inner(), answer)
 }
 

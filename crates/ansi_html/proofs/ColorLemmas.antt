@@ -4,7 +4,7 @@ use Rattle.std.specs.Prelude.{if◌then◌else◌}
 use Rattle.ansi_style.specs.declared.style.Style.{Style}
 use Rattle.ansi_style.specs.declared.style.Color.{Color}
 use Rattle.ansi_html.specs.declared.contrast.Rgb.{Rgb}
-use Rattle.ansi_html.specs.declared.css.Scheme.{Scheme}
+use Rattle.ansi_html.specs.declared.scheme.Scheme.{Scheme}
 use Rattle.ansi_html.specs.Contrast.{are_readable, ink, dim_on}
 use Rattle.ansi_html.specs.Palette.{shades_of}
 use Rattle.ansi_html.specs.Css.{is_chosen, selects_both, text_of, behind_of, light_text, dark_text, on_page as page_css, on_reversed as reversed_css, color_on, on_chosen, colors_css}

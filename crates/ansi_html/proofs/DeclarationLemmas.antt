@@ -9,8 +9,8 @@ use Rattle.ansi_style.specs.declared.style.Style.{Style}
 use Rattle.ansi_style.specs.declared.style.Underline.{Underline}
 use Rattle.ansi_style.specs.declared.style.Underline.TheVariants.{Off, Single, Double, Curly, Dotted, Dashed}
 use Rattle.ansi_html.specs.declared.contrast.Rgb.{Rgb}
-use Rattle.ansi_html.specs.declared.css.Scheme.{Scheme}
-use Rattle.ansi_html.specs.declared.css.Scheme.TheVariants.{Light, Dark, Both}
+use Rattle.ansi_html.specs.declared.scheme.Scheme.{Scheme}
+use Rattle.ansi_html.specs.declared.scheme.Scheme.TheVariants.{Light, Dark, Both}
 use Rattle.ansi_html.specs.Contrast.{black, white}
 use Rattle.ansi_html.specs.Palette.{hex_digit, hex_byte, hex}
 use Rattle.ansi_html.specs.Css.{declared, light_dark, themed, colors_css, text_if, is_underlined, lines_css, underline_css, others_css, css}

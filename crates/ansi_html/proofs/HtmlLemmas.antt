@@ -10,7 +10,7 @@ use Rattle.anstyle_parse.proofs.Characters.Encoding.{encode_one, encode_two, enc
 use Rattle.ansi_strip.specs.Strip.{is_layout}
 use Rattle.ansi_style.specs.declared.style.Style.{Style}
 use Rattle.ansi_style.proofs.EqualityLemmas.{are_equal-refl}
-use Rattle.ansi_html.specs.declared.css.Scheme.{Scheme}
+use Rattle.ansi_html.specs.declared.scheme.Scheme.{Scheme}
 use Rattle.ansi_html.specs.Html.{escaped, escaped_text, change, text_html, shown_after, span_begin, span_end}
 use Rattle.ansi_html.specs.Grammar.{is_special, AreClear, BeginWithClear}
 

@@ -9,8 +9,8 @@ use Rattle.ansi_style.specs.declared.style.Underline.TheVariants.{Off, Single, D
 use Rattle.ansi_style.specs.Style.{plain, are_equal}
 use Rattle.ansi_style.specs.Rendition.{style_after}
 use Rattle.ansi_html.specs.declared.contrast.Rgb.{Rgb}
-use Rattle.ansi_html.specs.declared.css.Scheme.{Scheme}
-use Rattle.ansi_html.specs.declared.css.Scheme.TheVariants.{Light, Dark, Both}
+use Rattle.ansi_html.specs.declared.scheme.Scheme.{Scheme}
+use Rattle.ansi_html.specs.declared.scheme.Scheme.TheVariants.{Light, Dark, Both}
 use Rattle.ansi_html.specs.Contrast.{black, white}
 use Rattle.ansi_html.specs.Palette.{hex}
 use Rattle.ansi_html.specs.Css.{declared, light_dark, themed, colors_css, text_if, is_underlined, lines_css, underline_css, css}

@@ -7,7 +7,7 @@ use Rattle.std.proofs.lemmas.Str.{encodes-chars}
 use Rattle.anstyle_parse.specs.Stream.Call.{print}
 use Rattle.anstyle_parse.specs.Stream.Texts.{text_calls}
 use Rattle.ansi_style.specs.declared.style.Style.{Style}
-use Rattle.ansi_html.specs.declared.css.Scheme.{Scheme}
+use Rattle.ansi_html.specs.declared.scheme.Scheme.{Scheme}
 use Rattle.ansi_html.specs.Html.{escaped, escaped_text, change, html_from, shown_at_end}
 use Rattle.ansi_html.specs.Writer.{style_at_end}
 use Rattle.ansi_html.proofs.HtmlLemmas.{text_html-encode, shown_after-encode, change-same}

@@ -9,7 +9,7 @@ use Rattle.ansi_style.specs.declared.style.Style.{Style}
 use Rattle.ansi_style.specs.Style.{plain, are_equal}
 use Rattle.ansi_style.specs.Rendition.{style_after}
 use Rattle.ansi_style.proofs.EqualityLemmas.{are_equal-same}
-use Rattle.ansi_html.specs.declared.css.Scheme.{Scheme}
+use Rattle.ansi_html.specs.declared.scheme.Scheme.{Scheme}
 use Rattle.ansi_html.specs.Css.{colors_css, css}
 use Rattle.ansi_html.specs.Grammar.{is_special}
 use Rattle.ansi_html.specs.Html.{escaped, escaped_text, is_plain, span_begin, span_end, change, text_html, shown_after, html_from, shown_at_end, html}

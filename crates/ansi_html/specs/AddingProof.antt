@@ -8,8 +8,7 @@ use Rattle.anstyle_parse.proofs.Written.Output.{Adds-nil, Adds-append}
 use Rattle.ansi_strip.specs.Strip.{stripped_call}
 use Rattle.ansi_style.specs.declared.style.Style.{Style}
 use Rattle.ansi_style.specs.Rendition.{style_after}
-use Rattle.ansi_html.specs.declared.css.Scheme.{Scheme}
-use Rattle.ansi_html.specs.declared.css.Scheme.TheVariants.{Both}
+use Rattle.ansi_html.specs.declared.scheme.Scheme.{Scheme}
 use Rattle.ansi_html.specs.declared.performer.HtmlWriter.{HtmlWriter}
 use Rattle.ansi_html.specs.Html.{text_html, shown_after, html_from, shown_at_end, span_end, html_text, html_ending}
 use Rattle.ansi_html.specs.Writer.{output_of, scheme_of, style_of, shown_of, IsNew, unwritten, style_at_end, Takes, TakesAll}
@@ -34,11 +33,11 @@ style_at_end-append : (calls more : List Call) (style : Style) → style_at_end 
 style_at_end-append [] more style = refl
 style_at_end-append (call ∷ calls) more style = style_at_end-append calls more (style_after call style)
 
-module _ {W : Type 0} (sink : SinkOf W) where
-  pub TakesAll-none : (performer : HtmlWriter W) → TakesAll sink performer [] performer
+module _ {W S : Type 0} (sink : SinkOf W) where
+  pub TakesAll-none : (performer : HtmlWriter W S) → TakesAll sink performer [] performer
   TakesAll-none performer = record { scheme = refl; style = refl; shown = refl; added = Adds-nil sink (output_of performer) }
 
-  pub TakesAll-one : (old : HtmlWriter W) (call : Call) (new : HtmlWriter W) → Takes sink old call new → TakesAll sink old (call ∷ []) new
+  pub TakesAll-one : (old : HtmlWriter W S) (call : Call) (new : HtmlWriter W S) → Takes sink old call new → TakesAll sink old (call ∷ []) new
   TakesAll-one old call new takes = record {
     scheme = takes.scheme;
     style = takes.style;
@@ -46,7 +45,7 @@ module _ {W : Type 0} (sink : SinkOf W) where
     added = subst (λ t. Adds sink t (output_of old) (output_of new)) (sym (append-nil (text_html (scheme_of old) (shown_of old) (style_of old) (stripped_call call)))) takes.added;
   }
 
-  pub TakesAll-more : (old middle new : HtmlWriter W) (calls more : List Call) → TakesAll sink old calls middle → TakesAll sink middle more new → TakesAll sink old (calls ++ more) new
+  pub TakesAll-more : (old middle new : HtmlWriter W S) (calls more : List Call) → TakesAll sink old calls middle → TakesAll sink middle more new → TakesAll sink old (calls ++ more) new
   TakesAll-more old middle new calls more first second =
       let scheme = scheme_of old in
       let shown = shown_of old in
@@ -64,12 +63,12 @@ module _ {W : Type 0} (sink : SinkOf W) where
             (Adds-append sink (html_from scheme shown style calls) (html_from (scheme_of middle) (shown_of middle) (style_of middle) more) (output_of old) (output_of middle) (output_of new) first.added second.added);
       }
 
-  pub Adds-html : (old : HtmlWriter W) (calls : List Call) (new : HtmlWriter W) → IsNew old → TakesAll sink old calls new
-      → Adds sink (html_text Both calls) (output_of old) (output_of new)
-  Adds-html old calls new is taken =
-      subst (λ t. Adds sink t (output_of old) (output_of new)) (ap (λ scheme. html_from scheme (shown_of old) (style_of old) calls) is.scheme ∙ ap₂ (λ shown style. html_from Both shown style calls) is.shown is.style) taken.added
+  pub Adds-html : (scheme : Scheme) (old : HtmlWriter W S) (calls : List Call) (new : HtmlWriter W S) → IsNew scheme old → TakesAll sink old calls new
+      → Adds sink (html_text scheme calls) (output_of old) (output_of new)
+  Adds-html scheme old calls new is taken =
+      subst (λ t. Adds sink t (output_of old) (output_of new)) (ap (λ it. html_from it (shown_of old) (style_of old) calls) is.scheme ∙ ap₂ (λ shown style. html_from scheme shown style calls) is.shown is.style) taken.added
 
-  pub end_of_span-html : (old : HtmlWriter W) (calls : List Call) (new : HtmlWriter W) → IsNew old → TakesAll sink old calls new
+  pub end_of_span-html : (scheme : Scheme) (old : HtmlWriter W S) (calls : List Call) (new : HtmlWriter W S) → IsNew scheme old → TakesAll sink old calls new
       → unwritten new ≡ html_ending calls
-  end_of_span-html old calls new is taken =
+  end_of_span-html scheme old calls new is taken =
       ap span_end (taken.shown ∙ ap₂ (λ shown style. shown_at_end shown style calls) is.shown is.style)

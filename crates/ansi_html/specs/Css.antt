@@ -6,8 +6,8 @@ use Rattle.ansi_style.specs.declared.style.Color.TheVariants.{Default, Named, Br
 use Rattle.ansi_style.specs.declared.style.Underline.{Underline}
 use Rattle.ansi_style.specs.declared.style.Underline.TheVariants.{Off, Single, Double, Curly, Dotted, Dashed}
 use Rattle.ansi_html.specs.declared.contrast.Rgb.{Rgb}
-use Rattle.ansi_html.specs.declared.css.Scheme.{Scheme}
-use Rattle.ansi_html.specs.declared.css.Scheme.TheVariants.{Light, Dark, Both}
+use Rattle.ansi_html.specs.declared.scheme.Scheme.{Scheme}
+use Rattle.ansi_html.specs.declared.scheme.Scheme.TheVariants.{Light, Dark, Both}
 use Rattle.ansi_html.specs.Contrast.{black, white, light_shade, dark_shade, mixture, ink, dim_on}
 use Rattle.ansi_html.specs.Palette.{hex, shades_of}
 

@@ -6,7 +6,7 @@ use Rattle.ansi_strip.specs.Strip.{stripped_call}
 use Rattle.ansi_style.specs.declared.style.Style.{Style}
 use Rattle.ansi_style.specs.Style.{plain, are_equal}
 use Rattle.ansi_style.specs.Rendition.{style_after}
-use Rattle.ansi_html.specs.declared.css.Scheme.{Scheme}
+use Rattle.ansi_html.specs.declared.scheme.Scheme.{Scheme}
 use Rattle.ansi_html.specs.Css.{css}
 
 -- The bytes that have a meaning in HTML (13.1.2.3 and 13.1.4 of the HTML standard), as

@@ -11,7 +11,7 @@ use Rattle.anstyle_parse.specs.Stream.Call.{Call}
 use Rattle.ansi_strip.specs.Strip.{stripped_call}
 use Rattle.ansi_style.specs.declared.style.Style.{Style}
 use Rattle.ansi_style.specs.Rendition.{style_after}
-use Rattle.ansi_html.specs.declared.css.Scheme.{Scheme}
+use Rattle.ansi_html.specs.declared.scheme.Scheme.{Scheme}
 use Rattle.ansi_html.specs.Css.{css}
 
 -- A byte of text, and the style attribute under which it stands.

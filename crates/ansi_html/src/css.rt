@@ -6,20 +6,9 @@ ghost use Rattle.ansi_html.specs.Css.{declared as declared_color, light_dark, th
 
 use crate::contrast::{BLACK, Rgb, WHITE};
 use crate::palette::shades_of;
+use crate::scheme::Scheme;
 use ansi_style::{Color, Style, Underline};
 use anstyle_parse::canon::{Output, Sink};
-
-/// The pages that the colours are for.
-#[derive(Debug, Clone, Copy, PartialEq, Eq)]
-pub enum Scheme {
-    /// Light pages.
-    Light,
-    /// Dark pages, no lighter than #1e1e1e.
-    Dark,
-    /// Both, as the reader of the page has it (`light-dark()` of CSS); where a reader does not
-    /// know this, light pages.
-    Both,
-}
 
 /// The last hexadecimal digit of a number, in lower case.
 fn digit(number: u8) -> u8

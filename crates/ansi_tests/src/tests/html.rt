@@ -1,20 +1,30 @@
 //! HTML worked by hand: clauses say that it is read back, and not that it has as few spans as
 //! these rows, nor that the definitions' colours and declarations are those of CSS and xterm.
-use ansi_html::convert;
+use ansi_html::{Scheme, convert};
 use anstyle_parse::canon::{FromRead, FromWrite};
 use std::alloc::Global;
 use std::process::Abort;
 
 // The HTML of these bytes.
-fn html(alloc: Global, bytes: &[u8]) -> Vec<u8> {
+fn html(alloc: Global, scheme: Scheme, bytes: &[u8]) -> Vec<u8> {
     let mut reader = FromRead::new(bytes);
-    let (sink, _answer) = convert(b"", &mut reader, FromWrite::new(Vec::new(alloc)), b"");
+    let (sink, _answer) = convert(
+        scheme,
+        b"",
+        &mut reader,
+        FromWrite::new(Vec::new(alloc)),
+        b"",
+    );
     sink.into_inner()
 }
 
 fn assert_rows(rt: &(impl Abort + AllocGlobal), rows: &[(&[u8], &[u8])]) {
+    assert_rows_in(rt, Scheme::Both, rows);
+}
+
+fn assert_rows_in(rt: &(impl Abort + AllocGlobal), scheme: Scheme, rows: &[(&[u8], &[u8])]) {
     for (bytes, expected) in rows {
-        let written = html(rt.alloc(), bytes);
+        let written = html(rt.alloc(), scheme, bytes);
         assert_eq!(rt; written.as_slice(), *expected, "{bytes:?}");
     }
 }
@@ -197,6 +207,33 @@ fn dim(rt: HostRuntime) {
             (
                 b"\x1B[2;7mx",
                 b"<span style=\"color:#afafaf;color:light-dark(#afafaf,#4f4f4f);background-color:#000000;background-color:light-dark(#000000,#ffffff);\">x</span>",
+            ),
+        ],
+    );
+}
+
+/// For one scheme alone.
+#[test]
+fn schemes(rt: HostRuntime) {
+    assert_rows_in(
+        &rt,
+        Scheme::Light,
+        &[
+            (b"\x1B[31mx", b"<span style=\"color:#cf222e;\">x</span>"),
+            (
+                b"\x1B[7mx",
+                b"<span style=\"color:#ffffff;background-color:#000000;\">x</span>",
+            ),
+        ],
+    );
+    assert_rows_in(
+        &rt,
+        Scheme::Dark,
+        &[
+            (b"\x1B[31mx", b"<span style=\"color:#ff7b72;\">x</span>"),
+            (
+                b"\x1B[7mx",
+                b"<span style=\"color:#000000;background-color:#ffffff;\">x</span>",
             ),
         ],
     );

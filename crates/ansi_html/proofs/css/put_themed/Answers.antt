@@ -1,7 +1,7 @@
 use Rattle.std.proofs.Common.{sym, subst}
 use Rattle.anstyle_parse.specs.Io.Output.{Adds}
 use Rattle.anstyle_parse.proofs.Written.Output.{Adds-append}
-use Rattle.ansi_html.specs.declared.css.Scheme.{Scheme}
+use Rattle.ansi_html.specs.declared.scheme.Scheme.{Scheme}
 use Rattle.ansi_html.specs.Css.{declared as declared_color, light_dark, themed}
 use Rattle.ansi_html.proofs.css.put_themed.Goals as goal
 

@@ -208,6 +208,12 @@ TITLE = "a<b>&\"' </title><script>"
 TITLED_HEAD = PAGE_HEAD.replace(b"Terminal output", b"a&lt;b&gt;&amp;&quot;&#39; &lt;/title&gt;&lt;script&gt;")
 
 
+# The same for light pages alone, and for dark ones: black on white, and white on Chromium's dark ground.
+ROOT = b":root { color-scheme: light dark; }"
+LIGHT_HEAD = PAGE_HEAD.replace(ROOT, b":root { color-scheme: light; color: #000000; background-color: #ffffff; }")
+DARK_TITLED_HEAD = TITLED_HEAD.replace(ROOT, b":root { color-scheme: dark; color: #ffffff; background-color: #121212; }")
+
+
 def unknown(name, words, shown=None):
     """Words of which the first is no option, and what is said then."""
     is_option, shown = words[0].startswith("-"), shown or '"%s"' % words[0]
@@ -258,7 +264,7 @@ PROGRAMS = [
     ),
     Program(
         "ansi2html",
-        refused_by("ansi2html", ["--title"], ["--titles=x"], ["--Page"], ["pages"], ["--page="], ["fragment"]),
+        refused_by("ansi2html", ["--title"], ["--titles=x"], ["--Page"], ["pages"], ["--page="], ["--light=1"], ["dark"], ["fragment"]),
         [
             Mode(words, HTML_ROWS, (b"\x1b[mA\n", b"A\n"), hostile, head, tail)
             for words, hostile, head, tail in (
@@ -267,9 +273,12 @@ PROGRAMS = [
                 (["--page"], [], PAGE_HEAD, PAGE_TAIL),
                 (["--title=" + TITLE, "--page"], [], TITLED_HEAD, PAGE_TAIL),
                 (["--title=first", "page", "--title=" + TITLE], [], TITLED_HEAD, PAGE_TAIL),
+                (["--dark", "--light"], [], b"", b""),
+                (["--dark", "--page", "--light"], [], LIGHT_HEAD, PAGE_TAIL),
+                (["--light", "--dark", "--title=" + TITLE], [], DARK_TITLED_HEAD, PAGE_TAIL),
             )
         ],
-        options=["--page", "--title=TEXT"],
+        options=["--page", "--title=TEXT", "--light", "--dark"],
         fragment=[],
         page=["--page"],
     ),

@@ -1,6 +1,8 @@
 -- The words of the program.
-use Rattle.std.specs.Prelude.{ℕ, Bool, ◌||◌, nat_eq, List, codes, bytes_eq, if◌then◌else◌}
+use Rattle.std.specs.Prelude.{ℕ, Bool, ◌||◌, nat_eq, List, [], ◌∷◌, codes, bytes_eq, if◌then◌else◌}
 use Rattle.std.specs.List.{list_any, starts_with}
+use Rattle.ansi_html.specs.declared.scheme.Scheme.{Scheme}
+use Rattle.ansi_html.specs.declared.scheme.Scheme.TheVariants.{Light, Dark, Both}
 use Rattle.ansi2html.specs.declared.form.Form.{Form}
 use Rattle.ansi2html.specs.declared.form.Form.TheVariants.{Fragment, Page}
 
@@ -12,6 +14,18 @@ asks_for_page word =
 -- a page where some word asks for it
 abbrev pub form_of : (words : List (List ℕ)) → Form
 form_of words = if list_any asks_for_page words then Page else Fragment
+
+-- The scheme after one word more, and after all: the last of --light and --dark, and else both.
+abbrev pub scheme_after : Scheme → (word : List ℕ) → Scheme
+scheme_after scheme word =
+    if bytes_eq word (codes "--light") then Light else if bytes_eq word (codes "--dark") then Dark else scheme
+
+abbrev pub scheme_from : Scheme → (words : List (List ℕ)) → Scheme
+scheme_from scheme [] = scheme
+scheme_from scheme (word ∷ words) = scheme_from (scheme_after scheme word) words
+
+abbrev pub scheme_of : (words : List (List ℕ)) → Scheme
+scheme_of words = scheme_from Both words
 
 -- the title of a page that is given none
 abbrev pub default_title : List ℕ

@@ -1,9 +1,10 @@
 //! What stands around the text.
 ghost use Rattle.std.specs.Prelude.{◌≡◌, IfOk};
-ghost use Rattle.ansi2html.specs.Page.{head_of, tail_of};
+ghost use Rattle.anstyle_parse.specs.Io.Output.{Adds};
+ghost use Rattle.ansi2html.specs.Page.{page_colors, page_head, head_of, tail_of};
 
-use ansi_html::put_text;
-use anstyle_parse::io::{FromWrite, Output};
+use ansi_html::{Scheme, put_text};
+use anstyle_parse::io::{FromWrite, Output, Sink};
 use std::alloc::{AllocError, Global};
 
 /// What is written.
@@ -11,7 +12,7 @@ use std::alloc::{AllocError, Global};
 pub enum Form {
     /// The text alone, for a `<pre>` of another page.
     Fragment,
-    /// A page, light or dark as its reader has it.
+    /// A page.
     Page,
 }
 
@@ -26,12 +27,14 @@ const BEFORE_TITLE: &[u8] = br#"<!DOCTYPE html>
 <meta name="viewport" content="width=device-width">
 <title>"#;
 
-/// The page from its title to the text. Browsers drop the newline after `<pre>`, so that one which
-/// begins the text stays.
+/// The page from its title to its colours.
 const AFTER_TITLE: &[u8] = br#"</title>
 <style>
-:root { color-scheme: light dark; }
-pre { white-space: pre-wrap; overflow-wrap: anywhere; }
+"#;
+
+/// The page from its colours to the text. Browsers drop the newline after `<pre>`, so that one
+/// which begins the text stays.
+const AFTER_COLORS: &[u8] = br#"pre { white-space: pre-wrap; overflow-wrap: anywhere; }
 </style>
 </head>
 <body>
@@ -44,17 +47,39 @@ const PAGE_TAIL: &[u8] = br#"</pre>
 </html>
 "#;
 
+/// The colours of a page: as its reader has it, or black on white, or white on a dark ground.
+fn colors(scheme: Scheme) -> &'static [u8]
+    ensures { result.now ≡ page_colors scheme }
+{
+    match scheme {
+        Scheme::Light =>
+            b":root { color-scheme: light; color: #000000; background-color: #ffffff; }\n",
+        Scheme::Dark =>
+            b":root { color-scheme: dark; color: #ffffff; background-color: #121212; }\n",
+        Scheme::Both => b":root { color-scheme: light dark; }\n",
+    }
+}
+
+/// Writes the page as far as its text.
+fn put_head<W: Sink>(output: &mut Output<W>, scheme: Scheme, title: &str)
+    ensures { Adds W.Sink (page_head scheme title.now) output.old output.new }
+{
+    output.put(BEFORE_TITLE);
+    put_text(output, title);
+    output.put(AFTER_TITLE);
+    output.put(colors(scheme));
+    output.put(AFTER_COLORS);
+}
+
 impl Form {
     /// What is written before the text: of a page, its head with this title, in which `& < > " '`
-    /// are character references. A page's takes memory.
-    pub fn head(self, alloc: Global, title: &str) -> Result<Vec<u8>, AllocError>
-        ensures { IfOk result (λ head. head.items ≡ head_of self title.now) }
+    /// are character references, and with the colours of the scheme. A page's takes memory.
+    pub fn head(self, alloc: Global, scheme: Scheme, title: &str) -> Result<Vec<u8>, AllocError>
+        ensures { IfOk result (λ head. head.items ≡ head_of self scheme title.now) }
     {
         let mut output = Output::new(FromWrite::new(Vec::new(alloc)));
         if self == Form::Page {
-            output.put(BEFORE_TITLE);
-            put_text(&mut output, title);
-            output.put(AFTER_TITLE);
+            put_head(&mut output, scheme, title);
         }
         let (writer, answer) = output.finish();
         match answer {

@@ -10,7 +10,7 @@ use ansi_html::convert;
 use anstyle_parse::canon::FromRead;
 use standard_streams::{answered, asked_of, buffered, ended_with_reason, failed, given_words};
 use std::process::ExitCode;
-use words::{HELP, OPTIONS, form, title};
+use words::{HELP, OPTIONS, form, scheme, title};
 
 /// The name at the front of what the program says of failures.
 const PROGRAM: &str = "ansi2html";
@@ -23,11 +23,13 @@ fn main(rt: HostRuntime) -> ExitCode {
         return answered(&rt, PROGRAM, HELP, request);
     }
     let form = form(words.as_slice());
-    let Ok(head) = form.head(rt.alloc(), title(words.as_slice())) else {
+    let scheme = scheme(words.as_slice());
+    let Ok(head) = form.head(rt.alloc(), scheme, title(words.as_slice())) else {
         return failed(&rt, PROGRAM, "out of memory");
     };
     let mut reader = FromRead::new(rt.stdin());
     let ran = convert(
+        scheme,
         head.as_slice(),
         &mut reader,
         buffered(rt.stdout()),

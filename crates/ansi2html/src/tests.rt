@@ -1,6 +1,6 @@
 //! `convert` with reads, writes and flushes of std that fail in turn: no clause says what an adapter
 //! does where the stream within fails.
-use ansi_html::convert;
+use ansi_html::{Scheme, convert};
 use anstyle_parse::canon::{Fault, FromRead, FromWrite};
 use std::alloc::Global;
 use std::io::ErrorKind;
@@ -10,10 +10,10 @@ use test_streams::{Paper, TROUBLES, Tape, narrow_papers};
 /// 9 bytes, of which the sixth and the last are text; the span is still open.
 const COLOURED: &[u8] = b"\x1b[31mh\x1b[1mi";
 
-const RED: &[u8] = b"<span style=\"color:light-dark(#cf222e,#ff7b72);\">h</span>";
+const RED: &[u8] = b"<span style=\"color:#cf222e;color:light-dark(#cf222e,#ff7b72);\">h</span>";
 
 const BOLD_RED: &[u8] =
-    b"<span style=\"color:light-dark(#cf222e,#ff7b72);font-weight:bold;\">i</span>";
+    b"<span style=\"color:#cf222e;color:light-dark(#cf222e,#ff7b72);font-weight:bold;\">i</span>";
 
 /// What closes a span, before further text or at the end.
 const END: &[u8] = b"</span>";
@@ -21,7 +21,7 @@ const END: &[u8] = b"</span>";
 /// What convert answers between `a` and `z`, and its reader and writer afterwards.
 fn convert_over<'a>(tape: Tape<'a>, paper: Paper) -> (Tape<'a>, Paper, Result<(), Fault>) {
     let mut reader = FromRead::new(tape);
-    let (writer, answer) = convert(b"a", &mut reader, FromWrite::new(paper), b"z");
+    let (writer, answer) = convert(Scheme::Both, b"a", &mut reader, FromWrite::new(paper), b"z");
     (reader.into_inner(), writer.into_inner(), answer)
 }
 

@@ -1,17 +1,18 @@
 //! The words of the program: what its options say.
 ghost use Rattle.std.specs.Prelude.{◌≡◌, codes, map, string_bytes, unwrap_or};
 ghost use Rattle.standard_streams.specs.Options.{last_value};
-ghost use Rattle.ansi2html.specs.Words.{asks_for_page, form_of, default_title};
+ghost use Rattle.ansi2html.specs.Words.{asks_for_page, form_of, scheme_after, scheme_of, default_title};
 
 use crate::form::{Form, TITLE};
+use ansi_html::Scheme;
 use standard_streams::value_of;
 
 /// The options: `page` is the word of earlier versions.
-pub const OPTIONS: &[&str] = &["--page", "page", "--title="];
+pub const OPTIONS: &[&str] = &["--page", "page", "--title=", "--light", "--dark"];
 
 /// What `--help` says.
 pub const HELP: &str = "\
-usage: ansi2html [--page] [--title=TEXT] < FILE
+usage: ansi2html [--page] [--title=TEXT] [--light | --dark] < FILE
 
 Writes the text of standard input to standard output as HTML, in its colours:
 a fragment, to be put into a <pre> of a page in UTF-8, or a whole page.
@@ -20,6 +21,8 @@ Input is UTF-8. No file is opened: one is given by <.
   --page          write a whole page, light or dark as its reader has it;
                   so does the word page
   --title=TEXT    write a whole page with this title
+  --light         colours for light pages alone
+  --dark          colours for dark pages alone, no lighter than #1e1e1e
   --help          say this
   --version       say which version it is
 
@@ -43,6 +46,30 @@ fn asks_for_page(word: &str) -> bool
     ensures { result ≡ asks_for_page word.now }
 {
     word == "--page" || word == "page" || word.starts_with("--title=")
+}
+
+/// The pages that the colours are for: by the last of `--light` and `--dark`, and else both.
+pub fn scheme(words: &[String]) -> Scheme
+    ensures { result ≡ scheme_of (map string_bytes words.now) }
+{
+    let mut scheme = Scheme::Both;
+    for word in words {
+        scheme = scheme_after(scheme, word.as_str());
+    }
+    scheme
+}
+
+/// The same after one word more.
+fn scheme_after(scheme: Scheme, word: &str) -> Scheme
+    ensures { result ≡ scheme_after scheme word.now }
+{
+    if word == "--light" {
+        Scheme::Light
+    } else if word == "--dark" {
+        Scheme::Dark
+    } else {
+        scheme
+    }
 }
 
 /// The title of the page: the last that the words say.

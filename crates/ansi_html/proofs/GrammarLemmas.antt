@@ -8,11 +8,13 @@ use Rattle.ansi_style.specs.declared.style.Style.{Style}
 use Rattle.ansi_style.specs.Style.{plain, are_equal}
 use Rattle.ansi_style.specs.Rendition.{style_after}
 use Rattle.ansi_style.proofs.EqualityLemmas.{are_equal-same, are_equal-refl}
-use Rattle.ansi_html.specs.Css.{css}
+use Rattle.ansi_html.specs.declared.scheme.Scheme.{Scheme}
+use Rattle.ansi_html.specs.Css.{colors_css, others_css, css}
 use Rattle.ansi_html.specs.Grammar.{is_special, is_text_byte, ampersand, less_than, greater_than, quotation_mark, apostrophe, IsText, nothing, byte, reference, IsFragment, end, text, span}
 use Rattle.ansi_html.specs.Html.{escaped, escaped_text, is_plain, span_begin, span_end, change, text_html, shown_after, html_from, shown_at_end, html}
 use Rattle.ansi_html.proofs.HtmlLemmas.{escaped-clear}
-use Rattle.ansi_html.proofs.DeclarationLemmas.{AreDeclarations-css}
+use Rattle.ansi_html.proofs.DeclarationLemmas.{AreDeclarations-others}
+use Rattle.ansi_html.proofs.ColorLemmas.{AreColors-css}
 use Rattle.ansi_strip.proofs.Showable.{AreShowable}
 use Rattle.ansi_html.proofs.LawfulText.{is_textual, AreTextual, AreTextual-stripped}
 
@@ -45,25 +47,25 @@ IsText-escaped (b ∷ bytes) rest are more =
     subst IsText (sym (append_assoc (escaped b) (escaped_text bytes) rest)) (IsText-byte b (escaped_text bytes ++ rest) are.0 (IsText-escaped bytes rest are.1 more))
 
 -- what may follow inside a span: text, the end of the span, and a fragment
-record IsInside (all : List ℕ) : Type 0 where
+record IsInside (scheme : Scheme) (all : List ℕ) : Type 0 where
   styled : List ℕ
   rest : List ℕ
   whole : all ≡ styled ++ (codes "</span>" ++ rest)
   is_text : IsText styled
-  fragment : IsFragment rest
+  fragment : IsFragment scheme rest
 
 -- what may follow, by whether the text so far is plain
-GoesOn : Bool → List ℕ → Type 0
-GoesOn true all = IsFragment all
-GoesOn false all = IsInside all
+GoesOn : (scheme : Scheme) → Bool → List ℕ → Type 0
+GoesOn scheme true all = IsFragment scheme all
+GoesOn scheme false all = IsInside scheme all
 
 -- text goes on as what follows it does
-GoesOn-text : (plain_is : Bool) (bytes rest : List ℕ) → AreTextual bytes → GoesOn plain_is rest → GoesOn plain_is (escaped_text bytes ++ rest)
+GoesOn-text : (scheme : Scheme) → (plain_is : Bool) (bytes rest : List ℕ) → AreTextual bytes → GoesOn scheme plain_is rest → GoesOn scheme plain_is (escaped_text bytes ++ rest)
 unfolding GoesOn
-GoesOn-text true bytes rest are more =
-    subst (λ l. IsFragment (l ++ rest)) (append-nil (escaped_text bytes))
+GoesOn-text scheme true bytes rest are more =
+    subst (λ l. IsFragment scheme (l ++ rest)) (append-nil (escaped_text bytes))
     (text (escaped_text bytes ++ []) rest (IsText-escaped bytes [] are nothing) more)
-GoesOn-text false bytes rest are more = record {
+GoesOn-text scheme false bytes rest are more = record {
   styled = escaped_text bytes ++ more.styled;
   rest = more.rest;
   whole = ap (λ l. escaped_text bytes ++ l) more.whole ∙ sym (append_assoc (escaped_text bytes) more.styled (codes "</span>" ++ more.rest));
@@ -72,54 +74,54 @@ GoesOn-text false bytes rest are more = record {
 }
 
 -- the beginning of a span, and what follows it, is a fragment
-IsFragment-begin : (style : Style) (all : List ℕ) → GoesOn (is_plain style) all → IsFragment (span_begin style ++ all)
+IsFragment-begin : (scheme : Scheme) → (style : Style) (all : List ℕ) → GoesOn scheme (is_plain style) all → IsFragment scheme (span_begin scheme style ++ all)
 unfolding GoesOn
-IsFragment-begin style all more = by_case (is_plain style) more
+IsFragment-begin scheme style all more = by_case (is_plain style) more
   where
-    by_case : (plain_is : Bool) → GoesOn plain_is all → IsFragment ((if plain_is then [] else codes "<span style=\"" ++ (css style ++ codes "\">")) ++ all)
+    by_case : (plain_is : Bool) → GoesOn scheme plain_is all → IsFragment scheme ((if plain_is then [] else codes "<span style=\"" ++ (css scheme style ++ codes "\">")) ++ all)
     by_case true fragment = fragment
     by_case false inside =
-        subst IsFragment
-        (ap (λ l. codes "<span style=\"" ++ (css style ++ (codes "\">" ++ l))) (sym inside.whole) ∙ ap (λ l. codes "<span style=\"" ++ l) (sym (append_assoc (css style) (codes "\">") all)))
-        (span (css style) inside.styled inside.rest (AreDeclarations-css style) inside.is_text inside.fragment)
+        subst (IsFragment scheme)
+        (ap (λ l. codes "<span style=\"" ++ (css scheme style ++ (codes "\">" ++ l))) (sym inside.whole) ∙ ap (λ l. codes "<span style=\"" ++ l) (sym (append_assoc (css scheme style) (codes "\">") all)))
+        (span (colors_css scheme style) (others_css style) inside.styled inside.rest (AreColors-css scheme style) (AreDeclarations-others style) inside.is_text inside.fragment)
 
 -- the end of a span, and a fragment after it, goes on inside it
-GoesOn-end : (shown : Style) (rest : List ℕ) → IsFragment rest → GoesOn (is_plain shown) (span_end shown ++ rest)
+GoesOn-end : (scheme : Scheme) → (shown : Style) (rest : List ℕ) → IsFragment scheme rest → GoesOn scheme (is_plain shown) (span_end shown ++ rest)
 unfolding GoesOn
-GoesOn-end shown rest fragment = by_case (is_plain shown)
+GoesOn-end scheme shown rest fragment = by_case (is_plain shown)
   where
-    by_case : (plain_is : Bool) → GoesOn plain_is ((if plain_is then [] else codes "</span>") ++ rest)
+    by_case : (plain_is : Bool) → GoesOn scheme plain_is ((if plain_is then [] else codes "</span>") ++ rest)
     by_case true = fragment
     by_case false = record { styled = []; rest = rest; whole = refl; is_text = nothing; fragment = fragment }
 
-GoesOn-change : (shown style : Style) (all : List ℕ) → GoesOn (is_plain style) all → GoesOn (is_plain shown) (change shown style ++ all)
-GoesOn-change shown style all more = by_case (are_equal shown style) refl
+GoesOn-change : (scheme : Scheme) → (shown style : Style) (all : List ℕ) → GoesOn scheme (is_plain style) all → GoesOn scheme (is_plain shown) (change scheme shown style ++ all)
+GoesOn-change scheme shown style all more = by_case (are_equal shown style) refl
   where
-    by_case : (same : Bool) → are_equal shown style ≡ same → GoesOn (is_plain shown) ((if same then [] else span_end shown ++ span_begin style) ++ all)
-    by_case true is = subst (λ (s : Style). GoesOn (is_plain s) all) (sym (are_equal-same shown style is)) more
+    by_case : (same : Bool) → are_equal shown style ≡ same → GoesOn scheme (is_plain shown) ((if same then [] else span_end shown ++ span_begin scheme style) ++ all)
+    by_case true is = subst (λ (s : Style). GoesOn scheme (is_plain s) all) (sym (are_equal-same shown style is)) more
     by_case false is =
-        subst (GoesOn (is_plain shown)) (sym (append_assoc (span_end shown) (span_begin style) all))
-        (GoesOn-end shown (span_begin style ++ all) (IsFragment-begin style all more))
+        subst (GoesOn scheme (is_plain shown)) (sym (append_assoc (span_end shown) (span_begin scheme style) all))
+        (GoesOn-end scheme shown (span_begin scheme style ++ all) (IsFragment-begin scheme style all more))
 
-GoesOn-text_html : (shown style : Style) (bytes rest : List ℕ) → AreTextual bytes → GoesOn (is_plain (shown_after shown style bytes)) rest → GoesOn (is_plain shown) (text_html shown style bytes ++ rest)
+GoesOn-text_html : (scheme : Scheme) → (shown style : Style) (bytes rest : List ℕ) → AreTextual bytes → GoesOn scheme (is_plain (shown_after shown style bytes)) rest → GoesOn scheme (is_plain shown) (text_html scheme shown style bytes ++ rest)
 unfolding text_html
-GoesOn-text_html shown style [] rest are more = more
-GoesOn-text_html shown style (b ∷ bytes) rest are more =
-    subst (GoesOn (is_plain shown)) (sym (append_assoc (change shown style) (escaped_text (b ∷ bytes)) rest))
-    (GoesOn-change shown style (escaped_text (b ∷ bytes) ++ rest) (GoesOn-text (is_plain style) (b ∷ bytes) rest are more))
+GoesOn-text_html scheme shown style [] rest are more = more
+GoesOn-text_html scheme shown style (b ∷ bytes) rest are more =
+    subst (GoesOn scheme (is_plain shown)) (sym (append_assoc (change scheme shown style) (escaped_text (b ∷ bytes)) rest))
+    (GoesOn-change scheme shown style (escaped_text (b ∷ bytes) ++ rest) (GoesOn-text scheme (is_plain style) (b ∷ bytes) rest are more))
 
-GoesOn-html_from : (shown style : Style) (calls : List Call) → AreShowable calls → GoesOn (is_plain shown) (html_from shown style calls ++ span_end (shown_at_end shown style calls))
-GoesOn-html_from shown style [] are = subst (GoesOn (is_plain shown)) (append-nil (span_end shown)) (GoesOn-end shown [] end)
-GoesOn-html_from shown style (call ∷ calls) are =
+GoesOn-html_from : (scheme : Scheme) → (shown style : Style) (calls : List Call) → AreShowable calls → GoesOn scheme (is_plain shown) (html_from scheme shown style calls ++ span_end (shown_at_end shown style calls))
+GoesOn-html_from scheme shown style [] are = subst (GoesOn scheme (is_plain shown)) (append-nil (span_end shown)) (GoesOn-end scheme shown [] end)
+GoesOn-html_from scheme shown style (call ∷ calls) are =
     let bytes = stripped_call call in
     let after = shown_after shown style bytes in
     let next = style_after call style in
-    subst (GoesOn (is_plain shown)) (sym (append_assoc (text_html shown style bytes) (html_from after next calls) (span_end (shown_at_end after next calls))))
-    (GoesOn-text_html shown style bytes (html_from after next calls ++ span_end (shown_at_end after next calls)) (AreTextual-stripped call are.0) (GoesOn-html_from after next calls are.1))
+    subst (GoesOn scheme (is_plain shown)) (sym (append_assoc (text_html scheme shown style bytes) (html_from scheme after next calls) (span_end (shown_at_end after next calls))))
+    (GoesOn-text_html scheme shown style bytes (html_from scheme after next calls ++ span_end (shown_at_end after next calls)) (AreTextual-stripped call are.0) (GoesOn-html_from scheme after next calls are.1))
 
 -- The HTML of calls that can be shown is a fragment.
-pub IsFragment-html : (calls : List Call) → AreShowable calls → IsFragment (html calls)
+pub IsFragment-html : (scheme : Scheme) → (calls : List Call) → AreShowable calls → IsFragment scheme (html scheme calls)
 unfolding GoesOn
-IsFragment-html calls are =
-    let all = html calls in
-    subst (λ plain_is. GoesOn plain_is all) (are_equal-refl plain) (GoesOn-html_from plain plain calls are)
+IsFragment-html scheme calls are =
+    let all = html scheme calls in
+    subst (λ plain_is. GoesOn scheme plain_is all) (are_equal-refl plain) (GoesOn-html_from scheme plain plain calls are)

@@ -10,6 +10,7 @@ use Rattle.anstyle_parse.proofs.Characters.Encoding.{encode_one, encode_two, enc
 use Rattle.ansi_strip.specs.Strip.{is_layout}
 use Rattle.ansi_style.specs.declared.style.Style.{Style}
 use Rattle.ansi_style.proofs.EqualityLemmas.{are_equal-refl}
+use Rattle.ansi_html.specs.declared.scheme.Scheme.{Scheme}
 use Rattle.ansi_html.specs.Html.{escaped, escaped_text, change, text_html, shown_after, span_begin, span_end}
 use Rattle.ansi_html.specs.Grammar.{is_special, AreClear, BeginWithClear}
 
@@ -22,10 +23,10 @@ true-from_not true h = refl
 true-from_not false h = cc
 
 -- text that is not empty
-text_html-some : (shown style : Style) (bytes : List ℕ) → 0 < length bytes → text_html shown style bytes ≡ change shown style ++ escaped_text bytes
+text_html-some : (scheme : Scheme) → (shown style : Style) (bytes : List ℕ) → 0 < length bytes → text_html scheme shown style bytes ≡ change scheme shown style ++ escaped_text bytes
 unfolding text_html
-text_html-some shown style [] some = absurd (omega arith)
-text_html-some shown style (b ∷ bytes) some = refl
+text_html-some scheme shown style [] some = absurd (omega arith)
+text_html-some scheme shown style (b ∷ bytes) some = refl
 
 shown_after-some : (shown style : Style) (bytes : List ℕ) → 0 < length bytes → shown_after shown style bytes ≡ style
 shown_after-some shown style [] some = absurd (omega arith)
@@ -113,8 +114,8 @@ escaped_text-begun bytes left begun =
     ap escaped_text begun.2 ∙ flat_map-append escaped begun.0 left ∙ ap (λ l. l ++ escaped_text left) (escaped_text-clear begun.0 begun.1)
 
 -- a character
-pub text_html-encode : (shown style : Style) (c : ℕ) → text_html shown style (encode_utf8 c) ≡ change shown style ++ escaped_text (encode_utf8 c)
-text_html-encode shown style c = text_html-some shown style (encode_utf8 c) (length-encode-some c)
+pub text_html-encode : (scheme : Scheme) → (shown style : Style) (c : ℕ) → text_html scheme shown style (encode_utf8 c) ≡ change scheme shown style ++ escaped_text (encode_utf8 c)
+text_html-encode scheme shown style c = text_html-some scheme shown style (encode_utf8 c) (length-encode-some c)
 
 pub shown_after-encode : (shown style : Style) (c : ℕ) → shown_after shown style (encode_utf8 c) ≡ style
 shown_after-encode shown style c = shown_after-some shown style (encode_utf8 c) (length-encode-some c)
@@ -134,10 +135,10 @@ layout_clear b is =
 pub AreClear-layout : (b : ℕ) → is_layout b ≡ true → AreClear (b ∷ [])
 AreClear-layout b is = (layout_clear b is, tt)
 
-pub text_html-layout : (shown style : Style) (b : ℕ) → is_layout b ≡ true → text_html shown style (b ∷ []) ≡ change shown style ++ (b ∷ [])
-text_html-layout shown style b is =
-    text_html-some shown style (b ∷ []) (omega arith) ∙ ap (λ l. change shown style ++ l) (escaped_text-clear (b ∷ []) (AreClear-layout b is))
+pub text_html-layout : (scheme : Scheme) → (shown style : Style) (b : ℕ) → is_layout b ≡ true → text_html scheme shown style (b ∷ []) ≡ change scheme shown style ++ (b ∷ [])
+text_html-layout scheme shown style b is =
+    text_html-some scheme shown style (b ∷ []) (omega arith) ∙ ap (λ l. change scheme shown style ++ l) (escaped_text-clear (b ∷ []) (AreClear-layout b is))
 
 -- where the style stays nothing changes
-pub change-same : (style : Style) → change style style ≡ []
-change-same style = ap (λ (same : Bool). if same then [] else span_end style ++ span_begin style) (are_equal-refl style)
+pub change-same : (scheme : Scheme) → (style : Style) → change scheme style style ≡ []
+change-same scheme style = ap (λ (same : Bool). if same then [] else span_end style ++ span_begin scheme style) (are_equal-refl style)

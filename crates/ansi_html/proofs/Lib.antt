@@ -1,4 +1,5 @@
-pub mod CssLemmas
+pub mod ContrastLemmas
+pub mod ColorLemmas
 pub mod HtmlLemmas
 pub mod PrintLemmas
 pub mod DeclarationLemmas

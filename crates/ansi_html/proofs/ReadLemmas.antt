@@ -9,7 +9,8 @@ use Rattle.ansi_style.specs.declared.style.Style.{Style}
 use Rattle.ansi_style.specs.Style.{plain, are_equal}
 use Rattle.ansi_style.specs.Rendition.{style_after}
 use Rattle.ansi_style.proofs.EqualityLemmas.{are_equal-same}
-use Rattle.ansi_html.specs.Css.{css}
+use Rattle.ansi_html.specs.declared.scheme.Scheme.{Scheme}
+use Rattle.ansi_html.specs.Css.{colors_css, css}
 use Rattle.ansi_html.specs.Grammar.{is_special}
 use Rattle.ansi_html.specs.Html.{escaped, escaped_text, is_plain, span_begin, span_end, change, text_html, shown_after, html_from, shown_at_end, html}
 use Rattle.ansi_html.specs.Reader.{Shown, under, byte_of, in_text, in_tag, in_value, read_from, read, shown_from}
@@ -72,57 +73,60 @@ read-begin attribute bytes rest safe =
     ∙ read-value [] bytes (codes "\">" ++ rest) safe
 
 module _ (rest : List ℕ) where
-  read-span_begin : (style : Style) → read_from (in_text []) (span_begin style ++ rest) ≡ read_from (in_text (css style)) rest
-  read-span_begin style = by_case (is_plain style) refl
+  read-span_begin : (scheme : Scheme) → (style : Style) → read_from (in_text []) (span_begin scheme style ++ rest) ≡ read_from (in_text (css scheme style)) rest
+  unfolding colors_css
+  read-span_begin scheme style = by_case (is_plain style) refl
     where
       by_case : (plain_is : Bool) → is_plain style ≡ plain_is
-          → read_from (in_text []) ((if plain_is then [] else codes "<span style=\"" ++ (css style ++ codes "\">")) ++ rest) ≡ read_from (in_text (css style)) rest
-      by_case true is = ap (λ s. read_from (in_text (css s)) rest) (sym (are_equal-same style plain is))
-      by_case false is = read-begin [] (css style) rest (AreSafe-css style)
+          → read_from (in_text []) ((if plain_is then [] else codes "<span style=\"" ++ (css scheme style ++ codes "\">")) ++ rest) ≡ read_from (in_text (css scheme style)) rest
+      by_case true is = ap (λ s. read_from (in_text (css scheme s)) rest) (sym (are_equal-same style plain is))
+      by_case false is = read-begin [] (css scheme style) rest (AreSafe-css scheme style)
 
-  read-span_end : (shown : Style) → read_from (in_text (css shown)) (span_end shown ++ rest) ≡ read_from (in_text []) rest
-  read-span_end shown = by_case (is_plain shown) refl
+  read-span_end : (scheme : Scheme) (shown : Style) → read_from (in_text (css scheme shown)) (span_end shown ++ rest) ≡ read_from (in_text []) rest
+  unfolding colors_css
+  read-span_end scheme shown = by_case (is_plain shown) refl
     where
       by_case : (plain_is : Bool) → is_plain shown ≡ plain_is
-          → read_from (in_text (css shown)) ((if plain_is then [] else codes "</span>") ++ rest) ≡ read_from (in_text []) rest
-      by_case true is = ap (λ s. read_from (in_text (css s)) rest) (are_equal-same shown plain is)
+          → read_from (in_text (css scheme shown)) ((if plain_is then [] else codes "</span>") ++ rest) ≡ read_from (in_text []) rest
+      by_case true is = ap (λ s. read_from (in_text (css scheme s)) rest) (are_equal-same shown plain is)
       by_case false is = refl
 
-read-change : (shown style : Style) (rest : List ℕ) → read_from (in_text (css shown)) (change shown style ++ rest) ≡ read_from (in_text (css style)) rest
-read-change shown style rest = by_case (are_equal shown style) refl
+read-change : (scheme : Scheme) → (shown style : Style) (rest : List ℕ) → read_from (in_text (css scheme shown)) (change scheme shown style ++ rest) ≡ read_from (in_text (css scheme style)) rest
+read-change scheme shown style rest = by_case (are_equal shown style) refl
   where
     by_case : (same : Bool) → are_equal shown style ≡ same
-        → read_from (in_text (css shown)) ((if same then [] else span_end shown ++ span_begin style) ++ rest) ≡ read_from (in_text (css style)) rest
-    by_case true is = ap (λ s. read_from (in_text (css s)) rest) (are_equal-same shown style is)
+        → read_from (in_text (css scheme shown)) ((if same then [] else span_end shown ++ span_begin scheme style) ++ rest) ≡ read_from (in_text (css scheme style)) rest
+    by_case true is = ap (λ s. read_from (in_text (css scheme s)) rest) (are_equal-same shown style is)
     by_case false is =
-        ap (read_from (in_text (css shown))) (append_assoc (span_end shown) (span_begin style) rest)
-        ∙ read-span_end (span_begin style ++ rest) shown
-        ∙ read-span_begin rest style
+        ap (read_from (in_text (css scheme shown))) (append_assoc (span_end shown) (span_begin scheme style) rest)
+        ∙ read-span_end (span_begin scheme style ++ rest) scheme shown
+        ∙ read-span_begin rest scheme style
 
 -- text of a style is read with its declarations
-read-text : (shown style : Style) (bytes rest : List ℕ)
-    → read_from (in_text (css shown)) (text_html shown style bytes ++ rest) ≡ map (under (css style)) bytes ++ read_from (in_text (css (shown_after shown style bytes))) rest
+read-text : (scheme : Scheme) → (shown style : Style) (bytes rest : List ℕ)
+    → read_from (in_text (css scheme shown)) (text_html scheme shown style bytes ++ rest) ≡ map (under (css scheme style)) bytes ++ read_from (in_text (css scheme (shown_after shown style bytes))) rest
 unfolding text_html
-read-text shown style [] rest = refl
-read-text shown style (b ∷ bytes) rest =
-    ap (read_from (in_text (css shown))) (append_assoc (change shown style) (escaped_text (b ∷ bytes)) rest)
-    ∙ read-change shown style (escaped_text (b ∷ bytes) ++ rest)
-    ∙ read-escaped_text (css style) (b ∷ bytes) rest
+read-text scheme shown style [] rest = refl
+read-text scheme shown style (b ∷ bytes) rest =
+    ap (read_from (in_text (css scheme shown))) (append_assoc (change scheme shown style) (escaped_text (b ∷ bytes)) rest)
+    ∙ read-change scheme shown style (escaped_text (b ∷ bytes) ++ rest)
+    ∙ read-escaped_text (css scheme style) (b ∷ bytes) rest
 
-read-html_from : (shown style : Style) (calls : List Call)
-    → read_from (in_text (css shown)) (html_from shown style calls ++ span_end (shown_at_end shown style calls)) ≡ shown_from style calls
-read-html_from shown style [] = ap (read_from (in_text (css shown))) (sym (append-nil (span_end shown))) ∙ read-span_end [] shown
-read-html_from shown style (call ∷ calls) =
+read-html_from : (scheme : Scheme) → (shown style : Style) (calls : List Call)
+    → read_from (in_text (css scheme shown)) (html_from scheme shown style calls ++ span_end (shown_at_end shown style calls)) ≡ shown_from scheme style calls
+read-html_from scheme shown style [] = ap (read_from (in_text (css scheme shown))) (sym (append-nil (span_end shown))) ∙ read-span_end [] scheme shown
+read-html_from scheme shown style (call ∷ calls) =
     let bytes = stripped_call call in
     let after = shown_after shown style bytes in
     let next = style_after call style in
-    ap (read_from (in_text (css shown))) (append_assoc (text_html shown style bytes) (html_from after next calls) (span_end (shown_at_end after next calls)))
-    ∙ read-text shown style bytes (html_from after next calls ++ span_end (shown_at_end after next calls))
-    ∙ ap (λ l. map (under (css style)) bytes ++ l) (read-html_from after next calls)
+    ap (read_from (in_text (css scheme shown))) (append_assoc (text_html scheme shown style bytes) (html_from scheme after next calls) (span_end (shown_at_end after next calls)))
+    ∙ read-text scheme shown style bytes (html_from scheme after next calls ++ span_end (shown_at_end after next calls))
+    ∙ ap (λ l. map (under (css scheme style)) bytes ++ l) (read-html_from scheme after next calls)
 
 -- Reading the HTML of calls gives what they show.
-pub read-html : (calls : List Call) → read (html calls) ≡ shown_from plain calls
-read-html calls = read-html_from plain plain calls
+pub read-html : (scheme : Scheme) → (calls : List Call) → read (html scheme calls) ≡ shown_from scheme plain calls
+unfolding colors_css
+read-html scheme calls = read-html_from scheme plain plain calls
 
 bytes-under : (attribute bytes : List ℕ) → map byte_of (map (under attribute) bytes) ≡ bytes
 bytes-under attribute [] = refl
@@ -132,12 +136,12 @@ map-append_bytes : (first second : List Shown) → map byte_of (first ++ second)
 map-append_bytes [] second = refl
 map-append_bytes (s ∷ first) second = ap (λ l. byte_of s ∷ l) (map-append_bytes first second)
 
-bytes-shown_from : (style : Style) (calls : List Call) → map byte_of (shown_from style calls) ≡ stripped calls
-bytes-shown_from style [] = refl
-bytes-shown_from style (call ∷ calls) =
-    map-append_bytes (map (under (css style)) (stripped_call call)) (shown_from (style_after call style) calls)
-    ∙ ap₂ (λ a b. a ++ b) (bytes-under (css style) (stripped_call call)) (bytes-shown_from (style_after call style) calls)
+bytes-shown_from : (scheme : Scheme) → (style : Style) (calls : List Call) → map byte_of (shown_from scheme style calls) ≡ stripped calls
+bytes-shown_from scheme style [] = refl
+bytes-shown_from scheme style (call ∷ calls) =
+    map-append_bytes (map (under (css scheme style)) (stripped_call call)) (shown_from scheme (style_after call style) calls)
+    ∙ ap₂ (λ a b. a ++ b) (bytes-under (css scheme style) (stripped_call call)) (bytes-shown_from scheme (style_after call style) calls)
 
 -- and so its text is the stripped text
-pub text-html : (calls : List Call) → map byte_of (read (html calls)) ≡ stripped calls
-text-html calls = ap (map byte_of) (read-html calls) ∙ bytes-shown_from plain calls
+pub text-html : (scheme : Scheme) → (calls : List Call) → map byte_of (read (html scheme calls)) ≡ stripped calls
+text-html scheme calls = ap (map byte_of) (read-html scheme calls) ∙ bytes-shown_from scheme plain calls

@@ -13,11 +13,13 @@ use Rattle.ansi_strip.proofs.Showable.{IsShowable, AreShowable, IsScalar-charact
 use Rattle.ansi_style.specs.declared.style.Style.{Style}
 use Rattle.ansi_style.specs.Style.{plain, are_equal}
 use Rattle.ansi_style.specs.Rendition.{style_after}
+use Rattle.ansi_html.specs.declared.scheme.Scheme.{Scheme}
 use Rattle.ansi_html.specs.Css.{css}
 use Rattle.ansi_html.specs.Grammar.{is_special}
 use Rattle.ansi_html.specs.Html.{escaped_text, is_plain, span_begin, span_end, change, text_html, shown_after, html_from, shown_at_end, html}
 use Rattle.ansi_html.proofs.HtmlLemmas.{AreClear-encode, AreClear-layout, escaped_text-clear}
-use Rattle.ansi_html.proofs.DeclarationLemmas.{is_safe, AreSafe, AreSafe-css, ascii-safe, choose}
+use Rattle.ansi_html.proofs.ColorLemmas.{choose}
+use Rattle.ansi_html.proofs.DeclarationLemmas.{is_safe, AreSafe, AreSafe-css, ascii-safe}
 
 -- ASCII is UTF-8
 IsUtf8-ascii : (bytes : List ℕ) → list_all (λ b. nat_lt b 0x80) bytes ≡ true → IsUtf8 bytes
@@ -66,30 +68,30 @@ IsUtf8-stripped (esc_dispatch is ig f) h = IsUtf8-nil
 IsUtf8-span_end : (shown : Style) → IsUtf8 (span_end shown)
 IsUtf8-span_end shown = choose IsUtf8 (is_plain shown) [] (codes "</span>") IsUtf8-nil (IsUtf8-ascii (codes "</span>") refl)
 
-IsUtf8-span_begin : (style : Style) → IsUtf8 (span_begin style)
-IsUtf8-span_begin style =
-    choose IsUtf8 (is_plain style) [] (codes "<span style=\"" ++ (css style ++ codes "\">")) IsUtf8-nil
-    (IsUtf8-append (codes "<span style=\"") (css style ++ codes "\">") (IsUtf8-ascii (codes "<span style=\"") refl)
-    (IsUtf8-append (css style) (codes "\">") (IsUtf8-safe (css style) (AreSafe-css style)) (IsUtf8-ascii (codes "\">") refl)))
+IsUtf8-span_begin : (scheme : Scheme) → (style : Style) → IsUtf8 (span_begin scheme style)
+IsUtf8-span_begin scheme style =
+    choose IsUtf8 (is_plain style) [] (codes "<span style=\"" ++ (css scheme style ++ codes "\">")) IsUtf8-nil
+    (IsUtf8-append (codes "<span style=\"") (css scheme style ++ codes "\">") (IsUtf8-ascii (codes "<span style=\"") refl)
+    (IsUtf8-append (css scheme style) (codes "\">") (IsUtf8-safe (css scheme style) (AreSafe-css scheme style)) (IsUtf8-ascii (codes "\">") refl)))
 
-IsUtf8-change : (shown style : Style) → IsUtf8 (change shown style)
-IsUtf8-change shown style =
-    choose IsUtf8 (are_equal shown style) [] (span_end shown ++ span_begin style) IsUtf8-nil
-    (IsUtf8-append (span_end shown) (span_begin style) (IsUtf8-span_end shown) (IsUtf8-span_begin style))
+IsUtf8-change : (scheme : Scheme) → (shown style : Style) → IsUtf8 (change scheme shown style)
+IsUtf8-change scheme shown style =
+    choose IsUtf8 (are_equal shown style) [] (span_end shown ++ span_begin scheme style) IsUtf8-nil
+    (IsUtf8-append (span_end shown) (span_begin scheme style) (IsUtf8-span_end shown) (IsUtf8-span_begin scheme style))
 
-IsUtf8-text_html : (shown style : Style) (bytes : List ℕ) → IsUtf8 (escaped_text bytes) → IsUtf8 (text_html shown style bytes)
+IsUtf8-text_html : (scheme : Scheme) → (shown style : Style) (bytes : List ℕ) → IsUtf8 (escaped_text bytes) → IsUtf8 (text_html scheme shown style bytes)
 unfolding text_html
-IsUtf8-text_html shown style [] is = IsUtf8-nil
-IsUtf8-text_html shown style (b ∷ bytes) is = IsUtf8-append (change shown style) (escaped_text (b ∷ bytes)) (IsUtf8-change shown style) is
+IsUtf8-text_html scheme shown style [] is = IsUtf8-nil
+IsUtf8-text_html scheme shown style (b ∷ bytes) is = IsUtf8-append (change scheme shown style) (escaped_text (b ∷ bytes)) (IsUtf8-change scheme shown style) is
 
-IsUtf8-html_from : (shown style : Style) (calls : List Call) → AreShowable calls → IsUtf8 (html_from shown style calls)
-IsUtf8-html_from shown style [] are = IsUtf8-nil
-IsUtf8-html_from shown style (call ∷ calls) are =
+IsUtf8-html_from : (scheme : Scheme) → (shown style : Style) (calls : List Call) → AreShowable calls → IsUtf8 (html_from scheme shown style calls)
+IsUtf8-html_from scheme shown style [] are = IsUtf8-nil
+IsUtf8-html_from scheme shown style (call ∷ calls) are =
     let after = shown_after shown style (stripped_call call) in
     let next = style_after call style in
-    IsUtf8-append (text_html shown style (stripped_call call)) (html_from after next calls)
-    (IsUtf8-text_html shown style (stripped_call call) (IsUtf8-stripped call are.0)) (IsUtf8-html_from after next calls are.1)
+    IsUtf8-append (text_html scheme shown style (stripped_call call)) (html_from scheme after next calls)
+    (IsUtf8-text_html scheme shown style (stripped_call call) (IsUtf8-stripped call are.0)) (IsUtf8-html_from scheme after next calls are.1)
 
-pub IsUtf8-html : (calls : List Call) → AreShowable calls → IsUtf8 (html calls)
-IsUtf8-html calls are =
-    IsUtf8-append (html_from plain plain calls) (span_end (shown_at_end plain plain calls)) (IsUtf8-html_from plain plain calls are) (IsUtf8-span_end (shown_at_end plain plain calls))
+pub IsUtf8-html : (scheme : Scheme) → (calls : List Call) → AreShowable calls → IsUtf8 (html scheme calls)
+IsUtf8-html scheme calls are =
+    IsUtf8-append (html_from scheme plain plain calls) (span_end (shown_at_end plain plain calls)) (IsUtf8-html_from scheme plain plain calls are) (IsUtf8-span_end (shown_at_end plain plain calls))

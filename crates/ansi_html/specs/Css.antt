@@ -1,39 +1,85 @@
 -- A style as a list of CSS declarations.
-use Rattle.std.specs.Prelude.{ℕ, Bool, true, false, ◌||◌, List, [], ◌++◌, codes, if◌then◌else◌}
+use Rattle.std.specs.Prelude.{ℕ, Bool, true, false, ◌||◌, ◌&&◌, List, [], ◌++◌, codes, if◌then◌else◌}
 use Rattle.ansi_style.specs.declared.style.Style.{Style}
 use Rattle.ansi_style.specs.declared.style.Color.{Color}
 use Rattle.ansi_style.specs.declared.style.Color.TheVariants.{Default, Named, Bright, Indexed, Direct}
 use Rattle.ansi_style.specs.declared.style.Underline.{Underline}
 use Rattle.ansi_style.specs.declared.style.Underline.TheVariants.{Off, Single, Double, Curly, Dotted, Dashed}
-use Rattle.ansi_html.specs.declared.css.Role.{Role}
-use Rattle.ansi_html.specs.declared.css.Role.TheVariants.{Text, Background, Fixed}
-use Rattle.ansi_html.specs.Palette.{color_value}
+use Rattle.ansi_html.specs.declared.contrast.Rgb.{Rgb}
+use Rattle.ansi_html.specs.declared.scheme.Scheme.{Scheme}
+use Rattle.ansi_html.specs.declared.scheme.Scheme.TheVariants.{Light, Dark, Both}
+use Rattle.ansi_html.specs.Contrast.{black, white, light_shade, dark_shade, mixture, ink, dim_on}
+use Rattle.ansi_html.specs.Palette.{hex, shades_of}
 
--- a property with a colour; where that is the default, the declaration that is given
-abbrev pub color_css : List ℕ → List ℕ → Role → Color → List ℕ
-color_css property default role Default = default
-color_css property default role (Named hue) = property ++ (color_value role (Named hue) ++ codes ";")
-color_css property default role (Bright hue) = property ++ (color_value role (Bright hue) ++ codes ";")
-color_css property default role (Indexed n) = property ++ (color_value role (Indexed n) ++ codes ";")
-color_css property default role (Direct red green blue) =
-    property ++ (color_value role (Direct red green blue) ++ codes ";")
+abbrev pub declared : (property : List ℕ) → Rgb → List ℕ
+declared property color = property ++ (hex color ++ codes ";")
 
--- a colour's role, by the colour that it meets
-abbrev pub role_by : Role → Color → Role
-role_by alone Default = alone
-role_by alone (Named hue) = Fixed
-role_by alone (Bright hue) = Fixed
-role_by alone (Indexed n) = Fixed
-role_by alone (Direct red green blue) = Fixed
+-- the first on light pages, the second on dark ones (CSS Color 5, 10.1)
+abbrev pub light_dark : (property : List ℕ) → (light dark : Rgb) → List ℕ
+light_dark property light dark =
+    property ++ (codes "light-dark(" ++ (hex light ++ (codes "," ++ (hex dark ++ codes ");"))))
 
--- The colours. Reversed, each is drawn in the other's place, and a default is the page's.
-abbrev pub colors_css : Bool → Color → Color → List ℕ
-colors_css false foreground background =
-    color_css (codes "color:") [] (role_by Text background) foreground
-    ++ color_css (codes "background-color:") [] (role_by Background foreground) background
-colors_css true foreground background =
-    color_css (codes "color:") (codes "color:Canvas;") (role_by Background foreground) background
-    ++ color_css (codes "background-color:") (codes "background-color:CanvasText;") (role_by Text background) foreground
+-- A colour for light pages and one for dark ones. For both the light one stands first, alone: a
+-- reader that does not know light-dark() keeps it (CSS Syntax, 2.2).
+abbrev pub themed : Scheme → (property : List ℕ) → (light dark : Rgb) → List ℕ
+themed Light property light dark = declared property light
+themed Dark property light dark = declared property dark
+themed Both property light dark = declared property light ++ light_dark property light dark
+
+abbrev pub is_chosen : Color → Bool
+is_chosen Default = false
+is_chosen (Named hue) = true
+is_chosen (Bright hue) = true
+is_chosen (Indexed n) = true
+is_chosen (Direct red green blue) = true
+
+-- the stream has selected the colour of the text and that of the ground
+abbrev pub selects_both : Style → Bool
+selects_both style = is_chosen style.foreground && is_chosen style.background
+
+-- the colour of a style's text, and the one behind it: reversed, each is in the other's place
+abbrev pub text_of : Style → Color
+text_of style = if style.reverse then style.background else style.foreground
+
+abbrev pub behind_of : Style → Color
+behind_of style = if style.reverse then style.foreground else style.background
+
+-- the shade of a text for light pages and for dark ones; a dim one is mixed with the page
+abbrev pub light_text : (dim : Bool) → Color → Rgb
+light_text dim color =
+    light_shade (if dim then mixture (shades_of color).light white else (shades_of color).light)
+
+abbrev pub dark_text : (dim : Bool) → Color → Rgb
+dark_text dim color = dark_shade (if dim then mixture (shades_of color).dark black else (shades_of color).dark)
+
+-- a text on the page's ground
+abbrev pub on_page : Scheme → (dim : Bool) → (text : Color) → List ℕ
+on_page scheme dim text = themed scheme (codes "color:") (light_text dim text) (dark_text dim text)
+
+-- a text on a ground of the page's own text: black on light pages, white on dark ones
+abbrev pub on_reversed : Scheme → (dim : Bool) → (text : Color) → List ℕ
+on_reversed scheme dim text =
+    themed scheme (codes "color:") (dark_text dim text) (light_text dim text)
+    ++ themed scheme (codes "background-color:") black white
+
+-- what is written on a ground that is chosen: white or black where no colour is chosen for it
+abbrev pub color_on : (text : Color) → (behind : Rgb) → Rgb
+color_on text behind = if is_chosen text then (shades_of text).fixed else ink behind
+
+abbrev pub text_on : (dim : Bool) → (text : Color) → (behind : Rgb) → Rgb
+text_on dim text behind = if dim then dim_on (color_on text behind) behind else color_on text behind
+
+abbrev pub on_chosen : (dim : Bool) → (text : Color) → (behind : Rgb) → List ℕ
+on_chosen dim text behind =
+    declared (codes "color:") (text_on dim text behind) ++ declared (codes "background-color:") behind
+
+-- The colours of a style. Where none is selected the page's own stay.
+unfoldable pub colors_css : Scheme → Style → List ℕ
+colors_css scheme style =
+    if is_chosen (behind_of style) then on_chosen style.dim (text_of style) (shades_of (behind_of style)).fixed
+    else if style.reverse then on_reversed scheme style.dim (text_of style)
+    else if is_chosen (text_of style) || style.dim then on_page scheme style.dim (text_of style)
+    else []
 
 -- the text, where it is wanted
 abbrev pub text_if : Bool → List ℕ → List ℕ
@@ -63,11 +109,13 @@ underline_css Curly = codes "text-decoration-style:wavy;"
 underline_css Dotted = codes "text-decoration-style:dotted;"
 underline_css Dashed = codes "text-decoration-style:dashed;"
 
--- the declarations of a style; of the plain one there are none
-abbrev pub css : Style → List ℕ
-css style =
-    colors_css style.reverse style.foreground style.background
-    ++ (text_if style.bold (codes "font-weight:bold;") ++ (text_if style.dim (codes "opacity:.7;")
-    ++ (text_if style.italic (codes "font-style:italic;")
+-- what is not a colour; dim is one
+abbrev pub others_css : Style → List ℕ
+others_css style =
+    text_if style.bold (codes "font-weight:bold;") ++ (text_if style.italic (codes "font-style:italic;")
     ++ (lines_css (is_underlined style.underline) style.overlined style.struck_out style.blink
-    ++ (underline_css style.underline ++ text_if style.hidden (codes "visibility:hidden;"))))))
+    ++ (underline_css style.underline ++ text_if style.hidden (codes "visibility:hidden;"))))
+
+-- the declarations of a style; of the plain one there are none
+abbrev pub css : Scheme → Style → List ℕ
+css scheme style = colors_css scheme style ++ others_css style

@@ -1,8 +1,13 @@
--- The grammar of the HTML that is written. A fragment is text and spans, which do not nest; a
--- span has one attribute, of declarations from a fixed vocabulary. Nothing else is in it.
+-- The grammar of the HTML that is written in a scheme. A fragment is text and spans, which do not
+-- nest; a span has one attribute, of colours and declarations from a fixed vocabulary. Nothing else
+-- is in it.
 use Rattle.std.specs.Prelude.{◌≡◌, ℕ, Bool, false, ◌||◌, ◌&&◌, nat_le, ◌==◌, not, List, [], ◌∷◌, ◌++◌, codes, IsTrue}
 use Rattle.std.specs.List.{AllByRecursion}
-use Rattle.anstyle_parse.specs.Stream.Bytes.{is_within}
+use Rattle.ansi_style.specs.declared.style.Style.{Style}
+use Rattle.ansi_html.specs.declared.contrast.Rgb.{Rgb}
+use Rattle.ansi_html.specs.declared.scheme.Scheme.{Scheme}
+use Rattle.ansi_html.specs.Contrast.{IsReadOnLight, IsReadOnDark, are_readable, black, white}
+use Rattle.ansi_html.specs.Css.{declared, themed, is_chosen}
 
 -- A byte of text: 20 and above, or 09, 0A, 0D; and none with a meaning in HTML.
 unfoldable pub is_special : ℕ → Bool
@@ -32,23 +37,21 @@ pub data IsText : List ℕ → Type 0 where
   byte : {b : ℕ} {rest : List ℕ} → IsTrue (is_text_byte b) → IsText rest → IsText (b ∷ rest)
   reference : (name rest : List ℕ) → IsReference name → IsText rest → IsText (name ++ rest)
 
--- a hexadecimal digit, in lower case
-unfoldable pub is_hex_digit : ℕ → Bool
-is_hex_digit b = is_within 0x30 0x39 b || is_within 0x61 0x66 b
+-- The colours of a span, as a text that is read: nothing; a text on the page; one on a ground of the
+-- page's own text, black on light pages and white on dark ones; a text on a ground.
+pub data AreReadable (scheme : Scheme) : List ℕ → Type 0 where
+  of_page : AreReadable scheme []
+  on_page : (light dark : Rgb) → IsReadOnLight light → IsReadOnDark dark
+      → AreReadable scheme (themed scheme (codes "color:") light dark)
+  on_reversed : (light dark : Rgb) → IsReadOnLight light → IsReadOnDark dark
+      → AreReadable scheme (themed scheme (codes "color:") dark light ++ themed scheme (codes "background-color:") black white)
+  on_color : (text behind : Rgb) → IsTrue (are_readable text behind)
+      → AreReadable scheme (declared (codes "color:") text ++ declared (codes "background-color:") behind)
 
--- #rrggbb
-pub data IsHex : List ℕ → Type 0 where
-  six : {a b c d e f : ℕ} → IsTrue (is_hex_digit a) → IsTrue (is_hex_digit b) → IsTrue (is_hex_digit c)
-      → IsTrue (is_hex_digit d) → IsTrue (is_hex_digit e) → IsTrue (is_hex_digit f)
-      → IsHex (0x23 ∷ a ∷ b ∷ c ∷ d ∷ e ∷ f ∷ [])
-
--- a colour, a colour for light and dark pages, or one of the page's own
-pub data IsColor : List ℕ → Type 0 where
-  one : (value : List ℕ) → IsHex value → IsColor value
-  two : (light dark : List ℕ) → IsHex light → IsHex dark
-      → IsColor (codes "light-dark(" ++ (light ++ (codes "," ++ (dark ++ codes ")"))))
-  page : IsColor (codes "Canvas")
-  page_text : IsColor (codes "CanvasText")
+-- the same, or the two colours that a stream has selected
+pub data AreColors (scheme : Scheme) : List ℕ → Type 0 where
+  readable : (colors : List ℕ) → AreReadable scheme colors → AreColors scheme colors
+  chosen : (text behind : Rgb) → AreColors scheme (declared (codes "color:") text ++ declared (codes "background-color:") behind)
 
 -- lines, by their names
 pub data AreLines : List ℕ → Type 0 where
@@ -59,10 +62,7 @@ pub data AreLines : List ℕ → Type 0 where
   blink : (rest : List ℕ) → AreLines rest → AreLines (codes " blink" ++ rest)
 
 pub data IsDeclaration : List ℕ → Type 0 where
-  color : (value : List ℕ) → IsColor value → IsDeclaration (codes "color:" ++ (value ++ codes ";"))
-  background : (value : List ℕ) → IsColor value → IsDeclaration (codes "background-color:" ++ (value ++ codes ";"))
   bold : IsDeclaration (codes "font-weight:bold;")
-  dim : IsDeclaration (codes "opacity:.7;")
   italic : IsDeclaration (codes "font-style:italic;")
   hidden : IsDeclaration (codes "visibility:hidden;")
   lines : (names : List ℕ) → AreLines names → IsDeclaration (codes "text-decoration-line:" ++ (names ++ codes ";"))
@@ -75,9 +75,10 @@ pub data AreDeclarations : List ℕ → Type 0 where
   no_declaration : AreDeclarations []
   declaration : (first rest : List ℕ) → IsDeclaration first → AreDeclarations rest → AreDeclarations (first ++ rest)
 
--- text, and spans of text with an attribute of declarations
-pub data IsFragment : List ℕ → Type 0 where
-  end : IsFragment []
-  text : (plain rest : List ℕ) → IsText plain → IsFragment rest → IsFragment (plain ++ rest)
-  span : (attribute styled rest : List ℕ) → AreDeclarations attribute → IsText styled → IsFragment rest
-      → IsFragment (codes "<span style=\"" ++ (attribute ++ (codes "\">" ++ (styled ++ (codes "</span>" ++ rest)))))
+-- text, and spans of text with an attribute of colours and declarations
+pub data IsFragment (scheme : Scheme) : List ℕ → Type 0 where
+  end : IsFragment scheme []
+  text : (plain rest : List ℕ) → IsText plain → IsFragment scheme rest → IsFragment scheme (plain ++ rest)
+  span : (colors others styled rest : List ℕ) → AreColors scheme colors → AreDeclarations others → IsText styled
+      → IsFragment scheme rest
+      → IsFragment scheme (codes "<span style=\"" ++ ((colors ++ others) ++ (codes "\">" ++ (styled ++ (codes "</span>" ++ rest)))))

@@ -6,6 +6,7 @@ use Rattle.ansi_strip.specs.Strip.{stripped_call}
 use Rattle.ansi_style.specs.declared.style.Style.{Style}
 use Rattle.ansi_style.specs.Style.{plain, are_equal}
 use Rattle.ansi_style.specs.Rendition.{style_after}
+use Rattle.ansi_html.specs.declared.scheme.Scheme.{Scheme}
 use Rattle.ansi_html.specs.Css.{css}
 
 -- The bytes that have a meaning in HTML (13.1.2.3 and 13.1.4 of the HTML standard), as
@@ -26,20 +27,20 @@ abbrev pub is_plain : Style → Bool
 is_plain style = are_equal style plain
 
 -- what begins a span of a style, and what ends it; plain text stands in none
-abbrev pub span_begin : Style → List ℕ
-span_begin style = if is_plain style then [] else codes "<span style=\"" ++ (css style ++ codes "\">")
+abbrev pub span_begin : Scheme → Style → List ℕ
+span_begin scheme style = if is_plain style then [] else codes "<span style=\"" ++ (css scheme style ++ codes "\">")
 
 abbrev pub span_end : Style → List ℕ
 span_end style = if is_plain style then [] else codes "</span>"
 
 -- from the style of the text so far to that of the text to come
-abbrev pub change : Style → Style → List ℕ
-change shown style = if are_equal shown style then [] else span_end shown ++ span_begin style
+abbrev pub change : Scheme → Style → Style → List ℕ
+change scheme shown style = if are_equal shown style then [] else span_end shown ++ span_begin scheme style
 
 -- text of a style, behind text of another; where there is no text, nothing
-unfoldable pub text_html : Style → Style → List ℕ → List ℕ
-text_html shown style [] = []
-text_html shown style (b ∷ bytes) = change shown style ++ escaped_text (b ∷ bytes)
+unfoldable pub text_html : Scheme → Style → Style → List ℕ → List ℕ
+text_html scheme shown style [] = []
+text_html scheme shown style (b ∷ bytes) = change scheme shown style ++ escaped_text (b ∷ bytes)
 
 -- the style of the last text
 abbrev pub shown_after : Style → Style → List ℕ → Style
@@ -47,11 +48,11 @@ shown_after shown style [] = shown
 shown_after shown style (b ∷ bytes) = style
 
 -- The calls, one after another, where this style is shown and that one is selected.
-abbrev pub html_from : Style → Style → List Call → List ℕ
-html_from shown style [] = []
-html_from shown style (call ∷ calls) =
-    text_html shown style (stripped_call call)
-    ++ html_from (shown_after shown style (stripped_call call)) (style_after call style) calls
+abbrev pub html_from : Scheme → Style → Style → List Call → List ℕ
+html_from scheme shown style [] = []
+html_from scheme shown style (call ∷ calls) =
+    text_html scheme shown style (stripped_call call)
+    ++ html_from scheme (shown_after shown style (stripped_call call)) (style_after call style) calls
 
 -- the style of the last text of the calls
 abbrev pub shown_at_end : Style → Style → List Call → Style
@@ -60,12 +61,12 @@ shown_at_end shown style (call ∷ calls) =
     shown_at_end (shown_after shown style (stripped_call call)) (style_after call style) calls
 
 -- the HTML of the calls of a stream, as far as it has come; and what ends it
-abbrev pub html_text : List Call → List ℕ
-html_text calls = html_from plain plain calls
+abbrev pub html_text : Scheme → List Call → List ℕ
+html_text scheme calls = html_from scheme plain plain calls
 
 abbrev pub html_ending : List Call → List ℕ
 html_ending calls = span_end (shown_at_end plain plain calls)
 
--- The HTML of a stream's calls.
-abbrev pub html : List Call → List ℕ
-html calls = html_text calls ++ html_ending calls
+-- The HTML of a stream's calls, in a scheme.
+abbrev pub html : Scheme → List Call → List ℕ
+html scheme calls = html_text scheme calls ++ html_ending calls

@@ -1,3 +1,4 @@
+pub mod Contrast
 pub mod Palette
 pub mod Css
 pub mod Html

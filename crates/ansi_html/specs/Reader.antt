@@ -11,6 +11,7 @@ use Rattle.anstyle_parse.specs.Stream.Call.{Call}
 use Rattle.ansi_strip.specs.Strip.{stripped_call}
 use Rattle.ansi_style.specs.declared.style.Style.{Style}
 use Rattle.ansi_style.specs.Rendition.{style_after}
+use Rattle.ansi_html.specs.declared.scheme.Scheme.{Scheme}
 use Rattle.ansi_html.specs.Css.{css}
 
 -- A byte of text, and the style attribute under which it stands.
@@ -70,7 +71,7 @@ read bytes = read_from (in_text []) bytes
 
 -- What the calls show: each byte that is left of them, with the declarations of the style that
 -- is selected there.
-abbrev pub shown_from : Style → List Call → List Shown
-shown_from style [] = []
-shown_from style (call ∷ calls) =
-    map (under (css style)) (stripped_call call) ++ shown_from (style_after call style) calls
+abbrev pub shown_from : Scheme → Style → List Call → List Shown
+shown_from scheme style [] = []
+shown_from scheme style (call ∷ calls) =
+    map (under (css scheme style)) (stripped_call call) ++ shown_from scheme (style_after call style) calls

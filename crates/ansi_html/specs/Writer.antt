@@ -8,37 +8,44 @@ use Rattle.ansi_strip.specs.Strip.{stripped_call}
 use Rattle.ansi_style.specs.declared.style.Style.{Style}
 use Rattle.ansi_style.specs.Style.{plain}
 use Rattle.ansi_style.specs.Rendition.{style_after}
+use Rattle.ansi_html.specs.declared.scheme.Scheme.{Scheme}
 use Rattle.ansi_html.specs.declared.performer.HtmlWriter.{HtmlWriter}
 use Rattle.ansi_html.specs.Html.{text_html, shown_after, html_from, shown_at_end, span_end}
 
--- the output that it writes to; the style of the last text; the style that is selected, which is
+-- the output that it writes to; the scheme of its colours; the style of the last text; the style that is selected, which is
 -- that one where no other has been selected since
-abbrev pub output_of : {W : Type 0} → HtmlWriter W → Output W
+abbrev pub output_of : {W S : Type 0} → HtmlWriter W S → Output W
 output_of performer = performer.output
 
-abbrev pub shown_of : {W : Type 0} → HtmlWriter W → Style
+abbrev pub scheme_of : {W S : Type 0} → HtmlWriter W S → Scheme
+scheme_of performer = performer.scheme
+
+abbrev pub shown_of : {W S : Type 0} → HtmlWriter W S → Style
 shown_of performer = performer.shown
 
-abbrev pub next_of : {W : Type 0} → HtmlWriter W → Option Style
+abbrev pub next_of : {W S : Type 0} → HtmlWriter W S → Option Style
 next_of performer = performer.next
 
-abbrev pub style_of : {W : Type 0} → HtmlWriter W → Style
+abbrev pub style_of : {W S : Type 0} → HtmlWriter W S → Style
 style_of performer = unwrap_or (next_of performer) (shown_of performer)
 
--- plain text, and no span is open
-pub record IsNew {W : Type 0} (performer : HtmlWriter W) : Type 0 where
+-- plain text in colours of this scheme, and no span is open
+pub record IsNew {W S : Type 0} (wanted : Scheme) (performer : HtmlWriter W S) : Type 0 where
+  pub scheme : scheme_of performer ≡ wanted
   pub style : style_of performer ≡ plain
   pub shown : shown_of performer ≡ plain
 
 -- the end of the span that is open
-abbrev pub unwritten : {W : Type 0} → HtmlWriter W → List ℕ
+abbrev pub unwritten : {W S : Type 0} → HtmlWriter W S → List ℕ
 unwritten performer = span_end (shown_of performer)
 
 -- A call selects a style, or its text is written.
-pub record Takes {W : Type 0} (sink : SinkOf W) (old : HtmlWriter W) (call : Call) (new : HtmlWriter W) : Type 0 where
+pub record Takes {W S : Type 0} (sink : SinkOf W) (old : HtmlWriter W S) (call : Call) (new : HtmlWriter W S) : Type 0 where
+  pub scheme : scheme_of new ≡ scheme_of old
   pub style : style_of new ≡ style_after call (style_of old)
   pub shown : shown_of new ≡ shown_after (shown_of old) (style_of old) (stripped_call call)
-  pub added : Adds sink (text_html (shown_of old) (style_of old) (stripped_call call)) (output_of old) (output_of new)
+  pub added : Adds sink (text_html (scheme_of old) (shown_of old) (style_of old) (stripped_call call))
+      (output_of old) (output_of new)
 
 -- the style that is selected after the calls
 abbrev pub style_at_end : Style → List Call → Style
@@ -46,8 +53,9 @@ style_at_end style [] = style
 style_at_end style (call ∷ calls) = style_at_end (style_after call style) calls
 
 -- The calls, one after another.
-pub record TakesAll {W : Type 0} (sink : SinkOf W)
-    (old : HtmlWriter W) (calls : List Call) (new : HtmlWriter W) : Type 0 where
+pub record TakesAll {W S : Type 0} (sink : SinkOf W)
+    (old : HtmlWriter W S) (calls : List Call) (new : HtmlWriter W S) : Type 0 where
+  pub scheme : scheme_of new ≡ scheme_of old
   pub style : style_of new ≡ style_at_end (style_of old) calls
   pub shown : shown_of new ≡ shown_at_end (shown_of old) (style_of old) calls
-  pub added : Adds sink (html_from (shown_of old) (style_of old) calls) (output_of old) (output_of new)
+  pub added : Adds sink (html_from (scheme_of old) (shown_of old) (style_of old) calls) (output_of old) (output_of new)

@@ -1,22 +1,14 @@
 //! A style as CSS declarations.
 ghost use Rattle.std.specs.Prelude.{◌≡◌, ◌<◌, ◌++◌, ◌||◌, [], codes};
 ghost use Rattle.anstyle_parse.specs.Io.Output.{Adds};
-ghost use Rattle.ansi_html.specs.Palette.{hex_digit, hex, shades, named_shades, bright_shades, light_dark, shade, level, indexed, color_value};
-ghost use Rattle.ansi_html.specs.Css.{color_css, role_by, colors_css, text_if, is_underlined, lines_css, underline_css, css};
+ghost use Rattle.ansi_html.specs.Palette.{hex_digit, hex};
+ghost use Rattle.ansi_html.specs.Css.{declared as declared_color, light_dark, themed, is_chosen, text_of, behind_of, light_text, dark_text, on_page, on_reversed, color_on, text_on, on_chosen, colors_css, text_if, is_underlined, lines_css, underline_css, css};
 
-use ansi_style::{Color, Hue, Style, Underline};
+use crate::contrast::{BLACK, Rgb, WHITE};
+use crate::palette::shades_of;
+use crate::scheme::Scheme;
+use ansi_style::{Color, Style, Underline};
 use anstyle_parse::canon::{Output, Sink};
-
-/// What a colour is drawn on.
-#[derive(Clone, Copy)]
-enum Role {
-    /// A text on the page.
-    Text,
-    /// The background of the page's own text.
-    Background,
-    /// A text or a background that meets another colour of the stream.
-    Fixed,
-}
 
 /// The last hexadecimal digit of a number, in lower case.
 fn digit(number: u8) -> u8
@@ -31,173 +23,181 @@ fn digit(number: u8) -> u8
 }
 
 /// Red, green and blue in hexadecimal.
-fn put_hex<W: Sink>(output: &mut Output<W>, red: u8, green: u8, blue: u8)
-    ensures { Adds W.Sink (hex red green blue) output.old output.new }
+fn put_hex<W: Sink>(output: &mut Output<W>, color: Rgb)
+    ensures { Adds W.Sink (hex color) output.old output.new }
 {
     output.put(&[
         b'#',
-        digit(red / 16),
-        digit(red),
-        digit(green / 16),
-        digit(green),
-        digit(blue / 16),
-        digit(blue),
+        digit(color.red / 16),
+        digit(color.red),
+        digit(color.green / 16),
+        digit(color.green),
+        digit(color.blue / 16),
+        digit(color.blue),
     ]);
 }
 
-/// A hue on light pages, on dark ones, and where it meets another colour.
-fn named_shades(hue: Hue) -> (&'static [u8], &'static [u8], &'static [u8])
-    ensures { shades result.0.now result.1.now result.2.now ≡ named_shades hue }
+/// A property with a colour.
+fn put_declared<W: Sink>(output: &mut Output<W>, property: &[u8], color: Rgb)
+    ensures { Adds W.Sink (declared_color property.now color) output.old output.new }
 {
-    match hue {
-        Hue::Black => (b"#24292f", b"#7d8590", b"#000000"),
-        Hue::Red => (b"#cf222e", b"#ff7b72", b"#cd0000"),
-        Hue::Green => (b"#116329", b"#3fb950", b"#00cd00"),
-        Hue::Yellow => (b"#4d2d00", b"#d29922", b"#cdcd00"),
-        Hue::Blue => (b"#0969da", b"#58a6ff", b"#0000ee"),
-        Hue::Magenta => (b"#8250df", b"#bc8cff", b"#cd00cd"),
-        Hue::Cyan => (b"#1b7c83", b"#39c5cf", b"#00cdcd"),
-        Hue::White => (b"#6e7781", b"#b1bac4", b"#e5e5e5"),
-    }
+    output.put(property);
+    put_hex(output, color);
+    output.put(b";");
 }
 
-/// The same in bright.
-fn bright_shades(hue: Hue) -> (&'static [u8], &'static [u8], &'static [u8])
-    ensures { shades result.0.now result.1.now result.2.now ≡ bright_shades hue }
+/// The same with a colour for light pages and one for dark ones.
+fn put_light_dark<W: Sink>(output: &mut Output<W>, property: &[u8], light: Rgb, dark: Rgb)
+    ensures { Adds W.Sink (light_dark property.now light dark) output.old output.new }
 {
-    match hue {
-        Hue::Black => (b"#57606a", b"#8b949e", b"#7f7f7f"),
-        Hue::Red => (b"#a40e26", b"#ffa198", b"#ff0000"),
-        Hue::Green => (b"#1a7f37", b"#56d364", b"#00ff00"),
-        Hue::Yellow => (b"#633c01", b"#e3b341", b"#ffff00"),
-        Hue::Blue => (b"#0550ae", b"#79c0ff", b"#5c5cff"),
-        Hue::Magenta => (b"#6639ba", b"#d2a8ff", b"#ff00ff"),
-        Hue::Cyan => (b"#0e6b73", b"#56d4dd", b"#00ffff"),
-        Hue::White => (b"#656d76", b"#ffffff", b"#ffffff"),
-    }
-}
-
-/// A colour for light pages and one for dark ones.
-fn put_light_dark<W: Sink>(output: &mut Output<W>, light: &[u8], dark: &[u8])
-    ensures { Adds W.Sink (light_dark light.now dark.now) output.old output.new }
-{
+    output.put(property);
     output.put(b"light-dark(");
-    output.put(light);
+    put_hex(output, light);
     output.put(b",");
-    output.put(dark);
-    output.put(b")");
+    put_hex(output, dark);
+    output.put(b");");
 }
 
-/// The shade that is drawn in a role, of the three of a hue.
-fn put_shade<W: Sink>(output: &mut Output<W>, role: Role, of: (&[u8], &[u8], &[u8]))
-    ensures { Adds W.Sink (shade role (shades of.entry.0.now of.entry.1.now of.entry.2.now)) output.old output.new }
-{
-    match role {
-        Role::Text => put_light_dark(output, of.0, of.1),
-        Role::Background => put_light_dark(output, of.1, of.0),
-        Role::Fixed => output.put(of.2),
-    }
-}
-
-/// One of the six steps of the cube.
-fn level(step: u8) -> u8
-    requires { step < 6 }
-    ensures { result ≡ level step }
-{
-    if step == 0 { 0 } else { 55 + 40 * step }
-}
-
-/// One of 256.
-fn put_indexed<W: Sink>(output: &mut Output<W>, role: Role, index: u8)
-    ensures { Adds W.Sink (indexed role index) output.old output.new }
-{
-    if index < 8 {
-        put_shade(output, role, named_shades(Hue::at(u16::from(index))));
-    } else if index < 16 {
-        put_shade(output, role, bright_shades(Hue::at(u16::from(index - 8))));
-    } else if index < 232 {
-        let cell = index - 16;
-        put_hex(
-            output,
-            level(cell / 36),
-            level(cell / 6 % 6),
-            level(cell % 6),
-        );
-    } else {
-        let grey = 8 + 10 * (index - 232);
-        put_hex(output, grey, grey, grey);
-    }
-}
-
-/// The value of a colour that is not the default.
-fn put_value<W: Sink>(output: &mut Output<W>, role: Role, color: Color)
-    ensures { Adds W.Sink (color_value role color) output.old output.new }
-{
-    match color {
-        Color::Default => {}
-        Color::Named(hue) => put_shade(output, role, named_shades(hue)),
-        Color::Bright(hue) => put_shade(output, role, bright_shades(hue)),
-        Color::Indexed(index) => put_indexed(output, role, index),
-        Color::Direct(red, green, blue) => put_hex(output, red, green, blue),
-    }
-}
-
-/// A property with a colour; where that is the default, the declaration that is given.
-fn put_color<W: Sink>(
+/// The same for the pages of the scheme.
+fn put_themed<W: Sink>(
     output: &mut Output<W>,
+    scheme: Scheme,
     property: &[u8],
-    default: &[u8],
-    role: Role,
-    color: Color,
+    light: Rgb,
+    dark: Rgb,
 )
-    ensures { Adds W.Sink (color_css property.now default.now role color) output.old output.new }
+    ensures { Adds W.Sink (themed scheme property.now light dark) output.old output.new }
 {
-    match color {
-        Color::Default => output.put(default),
-        _ => {
-            output.put(property);
-            put_value(output, role, color);
-            output.put(b";");
+    match scheme {
+        Scheme::Light => put_declared(output, property, light),
+        Scheme::Dark => put_declared(output, property, dark),
+        Scheme::Both => {
+            put_declared(output, property, light);
+            put_light_dark(output, property, light, dark);
         }
     }
 }
 
-impl Role {
-    /// The role of a colour, by the colour that it meets.
-    fn by(self, other: Color) -> Role
-        ensures { result ≡ role_by self other }
-    {
-        match other {
-            Color::Default => self,
-            _ => Role::Fixed,
-        }
-    }
+/// Whether a colour is not the default.
+fn is_chosen(color: Color) -> bool
+    ensures { result ≡ is_chosen color }
+{
+    !matches!(color, Color::Default)
 }
 
-/// The colours. Reversed, each is drawn in the other's place.
-fn put_colors<W: Sink>(output: &mut Output<W>, style: Style)
-    ensures { Adds W.Sink (colors_css style.reverse style.foreground style.background) output.old output.new }
+/// The colour of the text, which reversed is the one of its ground.
+fn text_of(style: Style) -> Color
+    ensures { result ≡ text_of style }
 {
-    let text = Role::Text.by(style.background);
-    let behind = Role::Background.by(style.foreground);
     if style.reverse {
-        put_color(
-            output,
-            b"color:",
-            b"color:Canvas;",
-            behind,
-            style.background,
-        );
-        put_color(
-            output,
-            b"background-color:",
-            b"background-color:CanvasText;",
-            text,
-            style.foreground,
-        );
+        style.background
     } else {
-        put_color(output, b"color:", b"", text, style.foreground);
-        put_color(output, b"background-color:", b"", behind, style.background);
+        style.foreground
+    }
+}
+
+/// The colour of the ground, which reversed is the one of its text.
+fn behind_of(style: Style) -> Color
+    ensures { result ≡ behind_of style }
+{
+    if style.reverse {
+        style.foreground
+    } else {
+        style.background
+    }
+}
+
+/// The shade of a text that is read on light pages.
+fn light_text(dim: bool, color: Color) -> Rgb
+    ensures { result ≡ light_text dim color }
+{
+    let light = shades_of(color).light;
+    if dim {
+        light.mixture(WHITE).light_shade()
+    } else {
+        light.light_shade()
+    }
+}
+
+/// The shade of a text that is read on dark pages.
+fn dark_text(dim: bool, color: Color) -> Rgb
+    ensures { result ≡ dark_text dim color }
+{
+    let dark = shades_of(color).dark;
+    if dim {
+        dark.mixture(BLACK).dark_shade()
+    } else {
+        dark.dark_shade()
+    }
+}
+
+/// A text on the page's ground.
+fn put_on_page<W: Sink>(output: &mut Output<W>, scheme: Scheme, dim: bool, text: Color)
+    ensures { Adds W.Sink (on_page scheme dim text) output.old output.new }
+{
+    put_themed(
+        output,
+        scheme,
+        b"color:",
+        light_text(dim, text),
+        dark_text(dim, text),
+    );
+}
+
+/// A text on a ground of the page's own text.
+fn put_on_reversed<W: Sink>(output: &mut Output<W>, scheme: Scheme, dim: bool, text: Color)
+    ensures { Adds W.Sink (on_reversed scheme dim text) output.old output.new }
+{
+    put_themed(
+        output,
+        scheme,
+        b"color:",
+        dark_text(dim, text),
+        light_text(dim, text),
+    );
+    put_themed(output, scheme, b"background-color:", BLACK, WHITE);
+}
+
+/// What is written on a ground that is chosen: white or black where no colour is chosen for it.
+fn color_on(text: Color, behind: Rgb) -> Rgb
+    ensures { result ≡ color_on text behind }
+{
+    if is_chosen(text) {
+        shades_of(text).fixed
+    } else {
+        behind.ink()
+    }
+}
+
+/// The same, or where it is dim as much of it as is read.
+fn text_on(dim: bool, text: Color, behind: Rgb) -> Rgb
+    ensures { result ≡ text_on dim text behind }
+{
+    let color = color_on(text, behind);
+    if dim { color.dim_on(behind) } else { color }
+}
+
+/// A text on a ground that is chosen.
+fn put_on_chosen<W: Sink>(output: &mut Output<W>, dim: bool, text: Color, behind: Rgb)
+    ensures { Adds W.Sink (on_chosen dim text behind) output.old output.new }
+{
+    put_declared(output, b"color:", text_on(dim, text, behind));
+    put_declared(output, b"background-color:", behind);
+}
+
+/// The colours, where any is selected.
+#[tactic(auto, unfolding(crate::specs::Css::colors_css))]
+fn put_colors<W: Sink>(output: &mut Output<W>, scheme: Scheme, style: Style)
+    ensures { Adds W.Sink (colors_css scheme style) output.old output.new }
+{
+    let text = text_of(style);
+    let behind = behind_of(style);
+    if is_chosen(behind) {
+        put_on_chosen(output, style.dim, text, shades_of(behind).fixed);
+    } else if style.reverse {
+        put_on_reversed(output, scheme, style.dim, text);
+    } else if is_chosen(text) || style.dim {
+        put_on_page(output, scheme, style.dim, text);
     }
 }
 
@@ -258,12 +258,11 @@ fn underline_css(underline: Underline) -> &'static [u8]
 }
 
 /// Writes the declarations of a style.
-pub(crate) fn put_css<W: Sink>(output: &mut Output<W>, style: Style)
-    ensures { Adds W.Sink (css style) output.old output.new }
+pub(crate) fn put_css<W: Sink>(output: &mut Output<W>, scheme: Scheme, style: Style)
+    ensures { Adds W.Sink (css scheme style) output.old output.new }
 {
-    put_colors(output, style);
+    put_colors(output, scheme, style);
     put_if(output, style.bold, b"font-weight:bold;");
-    put_if(output, style.dim, b"opacity:.7;");
     put_if(output, style.italic, b"font-style:italic;");
     put_lines(
         output,

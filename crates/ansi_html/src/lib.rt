@@ -4,33 +4,39 @@
 //! ```
 //! let mut reader = FromRead::new(log);
 //! let writer = FromWrite::new(Vec::new(alloc));
-//! let (writer, answer) = convert(b"<pre>", &mut reader, writer, b"</pre>");
+//! let (writer, answer) = convert(Scheme::Both, b"<pre>", &mut reader, writer, b"</pre>");
 //! // of ESC [ 1 m < h i: <pre><span style="font-weight:bold;">&lt;hi</span></pre>
 //! ```
 #![tactic(auto)]
 
-ghost use Rattle.std.specs.Prelude.{◌≡◌, ◌≤◌, ◌+◌, ◌*◌, ◌++◌, [], ℕ, List, OnOk, length, map};
+ghost use Rattle.std.specs.Prelude.{◌≡◌, ◌≤◌, ◌+◌, ◌*◌, ◌++◌, [], ℕ, false, List, OnOk, length, map};
 ghost use Rattle.std.specs.Str.{IsUtf8};
 ghost use Rattle.anstyle_parse.specs.Stream.Call.{Call};
 ghost use Rattle.anstyle_parse.specs.Stream.Calls.{AreCalls};
 ghost use Rattle.anstyle_parse.specs.Io.Output.{Adds};
 ghost use Rattle.anstyle_parse.specs.Io.Run.{RunsToEnding};
 ghost use Rattle.ansi_strip.specs.Strip.{stripped};
+ghost use Rattle.ansi_style.specs.declared.style.Style.{Style};
 ghost use Rattle.ansi_style.specs.Style.{plain};
+ghost use Rattle.ansi_html.specs.Css.{selects_both, colors_css};
 ghost use Rattle.ansi_html.specs.Html.{html_text, html_ending, html, escaped_text};
 ghost use Rattle.ansi_html.specs.Reader.{byte_of, under, read, shown_from};
-ghost use Rattle.ansi_html.specs.Grammar.{IsFragment};
+ghost use Rattle.ansi_html.specs.Grammar.{AreReadable, IsFragment};
 
+pub mod contrast;
 mod css;
+mod palette;
 mod performer;
+mod scheme;
 
 use anstyle_parse::canon::{Fault, Output, Sink, Source, write_calls_between};
 pub use performer::HtmlWriter;
 use performer::put_escaped;
+pub use scheme::{BothPages, DarkPages, LightPages, Pages, Scheme};
 
 /// Writes the text of all bytes that the reader gives as HTML, in the styles that the stream
-/// selects: a fragment for a `<pre>`. `head` is written before it and `tail` after it, as they
-/// are, such as the two ends of a page.
+/// selects, with colours for the pages of `scheme`: a fragment for a `<pre>`. `head` is written
+/// before it and `tail` after it, as they are, such as the two ends of a page.
 ///
 /// The text is the stripped text: each printed character in UTF-8, tab, line feed and carriage
 /// return. `& < > " '` are written as character references, and text that is not plain stands
@@ -49,6 +55,7 @@ use performer::put_escaped;
 /// - `Err(Fault::Write)` where a write failed: what is written is a proper prefix of head,
 ///   HTML and tail, and nothing was read or written after the fault.
 pub fn convert<R: Source, W: Sink>(
+    scheme: Scheme,
     head: &[u8],
     reader: &mut R,
     writer: W,
@@ -56,7 +63,7 @@ pub fn convert<R: Source, W: Sink>(
 ) -> (W, Result<(), Fault>)
     // What is written is the head, the HTML of the calls of what was read, and the tail.
     ensures runs { RunsToEnding R.Source W.Sink
-        (λ calls. head.now ++ html_text calls) (λ calls. html_ending calls ++ tail.now)
+        (λ calls. head.now ++ html_text scheme calls) (λ calls. html_ending calls ++ tail.now)
         reader.old reader.new writer result.0 result.1 }
 
     // With Ok nothing of it is held back.
@@ -65,23 +72,54 @@ pub fn convert<R: Source, W: Sink>(
     // The headline: reading the HTML, before a browser's changes of newlines, gives exactly the
     // bytes of the stripped text, each with the declarations of the style that the stream has
     // selected there.
-    ensures read_back { (calls : List Call) → read (html calls) ≡ shown_from plain calls }
-    ensures text { (calls : List Call) → map byte_of (read (html calls)) ≡ stripped calls }
+    ensures read_back { (calls : List Call) → read (html scheme calls) ≡ shown_from scheme plain calls }
+    ensures text { (calls : List Call) → map byte_of (read (html scheme calls)) ≡ stripped calls }
 
-    // No markup comes in: it is text and spans that do not nest, with declarations from a
-    // fixed vocabulary.
+    // Text is read: the colours of a style have WCAG's 4.5:1 with the page, or with the ground
+    // that the stream has selected alone. Where it has selected both colours, it may differ.
+    ensures contrast { (style : Style) → selects_both style ≡ false
+        → AreReadable scheme (colors_css scheme style) }
+
+    // No markup comes in: it is text and spans that do not nest, with such colours and with
+    // declarations from a fixed vocabulary.
     ensures grammar { (bytes : List ℕ) (calls : List Call) → AreCalls bytes calls
-        → IsFragment (html calls) }
+        → IsFragment scheme (html scheme calls) }
 
     // It is UTF-8, whatever was read.
     ensures utf8 { (bytes : List ℕ) (calls : List Call) → AreCalls bytes calls
-        → IsUtf8 (html calls) }
+        → IsUtf8 (html scheme calls) }
 
-    // It has at most 278 bytes for each byte that was read, and 7 more.
+    // It has at most 306 bytes for each byte that was read, and 7 more.
     ensures bound { (bytes : List ℕ) (calls : List Call) → AreCalls bytes calls
-        → length (html calls) ≤ 278 * length bytes + 7 }
+        → length (html scheme calls) ≤ 306 * length bytes + 7 }
 {
-    write_calls_between::<HtmlWriter<W>, R, W>(head, reader, writer, tail)
+    write_html(scheme, head, reader, writer, tail)
+}
+
+/// The same by a writer of the scheme.
+fn write_html<R: Source, W: Sink>(
+    scheme: Scheme,
+    head: &[u8],
+    reader: &mut R,
+    writer: W,
+    tail: &[u8],
+) -> (W, Result<(), Fault>)
+    ensures runs { RunsToEnding R.Source W.Sink
+        (λ calls. head.now ++ html_text scheme calls) (λ calls. html_ending calls ++ tail.now)
+        reader.old reader.new writer result.0 result.1 }
+    ensures handed_on { OnOk result.1 (W.holds_nothing result.0) }
+{
+    match scheme {
+        Scheme::Light => {
+            write_calls_between::<HtmlWriter<W, LightPages>, R, W>(head, reader, writer, tail)
+        }
+        Scheme::Dark => {
+            write_calls_between::<HtmlWriter<W, DarkPages>, R, W>(head, reader, writer, tail)
+        }
+        Scheme::Both => {
+            write_calls_between::<HtmlWriter<W, BothPages>, R, W>(head, reader, writer, tail)
+        }
+    }
 }
 
 /// Writes a text as HTML, such as a title for the head of a page: `& < > " '` as character

@@ -7,10 +7,12 @@ ghost use Rattle.ansi_html.specs.Grammar.{is_special, AreClear, BeginWithClear};
 ghost use Rattle.ansi_html.specs.Html.{span_begin, span_end, change, escaped, escaped_text};
 
 use crate::css::put_css;
+use crate::scheme::{Pages, Scheme};
 use ansi_strip::is_layout;
 use ansi_style::Style;
 use anstyle_parse::canon::{CallWriter, Output, Sink};
 use anstyle_parse::{Params, Perform, PerformText};
+use std::marker::PhantomData;
 
 /// Writes the text of a stream as HTML, in the style that the stream selects.
 ///
@@ -18,29 +20,33 @@ use anstyle_parse::{Params, Perform, PerformText};
 /// (0D), is text; `& < > " '` are written as character references. Text that is not plain
 /// stands in `<span style="…">…</span>`, one for each run of equal style. A span is opened only
 /// before text, and closed before text of another style or at the end. All other calls write
-/// nothing.
+/// nothing. The colours are for the pages of `S`.
 ///
 /// No memory is taken. A write that fails stops it: nothing more is written, and the fault is
 /// kept.
 #[derive(Drop)]
-pub struct HtmlWriter<W> {
+pub struct HtmlWriter<W, S> {
     output: Output<W>,
+    /// The pages that the colours are for.
+    scheme: Scheme,
+    of: PhantomData<S>,
     /// The style of the last text; plain where no span is open.
     shown: Style,
     /// The style that is selected for what comes, where a sequence has selected one since.
     next: Option<Style>,
 }
 
-impl<W: Sink> HtmlWriter<W> {
+impl<W: Sink, S: Pages> HtmlWriter<W, S> {
     ghost use Rattle.std.specs.Prelude.{◌∷◌, None};
-    ghost use Rattle.ansi_html.specs.Writer.{output_of, style_of, shown_of, next_of};
+    ghost use Rattle.ansi_html.specs.Writer.{output_of, scheme_of, style_of, shown_of, next_of};
 
     /// Text of the selected style may follow.
     #[inline]
     fn begin_text(&mut self)
+        ensures scheme { scheme_of self.new ≡ scheme_of self.old }
         ensures style { style_of self.new ≡ style_of self.old }
         ensures shown { shown_of self.new ≡ style_of self.old }
-        ensures added { Adds W.Sink (change (shown_of self.old) (style_of self.old))
+        ensures added { Adds W.Sink (change (scheme_of self.old) (shown_of self.old) (style_of self.old))
             (output_of self.old) (output_of self.new) }
     {
         if let Some(style) = self.next {
@@ -50,26 +56,28 @@ impl<W: Sink> HtmlWriter<W> {
 
     /// Text of this style may follow.
     fn change_to(&mut self, style: Style)
+        ensures scheme { scheme_of self.new ≡ scheme_of self.old }
         ensures next { next_of self.new ≡ None }
         ensures shown { shown_of self.new ≡ style }
-        ensures added { Adds W.Sink (change (shown_of self.old) style) (output_of self.old) (output_of self.new) }
+        ensures added { Adds W.Sink (change (scheme_of self.old) (shown_of self.old) style)
+            (output_of self.old) (output_of self.new) }
     {
         self.next = None;
         if self.shown != style {
             put_span_end(&mut self.output, self.shown);
-            put_span_begin(&mut self.output, style);
+            put_span_begin(&mut self.output, self.scheme, style);
             self.shown = style;
         }
     }
 }
 
 /// Opens a span of the style, unless it is plain.
-fn put_span_begin<W: Sink>(output: &mut Output<W>, style: Style)
-    ensures { Adds W.Sink (span_begin style) output.old output.new }
+fn put_span_begin<W: Sink>(output: &mut Output<W>, scheme: Scheme, style: Style)
+    ensures { Adds W.Sink (span_begin scheme style) output.old output.new }
 {
     if style != Style::default() {
         output.put(b"<span style=\"");
-        put_css(output, style);
+        put_css(output, scheme, style);
         output.put(b"\">");
     }
 }
@@ -185,7 +193,7 @@ fn put_reference<W: Sink>(output: &mut Output<W>, byte: u8)
     }
 }
 
-impl<W: Sink> Perform for HtmlWriter<W> {
+impl<W: Sink, S: Pages> Perform for HtmlWriter<W, S> {
     ghost use Rattle.ansi_html.specs.Writer.{Takes};
 
     ghost means = { Takes W.Sink };
@@ -222,7 +230,7 @@ impl<W: Sink> Perform for HtmlWriter<W> {
 }
 
 /// A text is of one style, and its bytes are written at once but for those with a meaning in HTML.
-impl<W: Sink> PerformText for HtmlWriter<W> {
+impl<W: Sink, S: Pages> PerformText for HtmlWriter<W, S> {
     ghost use Rattle.ansi_html.specs.Writer.{TakesAll};
     ghost use Rattle.ansi_html.specs.AddingProof.{TakesAll-none, TakesAll-one, TakesAll-more};
 
@@ -243,27 +251,29 @@ impl<W: Sink> PerformText for HtmlWriter<W> {
     ghost receives_more = { TakesAll-more W.Sink };
 }
 
-impl<W: Sink> CallWriter<W> for HtmlWriter<W> {
+impl<W: Sink, S: Pages> CallWriter<W> for HtmlWriter<W, S> {
     ghost use Rattle.ansi_html.specs.Html.{html_text, html_ending};
     ghost use Rattle.ansi_html.specs.Writer.{IsNew, output_of, unwritten as end_of_span};
     ghost use Rattle.ansi_html.specs.AddingProof.{Adds-html, end_of_span-html};
 
     ghost output_in = { output_of };
 
-    ghost is_new = { IsNew };
+    ghost is_new = { IsNew S.scheme };
 
-    ghost text = { html_text };
+    ghost text = { html_text S.scheme };
 
     ghost ending = { html_ending };
 
     ghost unwritten = { end_of_span };
 
-    fn over(output: Output<W>) -> HtmlWriter<W>
+    fn over(output: Output<W>) -> HtmlWriter<W, S>
         ensures output { output_of result ≡ output }
-        ensures new { IsNew result }
+        ensures new { IsNew S.scheme result }
     {
         HtmlWriter {
             output,
+            scheme: S::scheme(),
+            of: PhantomData,
             shown: Style::default(),
             next: None,
         }
@@ -287,7 +297,7 @@ impl<W: Sink> CallWriter<W> for HtmlWriter<W> {
         output
     }
 
-    ghost adds = { Adds-html W.Sink };
+    ghost adds = { Adds-html W.Sink S.scheme };
 
-    ghost ends = { λ old calls new is taken _. end_of_span-html W.Sink old calls new is taken };
+    ghost ends = { λ old calls new is taken _. end_of_span-html W.Sink S.scheme old calls new is taken };
 }

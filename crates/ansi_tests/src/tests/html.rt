@@ -1,20 +1,30 @@
 //! HTML worked by hand: clauses say that it is read back, and not that it has as few spans as
 //! these rows, nor that the definitions' colours and declarations are those of CSS and xterm.
-use ansi_html::convert;
+use ansi_html::{Scheme, convert};
 use anstyle_parse::canon::{FromRead, FromWrite};
 use std::alloc::Global;
 use std::process::Abort;
 
 // The HTML of these bytes.
-fn html(alloc: Global, bytes: &[u8]) -> Vec<u8> {
+fn html(alloc: Global, scheme: Scheme, bytes: &[u8]) -> Vec<u8> {
     let mut reader = FromRead::new(bytes);
-    let (sink, _answer) = convert(b"", &mut reader, FromWrite::new(Vec::new(alloc)), b"");
+    let (sink, _answer) = convert(
+        scheme,
+        b"",
+        &mut reader,
+        FromWrite::new(Vec::new(alloc)),
+        b"",
+    );
     sink.into_inner()
 }
 
 fn assert_rows(rt: &(impl Abort + AllocGlobal), rows: &[(&[u8], &[u8])]) {
+    assert_rows_in(rt, Scheme::Both, rows);
+}
+
+fn assert_rows_in(rt: &(impl Abort + AllocGlobal), scheme: Scheme, rows: &[(&[u8], &[u8])]) {
     for (bytes, expected) in rows {
-        let written = html(rt.alloc(), bytes);
+        let written = html(rt.alloc(), scheme, bytes);
         assert_eq!(rt; written.as_slice(), *expected, "{bytes:?}");
     }
 }
@@ -73,7 +83,6 @@ fn spans(rt: HostRuntime) {
                 b"<span style=\"font-weight:bold;\">a\nb</span>",
             ),
             (b"\x1B[8mx", b"<span style=\"visibility:hidden;\">x</span>"),
-            (b"\x1B[2mx", b"<span style=\"opacity:.7;\">x</span>"),
             (
                 b"\x1B[4:3;53;9;5mx",
                 b"<span style=\"text-decoration-line: underline overline line-through blink;\
@@ -94,15 +103,15 @@ fn colours(rt: HostRuntime) {
         &[
             (
                 b"\x1B[31mx",
-                b"<span style=\"color:light-dark(#cf222e,#ff7b72);\">x</span>",
+                b"<span style=\"color:#cf222e;color:light-dark(#cf222e,#ff7b72);\">x</span>",
             ),
             (
                 b"\x1B[97mx",
-                b"<span style=\"color:light-dark(#656d76,#ffffff);\">x</span>",
+                b"<span style=\"color:#656d76;color:light-dark(#656d76,#ffffff);\">x</span>",
             ),
             (
-                b"\x1B[41mx",
-                b"<span style=\"background-color:light-dark(#ff7b72,#cf222e);\">x</span>",
+                b"\x1B[38;5;9mx",
+                b"<span style=\"color:#a40e26;color:light-dark(#a40e26,#ffa198);\">x</span>",
             ),
             // On a background that the stream coloured, xterm's red and yellow.
             (
@@ -110,49 +119,121 @@ fn colours(rt: HostRuntime) {
                 b"<span style=\"color:#cdcd00;background-color:#cd0000;\">x</span>",
             ),
             (
-                b"\x1B[38;2;1;171;255mx",
-                b"<span style=\"color:#01abff;\">x</span>",
+                b"\x1B[7;33;41mx",
+                b"<span style=\"color:#cd0000;background-color:#cdcd00;\">x</span>",
             ),
-            // xterm's cube and greys: 16, 196, 231, 232, 255.
+            // A background alone, under white or black.
             (
-                b"\x1B[38;5;16mx",
-                b"<span style=\"color:#000000;\">x</span>",
-            ),
-            (
-                b"\x1B[38;5;196mx",
-                b"<span style=\"color:#ff0000;\">x</span>",
+                b"\x1B[41mx",
+                b"<span style=\"color:#ffffff;background-color:#cd0000;\">x</span>",
             ),
             (
-                b"\x1B[38;5;67mx",
-                b"<span style=\"color:#5f87af;\">x</span>",
-            ),
-            (
-                b"\x1B[38;5;231mx",
-                b"<span style=\"color:#ffffff;\">x</span>",
-            ),
-            (
-                b"\x1B[38;5;232mx",
-                b"<span style=\"color:#080808;\">x</span>",
-            ),
-            (
-                b"\x1B[38;5;255mx",
-                b"<span style=\"color:#eeeeee;\">x</span>",
-            ),
-            (
-                b"\x1B[38;5;9mx",
-                b"<span style=\"color:light-dark(#a40e26,#ffa198);\">x</span>",
-            ),
-            (
-                b"\x1B[7mx",
-                b"<span style=\"color:Canvas;background-color:CanvasText;\">x</span>",
+                b"\x1B[48;5;231mx",
+                b"<span style=\"color:#000000;background-color:#ffffff;\">x</span>",
             ),
             (
                 b"\x1B[7;31mx",
-                b"<span style=\"color:Canvas;background-color:light-dark(#cf222e,#ff7b72);\">x</span>",
+                b"<span style=\"color:#ffffff;background-color:#cd0000;\">x</span>",
+            ),
+            // Shades of a colour by red, green and blue; and of xterm's cube and greys: 16, 196, 67, 231, 232, 255.
+            (
+                b"\x1B[38;2;1;171;255mx",
+                b"<span style=\"color:#0075af;color:light-dark(#0075af,#01abff);\">x</span>",
             ),
             (
-                b"\x1B[7;33;41mx",
-                b"<span style=\"color:#cd0000;background-color:#cdcd00;\">x</span>",
+                b"\x1B[38;5;16mx",
+                b"<span style=\"color:#000000;color:light-dark(#000000,#909090);\">x</span>",
+            ),
+            (
+                b"\x1B[38;5;196mx",
+                b"<span style=\"color:#df0000;color:light-dark(#df0000,#ff3030);\">x</span>",
+            ),
+            (
+                b"\x1B[38;5;67mx",
+                b"<span style=\"color:#537699;color:light-dark(#537699,#698fb4);\">x</span>",
+            ),
+            (
+                b"\x1B[38;5;231mx",
+                b"<span style=\"color:#6f6f6f;color:light-dark(#6f6f6f,#ffffff);\">x</span>",
+            ),
+            (
+                b"\x1B[38;5;232mx",
+                b"<span style=\"color:#080808;color:light-dark(#080808,#939393);\">x</span>",
+            ),
+            (
+                b"\x1B[38;5;255mx",
+                b"<span style=\"color:#686868;color:light-dark(#686868,#eeeeee);\">x</span>",
+            ),
+            // The page's own colours, and red, on a background of its own text.
+            (
+                b"\x1B[7mx",
+                b"<span style=\"color:#ffffff;color:light-dark(#ffffff,#000000);background-color:#000000;background-color:light-dark(#000000,#ffffff);\">x</span>",
+            ),
+            (
+                b"\x1B[7;41mx",
+                b"<span style=\"color:#ff7b72;color:light-dark(#ff7b72,#cf222e);background-color:#000000;background-color:light-dark(#000000,#ffffff);\">x</span>",
+            ),
+        ],
+    );
+}
+
+/// Dim is a shade of its own.
+#[test]
+fn dim(rt: HostRuntime) {
+    assert_rows(
+        &rt,
+        &[
+            (
+                b"\x1B[2mx",
+                b"<span style=\"color:#4f4f4f;color:light-dark(#4f4f4f,#afafaf);\">x</span>",
+            ),
+            (
+                b"\x1B[2;31mx",
+                b"<span style=\"color:#b4535a;color:light-dark(#b4535a,#be7570);\">x</span>",
+            ),
+            (
+                b"\x1B[2;38;5;196mx",
+                b"<span style=\"color:#cf4040;color:light-dark(#cf4040,#d27070);\">x</span>",
+            ),
+            (
+                b"\x1B[2;42mx",
+                b"<span style=\"color:#004000;background-color:#00cd00;\">x</span>",
+            ),
+            // What is not read when it is dim, stays.
+            (
+                b"\x1B[2;41mx",
+                b"<span style=\"color:#ffffff;background-color:#cd0000;\">x</span>",
+            ),
+            (
+                b"\x1B[2;7mx",
+                b"<span style=\"color:#afafaf;color:light-dark(#afafaf,#4f4f4f);background-color:#000000;background-color:light-dark(#000000,#ffffff);\">x</span>",
+            ),
+        ],
+    );
+}
+
+/// For one scheme alone.
+#[test]
+fn schemes(rt: HostRuntime) {
+    assert_rows_in(
+        &rt,
+        Scheme::Light,
+        &[
+            (b"\x1B[31mx", b"<span style=\"color:#cf222e;\">x</span>"),
+            (
+                b"\x1B[7mx",
+                b"<span style=\"color:#ffffff;background-color:#000000;\">x</span>",
+            ),
+        ],
+    );
+    assert_rows_in(
+        &rt,
+        Scheme::Dark,
+        &[
+            (b"\x1B[31mx", b"<span style=\"color:#ff7b72;\">x</span>"),
+            (
+                b"\x1B[7mx",
+                b"<span style=\"color:#000000;background-color:#ffffff;\">x</span>",
             ),
         ],
     );

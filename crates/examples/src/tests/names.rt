@@ -1,7 +1,8 @@
 //! Every public item of every library, by its name, and every implementation that a type of theirs
 //! has of a trait of std: what is gone is missed here.
 use crate::{plain, write_last_style};
-use ansi_html::{HtmlWriter, convert, put_text};
+use ansi_html::contrast::{BLACK, Rgb, WHITE, linear};
+use ansi_html::{BothPages, DarkPages, HtmlWriter, LightPages, Pages, Scheme, convert, put_text};
 use ansi_strip::{Stripper, is_layout, strip};
 use ansi_style::{Color, Hue, Style, Underline};
 use anstyle_parse::canon::{CanonWriter, MAX_CHECKPOINT, checkpoint};
@@ -56,6 +57,10 @@ fn is_sink<T: Sink + Drop>(_: &T) {}
 fn is_reader<T: Read + Drop>(_: &T) {}
 
 fn is_writer<T: Write + Drop>(_: &T) {}
+
+fn scheme_of<T: Pages>() -> Scheme {
+    T::scheme()
+}
 
 fn writes_calls<T: CallWriter<Memory> + PerformText + Drop>(_: &T) {}
 
@@ -175,10 +180,10 @@ fn names_of_runs(rt: HostRuntime) -> Result<(), Fail> {
     assert!(rt; is_layout(b'\t') && !is_layout(0x07));
     let (_, answer) = strip(&mut reader, memory(rt.alloc()));
     assert_eq!(rt; answer, Ok(()));
-    let (_, answer) = convert(b"<", &mut reader, memory(rt.alloc()), b">");
+    let (_, answer) = convert(Scheme::Both, b"<", &mut reader, memory(rt.alloc()), b">");
     assert_eq!(rt; answer, Ok(()));
     writes_calls(&Stripper::over(Output::new(memory(rt.alloc()))));
-    writes_calls(&HtmlWriter::over(Output::new(memory(rt.alloc()))));
+    writes_calls(&HtmlWriter::<_, BothPages>::over(Output::new(memory(rt.alloc()))));
 
     let mut output = Output::new(memory(rt.alloc()));
     put_text(&mut output, "<");
@@ -199,6 +204,16 @@ fn names_of_runs(rt: HostRuntime) -> Result<(), Fail> {
 
 #[test]
 fn names_of_styles_and_pieces(rt: HostRuntime) {
+    is_plain(Scheme::Both);
+    is_plain(Rgb {
+        red: 1,
+        green: 2,
+        blue: 3,
+    });
+    assert!(rt; linear(255) == 1_000_000);
+    assert!(rt; BLACK.is_read_on_light() && WHITE.is_read_on_dark());
+    assert!(rt; scheme_of::<LightPages>() == Scheme::Light);
+    assert!(rt; scheme_of::<DarkPages>() == Scheme::Dark);
     is_plain(Hue::Black);
     is_plain(Color::Default);
     is_plain(Color::Named(Hue::at(1)));

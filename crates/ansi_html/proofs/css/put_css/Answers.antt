@@ -1,20 +1,19 @@
 use Rattle.std.proofs.Common.{◌++◌, Bool, List, ℕ, codes, subst}
 use Rattle.anstyle_parse.specs.Io.Output.{Adds}
 use Rattle.anstyle_parse.proofs.Written.Output.{Adds-append}
-use Rattle.ansi_html.specs.Css.{colors_css, text_if, is_underlined, lines_css, underline_css}
+use Rattle.ansi_html.specs.Css.{colors_css, text_if, is_underlined, lines_css, underline_css, others_css}
 use Rattle.ansi_html.proofs.css.put_css.Goals as goal
 
 pub returns : goal.returns
 returns g c =
     let style = c.args.style in
-    let end = c.put_if-4.new.output in
+    let end = c.put_if-3.new.output in
     let added = Adds g.W.Sink in
     let add = Adds-append g.W.Sink in
-    let lines = subst (λ (underlined : Bool). added (lines_css underlined style.overlined style.struck_out style.blink) c.put_if-3.new.output c.put_lines.new.output) c.is_underlined.ensures c.put_lines.ensures in
+    let lines = subst (λ (underlined : Bool). added (lines_css underlined style.overlined style.struck_out style.blink) c.put_if-2.new.output c.put_lines.new.output) c.is_underlined.ensures c.put_lines.ensures in
     let underline = subst (λ (text : List ℕ). added text c.put_lines.new.output c.put.new.self) c.underline_css.ensures c.put.ensures in
-    add (colors_css style.reverse style.foreground style.background) (text_if style.bold (codes "font-weight:bold;") ++ (text_if style.dim (codes "opacity:.7;") ++ (text_if style.italic (codes "font-style:italic;") ++ (lines_css (is_underlined style.underline) style.overlined style.struck_out style.blink ++ (underline_css style.underline ++ text_if style.hidden (codes "visibility:hidden;")))))) c.args.output.now c.put_colors.new.output end c.put_colors.ensures
-    (add (text_if style.bold (codes "font-weight:bold;")) (text_if style.dim (codes "opacity:.7;") ++ (text_if style.italic (codes "font-style:italic;") ++ (lines_css (is_underlined style.underline) style.overlined style.struck_out style.blink ++ (underline_css style.underline ++ text_if style.hidden (codes "visibility:hidden;"))))) c.put_colors.new.output c.put_if.new.output end c.put_if.ensures
-    (add (text_if style.dim (codes "opacity:.7;")) (text_if style.italic (codes "font-style:italic;") ++ (lines_css (is_underlined style.underline) style.overlined style.struck_out style.blink ++ (underline_css style.underline ++ text_if style.hidden (codes "visibility:hidden;")))) c.put_if.new.output c.put_if-2.new.output end c.put_if-2.ensures
-    (add (text_if style.italic (codes "font-style:italic;")) (lines_css (is_underlined style.underline) style.overlined style.struck_out style.blink ++ (underline_css style.underline ++ text_if style.hidden (codes "visibility:hidden;"))) c.put_if-2.new.output c.put_if-3.new.output end c.put_if-3.ensures
-    (add (lines_css (is_underlined style.underline) style.overlined style.struck_out style.blink) (underline_css style.underline ++ text_if style.hidden (codes "visibility:hidden;")) c.put_if-3.new.output c.put_lines.new.output end lines
-    (add (underline_css style.underline) (text_if style.hidden (codes "visibility:hidden;")) c.put_lines.new.output c.put.new.self end underline c.put_if-4.ensures)))))
+    add (colors_css c.args.scheme style) (others_css style) c.args.output.now c.put_colors.new.output end c.put_colors.ensures
+    (add (text_if style.bold (codes "font-weight:bold;")) (text_if style.italic (codes "font-style:italic;") ++ (lines_css (is_underlined style.underline) style.overlined style.struck_out style.blink ++ (underline_css style.underline ++ text_if style.hidden (codes "visibility:hidden;")))) c.put_colors.new.output c.put_if.new.output end c.put_if.ensures
+    (add (text_if style.italic (codes "font-style:italic;")) (lines_css (is_underlined style.underline) style.overlined style.struck_out style.blink ++ (underline_css style.underline ++ text_if style.hidden (codes "visibility:hidden;"))) c.put_if.new.output c.put_if-2.new.output end c.put_if-2.ensures
+    (add (lines_css (is_underlined style.underline) style.overlined style.struck_out style.blink) (underline_css style.underline ++ text_if style.hidden (codes "visibility:hidden;")) c.put_if-2.new.output c.put_lines.new.output end lines
+    (add (underline_css style.underline) (text_if style.hidden (codes "visibility:hidden;")) c.put_lines.new.output c.put.new.self end underline c.put_if-3.ensures))))

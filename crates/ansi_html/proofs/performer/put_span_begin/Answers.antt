@@ -13,18 +13,18 @@ returns-then-ne g c =
     let style = c.args.style in
     let end = c.put-then-ne.new.self in
     let add = Adds-append g.W.Sink in
-    let text = codes "<span style=\"" ++ (css style ++ codes "\">") in
+    let text = codes "<span style=\"" ++ (css c.args.scheme style ++ codes "\">") in
     let other = false-from_not (are_equal style c.default.result) (sym c.ne.ensures ∙ c.if-ne.true) in
     let not_plain = sym (ap (are_equal style) c.default.ensures) ∙ other in
     subst (λ (plain : Bool). Adds g.W.Sink (if plain then [] else text) c.args.output.now end) (sym not_plain)
-    (add (codes "<span style=\"") (css style ++ codes "\">") c.args.output.now c.put.new.self end c.put.ensures
-    (add (css style) (codes "\">") c.put.new.self c.put_css.new.output end c.put_css.ensures c.put-then-ne.ensures))
+    (add (codes "<span style=\"") (css c.args.scheme style ++ codes "\">") c.args.output.now c.put.new.self end c.put.ensures
+    (add (css c.args.scheme style) (codes "\">") c.put.new.self c.put_css.new.output end c.put_css.ensures c.put-then-ne.ensures))
 
 pub returns-else-ne : goal.returns-else-ne
 unfolding are_equal
 returns-else-ne g c =
     let style = c.args.style in
-    let text = codes "<span style=\"" ++ (css style ++ codes "\">") in
+    let text = codes "<span style=\"" ++ (css c.args.scheme style ++ codes "\">") in
     let same = true-from_not (are_equal style c.default.result) (sym c.ne.ensures ∙ c.if-ne.false) in
     let is_plain = sym (ap (are_equal style) c.default.ensures) ∙ same in
     subst (λ (plain : Bool). Adds g.W.Sink (if plain then [] else text) c.args.output.now c.args.output.now) (sym is_plain)

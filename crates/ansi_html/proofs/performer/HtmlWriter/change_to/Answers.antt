@@ -12,10 +12,10 @@ pub returns-then-ne-clause-added : goal.returns-then-ne-clause-added
 unfolding are_equal
 returns-then-ne-clause-added g c =
     let before = c.args.self.now in
-    let text = span_end before.shown ++ span_begin c.args.style in
+    let text = span_end before.shown ++ span_begin before.scheme c.args.style in
     let other = false-from_not (are_equal before.shown c.args.style) (sym c.ne.ensures ∙ c.if-ne.true) in
     subst (λ (same : Bool). Adds g.W.Sink (if same then [] else text) before.output c.put_span_begin.new.output) (sym other)
-    (Adds-append g.W.Sink (span_end before.shown) (span_begin c.args.style) before.output c.put_span_end.new.output c.put_span_begin.new.output c.put_span_end.ensures c.put_span_begin.ensures)
+    (Adds-append g.W.Sink (span_end before.shown) (span_begin before.scheme c.args.style) before.output c.put_span_end.new.output c.put_span_begin.new.output c.put_span_end.ensures c.put_span_begin.ensures)
 
 pub returns-else-ne-clause-shown : goal.returns-else-ne-clause-shown
 unfolding are_equal
@@ -27,7 +27,7 @@ pub returns-else-ne-clause-added : goal.returns-else-ne-clause-added
 unfolding are_equal
 returns-else-ne-clause-added g c =
     let before = c.args.self.now in
-    let text = span_end before.shown ++ span_begin c.args.style in
+    let text = span_end before.shown ++ span_begin before.scheme c.args.style in
     let same = true-from_not (are_equal before.shown c.args.style) (sym c.ne.ensures ∙ c.if-ne.false) in
     subst (λ (same : Bool). Adds g.W.Sink (if same then [] else text) before.output before.output) (sym same)
     (Adds-nil g.W.Sink before.output)

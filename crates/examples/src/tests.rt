@@ -10,8 +10,7 @@ use ansi_screen::{
     Cell, Charsets, MAX_COLUMNS, MAX_ROWS, MIN_COLUMNS, MIN_ROWS, Marks, Part, Place, Screen,
 };
 use ansi_style::Style;
-use anstyle_parse::canon::{Fault, FromWrite, Output};
-use std::process::Abort;
+use anstyle_parse::canon::{FromWrite, Output};
 use std::test::Fail;
 use strip_pieces::Fed;
 
@@ -37,31 +36,24 @@ fn a_quiet_performer_stays(rt: HostRuntime) {
     assert_eq!(rt; quiet.mark, 7);
 }
 
-fn assert_text(rt: &impl Abort, (text, answer): (Vec<u8>, Result<(), Fault>), wanted: &[u8]) {
-    assert!(rt; answer == Ok(()));
-    assert!(rt; text.as_slice() == wanted);
-}
-
 // What the crates' pages say of their examples.
 #[test]
 fn pages(rt: HostRuntime) {
     make_first_calls(&mut ());
-    assert_text(&rt, plain(rt.alloc(), b"\x1b[31mhi"), b"hi");
-    assert_text(&rt, canonical(rt.alloc(), b"\x1b[01mhi"), b"\x1b[1mhi");
-    let bold = b"<pre><span style=\"font-weight:bold;\">&lt;hi</span></pre>";
-    assert_text(&rt, html(rt.alloc(), b"\x1b[1m<hi"), bold);
-}
-
-#[test]
-fn the_style_at_the_end(rt: HostRuntime) {
+    let (text, answer) = plain(rt.alloc(), b"\x1b[31mhi");
+    assert_eq!(rt; (text.as_slice(), answer), (&b"hi"[..], Ok(())));
+    let (text, answer) = canonical(rt.alloc(), b"\x1b[01mhi");
+    assert_eq!(rt; (text.as_slice(), answer), (&b"\x1b[1mhi"[..], Ok(())));
+    let (text, answer) = html(rt.alloc(), b"\x1b[1m<hi");
+    let bold = &b"<pre><span style=\"font-weight:bold;\">&lt;hi</span></pre>"[..];
+    assert_eq!(rt; (text.as_slice(), answer), (bold, Ok(())));
     let mut output = Output::new(FromWrite::new(Vec::new(rt.alloc())));
     write_last_style(b"\x1b[1m\x1b[31m", &mut output);
     let (writer, answer) = output.finish();
-    assert_text(&rt, (writer.into_inner(), answer), b"\x1b[0;1;31m");
-}
-
-#[test]
-fn a_text_in_two_pieces(rt: HostRuntime) {
+    assert_eq!(rt;
+        (writer.into_inner().as_slice(), answer),
+        (&b"\x1b[0;1;31m"[..], Ok(()))
+    );
     let mut room = [0; 64];
     let fed = strip_two_pieces(&mut room);
     let first = Fed {
@@ -72,7 +64,7 @@ fn a_text_in_two_pieces(rt: HostRuntime) {
         taken: 4,
         written: 2,
     };
-    assert!(rt; fed == (Some(first), Some(second)));
+    assert_eq!(rt; fed, (Some(first), Some(second)));
     assert!(rt; room.starts_with(b"hi"));
 }
 
@@ -88,7 +80,8 @@ fn a_screen_shows_a_stream(rt: HostRuntime) -> Result<(), Fail> {
     reachable();
     enclosed();
     reset();
-    assert!(rt; screen.rows() == 1 && screen.columns() == 2);
+    assert_eq!(rt; screen.rows(), 1);
+    assert_eq!(rt; screen.columns(), 2);
     let mut style = Style::default();
     style.bold = true;
     let cell = Cell {
@@ -97,7 +90,7 @@ fn a_screen_shows_a_stream(rt: HostRuntime) -> Result<(), Fail> {
         style,
         part: Part::Whole,
     };
-    assert!(rt; screen.row(0)[1] == cell);
+    assert_eq!(rt; screen.row(0)[1], cell);
     let place = Place {
         row: 0,
         column: 2,
@@ -109,7 +102,7 @@ fn a_screen_shows_a_stream(rt: HostRuntime) -> Result<(), Fail> {
             uses_g1: false,
         },
     };
-    assert!(rt; screen.cursor() == place);
-    assert!(rt; MAX_COLUMNS == 1000 && MAX_ROWS == 1000);
+    assert_eq!(rt; screen.cursor(), place);
+    assert_eq!(rt; (MAX_COLUMNS, MAX_ROWS), (1000, 1000));
     Ok(())
 }

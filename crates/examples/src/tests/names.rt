@@ -26,13 +26,13 @@ use standard_streams::{
 use std::alloc::Global;
 use std::fmt::Debug;
 use std::io;
-use std::io::{IsTerminal, Read, Write};
+use std::io::{ErrorKind, IsTerminal, Read, Write};
 use std::iter::FusedIterator;
-use std::process::{Abort, ExitCode};
+use std::process::ExitCode;
 use std::rt::Env;
 use std::test::Fail;
 use strip_pieces::{Fed, LEAST_ROOM, StreamState};
-use test_streams::{Paper, TROUBLES, Tape, repeated};
+use test_streams::{Paper, TROUBLES, Tape, narrow_papers, repeated};
 
 type Memory = FromWrite<Vec<u8>>;
 
@@ -128,7 +128,7 @@ fn names_of_the_laws(rt: HostRuntime) {
 }
 
 #[test]
-fn names_of_readers_and_writers(rt: HostRuntime) {
+fn names_of_readers_and_writers(rt: HostRuntime) -> Result<(), Fail> {
     is_plain(Fault::Read);
     is_plain(Stop::AtEnd);
     let mut reader = FromRead::new(b"a".as_slice());
@@ -138,62 +138,44 @@ fn names_of_readers_and_writers(rt: HostRuntime) {
     assert!(rt; drive(&mut reader, &mut performer) == Stop::AtEnd);
     assert!(rt; performer.fault().is_none());
     let (writer, answer) = performer.finish();
-    assert!(rt; answer == Ok(()));
-    assert!(rt; writer.into_inner().as_slice() == b"a".as_slice());
-}
-
-#[test]
-fn names_of_buffers(rt: HostRuntime) {
-    is_sink(&memory(rt.alloc()));
+    assert_eq!(rt; answer, Ok(()));
+    is_sink(&writer);
     is_sink(&Buffer::by_line(memory(rt.alloc())));
-    let buffer = Buffer::new(memory(rt.alloc()));
-    assert!(rt; buffer.fault_behind(Fault::Read) == Fault::Read);
-    assert!(rt; buffer.into_inner().into_inner().is_empty());
-}
-
-/// It went well.
-fn assert_well(rt: &impl Abort, (_, answer): (Memory, Result<(), Fault>)) {
-    assert!(rt; answer == Ok(()));
+    let buffer = Buffer::new(writer);
+    assert_eq!(rt; buffer.fault_behind(Fault::Read), Fault::Read);
+    assert_eq!(rt;
+        buffer.into_inner().into_inner().as_slice(),
+        b"a".as_slice()
+    );
+    Ok(())
 }
 
 #[test]
-fn names_of_runs(rt: HostRuntime) {
+fn names_of_runs(rt: HostRuntime) -> Result<(), Fail> {
     let mut reader = FromRead::new(b"a".as_slice());
-    let writer = memory(rt.alloc());
-    assert_well(
-        &rt,
-        write_calls::<CanonWriter<Memory>, FromRead<&[u8]>, Memory>(&mut reader, writer),
+    let (_, answer) = write_calls::<CanonWriter<Memory>, FromRead<&[u8]>, Memory>(
+        &mut reader,
+        memory(rt.alloc()),
     );
-    let writer = memory(rt.alloc());
-    let ran = write_calls_between::<CanonWriter<Memory>, FromRead<&[u8]>, Memory>(
+    assert_eq!(rt; answer, Ok(()));
+    let (_, answer) = write_calls_between::<CanonWriter<Memory>, FromRead<&[u8]>, Memory>(
         b"<",
         &mut reader,
-        writer,
+        memory(rt.alloc()),
         b">",
     );
-    assert_well(&rt, ran);
-    assert_well(&rt, strip(&mut reader, memory(rt.alloc())));
-    assert_well(&rt, convert(b"<", &mut reader, memory(rt.alloc()), b">"));
-}
-
-#[test]
-fn names_of_checkpoints(rt: HostRuntime) {
+    assert_eq!(rt; answer, Ok(()));
     let (text, answer) = checkpoint(&Parser::<Utf8Parser>::new(), memory(rt.alloc()));
-    assert!(rt; answer == Ok(()));
+    assert_eq!(rt; answer, Ok(()));
     assert!(rt; text.into_inner().len() <= MAX_CHECKPOINT);
-}
-
-#[test]
-fn names_of_texts(rt: HostRuntime) {
     assert!(rt; is_layout(b'\t') && !is_layout(0x07));
+    let (_, answer) = strip(&mut reader, memory(rt.alloc()));
+    assert_eq!(rt; answer, Ok(()));
+    let (_, answer) = convert(b"<", &mut reader, memory(rt.alloc()), b">");
+    assert_eq!(rt; answer, Ok(()));
     writes_calls(&Stripper::over(Output::new(memory(rt.alloc()))));
     writes_calls(&HtmlWriter::over(Output::new(memory(rt.alloc()))));
-    let (_, answer) = plain(rt.alloc(), b"a");
-    assert!(rt; answer == Ok(()));
-}
 
-#[test]
-fn names_of_outputs(rt: HostRuntime) {
     let mut output = Output::new(memory(rt.alloc()));
     put_text(&mut output, "<");
     output.put(b"a");
@@ -204,11 +186,15 @@ fn names_of_outputs(rt: HostRuntime) {
     assert!(rt; output.fault().is_none());
     Style::default().write_codes(&mut output);
     write_last_style(b"a", &mut output);
-    assert_well(&rt, output.finish());
+    let (_, answer) = output.finish();
+    assert_eq!(rt; answer, Ok(()));
+    let (_, answer) = plain(rt.alloc(), b"a");
+    assert_eq!(rt; answer, Ok(()));
+    Ok(())
 }
 
 #[test]
-fn names_of_styles() {
+fn names_of_styles_and_pieces(rt: HostRuntime) {
     is_plain(Hue::Black);
     is_plain(Color::Default);
     is_plain(Color::Named(Hue::at(1)));
@@ -219,18 +205,20 @@ fn names_of_styles() {
     let mut style = Style::default();
     is_plain(style);
     style.select(&Params::default());
-}
 
-#[test]
-fn names_of_pieces(rt: HostRuntime) {
     let mut state = StreamState::new();
     let mut room = [0; LEAST_ROOM];
-    let one = Fed {
+    let fed = state.feed(b"a", &mut room);
+    assert!(rt;
+        fed == Some(Fed {
+            taken: 1,
+            written: 1
+        })
+    );
+    is_plain(Fed {
         taken: 1,
         written: 1,
-    };
-    is_plain(one);
-    assert!(rt; state.feed(b"a", &mut room) == Some(one));
+    });
 }
 
 #[test]
@@ -238,10 +226,13 @@ fn names_of_test_streams(rt: HostRuntime) -> Result<(), Fail> {
     is_reader(&Tape::new(b"a"));
     is_reader(&Tape::by_byte(b"a"));
     is_writer(&Paper::new(rt.alloc()));
-    is_writer(&Paper::narrow(rt.alloc(), 1, TROUBLES[0]));
+    is_writer(&Paper::narrow(rt.alloc(), 1, Some(ErrorKind::Other)));
     is_writer(&Paper::failing_once(rt.alloc(), 1, None));
-    let twice = repeated(rt.alloc(), &[(b"a", 2)])?;
-    assert!(rt; twice.as_slice() == b"aa".as_slice());
+    let _ = narrow_papers(rt.alloc(), 1, TROUBLES[0]);
+    assert_eq!(rt;
+        repeated(rt.alloc(), &[(b"a", 2)])?.as_slice(),
+        b"aa".as_slice()
+    );
     Ok(())
 }
 

@@ -20,11 +20,13 @@ class Program:
 class Mode:
     """The words that choose it; rows of what is read and the text for it, by their names; a
     line and its text, which does not depend on what came before; hostile streams, each with
-    its text or the digest of it; and what is written before and after each text."""
+    its text or the digest of it; and what is written before and after each text. `stays` says
+    that each text is its own text; `cut` is a stream, and what is written of the bytes before
+    each of its bytes, and of all of them."""
 
-    def __init__(self, words, rows, line, hostile, head=b"", tail=b""):
+    def __init__(self, words, rows, line, hostile, head=b"", tail=b"", stays=False, cut=None):
         self.words, self.rows, self.line, self.hostile = words, rows, line, hostile
-        self.head, self.tail = head, tail
+        self.head, self.tail, self.stays, self.cut = head, tail, stays, cut
 
     def whole(self, text):
         return self.head + text + self.tail
@@ -115,6 +117,142 @@ LOG_ROWS = [
         b"\xc3\x1b[m",
         lines(b"print U+FFFD", b"csi_dispatch [0] - false 6D"),
     ),
+    ("32 fields", b"\x1b[" + b";" * 31 + b"m", lines(b"csi_dispatch [" + ZEROS + b"] - false 6D")),
+    ("33 fields", b"\x1b[" + b";" * 32 + b"m", lines(b"csi_dispatch [" + ZEROS + b"] - true 6D")),
+    ("a number past the largest", b"\x1b[99999m", lines(b"csi_dispatch [65535] - false 6D")),
+    ("a marker and two intermediates", b"\x1b[?! h", lines(b"csi_dispatch [0] 3F21 true 68")),
+    ("a control in a control sequence", b"\x1b[1\nm", lines(b"execute 0A", b"csi_dispatch [1] - false 6D")),
+    ("a control sequence cancelled", b"\x1b[1\x18m", lines(b"execute 18", b"print U+006D")),
+    ("a digit after an intermediate", b"\x1b[1 2m", b""),
+    ("17 parts", b"\x1b];;;;;;;;;;;;;;;;x\x07", lines(b"osc_dispatch true" + b" -" * 16)),
+    ("a command with no text", b"\x1b]\x07", lines(b"osc_dispatch true -")),
+    (
+        "9C in the header of a string, 7F and 80 in it",
+        b"\x1bP1\x9cqA\x7f\x80\x9c",
+        lines(b"hook [1] - false 71", b"put 41", b"unhook"),
+    ),
+    ("a string cancelled", b"\x1bPq\x18", lines(b"hook [0] - false 71", b"unhook", b"execute 18")),
+    ("a surrogate", b"\xed\xa0\x80", lines(b"print U+FFFD", b"execute 80")),
+    (
+        "a character broken by ESC, and ESC again",
+        b"\xc3\x1b\x1b[m",
+        lines(b"print U+FFFD", b"csi_dispatch [0] - false 6D"),
+    ),
+    (
+        "a command ended by ESC, and ESC again",
+        b"\x1b]a\x1b\x1b[m",
+        lines(b"osc_dispatch false 61", b"csi_dispatch [0] - false 6D"),
+    ),
+    ("a last field with no digit", b"\x1b[4;m", lines(b"csi_dispatch [4;0] - false 6D")),
+    ("a private mode", b"\x1b[?1049h", lines(b"csi_dispatch [1049] 3F false 68")),
+    ("an escape sequence that ends in [", b"\x1b([", lines(b"esc_dispatch 28 false 5B")),
+    ("four intermediates", b"\x1b !\"#0", lines(b"esc_dispatch 2021 true 30")),
+    ("9C in a command", b"\x1b]a\x9cb\x07", lines(b"osc_dispatch true 619C62")),
+    ("BEL in a string of no call", b"\x1bXa\x07b\x9cc", lines(b"print U+0063")),
+    ("a digit after an intermediate of a string", b"\x1bP1 2q\x9cA", lines(b"print U+0041")),
+    ("a control after ESC", b"\x1b\nPq", lines(b"execute 0A", b"hook [0] - false 71")),
+    ("a control in the header of a string", b"\x1bP\nq", lines(b"hook [0] - false 71")),
+    ("80 in a control sequence", b"\x1b[\x801m", lines(b"csi_dispatch [1] - false 6D")),
+    ("a command cancelled", b"\x1b]0;x\x18", lines(b"osc_dispatch false 30 78", b"execute 18")),
+    ("90 and 9C after a character", b"\xf0\x9f\x98\x80\x90\x9c", lines(b"print U+1F600", b"execute 9C")),
+    ("CAN in text", b"A\x18\n", lines(b"print U+0041", b"execute 18", b"execute 0A")),
+    ("a control sequence broken by the next", b"\x1b[1\x1b[2m", lines(b"csi_dispatch [2] - false 6D")),
+    ("ESC twice", b"\x1b\x1bc", lines(b"esc_dispatch - false 63")),
+    ("7F and a control after ESC", b"\x1b\x7f\nc", lines(b"execute 0A", b"esc_dispatch - false 63")),
+    ("ESC cancelled", b"\x1b\x18c", lines(b"execute 18", b"print U+0063")),
+    (
+        "a private mode with no digit",
+        b"\x1b[?h\x1bc",
+        lines(b"csi_dispatch [0] 3F false 68", b"esc_dispatch - false 63"),
+    ),
+    ("two markers", b"\x1b[<?m", b""),
+    ("a marker after a digit", b"\x1b[1<\n2mA", lines(b"execute 0A", b"print U+0041")),
+    ("two empty parts", b"\x1b];\x07", lines(b"osc_dispatch true - -")),
+    (
+        "a control in a command",
+        b"\x1b]a\nb\x1b[m",
+        lines(b"osc_dispatch false 6162", b"csi_dispatch [0] - false 6D"),
+    ),
+    (
+        "a control before a command",
+        b"\x1b\n]a\x18",
+        lines(b"execute 0A", b"osc_dispatch false 61", b"execute 18"),
+    ),
+    (
+        "a string ended by the next",
+        b"\x1bPqA\x1bPr",
+        lines(b"hook [0] - false 71", b"put 41", b"unhook", b"hook [0] - false 72"),
+    ),
+    ("33 fields of a string", b"\x1bP" + b";" * 32 + b"q", lines(b"hook [" + ZEROS + b"] - true 71")),
+    ("two markers of a string", b"\x1bP<1?qA\x9cB", lines(b"print U+0042")),
+    ("a control in a string", b"\x1bPq\n\x7f\x80\x9c", lines(b"hook [0] - false 71", b"put 0A", b"unhook")),
+    ("the header of a string cancelled", b"\x1bP1\x18", lines(b"execute 18")),
+    ("a string of no call cancelled", b"\x1b_a\x18", lines(b"execute 18")),
+    ("9C in the header of a string", b"\x1bP1\x9cqA", lines(b"hook [1] - false 71", b"put 41")),
+    (
+        "a character of two bytes broken by CAN",
+        b"\xc2\x18A",
+        lines(b"print U+FFFD", b"execute 18", b"print U+0041"),
+    ),
+    (
+        "a character of three bytes broken by ESC",
+        b"\xe2\x82\x1bc",
+        lines(b"print U+FFFD", b"esc_dispatch - false 63"),
+    ),
+    ("C3 after ESC", b"\x1b\xc3c", lines(b"esc_dispatch - false 63")),
+    ("a character in a command", b"\x1b]\xc3\xa9\x07", lines(b"osc_dispatch true C3A9")),
+    (
+        "a string ended by ESC, and ESC again",
+        b"\x1bPq\x1b\x1b[m",
+        lines(b"hook [0] - false 71", b"unhook", b"csi_dispatch [0] - false 6D"),
+    ),
+    (
+        "a character of four bytes broken by ESC, and ESC again",
+        b"\xf0\x9f\x98\x1b\x1b[m",
+        lines(b"print U+FFFD", b"csi_dispatch [0] - false 6D"),
+    ),
+    ("digits cancelled", b"\x1b[99\x18A", lines(b"execute 18", b"print U+0041")),
+    ("F0 broken by ESC", b"\xf0\x1b[A", lines(b"print U+FFFD", b"csi_dispatch [0] - false 41")),
+    (
+        "a character of four bytes broken by CAN",
+        b"\xf0\x9f\x18A",
+        lines(b"print U+FFFD", b"execute 18", b"print U+0041"),
+    ),
+    (
+        "a character of four bytes broken by a command",
+        b"\xf0\x9f\x98\x1b]a\x07",
+        lines(b"print U+FFFD", b"osc_dispatch true 61"),
+    ),
+    ("C0", b"\xc0A", lines(b"print U+0041")),
+    ("F5", b"\xf5A", lines(b"print U+0041")),
+    ("a character broken by the same", b"\xc3\xc3\xa9", lines(b"print U+FFFD", b"print U+00E9")),
+    ("a character broken by another", b"\xc3\xe2\x82\xac", lines(b"print U+FFFD", b"print U+20AC")),
+    (
+        "90 and 9C after two characters",
+        b"\xe2\x82\xac\xf0\x9f\x98\x80\x90\x9c",
+        lines(b"print U+20AC", b"print U+1F600", b"execute 9C"),
+    ),
+    (
+        "the last character, and a surrogate",
+        b"\xf4\x8f\xbf\xbf\xed\xa0\x80",
+        lines(b"print U+10FFFF", b"print U+FFFD", b"execute 80"),
+    ),
+    ("a title", b"\x1b]2;ti\x07", lines(b"osc_dispatch true 32 7469")),
+    (
+        "1024 bytes of a command, and a part",
+        b"\x1b]" + b"a" * 1024 + b";b\x07",
+        lines(b"osc_dispatch true " + b"61" * 1024),
+    ),
+    (
+        "1023 bytes of a command, and two of a part",
+        b"\x1b]" + b"a" * 1023 + b";bc\x07",
+        lines(b"osc_dispatch true " + b"61" * 1023 + b" 62"),
+    ),
+    (
+        "17 parts, the last of 1024 bytes",
+        b"\x1b]a" + b";" * 16 + b"x" * 1024 + b"\x07",
+        lines(b"osc_dispatch true 61" + b" -" * 15),
+    ),
 ]
 
 CANON_ROWS = [
@@ -126,7 +264,53 @@ CANON_ROWS = [
     ("a character", b"\xe2\x82\xac", b"\xe2\x82\xac"),
     ("an unfinished character", b"\xe2\x82", b""),
     ("a character broken by a sequence", b"\xc3\x1b[m", b"\xef\xbf\xbd\x1b[0m"),
+    ("a number past the largest", b"\x1b[99999m", b"\x1b[65535m"),
+    ("a marker and two intermediates", b"\x1b[?! h", b"\x1b[?0! h"),
+    ("a control in a control sequence", b"\x1b[1\nm", b"\n\x1b[1m"),
+    ("a control sequence cancelled", b"\x1b[1\x18m", b"\x18m"),
+    ("a digit after an intermediate", b"\x1b[1 2m", b""),
+    ("a command with no text", b"\x1b]\x07", b"\x1b]\x07"),
+    ("9C in the header of a string, 7F and 80 in it", b"\x1bP1\x9cqA\x7f\x80\x9c", b"\x1bP1qA\x9c"),
+    ("a string cancelled", b"\x1bPq\x18", b"\x1bP0q\x9c\x18"),
+    ("a surrogate", b"\xed\xa0\x80", b"\xef\xbf\xbd\x80"),
+    ("a last field with no digit", b"\x1b[4;m", b"\x1b[4;0m"),
+    ("a private mode", b"\x1b[?1049h", b"\x1b[?1049h"),
+    ("an escape sequence that ends in [", b"\x1b([", b"\x1b(["),
+    ("four intermediates", b"\x1b !\"#0", b"\x1b ! 0"),
+    ("9C in a command", b"\x1b]a\x9cb\x07", b"\x1b]a\x9cb\x07"),
+    ("BEL in a string of no call", b"\x1bXa\x07b\x9cc", b"c"),
+    ("a digit after an intermediate of a string", b"\x1bP1 2q\x9cA", b"A"),
+    ("a control after ESC", b"\x1b\nPq", b"\n\x1bP0q"),
+    ("a control in the header of a string", b"\x1bP\nq", b"\x1bP0q"),
+    ("80 in a control sequence", b"\x1b[\x801m", b"\x1b[1m"),
+    ("a command cancelled", b"\x1b]0;x\x18", b"\x1b]0;x\x1bX\x9c\x18"),
+    ("90 and 9C after a character", b"\xf0\x9f\x98\x80\x90\x9c", b"\xf0\x9f\x98\x80\x9c"),
+    ("a control sequence broken by the next", b"\x1b[1\x1b[2m", b"\x1b[2m"),
+    ("a control before a command", b"\x1b\n]a\x18", b"\n\x1b]a\x1bX\x9c\x18"),
+    ("a control in a command", b"\x1b]a\nb\x1b[m", b"\x1b]ab\x1bX\x9c\x1b[0m"),
+    ("a string ended by the next", b"\x1bPqA\x1bPr", b"\x1bP0qA\x9c\x1bP0r"),
+    ("32 fields", b"\x1b[" + b";" * 31 + b"m", b"\x1b[" + b"0;" * 31 + b"0m"),
+    ("33 fields", b"\x1b[" + b";" * 32 + b"m", b"\x1b[" + b"0;" * 32 + b"m"),
+    (
+        "1024 bytes of a command, and a part",
+        b"\x1b]" + b"a" * 1024 + b";b\x07",
+        b"\x1b]" + b"a" * 1024 + b"\x07",
+    ),
+    ("17 parts", b"\x1b]" + b";" * 16 + b"x\x07", b"\x1b]" + b";" * 15 + b"\x07"),
+    ("33 fields of a string", b"\x1bP" + b";" * 32 + b"q", b"\x1bP" + b"0;" * 32 + b"q"),
 ]
+
+# An operating system command and an escape sequence: by the sixth byte the command has ended.
+LOG_CUT = (
+    b"\x1b]0;x\x1b\\",
+    [b""] * 6
+    + [
+        lines(b"osc_dispatch false 30 78"),
+        lines(b"osc_dispatch false 30 78", b"esc_dispatch - false 5C"),
+    ],
+)
+
+CANON_CUT = (b"\x1b]0;x\x1b\\", [b""] * 6 + [b"\x1b]0;x\x1bX\x9c", b"\x1b]0;x\x1bX\x9c\x1b\\"])
 
 LOG_HOSTILE = [
     ("an operating system command that never ends", OSC, text(b"")),
@@ -158,7 +342,18 @@ STRIP_ROWS = [
     ("a broken character", b"\xc3(", b"\xef\xbf\xbd("),
     ("a character broken by a sequence", b"\xc3\x1b[mA", b"\xef\xbf\xbdA"),
     ("text, stripped again", b"hi\n\x7f\xc2\x80\xef\xbf\xbd(", b"hi\n\x7f\xc2\x80\xef\xbf\xbd("),
+    ("controls", b"a\tb\x0bc\x0cd\x08e\x00", b"a\tbcde"),
+    ("characters", b"\xe2\x82\xac\xf0\x9f\x98\x80", b"\xe2\x82\xac\xf0\x9f\x98\x80"),
+    ("bytes that begin no character", b"a\xff\xc0b", b"ab"),
+    ("a link", b"\x1b]8;;http://a/\x1b\\link\x1b]8;;\x1b\\!", b"link!"),
+    ("layout in a device control string", b"\x1bPq\n\t\rA", b""),
+    ("strings of no call", b"\x1b_a\x9c\x1b^b\x9c\x1bXc\x9cd", b"d"),
+    ("escape sequences", b"\x1b(B\x1b7\x1bM.", b"."),
+    ("an unfinished sequence", b"text\x1b[3", b"text"),
+    ("a character broken by a command", b"\xe2\x82\x1b]0;x\x07\n", b"\xef\xbf\xbd\n"),
 ]
+
+STRIP_CUT = (b"\x1b[31mhi\x07\x1b[0m\n", [b""] * 6 + [b"h"] + [b"hi"] * 6 + [b"hi\n"])
 
 STRIP_HOSTILE = [
     (name, blocks, text(b"") if name != "lead bytes" else times(b"\xef\xbf\xbd", BROKEN))
@@ -167,13 +362,95 @@ STRIP_HOSTILE = [
     ("random bytes", random_bytes, STRIP_DIGEST),
 ]
 
-# (what has colours or markup in it is read by pages.py)
-HTML_ROWS = [
-    ("plain text", b"hi\t\r\n", b"hi\t\r\n"),
-    ("an operating system command", b"\x1b]0;x\x07a\n", b"a\n"),
-    ("colours of no text", b"\x1b[31m\x1b[1m", b""),
-    ("a broken character", b"\xc3(", b"\xef\xbf\xbd("),
-]
+
+
+def span(style, text=b"x"):
+    return b'<span style="%s">%s</span>' % (style, text)
+
+
+BOTH, LIGHT, DARK = "both", "light", "dark"
+
+
+def themed(scheme, name, light, dark):
+    """A colour of the page: for one scheme, or for light pages first and then for both."""
+    plain = b"%s:%s;" % (name, dark if scheme == DARK else light)
+    return plain + b"%s:light-dark(%s,%s);" % (name, light, dark) if scheme == BOTH else plain
+
+
+# Clauses say that the HTML is read back, that it has as much contrast as WCAG asks for, and not that it
+# has as few spans as these rows, nor that the definitions' colours and declarations are those of CSS
+# and xterm.
+def html_rows(scheme):
+    shades = lambda light, dark: themed(scheme, b"color", light, dark)
+    grounds = lambda light, dark: themed(scheme, b"background-color", light, dark)
+    reversed_ground = grounds(b"#000000", b"#ffffff")
+    return [
+        ("plain text", b"hi\t\r\n", b"hi\t\r\n"),
+        ("an operating system command", b"\x1b]0;x\x07a\n", b"a\n"),
+        ("colours of no text", b"\x1b[31m\x1b[1m", b""),
+        ("a broken character", b"\xc3(", b"\xef\xbf\xbd("),
+        ("a tab in text", b"plain\tx\r\n", b"plain\tx\r\n"),
+        ("markup", b"<b>&\"'</b>", b"&lt;b&gt;&amp;&quot;&#39;&lt;/b&gt;"),
+        ("references", b"&amp;&#60;", b"&amp;amp;&amp;#60;"),
+        ("characters", "n\u00e4\u00efve \u20ac \U0001f600".encode(), "n\u00e4\u00efve \u20ac \U0001f600".encode()),
+        ("a character broken by markup", b"\xc3<b", "\ufffd&lt;b".encode()),
+        ("bytes that begin no character", b"\xffa\x80\x9bb", b"ab"),
+        ("controls", b"a\x00\x07\x08\x0bb", b"ab"),
+        ("a script in a title", b"\x1b]0;<script>alert(1)</script>\x07x", b"x"),
+        ("a script in a link", b"\x1b]8;;javascript:alert(1)\x1b\\link\x1b]8;;\x1b\\", b"link"),
+        ("markup in strings", b"\x1bPq<b>\x1b\\\x1b_<b>\x9c\x1b[2J\x1b[?25lx", b"x"),
+        ("bold, and no more", b"\x1b[1mb\x1b[m.", span(b"font-weight:bold;", b"b") + b"."),
+        ("bold to the end", b"\x1b[1mb", span(b"font-weight:bold;", b"b")),
+        ("styles of no text", b"\x1b[1m\x1b[m\x1b[1m", b""),
+        ("bold, selected again", b"\x1b[1ma\x1b[22;1mb", span(b"font-weight:bold;", b"ab")),
+        (
+            "bold, then italic too",
+            b"\x1b[1ma\x1b[3mb",
+            span(b"font-weight:bold;", b"a") + span(b"font-weight:bold;font-style:italic;", b"b"),
+        ),
+        ("bold on two lines", b"\x1b[1ma\nb", span(b"font-weight:bold;", b"a\nb")),
+        ("hidden", b"\x1b[8mx", span(b"visibility:hidden;")),
+        (
+            "lines and blink",
+            b"\x1b[4:3;53;9;5mx",
+            span(b"text-decoration-line: underline overline line-through blink;text-decoration-style:wavy;"),
+        ),
+        ("underlined", b"\x1b[4mx", span(b"text-decoration-line: underline;")),
+        ("red", b"\x1b[31mx", span(shades(b"#cf222e", b"#ff7b72"))),
+        ("bright white", b"\x1b[97mx", span(shades(b"#656d76", b"#ffffff"))),
+        ("colour 9", b"\x1b[38;5;9mx", span(shades(b"#a40e26", b"#ffa198"))),
+        # (on a background that the stream coloured, xterm's red and yellow)
+        ("yellow on red", b"\x1b[33;41mx", span(b"color:#cdcd00;background-color:#cd0000;")),
+        ("reverse yellow on red", b"\x1b[7;33;41mx", span(b"color:#cd0000;background-color:#cdcd00;")),
+        # (a background alone, under white or black)
+        ("on red", b"\x1b[41mx", span(b"color:#ffffff;background-color:#cd0000;")),
+        ("on white", b"\x1b[48;5;231mx", span(b"color:#000000;background-color:#ffffff;")),
+        ("reverse red", b"\x1b[7;31mx", span(b"color:#ffffff;background-color:#cd0000;")),
+        # (shades of a colour by red, green and blue; and of xterm's cube and greys)
+        ("red, green and blue", b"\x1b[38;2;1;171;255mx", span(shades(b"#0075af", b"#01abff"))),
+        ("colour 16", b"\x1b[38;5;16mx", span(shades(b"#000000", b"#909090"))),
+        ("colour 196", b"\x1b[38;5;196mx", span(shades(b"#df0000", b"#ff3030"))),
+        ("colour 67", b"\x1b[38;5;67mx", span(shades(b"#537699", b"#698fb4"))),
+        ("colour 231", b"\x1b[38;5;231mx", span(shades(b"#6f6f6f", b"#ffffff"))),
+        ("colour 232", b"\x1b[38;5;232mx", span(shades(b"#080808", b"#939393"))),
+        ("colour 255", b"\x1b[38;5;255mx", span(shades(b"#686868", b"#eeeeee"))),
+        # (the page's own colours, and red, on a background of its own text)
+        ("reverse", b"\x1b[7mx", span(shades(b"#ffffff", b"#000000") + reversed_ground)),
+        ("reverse on red", b"\x1b[7;41mx", span(shades(b"#ff7b72", b"#cf222e") + reversed_ground)),
+        # (dim is a shade of its own; what is not read when it is dim, stays)
+        ("dim", b"\x1b[2mx", span(shades(b"#4f4f4f", b"#afafaf"))),
+        ("dim red", b"\x1b[2;31mx", span(shades(b"#b4535a", b"#be7570"))),
+        ("dim colour 196", b"\x1b[2;38;5;196mx", span(shades(b"#cf4040", b"#d27070"))),
+        ("dim on green", b"\x1b[2;42mx", span(b"color:#004000;background-color:#00cd00;")),
+        ("dim on red", b"\x1b[2;41mx", span(b"color:#ffffff;background-color:#cd0000;")),
+        ("dim and reverse", b"\x1b[2;7mx", span(shades(b"#afafaf", b"#4f4f4f") + reversed_ground)),
+    ]
+
+
+# The second span is open where the stream ends.
+RED = span(themed(BOTH, b"color", b"#cf222e", b"#ff7b72"), b"h")
+BOLD_RED = span(themed(BOTH, b"color", b"#cf222e", b"#ff7b72") + b"font-weight:bold;", b"i")
+HTML_CUT = (b"\x1b[31mh\x1b[1mi", [b""] * 6 + [RED] * 5 + [RED + BOLD_RED])
 
 HTML_HOSTILE = STRIP_HOSTILE[:-1]
 
@@ -206,7 +483,6 @@ PAGE_TAIL = b"""\
 
 TITLE = "a<b>&\"' </title><script>"
 TITLED_HEAD = PAGE_HEAD.replace(b"Terminal output", b"a&lt;b&gt;&amp;&quot;&#39; &lt;/title&gt;&lt;script&gt;")
-
 
 # The same for light pages alone, and for dark ones: black on white, and white on Chromium's dark ground.
 ROOT = b":root { color-scheme: light dark; }"
@@ -248,34 +524,34 @@ PROGRAMS = [
             )
         ],
         [
-            Mode(words, rows, line, hostile)
-            for words, rows, line, hostile in (
-                ([], LOG_ROWS, (b"A", lines(b"print U+0041")), []),
-                (["log"], LOG_ROWS, (b"A", lines(b"print U+0041")), LOG_HOSTILE),
-                (["canon"], CANON_ROWS, (b"\x1b[mA\n", b"\x1b[0mA\n"), CANON_HOSTILE),
-            )
+            Mode([], LOG_ROWS, (b"A", lines(b"print U+0041")), []),
+            Mode(["log"], LOG_ROWS, (b"A", lines(b"print U+0041")), LOG_HOSTILE, cut=LOG_CUT),
+            Mode(["canon"], CANON_ROWS, (b"\x1b[mA\n", b"\x1b[0mA\n"), CANON_HOSTILE, stays=True, cut=CANON_CUT),
         ],
     ),
     Program(
         "ansi2text",
         refused_by("ansi2text", ["--page"], ["text"]),
-        [Mode([], STRIP_ROWS, (b"\x1b[1mA\n", b"A\n"), STRIP_HOSTILE)],
+        [Mode([], STRIP_ROWS, (b"\x1b[1mA\n", b"A\n"), STRIP_HOSTILE, stays=True, cut=STRIP_CUT)],
         options=[],
     ),
     Program(
         "ansi2html",
-        refused_by("ansi2html", ["--title"], ["--titles=x"], ["--Page"], ["pages"], ["--page="], ["--light=1"], ["dark"], ["fragment"]),
+        refused_by(
+            "ansi2html",
+            *(["--title"], ["--titles=x"], ["--Page"], ["pages"], ["--page="], ["--light=1"], ["dark"], ["fragment"]),
+        ),
         [
-            Mode(words, HTML_ROWS, (b"\x1b[mA\n", b"A\n"), hostile, head, tail)
-            for words, hostile, head, tail in (
-                ([], HTML_HOSTILE, b"", b""),
-                (["page"], HTML_HOSTILE, PAGE_HEAD, PAGE_TAIL),
-                (["--page"], [], PAGE_HEAD, PAGE_TAIL),
-                (["--title=" + TITLE, "--page"], [], TITLED_HEAD, PAGE_TAIL),
-                (["--title=first", "page", "--title=" + TITLE], [], TITLED_HEAD, PAGE_TAIL),
-                (["--dark", "--light"], [], b"", b""),
-                (["--dark", "--page", "--light"], [], LIGHT_HEAD, PAGE_TAIL),
-                (["--light", "--dark", "--title=" + TITLE], [], DARK_TITLED_HEAD, PAGE_TAIL),
+            Mode(words, html_rows(scheme), (b"\x1b[mA\n", b"A\n"), hostile, head, tail, cut=cut)
+            for words, scheme, hostile, head, tail, cut in (
+                ([], BOTH, HTML_HOSTILE, b"", b"", HTML_CUT),
+                (["page"], BOTH, HTML_HOSTILE, PAGE_HEAD, PAGE_TAIL, None),
+                (["--page"], BOTH, [], PAGE_HEAD, PAGE_TAIL, HTML_CUT),
+                (["--title=" + TITLE, "--page"], BOTH, [], TITLED_HEAD, PAGE_TAIL, None),
+                (["--title=first", "page", "--title=" + TITLE], BOTH, [], TITLED_HEAD, PAGE_TAIL, None),
+                (["--dark", "--light"], LIGHT, [], b"", b"", None),
+                (["--dark", "--page", "--light"], LIGHT, [], LIGHT_HEAD, PAGE_TAIL, None),
+                (["--light", "--dark", "--title=" + TITLE], DARK, [], DARK_TITLED_HEAD, PAGE_TAIL, None),
             )
         ],
         options=["--page", "--title=TEXT", "--light", "--dark"],

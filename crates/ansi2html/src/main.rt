@@ -2,8 +2,6 @@
 #![tactic(auto)]
 
 mod form;
-#[cfg(test)]
-mod tests;
 mod words;
 
 use ansi_html::convert;

@@ -1,8 +1,6 @@
 //! Writes what a terminal's screen shows at the end of standard input, as text.
 #![tactic(auto)]
 
-#[cfg(test)]
-mod tests;
 mod words;
 
 use ansi_screen::Screen;

@@ -1,9 +1,6 @@
 //! Strips standard input of its escapes, to standard output.
 #![tactic(auto)]
 
-#[cfg(test)]
-mod tests;
-
 use ansi_strip::strip;
 use anstyle_parse::canon::FromRead;
 use standard_streams::{answered, asked_of, buffered, ended_with_reason, failed, given_words};

@@ -1,6 +1,5 @@
-//! Rows that were worked by hand, by the library that they are of.
-mod html;
+//! Rows that were worked by hand, by the library that they are of, and streams that fail.
+mod faults;
 mod pieces;
 mod screen;
-mod strip;
 mod style;

@@ -1,5 +1,7 @@
-//! Worked rows for the table, the decoder, parameters and parsers, and writers that fail.
+//! Worked rows for the table, the decoder, parameters and parsers, and readers and writers that fail.
 mod accumulators;
+mod adapters;
+mod buffered;
 mod checkpoints;
 mod engine;
 mod failing;

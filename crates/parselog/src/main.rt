@@ -3,8 +3,6 @@
 
 mod log;
 mod run;
-#[cfg(test)]
-mod tests;
 mod words;
 
 use anstyle_parse::canon::FromRead;

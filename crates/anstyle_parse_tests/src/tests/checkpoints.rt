@@ -3,50 +3,66 @@
 use super::failing::Failing;
 use super::lines::{lines_of, parser_after};
 use anstyle_parse::canon::{Fault, FromWrite, MAX_CHECKPOINT, checkpoint};
+use arrayvec::ArrayVec;
 use std::process::Abort;
+
+// Where a writer has no more room, what went there is the front of the text, and nothing is flushed.
+fn assert_cut_off(rt: &impl Abort, history: &[u8], text: &[u8], room: usize) {
+    let parser = parser_after(history);
+    let (sink, answer) = checkpoint(&parser, Failing::new(room, 7, false));
+    assert!(rt;
+        answer == Err(Fault::Write) && sink.flushes == 0,
+        "{history:?}, room {room}"
+    );
+    assert!(rt;
+        Some(sink.taken.as_slice()) == text.get(..room),
+        "{history:?}, room {room}"
+    );
+    let (sink, answer) = checkpoint(&parser, FromWrite::new(Failing::new(room, 7, false)));
+    let sink = sink.into_inner();
+    assert!(rt;
+        answer == Err(Fault::Write) && sink.flushes == 0,
+        "{history:?}, room {room}"
+    );
+    assert!(rt;
+        Some(sink.taken.as_slice()) == text.get(..room),
+        "{history:?}, room {room}"
+    );
+}
+
+// The checkpoint of a parser, by a writer whose flush goes well or fails: flushed once.
+fn checkpoint_of(rt: &impl Abort, history: &[u8], flush_fails: bool) -> ArrayVec<u8, 2048> {
+    let writer = Failing::new(2048, 7, flush_fails);
+    let (sink, answer) = checkpoint(&parser_after(history), writer);
+    let wanted = if flush_fails {
+        Err(Fault::Flush)
+    } else {
+        Ok(())
+    };
+    assert!(rt; answer == wanted && sink.flushes == 1, "{history:?}");
+    let Failing { taken, .. } = sink;
+    taken
+}
 
 // What the parser of a history, and one that is resumed from its checkpoint, make of further
 // bytes. Answers how long the checkpoint is.
 fn assert_resumed(rt: &impl Abort, history: &[u8], then: &[u8], lines: &str) -> usize {
-    let mut parser = parser_after(history);
-    let (sink, answer) = checkpoint(&parser, Failing::new(2048, 7, false));
-    assert!(rt; answer == Ok(()), "{history:?}");
-    assert!(rt; sink.flushes == 1, "{history:?}");
-    let text = sink.taken.as_slice();
+    let text = checkpoint_of(rt, history, false);
+    let text = text.as_slice();
     assert!(rt; text.len() <= MAX_CHECKPOINT, "{history:?}");
-
-    let mut resumed = parser_after(text);
-    let calls = lines_of(&mut resumed, then);
+    assert!(rt;
+        checkpoint_of(rt, history, true).as_slice() == text,
+        "{history:?}"
+    );
+    for room in 0..text.len() {
+        assert_cut_off(rt, history, text, room);
+    }
+    let calls = lines_of(&mut parser_after(text), then);
     assert!(rt;
         calls.as_str() == lines,
         "{history:?} is resumed to {calls}"
     );
-
-    for room in 0..text.len() {
-        let (sink, answer) = checkpoint(&parser, Failing::new(room, 7, false));
-        assert!(rt; answer == Err(Fault::Write), "{history:?}, room {room}");
-        assert!(rt;
-            sink.taken.as_slice() == &text[..room],
-            "{history:?}, room {room}"
-        );
-        assert!(rt; sink.flushes == 0, "{history:?}, room {room}");
-
-        let (sink, answer) = checkpoint(&parser, FromWrite::new(Failing::new(room, 7, false)));
-        let sink = sink.into_inner();
-        assert!(rt; answer == Err(Fault::Write), "{history:?}, room {room}");
-        assert!(rt;
-            sink.taken.as_slice() == &text[..room],
-            "{history:?}, room {room}"
-        );
-        assert!(rt; sink.flushes == 0, "{history:?}, room {room}");
-    }
-
-    let (sink, answer) = checkpoint(&parser, Failing::new(2048, 7, true));
-    assert!(rt; answer == Err(Fault::Flush), "{history:?}");
-    assert!(rt; sink.taken.as_slice() == text, "{history:?}");
-    assert!(rt; sink.flushes == 1, "{history:?}");
-
-    let calls = lines_of(&mut parser, then);
+    let calls = lines_of(&mut parser_after(history), then);
     assert!(rt; calls.as_str() == lines, "{history:?} goes on with {calls}");
     text.len()
 }

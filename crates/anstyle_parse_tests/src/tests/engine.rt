@@ -3,8 +3,12 @@
 ghost use Rattle.std.specs.Prelude.{None, false};
 
 use super::failing::Failing;
-use anstyle_parse::canon::{CanonWriter, Fault, Source, write_calls_between};
+use anstyle_parse::canon::{
+    CanonWriter, Fault, FromRead, FromWrite, Source, write_calls, write_calls_between,
+};
 use std::process::Abort;
+use std::test::Fail;
+use test_streams::{Paper, Tape, repeated};
 
 const HEAD: &[u8] = b"<<";
 
@@ -116,4 +120,16 @@ fn tails_after_a_failed_read(rt: HostRuntime) {
         5,
         0,
     );
+}
+
+/// A run asks for 4096 bytes a read, no more and no fewer, until a read gives none.
+#[test]
+fn pieces(rt: HostRuntime) -> Result<(), Fail> {
+    let input = repeated(rt.alloc(), &[(b"a", 10_000)])?;
+    let mut reader = FromRead::new(Tape::new(input.as_slice()));
+    let writer = FromWrite::new(Paper::new(rt.alloc()));
+    let (_, answer) = write_calls::<CanonWriter<_>, _, _>(&mut reader, writer);
+    let tape = reader.into_inner();
+    assert!(rt; answer == Ok(()) && tape.longest == 4096 && tape.reads == 4);
+    Ok(())
 }

@@ -9,11 +9,17 @@ use std::fmt::Write;
 
 /// A line for each call.
 #[derive(Default, Drop)]
-struct Lines {
-    text: ArrayString<512>,
+pub struct Lines {
+    pub text: ArrayString<512>,
 }
 
 impl Lines {
+    pub fn new() -> Lines {
+        Lines {
+            text: ArrayString::new(),
+        }
+    }
+
     /// Bytes by two digits each, and `-` for none.
     fn add_bytes(&mut self, bytes: &[u8]) {
         let _ = write!(self.text, " ");
@@ -91,7 +97,7 @@ impl PerformText for Lines {
 /// The calls that a new parser makes of two pieces, with texts at once.
 pub fn lines_of_texts(first: &[u8], second: &[u8]) -> ArrayString<512> {
     let mut parser = Parser::<Utf8Parser>::new();
-    let mut lines = Lines::default();
+    let mut lines = Lines::new();
     parser.advance_texts(&mut lines, first);
     parser.advance_texts(&mut lines, second);
     let Lines { text } = lines;
@@ -110,7 +116,7 @@ pub fn parser_after(bytes: &[u8]) -> Parser
 
 /// The calls that the parser makes of these bytes.
 pub fn lines_of(parser: &mut Parser, bytes: &[u8]) -> ArrayString<512> {
-    let mut lines = Lines::default();
+    let mut lines = Lines::new();
     parser.advance_all(&mut lines, bytes);
     let Lines { text } = lines;
     text

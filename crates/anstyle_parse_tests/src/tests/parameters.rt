@@ -2,6 +2,8 @@
 ghost use Rattle.std.specs.Prelude.{⊤};
 
 use anstyle_parse::{Params, Parser, Perform, Utf8Parser};
+use arrayvec::ArrayString;
+use std::fmt::Write;
 use std::test::Fail;
 
 /// Keeps the parameters of the last control sequence.
@@ -45,39 +47,37 @@ fn handed_out(bytes: &[u8]) -> Params {
     params
 }
 
-#[test]
-fn default_has_no_group(rt: HostRuntime) -> Result<(), Fail> {
-    let params = Params::default();
-    let text = format!(in rt.alloc(); "{params:?}")?;
-    assert_eq!(rt; text.as_str(), "[]");
-    assert_eq!(rt; params.len(), 0);
-    assert!(rt; params.is_empty());
-    let mut groups = params.iter();
-    assert_eq!(rt; groups.size_hint(), (0, Some(0)));
-    assert!(rt; groups.next().is_none());
-    assert!(rt; groups.next().is_none());
-    Ok(())
+/// What Debug writes of them.
+fn text_of(params: &Params) -> ArrayString<128> {
+    let mut text = ArrayString::new();
+    let _ = write!(text, "{params:?}");
+    text
 }
 
 #[test]
-fn hint_is_the_groups_left(rt: HostRuntime) -> Result<(), Fail> {
+fn default_has_no_group(rt: HostRuntime) {
+    let params = Params::default();
+    assert!(rt; text_of(&params).as_str() == "[]");
+    assert!(rt; params.len() == 0 && params.is_empty());
+    let mut groups = params.iter();
+    assert!(rt; groups.size_hint() == (0, Some(0)));
+    assert!(rt; groups.next().is_none());
+    assert!(rt; groups.next().is_none());
+}
+
+#[test]
+fn hint_is_the_groups_left(rt: HostRuntime) {
     let params = handed_out(b"\x1B[38:2:255:0:255;1m");
-    let text = format!(in rt.alloc(); "{params:?}")?;
-    assert_eq!(rt; text.as_str(), "[38:2:255:0:255;1]");
-    assert_eq!(rt; params.len(), 6);
-    assert!(rt; !params.is_empty());
+    assert!(rt; params.len() == 6 && !params.is_empty());
     let mut groups = (&params).into_iter();
-    assert_eq!(rt; groups.size_hint(), (2, Some(2)));
-    let color = groups.next().ok_or("no first group")?;
-    assert_eq!(rt; color, [38, 2, 255, 0, 255].as_slice());
-    assert_eq!(rt; groups.size_hint(), (1, Some(1)));
-    let bold = groups.next().ok_or("no second group")?;
-    assert_eq!(rt; bold, [1].as_slice());
-    assert_eq!(rt; groups.size_hint(), (0, Some(0)));
+    assert!(rt; groups.size_hint() == (2, Some(2)));
+    assert!(rt; groups.next() == Some([38, 2, 255, 0, 255].as_slice()));
+    assert!(rt; groups.size_hint() == (1, Some(1)));
+    assert!(rt; groups.next() == Some([1].as_slice()));
+    assert!(rt; groups.size_hint() == (0, Some(0)));
     assert!(rt; groups.next().is_none());
     assert!(rt; groups.next().is_none());
-    assert_eq!(rt; groups.size_hint(), (0, Some(0)));
-    Ok(())
+    assert!(rt; groups.size_hint() == (0, Some(0)));
 }
 
 // As many fields as are kept, in one group, each in its own, and in two.
@@ -94,45 +94,71 @@ fn groups_at_the_limit(rt: HostRuntime) {
     ];
     for (bytes, count, first) in rows {
         let params = handed_out(bytes);
-        assert_eq!(rt; params.len(), 32);
         let mut groups = params.iter();
-        assert_eq!(rt; groups.size_hint(), (count, Some(count)));
-        let group = groups.next().map_or(0, |it| it.len());
-        assert_eq!(rt; group, first);
+        assert!(rt;
+            params.len() == 32 && groups.size_hint() == (count, Some(count)),
+            "{count}"
+        );
+        assert!(rt; groups.next().map_or(0, |it| it.len()) == first, "{count}");
         for _ in 1..count {
-            assert!(rt; groups.next().is_some());
+            assert!(rt; groups.next().is_some(), "{count}");
         }
-        assert_eq!(rt; groups.size_hint(), (0, Some(0)));
-        assert!(rt; groups.next().is_none());
+        assert!(rt;
+            groups.size_hint() == (0, Some(0)) && groups.next().is_none(),
+            "{count}"
+        );
     }
 }
 
+/// Bytes, the Debug text of the parameters that a parser hands out, and bytes with this text.
+/// The text is what parselog shows of them, as tests/expected.py has it.
+const ROWS: [(&[u8], &str, &[u8]); 11] = [
+    (b"\x1B[m", "[0]", b"\x1B[0m"),
+    (b"\x1B[?25h", "[25]", b"\x1B[25m"),
+    (
+        b"\x1B[4:3;;58:2::1:2:3m",
+        "[4:3;0;58:2:0:1:2:3]",
+        b"\x1B[4:3;0;58:2:0:1:2:3m",
+    ),
+    (
+        b"\x1B[65535;65536;1:H",
+        "[65535;65535;1:0]",
+        b"\x1B[65535;65535;1:0m",
+    ),
+    (
+        b"\x1B[38:2:255:0:255;1m",
+        "[38:2:255:0:255;1]",
+        b"\x1B[38:2:255:0:255;1m",
+    ),
+    (
+        b"\x1B[;;;;;;;;;;;;;;;;;;;;;;;;;;;;;;;m",
+        "[0;0;0;0;0;0;0;0;0;0;0;0;0;0;0;0;0;0;0;0;0;0;0;0;0;0;0;0;0;0;0;0]",
+        b"\x1B[0;0;0;0;0;0;0;0;0;0;0;0;0;0;0;0;0;0;0;0;0;0;0;0;0;0;0;0;0;0;0;0m",
+    ),
+    (
+        b"\x1B[;;;;;;;;;;;;;;;;;;;;;;;;;;;;;;;;m",
+        "[0;0;0;0;0;0;0;0;0;0;0;0;0;0;0;0;0;0;0;0;0;0;0;0;0;0;0;0;0;0;0;0]",
+        b"\x1B[0;0;0;0;0;0;0;0;0;0;0;0;0;0;0;0;0;0;0;0;0;0;0;0;0;0;0;0;0;0;0;0m",
+    ),
+    (b"\x1B[99999m", "[65535]", b"\x1B[65535m"),
+    (b"\x1B[?! h", "[0]", b"\x1B[0m"),
+    (b"\x1B[4;m", "[4;0]", b"\x1B[4;0m"),
+    (b"\x1B[?1049h", "[1049]", b"\x1B[1049m"),
+];
+
 // What a parser hands out is handed out again from its Debug text.
 #[test]
-fn text_is_read_back(rt: HostRuntime) -> Result<(), Fail> {
-    let rows: [(&[u8], &str, &[u8]); 4] = [
-        (b"\x1B[m", "[0]", b"\x1B[0m"),
-        (b"\x1B[?25h", "[25]", b"\x1B[25m"),
-        (
-            b"\x1B[4:3;;58:2::1:2:3m",
-            "[4:3;0;58:2:0:1:2:3]",
-            b"\x1B[4:3;0;58:2:0:1:2:3m",
-        ),
-        (
-            b"\x1B[65535;65536;1:H",
-            "[65535;65535;1:0]",
-            b"\x1B[65535;65535;1:0m",
-        ),
-    ];
-    for (bytes, text, again) in rows {
-        let params = handed_out(bytes);
-        let shown = format!(in rt.alloc(); "{params:?}")?;
-        assert_eq!(rt; shown.as_str(), text, "of {bytes:?}");
-        let read_back = handed_out(again);
-        let shown = format!(in rt.alloc(); "{read_back:?}")?;
-        assert_eq!(rt; shown.as_str(), text, "of {again:?}");
+fn text_is_read_back(rt: HostRuntime) {
+    for (bytes, text, again) in ROWS {
+        assert!(rt;
+            text_of(&handed_out(bytes)).as_str() == text,
+            "of {bytes:?}"
+        );
+        assert!(rt;
+            text_of(&handed_out(again)).as_str() == text,
+            "of {again:?}"
+        );
     }
-    Ok(())
 }
 
 #[test]

@@ -1,11 +1,11 @@
 //! Parsers over accumulators that no clause of streams covers, and what `==` and a clone of a
 //! parser are, seen from outside.
-ghost use Rattle.std.specs.Prelude.{◌≡◌, List, [], Some, false, true, IsTrue, refl, ⊤};
+ghost use Rattle.std.specs.Prelude.{[], Some, false, refl, ⊤};
 ghost use Rattle.std.proofs.lemmas.Bool.{false≢true};
 ghost use Rattle.anstyle_parse.specs.declared.accumulator.Taken.{Taken};
 
-use super::lines::{lines_of, lines_of_texts, parser_after};
-use anstyle_parse::{AsciiParser, CharAccumulator, Params, Parser, Perform, Taken, Utf8Parser};
+use super::lines::{Lines, lines_of, lines_of_texts, parser_after};
+use anstyle_parse::{AsciiParser, CharAccumulator, Parser, Taken};
 use std::test::Fail;
 
 /// Answers `x` to every byte.
@@ -64,103 +64,56 @@ impl CharAccumulator for AlwaysBroken {
     }
 }
 
-/// Counts what is printed, and control sequences.
-#[derive(Default, Drop)]
-struct Counter {
-    x: u64,
-    other: u64,
-    sequences: u64,
-}
-
-impl Perform for Counter {
-    ghost means = { λ _ _ _. ⊤ };
-
-    fn print(&mut self, c: char) {
-        if c == 'x' {
-            self.x = self.x.saturating_add(1);
-        } else {
-            self.other = self.other.saturating_add(1);
-        }
-    }
-
-    fn execute(&mut self, _byte: u8) {}
-
-    fn hook(&mut self, _params: &Params, _intermediates: &[u8], _ignore: bool, _action: u8) {}
-
-    fn put(&mut self, _byte: u8) {}
-
-    fn unhook(&mut self) {}
-
-    fn osc_dispatch(&mut self, _params: &[&[u8]], _bell_terminated: bool) {}
-
-    fn csi_dispatch(
-        &mut self,
-        _params: &Params,
-        _intermediates: &[u8],
-        _ignore: bool,
-        _action: u8,
-    ) {
-        self.sequences = self.sequences.saturating_add(1);
-    }
-
-    fn esc_dispatch(&mut self, _intermediates: &[u8], _ignore: bool, _byte: u8) {}
-}
-
+// It answers at once, and yet the next byte is within the character.
 #[test]
 fn accumulator_that_answers_at_once(rt: HostRuntime) {
-    let mut parser = Parser::<AlwaysX>::default();
-    let mut counter = Counter::default();
-    parser.advance(&mut counter, 0xC2);
-    assert!(rt; parser.is_in_char());
-    assert_eq!(rt; (counter.x, counter.other), (1, 0));
-    parser.advance(&mut counter, 0x41);
-    assert!(rt; !parser.is_in_char());
-    assert_eq!(rt; (counter.x, counter.other), (2, 0));
-    parser.advance(&mut counter, 0x41);
-    assert_eq!(rt; (counter.x, counter.other), (2, 1));
+    for second in [0x41, 0x1B] {
+        let mut parser = Parser::<AlwaysX>::default();
+        let mut lines = Lines::new();
+        parser.advance(&mut lines, 0xC2);
+        assert!(rt; parser.is_in_char() && lines.text.as_str() == "print U+0078\n");
+        parser.advance(&mut lines, second);
+        assert!(rt; !parser.is_in_char());
+        parser.advance(&mut lines, 0x41);
+        assert!(rt; !parser.is_in_char());
+        assert!(rt; lines.text.as_str() == "print U+0078\nprint U+0078\nprint U+0041\n");
+    }
 }
 
 // On a first byte such an answer is that of a character; after it the byte is handled again.
 #[test]
 fn accumulator_that_always_breaks(rt: HostRuntime) {
-    let mut parser = Parser::<AlwaysBroken>::default();
-    let mut counter = Counter::default();
-    parser.advance(&mut counter, 0xC2);
-    assert!(rt; parser.is_in_char());
-    assert_eq!(rt; (counter.x, counter.other), (1, 0));
-    parser.advance(&mut counter, 0x41);
-    assert!(rt; !parser.is_in_char());
-    assert_eq!(rt; (counter.x, counter.other), (2, 1));
-
-    let mut parser = Parser::<AlwaysBroken>::default();
-    let mut counter = Counter::default();
-    parser.advance(&mut counter, 0xC2);
-    assert_eq!(rt; (counter.x, counter.other), (1, 0));
-    parser.advance(&mut counter, 0xC2);
-    assert!(rt; parser.is_in_char());
-    assert_eq!(rt; (counter.x, counter.other), (3, 0));
+    for (second, text) in [
+        (0x41, "print U+0078\nprint U+0078\nprint U+0041\n"),
+        (0xC2, "print U+0078\nprint U+0078\nprint U+0078\n"),
+    ] {
+        let mut parser = Parser::<AlwaysBroken>::default();
+        let mut lines = Lines::new();
+        parser.advance(&mut lines, 0xC2);
+        assert!(rt; parser.is_in_char() && lines.text.as_str() == "print U+0078\n");
+        parser.advance(&mut lines, second);
+        assert!(rt; parser.is_in_char() == (second == 0xC2));
+        assert!(rt; lines.text.as_str() == text);
+    }
 }
 
 #[test]
 fn unfinished_character(rt: HostRuntime) {
-    let mut parser = Parser::<Utf8Parser>::new();
-    let mut counter = Counter::default();
-    parser.advance_all(&mut counter, b"\xe2\x82");
+    let mut parser = parser_after(b"\xe2\x82");
     assert!(rt; parser.is_in_char());
-    parser.advance(&mut counter, 0xAC);
+    assert!(rt; lines_of(&mut parser, b"\xAC").as_str() == "print U+20AC\n");
     assert!(rt; !parser.is_in_char());
-    assert_eq!(rt; (counter.x, counter.other), (0, 1));
 }
 
 #[test]
 fn ascii_alone(rt: HostRuntime) {
     let mut parser = Parser::<AsciiParser>::default();
-    let mut counter = Counter::default();
+    let mut lines = Lines::new();
     for byte in *b"\x1b[m" {
-        parser.advance(&mut counter, byte);
+        parser.advance(&mut lines, byte);
         assert!(rt; !parser.is_in_char());
     }
-    assert_eq!(rt; counter.sequences, 1);
+    assert!(rt; lines.text.as_str() == "csi_dispatch [0] - false 6D\n");
 }
 
 // After ESC nothing counts that came before, and yet `==` tells these parsers apart, since

@@ -38,7 +38,8 @@ abbrev glyph_of : ℕ → Cell
 glyph_of c = plain_cell c plain Whole
 
 -- among the blanks nothing is cut
-cut-blanks : (front : List Cell) (n place : ℕ) → length front ≤ place → and_blanks front n ≡ cut place (and_blanks front n)
+cut-blanks : (front : List Cell) (n place : ℕ) → length front ≤ place
+    → and_blanks front n ≡ cut place (and_blanks front n)
 cut-blanks front n place past =
     cut-none (and_blanks front n) place (and_right (nat_lt 0 place) (is_right (cell_at place (and_blanks front n)).part)
     (ap (λ (x : Cell). is_right x.part) (get_or-append_right front (replicate n (blank plain)) (length front) place (blank plain) refl past)
@@ -107,7 +108,8 @@ feed-next width height row cells below =
     let next : min (row + 1) (height - 1) ≡ row + 1 = omega arith in
     rw (first, other, next) refl
 
-next-line : (width height row column : ℕ) (cells : List Cell) (s : State) → row + 1 < height → s.display ≡ at width height cells row column
+next-line : (width height row column : ℕ) (cells : List Cell) (s : State) → row + 1 < height
+    → s.display ≡ at width height cells row column
     → (after line_feed (after carriage_return s)).display ≡ at width height cells (row + 1) 0
 next-line width height row column cells s below is =
     ap (λ d. executed 0x0A (executed 0x0D d)) is
@@ -141,7 +143,8 @@ length-line width line few =
     )
 
 -- all lines
-print-lines : (lines : List (List ℕ)) (width height row rows : ℕ) (front : List Cell) (s : State) → AllByRecursion (FitsIn width) lines
+print-lines : (lines : List (List ℕ)) (width height row rows : ℕ) (front : List Cell) (s : State)
+    → AllByRecursion (FitsIn width) lines
     → length front ≡ row * width → length lines ≤ rows → row + rows ≡ height
     → s.display ≡ at width height (and_blanks front (rows * width)) row 0
     → (after_all (typing lines) s).display.cells ≡ front ++ page width rows lines
@@ -170,7 +173,8 @@ print-lines (line ∷ next ∷ lines) width height row (suc rows) front s fit lo
     ∙ (ap (λ l. front ++ l) (sym (append_assoc (line_cells width line) (flat_map (line_cells width) (next ∷ lines)) (blanks width (rows - length (next ∷ lines)))))
     ∙ ap (λ k. front ++ (flat_map (line_cells width) (line ∷ next ∷ lines) ++ blanks width k)) rest)))
 
-pub lines-shown : (width height : ℕ) (lines : List (List ℕ)) → length lines ≤ height → AllByRecursion (FitsIn width) lines
+pub lines-shown : (width height : ℕ) (lines : List (List ℕ)) → length lines ≤ height
+    → AllByRecursion (FitsIn width) lines
     → (after_all (typing lines) (new_state width height)).display.cells ≡ page width height lines
 lines-shown width height lines few fit =
     print-lines lines width height 0 height [] (new_state width height) fit (omega arith) few (omega arith) refl
@@ -192,7 +196,8 @@ executed-both : IsTrue (is_executed 0x0D) × IsTrue (is_executed 0x0A)
 unfolding is_executed is_control is_within
 executed-both = (refl, refl)
 
-lawful-line : (line : List ℕ) (calls : List Call) → AllByRecursion IsNarrow line → AreLawful calls → AreLawful (printing line ++ calls)
+lawful-line : (line : List ℕ) (calls : List Call) → AllByRecursion IsNarrow line → AreLawful calls
+    → AreLawful (printing line ++ calls)
 lawful-line [] calls are lawful = lawful
 lawful-line (c ∷ line) calls are lawful = (are.0.0, lawful-line line calls are.1 lawful)
 
@@ -203,7 +208,8 @@ lawful-lines width (line ∷ next ∷ lines) fit =
     lawful-line line (carriage_return ∷ line_feed ∷ typing (next ∷ lines)) fit.0.narrow
     (executed-both.0, (executed-both.1, lawful-lines width (next ∷ lines) fit.1))
 
-pub text-shown : (width height : ℕ) (lines : List (List ℕ)) (new : State) → length lines ≤ height → AllByRecursion (FitsIn width) lines
+pub text-shown : (width height : ℕ) (lines : List (List ℕ)) (new : State) → length lines ≤ height
+    → AllByRecursion (FitsIn width) lines
     → Shows (new_state width height) (lines_text lines) new → new.display.cells ≡ page width height lines
 text-shown width height lines new few fit (calls, are, is) =
     let same : calls ≡ typing lines =

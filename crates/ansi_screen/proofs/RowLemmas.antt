@@ -37,7 +37,8 @@ same-refl start end xs = record { front = refl; behind = refl; long = refl }
 same-sym : (start end : ℕ) (xs ys : List Cell) → Same start end xs ys → Same start end ys xs
 same-sym start end xs ys a = record { front = sym a.front; behind = sym a.behind; long = sym a.long }
 
-same-trans : (start end : ℕ) (xs ys zs : List Cell) → Same start end xs ys → Same start end ys zs → Same start end xs zs
+same-trans : (start end : ℕ) (xs ys zs : List Cell) → Same start end xs ys → Same start end ys zs
+    → Same start end xs zs
 same-trans start end xs ys zs a b = record { front = a.front ∙ b.front; behind = a.behind ∙ b.behind; long = a.long ∙ b.long }
 
 -- no right half stands there
@@ -45,14 +46,16 @@ abbrev IsFree : ℕ → List Cell → Type 0
 IsFree place cells = is_right (cell_at place cells).part ≡ false
 
 -- edits between two such places
-same-set : (start end place : ℕ) (cells : List Cell) (x : Cell) → start ≤ place → place < end → Same start end (set cells place x) cells
+same-set : (start end place : ℕ) (cells : List Cell) (x : Cell) → start ≤ place → place < end
+    → Same start end (set cells place x) cells
 same-set start end place cells x from to = record {
   front = take-set-le start cells place x from;
   behind = drop-set-lt end cells place x to;
   long = length-set cells place x;
 }
 
-cut-between : (start end place : ℕ) (cells : List Cell) (t : Bool) → (nat_lt 0 place && is_right (cell_at place cells).part) ≡ t
+cut-between : (start end place : ℕ) (cells : List Cell) (t : Bool)
+    → (nat_lt 0 place && is_right (cell_at place cells).part) ≡ t
     → start ≤ place → place ≤ end → IsFree start cells → IsFree end cells → Same start end (cut place cells) cells
 unfolding cut
 cut-between start end place cells false is from to free free_end = rw is (same-refl start end cells)
@@ -69,10 +72,12 @@ cut-between start end place cells true is from to free free_end =
     (same-set start end place (set cells (place - 1) left) right from (omega arith))
     (same-set start end (place - 1) cells left (omega arith) (omega arith)))
 
-same-cut : (start end place : ℕ) (cells : List Cell) → start ≤ place → place ≤ end → IsFree start cells → IsFree end cells → Same start end (cut place cells) cells
+same-cut : (start end place : ℕ) (cells : List Cell) → start ≤ place → place ≤ end → IsFree start cells
+    → IsFree end cells → Same start end (cut place cells) cells
 same-cut start end place cells from to free free_end = cut-between start end place cells _ refl from to free free_end
 
-same-within : (start end from to : ℕ) (how : List Cell → List Cell) (cells : List Cell) → start ≤ from → from ≤ to → to ≤ end → to ≤ length cells
+same-within : (start end from to : ℕ) (how : List Cell → List Cell) (cells : List Cell) → start ≤ from → from ≤ to
+    → to ≤ end → to ≤ length cells
     → length (how (take (to - from) (drop from cells))) ≡ to - from → Same start end (within from to how cells) cells
 same-within start end from to how cells first order last inside long =
     let run : List Cell = how (take (to - from) (drop from cells)) in
@@ -94,23 +99,27 @@ same-within start end from to how cells first order last inside long =
       long = length-within from to how cells order inside long;
     }
 
-same-cuts : (start end from to : ℕ) (cells : List Cell) → start ≤ from → from ≤ to → to ≤ end → IsFree start cells → IsFree end cells
+same-cuts : (start end from to : ℕ) (cells : List Cell) → start ≤ from → from ≤ to → to ≤ end → IsFree start cells
+    → IsFree end cells
     → Same start end (cut from (cut to cells)) cells
 same-cuts start end from to cells first order last free free_end =
     same-trans start end (cut from (cut to cells)) (cut to cells) cells
     (same-cut start end from (cut to cells) first (omega arith) (clear-cut_other to start cells free) (clear-cut_other to end cells free_end))
     (same-cut start end to cells (omega arith) last free free_end)
 
-same-change : (start end from to : ℕ) (how : List Cell → List Cell) (cells : List Cell) → start ≤ from → from ≤ to → to ≤ end → end ≤ length cells
+same-change : (start end from to : ℕ) (how : List Cell → List Cell) (cells : List Cell) → start ≤ from → from ≤ to
+    → to ≤ end → end ≤ length cells
     → IsFree start cells → IsFree end cells
-    → length (how (take (to - from) (drop from (cut from (cut to cells))))) ≡ to - from → Same start end (change from to how cells) cells
+    → length (how (take (to - from) (drop from (cut from (cut to cells))))) ≡ to - from
+    → Same start end (change from to how cells) cells
 same-change start end from to how cells first order last inside free free_end long =
     let both : List Cell = cut from (cut to cells) in
     same-trans start end (within from to how both) both cells
     (same-within start end from to how both first order last (omega (arith, length-cut from (cut to cells), length-cut to cells)) long)
     (same-cuts start end from to cells first order last free free_end)
 
-same-inserted : (start end from n : ℕ) (gap : Cell) (cells : List Cell) → start ≤ from → from ≤ end → end ≤ length cells
+same-inserted : (start end from n : ℕ) (gap : Cell) (cells : List Cell) → start ≤ from → from ≤ end
+    → end ≤ length cells
     → IsFree start cells → IsFree end cells → Same start end (inserted n from end gap cells) cells
 same-inserted start end from n gap cells first order inside free free_end =
     let place : ℕ = end - min n (end - from) in
@@ -125,7 +134,8 @@ same-inserted start end from n gap cells first order inside free free_end =
     (same-cut start end place cells (omega arith) (omega arith) free free_end)
 
 -- a mark goes to a cell before its place, and not past a place where no right half stands
-marked-between : (start end mark place : ℕ) (cells : List Cell) (t : Bool) → is_right (cell_at (place - 1) cells).part ≡ t
+marked-between : (start end mark place : ℕ) (cells : List Cell) (t : Bool)
+    → is_right (cell_at (place - 1) cells).part ≡ t
     → start < place → place ≤ end → IsFree start cells → Same start end (marked_before mark place cells) cells
 unfolding marked_before
 marked-between start end mark place cells true is first last free =
@@ -142,7 +152,8 @@ marked-behind end mark place cells true is some last =
 marked-behind end mark place cells false is some last =
     rw is (drop-set-lt end cells (place - 1) (with_mark mark (cell_at (place - 1) cells)) (omega arith))
 
-marked-append_at : (mark place : ℕ) (xs ys : List Cell) (t : Bool) → is_right (cell_at (place - 1) xs).part ≡ t → 0 < place → length xs ≡ place
+marked-append_at : (mark place : ℕ) (xs ys : List Cell) (t : Bool) → is_right (cell_at (place - 1) xs).part ≡ t
+    → 0 < place → length xs ≡ place
     → marked_before mark place (xs ++ ys) ≡ marked_before mark place xs ++ ys
 unfolding marked_before
 marked-append_at mark place xs ys true is some long =
@@ -172,7 +183,8 @@ abbrev in_row : List Cell → ℕ → Display → Display
 in_row cells column d = record d { cells = cells; cursor = record d.cursor { column = column } }
 
 -- The line drawing set has characters of one column, as those that it stands for.
-at-narrow : (characters : List ℕ) (i : ℕ) → AllByRecursion (λ c. columns c ≡ 1) characters → i < length characters → columns (slice_index characters i) ≡ 1
+at-narrow : (characters : List ℕ) (i : ℕ) → AllByRecursion (λ c. columns c ≡ 1) characters → i < length characters
+    → columns (slice_index characters i) ≡ 1
 at-narrow [] i are inside = absurd (omega arith)
 at-narrow (c ∷ characters) zero are inside = are.0
 at-narrow (c ∷ characters) (suc i) are inside = at-narrow characters i are.1 (omega arith)
@@ -273,7 +285,8 @@ put-by n c d cells false is fits =
     rw (room, room, is) refl
 
 -- where blanks are inserted no right half stands
-inserted-free : (from end n : ℕ) (gap : Cell) (cells : List Cell) → 1 ≤ n → from < end → end ≤ length cells → is_right gap.part ≡ false
+inserted-free : (from end n : ℕ) (gap : Cell) (cells : List Cell) → 1 ≤ n → from < end → end ≤ length cells
+    → is_right gap.part ≡ false
     → IsFree from cells → IsFree from (inserted n from end gap cells)
 inserted-free from end n gap cells some order inside whole free =
     let place : ℕ = end - min n (end - from) in
@@ -300,7 +313,8 @@ module _ (n c : ℕ) (d : Display) (cells : List Cell) (screen : IsScreen (with_
   room-screen true = kept-inserted n (with_cells cells d) screen (omega arith)
   room-screen false = screen
 
-  room-same : (start : ℕ) (t : Bool) → start ≤ here d → IsFree start cells → Same start (row_end d) (room_by t n d cells) cells
+  room-same : (start : ℕ) (t : Bool) → start ≤ here d → IsFree start cells
+      → Same start (row_end d) (room_by t n d cells) cells
   room-same start true from free =
       same-inserted start (row_end d) (here d) n (space d) cells from (omega arith) (row_end-inside (with_cells cells d) screen) free
       (row_end-free (with_cells cells d) screen)
@@ -324,7 +338,8 @@ module _ (n c : ℕ) (d : Display) (cells : List Cell) (screen : IsScreen (with_
       (row_end-inside (with_cells there d) s) free_then (row_end-free (with_cells there d) s) glyph-long)
       (room-same start t from free)
 
-  put-front : (t : Bool) → IsFree (here d) cells → take (here d + n) (put_by t n c d cells) ≡ take (here d) cells ++ glyph n c d.cursor.style
+  put-front : (t : Bool) → IsFree (here d) cells
+      → take (here d + n) (put_by t n c d cells) ≡ take (here d) cells ++ glyph n c d.cursor.style
   put-front t free =
       let there : List Cell = room_by t n d cells in
       let s : IsScreen (with_cells there d) = room-screen t in
@@ -360,7 +375,8 @@ pub record Wrote (room : ℕ) (d e : Display) : Type 0 where
   pub same : Same (row_start d) (row_end d) cells d.cells
   pub fits : column ≤ d.cursor.column + room
 
-marked-wrote : (room c : ℕ) (d : Display) (t : Bool) → (d.cursor.column == 0) ≡ t → IsScreen d → Wrote room d (marked c d)
+marked-wrote : (room c : ℕ) (d : Display) (t : Bool) → (d.cursor.column == 0) ≡ t → IsScreen d
+    → Wrote room d (marked c d)
 marked-wrote room c d true is s = record {
   cells = d.cells;
   column = d.cursor.column;
@@ -379,7 +395,8 @@ marked-wrote room c d false is s =
       fits = omega arith;
     }
 
-put-wrote : (n c : ℕ) (d : Display) → IsScreen d → 1 ≤ n → n ≤ 2 → d.cursor.column + n ≤ d.width → Wrote n d (put n c (wrapped n d))
+put-wrote : (n c : ℕ) (d : Display) → IsScreen d → 1 ≤ n → n ≤ 2 → d.cursor.column + n ≤ d.width
+    → Wrote n d (put n c (wrapped n d))
 put-wrote n c d s some few fits = record {
   cells = put_by d.inserts n c d d.cells;
   column = d.cursor.column + n;
@@ -389,14 +406,16 @@ put-wrote n c d s some few fits = record {
   fits = omega arith;
 }
 
-shown-wrote : (c : ℕ) (d : Display) (t : Bool) → (columns c == 0) ≡ t → IsScreen d → d.cursor.column + columns c ≤ d.width → Wrote (columns c) d (shown c d)
+shown-wrote : (c : ℕ) (d : Display) (t : Bool) → (columns c == 0) ≡ t → IsScreen d
+    → d.cursor.column + columns c ≤ d.width → Wrote (columns c) d (shown c d)
 unfolding shown
 shown-wrote c d true is s fits = rw is (marked-wrote (columns c) c d _ refl s)
 shown-wrote c d false is s fits =
     let some : columns c ≡ 0 → ⊥ = eqb-false (columns c) 0 is in
     rw is (put-wrote (columns c) c d s (omega arith) (columns-few c _ _ refl refl) fits)
 
-printed-wrote : (c : ℕ) (d : Display) (t : Bool) → is_shown c ≡ t → IsScreen d → d.cursor.column + columns c ≤ d.width → Wrote (columns c) d (printed c d)
+printed-wrote : (c : ℕ) (d : Display) (t : Bool) → is_shown c ≡ t → IsScreen d
+    → d.cursor.column + columns c ≤ d.width → Wrote (columns c) d (printed c d)
 unfolding printed
 printed-wrote c d true is s fits =
     let character : ℕ = if draws d.cursor.charsets then drawn c else c in
@@ -432,7 +451,8 @@ module _ (d : Display) (xs ys : List Cell) (screen_xs : IsScreen (with_cells xs 
     fits = omega arith;
   }
 
-  marked-alike : (room c : ℕ) (t : Bool) → (d.cursor.column == 0) ≡ t → Alike room d (marked c (with_cells xs d)) (marked c (with_cells ys d))
+  marked-alike : (room c : ℕ) (t : Bool) → (d.cursor.column == 0) ≡ t
+      → Alike room d (marked c (with_cells xs d)) (marked c (with_cells ys d))
   marked-alike room c true is = record {
     column = d.cursor.column;
     first = xs;
@@ -512,7 +532,8 @@ module _ (d : Display) (xs ys : List Cell) (screen_xs : IsScreen (with_cells xs 
   printed-alike c false is fits = rw is (same-alike (columns c))
 
   -- and EL leaves the same of them
-  erased-same : (t : Bool) → nat_lt d.cursor.column d.width ≡ t → erased_line 0 (settled (with_cells xs d)) ≡ erased_line 0 (settled (with_cells ys d))
+  erased-same : (t : Bool) → nat_lt d.cursor.column d.width ≡ t
+      → erased_line 0 (settled (with_cells xs d)) ≡ erased_line 0 (settled (with_cells ys d))
   unfolding erased_line erased_part
   erased-same true is =
       let before : d.cursor.column < d.width = ltb-true d.cursor.column d.width is in
@@ -554,8 +575,10 @@ unfolding is_repeat sequenced controlled function_of edited
 after-erase s = refl
 
 -- A text that has room, and EL, lead from such displays to the same.
-text-same : (text : List ℕ) (d : Display) (xs ys : List Cell) (s t : State) → s.display ≡ with_cells xs d → t.display ≡ with_cells ys d
-    → IsScreen (with_cells xs d) → IsScreen (with_cells ys d) → Same (here d) (row_end d) xs ys → IsFree (here d) xs → IsFree (here d) ys
+text-same : (text : List ℕ) (d : Display) (xs ys : List Cell) (s t : State) → s.display ≡ with_cells xs d
+    → t.display ≡ with_cells ys d
+    → IsScreen (with_cells xs d) → IsScreen (with_cells ys d) → Same (here d) (row_end d) xs ys
+    → IsFree (here d) xs → IsFree (here d) ys
     → d.cursor.column + text_columns text ≤ d.width
     → after_all (printing text ++ erase_rest ∷ []) s ≡ after_all (printing text ++ erase_rest ∷ []) t
 text-same [] d xs ys s t is_xs is_ys screen_xs screen_ys same free_xs free_ys fits =
@@ -575,12 +598,14 @@ text-same (c ∷ text) d xs ys s t is_xs is_ys screen_xs screen_ys same free_xs 
     (subst (λ e. IsScreen e) next.is_second (kept-printed c (with_cells ys d) screen_ys))
     next.same next.free_first next.free_second (omega arith)
 
-return-place : (cells : List Cell) (column : ℕ) (d : Display) → executed 0x0D (in_row cells column d) ≡ with_cells cells (to_column 0 d)
+return-place : (cells : List Cell) (column : ℕ) (d : Display)
+    → executed 0x0D (in_row cells column d) ≡ with_cells cells (to_column 0 d)
 unfolding executed
 return-place cells column d = refl
 
 -- What was printed before, on the row, is lost.
-before-lost : (before text : List ℕ) (d : Display) (cells : List Cell) (column : ℕ) (s t : State) → s.display ≡ in_row cells column d → t.display ≡ d
+before-lost : (before text : List ℕ) (d : Display) (cells : List Cell) (column : ℕ) (s t : State)
+    → s.display ≡ in_row cells column d → t.display ≡ d
     → IsScreen (in_row cells column d) → IsScreen d → Same (row_start d) (row_end d) cells d.cells
     → column + text_columns before ≤ d.width → text_columns text ≤ d.width
     → after_all (printing before ++ carriage_return ∷ (printing text ++ erase_rest ∷ [])) s ≡ after_all (carriage_return ∷ (printing text ++ erase_rest ∷ [])) t
@@ -601,7 +626,8 @@ before-lost (c ∷ before) text d cells column s t is is_t screen screen_d same 
     (subst (λ e. IsScreen e) next.is (kept-printed c (in_row cells column d) screen)) screen_d
     (same-trans (row_start d) (row_end d) next.cells cells d.cells next.same same) (omega arith) fits
 
-pub written-anew : (s : State) (before text : List ℕ) → IsScreen s.display → s.display.cursor.column + text_columns before ≤ s.display.width
+pub written-anew : (s : State) (before text : List ℕ) → IsScreen s.display
+    → s.display.cursor.column + text_columns before ≤ s.display.width
     → text_columns text ≤ s.display.width
     → after_all (printing before ++ carriage_return ∷ (printing text ++ erase_rest ∷ [])) s ≡ after_all (carriage_return ∷ (printing text ++ erase_rest ∷ [])) s
 written-anew s before text screen room fits =

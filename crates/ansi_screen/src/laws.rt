@@ -52,9 +52,11 @@ pub fn enclosed()
 /// screen and no more than these, with CR LF between them, come each into a row of its own, from
 /// the first row on; the rest of these rows and all other rows stay blank.
 pub fn plain_text()
-    ensures calls { (columns rows : ℕ) (lines : List (List ℕ)) → length lines ≤ rows → AllByRecursion (FitsIn columns) lines
+    ensures calls { (columns rows : ℕ) (lines : List (List ℕ)) → length lines ≤ rows
+        → AllByRecursion (FitsIn columns) lines
         → (after_all (typing lines) (new_state columns rows)).display.cells ≡ page columns rows lines }
-    ensures bytes { (columns rows : ℕ) (lines : List (List ℕ)) (new : State) → length lines ≤ rows → AllByRecursion (FitsIn columns) lines
+    ensures bytes { (columns rows : ℕ) (lines : List (List ℕ)) (new : State) → length lines ≤ rows
+        → AllByRecursion (FitsIn columns) lines
         → Shows (new_state columns rows) (lines_text lines) new → new.display.cells ≡ page columns rows lines }
 {}
 
@@ -62,7 +64,8 @@ pub fn plain_text()
 /// show as if what was printed before, from the cursor on and with room too, had never been printed.
 pub fn rewritten()
     ensures { (screen : State) (before text : List ℕ) → IsScreen screen.display
-        → screen.display.cursor.column + text_columns before ≤ screen.display.width → text_columns text ≤ screen.display.width
+        → screen.display.cursor.column + text_columns before ≤ screen.display.width
+        → text_columns text ≤ screen.display.width
         → after_all (printing before ++ carriage_return ∷ (printing text ++ erase_rest ∷ [])) screen
         ≡ after_all (carriage_return ∷ (printing text ++ erase_rest ∷ [])) screen }
 {}

@@ -61,8 +61,8 @@ impl Form {
             (Form::Stripped, 1) => 7,
             (Form::Stripped, _) => 13,
             (Form::Html, 0) => 0,
-            (Form::Html, 1..=50) => 6,
-            (Form::Html, 51..=124) => 11,
+            (Form::Html, 1..=64) => 6,
+            (Form::Html, 65..=152) => 11,
             (Form::Html, _) => 12,
         }
     }

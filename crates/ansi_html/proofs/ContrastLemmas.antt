@@ -1,14 +1,14 @@
 -- Shades are read on their pages.
-use Rattle.std.proofs.Common.{◌≡◌, ◌<◌, ◌≤◌, ℕ, zero, suc, ◌+◌, ◌-◌, ◌*◌, ◌/◌, ◌%◌, Bool, true, false, ◌||◌, ◌&&◌, IsTrue, length, refl, sym, ap, ◌∙◌, subst, arith, ⊎_elim}
+use Rattle.std.proofs.Common.{◌≡◌, ◌<◌, ◌≤◌, ℕ, zero, suc, ◌-◌, ◌%◌, Bool, true, false, IsTrue, refl, sym, ap, ◌∙◌, subst, arith}
 use Rattle.std.specs.Prelude.{nat_le, slice_index, if◌then◌else◌}
 use Rattle.std.specs.List.{list_all, range_with_len}
 use Rattle.std.proofs.Math.ListN.{get_or}
 use Rattle.std.proofs.lemmas.List.FromFn.{get_or-range_with_len, length-range_with_len}
 use Rattle.std.proofs.lemmas.List.Folds.{list_all_at}
-use Rattle.std.proofs.lemmas.Bool.{le-leb, leb-true, leb-false, cases_lt, or_left, or_right}
+use Rattle.std.proofs.lemmas.Bool.{le-leb, leb-true, leb-false, or_left, or_right}
 use Rattle.ansi_html.specs.declared.contrast.Rgb.{Rgb}
 use Rattle.ansi_html.specs.declared.contrast.TheConstants.{LINEAR}
-use Rattle.ansi_html.specs.Contrast.{is_made_linear, linear, luminance, is_readable, are_readable, rgb, black, white, lightest_dark, is_read_on_light, IsReadOnLight, is_read_on_dark, IsReadOnDark, part, darkened, lightened, light_from, dark_from, light_shade, dark_shade, ink, mixture, dim_on}
+use Rattle.ansi_html.specs.Contrast.{is_made_linear, linear, luminance, is_readable, are_readable, rgb, black, white, lightest_dark, is_read_on_light, IsReadOnLight, is_read_on_dark, IsReadOnDark, darkened, lightened, light_from, dark_from, light_shade, dark_shade, ink, mixture, dim_on}
 
 -- what holds of all numbers below another
 all_below : (p : ℕ → Bool) (n v : ℕ) → list_all p (range_with_len 0 n) ≡ true → v < n → p v ≡ true

@@ -3,11 +3,10 @@
 -- is in it.
 use Rattle.std.specs.Prelude.{◌≡◌, ℕ, Bool, false, ◌||◌, ◌&&◌, nat_le, ◌==◌, not, List, [], ◌∷◌, ◌++◌, codes, IsTrue}
 use Rattle.std.specs.List.{AllByRecursion}
-use Rattle.ansi_style.specs.declared.style.Style.{Style}
 use Rattle.ansi_html.specs.declared.contrast.Rgb.{Rgb}
 use Rattle.ansi_html.specs.declared.scheme.Scheme.{Scheme}
 use Rattle.ansi_html.specs.Contrast.{IsReadOnLight, IsReadOnDark, are_readable, black, white}
-use Rattle.ansi_html.specs.Css.{declared, themed, is_chosen}
+use Rattle.ansi_html.specs.Css.{declared, themed}
 
 -- A byte of text: 20 and above, or 09, 0A, 0D; and none with a meaning in HTML.
 unfoldable pub is_special : ℕ → Bool

@@ -1,4 +1,4 @@
-use Rattle.std.proofs.Common.{◌≡◌, ◌∙◌, sym, ap, subst, arith, IsTrue}
+use Rattle.std.proofs.Common.{◌∙◌, sym, ap, subst, arith, IsTrue}
 use Rattle.std.specs.Prelude.{slice_index}
 use Rattle.ansi_html.specs.declared.contrast.TheConstants.{LINEAR}
 use Rattle.ansi_html.specs.Contrast.{is_made_linear}

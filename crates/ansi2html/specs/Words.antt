@@ -9,7 +9,7 @@ use Rattle.ansi2html.specs.declared.form.Form.TheVariants.{Fragment, Page}
 -- a word asks for a page: --page, the word page, or a title
 abbrev pub asks_for_page : (word : List ℕ) → Bool
 asks_for_page word =
-  bytes_eq word (codes "--page") || (bytes_eq word (codes "page") || starts_with nat_eq word (codes "--title="))
+    bytes_eq word (codes "--page") || (bytes_eq word (codes "page") || starts_with nat_eq word (codes "--title="))
 
 -- a page where some word asks for it
 abbrev pub form_of : (words : List (List ℕ)) → Form

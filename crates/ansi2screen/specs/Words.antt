@@ -6,4 +6,4 @@ use Rattle.ansi2screen.specs.declared.words.Size.{Size}
 -- a size that a screen can have
 abbrev pub IsTaken : Size → Type 0
 IsTaken size =
-  (MIN_COLUMNS ≤ size.columns) × (size.columns ≤ MAX_COLUMNS) × (MIN_ROWS ≤ size.rows) × (size.rows ≤ MAX_ROWS)
+    (MIN_COLUMNS ≤ size.columns) × (size.columns ≤ MAX_COLUMNS) × (MIN_ROWS ≤ size.rows) × (size.rows ≤ MAX_ROWS)

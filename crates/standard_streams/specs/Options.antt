@@ -18,7 +18,7 @@ texts references = map (λ it. it.now) references
 -- a word is an option, or begins with it where the option ends in =
 abbrev pub is_option : (option word : List ℕ) → Bool
 is_option option word =
-  if ends_with nat_eq option (codes "=") then starts_with nat_eq word option else bytes_eq word option
+    if ends_with nat_eq option (codes "=") then starts_with nat_eq word option else bytes_eq word option
 
 -- a word is one of these options
 abbrev pub is_one_of : (options : List (List ℕ)) → (word : List ℕ) → Bool
@@ -35,7 +35,7 @@ Means word (Unknown given) = (given.now ≡ word) × (word ≢ codes "--help") �
 abbrev pub Asks : (options words : List (List ℕ)) → Option Request → Type 0
 Asks options words asked =
     MatchOption (find (λ word. not (is_one_of options word)) words) (asked ≡ None)
-      (λ word. (request : Request) × (asked ≡ Some request) × Means word request)
+    (λ word. (request : Request) × (asked ≡ Some request) × Means word request)
 
 -- The status of a program that was asked this: 2 for a word that it doesn't know; else 0, or that of
 -- an output that failed.

@@ -21,10 +21,10 @@ choose_color P false one other x y = y
 
 module _ (scheme : Scheme) where
   AreReadable-page : (dim : Bool) (text : Color) → AreReadable scheme (page_css scheme dim text)
-  AreReadable-page dim text = on_page (light_text dim text) (dark_text dim text) (IsReadOnLight-shade _) (IsReadOnDark-shade _)
+  AreReadable-page dim text = on_page (light_text dim (shades_of text)) (dark_text dim (shades_of text)) (IsReadOnLight-shade _) (IsReadOnDark-shade _)
 
   AreReadable-reversed : (dim : Bool) (text : Color) → AreReadable scheme (reversed_css scheme dim text)
-  AreReadable-reversed dim text = on_reversed (light_text dim text) (dark_text dim text) (IsReadOnLight-shade _) (IsReadOnDark-shade _)
+  AreReadable-reversed dim text = on_reversed (light_text dim (shades_of text)) (dark_text dim (shades_of text)) (IsReadOnLight-shade _) (IsReadOnDark-shade _)
 
   -- a ground that is chosen, and no text
   AreReadable-chosen : (dim : Bool) (text : Color) (behind : Rgb) → is_chosen text ≡ false → AreReadable scheme (on_chosen dim text behind)

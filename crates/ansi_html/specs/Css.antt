@@ -6,6 +6,7 @@ use Rattle.ansi_style.specs.declared.style.Color.TheVariants.{Default, Named, Br
 use Rattle.ansi_style.specs.declared.style.Underline.{Underline}
 use Rattle.ansi_style.specs.declared.style.Underline.TheVariants.{Off, Single, Double, Curly, Dotted, Dashed}
 use Rattle.ansi_html.specs.declared.contrast.Rgb.{Rgb}
+use Rattle.ansi_html.specs.declared.palette.Shades.{Shades}
 use Rattle.ansi_html.specs.declared.scheme.Scheme.{Scheme}
 use Rattle.ansi_html.specs.declared.scheme.Scheme.TheVariants.{Light, Dark, Both}
 use Rattle.ansi_html.specs.Contrast.{black, white, light_shade, dark_shade, mixture, ink, dim_on}
@@ -45,21 +46,21 @@ abbrev pub behind_of : Style → Color
 behind_of style = if style.reverse then style.foreground else style.background
 
 -- the shade of a text for light pages and for dark ones; a dim one is mixed with the page
-abbrev pub light_text : (dim : Bool) → Color → Rgb
-light_text dim color =
-    light_shade (if dim then mixture (shades_of color).light white else (shades_of color).light)
+abbrev pub light_text : (dim : Bool) → Shades → Rgb
+light_text dim shades = light_shade (if dim then mixture shades.light white else shades.light)
 
-abbrev pub dark_text : (dim : Bool) → Color → Rgb
-dark_text dim color = dark_shade (if dim then mixture (shades_of color).dark black else (shades_of color).dark)
+abbrev pub dark_text : (dim : Bool) → Shades → Rgb
+dark_text dim shades = dark_shade (if dim then mixture shades.dark black else shades.dark)
 
 -- a text on the page's ground
 abbrev pub on_page : Scheme → (dim : Bool) → (text : Color) → List ℕ
-on_page scheme dim text = themed scheme (codes "color:") (light_text dim text) (dark_text dim text)
+on_page scheme dim text =
+    themed scheme (codes "color:") (light_text dim (shades_of text)) (dark_text dim (shades_of text))
 
 -- a text on a ground of the page's own text: black on light pages, white on dark ones
 abbrev pub on_reversed : Scheme → (dim : Bool) → (text : Color) → List ℕ
 on_reversed scheme dim text =
-    themed scheme (codes "color:") (dark_text dim text) (light_text dim text)
+    themed scheme (codes "color:") (dark_text dim (shades_of text)) (light_text dim (shades_of text))
     ++ themed scheme (codes "background-color:") black white
 
 -- what is written on a ground that is chosen: white or black where no colour is chosen for it

@@ -1,11 +1,11 @@
 //! A style as CSS declarations.
-ghost use Rattle.std.specs.Prelude.{◌≡◌, ◌<◌, ◌++◌, ◌||◌, [], codes};
+ghost use Rattle.std.specs.Prelude.{◌≡◌, ◌<◌, ◌++◌, ◌∷◌, ◌||◌, [], codes};
 ghost use Rattle.anstyle_parse.specs.Io.Output.{Adds};
 ghost use Rattle.ansi_html.specs.Palette.{hex_digit, hex};
 ghost use Rattle.ansi_html.specs.Css.{declared as declared_color, light_dark, themed, is_chosen, text_of, behind_of, light_text, dark_text, on_page, on_reversed, color_on, text_on, on_chosen, colors_css, text_if, is_underlined, lines_css, underline_css, css};
 
 use crate::contrast::{BLACK, Rgb, WHITE};
-use crate::palette::shades_of;
+use crate::palette::{Shades, shades_of};
 use crate::scheme::Scheme;
 use ansi_style::{Color, Style, Underline};
 use anstyle_parse::canon::{Output, Sink};
@@ -22,9 +22,9 @@ fn digit(number: u8) -> u8
     }
 }
 
-/// Red, green and blue in hexadecimal.
-fn put_hex<W: Sink>(output: &mut Output<W>, color: Rgb)
-    ensures { Adds W.Sink (hex color) output.old output.new }
+/// Red, green and blue in hexadecimal, and the byte that ends them.
+fn put_hex<W: Sink>(output: &mut Output<W>, color: Rgb, end: u8)
+    ensures { Adds W.Sink (hex color ++ (end ∷ [])) output.old output.new }
 {
     output.put(&[
         b'#',
@@ -34,6 +34,7 @@ fn put_hex<W: Sink>(output: &mut Output<W>, color: Rgb)
         digit(color.green),
         digit(color.blue / 16),
         digit(color.blue),
+        end,
     ]);
 }
 
@@ -42,8 +43,7 @@ fn put_declared<W: Sink>(output: &mut Output<W>, property: &[u8], color: Rgb)
     ensures { Adds W.Sink (declared_color property.now color) output.old output.new }
 {
     output.put(property);
-    put_hex(output, color);
-    output.put(b";");
+    put_hex(output, color, b';');
 }
 
 /// The same with a colour for light pages and one for dark ones.
@@ -52,10 +52,9 @@ fn put_light_dark<W: Sink>(output: &mut Output<W>, property: &[u8], light: Rgb, 
 {
     output.put(property);
     output.put(b"light-dark(");
-    put_hex(output, light);
-    output.put(b",");
-    put_hex(output, dark);
-    output.put(b");");
+    put_hex(output, light, b',');
+    put_hex(output, dark, b')');
+    output.put(b";");
 }
 
 /// The same for the pages of the scheme.
@@ -108,26 +107,24 @@ fn behind_of(style: Style) -> Color
 }
 
 /// The shade of a text that is read on light pages.
-fn light_text(dim: bool, color: Color) -> Rgb
-    ensures { result ≡ light_text dim color }
+fn light_text(dim: bool, shades: Shades) -> Rgb
+    ensures { result ≡ light_text dim shades }
 {
-    let light = shades_of(color).light;
     if dim {
-        light.mixture(WHITE).light_shade()
+        shades.light.mixture(WHITE).light_shade()
     } else {
-        light.light_shade()
+        shades.light.light_shade()
     }
 }
 
 /// The shade of a text that is read on dark pages.
-fn dark_text(dim: bool, color: Color) -> Rgb
-    ensures { result ≡ dark_text dim color }
+fn dark_text(dim: bool, shades: Shades) -> Rgb
+    ensures { result ≡ dark_text dim shades }
 {
-    let dark = shades_of(color).dark;
     if dim {
-        dark.mixture(BLACK).dark_shade()
+        shades.dark.mixture(BLACK).dark_shade()
     } else {
-        dark.dark_shade()
+        shades.dark.dark_shade()
     }
 }
 
@@ -135,26 +132,18 @@ fn dark_text(dim: bool, color: Color) -> Rgb
 fn put_on_page<W: Sink>(output: &mut Output<W>, scheme: Scheme, dim: bool, text: Color)
     ensures { Adds W.Sink (on_page scheme dim text) output.old output.new }
 {
-    put_themed(
-        output,
-        scheme,
-        b"color:",
-        light_text(dim, text),
-        dark_text(dim, text),
-    );
+    let shades = shades_of(text);
+    let light = light_text(dim, shades);
+    put_themed(output, scheme, b"color:", light, dark_text(dim, shades));
 }
 
 /// A text on a ground of the page's own text.
 fn put_on_reversed<W: Sink>(output: &mut Output<W>, scheme: Scheme, dim: bool, text: Color)
     ensures { Adds W.Sink (on_reversed scheme dim text) output.old output.new }
 {
-    put_themed(
-        output,
-        scheme,
-        b"color:",
-        dark_text(dim, text),
-        light_text(dim, text),
-    );
+    let shades = shades_of(text);
+    let dark = dark_text(dim, shades);
+    put_themed(output, scheme, b"color:", dark, light_text(dim, shades));
     put_themed(output, scheme, b"background-color:", BLACK, WHITE);
 }
 

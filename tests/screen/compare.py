@@ -14,20 +14,19 @@ Usage: tests/screen/compare.py [--count N] [--seed N] [--program PROGRAM] [--xte
     --size .. RECORDING ..  files with the bytes of a stream, and the screen that they were made for, as
                        those of bench/record.py for 120x40
 
-For xterm streams have every operation, in every state that they come to, but for what
-docs/DECISIONS.md decides otherwise than xterm 379: REP past the end of the row, CBT at a pending wrap,
-DECRC in origin mode, 1049 where it shows already or a wrap is pending, CSI 0 T, fields with a colon,
-ED and EL with numbers of their own, wide characters in the last column without autowrap, ICH and IRM
-beside wide characters; and but for marks, which its checksums of cells do not tell. It has faults, which
-they leave out too: DCH in a row with wide characters can lose the last cell, and SU of a whole region
-clears the screen where it scrolls row by row, as it is asked to here, since else it leaves halves of wide
-characters standing in rows that have yet to be drawn. For tmux they leave out where
-docs/DECISIONS.md decides otherwise than tmux 3.3a does, and its faults: CHT and HPR, which it has
-not; edits, line feeds and moves at a pending wrap; BS in the first column behind a row that was
-wrapped; halves of wide characters; IL and DL outside the margins, and the column behind them; ICH of
-the whole rest of a row, and IRM behind a wrap; where DECSTBM leaves the cursor in origin mode; DECSTR;
-1049. tmux writes line drawing as the letters that select it, and so it is compared. Each difference is
-told, and the last line is 'N agree, M differ'.
+For xterm streams have every operation, in every state that they come to, but for what docs/DECISIONS.md
+decides otherwise than xterm 379: REP past the end of the row, CBT at a pending wrap, DECRC in origin mode,
+1049 where it shows already or a wrap is pending, CSI 0 T, fields with a colon, wide characters in the last
+column without autowrap, ICH and IRM beside wide characters; and but for marks, which its checksums of cells
+do not tell. It has faults, which they leave out too: DCH in a row with wide characters can lose the last
+cell, and SU of a whole region clears the screen where it scrolls row by row, as it is asked to here, since
+else it leaves halves of wide characters standing in rows that have yet to be drawn. For tmux they leave out
+where docs/DECISIONS.md decides otherwise than tmux 3.3a does, and its faults: CHT and HPR, which it has
+not; edits, line feeds and moves at a pending wrap; BS in the first column behind a row that was wrapped;
+halves of wide characters; IL and DL outside the margins, and the column behind them; ICH of the whole rest
+of a row, and IRM behind a wrap; where DECSTBM leaves the cursor in origin mode; DECSTR; 1049. tmux writes
+line drawing as the letters that select it, and so it is compared. Each difference is told, and the last
+line is 'N agree, M differ'.
 """
 
 import argparse
@@ -186,7 +185,7 @@ def any_piece(draw, width, height, has_origin, has_wide):
         return draw.choice([*"\r\n\b\t\v\f\a\x0e\x0f", "\r\n", "\x1b(0", "\x1b(B", "\x1b)0", "\x1b)B"])
     if kind < 0.75:
         final = draw.choice("ABCDEFGHIJKLMSTX`adfg" + ("" if has_wide else "@P"))
-        numbers = {"J": ["", "1", "2"], "K": ["", "1", "2"], "S": ["", "1"], "T": ["", "1"]}
+        numbers = {"J": ["", "1", "2", some], "K": ["", "1", "2", some], "S": ["", "1"], "T": ["", "1"]}
         return "\x1b[%s%s" % (draw.choice(numbers.get(final, ["", some, some])), final)
     if kind < 0.85:
         origin = ["\x1b[?6h", "\x1b[?6l"] if has_origin else ["\x1b7", "\x1b8"]

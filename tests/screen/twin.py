@@ -301,6 +301,8 @@ class Display:
         elif final in self.MOVES:
             self.settle()
             self.MOVES[final](self, max(1, first), max(1, second))
+        elif final in "JK" and first > 2:
+            pass
         elif final in self.EDITS:
             self.settle()
             self.EDITS[final](self, max(1, first), first)

@@ -25,7 +25,7 @@ use Rattle.ansi_screen.specs.Widths.{is_shown, columns, is_among}
 use Rattle.ansi_screen.specs.Ranges.{no_column, two_columns}
 use Rattle.ansi_screen.specs.Print.{wrapped, with_room, with_glyph, put, marked, shown, drawn, draws, printed, printed_again, printed_times}
 use Rattle.ansi_screen.specs.Modes.{with_style, shifted, with_charset, saving, restored, with_origin, with_margins, to_alternate, to_main, with_alternate, softly_reset, with_private_mode, with_mode, with_modes, first_field}
-use Rattle.ansi_screen.specs.After.{State, function_of, first_of, second_of, count, edited, moved, set as set_by, controlled, sequenced, executed, escaped, designated, repeated, is_repeat, after, after_all}
+use Rattle.ansi_screen.specs.After.{State, function_of, first_of, second_of, count, is_known, edited, moved, set as set_by, controlled, sequenced, executed, escaped, designated, repeated, is_repeat, after, after_all}
 use Rattle.ansi_screen.specs.Reachable.{is_left, IsWhole, IsScreen}
 use Rattle.ansi_screen.proofs.PairLemmas.{paired-replicate, right-replicate}
 use Rattle.ansi_screen.proofs.WholeLemmas.{whole-glyph, length-put, whole-marked, length-marked}
@@ -280,7 +280,9 @@ kept-set ClearStops groups d s = kept-cleared (first_of groups) d s
 
 kept-controlled : (function : Function) (groups : List (List ℕ)) (d : Display) → IsScreen d → IsScreen (controlled function groups d)
 unfolding controlled
-kept-controlled (Edits edit) groups d s = kept-edited edit (first_of groups) (settled d) (kept-settled d s) (settled-column d s)
+kept-controlled (Edits edit) groups d s =
+    kept-if (is_known edit (first_of groups)) (edited edit (first_of groups) (settled d)) d
+    (λ known. kept-edited edit (first_of groups) (settled d) (kept-settled d s) (settled-column d s)) (λ unknown. s)
 kept-controlled (Moves move) groups d s = kept-moved move (first_of groups) (second_of groups) (settled d) (kept-settled d s)
 kept-controlled (Sets setting) groups d s = kept-set setting groups d s
 kept-controlled Nothing groups d s = s

@@ -149,9 +149,8 @@ kept-part kind start end d s before behind inside =
     let up_to : IsScreen (erased_cells start (here d + 1) d) = kept-erased start (here d + 1) d s (omega arith) (omega arith) in
     let all : IsScreen (erased_cells start end d) = kept-erased start end d s (omega arith) inside in
     kept-if (kind == 0) (erased_cells (here d) end d)
-    (if kind == 1 then erased_cells start (here d + 1) d else if kind == 2 then erased_cells start end d else d) (λ is. after)
-    (λ other. kept-if (kind == 1) (erased_cells start (here d + 1) d) (if kind == 2 then erased_cells start end d else d) (λ is. up_to)
-    (λ another. kept-if (kind == 2) (erased_cells start end d) d (λ is. all) (λ none. s)))
+    (if kind == 1 then erased_cells start (here d + 1) d else erased_cells start end d) (λ is. after)
+    (λ other. kept-if (kind == 1) (erased_cells start (here d + 1) d) (erased_cells start end d) (λ is. up_to) (λ another. all))
 
 pub kept-erased_display : (kind : ℕ) (d : Display) → IsScreen d → d.cursor.column < d.width → IsScreen (erased_display kind d)
 unfolding erased_display

@@ -16,7 +16,7 @@ use Rattle.ansi_screen.specs.Moves.{to_column, settled}
 use Rattle.ansi_screen.specs.Edits.{space, with_cells, erased_part, erased_line, inserted_characters}
 use Rattle.ansi_screen.specs.Widths.{is_shown, is_among, columns}
 use Rattle.ansi_screen.specs.Print.{glyph, wrapped, with_room, with_glyph, put, marked, shown, line_drawing, drawn, draws, printed}
-use Rattle.ansi_screen.specs.After.{State, function_of, edited, controlled, sequenced, is_repeat, executed, after, after_all}
+use Rattle.ansi_screen.specs.After.{State, function_of, is_known, edited, controlled, sequenced, is_repeat, executed, after, after_all}
 use Rattle.ansi_screen.specs.Reachable.{IsScreen}
 use Rattle.ansi_screen.specs.Laws.{carriage_return, erase_rest, printing, text_columns}
 use Rattle.ansi_screen.proofs.PairLemmas.{length-cut, length-run, length-within, length-on, right-on, within-place, clear-cut, clear-cut_other}
@@ -571,7 +571,7 @@ module _ (d : Display) (xs ys : List Cell) (screen_xs : IsScreen (with_cells xs 
       ap (λ l. erased_line 0 (settled (with_cells l d))) cells
 
 after-erase : (s : State) → after erase_rest s ≡ record { display = erased_line 0 (settled s.display); last = None }
-unfolding is_repeat sequenced controlled function_of edited
+unfolding is_repeat sequenced controlled function_of is_known edited
 after-erase s = refl
 
 -- A text that has room, and EL, lead from such displays to the same.

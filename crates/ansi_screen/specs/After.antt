@@ -2,7 +2,7 @@
 --
 -- Sources: xterm's ctlseqs, "Controls beginning with ESC" and "Functions using CSI"; ECMA-48,
 -- 8.3, for the names.
-use Rattle.std.specs.Prelude.{◌≡◌, ℕ, ◌+◌, ◌-◌, min, max, Option, None, Some, Bool, true, false, ◌&&◌, ◌||◌, not, ◌==◌, List, [], ◌∷◌, length, if◌then◌else◌}
+use Rattle.std.specs.Prelude.{◌≡◌, ℕ, ◌+◌, ◌-◌, min, max, Option, None, Some, Bool, true, false, ◌&&◌, ◌||◌, not, ◌==◌, nat_le, List, [], ◌∷◌, length, if◌then◌else◌}
 use Rattle.anstyle_parse.specs.Stream.Call.{Call, print, execute, hook, put, unhook, osc_dispatch, csi_dispatch, esc_dispatch}
 use Rattle.anstyle_parse.specs.Stream.Calls.{AreCalls}
 use Rattle.ansi_screen.specs.declared.function.Edit.{Edit}
@@ -80,7 +80,13 @@ second_of groups = first_of (others groups)
 abbrev pub count : ℕ → ℕ
 count n = max 1 n
 
--- Edits of cells, in a display in which no wrap is pending.
+-- The numbers of ED and EL that change a screen are 0, 1 and 2; those of other edits are counts.
+unfoldable pub is_known : Edit → ℕ → Bool
+is_known EraseInDisplay n = nat_le n 2
+is_known EraseInLine n = nat_le n 2
+is_known edit n = true
+
+-- Edits of cells by a known number, in a display in which no wrap is pending.
 unfoldable pub edited : Edit → ℕ → Display → Display
 edited InsertCharacters n d = inserted_characters (count n) d
 edited EraseInDisplay n d = erased_display n d
@@ -115,7 +121,8 @@ set ForwardTab groups d = tabbed_times (min (count (first_of groups)) d.width) d
 set ClearStops groups d = cleared_stops (first_of groups) d
 
 unfoldable pub controlled : Function → List (List ℕ) → Display → Display
-controlled (Edits edit) groups d = edited edit (first_of groups) (settled d)
+controlled (Edits edit) groups d =
+    if is_known edit (first_of groups) then edited edit (first_of groups) (settled d) else d
 controlled (Moves move) groups d = moved move (first_of groups) (second_of groups) (settled d)
 controlled (Sets setting) groups d = set setting groups d
 controlled Nothing groups d = d
@@ -163,7 +170,8 @@ designated (mark ∷ other ∷ others) final d = d
 abbrev pub displayed : Call → Display → Display
 displayed (print c) d = printed c d
 displayed (execute byte) d = executed byte d
-displayed (csi_dispatch groups intermediates ignore final) d = if ignore then d else sequenced groups intermediates final d
+displayed (csi_dispatch groups intermediates ignore final) d =
+    if ignore then d else sequenced groups intermediates final d
 displayed (esc_dispatch intermediates ignore final) d = if ignore then d else designated intermediates final d
 displayed (hook groups intermediates ignore final) d = d
 displayed (put byte) d = d

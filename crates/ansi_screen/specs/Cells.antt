@@ -51,8 +51,9 @@ marked_before mark place cells =
 -- it, becomes two blanks: so xterm does wherever it changes one of the halves.
 unfoldable pub cut : ℕ → List Cell → List Cell
 cut place cells =
+    let left = slice_set cells (place - 1) (emptied (cell_at (place - 1) cells)) in
     if nat_lt 0 place && is_right (cell_at place cells).part
-    then slice_set (slice_set cells (place - 1) (emptied (cell_at (place - 1) cells))) place (emptied (cell_at place cells))
+    then slice_set left place (emptied (cell_at place cells))
     else cells
 
 -- The cells from start up to end go through `how`, which keeps their number; all others stay.

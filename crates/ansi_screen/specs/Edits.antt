@@ -24,8 +24,7 @@ unfoldable pub erased_part : ℕ → ℕ → ℕ → Display → Display
 erased_part kind start end d =
     if kind == 0 then erased_cells (here d) end d
     else if kind == 1 then erased_cells start (here d + 1) d
-    else if kind == 2 then erased_cells start end d
-    else d
+    else erased_cells start end d
 
 unfoldable pub erased_display : ℕ → Display → Display
 erased_display kind d = erased_part kind 0 (length d.cells) d
@@ -46,10 +45,12 @@ inserted_characters n d = with_cells (inserted n (here d) (row_end d) (space d) 
 
 -- the rows from one up to another move up, or down, by n
 unfoldable pub rows_up : ℕ → ℕ → ℕ → Display → Display
-rows_up n first last d = with_cells (within (first * d.width) (last * d.width) (moved_back (n * d.width) (space d)) d.cells) d
+rows_up n first last d =
+    with_cells (within (first * d.width) (last * d.width) (moved_back (n * d.width) (space d)) d.cells) d
 
 unfoldable pub rows_down : ℕ → ℕ → ℕ → Display → Display
-rows_down n first last d = with_cells (within (first * d.width) (last * d.width) (moved_on (n * d.width) (space d)) d.cells) d
+rows_down n first last d =
+    with_cells (within (first * d.width) (last * d.width) (moved_on (n * d.width) (space d)) d.cells) d
 
 -- SU, SD: what is within the margins scrolls
 abbrev pub scrolled_up : ℕ → Display → Display

@@ -5,6 +5,7 @@
 use Rattle.std.specs.Prelude.{ℕ, ◌-◌, min, max, Bool, true, false, ◌&&◌, ◌==◌, nat_lt, List, [], ◌∷◌, length, replicate, if◌then◌else◌}
 use Rattle.ansi_style.specs.Style.{plain}
 use Rattle.ansi_style.specs.Rendition.{selected}
+use Rattle.ansi_screen.specs.declared.place.Charsets.{Charsets}
 use Rattle.ansi_screen.specs.Cells.{blank}
 use Rattle.ansi_screen.specs.Display.{Display, home, letters}
 use Rattle.ansi_screen.specs.Moves.{to_row, to_position}
@@ -18,15 +19,18 @@ with_style groups d = record d { cursor = record d.cursor { style = selected gro
 abbrev pub saving : Display → Display
 saving d = record d { saved = d.cursor }
 
+abbrev pub with_charsets : Charsets → Display → Display
+with_charsets sets d = record d { cursor = record d.cursor { charsets = sets } }
+
 -- SO and SI: G1 is used, or G0
 abbrev pub shifted : Bool → Display → Display
-shifted on d = record d { cursor = record d.cursor { charsets = record d.cursor.charsets { uses_g1 = on } } }
+shifted on d = with_charsets (record d.cursor.charsets { uses_g1 = on }) d
 
 -- ESC ( and ESC ): G0 or G1 is the line drawing set for 0, and for all else letters
 unfoldable pub with_charset : ℕ → ℕ → Display → Display
 with_charset mark final d =
-    if mark == 0x28 then record d { cursor = record d.cursor { charsets = record d.cursor.charsets { g0_draws = final == 0x30 } } }
-    else if mark == 0x29 then record d { cursor = record d.cursor { charsets = record d.cursor.charsets { g1_draws = final == 0x30 } } }
+    if mark == 0x28 then with_charsets (record d.cursor.charsets { g0_draws = final == 0x30 }) d
+    else if mark == 0x29 then with_charsets (record d.cursor.charsets { g1_draws = final == 0x30 }) d
     else d
 
 -- in origin mode the cursor is within the margins

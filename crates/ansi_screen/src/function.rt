@@ -1,6 +1,6 @@
 //! Control functions by their final byte.
 ghost use Rattle.std.specs.Prelude.{◌≡◌};
-ghost use Rattle.ansi_screen.specs.After.{function_of};
+ghost use Rattle.ansi_screen.specs.After.{function_of, is_known};
 
 /// Edits of cells.
 #[derive(Clone, Copy)]
@@ -19,6 +19,19 @@ pub(crate) enum Edit {
     DeleteCharacters,
     /// ECH
     EraseCharacters,
+}
+
+impl Edit {
+    /// Whether its number has a meaning: one that has none changes nothing.
+    #[tactic(auto, unfolding(crate::specs::After::is_known))]
+    pub(crate) fn is_known(self, number: u16) -> bool
+        ensures { result ≡ is_known self number }
+    {
+        match self {
+            Edit::EraseInDisplay | Edit::EraseInLine => number <= 2,
+            _ => true,
+        }
+    }
 }
 
 /// Moves of the cursor.

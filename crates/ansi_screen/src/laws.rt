@@ -21,10 +21,12 @@ pub fn show(screen: &mut Screen, pieces: &[&[u8]])
 /// screen, is within its sizes, has the halves of wide characters in pairs, each pair in one row,
 /// and in origin mode the cursor within the margins.
 pub fn reachable()
-    ensures new { (columns rows : ℕ) → 2 ≤ columns → columns ≤ most_columns → 1 ≤ rows → rows ≤ most_rows
+    ensures new { (columns rows : ℕ)
+        → 2 ≤ columns → columns ≤ most_columns → 1 ≤ rows → rows ≤ most_rows
         → IsScreen (new_state columns rows).display }
     ensures kept { (screen : State) (call : Call) → IsScreen screen.display → IsScreen (after call screen).display }
-    ensures shown { (old new : State) (bytes : List ℕ) → IsScreen old.display → Shows old bytes new → IsScreen new.display }
+    ensures shown { (old new : State) (bytes : List ℕ)
+        → IsScreen old.display → Shows old bytes new → IsScreen new.display }
 {}
 
 /// What it shows is determined: from equal screens equal bytes lead to equal screens.
@@ -36,7 +38,8 @@ pub fn determined()
 /// ESC c makes every screen a new one of its size; so after it, nothing counts that came before.
 pub fn reset()
     ensures new { (screen : State) → after reset screen ≡ new_state screen.display.width screen.display.height }
-    ensures forgets { (a b : State) (calls : List Call) → a.display.width ≡ b.display.width → a.display.height ≡ b.display.height
+    ensures forgets { (a b : State) (calls : List Call)
+        → a.display.width ≡ b.display.width → a.display.height ≡ b.display.height
         → after_all (reset ∷ calls) a ≡ after_all (reset ∷ calls) b }
 {}
 

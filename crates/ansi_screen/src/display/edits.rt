@@ -37,8 +37,7 @@ impl Display {
         match kind {
             0 => self.erase_cells(here, end),
             1 => self.erase_cells(start, here + 1),
-            2 => self.erase_cells(start, end),
-            _ => {}
+            _ => self.erase_cells(start, end),
         }
     }
 

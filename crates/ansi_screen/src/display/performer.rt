@@ -104,8 +104,10 @@ impl Display {
         match function {
             Function::Edits(edit) => {
                 let (number, _) = two_fields(params);
-                self.settle();
-                self.edit(edit, number);
+                if edit.is_known(number) {
+                    self.settle();
+                    self.edit(edit, number);
+                }
             }
             Function::Moves(to) => {
                 let (number, column) = two_fields(params);

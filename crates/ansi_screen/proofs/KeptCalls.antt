@@ -19,17 +19,17 @@ use Rattle.ansi_screen.specs.declared.function.Function.{Function}
 use Rattle.ansi_screen.specs.declared.function.Function.TheVariants.{Edits, Moves, Sets, Nothing}
 use Rattle.ansi_screen.specs.Cells.{blank, is_right, marked_before}
 use Rattle.ansi_screen.specs.Display.{Display, here, row_end, stops, blanks, fresh, most_columns, most_rows}
-use Rattle.ansi_screen.specs.Moves.{to_row, to_column, settled, up, down, to_position, tabbed, with_stop}
+use Rattle.ansi_screen.specs.Moves.{to_row, to_column, settled, up, down, to_position, tabbed, tabbed_back, with_stop}
 use Rattle.ansi_screen.specs.Edits.{space, with_cells, inserted_characters, index, reverse_index}
 use Rattle.ansi_screen.specs.Widths.{is_shown, columns, is_among}
 use Rattle.ansi_screen.specs.Ranges.{no_column, two_columns}
-use Rattle.ansi_screen.specs.Print.{wrapped, with_room, with_glyph, put, marked, shown, drawn, draws, printed, printed_again, printed_times}
+use Rattle.ansi_screen.specs.Print.{wrapped, with_room, with_glyph, put, marked, shown, drawn, draws, printed, printed_again}
 use Rattle.ansi_screen.specs.Modes.{with_style, shifted, with_charset, saving, restored, with_origin, with_margins, to_alternate, to_main, with_alternate, softly_reset, with_private_mode, with_mode, with_modes, first_field}
 use Rattle.ansi_screen.specs.After.{State, function_of, first_of, second_of, count, is_known, edited, moved, set as set_by, controlled, sequenced, executed, escaped, designated, repeated, is_repeat, after, after_all}
 use Rattle.ansi_screen.specs.Reachable.{is_left, IsWhole, IsScreen}
 use Rattle.ansi_screen.proofs.PairLemmas.{paired-replicate, right-replicate}
 use Rattle.ansi_screen.proofs.WholeLemmas.{whole-glyph, length-put, whole-marked, length-marked}
-use Rattle.ansi_screen.proofs.KeptLemmas.{kept-if, kept-place, kept-cells, kept-column, kept-settled, settled-column, kept-up, kept-down, kept-line, kept-position, kept-tabbed, kept-tabs_forward, kept-tabs_back, kept-stop, kept-cleared, row_end-inside, kept-erased_display, kept-erased_line, kept-erased_characters, kept-deleted, kept-inserted, kept-scrolled_up, kept-scrolled_down, kept-inserted_lines, kept-deleted_lines, kept-index, kept-reverse_index}
+use Rattle.ansi_screen.proofs.KeptLemmas.{kept-if, kept-place, kept-cells, kept-column, kept-settled, settled-column, kept-up, kept-down, kept-line, kept-position, kept-tabbed, kept-tabbed_back, kept-times, kept-stop, kept-cleared, row_end-inside, kept-erased_display, kept-erased_line, kept-erased_characters, kept-deleted, kept-inserted, kept-scrolled_up, kept-scrolled_down, kept-inserted_lines, kept-deleted_lines, kept-index, kept-reverse_index}
 
 -- printing
 kept-wrapped : (n : ℕ) (d : Display) → IsScreen d → IsScreen (wrapped n d)
@@ -91,14 +91,10 @@ kept-again : (c : ℕ) (d : Display) → IsScreen d → IsScreen (printed_again 
 unfolding printed_again
 kept-again c d s = kept-if (nat_le (d.cursor.column + columns c) d.width) (printed c d) d (λ fits. kept-printed c d s) (λ full. s)
 
-kept-times : (n c : ℕ) (d : Display) → IsScreen d → IsScreen (printed_times n c d)
-kept-times zero c d s = s
-kept-times (suc n) c d s = kept-again c (printed_times n c d) (kept-times n c d s)
-
 kept-repeated : (n : ℕ) (last : Option ℕ) (d : Display) → IsScreen d → IsScreen (repeated n last d)
 unfolding repeated
 kept-repeated n None d s = s
-kept-repeated n (Some c) d s = kept-times (min n d.width) c d s
+kept-repeated n (Some c) d s = kept-times (printed_again c) (kept-again c) (min n d.width) d s
 
 -- styles, character sets and saved cursors
 kept-style : (groups : List (List ℕ)) (d : Display) → IsScreen d → IsScreen (with_style groups d)
@@ -265,7 +261,7 @@ kept-moved PrecedingLine n column d s = kept-column 0 (up (count n) d) (kept-up 
 kept-moved Column n column d s = kept-column (count n - 1) d s
 kept-moved Line n column d s = kept-line (count n - 1) d s
 kept-moved Position n column d s = kept-position (count n - 1) (count column - 1) d s
-kept-moved BackTab n column d s = kept-tabs_back (min (count n) d.width) d s
+kept-moved BackTab n column d s = kept-times tabbed_back kept-tabbed_back (min (count n) d.width) d s
 
 kept-set : (setting : Setting) (groups : List (List ℕ)) (d : Display) → IsScreen d → IsScreen (set_by setting groups d)
 unfolding set_by
@@ -275,7 +271,7 @@ kept-set ResetModes groups d s = kept-modes (with_mode false) (kept-mode false) 
 kept-set Margins groups d s = kept-margins (first_of groups) (second_of groups) d s
 kept-set ScrollUp groups d s = kept-scrolled_up (count (first_of groups)) d s
 kept-set ScrollDown groups d s = kept-scrolled_down (count (first_of groups)) d s
-kept-set ForwardTab groups d s = kept-tabs_forward (min (count (first_of groups)) d.width) d s
+kept-set ForwardTab groups d s = kept-times tabbed kept-tabbed (min (count (first_of groups)) d.width) d s
 kept-set ClearStops groups d s = kept-cleared (first_of groups) d s
 
 kept-controlled : (function : Function) (groups : List (List ℕ)) (d : Display) → IsScreen d → IsScreen (controlled function groups d)
@@ -348,9 +344,11 @@ kept-after (print c) s is = kept-printed c s.display is
 kept-after (execute byte) s is = kept-executed byte s.display is
 kept-after (csi_dispatch groups intermediates ignore final) s is =
     let known : Display = sequenced groups intermediates final s.display in
-    kept-if (is_repeat intermediates ignore final) (repeated (count (first_of groups)) s.last s.display) (if ignore then s.display else known)
-    (λ again. kept-repeated (count (first_of groups)) s.last s.display is)
-    (λ other. kept-if ignore s.display known (λ more. is) (λ whole. kept-sequenced groups intermediates final s.display is))
+    let again : Display = repeated (count (first_of groups)) s.last s.display in
+    kept-if ignore s.display (if is_repeat intermediates final then again else known) (λ more. is)
+    (λ whole. kept-if (is_repeat intermediates final) again known
+    (λ repeats. kept-repeated (count (first_of groups)) s.last s.display is)
+    (λ other. kept-sequenced groups intermediates final s.display is))
 kept-after (esc_dispatch intermediates ignore final) s is =
     kept-if ignore s.display (designated intermediates final s.display) (λ more. is) (λ whole. kept-designated intermediates final s.display is)
 kept-after (hook groups intermediates ignore final) s is = is

@@ -2,6 +2,7 @@
 -- mode with the cursor within the margins.
 use Rattle.std.proofs.Common.{◌≡◌, ℕ, zero, suc, ◌+◌, ◌-◌, ◌*◌, ◌<◌, ◌≤◌, Bool, true, false, List, length, drop, set, refl, ◌∙◌, arith}
 use Rattle.std.specs.Prelude.{min, max, nat_lt, nat_le, ◌==◌, replicate, if◌then◌else◌}
+use Rattle.std.specs.Fn.{iterate}
 use Rattle.std.proofs.lemmas.List.{length-set, length-replicate}
 use Rattle.std.proofs.lemmas.Bool.{and_parts}
 use Rattle.std.proofs.Math.Nat.{mul-le-mul_right, suc-mul}
@@ -10,7 +11,7 @@ use Rattle.ansi_screen.specs.declared.cell.Cell.{Cell}
 use Rattle.ansi_screen.specs.declared.place.Place.{Place}
 use Rattle.ansi_screen.specs.Cells.{change, erased}
 use Rattle.ansi_screen.specs.Display.{Display, here, row_start, row_end, stops}
-use Rattle.ansi_screen.specs.Moves.{to_row, to_column, settled, up, down, to_line, to_position, tabbed, tabbed_times, tabbed_back, back_times, with_stop, cleared_stops, column_of, before_stop}
+use Rattle.ansi_screen.specs.Moves.{to_row, to_column, settled, up, down, to_line, to_position, tabbed, tabbed_back, with_stop, cleared_stops, column_of, before_stop}
 use Rattle.ansi_screen.specs.Edits.{with_cells, space, erased_cells, erased_part, erased_display, erased_line, erased_characters, deleted_characters, inserted_characters, rows_up, rows_down, scrolled_up, scrolled_down, is_in_margins, inserted_lines, deleted_lines, index, reverse_index}
 use Rattle.ansi_screen.specs.Reachable.{IsWhole, IsScreen}
 use Rattle.ansi_screen.proofs.PairLemmas.{whole-erased}
@@ -20,6 +21,12 @@ use Rattle.ansi_screen.proofs.WholeLemmas.{whole-deleted, length-deleted, whole-
 pub kept-if : (t : Bool) (a b : Display) → (t ≡ true → IsScreen a) → (t ≡ false → IsScreen b) → IsScreen (if t then a else b)
 kept-if true a b first second = first refl
 kept-if false a b first second = second refl
+
+-- a step, taken as often as you like
+pub kept-times : (step : Display → Display) → ((d : Display) → IsScreen d → IsScreen (step d))
+    → (n : ℕ) (d : Display) → IsScreen d → IsScreen (iterate step n d)
+kept-times step kept zero d s = s
+kept-times step kept (suc n) d s = kept-times step kept n (step d) (kept d s)
 
 -- another place of the cursor, other cells
 pub kept-place : (p : Place) (d : Display) → IsScreen d → p.row < d.height → p.column ≤ d.width
@@ -103,17 +110,9 @@ kept-tabbed d s =
     let next : ℕ = d.cursor.column + 1 + before_stop (drop (d.cursor.column + 1) d.tabs) in
     kept-if (d.cursor.column == d.width) d (to_column next d) (λ pending. s) (λ other. kept-column next d s)
 
-pub kept-tabs_forward : (n : ℕ) (d : Display) → IsScreen d → IsScreen (tabbed_times n d)
-kept-tabs_forward zero d s = s
-kept-tabs_forward (suc n) d s = kept-tabbed (tabbed_times n d) (kept-tabs_forward n d s)
-
-kept-tabbed_back : (d : Display) → IsScreen d → IsScreen (tabbed_back d)
+pub kept-tabbed_back : (d : Display) → IsScreen d → IsScreen (tabbed_back d)
 unfolding tabbed_back
 kept-tabbed_back d s = kept-column _ d s
-
-pub kept-tabs_back : (n : ℕ) (d : Display) → IsScreen d → IsScreen (back_times n d)
-kept-tabs_back zero d s = s
-kept-tabs_back (suc n) d s = kept-tabbed_back (back_times n d) (kept-tabs_back n d s)
 
 pub kept-stop : (stops : Bool) (d : Display) → IsScreen d → IsScreen (with_stop stops d)
 kept-stop stops d s = kept-tabs (set d.tabs (column_of d) stops) d s (length-set d.tabs (column_of d) stops)

@@ -1,6 +1,8 @@
 -- Calls that change nothing but the cursor; and what a reset leaves.
 use Rattle.std.proofs.Common.{◌≡◌, inl, inr, ℕ, zero, suc, arith, true, false, List, [], ◌∷◌, ◌++◌, refl, ap, sym, ◌∙◌}
 use Rattle.std.specs.Prelude.{min}
+use Rattle.std.specs.Fn.{iterate}
+use Rattle.std.specs.List.{AllByRecursion}
 use Rattle.std.proofs.lemmas.Bool.{ne_eqb}
 use Rattle.anstyle_parse.specs.Stream.Call.{Call, print, execute, hook, put, unhook, osc_dispatch, csi_dispatch, esc_dispatch}
 use Rattle.anstyle_parse.proofs.Division.Only.{AreCalls-only}
@@ -12,9 +14,9 @@ use Rattle.ansi_screen.specs.declared.function.Function.TheVariants.{Moves, Noth
 use Rattle.ansi_screen.specs.declared.function.Setting.TheVariants.{Rendition}
 use Rattle.ansi_screen.specs.Display.{Display}
 use Rattle.ansi_screen.specs.Modes.{restored}
-use Rattle.ansi_screen.specs.Moves.{settled, tabbed_back, back_times}
+use Rattle.ansi_screen.specs.Moves.{settled, tabbed_back}
 use Rattle.ansi_screen.specs.After.{State, new_state, function_of, moved, set, controlled, sequenced, escaped, designated, is_repeat, after, after_all, Shows, first_of, second_of, count}
-use Rattle.ansi_screen.specs.Laws.{reset, save, restore, IsMoveOrStyle, AreMovesAndStyles}
+use Rattle.ansi_screen.specs.Laws.{reset, save, restore, IsMoveOrStyle}
 
 -- the display with another cursor
 abbrev at_place : Place → Display → Display
@@ -24,10 +26,10 @@ one-back : (d : Display) → tabbed_back d ≡ at_place (tabbed_back d).cursor d
 unfolding tabbed_back
 one-back d = refl
 
-back-cursor : (n : ℕ) (d : Display) → back_times n d ≡ at_place (back_times n d).cursor d
+back-cursor : (n : ℕ) (d : Display) → iterate tabbed_back n d ≡ at_place (iterate tabbed_back n d).cursor d
 back-cursor zero d = refl
 back-cursor (suc n) d =
-    one-back (back_times n d) ∙ ap (at_place (tabbed_back (back_times n d)).cursor) (back-cursor n d)
+    back-cursor n (tabbed_back d) ∙ ap (at_place (iterate tabbed_back n (tabbed_back d)).cursor) (one-back d)
 
 moved-cursor : (move : Move) (n m : ℕ) (d : Display) → moved move n m (settled d) ≡ at_place (moved move n m (settled d)).cursor d
 unfolding moved
@@ -61,14 +63,14 @@ repeat-nothing : function_of 0x62 ≡ Nothing
 unfolding function_of
 repeat-nothing = refl
 
-no-repeat : (final : ℕ) → (final ≡ 0x62 → ⊥) → is_repeat [] false final ≡ false
+no-repeat : (final : ℕ) → (final ≡ 0x62 → ⊥) → is_repeat [] final ≡ false
 unfolding is_repeat
 no-repeat final other = rw (ne_eqb final 0x62 other) refl
 
 move-other : (final : ℕ) (move : Move) → function_of final ≡ Moves move → final ≡ 0x62 → ⊥
 move-other final move is e = let none : function_of final ≡ Nothing = ap function_of e ∙ repeat-nothing in cc
 
-after-sequence : (groups : List (List ℕ)) (final : ℕ) (s : State) → is_repeat [] false final ≡ false
+after-sequence : (groups : List (List ℕ)) (final : ℕ) (s : State) → is_repeat [] final ≡ false
     → (after (csi_dispatch groups [] false final) s).display ≡ controlled (function_of final) groups s.display
 unfolding sequenced
 after-sequence groups final s other = rw other refl
@@ -95,7 +97,7 @@ kept unhook s never = absurd never
 kept (osc_dispatch parts bell) s never = absurd never
 kept (esc_dispatch intermediates ignore final) s never = absurd never
 
-all-kept : (calls : List Call) (s : State) → AreMovesAndStyles calls → (after_all calls s).display ≡ at_place (after_all calls s).display.cursor s.display
+all-kept : (calls : List Call) (s : State) → AllByRecursion IsMoveOrStyle calls → (after_all calls s).display ≡ at_place (after_all calls s).display.cursor s.display
 all-kept [] s are = refl
 all-kept (call ∷ calls) s are =
     all-kept calls (after call s) are.1 ∙ ap (λ (e : Display). at_place (after_all calls (after call s)).display.cursor e) (kept call s are.0)
@@ -120,7 +122,7 @@ pub after-reset : (s : State) → after reset s ≡ new_state s.display.width s.
 unfolding designated escaped
 after-reset s = refl
 
-pub enclosed-restores : (calls : List Call) (s : State) → AreMovesAndStyles calls → s.display.cursor.is_relative ≡ false
+pub enclosed-restores : (calls : List Call) (s : State) → AllByRecursion IsMoveOrStyle calls → s.display.cursor.is_relative ≡ false
     → (after_all (save ∷ (calls ++ restore ∷ [])) s).display ≡ record s.display { saved = s.display.cursor }
 enclosed-restores calls s are absolute =
     let start : State = after save s in

@@ -7,6 +7,7 @@ pub mod KeptCalls
 pub mod RangeLemmas
 pub mod TextLemmas
 pub mod CallLemmas
+pub mod RepeatLemmas
 pub mod LawLemmas
 pub mod PlainLemmas
 pub mod RowLemmas

@@ -154,10 +154,11 @@ print-lines [] width height row rows front s fit long few all is =
 print-lines (line ∷ lines) width height row zero front s fit long few all is = absurd (omega arith)
 print-lines (line ∷ []) width height row (suc rows) front s fit long few all is =
     let rest : rows ≡ suc rows - length (line ∷ []) = omega arith in
-    ap (λ (d : Display). d.cells) (print-row line width height row rows front s fit.0 long is)
+    ap (λ l. (after_all l s).display.cells) (append-nil (printing line))
+    ∙ (ap (λ (d : Display). d.cells) (print-row line width height row rows front s fit.0 long is)
     ∙ (append_assoc front (line_cells width line) (replicate (rows * width) (blank plain))
     ∙ (ap (λ l. front ++ (l ++ replicate (rows * width) (blank plain))) (sym (append-nil (line_cells width line)))
-    ∙ ap (λ k. front ++ (flat_map (line_cells width) (line ∷ []) ++ blanks width k)) rest))
+    ∙ ap (λ k. front ++ (flat_map (line_cells width) (line ∷ []) ++ blanks width k)) rest)))
 print-lines (line ∷ next ∷ lines) width height row (suc rows) front s fit long few all is =
     let rest : rows - length (next ∷ lines) ≡ suc rows - length (line ∷ next ∷ lines) = omega arith in
     let typed : State = after_all (printing line) s in
@@ -186,7 +187,8 @@ canon-line (c ∷ line) = ap (λ l. encode_utf8 c ++ l) (canon-line line)
 
 canon-lines : (lines : List (List ℕ)) → canon (typing lines) ≡ lines_text lines
 canon-lines [] = refl
-canon-lines (line ∷ []) = canon-line line
+canon-lines (line ∷ []) =
+    ap canon (append-nil (printing line)) ∙ (canon-line line ∙ sym (append-nil (flat_map encode_utf8 line)))
 canon-lines (line ∷ next ∷ lines) =
     flat_map-append call_text (printing line) (carriage_return ∷ line_feed ∷ typing (next ∷ lines))
     ∙ (ap (λ l. l ++ 0x0D ∷ 0x0A ∷ canon (typing (next ∷ lines))) (canon-line line)
@@ -203,7 +205,7 @@ lawful-line (c ∷ line) calls are lawful = (are.0.0, lawful-line line calls are
 
 lawful-lines : (width : ℕ) (lines : List (List ℕ)) → AllByRecursion (FitsIn width) lines → AreLawful (typing lines)
 lawful-lines width [] fit = tt
-lawful-lines width (line ∷ []) fit = subst (λ calls. AreLawful calls) (append-nil (printing line)) (lawful-line line [] fit.0.narrow tt)
+lawful-lines width (line ∷ []) fit = lawful-line line [] fit.0.narrow tt
 lawful-lines width (line ∷ next ∷ lines) fit =
     lawful-line line (carriage_return ∷ line_feed ∷ typing (next ∷ lines)) fit.0.narrow
     (executed-both.0, (executed-both.1, lawful-lines width (next ∷ lines) fit.1))

@@ -2,8 +2,11 @@
 --
 -- Sources: xterm's ctlseqs, "Controls beginning with ESC" and "Functions using CSI"; ECMA-48,
 -- 8.3, for the names.
-use Rattle.std.specs.Prelude.{◌≡◌, ℕ, ◌+◌, ◌-◌, min, max, Option, None, Some, Bool, true, false, ◌&&◌, ◌||◌, not, ◌==◌, nat_le, List, [], ◌∷◌, length, if◌then◌else◌}
-use Rattle.anstyle_parse.specs.Stream.Call.{Call, print, execute, hook, put, unhook, osc_dispatch, csi_dispatch, esc_dispatch}
+use Rattle.std.specs.Prelude.{◌≡◌, ℕ, ◌+◌, ◌-◌, min, max, Option, None, Some, Bool, true, false, ◌&&◌, ◌||◌, not, ◌==◌, nat_le, List, [], ◌∷◌, length, slice_index_or, if◌then◌else◌}
+use Rattle.std.specs.Fn.{iterate}
+use Rattle.std.specs.Map.{lookup}
+use Rattle.std.specs.Option.{unwrap_or}
+use Rattle.anstyle_parse.specs.Stream.Call.{Call, print, execute, csi_dispatch, esc_dispatch}
 use Rattle.anstyle_parse.specs.Stream.Calls.{AreCalls}
 use Rattle.ansi_screen.specs.declared.function.Edit.{Edit}
 use Rattle.ansi_screen.specs.declared.function.Edit.TheVariants.{InsertCharacters, EraseInDisplay, EraseInLine, InsertLines, DeleteLines, DeleteCharacters, EraseCharacters}
@@ -14,68 +17,38 @@ use Rattle.ansi_screen.specs.declared.function.Setting.TheVariants.{Rendition, S
 use Rattle.ansi_screen.specs.declared.function.Function.{Function}
 use Rattle.ansi_screen.specs.declared.function.Function.TheVariants.{Edits, Moves, Sets, Nothing}
 use Rattle.ansi_screen.specs.Display.{Display, fresh}
-use Rattle.ansi_screen.specs.Moves.{to_column, settled, up, down, to_line, to_position, tabbed, tabbed_times, back_times, with_stop, cleared_stops}
+use Rattle.ansi_screen.specs.Moves.{to_column, settled, up, down, to_line, to_position, tabbed, tabbed_back, with_stop, cleared_stops}
 use Rattle.ansi_screen.specs.Edits.{erased_display, erased_line, erased_characters, deleted_characters, inserted_characters, inserted_lines, deleted_lines, scrolled_up, scrolled_down, index, reverse_index}
-use Rattle.ansi_screen.specs.Print.{printed, printed_times}
+use Rattle.ansi_screen.specs.Print.{printed, printed_again}
 use Rattle.ansi_screen.specs.Widths.{is_shown, columns}
 use Rattle.ansi_screen.specs.Modes.{with_style, shifted, with_charset, saving, restored, with_margins, with_modes, with_mode, with_private_mode, softly_reset, first_field}
 
--- The control functions by their final byte.
+-- The control functions by their final bytes.
+abbrev pub functions : List (ℕ × Function)
+functions =
+    -- @ ICH, J ED, K EL; L IL, M DL; P DCH, X ECH
+    (0x40, Edits InsertCharacters) ∷ (0x4A, Edits EraseInDisplay) ∷ (0x4B, Edits EraseInLine) ∷
+    (0x4C, Edits InsertLines) ∷ (0x4D, Edits DeleteLines) ∷
+    (0x50, Edits DeleteCharacters) ∷ (0x58, Edits EraseCharacters) ∷
+    -- A CUU, B CUD, C CUF, D CUB; E CNL, F CPL, G CHA, H CUP; Z CBT, ` HPA, a HPR, d VPA, f HVP
+    (0x41, Moves Up) ∷ (0x42, Moves Down) ∷ (0x43, Moves Forward) ∷ (0x44, Moves Back) ∷
+    (0x45, Moves NextLine) ∷ (0x46, Moves PrecedingLine) ∷ (0x47, Moves Column) ∷ (0x48, Moves Position) ∷
+    (0x5A, Moves BackTab) ∷ (0x60, Moves Column) ∷ (0x61, Moves Forward) ∷ (0x64, Moves Line) ∷ (0x66, Moves Position) ∷
+    -- I CHT, S SU, T SD, g TBC; h SM, l RM, m SGR, r DECSTBM
+    (0x49, Sets ForwardTab) ∷ (0x53, Sets ScrollUp) ∷ (0x54, Sets ScrollDown) ∷ (0x67, Sets ClearStops) ∷
+    (0x68, Sets SetModes) ∷ (0x6C, Sets ResetModes) ∷ (0x6D, Sets Rendition) ∷ (0x72, Sets Margins) ∷ []
+
+-- any other final byte is that of none
 unfoldable pub function_of : ℕ → Function
-function_of final =
-    -- @: ICH, insert character
-    if final == 0x40 then Edits InsertCharacters
-    -- A to H: CUU, CUD, CUF, CUB, CNL, CPL, CHA, CUP
-    else if final == 0x41 then Moves Up
-    else if final == 0x42 then Moves Down
-    else if final == 0x43 then Moves Forward
-    else if final == 0x44 then Moves Back
-    else if final == 0x45 then Moves NextLine
-    else if final == 0x46 then Moves PrecedingLine
-    else if final == 0x47 then Moves Column
-    else if final == 0x48 then Moves Position
-    -- I: CHT
-    else if final == 0x49 then Sets ForwardTab
-    -- J, K: ED, EL
-    else if final == 0x4A then Edits EraseInDisplay
-    else if final == 0x4B then Edits EraseInLine
-    -- L, M, P: IL, DL, DCH
-    else if final == 0x4C then Edits InsertLines
-    else if final == 0x4D then Edits DeleteLines
-    else if final == 0x50 then Edits DeleteCharacters
-    -- S, T: SU, SD
-    else if final == 0x53 then Sets ScrollUp
-    else if final == 0x54 then Sets ScrollDown
-    -- X: ECH
-    else if final == 0x58 then Edits EraseCharacters
-    -- Z: CBT
-    else if final == 0x5A then Moves BackTab
-    -- `, a: HPA, HPR
-    else if final == 0x60 then Moves Column
-    else if final == 0x61 then Moves Forward
-    -- d, f: VPA, HVP
-    else if final == 0x64 then Moves Line
-    else if final == 0x66 then Moves Position
-    -- g, h, l, m, r: TBC, SM, RM, SGR, DECSTBM
-    else if final == 0x67 then Sets ClearStops
-    else if final == 0x68 then Sets SetModes
-    else if final == 0x6C then Sets ResetModes
-    else if final == 0x6D then Sets Rendition
-    else if final == 0x72 then Sets Margins
-    else Nothing
+function_of final = unwrap_or (lookup (λ byte. final == byte) functions) Nothing
 
 -- Parameters are taken by the first field of each group; a missing one is 0. A count is 1,
 -- where 0 is given.
 abbrev pub first_of : List (List ℕ) → ℕ
-first_of [] = 0
-first_of (group ∷ groups) = first_field group
-
-abbrev pub others : List (List ℕ) → List (List ℕ)
-others [] = []
-others (group ∷ groups) = groups
+first_of groups = first_field (slice_index_or groups 0 [])
 
 abbrev pub second_of : List (List ℕ) → ℕ
-second_of groups = first_of (others groups)
+second_of groups = first_field (slice_index_or groups 1 [])
 
 abbrev pub count : ℕ → ℕ
 count n = max 1 n
@@ -107,7 +80,7 @@ moved PrecedingLine n column d = to_column 0 (up (count n) d)
 moved Column n column d = to_column (count n - 1) d
 moved Line n column d = to_line (count n - 1) d
 moved Position n column d = to_position (count n - 1) (count column - 1) d
-moved BackTab n column d = back_times (min (count n) d.width) d
+moved BackTab n column d = iterate tabbed_back (min (count n) d.width) d
 
 -- What leaves a pending wrap as it is.
 unfoldable pub set : Setting → List (List ℕ) → Display → Display
@@ -117,7 +90,7 @@ set ResetModes groups d = with_modes (with_mode false) groups d
 set Margins groups d = with_margins (first_of groups) (second_of groups) d
 set ScrollUp groups d = scrolled_up (count (first_of groups)) d
 set ScrollDown groups d = scrolled_down (count (first_of groups)) d
-set ForwardTab groups d = tabbed_times (min (count (first_of groups)) d.width) d
+set ForwardTab groups d = iterate tabbed (min (count (first_of groups)) d.width) d
 set ClearStops groups d = cleared_stops (first_of groups) d
 
 unfoldable pub controlled : Function → List (List ℕ) → Display → Display
@@ -166,18 +139,6 @@ designated [] final d = escaped final d
 designated (mark ∷ []) final d = with_charset mark final d
 designated (mark ∷ other ∷ others) final d = d
 
--- The display after a call. What more came than a call shows, makes it one that is not known.
-abbrev pub displayed : Call → Display → Display
-displayed (print c) d = printed c d
-displayed (execute byte) d = executed byte d
-displayed (csi_dispatch groups intermediates ignore final) d =
-    if ignore then d else sequenced groups intermediates final d
-displayed (esc_dispatch intermediates ignore final) d = if ignore then d else designated intermediates final d
-displayed (hook groups intermediates ignore final) d = d
-displayed (put byte) d = d
-displayed unhook d = d
-displayed (osc_dispatch parts bell_terminated) d = d
-
 -- REP prints the character of the call just before again, and changes nothing behind any other
 -- call, also behind another REP: what it repeats is kept beside the display.
 pub record State : Type 0 where
@@ -192,23 +153,33 @@ new_state width height = record { display = fresh width height; last = None }
 unfoldable pub repeatable : ℕ → Option ℕ
 repeatable c = if is_shown c && not (columns c == 0) then Some c else None
 
-unfoldable pub is_repeat : List ℕ → Bool → ℕ → Bool
-is_repeat intermediates ignore final = length intermediates == 0 && not ignore && final == 0x62
+unfoldable pub is_repeat : List ℕ → ℕ → Bool
+is_repeat intermediates final = length intermediates == 0 && final == 0x62
 
 unfoldable pub repeated : ℕ → Option ℕ → Display → Display
 repeated n None d = d
-repeated n (Some c) d = printed_times (min n d.width) c d
+repeated n (Some c) d = iterate (printed_again c) (min n d.width) d
+
+-- The display after a call. What more came than a call shows, makes it one that is not known.
+abbrev pub displayed : Call → State → Display
+displayed (print c) s = printed c s.display
+displayed (execute byte) s = executed byte s.display
+displayed (csi_dispatch groups intermediates ignore final) s =
+    if ignore then s.display
+    else if is_repeat intermediates final then repeated (count (first_of groups)) s.last s.display
+    else sequenced groups intermediates final s.display
+displayed (esc_dispatch intermediates ignore final) s =
+    if ignore then s.display else designated intermediates final s.display
+displayed call s = s.display
+
+-- what a call leaves to REP
+abbrev pub left_to_repeat : Call → Option ℕ
+left_to_repeat (print c) = repeatable c
+left_to_repeat call = None
 
 -- The screen after a call.
 abbrev pub after : Call → State → State
-after (print c) s = record { display = printed c s.display; last = repeatable c }
-after (csi_dispatch groups intermediates ignore final) s = record {
-  display =
-      if is_repeat intermediates ignore final then repeated (count (first_of groups)) s.last s.display
-      else displayed (csi_dispatch groups intermediates ignore final) s.display;
-  last = None;
-}
-after call s = record { display = displayed call s.display; last = None }
+after call s = record { display = displayed call s; last = left_to_repeat call }
 
 -- the screen after a list of calls
 abbrev pub after_all : List Call → State → State

@@ -9,7 +9,7 @@ use Rattle.ansi_screen.specs.declared.cell.Cell.{Cell}
 use Rattle.ansi_screen.specs.declared.cell.Marks.{Marks}
 use Rattle.ansi_screen.specs.declared.cell.Marks.TheVariants.{Unmarked, One, Two}
 use Rattle.ansi_screen.specs.declared.cell.Part.{Part}
-use Rattle.ansi_screen.specs.declared.cell.Part.TheVariants.{Whole, Left, Right}
+use Rattle.ansi_screen.specs.declared.cell.Part.TheVariants.{Whole, Right}
 
 -- a character without marks
 abbrev pub plain_cell : ℕ → Style → Part → Cell
@@ -33,9 +33,8 @@ abbrev pub with_mark : ℕ → Cell → Cell
 with_mark mark cell = record cell { marks = one_more mark cell.marks }
 
 abbrev pub is_right : Part → Bool
-is_right Whole = false
-is_right Left = false
 is_right Right = true
+is_right part = false
 
 -- the cell at a place; a plain blank past the end
 abbrev pub cell_at : ℕ → List Cell → Cell

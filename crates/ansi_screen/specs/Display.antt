@@ -75,11 +75,6 @@ fresh width height = record {
   hidden_saved = home;
 }
 
--- A place is within a screen of that size.
-pub record IsWithin (width height : ℕ) (place : Place) : Type 0 where
-  pub row_within : place.row < height
-  pub column_within : place.column ≤ width
-
 -- What holds of the sizes and places of every display.
 pub record IsSized (d : Display) : Type 0 where
   pub two_columns : 2 ≤ d.width

@@ -1,6 +1,6 @@
 -- What the laws speak of.
 use Rattle.std.specs.Prelude.{◌≡◌, ◌⊎◌, ℕ, ◌+◌, ◌-◌, ◌≤◌, false, true, List, [], ◌∷◌, ◌++◌, length, map, replicate, encode_utf8}
-use Rattle.std.specs.List.{AllByRecursion, flat_map}
+use Rattle.std.specs.List.{AllByRecursion, flat_map, join_by}
 use Rattle.anstyle_parse.specs.Stream.Call.{Call, print, execute, csi_dispatch, esc_dispatch}
 use Rattle.anstyle_parse.specs.Laws.Lawful.{is_character}
 use Rattle.ansi_style.specs.Style.{plain}
@@ -28,11 +28,6 @@ abbrev pub IsMoveOrStyle : Call → Type 0
 IsMoveOrStyle (csi_dispatch groups [] false final) = ((move : Move) × (function_of final ≡ Moves move)) ⊎ (final ≡ 0x6D)
 IsMoveOrStyle call = ⊥
 
--- each of these calls is one
-abbrev pub AreMovesAndStyles : List Call → Type 0
-AreMovesAndStyles [] = Unit {0}
-AreMovesAndStyles (call ∷ calls) = IsMoveOrStyle call × AreMovesAndStyles calls
-
 -- CR, LF, and EL as ESC [ K makes it
 abbrev pub carriage_return : Call
 carriage_return = execute 0x0D
@@ -48,15 +43,11 @@ abbrev pub printing : List ℕ → List Call
 printing text = map print text
 
 abbrev pub typing : List (List ℕ) → List Call
-typing [] = []
-typing (line ∷ []) = printing line
-typing (line ∷ next ∷ lines) = printing line ++ carriage_return ∷ line_feed ∷ typing (next ∷ lines)
+typing lines = join_by printing (carriage_return ∷ line_feed ∷ []) lines
 
 -- the bytes of these lines: UTF-8
 abbrev pub lines_text : List (List ℕ) → List ℕ
-lines_text [] = []
-lines_text (line ∷ []) = flat_map encode_utf8 line
-lines_text (line ∷ next ∷ lines) = flat_map encode_utf8 line ++ 0x0D ∷ 0x0A ∷ lines_text (next ∷ lines)
+lines_text lines = join_by (flat_map encode_utf8) (0x0D ∷ 0x0A ∷ []) lines
 
 -- a character that is shown in one column; a line of them that has room in a row
 abbrev pub IsNarrow : ℕ → Type 0

@@ -2,7 +2,7 @@
 --
 -- Sources: xterm's ctlseqs, "DEC Private Mode Set (DECSET)", 6, 7, 25, 1049; ECMA-48, 7.2.10
 -- (IRM, 4); the VT510 manual (DECSTBM, DECSC, DECRC, DECOM, RIS).
-use Rattle.std.specs.Prelude.{ℕ, ◌-◌, min, max, Bool, true, false, ◌&&◌, ◌==◌, nat_lt, List, [], ◌∷◌, length, replicate, if◌then◌else◌}
+use Rattle.std.specs.Prelude.{ℕ, ◌-◌, min, max, Bool, true, false, ◌&&◌, ◌==◌, nat_lt, List, [], ◌∷◌, length, replicate, slice_index_or, if◌then◌else◌}
 use Rattle.ansi_style.specs.Style.{plain}
 use Rattle.ansi_style.specs.Rendition.{selected}
 use Rattle.ansi_screen.specs.declared.place.Charsets.{Charsets}
@@ -107,8 +107,7 @@ with_mode on mode d = if mode == 4 then record d { inserts = on } else d
 
 -- the first field of a group; 0, where there is none
 abbrev pub first_field : List ℕ → ℕ
-first_field [] = 0
-first_field (field ∷ fields) = field
+first_field group = slice_index_or group 0 0
 
 -- each group is a mode, by its first field
 abbrev pub with_modes : (ℕ → Display → Display) → List (List ℕ) → Display → Display

@@ -38,29 +38,20 @@ before_stop [] = 0
 before_stop (true ∷ stops) = 0
 before_stop (false ∷ stops) = suc (before_stop stops)
 
--- HT: to the next stop, or to the last column; a pending wrap stays
+-- HT, and each step of CHT: to the next stop, or to the last column; a pending wrap stays
 unfoldable pub tabbed : Display → Display
 tabbed d =
     if d.cursor.column == d.width then d
     else to_column (d.cursor.column + 1 + before_stop (drop (d.cursor.column + 1) d.tabs)) d
-
--- CHT: so many of them
-abbrev pub tabbed_times : ℕ → Display → Display
-tabbed_times zero d = d
-tabbed_times (suc n) d = tabbed (tabbed_times n d)
 
 -- the last stop before a column; the first column, where there is none
 abbrev pub stop_before : ℕ → List Bool → ℕ
 stop_before zero stops = 0
 stop_before (suc column) stops = if slice_index_or stops column false then column else stop_before column stops
 
--- CBT: so many stops back
+-- each step of CBT
 unfoldable pub tabbed_back : Display → Display
 tabbed_back d = to_column (stop_before d.cursor.column d.tabs) d
-
-abbrev pub back_times : ℕ → Display → Display
-back_times zero d = d
-back_times (suc n) d = tabbed_back (back_times n d)
 
 -- the cursor's column; the last, where a wrap is pending
 abbrev pub column_of : Display → ℕ

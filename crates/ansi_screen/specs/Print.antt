@@ -2,7 +2,7 @@
 --
 -- Sources: xterm's ctlseqs (DECAWM, IRM, REP, "Designate G0 Character Set"); the VT510 manual,
 -- "DECAWM"; for line drawing the VT220's "DEC Special Graphics", in Unicode's characters.
-use Rattle.std.specs.Prelude.{ℕ, zero, suc, ◌+◌, ◌-◌, Bool, ◌==◌, nat_lt, nat_le, List, [], ◌∷◌, slice_index, if◌then◌else◌}
+use Rattle.std.specs.Prelude.{ℕ, ◌+◌, ◌-◌, Bool, ◌==◌, nat_lt, nat_le, List, [], ◌∷◌, slice_index, if◌then◌else◌}
 use Rattle.anstyle_parse.specs.Stream.Bytes.{is_within}
 use Rattle.ansi_style.specs.declared.style.Style.{Style}
 use Rattle.ansi_screen.specs.declared.cell.Cell.{Cell}
@@ -70,10 +70,6 @@ draws sets = if sets.uses_g1 then sets.g1_draws else sets.g0_draws
 unfoldable pub printed : ℕ → Display → Display
 printed c d = if is_shown c then shown (if draws d.cursor.charsets then drawn c else c) d else d
 
--- REP prints a character again, as often as it is told and the row has room for it.
+-- each step of REP: the character again, where the row has room for it
 unfoldable pub printed_again : ℕ → Display → Display
 printed_again c d = if nat_le (d.cursor.column + columns c) d.width then printed c d else d
-
-abbrev pub printed_times : ℕ → ℕ → Display → Display
-printed_times zero c d = d
-printed_times (suc n) c d = printed_again c (printed_times n c d)

@@ -2,14 +2,13 @@
 use Rattle.std.specs.Prelude.{◌≡◌, ℕ, ◌*◌, ◌<◌, ◌≤◌, Bool, true, false, List, [], ◌∷◌}
 use Rattle.ansi_screen.specs.declared.cell.Cell.{Cell}
 use Rattle.ansi_screen.specs.declared.cell.Part.{Part}
-use Rattle.ansi_screen.specs.declared.cell.Part.TheVariants.{Whole, Left, Right}
+use Rattle.ansi_screen.specs.declared.cell.Part.TheVariants.{Left}
 use Rattle.ansi_screen.specs.Cells.{is_right, cell_at}
 use Rattle.ansi_screen.specs.Display.{Display, IsSized}
 
 abbrev pub is_left : Part → Bool
-is_left Whole = false
 is_left Left = true
-is_left Right = false
+is_left part = false
 
 -- Each right half of a wide character stands right behind a left half, and each left half
 -- before a right one; `behind` says whether a left half stands before these cells.

@@ -5,7 +5,7 @@ ghost use Rattle.anstyle_parse.specs.Stream.Call.{Call};
 ghost use Rattle.ansi_screen.specs.Display.{most_columns, most_rows};
 ghost use Rattle.ansi_screen.specs.Reachable.{IsScreen};
 ghost use Rattle.ansi_screen.specs.After.{State, new_state, after, after_all, Shows};
-ghost use Rattle.ansi_screen.specs.Laws.{reset, save, restore, AreMovesAndStyles, carriage_return, erase_rest, printing, typing, lines_text, FitsIn, page, text_columns};
+ghost use Rattle.ansi_screen.specs.Laws.{reset, save, restore, IsMoveOrStyle, carriage_return, erase_rest, printing, typing, lines_text, FitsIn, page, text_columns};
 
 use crate::screen::Screen;
 
@@ -45,7 +45,7 @@ pub fn reset()
 
 /// ESC 7 and ESC 8 enclose moves and styles: out of origin mode, nothing of them is left.
 pub fn enclosed()
-    ensures { (screen : State) (calls : List Call) → AreMovesAndStyles calls
+    ensures { (screen : State) (calls : List Call) → AllByRecursion IsMoveOrStyle calls
         → screen.display.cursor.is_relative ≡ false
         → (after_all (save ∷ (calls ++ restore ∷ [])) screen).display
         ≡ record screen.display { saved = screen.display.cursor } }

@@ -55,10 +55,10 @@ fn repeatable(c: char) -> Option<char>
 
 /// Whether a control sequence is REP.
 #[tactic(auto, unfolding(crate::specs::After::is_repeat))]
-fn is_repeat(intermediates: &[u8], ignore: bool, final_byte: u8) -> bool
-    ensures { result ≡ is_repeat intermediates.now ignore final_byte }
+fn is_repeat(intermediates: &[u8], final_byte: u8) -> bool
+    ensures { result ≡ is_repeat intermediates.now final_byte }
 {
-    intermediates.is_empty() && !ignore && final_byte == b'b'
+    intermediates.is_empty() && final_byte == b'b'
 }
 
 impl Screen {
@@ -161,7 +161,7 @@ impl Perform for Screen {
     }
 
     fn csi_dispatch(&mut self, params: &Params, intermediates: &[u8], ignore: bool, action: u8) {
-        if is_repeat(intermediates, ignore, action) {
+        if !ignore && is_repeat(intermediates, action) {
             let count = first_of(params).max(1);
             self.display.repeat(count, self.last);
         } else if !ignore {

@@ -1,6 +1,7 @@
 //! Moves of the cursor, and tabs.
 ghost use Rattle.std.specs.Prelude.{◌≡◌, ◌+◌, ◌-◌, ◌<◌, min};
-ghost use Rattle.ansi_screen.specs.Moves.{to_row, to_column, settled, up, down, to_line, to_position, tabbed, tabbed_times, tabbed_back, back_times, with_stop, cleared_stops, column_of};
+ghost use Rattle.std.specs.Fn.{iterate};
+ghost use Rattle.ansi_screen.specs.Moves.{to_row, to_column, settled, up, down, to_line, to_position, tabbed, tabbed_back, with_stop, cleared_stops, column_of};
 
 use super::Display;
 use crate::tabs::{columns_before_stop, stop_before};
@@ -110,7 +111,7 @@ impl Display {
 
     /// CHT
     pub(super) fn tab_times(&mut self, count: u16)
-        ensures { self.new ≡ tabbed_times (min count self.old.width) self.old }
+        ensures { self.new ≡ iterate tabbed (min count self.old.width) self.old }
     {
         let count = usize::from(count).min(self.width);
         for _done in 0..count {
@@ -129,7 +130,7 @@ impl Display {
 
     /// CBT
     pub(super) fn tab_back(&mut self, count: u16)
-        ensures { self.new ≡ back_times (min count self.old.width) self.old }
+        ensures { self.new ≡ iterate tabbed_back (min count self.old.width) self.old }
     {
         let count = usize::from(count).min(self.width);
         for _done in 0..count {

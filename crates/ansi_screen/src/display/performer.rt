@@ -1,7 +1,7 @@
 //! What control characters and sequences do to a display.
-ghost use Rattle.std.specs.Prelude.{◌≡◌, ◌<◌};
+ghost use Rattle.std.specs.Prelude.{◌≡◌, ◌<◌, drop};
 ghost use Rattle.anstyle_parse.specs.Views.Params.{groups_shown, groups_left};
-ghost use Rattle.ansi_screen.specs.After.{first_of, second_of, others, count, edited, moved, set, controlled, sequenced, executed, escaped, designated};
+ghost use Rattle.ansi_screen.specs.After.{first_of, second_of, count, edited, moved, set, controlled, sequenced, executed, escaped, designated};
 
 use super::Display;
 use super::modes::first_field;
@@ -11,7 +11,7 @@ use anstyle_parse::{Params, ParamsIter};
 /// The first field of the next group; 0, where there is no group left.
 fn next_field(groups: &mut ParamsIter<'_>) -> u16
     ensures field { result ≡ first_of (groups_left groups.old) }
-    ensures left { groups_left groups.new ≡ others (groups_left groups.old) }
+    ensures left { groups_left groups.new ≡ drop 1 (groups_left groups.old) }
 {
     match groups.next() {
         Some(group) => first_field(group),

@@ -1,6 +1,7 @@
 //! Printing a character.
 ghost use Rattle.std.specs.Prelude.{◌≡◌, ◌+◌, ◌<◌, ◌≤◌, min};
-ghost use Rattle.ansi_screen.specs.Print.{drawn, wrapped, with_room, with_glyph, put, marked, shown, printed, printed_again, printed_times};
+ghost use Rattle.std.specs.Fn.{iterate};
+ghost use Rattle.ansi_screen.specs.Print.{drawn, wrapped, with_room, with_glyph, put, marked, shown, printed, printed_again};
 ghost use Rattle.ansi_screen.specs.After.{repeated};
 
 use super::Display;
@@ -73,7 +74,7 @@ impl Display {
 
     /// REP
     fn print_times(&mut self, count: usize, c: char)
-        ensures { self.new ≡ printed_times count c self.old }
+        ensures { self.new ≡ iterate (printed_again c) count self.old }
     {
         for _done in 0..count {
             self.print_again(c);

@@ -1,7 +1,8 @@
 -- The character so far.
 use Rattle.std.proofs.Common.{◌≡◌}
-use Rattle.ansi_screen.specs.Print.{printed_times}
+use Rattle.std.specs.Fn.{iterate}
+use Rattle.ansi_screen.specs.Print.{printed_again}
 use Rattle.ansi_screen.proofs.display.Display.print_times.Given as goal
 
 abbrev pub invariant-loop-done : goal.invariant-loop-done
-invariant-loop-done l = l.self ≡ printed_times l._done l.c l.initial.self
+invariant-loop-done l = l.self ≡ iterate (printed_again l.c) l._done l.initial.self

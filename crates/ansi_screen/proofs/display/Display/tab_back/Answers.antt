@@ -1,8 +1,12 @@
 -- Once more.
 use Rattle.std.proofs.Common.{ap, sym, ◌∙◌, add-one}
-use Rattle.ansi_screen.specs.Moves.{tabbed_back, back_times}
+use Rattle.std.specs.Fn.{iterate}
+use Rattle.ansi_screen.specs.Moves.{tabbed_back}
+use Rattle.ansi_screen.proofs.RepeatLemmas.{iterate-suc}
 use Rattle.ansi_screen.proofs.display.Display.tab_back.Goals as goal
 
 pub loop-done-preserved : goal.loop-done-preserved
 loop-done-preserved c =
-    c.tab_back_once.ensures ∙ (ap tabbed_back c.loop-done.invariant ∙ ap (λ n. back_times n c.args.self.now) (sym (add-one c.loop-done._done)))
+    c.tab_back_once.ensures ∙ (ap tabbed_back c.loop-done.invariant
+    ∙ (sym (iterate-suc tabbed_back c.loop-done._done c.args.self.now)
+    ∙ ap (λ n. iterate tabbed_back n c.args.self.now) (sym (add-one c.loop-done._done))))

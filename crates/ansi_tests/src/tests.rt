@@ -1,5 +1,8 @@
-//! Rows that were worked by hand, by the library that they are of, and streams that fail.
+//! Rows that were worked by hand, by the library that they are of, streams that fail, the examples,
+//! and every public item by its name.
+mod examples;
 mod faults;
+mod names;
 mod pieces;
 mod screen;
 mod style;

@@ -10,8 +10,6 @@ mod first_calls;
 mod last_style;
 mod plain_text;
 mod quiet;
-#[cfg(test)]
-mod tests;
 mod two_pieces;
 
 pub use call_counter::calls_made;

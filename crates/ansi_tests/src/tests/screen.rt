@@ -1,6 +1,6 @@
 //! What the text of a screen does not say: styles, halves, the cursor. Rows of text stand in
 //! tests/screen_twin.
-use ansi_screen::{Part, Place, Screen};
+use ansi_screen::{Cell, Marks, Part, Place, Screen};
 use ansi_style::{Color, Hue, Style};
 use anstyle_parse::{Parser, Utf8Parser};
 use std::alloc::{AllocError, Global};
@@ -34,62 +34,83 @@ fn a_new_screen(rt: HostRuntime) -> Result<(), Fail> {
     Ok(())
 }
 
+/// One column of one character, with no marks.
+fn cell(character: char, style: Style, part: Part) -> Cell {
+    Cell {
+        character,
+        marks: Marks::Unmarked,
+        style,
+        part,
+    }
+}
+
 #[test]
 fn styles(rt: HostRuntime) -> Result<(), Fail> {
     let screen = shown(rt.alloc(), b"\x1b[1;31;44ma\x1b[K\x1b[0mb")?;
-    assert_eq!(rt; screen.rows(), 4);
-    assert_eq!(rt; screen.columns(), 8);
+    assert!(rt; screen.rows() == 4 && screen.columns() == 8);
     let row = screen.row(0);
-    assert_eq!(rt; row[0].character, 'a');
-    assert!(rt; row[0].style.bold);
-    assert_eq!(rt; row[0].style.foreground, Color::Named(Hue::Red));
-    assert_eq!(rt; row[0].style.background, Color::Named(Hue::Blue));
     // Erased: the background alone.
-    assert_eq!(rt; row[7].character, ' ');
-    assert!(rt; !row[7].style.bold);
-    assert_eq!(rt; row[7].style.foreground, Color::Default);
-    assert_eq!(rt; row[7].style.background, Color::Named(Hue::Blue));
-    assert_eq!(rt; row[1].style, Style::default());
+    let erased = Style {
+        background: Color::Named(Hue::Blue),
+        ..Style::default()
+    };
+    let selected = Style {
+        foreground: Color::Named(Hue::Red),
+        bold: true,
+        ..erased
+    };
+    assert_eq!(rt; row[0], cell('a', selected, Part::Whole));
+    assert_eq!(rt; row[1], cell('b', Style::default(), Part::Whole));
+    assert_eq!(rt; row[7], cell(' ', erased, Part::Whole));
     Ok(())
 }
 
 #[test]
 fn halves(rt: HostRuntime) -> Result<(), Fail> {
     let screen = shown(rt.alloc(), "a漢\x1b[2;1H漢\x1b[2;2Hx".as_bytes())?;
-    assert_eq!(rt; screen.rows(), 4);
-    assert_eq!(rt; screen.columns(), 8);
-    let row = screen.row(0);
-    assert_eq!(rt; row[1].character, '漢');
-    assert_eq!(rt; row[1].part, Part::Left);
-    assert_eq!(rt; row[2].character, ' ');
-    assert_eq!(rt; row[2].part, Part::Right);
-    let row = screen.row(1);
-    assert_eq!(rt; row[0].character, ' ');
-    assert_eq!(rt; row[0].part, Part::Whole);
-    assert_eq!(rt; row[1].character, 'x');
+    assert!(rt; screen.rows() == 4 && screen.columns() == 8);
+    let plain = Style::default();
+    let [first, second] = [screen.row(0), screen.row(1)];
+    assert_eq!(rt; first[1], cell('漢', plain, Part::Left));
+    assert_eq!(rt; first[2], cell(' ', plain, Part::Right));
+    assert_eq!(rt; second[0], cell(' ', plain, Part::Whole));
+    assert_eq!(rt; second[1], cell('x', plain, Part::Whole));
     Ok(())
+}
+
+/// Where the cursor is after the bytes.
+fn cursor_after(alloc: Global, bytes: &[u8]) -> Result<Place, AllocError> {
+    Ok(shown(alloc, bytes)?.cursor())
 }
 
 #[test]
 fn places(rt: HostRuntime) -> Result<(), Fail> {
-    assert_eq!(rt; shown(rt.alloc(), b"abcdefgh")?.cursor(), place(0, 8));
-    assert_eq!(rt;
-        shown(rt.alloc(), b"abcdefgh\x1b7\r\x1b8")?.cursor(),
-        place(0, 8)
-    );
-    assert_eq!(rt; shown(rt.alloc(), b"abcdefgh\n")?.cursor(), place(1, 7));
-    assert_eq!(rt;
-        shown(rt.alloc(), b"\x1b[2;3r\x1b[?6h\x1b[9;9H")?
-            .cursor()
-            .row,
-        2
-    );
-    assert_eq!(rt;
-        shown(rt.alloc(), b"\x1b[65535;65535H")?.cursor(),
-        place(3, 7)
-    );
-    assert_eq!(rt; shown(rt.alloc(), b"\x1b[3;3H\x1bc")?.cursor(), place(0, 0));
-    assert!(rt; !shown(rt.alloc(), b"\x1b[?25l")?.is_cursor_visible());
-    assert!(rt; shown(rt.alloc(), b"\x1b[?25l\x1b[!p")?.is_cursor_visible());
+    let rows: [(&[u8], usize, usize); 5] = [
+        (b"abcdefgh", 0, 8),
+        (b"abcdefgh\x1b7\r\x1b8", 0, 8),
+        (b"abcdefgh\n", 1, 7),
+        (b"\x1b[65535;65535H", 3, 7),
+        (b"\x1b[3;3H\x1bc", 0, 0),
+    ];
+    for (bytes, row, column) in rows {
+        let cursor = cursor_after(rt.alloc(), bytes)?;
+        assert!(rt; cursor == place(row, column), "{bytes:?}");
+    }
+    // In origin mode a row past the margin is the last row within.
+    let cursor = cursor_after(rt.alloc(), b"\x1b[2;3r\x1b[?6h\x1b[9;9H")?;
+    assert_eq!(rt; cursor.row, 2);
+    Ok(())
+}
+
+/// Whether the cursor is visible after the bytes.
+fn is_visible_after(alloc: Global, bytes: &[u8]) -> Result<bool, AllocError> {
+    Ok(shown(alloc, bytes)?.is_cursor_visible())
+}
+
+#[test]
+fn cursor_is_hidden(rt: HostRuntime) -> Result<(), Fail> {
+    let is_hidden = !is_visible_after(rt.alloc(), b"\x1b[?25l")?;
+    let is_back = is_visible_after(rt.alloc(), b"\x1b[?25l\x1b[!p")?;
+    assert!(rt; is_hidden && is_back);
     Ok(())
 }

@@ -1,39 +1,106 @@
 //! Every public item of every library, by its name, and every implementation that a type of theirs
 //! has of a trait of std: what is gone is missed here.
-use crate::{plain, write_last_style};
-use ansi_html::contrast::{BLACK, Rgb, WHITE, linear};
-use ansi_html::{BothPages, DarkPages, HtmlWriter, LightPages, Pages, Scheme, convert, put_text};
-use ansi_strip::{Stripper, is_layout, strip};
-use ansi_style::{Color, Hue, Style, Underline};
-use anstyle_parse::canon::{CanonWriter, MAX_CHECKPOINT, checkpoint};
-use anstyle_parse::io::{
-    Buffer, CallWriter, Fault, FromRead, FromWrite, Output, Sink, Source, Stop, drive,
-    perform_to_end, write_calls, write_calls_between,
-};
-use anstyle_parse::laws::{
-    action_as_number, bounds, calls_are_lawful, cancelled, canonical_again, canonical_text, clones,
-    counted, default_variants, equal_accumulators, equal_parsers, equal_texts, equal_variants,
-    forgotten, front_of_a_character, headline, lawful_exactly, replay, state_as_number,
-};
-use anstyle_parse::state::{Action, State, state_change};
-use anstyle_parse::{
-    AsciiParser, CharAccumulator, DefaultCharAccumulator, Params, ParamsIter, Parser, Perform,
-    PerformText, Taken, Utf8Parser,
-};
-use standard_streams::{
-    Request, VERSION, answered, asked_of, buffered, ended, ended_with_reason, failed, given_words,
-    message, misused, value_of,
-};
+use ansi_html::BothPages;
+use ansi_html::DarkPages;
+use ansi_html::HtmlWriter;
+use ansi_html::LightPages;
+use ansi_html::Pages;
+use ansi_html::Scheme;
+use ansi_html::contrast::BLACK;
+use ansi_html::contrast::Rgb;
+use ansi_html::contrast::WHITE;
+use ansi_html::contrast::linear;
+use ansi_html::convert;
+use ansi_html::put_text;
+use ansi_strip::Stripper;
+use ansi_strip::is_layout;
+use ansi_strip::strip;
+use ansi_style::Color;
+use ansi_style::Hue;
+use ansi_style::Style;
+use ansi_style::Underline;
+use anstyle_parse::AsciiParser;
+use anstyle_parse::CharAccumulator;
+use anstyle_parse::DefaultCharAccumulator;
+use anstyle_parse::Params;
+use anstyle_parse::ParamsIter;
+use anstyle_parse::Parser;
+use anstyle_parse::Perform;
+use anstyle_parse::PerformText;
+use anstyle_parse::Taken;
+use anstyle_parse::Utf8Parser;
+use anstyle_parse::canon::CanonWriter;
+use anstyle_parse::canon::MAX_CHECKPOINT;
+use anstyle_parse::canon::checkpoint;
+use anstyle_parse::io::Buffer;
+use anstyle_parse::io::CallWriter;
+use anstyle_parse::io::Fault;
+use anstyle_parse::io::FromRead;
+use anstyle_parse::io::FromWrite;
+use anstyle_parse::io::Output;
+use anstyle_parse::io::Sink;
+use anstyle_parse::io::Source;
+use anstyle_parse::io::Stop;
+use anstyle_parse::io::drive;
+use anstyle_parse::io::perform_to_end;
+use anstyle_parse::io::write_calls;
+use anstyle_parse::io::write_calls_between;
+use anstyle_parse::laws::action_as_number;
+use anstyle_parse::laws::bounds;
+use anstyle_parse::laws::calls_are_lawful;
+use anstyle_parse::laws::cancelled;
+use anstyle_parse::laws::canonical_again;
+use anstyle_parse::laws::canonical_text;
+use anstyle_parse::laws::clones;
+use anstyle_parse::laws::counted;
+use anstyle_parse::laws::default_variants;
+use anstyle_parse::laws::equal_accumulators;
+use anstyle_parse::laws::equal_parsers;
+use anstyle_parse::laws::equal_texts;
+use anstyle_parse::laws::equal_variants;
+use anstyle_parse::laws::forgotten;
+use anstyle_parse::laws::front_of_a_character;
+use anstyle_parse::laws::headline;
+use anstyle_parse::laws::lawful_exactly;
+use anstyle_parse::laws::replay;
+use anstyle_parse::laws::state_as_number;
+use anstyle_parse::state::Action;
+use anstyle_parse::state::State;
+use anstyle_parse::state::state_change;
+use examples::plain;
+use examples::write_last_style;
+use standard_streams::Request;
+use standard_streams::VERSION;
+use standard_streams::answered;
+use standard_streams::asked_of;
+use standard_streams::buffered;
+use standard_streams::ended;
+use standard_streams::ended_with_reason;
+use standard_streams::failed;
+use standard_streams::given_words;
+use standard_streams::message;
+use standard_streams::misused;
+use standard_streams::value_of;
 use std::alloc::Global;
 use std::fmt::Debug;
 use std::io;
-use std::io::{ErrorKind, IsTerminal, Read, Write};
+use std::io::ErrorKind;
+use std::io::IsTerminal;
+use std::io::Read;
+use std::io::Write;
 use std::iter::FusedIterator;
+use std::process::Abort;
 use std::process::ExitCode;
 use std::rt::Env;
 use std::test::Fail;
-use strip_pieces::{Fed, LEAST_ROOM, StreamState};
-use test_streams::{Paper, TROUBLES, Tape, narrow_papers, repeated};
+use strip_pieces::Fed;
+use strip_pieces::LEAST_ROOM;
+use strip_pieces::StreamState;
+use test_streams::Paper;
+use test_streams::TROUBLES;
+use test_streams::Tape;
+use test_streams::narrow_papers;
+use test_streams::repeated;
 
 type Memory = FromWrite<Vec<u8>>;
 
@@ -133,7 +200,7 @@ fn names_of_the_laws(rt: HostRuntime) {
 }
 
 #[test]
-fn names_of_readers_and_writers(rt: HostRuntime) -> Result<(), Fail> {
+fn names_of_readers_and_writers(rt: HostRuntime) {
     is_plain(Fault::Read);
     is_plain(Stop::AtEnd);
     let mut reader = FromRead::new(b"a".as_slice());
@@ -142,49 +209,56 @@ fn names_of_readers_and_writers(rt: HostRuntime) -> Result<(), Fail> {
     writes_calls(&performer);
     assert!(rt; drive(&mut reader, &mut performer) == Stop::AtEnd);
     assert!(rt; performer.fault().is_none());
-    let (writer, answer) = performer.finish();
-    assert_eq!(rt; answer, Ok(()));
-    is_sink(&writer);
+    assert_well(&rt, performer.finish());
+    is_sink(&memory(rt.alloc()));
     is_sink(&Buffer::by_line(memory(rt.alloc())));
-    let buffer = Buffer::new(writer);
+    let buffer = Buffer::new(memory(rt.alloc()));
     assert_eq!(rt; buffer.fault_behind(Fault::Read), Fault::Read);
-    assert_eq!(rt;
-        buffer.into_inner().into_inner().as_slice(),
-        b"a".as_slice()
-    );
-    Ok(())
+    assert!(rt; buffer.into_inner().into_inner().is_empty());
+}
+
+/// A run that went well; its writer is dropped.
+fn assert_well<W: Drop>(rt: &impl Abort, ran: (W, Result<(), Fault>)) {
+    let (_writer, answer) = ran;
+    assert_eq!(rt; answer, Ok(()));
+}
+
+fn reader() -> FromRead<&'static [u8]> {
+    FromRead::new(b"\x1b[1m".as_slice())
 }
 
 #[test]
-fn names_of_runs(rt: HostRuntime) -> Result<(), Fail> {
-    let mut reader = FromRead::new(b"a".as_slice());
-    let (_, answer) = write_calls::<CanonWriter<Memory>, FromRead<&[u8]>, Memory>(
-        &mut reader,
-        memory(rt.alloc()),
+fn names_of_runs(rt: HostRuntime) {
+    type Read = FromRead<&'static [u8]>;
+    let [first, second] = [memory(rt.alloc()), memory(rt.alloc())];
+    assert_well(
+        &rt,
+        write_calls::<CanonWriter<Memory>, Read, Memory>(&mut reader(), first),
     );
-    assert_eq!(rt; answer, Ok(()));
-    let (_, answer) = write_calls_between::<CanonWriter<Memory>, FromRead<&[u8]>, Memory>(
-        b"<",
-        &mut reader,
-        memory(rt.alloc()),
-        b">",
+    assert_well(
+        &rt,
+        write_calls_between::<CanonWriter<Memory>, Read, Memory>(b"<", &mut reader(), second, b">"),
     );
-    assert_eq!(rt; answer, Ok(()));
-    let mut style = Style::default();
-    let mut reader = FromRead::new(b"\x1b[1m".as_slice());
-    assert_eq!(rt; perform_to_end(&mut reader, &mut style), Ok(()));
-    assert!(rt; style != Style::default());
-    let (text, answer) = checkpoint(&Parser::<Utf8Parser>::new(), memory(rt.alloc()));
-    assert_eq!(rt; answer, Ok(()));
-    assert!(rt; text.into_inner().len() <= MAX_CHECKPOINT);
-    assert!(rt; is_layout(b'\t') && !is_layout(0x07));
-    let (_, answer) = strip(&mut reader, memory(rt.alloc()));
-    assert_eq!(rt; answer, Ok(()));
-    let (_, answer) = convert(Scheme::Both, b"<", &mut reader, memory(rt.alloc()), b">");
-    assert_eq!(rt; answer, Ok(()));
+    assert_well(&rt, strip(&mut reader(), memory(rt.alloc())));
+    assert_well(
+        &rt,
+        convert(Scheme::Both, b"<", &mut reader(), memory(rt.alloc()), b">"),
+    );
+    assert_well(&rt, plain(rt.alloc(), b"a"));
+    assert_well(
+        &rt,
+        checkpoint(&Parser::<Utf8Parser>::new(), memory(rt.alloc())),
+    );
+    assert!(rt; MAX_CHECKPOINT > 0 && is_layout(b'\t') && !is_layout(0x07));
     writes_calls(&Stripper::over(Output::new(memory(rt.alloc()))));
     writes_calls(&HtmlWriter::<_, BothPages>::over(Output::new(memory(rt.alloc()))));
+    let mut style = Style::default();
+    assert_eq!(rt; perform_to_end(&mut reader(), &mut style), Ok(()));
+    assert!(rt; style != Style::default());
+}
 
+#[test]
+fn names_of_what_is_put(rt: HostRuntime) {
     let mut output = Output::new(memory(rt.alloc()));
     put_text(&mut output, "<");
     output.put(b"a");
@@ -195,11 +269,7 @@ fn names_of_runs(rt: HostRuntime) -> Result<(), Fail> {
     assert!(rt; output.fault().is_none());
     Style::default().write_codes(&mut output);
     write_last_style(b"a", &mut output);
-    let (_, answer) = output.finish();
-    assert_eq!(rt; answer, Ok(()));
-    let (_, answer) = plain(rt.alloc(), b"a");
-    assert_eq!(rt; answer, Ok(()));
-    Ok(())
+    assert_well(&rt, output.finish());
 }
 
 #[test]

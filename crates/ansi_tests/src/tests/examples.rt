@@ -1,16 +1,14 @@
 //! The examples once each: what the pages say that they write, and the counts that no clause gives.
-mod names;
-
-use crate::{
-    Quiet, calls_made, canonical, html, make_first_calls, plain, printed, stay_quiet,
-    strip_two_pieces, write_last_style,
-};
 use ansi_screen::laws::{determined, enclosed, plain_text, reachable, reset, rewritten, show};
 use ansi_screen::{
     Cell, Charsets, MAX_COLUMNS, MAX_ROWS, MIN_COLUMNS, MIN_ROWS, Marks, Part, Place, Screen,
 };
 use ansi_style::Style;
 use anstyle_parse::canon::{FromWrite, Output};
+use examples::{
+    Quiet, calls_made, canonical, html, make_first_calls, plain, printed, stay_quiet,
+    strip_two_pieces, write_last_style,
+};
 use std::test::Fail;
 use strip_pieces::Fed;
 

@@ -2,13 +2,13 @@
 //! has of a trait of std: what is gone is missed here.
 use crate::{plain, write_last_style};
 use ansi_html::contrast::{BLACK, Rgb, WHITE, linear};
-use ansi_html::{BothPages, DarkPages, HtmlWriter, LightPages, Pages, Scheme, convert, put_text};
+use ansi_html::{HtmlWriter, Scheme, convert, put_text};
 use ansi_strip::{Stripper, is_layout, strip};
 use ansi_style::{Color, Hue, Style, Underline};
 use anstyle_parse::canon::{CanonWriter, MAX_CHECKPOINT, checkpoint};
 use anstyle_parse::io::{
-    Buffer, CallWriter, Fault, FromRead, FromWrite, Output, Sink, Source, Stop, drive,
-    perform_to_end, write_calls, write_calls_between,
+    Buffer, CallWriter, Fault, FromRead, FromWrite, Output, Sink, Source, Stop, WritingPerformer,
+    drive, perform_to_end, write_calls, write_calls_between, write_calls_by,
 };
 use anstyle_parse::laws::{
     action_as_number, bounds, calls_are_lawful, cancelled, canonical_again, canonical_text, clones,
@@ -58,11 +58,9 @@ fn is_reader<T: Read + Drop>(_: &T) {}
 
 fn is_writer<T: Write + Drop>(_: &T) {}
 
-fn scheme_of<T: Pages>() -> Scheme {
-    T::scheme()
-}
-
 fn writes_calls<T: CallWriter<Memory> + PerformText + Drop>(_: &T) {}
+
+fn is_writing<T: WritingPerformer<Memory> + PerformText + Drop>(_: &T) {}
 
 fn is_iterator<T: Iterator + ExactSizeIterator + FusedIterator + Drop>(_: &T) {}
 
@@ -183,7 +181,10 @@ fn names_of_runs(rt: HostRuntime) -> Result<(), Fail> {
     let (_, answer) = convert(Scheme::Both, b"<", &mut reader, memory(rt.alloc()), b">");
     assert_eq!(rt; answer, Ok(()));
     writes_calls(&Stripper::over(Output::new(memory(rt.alloc()))));
-    writes_calls(&HtmlWriter::<_, BothPages>::over(Output::new(memory(rt.alloc()))));
+    let writer = HtmlWriter::new(Scheme::Dark, Output::new(memory(rt.alloc())));
+    is_writing(&writer);
+    let (_, answer) = write_calls_by(writer, &mut reader, b">");
+    assert_eq!(rt; answer, Ok(()));
 
     let mut output = Output::new(memory(rt.alloc()));
     put_text(&mut output, "<");
@@ -212,8 +213,6 @@ fn names_of_styles_and_pieces(rt: HostRuntime) {
     });
     assert!(rt; linear(255) == 1_000_000);
     assert!(rt; BLACK.is_read_on_light() && WHITE.is_read_on_dark());
-    assert!(rt; scheme_of::<LightPages>() == Scheme::Light);
-    assert!(rt; scheme_of::<DarkPages>() == Scheme::Dark);
     is_plain(Hue::Black);
     is_plain(Color::Default);
     is_plain(Color::Named(Hue::at(1)));

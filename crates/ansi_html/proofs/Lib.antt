@@ -8,3 +8,4 @@ pub mod LawfulText
 pub mod GrammarLemmas
 pub mod TextLemmas
 pub mod LengthLemmas
+pub mod WriterLemmas

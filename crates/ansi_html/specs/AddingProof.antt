@@ -1,5 +1,5 @@
 -- No definition, but proofs: the language wants those of a trait's laws among the specs.
--- A writer of HTML writes the HTML of the calls that it takes.
+-- Calls that a writer of HTML takes one after another are one list of calls.
 use Rattle.std.proofs.Common.{◌≡◌, List, [], ◌∷◌, ◌++◌, refl, sym, ap, ap₂, ◌∙◌, subst, append_assoc, append-nil}
 use Rattle.anstyle_parse.specs.declared.io.devices.Sink.{Ghosts as SinkOf}
 use Rattle.anstyle_parse.specs.Stream.Call.{Call}
@@ -10,8 +10,8 @@ use Rattle.ansi_style.specs.declared.style.Style.{Style}
 use Rattle.ansi_style.specs.Rendition.{style_after}
 use Rattle.ansi_html.specs.declared.scheme.Scheme.{Scheme}
 use Rattle.ansi_html.specs.declared.performer.HtmlWriter.{HtmlWriter}
-use Rattle.ansi_html.specs.Html.{text_html, shown_after, html_from, shown_at_end, span_end, html_text, html_ending}
-use Rattle.ansi_html.specs.Writer.{output_of, scheme_of, style_of, shown_of, IsNew, unwritten, style_at_end, Takes, TakesAll}
+use Rattle.ansi_html.specs.Html.{text_html, shown_after, html_from, shown_at_end, span_end}
+use Rattle.ansi_html.specs.Writer.{output_of, scheme_of, style_of, shown_of, ending_from, style_at_end, Takes, TakesAll}
 
 -- the HTML of two lists of calls, one after another, and the styles at the end
 html_from-append : (scheme : Scheme) (calls more : List Call) (shown style : Style)
@@ -33,11 +33,11 @@ style_at_end-append : (calls more : List Call) (style : Style) → style_at_end 
 style_at_end-append [] more style = refl
 style_at_end-append (call ∷ calls) more style = style_at_end-append calls more (style_after call style)
 
-module _ {W S : Type 0} (sink : SinkOf W) where
-  pub TakesAll-none : (performer : HtmlWriter W S) → TakesAll sink performer [] performer
+module _ {W : Type 0} (sink : SinkOf W) where
+  pub TakesAll-none : (performer : HtmlWriter W) → TakesAll sink performer [] performer
   TakesAll-none performer = record { scheme = refl; style = refl; shown = refl; added = Adds-nil sink (output_of performer) }
 
-  pub TakesAll-one : (old : HtmlWriter W S) (call : Call) (new : HtmlWriter W S) → Takes sink old call new → TakesAll sink old (call ∷ []) new
+  pub TakesAll-one : (old : HtmlWriter W) (call : Call) (new : HtmlWriter W) → Takes sink old call new → TakesAll sink old (call ∷ []) new
   TakesAll-one old call new takes = record {
     scheme = takes.scheme;
     style = takes.style;
@@ -45,7 +45,7 @@ module _ {W S : Type 0} (sink : SinkOf W) where
     added = subst (λ t. Adds sink t (output_of old) (output_of new)) (sym (append-nil (text_html (scheme_of old) (shown_of old) (style_of old) (stripped_call call)))) takes.added;
   }
 
-  pub TakesAll-more : (old middle new : HtmlWriter W S) (calls more : List Call) → TakesAll sink old calls middle → TakesAll sink middle more new → TakesAll sink old (calls ++ more) new
+  pub TakesAll-more : (old middle new : HtmlWriter W) (calls more : List Call) → TakesAll sink old calls middle → TakesAll sink middle more new → TakesAll sink old (calls ++ more) new
   TakesAll-more old middle new calls more first second =
       let scheme = scheme_of old in
       let shown = shown_of old in
@@ -63,12 +63,6 @@ module _ {W S : Type 0} (sink : SinkOf W) where
             (Adds-append sink (html_from scheme shown style calls) (html_from (scheme_of middle) (shown_of middle) (style_of middle) more) (output_of old) (output_of middle) (output_of new) first.added second.added);
       }
 
-  pub Adds-html : (scheme : Scheme) (old : HtmlWriter W S) (calls : List Call) (new : HtmlWriter W S) → IsNew scheme old → TakesAll sink old calls new
-      → Adds sink (html_text scheme calls) (output_of old) (output_of new)
-  Adds-html scheme old calls new is taken =
-      subst (λ t. Adds sink t (output_of old) (output_of new)) (ap (λ it. html_from it (shown_of old) (style_of old) calls) is.scheme ∙ ap₂ (λ shown style. html_from scheme shown style calls) is.shown is.style) taken.added
-
-  pub end_of_span-html : (scheme : Scheme) (old : HtmlWriter W S) (calls : List Call) (new : HtmlWriter W S) → IsNew scheme old → TakesAll sink old calls new
-      → unwritten new ≡ html_ending calls
-  end_of_span-html scheme old calls new is taken =
-      ap span_end (taken.shown ∙ ap₂ (λ shown style. shown_at_end shown style calls) is.shown is.style)
+  -- the end of the span that is open behind the calls
+  pub ending_from-taken : (old new : HtmlWriter W) (calls : List Call) → TakesAll sink old calls new → ending_from new [] ≡ ending_from old calls
+  ending_from-taken old new calls taken = ap span_end taken.shown

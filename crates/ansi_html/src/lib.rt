@@ -29,10 +29,10 @@ mod palette;
 mod performer;
 mod scheme;
 
-use anstyle_parse::canon::{Fault, Output, Sink, Source, write_calls_between};
+use anstyle_parse::canon::{Fault, Output, Sink, Source, write_calls_by};
 pub use performer::HtmlWriter;
 use performer::put_escaped;
-pub use scheme::{BothPages, DarkPages, LightPages, Pages, Scheme};
+pub use scheme::Scheme;
 
 /// Writes the text of all bytes that the reader gives as HTML, in the styles that the stream
 /// selects, with colours for the pages of `scheme`: a fragment for a `<pre>`. `head` is written
@@ -93,33 +93,9 @@ pub fn convert<R: Source, W: Sink>(
     ensures bound { (bytes : List ℕ) (calls : List Call) → AreCalls bytes calls
         → length (html scheme calls) ≤ 306 * length bytes + 7 }
 {
-    write_html(scheme, head, reader, writer, tail)
-}
-
-/// The same by a writer of the scheme.
-fn write_html<R: Source, W: Sink>(
-    scheme: Scheme,
-    head: &[u8],
-    reader: &mut R,
-    writer: W,
-    tail: &[u8],
-) -> (W, Result<(), Fault>)
-    ensures runs { RunsToEnding R.Source W.Sink
-        (λ calls. head.now ++ html_text scheme calls) (λ calls. html_ending calls ++ tail.now)
-        reader.old reader.new writer result.0 result.1 }
-    ensures handed_on { OnOk result.1 (W.holds_nothing result.0) }
-{
-    match scheme {
-        Scheme::Light => {
-            write_calls_between::<HtmlWriter<W, LightPages>, R, W>(head, reader, writer, tail)
-        }
-        Scheme::Dark => {
-            write_calls_between::<HtmlWriter<W, DarkPages>, R, W>(head, reader, writer, tail)
-        }
-        Scheme::Both => {
-            write_calls_between::<HtmlWriter<W, BothPages>, R, W>(head, reader, writer, tail)
-        }
-    }
+    let mut output = Output::new(writer);
+    output.put(head);
+    write_calls_by(HtmlWriter::new(scheme, output), reader, tail)
 }
 
 /// Writes a text as HTML, such as a title for the head of a page: `& < > " '` as character

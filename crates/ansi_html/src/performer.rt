@@ -7,12 +7,11 @@ ghost use Rattle.ansi_html.specs.Grammar.{is_special, AreClear, BeginWithClear};
 ghost use Rattle.ansi_html.specs.Html.{span_begin, span_end, change, escaped, escaped_text};
 
 use crate::css::put_css;
-use crate::scheme::{Pages, Scheme};
+use crate::scheme::Scheme;
 use ansi_strip::is_layout;
 use ansi_style::Style;
-use anstyle_parse::canon::{CallWriter, Output, Sink};
+use anstyle_parse::canon::{Output, Sink, WritingPerformer};
 use anstyle_parse::{Params, Perform, PerformText};
-use std::marker::PhantomData;
 
 /// Writes the text of a stream as HTML, in the style that the stream selects.
 ///
@@ -20,25 +19,38 @@ use std::marker::PhantomData;
 /// (0D), is text; `& < > " '` are written as character references. Text that is not plain
 /// stands in `<span style="…">…</span>`, one for each run of equal style. A span is opened only
 /// before text, and closed before text of another style or at the end. All other calls write
-/// nothing. The colours are for the pages of `S`.
+/// nothing.
 ///
 /// No memory is taken. A write that fails stops it: nothing more is written, and the fault is
 /// kept.
 #[derive(Drop)]
-pub struct HtmlWriter<W, S> {
+pub struct HtmlWriter<W> {
     output: Output<W>,
     /// The pages that the colours are for.
     scheme: Scheme,
-    of: PhantomData<S>,
     /// The style of the last text; plain where no span is open.
     shown: Style,
     /// The style that is selected for what comes, where a sequence has selected one since.
     next: Option<Style>,
 }
 
-impl<W: Sink, S: Pages> HtmlWriter<W, S> {
+impl<W: Sink> HtmlWriter<W> {
     ghost use Rattle.std.specs.Prelude.{◌∷◌, None};
-    ghost use Rattle.ansi_html.specs.Writer.{output_of, scheme_of, style_of, shown_of, next_of};
+    ghost use Rattle.ansi_html.specs.Writer.{output_of, scheme_of, style_of, shown_of, next_of, IsNew};
+
+    /// One that writes to this output, in colours for the pages of the scheme, and has received no
+    /// call. Nothing is written.
+    pub fn new(scheme: Scheme, output: Output<W>) -> HtmlWriter<W>
+        ensures output { output_of result ≡ output }
+        ensures new { IsNew scheme result }
+    {
+        HtmlWriter {
+            output,
+            scheme,
+            shown: Style::default(),
+            next: None,
+        }
+    }
 
     /// Text of the selected style may follow.
     #[inline]
@@ -193,7 +205,7 @@ fn put_reference<W: Sink>(output: &mut Output<W>, byte: u8)
     }
 }
 
-impl<W: Sink, S: Pages> Perform for HtmlWriter<W, S> {
+impl<W: Sink> Perform for HtmlWriter<W> {
     ghost use Rattle.ansi_html.specs.Writer.{Takes};
 
     ghost means = { Takes W.Sink };
@@ -221,16 +233,15 @@ impl<W: Sink, S: Pages> Perform for HtmlWriter<W, S> {
     fn osc_dispatch(&mut self, _params: &[&[u8]], _bell_terminated: bool) {}
 
     fn csi_dispatch(&mut self, params: &Params, intermediates: &[u8], ignore: bool, action: u8) {
-        let mut style = self.next.unwrap_or(self.shown);
+        let style = self.next.get_or_insert(self.shown);
         style.csi_dispatch(params, intermediates, ignore, action);
-        self.next = Some(style);
     }
 
     fn esc_dispatch(&mut self, _intermediates: &[u8], _ignore: bool, _byte: u8) {}
 }
 
 /// A text is of one style, and its bytes are written at once but for those with a meaning in HTML.
-impl<W: Sink, S: Pages> PerformText for HtmlWriter<W, S> {
+impl<W: Sink> PerformText for HtmlWriter<W> {
     ghost use Rattle.ansi_html.specs.Writer.{TakesAll};
     ghost use Rattle.ansi_html.specs.AddingProof.{TakesAll-none, TakesAll-one, TakesAll-more};
 
@@ -251,33 +262,16 @@ impl<W: Sink, S: Pages> PerformText for HtmlWriter<W, S> {
     ghost receives_more = { TakesAll-more W.Sink };
 }
 
-impl<W: Sink, S: Pages> CallWriter<W> for HtmlWriter<W, S> {
-    ghost use Rattle.ansi_html.specs.Html.{html_text, html_ending};
-    ghost use Rattle.ansi_html.specs.Writer.{IsNew, output_of, unwritten as end_of_span};
-    ghost use Rattle.ansi_html.specs.AddingProof.{Adds-html, end_of_span-html};
+/// What is still to be written is the end of the span that is open.
+impl<W: Sink> WritingPerformer<W> for HtmlWriter<W> {
+    ghost use Rattle.ansi_html.specs.Writer.{output_of, text_from, ending_from};
+    ghost use Rattle.ansi_html.specs.AddingProof.{ending_from-taken};
 
     ghost output_in = { output_of };
 
-    ghost is_new = { IsNew S.scheme };
+    ghost text_from = { text_from };
 
-    ghost text = { html_text S.scheme };
-
-    ghost ending = { html_ending };
-
-    ghost unwritten = { end_of_span };
-
-    fn over(output: Output<W>) -> HtmlWriter<W, S>
-        ensures output { output_of result ≡ output }
-        ensures new { IsNew S.scheme result }
-    {
-        HtmlWriter {
-            output,
-            scheme: S::scheme(),
-            of: PhantomData,
-            shown: Style::default(),
-            next: None,
-        }
-    }
+    ghost ending_from = { ending_from };
 
     fn output(&self) -> &Output<W> {
         &self.output
@@ -297,7 +291,7 @@ impl<W: Sink, S: Pages> CallWriter<W> for HtmlWriter<W, S> {
         output
     }
 
-    ghost adds = { Adds-html W.Sink S.scheme };
+    ghost adds = { λ _ _ _ taken. taken.added };
 
-    ghost ends = { λ old calls new is taken _. end_of_span-html W.Sink S.scheme old calls new is taken };
+    ghost ends = { λ old calls new taken _. ending_from-taken W.Sink old new calls taken };
 }

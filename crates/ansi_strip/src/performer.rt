@@ -3,7 +3,7 @@ ghost use Rattle.std.specs.Prelude.{◌≡◌, [], ⊤, refl};
 ghost use Rattle.anstyle_parse.specs.Io.Output.{Adds};
 ghost use Rattle.ansi_strip.specs.Strip.{is_layout, stripped_call, stripped};
 
-use anstyle_parse::canon::{CallWriter, Output, Sink};
+use anstyle_parse::canon::{CallWriter, Output, Sink, WritingPerformer};
 use anstyle_parse::{Params, Perform, PerformText};
 
 /// Writes each printed character in UTF-8, and the controls 09, 0A and 0D; nothing of any
@@ -83,21 +83,12 @@ impl<W: Sink> PerformText for Stripper<W> {
 }
 
 /// Stripped text has no ending.
-impl<W: Sink> CallWriter<W> for Stripper<W> {
+impl<W: Sink> WritingPerformer<W> for Stripper<W> {
     ghost use Rattle.ansi_strip.specs.Stripper.{output_of};
 
     ghost output_in = { output_of };
 
-    ghost is_new = { λ _. ⊤ };
-
-    ghost text = { stripped };
-
-    fn over(output: Output<W>) -> Stripper<W>
-        ensures output { output_of result ≡ output }
-        ensures new { ⊤ }
-    {
-        Stripper { output }
-    }
+    ghost text_from = { λ _. stripped };
 
     fn output(&self) -> &Output<W> {
         &self.output
@@ -111,7 +102,26 @@ impl<W: Sink> CallWriter<W> for Stripper<W> {
         self.output
     }
 
-    ghost adds = { λ _ _ _ _ received. received };
+    ghost adds = { λ _ _ _ received. received };
 
-    ghost ends = { λ _ _ _ _ _ _. refl };
+    ghost ends = { λ _ _ _ _ _. refl };
+}
+
+impl<W: Sink> CallWriter<W> for Stripper<W> {
+    ghost use Rattle.ansi_strip.specs.Stripper.{output_of};
+
+    ghost is_new = { λ _. ⊤ };
+
+    ghost text = { stripped };
+
+    fn over(output: Output<W>) -> Stripper<W>
+        ensures output { output_of result ≡ output }
+        ensures new { ⊤ }
+    {
+        Stripper { output }
+    }
+
+    ghost text_of_new = { λ _ _ _. refl };
+
+    ghost ending_of_new = { λ _ _ _. refl };
 }

@@ -13,8 +13,8 @@ mod parts;
 mod writer;
 
 pub use crate::io::{
-    Buffer, CallWriter, Fault, FromRead, FromWrite, Output, Sink, Source, Stop, drive,
-    perform_to_end, write_calls, write_calls_between,
+    Buffer, CallWriter, Fault, FromRead, FromWrite, Output, Sink, Source, Stop, WritingPerformer,
+    drive, perform_to_end, write_calls, write_calls_between, write_calls_by,
 };
 pub use checkpoints::{MAX_CHECKPOINT, checkpoint};
 pub use writer::CanonWriter;

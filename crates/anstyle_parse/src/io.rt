@@ -7,7 +7,10 @@ mod output;
 
 pub use buffer::Buffer;
 pub use devices::{FromRead, FromWrite, Sink, Source};
-pub use engine::{CallWriter, Stop, drive, perform_to_end, write_calls, write_calls_between};
+pub use engine::{
+    CallWriter, Stop, WritingPerformer, drive, perform_to_end, write_calls, write_calls_between,
+    write_calls_by,
+};
 pub use output::Output;
 
 /// What went wrong with a reader or a writer.

@@ -5,7 +5,7 @@ ghost use Rattle.anstyle_parse.specs.Stream.Call.{Call, print, execute, hook, pu
 ghost use Rattle.anstyle_parse.specs.declared.io.output.Output.{Output as AnOutput};
 ghost use Rattle.anstyle_parse.specs.Io.Output.{Adds, Finishes, writer_in, fault_in};
 
-use anstyle_parse::canon::{CallWriter, Fault, Output, Sink};
+use anstyle_parse::canon::{CallWriter, Fault, Output, Sink, WritingPerformer};
 use anstyle_parse::{Params, Perform, PerformText};
 use arrayvec::ArrayVec;
 
@@ -199,21 +199,12 @@ impl<W: Sink> LogWriter<W> {
 }
 
 /// The lines have no ending.
-impl<W: Sink> CallWriter<W> for LogWriter<W> {
+impl<W: Sink> WritingPerformer<W> for LogWriter<W> {
     ghost use Rattle.parselog.specs.Log.{output_of};
 
     ghost output_in = { output_of };
 
-    ghost is_new = { λ _. ⊤ };
-
-    ghost text = { lines };
-
-    fn over(output: Output<W>) -> LogWriter<W>
-        ensures output { output_of result ≡ output }
-        ensures new { ⊤ }
-    {
-        LogWriter { output }
-    }
+    ghost text_from = { λ _. lines };
 
     fn output(&self) -> &Output<W> {
         &self.output
@@ -227,9 +218,28 @@ impl<W: Sink> CallWriter<W> for LogWriter<W> {
         self.output
     }
 
-    ghost adds = { λ _ _ _ _ received. received };
+    ghost adds = { λ _ _ _ received. received };
 
-    ghost ends = { λ _ _ _ _ _ _. refl };
+    ghost ends = { λ _ _ _ _ _. refl };
+}
+
+impl<W: Sink> CallWriter<W> for LogWriter<W> {
+    ghost use Rattle.parselog.specs.Log.{output_of};
+
+    ghost is_new = { λ _. ⊤ };
+
+    ghost text = { lines };
+
+    fn over(output: Output<W>) -> LogWriter<W>
+        ensures output { output_of result ≡ output }
+        ensures new { ⊤ }
+    {
+        LogWriter { output }
+    }
+
+    ghost text_of_new = { λ _ _ _. refl };
+
+    ghost ending_of_new = { λ _ _ _. refl };
 }
 
 impl<W: Sink> LogWriter<W> {

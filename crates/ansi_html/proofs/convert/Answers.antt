@@ -1,4 +1,4 @@
-use Rattle.std.proofs.Common.{false, arith}
+use Rattle.std.proofs.Common.{◌++◌, false, List, ℕ, ap, sym, subst, arith}
 use Rattle.ansi_html.proofs.ColorLemmas.{AreReadable-css}
 use Rattle.ansi_html.proofs.ReadLemmas.{read-html, text-html}
 use Rattle.anstyle_parse.proofs.Lawful.Calls.{lawful}
@@ -7,7 +7,38 @@ use Rattle.ansi_html.proofs.GrammarLemmas.{IsFragment-html}
 use Rattle.ansi_html.proofs.TextLemmas.{IsUtf8-html}
 use Rattle.anstyle_parse.proofs.Canonical.Bounds.{length-calls}
 use Rattle.ansi_html.proofs.LengthLemmas.{length-html}
+use Rattle.anstyle_parse.specs.Stream.Call.{Call}
+use Rattle.anstyle_parse.specs.Io.Output.{Adds}
+use Rattle.anstyle_parse.specs.Io.Run.{RunsToEnding}
+use Rattle.anstyle_parse.proofs.Written.Run.{Runs-same}
+use Rattle.ansi_html.specs.Html.{html_text, html_ending}
+use Rattle.ansi_html.specs.Writer.{text_from, ending_from}
+use Rattle.ansi_html.proofs.WriterLemmas.{text_from-new, ending_from-new}
 use Rattle.ansi_html.proofs.convert.Goals as goal
+
+-- what a new writer writes
+pub returns-clause-runs : goal.returns-clause-runs
+returns-clause-runs g c =
+    let R = g.row.R.Denot in
+    let W = g.row.W.Denot in
+    let scheme = c.args.scheme in
+    let head = c.args.head.now in
+    let tail = c.args.tail.now in
+    let start = c.new-output.result in
+    let performer = c.new.result in
+    let is = c.new.ensures.new in
+    let text : List Call → List ℕ = λ calls. head ++ html_text scheme calls in
+    let ending : List Call → List ℕ = λ calls. html_ending calls ++ tail in
+    let its_text : List Call → List ℕ = λ calls. head ++ text_from performer calls in
+    let its_ending : List Call → List ℕ = λ calls. ending_from performer calls ++ tail in
+    let Ran : W → Type 0 = λ w. RunsToEnding {R = R} {W = W} {T = Unit {0}} g.R.Source g.W.Sink text ending
+    c.args.reader.now c.write_calls_by.new.reader w c.write_calls_by.result.0 c.write_calls_by.result.1 in
+    subst Ran c.new-output.ensures.writer
+    (Runs-same R W (Unit {0}) g.R.Source g.W.Sink its_text its_ending text ending
+    c.args.reader.now c.write_calls_by.new.reader start.writer c.write_calls_by.result.0 c.write_calls_by.result.1
+    (λ calls. ap (λ t. head ++ t) (text_from-new scheme performer is calls)) (λ calls. ap (λ t. t ++ tail) (ending_from-new scheme performer is calls))
+    (c.write_calls_by.ensures.runs start head c.new-output.ensures.no_fault
+    (subst (λ output. Adds g.W.Sink head start output) (sym c.new.ensures.output) c.put.ensures)))
 
 pub returns-clause-read_back : goal.returns-clause-read_back
 returns-clause-read_back g c = read-html c.args.scheme

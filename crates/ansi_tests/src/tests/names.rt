@@ -1,108 +1,43 @@
 //! Every public item of every library, by its name, and every implementation that a type of theirs
 //! has of a trait of std: what is gone is missed here.
-use ansi_html::BothPages;
-use ansi_html::DarkPages;
-use ansi_html::HtmlWriter;
-use ansi_html::LightPages;
-use ansi_html::Pages;
-use ansi_html::Scheme;
-use ansi_html::contrast::BLACK;
-use ansi_html::contrast::Rgb;
-use ansi_html::contrast::WHITE;
-use ansi_html::contrast::linear;
-use ansi_html::convert;
-use ansi_html::put_text;
-use ansi_strip::Stripper;
-use ansi_strip::is_layout;
-use ansi_strip::strip;
-use ansi_style::Color;
-use ansi_style::Hue;
-use ansi_style::Style;
-use ansi_style::Underline;
-use anstyle_parse::AsciiParser;
-use anstyle_parse::CharAccumulator;
-use anstyle_parse::DefaultCharAccumulator;
-use anstyle_parse::Params;
-use anstyle_parse::ParamsIter;
-use anstyle_parse::Parser;
-use anstyle_parse::Perform;
-use anstyle_parse::PerformText;
-use anstyle_parse::Taken;
-use anstyle_parse::Utf8Parser;
-use anstyle_parse::canon::CanonWriter;
-use anstyle_parse::canon::MAX_CHECKPOINT;
-use anstyle_parse::canon::checkpoint;
-use anstyle_parse::io::Buffer;
-use anstyle_parse::io::CallWriter;
-use anstyle_parse::io::Fault;
-use anstyle_parse::io::FromRead;
-use anstyle_parse::io::FromWrite;
-use anstyle_parse::io::Output;
-use anstyle_parse::io::Sink;
-use anstyle_parse::io::Source;
-use anstyle_parse::io::Stop;
-use anstyle_parse::io::drive;
-use anstyle_parse::io::perform_to_end;
-use anstyle_parse::io::write_calls;
-use anstyle_parse::io::write_calls_between;
-use anstyle_parse::laws::action_as_number;
-use anstyle_parse::laws::bounds;
-use anstyle_parse::laws::calls_are_lawful;
-use anstyle_parse::laws::cancelled;
-use anstyle_parse::laws::canonical_again;
-use anstyle_parse::laws::canonical_text;
-use anstyle_parse::laws::clones;
-use anstyle_parse::laws::counted;
-use anstyle_parse::laws::default_variants;
-use anstyle_parse::laws::equal_accumulators;
-use anstyle_parse::laws::equal_parsers;
-use anstyle_parse::laws::equal_texts;
-use anstyle_parse::laws::equal_variants;
-use anstyle_parse::laws::forgotten;
-use anstyle_parse::laws::front_of_a_character;
-use anstyle_parse::laws::headline;
-use anstyle_parse::laws::lawful_exactly;
-use anstyle_parse::laws::replay;
-use anstyle_parse::laws::state_as_number;
-use anstyle_parse::state::Action;
-use anstyle_parse::state::State;
-use anstyle_parse::state::state_change;
-use examples::plain;
-use examples::write_last_style;
-use standard_streams::Request;
-use standard_streams::VERSION;
-use standard_streams::answered;
-use standard_streams::asked_of;
-use standard_streams::buffered;
-use standard_streams::ended;
-use standard_streams::ended_with_reason;
-use standard_streams::failed;
-use standard_streams::given_words;
-use standard_streams::message;
-use standard_streams::misused;
-use standard_streams::value_of;
+use ansi_html::contrast::{BLACK, Rgb, WHITE, linear};
+use ansi_html::{HtmlWriter, Scheme, convert, put_text};
+use ansi_strip::{Stripper, is_layout, strip};
+use ansi_style::{Color, Hue, Style, Underline};
+use anstyle_parse::canon::{CanonWriter, MAX_CHECKPOINT, checkpoint};
+use anstyle_parse::io::{
+    Buffer, CallWriter, Fault, FromRead, FromWrite, Output, Sink, Source, Stop, WritingPerformer,
+    drive, perform_to_end, write_calls, write_calls_between, write_calls_by,
+};
+use anstyle_parse::laws::{
+    action_as_number, bounds, calls_are_lawful, cancelled, canonical_again, canonical_text, clones,
+    counted, default_variants, equal_accumulators, equal_parsers, equal_texts, equal_variants,
+    forgotten, front_of_a_character, headline, lawful_exactly, replay, state_as_number,
+};
+use anstyle_parse::state::{Action, State, state_change};
+use anstyle_parse::{
+    AsciiParser, CharAccumulator, DefaultCharAccumulator, Params, ParamsIter, Parser, Perform,
+    PerformText, Taken, Utf8Parser,
+};
+use examples::{plain, write_last_style};
+use standard_streams::{
+    Request, VERSION, answered, asked_of, buffered, ended, ended_with_reason, failed, given_words,
+    message, misused, value_of,
+};
 use std::alloc::Global;
 use std::fmt::Debug;
 use std::io;
-use std::io::ErrorKind;
-use std::io::IsTerminal;
-use std::io::Read;
-use std::io::Write;
+use std::io::{ErrorKind, IsTerminal, Read, Write};
 use std::iter::FusedIterator;
-use std::process::Abort;
-use std::process::ExitCode;
+use std::process::{Abort, ExitCode};
 use std::rt::Env;
 use std::test::Fail;
-use strip_pieces::Fed;
-use strip_pieces::LEAST_ROOM;
-use strip_pieces::StreamState;
-use test_streams::Paper;
-use test_streams::TROUBLES;
-use test_streams::Tape;
-use test_streams::narrow_papers;
-use test_streams::repeated;
+use strip_pieces::{Fed, LEAST_ROOM, StreamState};
+use test_streams::{Paper, TROUBLES, Tape, narrow_papers, repeated};
 
 type Memory = FromWrite<Vec<u8>>;
+
+type Reader = FromRead<&'static [u8]>;
 
 /// A value that is shown, copied and compared.
 fn is_plain<T: Debug + Copy + Clone + PartialEq + Eq>(_: T) {}
@@ -125,11 +60,9 @@ fn is_reader<T: Read + Drop>(_: &T) {}
 
 fn is_writer<T: Write + Drop>(_: &T) {}
 
-fn scheme_of<T: Pages>() -> Scheme {
-    T::scheme()
-}
-
 fn writes_calls<T: CallWriter<Memory> + PerformText + Drop>(_: &T) {}
+
+fn is_writing<T: WritingPerformer<Memory> + PerformText + Drop>(_: &T) {}
 
 fn is_iterator<T: Iterator + ExactSizeIterator + FusedIterator + Drop>(_: &T) {}
 
@@ -223,21 +156,25 @@ fn assert_well<W: Drop>(rt: &impl Abort, ran: (W, Result<(), Fault>)) {
     assert_eq!(rt; answer, Ok(()));
 }
 
-fn reader() -> FromRead<&'static [u8]> {
+fn reader() -> Reader {
     FromRead::new(b"\x1b[1m".as_slice())
 }
 
 #[test]
 fn names_of_runs(rt: HostRuntime) {
-    type Read = FromRead<&'static [u8]>;
     let [first, second] = [memory(rt.alloc()), memory(rt.alloc())];
     assert_well(
         &rt,
-        write_calls::<CanonWriter<Memory>, Read, Memory>(&mut reader(), first),
+        write_calls::<CanonWriter<Memory>, Reader, Memory>(&mut reader(), first),
     );
     assert_well(
         &rt,
-        write_calls_between::<CanonWriter<Memory>, Read, Memory>(b"<", &mut reader(), second, b">"),
+        write_calls_between::<CanonWriter<Memory>, Reader, Memory>(
+            b"<",
+            &mut reader(),
+            second,
+            b">",
+        ),
     );
     assert_well(&rt, strip(&mut reader(), memory(rt.alloc())));
     assert_well(
@@ -251,7 +188,9 @@ fn names_of_runs(rt: HostRuntime) {
     );
     assert!(rt; MAX_CHECKPOINT > 0 && is_layout(b'\t') && !is_layout(0x07));
     writes_calls(&Stripper::over(Output::new(memory(rt.alloc()))));
-    writes_calls(&HtmlWriter::<_, BothPages>::over(Output::new(memory(rt.alloc()))));
+    let writer = HtmlWriter::new(Scheme::Dark, Output::new(memory(rt.alloc())));
+    is_writing(&writer);
+    assert_well(&rt, write_calls_by(writer, &mut reader(), b">"));
     let mut style = Style::default();
     assert_eq!(rt; perform_to_end(&mut reader(), &mut style), Ok(()));
     assert!(rt; style != Style::default());
@@ -282,8 +221,6 @@ fn names_of_styles_and_pieces(rt: HostRuntime) {
     });
     assert!(rt; linear(255) == 1_000_000);
     assert!(rt; BLACK.is_read_on_light() && WHITE.is_read_on_dark());
-    assert!(rt; scheme_of::<LightPages>() == Scheme::Light);
-    assert!(rt; scheme_of::<DarkPages>() == Scheme::Dark);
     is_plain(Hue::Black);
     is_plain(Color::Default);
     is_plain(Color::Named(Hue::at(1)));

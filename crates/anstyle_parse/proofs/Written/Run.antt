@@ -150,16 +150,25 @@ module _ (R W T : Type 0) (source : SourceOf R) (sink : SinkOf W) where
             ap sink.has_failed end.0 ∙ part.failed,
           )
 
-  -- the head of the text was not written whole: nothing is read
-  pub Runs-stopped : (text ending : List Call → List ℕ) (head more : List ℕ) (reader : R) (start final : Output W) (writer_after : W) (answer : Result T Fault)
-      → text [] ≡ head ++ more → is_some (fault_in final) ≡ true → fault_in start ≡ None → Adds sink head start final → Finishes sink final writer_after answer
+  -- where a fault is kept, nothing becomes of a text
+  Adds-stopped_same : (text : List ℕ) (a b : Output W) → is_some (fault_in a) ≡ true → Adds sink text a b → b ≡ a
+  Adds-stopped_same text a b stopped added = by_fault (fault_in a) refl
+    where
+      by_fault : (fault : Option Fault) → fault_in a ≡ fault → b ≡ a
+      by_fault None none = absurd (let clash : false ≡ true = sym (ap is_some none) ∙ stopped in cc)
+      by_fault (Some fault) some = subst (λ f. AddsAt f sink text a b) some added
+
+  -- the head of the text was not written whole: nothing is read, and no other text is written
+  pub Runs-stopped : (text ending : List Call → List ℕ) (head more other : List ℕ) (reader : R) (start stopped final : Output W) (writer_after : W) (answer : Result T Fault)
+      → text [] ≡ head ++ more → is_some (fault_in stopped) ≡ true → fault_in start ≡ None → Adds sink head start stopped → Adds sink other stopped final
+      → Finishes sink final writer_after answer
       → RunsToEnding source sink text ending reader reader (writer_in start) writer_after answer
-  Runs-stopped text ending head more reader start final writer_after answer begins stopped none added finishes =
-      Runs-ended text ending reader reader start final writer_after answer [] [] (Consumes-nil (source.remaining reader)) AreCalls-nil refl
-      (λ clear. absurd (let clash : false ≡ true = sym (ap is_some clear) ∙ stopped in cc)) none
-      (subst (λ t. Adds sink t start final) (sym (append_assoc head more (ending [])) ∙ ap (λ t. t ++ ending []) (sym begins))
-      (Adds-append sink head (more ++ ending []) start final final added (Adds-stopped_any (more ++ ending []) final stopped)))
-      finishes
+  Runs-stopped text ending head more other reader start stopped final writer_after answer begins kept none added nothing finishes =
+      Runs-ended text ending reader reader start stopped writer_after answer [] [] (Consumes-nil (source.remaining reader)) AreCalls-nil refl
+      (λ clear. absurd (let clash : false ≡ true = sym (ap is_some clear) ∙ kept in cc)) none
+      (subst (λ t. Adds sink t start stopped) (sym (append_assoc head more (ending [])) ∙ ap (λ t. t ++ ending []) (sym begins))
+      (Adds-append sink head (more ++ ending []) start stopped stopped added (Adds-stopped_any (more ++ ending []) stopped kept)))
+      (subst (λ output. Finishes sink output writer_after answer) (Adds-stopped_same other stopped final kept nothing) finishes)
 
   -- what is written of a text with no ending
   WritesText-ended : (answer : Result T Fault) (failed : Bool) (before after : Option (List ℕ)) (text ending : List ℕ) → ending ≡ [] → WritesEnded answer failed before after text ending → WritesText answer before after text
@@ -186,16 +195,18 @@ module _ (R W T : Type 0) (source : SourceOf R) (sink : SinkOf W) where
     causes = ran.causes;
   }
 
-  -- an ending that is the same for all calls
-  pub Runs-same_ending : (text ending other : List Call → List ℕ) (reader reader_after : R) (writer writer_after : W) (answer : Result T Fault) → ((calls : List Call) → ending calls ≡ other calls)
+  -- a text and an ending that are the same for all calls
+  pub Runs-same : (text ending other_text other : List Call → List ℕ) (reader reader_after : R) (writer writer_after : W) (answer : Result T Fault)
+      → ((calls : List Call) → text calls ≡ other_text calls) → ((calls : List Call) → ending calls ≡ other calls)
       → RunsToEnding source sink text ending reader reader_after writer writer_after answer
-      → RunsToEnding source sink text other reader reader_after writer writer_after answer
-  Runs-same_ending text ending other reader reader_after writer writer_after answer same ran = record {
+      → RunsToEnding source sink other_text other reader reader_after writer writer_after answer
+  Runs-same text ending other_text other reader reader_after writer writer_after answer same_text same ran = record {
     read = ran.read;
     calls = ran.calls;
     consumed = ran.consumed;
     are_calls = ran.are_calls;
-    written = subst (λ e. WritesEnded answer (sink.has_failed writer_after) (sink.contents writer) (sink.contents writer_after) (text ran.calls) e) (same ran.calls) ran.written;
+    written = subst (λ t. WritesEnded answer (sink.has_failed writer_after) (sink.contents writer) (sink.contents writer_after) t (other ran.calls)) (same_text ran.calls)
+        (subst (λ e. WritesEnded answer (sink.has_failed writer_after) (sink.contents writer) (sink.contents writer_after) (text ran.calls) e) (same ran.calls) ran.written);
     unread = ran.unread;
     causes = ran.causes;
   }

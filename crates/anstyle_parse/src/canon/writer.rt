@@ -8,7 +8,7 @@ ghost use Rattle.anstyle_parse.specs.Io.Output.{writer_in, fault_in, Adds, Finis
 
 use super::parts::{split_marker, text_if};
 use crate::controls::{ESCAPE, STRING_TERMINATOR};
-use crate::io::{CallWriter, Fault, Output, Sink};
+use crate::io::{CallWriter, Fault, Output, Sink, WritingPerformer};
 use crate::params::Params;
 use crate::perform::{Perform, PerformText};
 
@@ -147,21 +147,12 @@ impl<W: Sink> PerformText for CanonWriter<W> {
 }
 
 /// The canonical text has no ending.
-impl<W: Sink> CallWriter<W> for CanonWriter<W> {
+impl<W: Sink> WritingPerformer<W> for CanonWriter<W> {
     ghost use Rattle.anstyle_parse.specs.Views.CanonWriter.{output_of};
 
     ghost output_in = { output_of };
 
-    ghost is_new = { λ _. ⊤ };
-
-    ghost text = { canon };
-
-    fn over(output: Output<W>) -> CanonWriter<W>
-        ensures output { output_of result ≡ output }
-        ensures new { ⊤ }
-    {
-        CanonWriter { output }
-    }
+    ghost text_from = { λ _. canon };
 
     fn output(&self) -> &Output<W> {
         &self.output
@@ -175,9 +166,28 @@ impl<W: Sink> CallWriter<W> for CanonWriter<W> {
         self.output
     }
 
-    ghost adds = { λ _ _ _ _ received. received };
+    ghost adds = { λ _ _ _ received. received };
 
-    ghost ends = { λ _ _ _ _ _ _. refl };
+    ghost ends = { λ _ _ _ _ _. refl };
+}
+
+impl<W: Sink> CallWriter<W> for CanonWriter<W> {
+    ghost use Rattle.anstyle_parse.specs.Views.CanonWriter.{output_of};
+
+    ghost is_new = { λ _. ⊤ };
+
+    ghost text = { canon };
+
+    fn over(output: Output<W>) -> CanonWriter<W>
+        ensures output { output_of result ≡ output }
+        ensures new { ⊤ }
+    {
+        CanonWriter { output }
+    }
+
+    ghost text_of_new = { λ _ _ _. refl };
+
+    ghost ending_of_new = { λ _ _ _. refl };
 }
 
 impl<W: Sink> CanonWriter<W> {

@@ -2,7 +2,7 @@
 ghost use Rattle.std.specs.Prelude.{◌≡◌, ◌++◌, [], ℕ, List, None, OnOk};
 ghost use Rattle.anstyle_parse.specs.declared.io.output.Output.{Output as AnOutput};
 ghost use Rattle.anstyle_parse.specs.Stream.Call.{Call};
-ghost use Rattle.anstyle_parse.specs.Io.Output.{fault_in, Adds};
+ghost use Rattle.anstyle_parse.specs.Io.Output.{writer_in, fault_in, Adds};
 ghost use Rattle.anstyle_parse.specs.Io.Run.{Drives, PerformsToEnd, Runs, RunsToEnding};
 
 use super::{Fault, Output, Sink, Source};
@@ -46,7 +46,7 @@ pub fn perform_to_end<P: Perform, R: Source>(reader: &mut R, performer: &mut P) 
 /// reader ends or fails or the performer's output keeps a fault. At most 2^64 - 1 reads are made.
 /// The parser hands on texts ([`Parser::advance_texts`]). What was written of a piece is handed on
 /// before the next read.
-pub fn drive<P: CallWriter<W>, R: Source, W: Sink>(reader: &mut R, performer: &mut P) -> Stop
+pub fn drive<P: WritingPerformer<W>, R: Source, W: Sink>(reader: &mut R, performer: &mut P) -> Stop
     requires { fault_in (P.output_in performer.old) ≡ None }
     ensures { Drives R.Source P.receives P.output_in reader.old reader.new performer.old performer.new result }
 {
@@ -70,24 +70,15 @@ pub fn drive<P: CallWriter<W>, R: Source, W: Sink>(reader: &mut R, performer: &m
 
 /// A performer that writes a text of its calls to an [`Output`].
 ///
-/// An implementation says what text a new one writes of a list of calls, and with what it
-/// ends, where there is something. [`write_calls`] does the rest.
-pub trait CallWriter<W: Sink>: PerformText {
+/// An implementation says what text it writes of a list of calls from where it stands, and what it
+/// then has still to write. [`write_calls_by`] does the rest.
+pub trait WritingPerformer<W: Sink>: PerformText {
     // The output that it writes to.
     ghost output_in: { Self → AnOutput W };
-    // It has received no call.
-    ghost is_new: { Self → Type 0 };
-    // What a new one writes by a list of calls,
-    ghost text: { List Call → List ℕ };
-    // what is still to be written after these,
-    ghost ending: { List Call → List ℕ } = { λ _. [] };
-    // and what a performer has still to write as it stands.
-    ghost unwritten: { Self → List ℕ } = { λ _. [] };
-
-    /// One that writes to this output and has received no call. Nothing is written.
-    fn over(output: Output<W>) -> Self
-        ensures output { output_in result ≡ output }
-        ensures new { is_new result };
+    // What it writes by a list of calls, as it stands,
+    ghost text_from: { Self → List Call → List ℕ };
+    // and what is still to be written after these.
+    ghost ending_from: { Self → List Call → List ℕ } = { λ _ _. [] };
 
     /// The output that it writes to.
     fn output(&self) -> &Output<W>
@@ -101,18 +92,39 @@ pub trait CallWriter<W: Sink>: PerformText {
 
     /// Writes what is still to be written, and hands the output back.
     fn into_output(self) -> Output<W>
-        ensures { Adds W.Sink (unwritten self) (output_in self) result };
+        ensures { Adds W.Sink (ending_from self []) (output_in self) result };
 
     // By a list of calls it writes their text. (Where this is the text of each call, joined,
     // `receives` may say so by `AddsTexts` of `specs/Io/Output.antt`, and this is the same.)
-    ghost adds: { (old : Self) (calls : List Call) (new : Self) → is_new old
-        → Self.receives old calls new
-        → Adds W.Sink (text calls) (output_in old) (output_in new) };
+    ghost adds: { (old : Self) (calls : List Call) (new : Self) → Self.receives old calls new
+        → Adds W.Sink (text_from old calls) (output_in old) (output_in new) };
 
     // Where no fault stopped it, their ending is still to be written.
-    ghost ends: { (old : Self) (calls : List Call) (new : Self) → is_new old
-        → Self.receives old calls new
-        → fault_in (output_in new) ≡ None → unwritten new ≡ ending calls };
+    ghost ends: { (old : Self) (calls : List Call) (new : Self) → Self.receives old calls new
+        → fault_in (output_in new) ≡ None → ending_from new [] ≡ ending_from old calls };
+}
+
+/// One that is made over an output alone, so that a type says what text a new one writes:
+/// [`write_calls`] makes it.
+pub trait CallWriter<W: Sink>: WritingPerformer<W> {
+    // It has received no call.
+    ghost is_new: { Self → Type 0 };
+    // What a new one writes by a list of calls,
+    ghost text: { List Call → List ℕ };
+    // and what is still to be written after these.
+    ghost ending: { List Call → List ℕ } = { λ _. [] };
+
+    /// One that writes to this output and has received no call. Nothing is written.
+    fn over(output: Output<W>) -> Self
+        ensures output { Self.output_in result ≡ output }
+        ensures new { is_new result };
+
+    // As it stands it writes that text, with that ending.
+    ghost text_of_new: { (performer : Self) → is_new performer
+        → (calls : List Call) → Self.text_from performer calls ≡ text calls };
+
+    ghost ending_of_new: { (performer : Self) → is_new performer
+        → (calls : List Call) → Self.ending_from performer calls ≡ ending calls };
 }
 
 /// Writes the text of the calls of all bytes that the reader gives, and its ending.
@@ -160,10 +172,31 @@ pub fn write_calls_between<P: CallWriter<W>, R: Source, W: Sink>(
 {
     let mut output = Output::new(writer);
     output.put(head);
-    if output.fault().is_some() {
-        return output.finish();
+    write_calls_by(P::over(output), reader, tail)
+}
+
+/// The same by a performer that is given: one with a state of its own, such as a screen.
+///
+/// What its output has taken before, such as a head, counts as written by this run: where a write of
+/// that failed, the answer is `Err(Fault::Write)`, and nothing is read.
+pub fn write_calls_by<P: WritingPerformer<W>, R: Source, W: Sink>(
+    performer: P,
+    reader: &mut R,
+    tail: &[u8],
+) -> (W, Result<(), Fault>)
+    // From where its output kept no fault.
+    ensures runs { (start : AnOutput W) (head : List ℕ) → fault_in start ≡ None
+        → Adds W.Sink head start (P.output_in performer)
+        → RunsToEnding R.Source W.Sink
+        (λ calls. head ++ P.text_from performer calls)
+        (λ calls. P.ending_from performer calls ++ tail.now)
+        reader.old reader.new (writer_in start) result.0 result.1 }
+    ensures handed_on { OnOk result.1 (W.holds_nothing result.0) }
+{
+    let mut performer = performer;
+    if performer.output().fault().is_some() {
+        return performer.into_output().finish();
     }
-    let mut performer = P::over(output);
     let stop = drive::<P, R, W>(reader, &mut performer);
     let mut output = performer.into_output();
     output.put(tail);

@@ -11,4 +11,4 @@ pub returns : goal.returns
 unfolding text_html
 returns g c =
     let call = csi_dispatch (groups_shown c.args.params.now) c.args.intermediates.now c.args.ignore c.args.action in
-    record { scheme = refl; style = c.csi_dispatch.ensures ∙ ap (style_after call) c.unwrap_or-style.ensures; shown = refl; added = Adds-nil g.W.Sink (output_of c.args.self.now) }
+    record { scheme = refl; style = c.csi_dispatch.ensures ∙ ap (style_after call) c.get_or_insert-style.ensures.value; shown = refl; added = Adds-nil g.W.Sink (output_of c.args.self.now) }

@@ -54,7 +54,7 @@ loop-turn-preserved g c =
           (g.met.P.PerformText.receives_more c.args.performer.now c.loop-turn.performer c.advance_texts.new.performer before.calls more before.received c.advance_texts.ensures.calls)
           c.pass_on.ensures;
       stands = c.advance_texts.ensures.stands before.read before.stands;
-      no_fault = None-from_is_some (fault_in (g.P.CallWriter.output_in c.pass_on.new.self)) (sym (c.is_some.ensures ∙ ap is_some (c.fault.ensures ∙ ap fault_in c.output.ensures)) ∙ c.if-is_some.false);
+      no_fault = None-from_is_some (fault_in (g.P.WritingPerformer.output_in c.pass_on.new.self)) (sym (c.is_some.ensures ∙ ap is_some (c.fault.ensures ∙ ap fault_in c.output.ensures)) ∙ c.if-is_some.false);
       not_failed = c.in-Some.ensures.not_failed ∙ before.not_failed;
       counted = omega (arith, before.counted, length-append before.read bytes, length-take c.in-Some.count c.read.new.into, c.in-Some.ensures.within, c.in-Some.count-test);
       room = c.read.auto.into ∙ before.room;

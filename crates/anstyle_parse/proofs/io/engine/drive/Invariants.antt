@@ -16,7 +16,7 @@ invariant-loop-turn g l = record {
   are_calls : AreCalls read calls;
   received : g.P.PerformText.receives l.initial.performer calls l.performer;
   stands : IsAfter front_of l.parser read;
-  no_fault : fault_in (g.P.CallWriter.output_in l.performer) ≡ None;
+  no_fault : fault_in (g.P.WritingPerformer.output_in l.performer) ≡ None;
   not_failed : g.R.Source.has_failed l.reader ≡ g.R.Source.has_failed l.initial.reader;
   counted : l.turn ≤ length read;
   room : length l.piece ≡ 4096;

@@ -6,8 +6,8 @@ Usage: tests/screen/record.py FOLDER [NAME]..
 Each program runs on a terminal of its own of 80 columns and 24 rows; what it wrote stands in
 FOLDER/NAME. pip and npm download a package of this script's own, from a server of its own on this
 machine that hands it out slowly, as curl does; git clones this repository; apt-get, run by root,
-installs less anew. Programs that are not installed are left out, and said. docker is not among them: it
-draws progress for an engine alone, and none ran where the kept recordings were made.
+installs less anew; docker, the client, pulls an image that the same server says to have, as an engine
+would. Programs that are not installed are left out, and said.
 """
 
 import http.server
@@ -33,11 +33,16 @@ NPM = "npm install --registry=AT --cache=INTO/cache --no-audit --no-fund --no-up
 PIP = "python3 -m pip --isolated --disable-pip-version-check download --no-cache-dir --index-url=AT/simple -d INTO slow"
 WHEEL = "slow-1.0-py3-none-any.whl"
 
+# What the engine says of a layer as it comes, in this order; the last two have a progress.
+LAYERS = ("1f3e46996e29", "8a49fdb3b6a5", "44cf07d57ee4")
+STEPS = "Pulling fs layer", "Waiting", "Downloading", "Verifying Checksum", "Download complete", "Extracting", "Pull complete"
+
 # name: the command, in which AT is the server and INTO an empty folder, and for how many seconds it runs at most
 PROGRAMS = {
     "apt": ("apt-get install --reinstall -y -o Dpkg::Progress-Fancy=1 -o Dir::Ignore-Files-Silently::=. less", 60),
     "curl": ("curl -o /dev/null AT/slow.tgz", 20),
     "curl_bar": ("curl -# -o /dev/null AT/slow.tgz", 20),
+    "docker": ("DOCKER_CONFIG=INTO docker --host=tcp:AT pull slow", 30),
     "git_clone": ("git clone --no-local --progress %s INTO/clone" % ROOT, 30),
     "npm": ("cd INTO && " + NPM, 30),
     "pip": (PIP, 30),
@@ -66,11 +71,35 @@ def tarball():
     return data.getvalue()
 
 
+def said_of_pull():
+    """What an engine says of an image of three layers, which come side by side, a message at a time."""
+    yield {"status": "Pulling from library/slow", "id": "latest"}
+    for step in STEPS:
+        for done in range(PIECE, SIZE + 1, 4 * PIECE) if step in ("Downloading", "Extracting") else (0,):
+            for layer in LAYERS:
+                progress = {"current": done, "total": SIZE} if done else {}
+                yield {"status": step, "progressDetail": progress, "id": layer}
+    yield {"status": "Status: Downloaded newer image for slow:latest"}
+
+
 class Server(http.server.BaseHTTPRequestHandler):
-    """An index of pip, a registry of npm, and the package of each."""
+    """An index of pip, a registry of npm, the package of each, and the engine of docker."""
 
     def log_message(self, *words):
         pass
+
+    def do_HEAD(self):
+        self.send_response(200)
+        self.send_header("Api-Version", "1.41")
+        self.end_headers()
+
+    def do_POST(self):
+        self.send_response(200)
+        self.send_header("Content-Type", "application/json")
+        self.end_headers()
+        for message in said_of_pull():
+            self.wfile.write(json.dumps(message).encode() + b"\r\n")
+            time.sleep(PAUSE / 4)
 
     def do_GET(self):
         at = "http://127.0.0.1:%d" % self.server.server_port
@@ -114,8 +143,9 @@ def main():
         if shutil.which(name.split("_")[0] if name != "apt" else "apt-get") is None:
             print("%s is not installed, and is left out" % name)
             continue
+        place = "127.0.0.1:%d" % server.server_port
         with tempfile.TemporaryDirectory() as into:
-            command = command.replace("AT", "http://127.0.0.1:%d" % server.server_port).replace("INTO", into)
+            command = command.replace("tcp:AT", "tcp://" + place).replace("AT", "http://" + place).replace("INTO", into)
             written = recorder()(["sh", "-c", command], [], seconds, COLUMNS, ROWS)
         with open(os.path.join(folder, name), "wb") as file:
             file.write(written)

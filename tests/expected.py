@@ -455,14 +455,15 @@ HTML_CUT = (b"\x1b[31mh\x1b[1mi", [b""] * 6 + [RED] * 5 + [RED + BOLD_RED])
 HTML_HOSTILE = STRIP_HOSTILE[:-1]
 
 # A whole page. By the HTML standard: its DOCTYPE first, or browsers draw it by the rules of old
-# pages (13.1.1); its charset within the first 1,024 bytes (4.2.5.4); a title (4.2.2); the
+# pages (13.1.1); its language, for readers that speak it (3.2.6.2); its charset within the first
+# 1,024 bytes (4.2.5.4); a title (4.2.2); the
 # elements in order; and after <pre> a line feed, which a reader drops, so that one that begins
 # the text stays (13.1.2.5). `viewport` keeps a phone from drawing it at a desk's width,
 # `color-scheme` has it light or dark as its reader has all else (CSS Color Adjustment, 2.1), and
 # `pre-wrap` and `anywhere` wrap long lines (CSS Text (level 3), 3 and 5.5).
 PAGE_HEAD = b"""\
 <!DOCTYPE html>
-<html>
+<html lang="en">
 <head>
 <meta charset="utf-8">
 <meta name="viewport" content="width=device-width">

@@ -28,7 +28,7 @@ STREAMS = {
 }
 # A page as a whole may have these elements besides spans; a fragment has none.
 OF_A_PAGE = ["html", "head", "meta", "title", "style", "body", "pre"]
-# What a page says of itself: its charset, that a phone draws it at the phone's width, that it is
+# What a page says of itself beside its language: its charset, that a phone draws it at the phone's width, that it is
 # light or dark as its reader has it, and that long lines are wrapped.
 METAS = [[("charset", "utf-8")], [("name", "viewport"), ("content", "width=device-width")]]
 STYLE = {
@@ -44,7 +44,7 @@ class Reader(html.parser.HTMLParser):
     def __init__(self, is_page):
         super().__init__()
         self.is_page, self.open, self.text, self.faults = is_page, [], "", []
-        self.declared, self.metas, self.style, self.title = [], [], "", ""
+        self.declared, self.language, self.metas, self.style, self.title = [], [], [], "", ""
 
     def handle_starttag(self, tag, attributes):
         if tag == "span":
@@ -56,6 +56,8 @@ class Reader(html.parser.HTMLParser):
             self.faults.append("an element %s" % tag)
         elif tag == "meta":
             self.metas.append(attributes)
+        elif tag == "html":
+            self.language = attributes
         elif attributes:
             self.faults.append("%s has the attributes %s" % (tag, attributes))
         if tag not in WITH_NO_END:
@@ -115,6 +117,7 @@ def page_differs(reader, written):
     """Says what a page does not say of itself, or answers None."""
     for name, found, wanted in (
         ("its declarations are", reader.declared, ["DOCTYPE html"]),
+        ("its language is", reader.language, [("lang", "en")]),
         ("its metas are", reader.metas, METAS),
         ("its style is", rules(reader.style), STYLE),
         ("it ends with", written[-1:], b"\n"),

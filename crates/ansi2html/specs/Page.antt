@@ -1,9 +1,9 @@
 -- What stands around the text.
 --
--- Sources: the HTML standard, 13.1 (the syntax of a page), 4.2.5.4 (its charset, within the
--- first 1,024 bytes) and 4.4.3 (`pre`); CSS Color Adjustment, 2.1 (a page that is drawn light or
--- dark, as its reader has it); CSS Text, 3 and 5.5 (long lines are wrapped, spaces are kept); CSS
--- Viewport, 3 (a phone draws it at its own width).
+-- Sources: the HTML standard, 13.1 (the syntax of a page), 3.2.6.2 (`lang`, by which a page is
+-- read aloud), 4.2.5.4 (its charset, within the first 1,024 bytes) and 4.4.3 (`pre`); CSS Color
+-- Adjustment, 2.1 (a page that is drawn light or dark, as its reader has it); CSS Text, 3 and 5.5
+-- (long lines are wrapped, spaces are kept); CSS Viewport, 3 (a phone draws it at its own width).
 use Rattle.std.specs.Prelude.{ℕ, List, [], ◌∷◌, ◌++◌, codes}
 use Rattle.std.specs.List.{flat_map}
 use Rattle.ansi_html.specs.declared.scheme.Scheme.{Scheme}
@@ -29,7 +29,7 @@ abbrev pub before_title : List ℕ
 before_title =
     lines
     (codes "<!DOCTYPE html>" ∷
-    codes "<html>" ∷
+    codes "<html lang=\"en\">" ∷
     codes "<head>" ∷
     codes "<meta charset=\"utf-8\">" ∷
     codes "<meta name=\"viewport\" content=\"width=device-width\">" ∷ [])

@@ -21,7 +21,7 @@ pub const TITLE: &str = "Terminal output";
 
 /// The page before its title.
 const BEFORE_TITLE: &[u8] = br#"<!DOCTYPE html>
-<html>
+<html lang="en">
 <head>
 <meta charset="utf-8">
 <meta name="viewport" content="width=device-width">

@@ -385,11 +385,28 @@ def html_rows(scheme):
     grounds = lambda light, dark: themed(scheme, b"background-color", light, dark)
     reversed_ground = grounds(b"#000000", b"#ffffff")
     return [
-        ("plain text", b"hi\t\r\n", b"hi\t\r\n"),
+        ("plain text", b"hi\t\r\n", b"hi\t&#13;\n"),
         ("an operating system command", b"\x1b]0;x\x07a\n", b"a\n"),
         ("colours of no text", b"\x1b[31m\x1b[1m", b""),
         ("a broken character", b"\xc3(", b"\xef\xbf\xbd("),
-        ("a tab in text", b"plain\tx\r\n", b"plain\tx\r\n"),
+        ("a tab in text", b"plain\tx\r\n", b"plain\tx&#13;\n"),
+        # (by the HTML standard, 13.2.3.5, a browser reads 0D, with or without 0A behind it, as 0A, but not
+        # a reference to it; that ends no line, where a bare 0D did)
+        ("a carriage return", b"10%\r20%", b"10%&#13;<br>20%"),
+        ("carriage returns", b"a\r\rb\r\r\n\rc", b"a&#13;<br>&#13;<br>b&#13;<br>&#13;\n&#13;<br>c"),
+        ("a carriage return and a tab", b"a\r\tb", b"a&#13;<br>\tb"),
+        ("a carriage return, and then what is no text", b"a\r\x1b[K\x07\x1b]0;x\x07b", b"a&#13;<br>b"),
+        ("a carriage return at the end", b"\ra\r", b"&#13;<br>a&#13;"),
+        (
+            "a carriage return before text of another style",
+            b"\x1b[1ma\r\x1b[mb",
+            span(b"font-weight:bold;", b"a&#13;") + b"<br>b",
+        ),
+        (
+            "a carriage return before a line feed of another style",
+            b"a\r\x1b[1m\nb",
+            b"a&#13;" + span(b"font-weight:bold;", b"\nb"),
+        ),
         ("markup", b"<b>&\"'</b>", b"&lt;b&gt;&amp;&quot;&#39;&lt;/b&gt;"),
         ("references", b"&amp;&#60;", b"&amp;amp;&amp;#60;"),
         ("characters", "n\u00e4\u00efve \u20ac \U0001f600".encode(), "n\u00e4\u00efve \u20ac \U0001f600".encode()),

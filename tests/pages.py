@@ -21,6 +21,9 @@ STREAMS = {
     "broken characters": b"\xc3<\xe2\x82<b>\xf0\x9f\x98\x1b[31m\xed\xa0\x80\xff\xe0\x80\xbcx",
     "characters": "ä € 😀 \u202e\u2028\ufeff\x00\x7f".encode(),
     "controls": b"a\x00b\x08c\x0bd\x0ce\x1af\tg\rh\n<\x18>\n",
+    "progress": b"10%\r\x1b[32m20%\r\x1b[0m\x1b[K30%\x1b[1m\r\x1b[m\r\nend\r\r\n\r\x1b]0;x\x07\n\n\r<",
+    "carriage returns": b"\r\r\n\ra\r\tb\r&\r\x1b[4m\r\n\r",
+    "references to newlines": b"&#13;&#10;&NewLine;<br>\r<br>\n",
     "a sequence that is cut": b"<i>\x1b[38;2;1;2",
     "a string that is cut": b"&\x1b]0;<b>",
     "a newline first": b"\n\nafter",
@@ -45,8 +48,14 @@ class Reader(html.parser.HTMLParser):
         super().__init__()
         self.is_page, self.open, self.text, self.faults = is_page, [], "", []
         self.declared, self.language, self.metas, self.style, self.title = [], [], [], "", ""
+        self.lines = ""  # the text as its lines are drawn: 0A at each line break, and no 0D
 
     def handle_starttag(self, tag, attributes):
+        if tag == "br":
+            self.lines += "\n"
+            if attributes or self.text[-1:] != "\r":
+                self.faults.append("a line break with %s behind %r" % (attributes, self.text[-1:]))
+            return
         if tag == "span":
             if "span" in self.open:
                 self.faults.append("a span stands in a span")
@@ -72,6 +81,7 @@ class Reader(html.parser.HTMLParser):
     def handle_data(self, data):
         if not self.is_page or "pre" in self.open:
             self.text += data
+            self.lines += data.replace("\r", "")
         elif "style" in self.open:
             self.style += data
         elif "title" in self.open:
@@ -86,18 +96,27 @@ class Reader(html.parser.HTMLParser):
         self.faults.append("a comment %r" % data)
 
 
+def normalized(text):
+    """Newlines as a browser reads them: the HTML standard, 13.2.3.5."""
+    return text.replace("\r\n", "\n").replace("\r", "\n")
+
+
 def differs(written, stripped, is_page):
     """Says how this HTML is not that of the stripped text, or answers None."""
     reader = Reader(is_page)
     try:
-        reader.feed(written.decode())
+        reader.feed(normalized(written.decode()))
         reader.close()
     except UnicodeDecodeError as error:
         return "it is no UTF-8: %s" % error
     # (a reader drops a newline right after <pre>)
-    found = reader.text[1:] if is_page and reader.text[:1] == "\n" else reader.text
-    if found != stripped.decode():
-        return "its text is %r, and not %r" % (found, stripped.decode())
+    begin = 1 if is_page and reader.text[:1] == "\n" else 0
+    text = stripped.decode()
+    # (a carriage return ends a line where something follows)
+    lines = normalized(text)[:-1] if text[-1:] == "\r" else normalized(text)
+    for what, found, wanted in (("text is", reader.text, text), ("lines are", reader.lines, lines)):
+        if found[begin:] != wanted:
+            return "its %s %r, and not %r" % (what, found[begin:], wanted)
     if reader.open:
         return "it leaves %s open" % ", ".join(reader.open)
     if reader.faults:

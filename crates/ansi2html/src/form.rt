@@ -72,8 +72,9 @@ fn put_head<W: Sink>(output: &mut Output<W>, scheme: Scheme, title: &str)
 }
 
 impl Form {
-    /// What is written before the text: of a page, its head with this title, in which `& < > " '`
-    /// are character references, and with the colours of the scheme. A page's takes memory.
+    /// What is written before the text: of a page, its head with this title, in which `& < > " '` and
+    /// carriage returns are character references, and with the colours of the scheme. A page's takes
+    /// memory.
     pub fn head(self, alloc: Global, scheme: Scheme, title: &str) -> Result<Vec<u8>, AllocError>
         ensures { IfOk result (λ head. head.items ≡ head_of self scheme title.now) }
     {

@@ -1,8 +1,8 @@
 -- A style's declarations stand in the grammar, and so hold no quote and only ASCII.
 use Rattle.std.proofs.Common.{◌≡◌, ◌<◌, ◌≤◌, ℕ, ◌+◌, ◌%◌, ◌/◌, Bool, true, false, ◌&&◌, eqb, List, [], ◌∷◌, ◌++◌, codes, refl, sym, ap, subst, append_assoc, append-nil, arith}
-use Rattle.std.specs.Prelude.{not, nat_lt, if◌then◌else◌}
+use Rattle.std.specs.Prelude.{not, nat_lt, nat_le, if◌then◌else◌}
 use Rattle.std.specs.List.{list_all}
-use Rattle.std.proofs.lemmas.Bool.{lt-ltb, and_from, and_parts, ne_eqb, ltb-true}
+use Rattle.std.proofs.lemmas.Bool.{lt-ltb, le-leb, and_from, and_parts, ne_eqb, ltb-true, leb-true}
 use Rattle.ansi_style.specs.declared.style.Style.{Style}
 use Rattle.ansi_style.specs.declared.style.Underline.{Underline}
 use Rattle.ansi_style.specs.declared.style.Underline.TheVariants.{Off, Single, Double, Curly, Dotted, Dashed}
@@ -14,6 +14,7 @@ use Rattle.ansi_html.specs.Palette.{hex_digit, hex_byte, hex}
 use Rattle.ansi_html.specs.Css.{declared, light_dark, themed, colors_css, text_if, is_underlined, lines_css, underline_css, others_css, css}
 use Rattle.ansi_html.specs.Grammar.{AreReadable, of_page, on_page, on_reversed, on_color, AreColors, readable, chosen, AreLines, no_line, underline, overline, line_through, blink, IsDeclaration, bold, italic, hidden, lines, double, wavy, dotted, dashed, AreDeclarations, no_declaration, declaration}
 use Rattle.ansi_html.proofs.ColorLemmas.{choose, AreColors-css}
+use Rattle.ansi_html.proofs.HtmlLemmas.{false-from_not}
 
 -- one declaration
 single : (first : List ℕ) → IsDeclaration first → AreDeclarations first
@@ -57,7 +58,7 @@ AreDeclarations-others style =
 
 -- a byte that may stand in an attribute
 pub is_safe : ℕ → Bool
-is_safe b = nat_lt b 0x80 && not (eqb b 0x22)
+is_safe b = nat_le 0x20 b && (nat_lt b 0x80 && not (eqb b 0x22))
 
 abbrev pub AreSafe : List ℕ → Type 0
 AreSafe bytes = list_all is_safe bytes ≡ true
@@ -70,7 +71,9 @@ AreSafe-append (x ∷ first) second a b =
 
 safe_between : (b : ℕ) → 0x23 ≤ b → b < 0x80 → is_safe b ≡ true
 unfolding is_safe
-safe_between b low high = and_from (nat_lt b 0x80) (not (eqb b 0x22)) (lt-ltb b 0x80 high) (ap not (ne_eqb b 0x22 (λ e. omega arith)))
+safe_between b low high =
+    and_from (nat_le 0x20 b) (nat_lt b 0x80 && not (eqb b 0x22)) (le-leb 0x20 b (omega (arith, low)))
+    (and_from (nat_lt b 0x80) (not (eqb b 0x22)) (lt-ltb b 0x80 high) (ap not (ne_eqb b 0x22 (λ e. omega arith))))
 
 safe_digit : (n : ℕ) → is_safe (hex_digit n) ≡ true
 safe_digit n = by_case (nat_lt (n % 16) 10)
@@ -155,14 +158,18 @@ pub AreSafe-css : (scheme : Scheme) (style : Style) → AreSafe (css scheme styl
 AreSafe-css scheme style =
     AreSafe-append (colors_css scheme style) (others_css style) (AreSafe-colors scheme (AreColors-css scheme style)) (AreSafe-declarations (AreDeclarations-others style))
 
-pub not_quote-safe : (b : ℕ) → is_safe b ≡ true → eqb b 0x22 ≡ false
+safe_parts : (b : ℕ) → is_safe b ≡ true → (0x20 ≤ b) × ((b < 0x80) × (eqb b 0x22 ≡ false))
 unfolding is_safe
-not_quote-safe b safe = of_not (eqb b 0x22) (and_parts (nat_lt b 0x80) (not (eqb b 0x22)) safe).1
-  where
-    of_not : (x : Bool) → not x ≡ true → x ≡ false
-    of_not true h = cc
-    of_not false h = refl
+safe_parts b safe =
+    let parts = and_parts (nat_le 0x20 b) (nat_lt b 0x80 && not (eqb b 0x22)) safe in
+    let more = and_parts (nat_lt b 0x80) (not (eqb b 0x22)) parts.1 in
+    (leb-true 0x20 b parts.0, (ltb-true b 0x80 more.0, false-from_not (eqb b 0x22) more.1))
+
+pub not_quote-safe : (b : ℕ) → is_safe b ≡ true → eqb b 0x22 ≡ false
+not_quote-safe b safe = (safe_parts b safe).1.1
 
 pub ascii-safe : (b : ℕ) → is_safe b ≡ true → b < 0x80
-unfolding is_safe
-ascii-safe b safe = ltb-true b 0x80 (and_parts (nat_lt b 0x80) (not (eqb b 0x22)) safe).0
+ascii-safe b safe = (safe_parts b safe).1.0
+
+pub not_return-safe : (b : ℕ) → is_safe b ≡ true → eqb b 0x0D ≡ false
+not_return-safe b safe = ne_eqb b 0x0D (λ e. omega (arith, (safe_parts b safe).0))

@@ -1,17 +1,19 @@
 -- Text as HTML.
-use Rattle.std.proofs.Common.{◌≡◌, ◌≢◌, ◌<◌, ◌≤◌, ℕ, Bool, true, false, ⊎_elim, ◌||◌, eqb, List, [], ◌∷◌, ◌++◌, ◌-◌, length, take, refl, sym, ap, ◌∙◌, subst, arith, append_assoc, append-nil, length-append}
+use Rattle.std.proofs.Common.{◌≡◌, ◌≢◌, ◌<◌, ◌≤◌, ℕ, Bool, true, false, ⊎_elim, eqb, List, [], ◌∷◌, ◌++◌, ◌-◌, length, take, refl, sym, ap, ap₂, ◌∙◌, subst, arith, append_assoc, append-nil, length-append}
 use Rattle.std.specs.Prelude.{not, encode_utf8, if◌then◌else◌}
 use Rattle.std.specs.List.{AllByRecursion}
 use Rattle.std.proofs.lemmas.Grind.{flat_map-append}
 use Rattle.std.proofs.lemmas.List.{take_at}
-use Rattle.std.proofs.lemmas.Bool.{ne_eqb, eqb-true, cases_lt, or_parts, or_cases}
+use Rattle.std.proofs.lemmas.Bool.{ne_eqb, cases_lt, or_parts}
 use Rattle.anstyle_parse.proofs.Characters.Scalars.{length-encode-some}
 use Rattle.anstyle_parse.proofs.Characters.Encoding.{encode_one, encode_two, encode_three, encode_four}
 use Rattle.ansi_strip.specs.Strip.{is_layout}
 use Rattle.ansi_style.specs.declared.style.Style.{Style}
 use Rattle.ansi_style.proofs.EqualityLemmas.{are_equal-refl}
 use Rattle.ansi_html.specs.declared.scheme.Scheme.{Scheme}
-use Rattle.ansi_html.specs.Html.{escaped, escaped_text, change, text_html, shown_after, span_begin, span_end}
+use Rattle.anstyle_parse.specs.Stream.Call.{print, execute}
+use Rattle.ansi_html.specs.Html.{escaped, escaped_text, Standing, beginning, after_text, text_html, call_html, standing_after, change, span_begin, span_end}
+use Rattle.ansi_html.specs.Writer.{in_style}
 use Rattle.ansi_html.specs.Grammar.{is_special, AreClear, BeginWithClear}
 
 pub false-from_not : (b : Bool) → not b ≡ true → b ≡ false
@@ -23,14 +25,15 @@ true-from_not true h = refl
 true-from_not false h = cc
 
 -- text that is not empty
-text_html-some : (scheme : Scheme) → (shown style : Style) (bytes : List ℕ) → 0 < length bytes → text_html scheme shown style bytes ≡ change scheme shown style ++ escaped_text bytes
+text_html-some : (scheme : Scheme) (at : Standing) (is_line_feed : Bool) (bytes : List ℕ) → 0 < length bytes
+    → text_html scheme at is_line_feed bytes ≡ beginning scheme at is_line_feed ++ escaped_text bytes
 unfolding text_html
-text_html-some scheme shown style [] some = absurd (omega arith)
-text_html-some scheme shown style (b ∷ bytes) some = refl
+text_html-some scheme at is_line_feed [] some = absurd (omega arith)
+text_html-some scheme at is_line_feed (b ∷ bytes) some = refl
 
-shown_after-some : (shown style : Style) (bytes : List ℕ) → 0 < length bytes → shown_after shown style bytes ≡ style
-shown_after-some shown style [] some = absurd (omega arith)
-shown_after-some shown style (b ∷ bytes) some = refl
+pub after_text-some : {A : Type 0} (before after : A) (bytes : List ℕ) → 0 < length bytes → after_text before after bytes ≡ after
+after_text-some before after [] some = absurd (omega arith)
+after_text-some before after (b ∷ bytes) some = refl
 
 -- Each byte of a character that is not ASCII is 80 or above.
 abbrev pub AreHigh : List ℕ → Type 0
@@ -46,13 +49,13 @@ AreHigh-encode c high =
     (cases_lt c 0x10000))
     (cases_lt c 0x800)
 
-pub is_special-other : (b : ℕ) → b ≢ 0x26 → b ≢ 0x3C → b ≢ 0x3E → b ≢ 0x22 → b ≢ 0x27 → is_special b ≡ false
+pub is_special-other : (b : ℕ) → b ≢ 0x26 → b ≢ 0x3C → b ≢ 0x3E → b ≢ 0x22 → b ≢ 0x27 → b ≢ 0x0D → is_special b ≡ false
 unfolding is_special
-is_special-other b amp lt gt quot apos =
-    rw (ne_eqb b 0x26 amp, ne_eqb b 0x3C lt, ne_eqb b 0x3E gt, ne_eqb b 0x22 quot, ne_eqb b 0x27 apos) refl
+is_special-other b amp lt gt quot apos return =
+    rw (ne_eqb b 0x26 amp, ne_eqb b 0x3C lt, ne_eqb b 0x3E gt, ne_eqb b 0x22 quot, ne_eqb b 0x27 apos, ne_eqb b 0x0D return) refl
 
 pub is_special-high : (b : ℕ) → 0x80 ≤ b → is_special b ≡ false
-is_special-high b high = is_special-other b (omega arith) (omega arith) (omega arith) (omega arith) (omega arith)
+is_special-high b high = is_special-other b (omega arith) (omega arith) (omega arith) (omega arith) (omega arith) (omega arith)
 
 AreClear-high : (bytes : List ℕ) → AreHigh bytes → AreClear bytes
 AreClear-high [] high = tt
@@ -72,8 +75,15 @@ escaped-clear b clear =
     let h0 = or_parts (eqb b 0x26) _ clear in
     let h1 = or_parts (eqb b 0x3C) _ h0.1 in
     let h2 = or_parts (eqb b 0x3E) _ h1.1 in
-    let h3 = or_parts (eqb b 0x22) (eqb b 0x27) h2.1 in
-    rw (h0.0, h1.0, h2.0, h3.0, h3.1) refl
+    let h3 = or_parts (eqb b 0x22) _ h2.1 in
+    let h4 = or_parts (eqb b 0x27) (eqb b 0x0D) h3.1 in
+    rw (h0.0, h1.0, h2.0, h3.0, h4.0, h4.1) refl
+
+pub not_return-clear : (b : ℕ) → is_special b ≡ false → eqb b 0x0D ≡ false
+unfolding is_special
+not_return-clear b clear =
+    let h2 = (or_parts (eqb b 0x3E) _ (or_parts (eqb b 0x3C) _ (or_parts (eqb b 0x26) _ clear).1).1).1 in
+    (or_parts (eqb b 0x27) (eqb b 0x0D) (or_parts (eqb b 0x22) _ h2).1).1
 
 pub escaped_one : (b : ℕ) → escaped_text (b ∷ []) ≡ escaped b
 escaped_one b = append-nil (escaped b)
@@ -113,31 +123,42 @@ pub escaped_text-begun : (bytes left : List ℕ) (begun : BeginWithClear bytes l
 escaped_text-begun bytes left begun =
     ap escaped_text begun.2 ∙ flat_map-append escaped begun.0 left ∙ ap (λ l. l ++ escaped_text left) (escaped_text-clear begun.0 begun.1)
 
--- a character
-pub text_html-encode : (scheme : Scheme) → (shown style : Style) (c : ℕ) → text_html scheme shown style (encode_utf8 c) ≡ change scheme shown style ++ escaped_text (encode_utf8 c)
-text_html-encode scheme shown style c = text_html-some scheme shown style (encode_utf8 c) (length-encode-some c)
+-- a printed character
+module _ (scheme : Scheme) (at : Standing) (c : ℕ) where
+  pub call_html-print : call_html scheme at (print c) ≡ beginning scheme at false ++ escaped_text (encode_utf8 c)
+  call_html-print = text_html-some scheme at false (encode_utf8 c) (length-encode-some c)
 
-pub shown_after-encode : (shown style : Style) (c : ℕ) → shown_after shown style (encode_utf8 c) ≡ style
-shown_after-encode shown style c = shown_after-some shown style (encode_utf8 c) (length-encode-some c)
+  pub standing_after-print : standing_after (print c) at ≡ in_style at.selected false
+  standing_after-print =
+      ap₂ (λ shown returned. record { shown = shown; selected = at.selected; returned = returned })
+      (after_text-some at.shown at.selected (encode_utf8 c) (length-encode-some c))
+      (after_text-some at.returned false (encode_utf8 c) (length-encode-some c))
 
--- a control that is text has no meaning in HTML
-layout_clear : (b : ℕ) → is_layout b ≡ true → is_special b ≡ false
-unfolding is_special
-layout_clear b is =
-    ⊎_elim
-    (λ either. ⊎_elim
-    (λ h. ap is_special (eqb-true b 0x09 h))
-    (λ h. ap is_special (eqb-true b 0x0A h))
-    (or_cases (eqb b 0x09) (eqb b 0x0A) either))
-    (λ h. ap is_special (eqb-true b 0x0D h))
-    (or_cases (eqb b 0x09 || eqb b 0x0A) (eqb b 0x0D) is)
+-- a control: where it is text, and where it is none
+module _ (scheme : Scheme) (at : Standing) (b : ℕ) where
+  abbrev executed : Bool → List ℕ
+  executed layout = if layout then b ∷ [] else []
 
-pub AreClear-layout : (b : ℕ) → is_layout b ≡ true → AreClear (b ∷ [])
-AreClear-layout b is = (layout_clear b is, tt)
+  abbrev after_executed : List ℕ → Standing
+  after_executed bytes = record {
+    shown = after_text at.shown at.selected bytes;
+    selected = at.selected;
+    returned = after_text at.returned (eqb b 0x0D) bytes;
+  }
 
-pub text_html-layout : (scheme : Scheme) → (shown style : Style) (b : ℕ) → is_layout b ≡ true → text_html scheme shown style (b ∷ []) ≡ change scheme shown style ++ (b ∷ [])
-text_html-layout scheme shown style b is =
-    text_html-some scheme shown style (b ∷ []) (omega arith) ∙ ap (λ l. change scheme shown style ++ l) (escaped_text-clear (b ∷ []) (AreClear-layout b is))
+  pub call_html-layout : is_layout b ≡ true → call_html scheme at (execute b) ≡ beginning scheme at (eqb b 0x0A) ++ escaped b
+  unfolding text_html
+  call_html-layout is = ap (λ layout. text_html scheme at (eqb b 0x0A) (executed layout)) is ∙ ap (λ l. beginning scheme at (eqb b 0x0A) ++ l) (escaped_one b)
+
+  pub standing_after-layout : is_layout b ≡ true → standing_after (execute b) at ≡ in_style at.selected (eqb b 0x0D)
+  standing_after-layout is = ap (λ layout. after_executed (executed layout)) is
+
+  pub call_html-other : is_layout b ≡ false → call_html scheme at (execute b) ≡ []
+  unfolding text_html
+  call_html-other is = ap (λ layout. text_html scheme at (eqb b 0x0A) (executed layout)) is
+
+  pub standing_after-other : is_layout b ≡ false → standing_after (execute b) at ≡ at
+  standing_after-other is = ap (λ layout. after_executed (executed layout)) is
 
 -- where the style stays nothing changes
 pub change-same : (scheme : Scheme) → (style : Style) → change scheme style style ≡ []

@@ -13,7 +13,7 @@ use Rattle.ansi_html.proofs.HtmlLemmas.{AreHigh, AreHigh-encode}
 
 -- a byte of text, with a meaning in HTML or without
 unfoldable pub is_textual : ℕ → Bool
-is_textual b = nat_le 0x20 b || (eqb b 0x09 || (eqb b 0x0A || eqb b 0x0D))
+is_textual b = nat_le 0x20 b || (eqb b 0x09 || (eqb b 0x0D || eqb b 0x0A))
 
 abbrev pub AreTextual : List ℕ → Type 0
 AreTextual bytes = AllByRecursion (λ b. is_textual b ≡ true) bytes
@@ -22,9 +22,17 @@ textual_above : (b : ℕ) → 0x20 ≤ b → is_textual b ≡ true
 unfolding is_textual
 textual_above b low = or_left (nat_le 0x20 b) _ (le-leb 0x20 b low)
 
-AreTextual-high : (bytes : List ℕ) → AreHigh bytes → AreTextual bytes
-AreTextual-high [] high = tt
-AreTextual-high (b ∷ bytes) high = (textual_above b (omega (arith, high.0)), AreTextual-high bytes high.1)
+-- bytes that are no C0 controls
+abbrev pub ArePrinted : List ℕ → Type 0
+ArePrinted bytes = AllByRecursion (λ b. 0x20 ≤ b) bytes
+
+ArePrinted-high : (bytes : List ℕ) → AreHigh bytes → ArePrinted bytes
+ArePrinted-high [] high = tt
+ArePrinted-high (b ∷ bytes) high = (omega (arith, high.0), ArePrinted-high bytes high.1)
+
+AreTextual-printed : (bytes : List ℕ) → ArePrinted bytes → AreTextual bytes
+AreTextual-printed [] printed = tt
+AreTextual-printed (b ∷ bytes) printed = (textual_above b printed.0, AreTextual-printed bytes printed.1)
 
 character_low : (c : ℕ) → is_character c ≡ true → 0x20 ≤ c
 unfolding is_character
@@ -32,11 +40,11 @@ character_low c is =
     ⊎_elim (λ h. (within_parts 0x20 0xD7FF c h).0) (λ h. omega (arith, (within_parts 0xE000 0x10FFFF c h).0))
     (or_cases (is_within 0x20 0xD7FF c) (is_within 0xE000 0x10FFFF c) is)
 
-AreTextual-encode : (c : ℕ) → is_character c ≡ true → AreTextual (encode_utf8 c)
-AreTextual-encode c is =
+pub ArePrinted-encode : (c : ℕ) → is_character c ≡ true → ArePrinted (encode_utf8 c)
+ArePrinted-encode c is =
     ⊎_elim
-    (λ k. subst AreTextual (sym (encode_one c k)) (textual_above c (character_low c is), tt))
-    (λ k. AreTextual-high (encode_utf8 c) (AreHigh-encode c k))
+    (λ k. subst ArePrinted (sym (encode_one c k)) (character_low c is, tt))
+    (λ k. ArePrinted-high (encode_utf8 c) (AreHigh-encode c k))
     (cases_lt c 0x80)
 
 textual_layout : (b : ℕ) → is_layout b ≡ true → is_textual b ≡ true
@@ -55,7 +63,7 @@ AreTextual-executed b true is = (textual_layout b is, tt)
 AreTextual-executed b false is = tt
 
 pub AreTextual-stripped : (call : Call) → IsShowable call → AreTextual (stripped_call call)
-AreTextual-stripped (print c) is = AreTextual-encode c is
+AreTextual-stripped (print c) is = AreTextual-printed (encode_utf8 c) (ArePrinted-encode c is)
 AreTextual-stripped (execute b) is = AreTextual-executed b (is_layout b) refl
 AreTextual-stripped (hook gs is ig f) h = tt
 AreTextual-stripped (put b) h = tt

@@ -1,13 +1,14 @@
 -- How long the HTML can be.
-use Rattle.std.proofs.Common.{◌≤◌, ℕ, ◌+◌, ◌*◌, Bool, ◌||◌, eqb, List, [], ◌∷◌, ◌++◌, codes, length, arith, length-append}
+use Rattle.std.proofs.Common.{◌≤◌, ◌<◌, ℕ, ◌+◌, ◌*◌, Bool, ◌||◌, ◌&&◌, eqb, ⊎_elim, ap, List, [], ◌∷◌, ◌++◌, codes, length, arith, length-append}
+use Rattle.std.specs.Prelude.{not, encode_utf8}
+use Rattle.std.proofs.lemmas.Bool.{cases_lt}
 use Rattle.std.proofs.lemmas.Str.{length-encode, len_utf8_bounds}
 use Rattle.anstyle_parse.specs.Stream.Call.{Call, print, execute, hook, put, unhook, osc_dispatch, csi_dispatch, esc_dispatch}
 use Rattle.ansi_strip.specs.Strip.{is_layout, stripped_call}
 use Rattle.ansi_style.specs.declared.style.Style.{Style}
 use Rattle.ansi_style.specs.declared.style.Underline.{Underline}
 use Rattle.ansi_style.specs.declared.style.Underline.TheVariants.{Off, Single, Double, Curly, Dotted, Dashed}
-use Rattle.ansi_style.specs.Style.{plain, are_equal}
-use Rattle.ansi_style.specs.Rendition.{style_after}
+use Rattle.ansi_style.specs.Style.{are_equal}
 use Rattle.ansi_html.specs.declared.contrast.Rgb.{Rgb}
 use Rattle.ansi_html.specs.declared.scheme.Scheme.{Scheme}
 use Rattle.ansi_html.specs.declared.scheme.Scheme.TheVariants.{Light, Dark, Both}
@@ -15,7 +16,8 @@ use Rattle.ansi_html.specs.Contrast.{black, white}
 use Rattle.ansi_html.specs.Palette.{hex}
 use Rattle.ansi_html.specs.Css.{declared, light_dark, themed, colors_css, text_if, is_underlined, lines_css, underline_css, css}
 use Rattle.ansi_html.specs.Grammar.{AreReadable, of_page, on_page, on_reversed, on_color, AreColors, readable, chosen}
-use Rattle.ansi_html.specs.Html.{escaped, escaped_text, is_plain, span_begin, span_end, change, text_html, shown_after, html_from, shown_at_end, html}
+use Rattle.ansi_html.specs.Html.{escaped, escaped_text, is_plain, span_begin, span_end, change, Standing, at_start, line_break, is_executed, text_html, call_html, standing_after, html_from, standing_at_end, html}
+use Rattle.ansi_html.proofs.HtmlLemmas.{escaped_one, escaped_ascii, escaped_high}
 use Rattle.ansi_html.proofs.ColorLemmas.{choose, AreColors-css}
 
 -- a test that a text is at most so long
@@ -131,15 +133,24 @@ length-escaped : (b : ℕ) → length (escaped b) ≤ 6
 length-escaped b =
     let P : List ℕ → Type 0 = λ l. length l ≤ 6 in
     choose P (eqb b 0x26) _ _ (omega arith) (choose P (eqb b 0x3C) _ _ (omega arith) (choose P (eqb b 0x3E) _ _ (omega arith)
-    (choose P (eqb b 0x22) _ _ (omega arith) (choose P (eqb b 0x27) _ _ (omega arith) (omega arith)))))
+    (choose P (eqb b 0x22) _ _ (omega arith) (choose P (eqb b 0x27) _ _ (omega arith) (choose P (eqb b 0x0D) _ _ (omega arith) (omega arith))))))
 
-length-escaped_text : (bytes : List ℕ) → length (escaped_text bytes) ≤ 6 * length bytes
-length-escaped_text [] = omega arith
-length-escaped_text (b ∷ bytes) = omega (arith, length-append (escaped b) (escaped_text bytes), length-escaped b, length-escaped_text bytes)
+AtMost-line_break : (returned is_line_feed : Bool) → AtMost 4 (line_break returned is_line_feed)
+unfolding AtMost
+AtMost-line_break returned is_line_feed = choose (λ l. length l ≤ 4) (returned && not is_line_feed) (codes "<br>") [] (omega arith) (omega arith)
 
-length-stripped : (call : Call) → length (stripped_call call) ≤ 4
-length-stripped (print c) = omega (arith, length-encode c, (len_utf8_bounds c).1)
-length-stripped (execute b) = choose (λ l. length l ≤ 4) (is_layout b) (b ∷ []) [] (omega arith) (omega arith)
+-- what is left of a call, escaped: a reference, or the bytes of a character
+length-encoded : (c : ℕ) → length (escaped_text (encode_utf8 c)) ≤ 6
+length-encoded c =
+    ⊎_elim
+    (λ (k : c < 0x80). omega (arith, ap length (escaped_ascii c k), length-escaped c))
+    (λ (k : 0x80 ≤ c). omega (arith, ap length (escaped_high c k), length-encode c, (len_utf8_bounds c).1))
+    (cases_lt c 0x80)
+
+length-stripped : (call : Call) → length (escaped_text (stripped_call call)) ≤ 6
+length-stripped (print c) = length-encoded c
+length-stripped (execute b) =
+    choose (λ l. length (escaped_text l) ≤ 6) (is_layout b) (b ∷ []) [] (omega (arith, ap length (escaped_one b), length-escaped b)) (omega arith)
 length-stripped (hook gs is ig f) = omega arith
 length-stripped (put b) = omega arith
 length-stripped unhook = omega arith
@@ -147,21 +158,23 @@ length-stripped (osc_dispatch parts bell) = omega arith
 length-stripped (csi_dispatch gs is ig f) = omega arith
 length-stripped (esc_dispatch is ig f) = omega arith
 
-length-text_html : (scheme : Scheme) → (shown style : Style) (bytes : List ℕ) → length bytes ≤ 4 → length (text_html scheme shown style bytes) ≤ 306
+-- 282 for a change of styles, 4 for a line break and 6 for the text
+length-text_html : (scheme : Scheme) (at : Standing) (is_line_feed : Bool) (bytes : List ℕ) → length (escaped_text bytes) ≤ 6 → length (text_html scheme at is_line_feed bytes) ≤ 292
 unfolding text_html AtMost
-length-text_html scheme shown style [] few = omega arith
-length-text_html scheme shown style (b ∷ bytes) few =
-    omega (arith, length-append (change scheme shown style) (escaped_text (b ∷ bytes)), AtMost-change scheme shown style, length-escaped_text (b ∷ bytes))
+length-text_html scheme at is_line_feed [] few = omega arith
+length-text_html scheme at is_line_feed (b ∷ bytes) few =
+    let changed = change scheme at.shown at.selected in
+    let broken = line_break at.returned is_line_feed in
+    omega (arith, few, length-append (changed ++ broken) (escaped_text (b ∷ bytes)), length-append changed broken, AtMost-change scheme at.shown at.selected, AtMost-line_break at.returned is_line_feed)
 
-length-html_from : (scheme : Scheme) → (shown style : Style) (calls : List Call) → length (html_from scheme shown style calls) ≤ 306 * length calls
-length-html_from scheme shown style [] = omega arith
-length-html_from scheme shown style (call ∷ calls) =
-    let bytes = stripped_call call in
-    let after = shown_after shown style bytes in
-    let next = style_after call style in
-    omega (arith, length-append (text_html scheme shown style bytes) (html_from scheme after next calls), length-text_html scheme shown style bytes (length-stripped call), length-html_from scheme after next calls)
+length-html_from : (scheme : Scheme) (at : Standing) (calls : List Call) → length (html_from scheme at calls) ≤ 292 * length calls
+length-html_from scheme at [] = omega arith
+length-html_from scheme at (call ∷ calls) =
+    let after = standing_after call at in
+    omega (arith, length-append (call_html scheme at call) (html_from scheme after calls), length-text_html scheme at (is_executed 0x0A call) (stripped_call call) (length-stripped call), length-html_from scheme after calls)
 
-pub length-html : (scheme : Scheme) → (calls : List Call) → length (html scheme calls) ≤ 306 * length calls + 7
+pub length-html : (scheme : Scheme) → (calls : List Call) → length (html scheme calls) ≤ 292 * length calls + 7
 unfolding AtMost
 length-html scheme calls =
-    omega (arith, length-append (html_from scheme plain plain calls) (span_end (shown_at_end plain plain calls)), length-html_from scheme plain plain calls, AtMost-span_end (shown_at_end plain plain calls))
+    let last = (standing_at_end at_start calls).shown in
+    omega (arith, length-append (html_from scheme at_start calls) (span_end last), length-html_from scheme at_start calls, AtMost-span_end last)

@@ -3,7 +3,9 @@ pub mod ColorLemmas
 pub mod HtmlLemmas
 pub mod PrintLemmas
 pub mod DeclarationLemmas
+pub mod NewlineLemmas
 pub mod ReadLemmas
+pub mod DrawnLemmas
 pub mod LawfulText
 pub mod GrammarLemmas
 pub mod TextLemmas

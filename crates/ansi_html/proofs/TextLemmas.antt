@@ -1,6 +1,6 @@
 -- The HTML is UTF-8.
-use Rattle.std.proofs.Common.{◌≡◌, ◌<◌, ℕ, Bool, true, false, eqb, List, [], ◌∷◌, ◌++◌, codes, refl, sym, subst, ⊎_elim, arith}
-use Rattle.std.specs.Prelude.{nat_lt, encode_utf8, if◌then◌else◌}
+use Rattle.std.proofs.Common.{◌≡◌, ◌<◌, ℕ, Bool, true, false, ◌&&◌, eqb, List, [], ◌∷◌, ◌++◌, codes, refl, sym, subst, ⊎_elim, arith}
+use Rattle.std.specs.Prelude.{not, nat_lt, encode_utf8, if◌then◌else◌}
 use Rattle.std.specs.List.{list_all}
 use Rattle.std.specs.Str.{IsUtf8}
 use Rattle.std.proofs.lemmas.Bool.{and_parts, or_cases, eqb-true, ltb-true}
@@ -11,13 +11,12 @@ use Rattle.anstyle_parse.proofs.Characters.Encoding.{encode_one}
 use Rattle.ansi_strip.specs.Strip.{is_layout, stripped_call}
 use Rattle.ansi_strip.proofs.Showable.{IsShowable, AreShowable, IsScalar-character, IsUtf8-byte, layout_low}
 use Rattle.ansi_style.specs.declared.style.Style.{Style}
-use Rattle.ansi_style.specs.Style.{plain, are_equal}
-use Rattle.ansi_style.specs.Rendition.{style_after}
+use Rattle.ansi_style.specs.Style.{are_equal}
 use Rattle.ansi_html.specs.declared.scheme.Scheme.{Scheme}
 use Rattle.ansi_html.specs.Css.{css}
 use Rattle.ansi_html.specs.Grammar.{is_special}
-use Rattle.ansi_html.specs.Html.{escaped_text, is_plain, span_begin, span_end, change, text_html, shown_after, html_from, shown_at_end, html}
-use Rattle.ansi_html.proofs.HtmlLemmas.{AreClear-encode, AreClear-layout, escaped_text-clear}
+use Rattle.ansi_html.specs.Html.{escaped_text, is_plain, span_begin, span_end, change, Standing, at_start, line_break, beginning, is_executed, text_html, call_html, standing_after, html_from, standing_at_end, html}
+use Rattle.ansi_html.proofs.HtmlLemmas.{AreClear-encode, escaped_text-clear}
 use Rattle.ansi_html.proofs.ColorLemmas.{choose}
 use Rattle.ansi_html.proofs.DeclarationLemmas.{is_safe, AreSafe, AreSafe-css, ascii-safe}
 
@@ -44,15 +43,24 @@ IsUtf8-special c is =
     ⊎_elim (at 0x26 (by 0x26 (omega arith) (IsUtf8-ascii (codes "&amp;") refl)))
     (λ h. ⊎_elim (at 0x3C (by 0x3C (omega arith) (IsUtf8-ascii (codes "&lt;") refl)))
     (λ h. ⊎_elim (at 0x3E (by 0x3E (omega arith) (IsUtf8-ascii (codes "&gt;") refl)))
-    (λ h. ⊎_elim (at 0x22 (by 0x22 (omega arith) (IsUtf8-ascii (codes "&quot;") refl))) (at 0x27 (by 0x27 (omega arith) (IsUtf8-ascii (codes "&#39;") refl)))
-    (or_cases (eqb c 0x22) (eqb c 0x27) h)) (or_cases (eqb c 0x3E) _ h)) (or_cases (eqb c 0x3C) _ h)) (or_cases (eqb c 0x26) _ is)
+    (λ h. ⊎_elim (at 0x22 (by 0x22 (omega arith) (IsUtf8-ascii (codes "&quot;") refl)))
+    (λ h. ⊎_elim (at 0x27 (by 0x27 (omega arith) (IsUtf8-ascii (codes "&#39;") refl))) (at 0x0D (by 0x0D (omega arith) (IsUtf8-ascii (codes "&#13;") refl)))
+    (or_cases (eqb c 0x27) (eqb c 0x0D) h)) (or_cases (eqb c 0x22) _ h)) (or_cases (eqb c 0x3E) _ h)) (or_cases (eqb c 0x3C) _ h)) (or_cases (eqb c 0x26) _ is)
+
+-- an ASCII character, escaped
+IsUtf8-ascii_character : (c : ℕ) → c < 0x80 → IsUtf8 (escaped_text (encode_utf8 c))
+IsUtf8-ascii_character c low = by_case (is_special c) refl
+  where
+    by_case : (special : Bool) → is_special c ≡ special → IsUtf8 (escaped_text (encode_utf8 c))
+    by_case true e = IsUtf8-special c e
+    by_case false e = subst IsUtf8 (sym (escaped_text-clear (encode_utf8 c) (AreClear-encode c e))) (subst IsUtf8 (sym (encode_one c low)) (IsUtf8-byte c low))
 
 IsUtf8-printed : (c : ℕ) (special : Bool) → is_special c ≡ special → is_character c ≡ true → IsUtf8 (escaped_text (encode_utf8 c))
 IsUtf8-printed c true e is = IsUtf8-special c e
 IsUtf8-printed c false e is = subst IsUtf8 (sym (escaped_text-clear (encode_utf8 c) (AreClear-encode c e))) (IsUtf8-encode c (IsScalar-character c is))
 
 IsUtf8-executed : (b : ℕ) (layout : Bool) → is_layout b ≡ layout → IsUtf8 (escaped_text (if layout then b ∷ [] else []))
-IsUtf8-executed b true is = subst IsUtf8 (sym (escaped_text-clear (b ∷ []) (AreClear-layout b is))) (IsUtf8-byte b (layout_low b is))
+IsUtf8-executed b true is = subst (λ l. IsUtf8 (escaped_text l)) (encode_one b (layout_low b is)) (IsUtf8-ascii_character b (layout_low b is))
 IsUtf8-executed b false is = IsUtf8-nil
 
 IsUtf8-stripped : (call : Call) → IsShowable call → IsUtf8 (escaped_text (stripped_call call))
@@ -79,19 +87,23 @@ IsUtf8-change scheme shown style =
     choose IsUtf8 (are_equal shown style) [] (span_end shown ++ span_begin scheme style) IsUtf8-nil
     (IsUtf8-append (span_end shown) (span_begin scheme style) (IsUtf8-span_end shown) (IsUtf8-span_begin scheme style))
 
-IsUtf8-text_html : (scheme : Scheme) → (shown style : Style) (bytes : List ℕ) → IsUtf8 (escaped_text bytes) → IsUtf8 (text_html scheme shown style bytes)
-unfolding text_html
-IsUtf8-text_html scheme shown style [] is = IsUtf8-nil
-IsUtf8-text_html scheme shown style (b ∷ bytes) is = IsUtf8-append (change scheme shown style) (escaped_text (b ∷ bytes)) (IsUtf8-change scheme shown style) is
+IsUtf8-beginning : (scheme : Scheme) (at : Standing) (is_line_feed : Bool) → IsUtf8 (beginning scheme at is_line_feed)
+IsUtf8-beginning scheme at is_line_feed =
+    IsUtf8-append (change scheme at.shown at.selected) (line_break at.returned is_line_feed) (IsUtf8-change scheme at.shown at.selected)
+    (choose IsUtf8 (at.returned && not is_line_feed) (codes "<br>") [] (IsUtf8-ascii (codes "<br>") refl) IsUtf8-nil)
 
-IsUtf8-html_from : (scheme : Scheme) → (shown style : Style) (calls : List Call) → AreShowable calls → IsUtf8 (html_from scheme shown style calls)
-IsUtf8-html_from scheme shown style [] are = IsUtf8-nil
-IsUtf8-html_from scheme shown style (call ∷ calls) are =
-    let after = shown_after shown style (stripped_call call) in
-    let next = style_after call style in
-    IsUtf8-append (text_html scheme shown style (stripped_call call)) (html_from scheme after next calls)
-    (IsUtf8-text_html scheme shown style (stripped_call call) (IsUtf8-stripped call are.0)) (IsUtf8-html_from scheme after next calls are.1)
+IsUtf8-text_html : (scheme : Scheme) (at : Standing) (is_line_feed : Bool) (bytes : List ℕ) → IsUtf8 (escaped_text bytes) → IsUtf8 (text_html scheme at is_line_feed bytes)
+unfolding text_html
+IsUtf8-text_html scheme at is_line_feed [] is = IsUtf8-nil
+IsUtf8-text_html scheme at is_line_feed (b ∷ bytes) is = IsUtf8-append (beginning scheme at is_line_feed) (escaped_text (b ∷ bytes)) (IsUtf8-beginning scheme at is_line_feed) is
+
+IsUtf8-html_from : (scheme : Scheme) (at : Standing) (calls : List Call) → AreShowable calls → IsUtf8 (html_from scheme at calls)
+IsUtf8-html_from scheme at [] are = IsUtf8-nil
+IsUtf8-html_from scheme at (call ∷ calls) are =
+    IsUtf8-append (call_html scheme at call) (html_from scheme (standing_after call at) calls)
+    (IsUtf8-text_html scheme at (is_executed 0x0A call) (stripped_call call) (IsUtf8-stripped call are.0)) (IsUtf8-html_from scheme (standing_after call at) calls are.1)
 
 pub IsUtf8-html : (scheme : Scheme) → (calls : List Call) → AreShowable calls → IsUtf8 (html scheme calls)
 IsUtf8-html scheme calls are =
-    IsUtf8-append (html_from scheme plain plain calls) (span_end (shown_at_end plain plain calls)) (IsUtf8-html_from scheme plain plain calls are) (IsUtf8-span_end (shown_at_end plain plain calls))
+    let last = (standing_at_end at_start calls).shown in
+    IsUtf8-append (html_from scheme at_start calls) (span_end last) (IsUtf8-html_from scheme at_start calls are) (IsUtf8-span_end last)

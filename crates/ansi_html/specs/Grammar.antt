@@ -1,6 +1,6 @@
 -- The grammar of the HTML that is written in a scheme. A fragment is text and spans, which do not
--- nest; a span has one attribute, of colours and declarations from a fixed vocabulary. Nothing else
--- is in it.
+-- nest; a span has one attribute, of colours and declarations from a fixed vocabulary; in a text
+-- there are line breaks. Nothing else is in it.
 use Rattle.std.specs.Prelude.{◌≡◌, ℕ, Bool, false, ◌||◌, ◌&&◌, nat_le, ◌==◌, not, List, [], ◌∷◌, ◌++◌, codes, IsTrue}
 use Rattle.std.specs.List.{AllByRecursion}
 use Rattle.ansi_html.specs.declared.contrast.Rgb.{Rgb}
@@ -8,9 +8,9 @@ use Rattle.ansi_html.specs.declared.scheme.Scheme.{Scheme}
 use Rattle.ansi_html.specs.Contrast.{IsReadOnLight, IsReadOnDark, are_readable, black, white}
 use Rattle.ansi_html.specs.Css.{declared, themed}
 
--- A byte of text: 20 and above, or 09, 0A, 0D; and none with a meaning in HTML.
+-- A byte of text: 20 and above, 09 or 0A; and none with a meaning in HTML, as 0D has one too.
 unfoldable pub is_special : ℕ → Bool
-is_special b = b == 0x26 || (b == 0x3C || (b == 0x3E || (b == 0x22 || b == 0x27)))
+is_special b = b == 0x26 || (b == 0x3C || (b == 0x3E || (b == 0x22 || (b == 0x27 || b == 0x0D))))
 
 -- bytes with no meaning in HTML; such bytes stand first, and these are left
 abbrev pub AreClear : List ℕ → Type 0
@@ -20,21 +20,23 @@ abbrev pub BeginWithClear : List ℕ → (left : List ℕ) → Type 0
 BeginWithClear bytes left = (clear : List ℕ) × AreClear clear × (bytes ≡ clear ++ left)
 
 unfoldable pub is_text_byte : ℕ → Bool
-is_text_byte b = (nat_le 0x20 b || (b == 0x09 || (b == 0x0A || b == 0x0D))) && not (is_special b)
+is_text_byte b = (nat_le 0x20 b || (b == 0x09 || b == 0x0A)) && not (is_special b)
 
--- one of the five references
+-- one of the six references
 pub data IsReference : List ℕ → Type 0 where
   ampersand : IsReference (codes "&amp;")
   less_than : IsReference (codes "&lt;")
   greater_than : IsReference (codes "&gt;")
   quotation_mark : IsReference (codes "&quot;")
   apostrophe : IsReference (codes "&#39;")
+  carriage_return : IsReference (codes "&#13;")
 
--- bytes of text and references
+-- bytes of text, references and line breaks
 pub data IsText : List ℕ → Type 0 where
   nothing : IsText []
   byte : {b : ℕ} {rest : List ℕ} → IsTrue (is_text_byte b) → IsText rest → IsText (b ∷ rest)
   reference : (name rest : List ℕ) → IsReference name → IsText rest → IsText (name ++ rest)
+  line_break : (rest : List ℕ) → IsText rest → IsText (codes "<br>" ++ rest)
 
 -- The colours of a span, as a text that is read: nothing; a text on the page; one on a ground of the
 -- page's own text, black on light pages and white on dark ones; a text on a ground.

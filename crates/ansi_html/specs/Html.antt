@@ -1,7 +1,7 @@
 -- The HTML of a list of calls: their text, escaped, in spans that give it its style.
-use Rattle.std.specs.Prelude.{ℕ, Bool, ◌==◌, List, [], ◌∷◌, ◌++◌, codes, if◌then◌else◌}
+use Rattle.std.specs.Prelude.{ℕ, Bool, false, ◌&&◌, not, ◌==◌, List, [], ◌∷◌, ◌++◌, codes, if◌then◌else◌}
 use Rattle.std.specs.List.{flat_map}
-use Rattle.anstyle_parse.specs.Stream.Call.{Call}
+use Rattle.anstyle_parse.specs.Stream.Call.{Call, execute}
 use Rattle.ansi_strip.specs.Strip.{stripped_call}
 use Rattle.ansi_style.specs.declared.style.Style.{Style}
 use Rattle.ansi_style.specs.Style.{plain, are_equal}
@@ -10,7 +10,7 @@ use Rattle.ansi_html.specs.declared.scheme.Scheme.{Scheme}
 use Rattle.ansi_html.specs.Css.{css}
 
 -- The bytes that have a meaning in HTML (13.1.2.3 and 13.1.4 of the HTML standard), as
--- character references.
+-- character references; and 0D, which a reader would make 0A of (13.2.3.5).
 abbrev pub escaped : ℕ → List ℕ
 escaped b =
     if b == 0x26 then codes "&amp;"
@@ -18,6 +18,7 @@ escaped b =
     else if b == 0x3E then codes "&gt;"
     else if b == 0x22 then codes "&quot;"
     else if b == 0x27 then codes "&#39;"
+    else if b == 0x0D then codes "&#13;"
     else b ∷ []
 
 abbrev pub escaped_text : List ℕ → List ℕ
@@ -37,35 +38,64 @@ span_end style = if is_plain style then [] else codes "</span>"
 abbrev pub change : Scheme → Style → Style → List ℕ
 change scheme shown style = if are_equal shown style then [] else span_end shown ++ span_begin scheme style
 
--- text of a style, behind text of another; where there is no text, nothing
-unfoldable pub text_html : Scheme → Style → Style → List ℕ → List ℕ
-text_html scheme shown style [] = []
-text_html scheme shown style (b ∷ bytes) = change scheme shown style ++ escaped_text (b ∷ bytes)
+-- Where the HTML of a stream stands: the style of the last text, and the one that is selected for what
+-- comes; and whether the last text was 0D.
+pub record Standing : Type 0 where
+  pub shown : Style
+  pub selected : Style
+  pub returned : Bool
 
--- the style of the last text
-abbrev pub shown_after : Style → Style → List ℕ → Style
-shown_after shown style [] = shown
-shown_after shown style (b ∷ bytes) = style
+abbrev pub at_start : Standing
+at_start = record { shown = plain; selected = plain; returned = false }
 
--- The calls, one after another, where this style is shown and that one is selected.
-abbrev pub html_from : Scheme → Style → Style → List Call → List ℕ
-html_from scheme shown style [] = []
-html_from scheme shown style (call ∷ calls) =
-    text_html scheme shown style (stripped_call call)
-    ++ html_from scheme (shown_after shown style (stripped_call call)) (style_after call style) calls
+-- A 0D that comes by a reference ends no line. So where the last text was 0D, a line break stands
+-- before the next, unless that is 0A.
+abbrev pub line_break : (returned is_line_feed : Bool) → List ℕ
+line_break returned is_line_feed = if returned && not is_line_feed then codes "<br>" else []
 
--- the style of the last text of the calls
-abbrev pub shown_at_end : Style → Style → List Call → Style
-shown_at_end shown style [] = shown
-shown_at_end shown style (call ∷ calls) =
-    shown_at_end (shown_after shown style (stripped_call call)) (style_after call style) calls
+-- what begins a text in the style that is selected, and the text; where there is none, nothing
+abbrev pub beginning : Scheme → Standing → (is_line_feed : Bool) → List ℕ
+beginning scheme at is_line_feed = change scheme at.shown at.selected ++ line_break at.returned is_line_feed
+
+unfoldable pub text_html : Scheme → Standing → (is_line_feed : Bool) → (text : List ℕ) → List ℕ
+text_html scheme at is_line_feed [] = []
+text_html scheme at is_line_feed (b ∷ bytes) = beginning scheme at is_line_feed ++ escaped_text (b ∷ bytes)
+
+-- what holds after a text, where this held before
+abbrev pub after_text : {A : Type 0} → (before after : A) → (text : List ℕ) → A
+after_text before after [] = before
+after_text before after (b ∷ bytes) = after
+
+abbrev pub is_executed : ℕ → Call → Bool
+is_executed byte (execute b) = b == byte
+is_executed byte _ = false
+
+-- what a call writes, and where it leads
+abbrev pub call_html : Scheme → Standing → Call → List ℕ
+call_html scheme at call = text_html scheme at (is_executed 0x0A call) (stripped_call call)
+
+abbrev pub standing_after : Call → Standing → Standing
+standing_after call at = record {
+  shown = after_text at.shown at.selected (stripped_call call);
+  selected = style_after call at.selected;
+  returned = after_text at.returned (is_executed 0x0D call) (stripped_call call);
+}
+
+-- the calls, one after another
+abbrev pub html_from : Scheme → Standing → List Call → List ℕ
+html_from scheme at [] = []
+html_from scheme at (call ∷ calls) = call_html scheme at call ++ html_from scheme (standing_after call at) calls
+
+abbrev pub standing_at_end : Standing → List Call → Standing
+standing_at_end at [] = at
+standing_at_end at (call ∷ calls) = standing_at_end (standing_after call at) calls
 
 -- the HTML of the calls of a stream, as far as it has come; and what ends it
 abbrev pub html_text : Scheme → List Call → List ℕ
-html_text scheme calls = html_from scheme plain plain calls
+html_text scheme calls = html_from scheme at_start calls
 
 abbrev pub html_ending : List Call → List ℕ
-html_ending calls = span_end (shown_at_end plain plain calls)
+html_ending calls = span_end (standing_at_end at_start calls).shown
 
 -- The HTML of a stream's calls, in a scheme.
 abbrev pub html : Scheme → List Call → List ℕ

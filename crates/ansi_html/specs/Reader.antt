@@ -1,12 +1,15 @@
--- A reader of HTML, as far as it is used here: text, tags with quoted attributes, and the five
--- character references. The states are those of the HTML standard's tokenizer that such text
--- meets: data (13.2.5.1), character reference (13.2.5.72), tag (13.2.5.6 to 8 and 32 to 40),
--- attribute value, double-quoted (13.2.5.36).
+-- A reader of HTML, as far as it is used here: text, line breaks, tags with one quoted attribute, and
+-- the six character references. First it makes one 0A of each 0D, with the 0A behind it where there is
+-- one (HTML standard, 13.2.3.5). The states are those of the standard's tokenizer that such text meets:
+-- data (13.2.5.1), character reference (13.2.5.72 to 80), tag and its name (13.2.5.6 to 8), attributes
+-- (13.2.5.32 to 40), attribute value, double-quoted (13.2.5.36). A `br` has no end and no text.
 --
--- It reads the bytes as they are. A browser does two things before it (HTML standard, 13.2.3.5 and
--- 13.2.6.4.7): a 0D with or without 0A behind it becomes one 0A; and a 0A right after <pre> is
--- dropped, so a page has one of its own there.
-use Rattle.std.specs.Prelude.{ℕ, ◌==◌, bytes_eq, List, [], ◌∷◌, ◌++◌, codes, map, if◌then◌else◌}
+-- What a fragment needs of its page, so that a browser reads it as this reader does: it stands in a
+-- `<pre>`, right after a newline of the page's own, since a browser drops the 0A that begins a `<pre>`
+-- (13.2.6.4.7); and the page is UTF-8. Colours for both kinds of pages want a page that has a
+-- `color-scheme`, or that is light.
+use Rattle.std.specs.Prelude.{ℕ, Bool, true, false, ◌&&◌, ◌==◌, bytes_eq, List, [], ◌∷◌, ◌++◌, codes, map, if◌then◌else◌}
+use Rattle.std.specs.List.{flat_map}
 use Rattle.anstyle_parse.specs.Stream.Call.{Call}
 use Rattle.ansi_strip.specs.Strip.{stripped_call}
 use Rattle.ansi_style.specs.declared.style.Style.{Style}
@@ -25,11 +28,23 @@ under attribute b = record { byte = b; attribute = attribute }
 abbrev pub byte_of : Shown → ℕ
 byte_of shown = shown.byte
 
--- where a reader is: in text or in a reference under an attribute; in a tag, or in its quoted
--- value, with the value so far
+-- Newlines, normalized: each 0D is 0A, and a 0A behind it is dropped.
+abbrev pub normalized_from : (returned : Bool) → List ℕ → List ℕ
+normalized_from returned [] = []
+normalized_from returned (b ∷ bytes) =
+    if b == 0x0D then 0x0A ∷ normalized_from true bytes
+    else if returned && b == 0x0A then normalized_from false bytes
+    else b ∷ normalized_from false bytes
+
+abbrev pub normalized : List ℕ → List ℕ
+normalized bytes = normalized_from false bytes
+
+-- where a reader is: in text or in a reference under an attribute; in the name of a tag that stands
+-- in such text; in a tag, or in its quoted value, with the value so far
 pub data Place : Type 0 where
   in_text : (attribute : List ℕ) → Place
   in_reference : (attribute name : List ℕ) → Place
+  in_name : (attribute name : List ℕ) → Place
   in_tag : (value : List ℕ) → Place
   in_value : (value : List ℕ) → Place
 
@@ -41,33 +56,59 @@ referred name =
     else if bytes_eq name (codes "gt") then codes ">"
     else if bytes_eq name (codes "quot") then codes "\""
     else if bytes_eq name (codes "#39") then codes "'"
+    else if bytes_eq name (codes "#13") then 0x0D ∷ []
     else []
 
 -- What one byte leads to. A tag puts the value of its attribute in force, and an end tag, which
--- has none, the empty one: this reads spans that do not nest.
+-- has none, the empty one: this reads spans that do not nest. A `br` changes nothing.
 abbrev pub place_after : Place → ℕ → Place
 place_after (in_text attribute) b =
-    if b == 0x3C then in_tag [] else if b == 0x26 then in_reference attribute [] else in_text attribute
+    if b == 0x3C then in_name attribute [] else if b == 0x26 then in_reference attribute [] else in_text attribute
 place_after (in_reference attribute name) b =
     if b == 0x3B then in_text attribute else in_reference attribute (name ++ b ∷ [])
+place_after (in_name attribute name) b =
+    if b == 0x3E then in_text (if bytes_eq name (codes "br") then attribute else [])
+    else if b == 0x20 then in_tag []
+    else in_name attribute (name ++ b ∷ [])
 place_after (in_tag value) b = if b == 0x3E then in_text value else if b == 0x22 then in_value [] else in_tag value
 place_after (in_value value) b = if b == 0x22 then in_tag value else in_value (value ++ b ∷ [])
 
--- the text that is read with it
-abbrev pub text_of : Place → ℕ → List Shown
-text_of (in_text attribute) b = if b == 0x3C then [] else if b == 0x26 then [] else under attribute b ∷ []
-text_of (in_reference attribute name) b = if b == 0x3B then map (under attribute) (referred name) else []
-text_of (in_tag value) b = []
-text_of (in_value value) b = []
+-- What is seen with it: bytes of text, or a line break.
+pub data Seen : Type 0 where
+  text : (attribute : List ℕ) → (byte : ℕ) → Seen
+  break : Seen
 
--- the text that is read of these bytes
-abbrev pub read_from : Place → List ℕ → List Shown
-read_from place [] = []
-read_from place (b ∷ bytes) = text_of place b ++ read_from (place_after place b) bytes
+abbrev pub seen_of : Place → ℕ → List Seen
+seen_of (in_text attribute) b = if b == 0x3C then [] else if b == 0x26 then [] else text attribute b ∷ []
+seen_of (in_reference attribute name) b = if b == 0x3B then map (text attribute) (referred name) else []
+seen_of (in_name attribute name) b = if b == 0x3E then (if bytes_eq name (codes "br") then break ∷ [] else []) else []
+seen_of (in_tag value) b = []
+seen_of (in_value value) b = []
+
+-- what is seen of these bytes
+abbrev pub seen_from : Place → List ℕ → List Seen
+seen_from place [] = []
+seen_from place (b ∷ bytes) = seen_of place b ++ seen_from (place_after place b) bytes
+
+abbrev pub seen : List ℕ → List Seen
+seen bytes = seen_from (in_text []) (normalized bytes)
 
 -- What a reader reads: each byte of text with its attribute.
+abbrev pub read_of : Seen → List Shown
+read_of (text attribute b) = under attribute b ∷ []
+read_of break = []
+
 abbrev pub read : List ℕ → List Shown
-read bytes = read_from (in_text []) bytes
+read bytes = flat_map read_of (seen bytes)
+
+-- What is drawn in a `<pre>`, line after line: a line ends at 0A and at a line break. A 0D that came
+-- by a reference ends none, and is left out (CSS Text, 4, has a space for it; some draw nothing).
+abbrev pub drawn_of : Seen → List ℕ
+drawn_of (text attribute b) = if b == 0x0D then [] else b ∷ []
+drawn_of break = 0x0A ∷ []
+
+abbrev pub drawn : List ℕ → List ℕ
+drawn bytes = flat_map drawn_of (seen bytes)
 
 -- What the calls show: each byte that is left of them, with the declarations of the style that
 -- is selected there.
@@ -75,3 +116,11 @@ abbrev pub shown_from : Scheme → Style → List Call → List Shown
 shown_from scheme style [] = []
 shown_from scheme style (call ∷ calls) =
     map (under (css scheme style)) (stripped_call call) ++ shown_from scheme (style_after call style) calls
+
+-- whether a text ends in 0D, where what stands before it does or not
+abbrev pub ends_returned : (returned : Bool) → List ℕ → Bool
+ends_returned returned [] = returned
+ends_returned returned (b ∷ bytes) = ends_returned (b == 0x0D) bytes
+
+abbrev pub ends_in_return : List ℕ → Bool
+ends_in_return bytes = ends_returned false bytes

@@ -1,64 +1,58 @@
 -- What a writer of HTML shows, and what a call does to it.
-use Rattle.std.specs.Prelude.{◌≡◌, ℕ, List, [], ◌∷◌, Option, unwrap_or}
+use Rattle.std.specs.Prelude.{◌≡◌, ℕ, Bool, List, Option, unwrap_or}
 use Rattle.anstyle_parse.specs.declared.io.devices.Sink.{Ghosts as SinkOf}
 use Rattle.anstyle_parse.specs.declared.io.output.Output.{Output}
 use Rattle.anstyle_parse.specs.Stream.Call.{Call}
 use Rattle.anstyle_parse.specs.Io.Output.{Adds}
-use Rattle.ansi_strip.specs.Strip.{stripped_call}
 use Rattle.ansi_style.specs.declared.style.Style.{Style}
-use Rattle.ansi_style.specs.Style.{plain}
-use Rattle.ansi_style.specs.Rendition.{style_after}
 use Rattle.ansi_html.specs.declared.scheme.Scheme.{Scheme}
 use Rattle.ansi_html.specs.declared.performer.HtmlWriter.{HtmlWriter}
-use Rattle.ansi_html.specs.Html.{text_html, shown_after, html_from, shown_at_end, span_end}
+use Rattle.ansi_html.specs.Html.{Standing, at_start, call_html, standing_after, html_from, standing_at_end, span_end}
 
--- the output that it writes to; the scheme of its colours; the style of the last text; the style that is selected, which is
--- that one where no other has been selected since
+-- the output that it writes to; the scheme of its colours
 abbrev pub output_of : {W : Type 0} → HtmlWriter W → Output W
 output_of performer = performer.output
 
 abbrev pub scheme_of : {W : Type 0} → HtmlWriter W → Scheme
 scheme_of performer = performer.scheme
 
-abbrev pub shown_of : {W : Type 0} → HtmlWriter W → Style
-shown_of performer = performer.shown
-
+-- the style that a sequence has selected since the last text
 abbrev pub next_of : {W : Type 0} → HtmlWriter W → Option Style
 next_of performer = performer.next
 
-abbrev pub style_of : {W : Type 0} → HtmlWriter W → Style
-style_of performer = unwrap_or (next_of performer) (shown_of performer)
+-- Where it stands. Where no style has been selected since the last text, that one's is.
+abbrev pub standing_of : {W : Type 0} → HtmlWriter W → Standing
+standing_of performer = record {
+  shown = performer.shown;
+  selected = unwrap_or (next_of performer) performer.shown;
+  returned = performer.returned;
+}
 
--- plain text in colours of this scheme, and no span is open
+-- in the midst of text of a style
+abbrev pub in_style : Style → (returned : Bool) → Standing
+in_style style returned = record { shown = style; selected = style; returned = returned }
+
+-- at the start, in colours of this scheme
 pub record IsNew {W : Type 0} (wanted : Scheme) (performer : HtmlWriter W) : Type 0 where
   pub scheme : scheme_of performer ≡ wanted
-  pub style : style_of performer ≡ plain
-  pub shown : shown_of performer ≡ plain
+  pub standing : standing_of performer ≡ at_start
 
 -- what it writes by a list of calls, as it stands; and the end of the span that is then open
 abbrev pub text_from : {W : Type 0} → HtmlWriter W → List Call → List ℕ
-text_from performer calls = html_from (scheme_of performer) (shown_of performer) (style_of performer) calls
+text_from performer calls = html_from (scheme_of performer) (standing_of performer) calls
 
 abbrev pub ending_from : {W : Type 0} → HtmlWriter W → List Call → List ℕ
-ending_from performer calls = span_end (shown_at_end (shown_of performer) (style_of performer) calls)
+ending_from performer calls = span_end (standing_at_end (standing_of performer) calls).shown
 
 -- A call selects a style, or its text is written.
 pub record Takes {W : Type 0} (sink : SinkOf W) (old : HtmlWriter W) (call : Call) (new : HtmlWriter W) : Type 0 where
   pub scheme : scheme_of new ≡ scheme_of old
-  pub style : style_of new ≡ style_after call (style_of old)
-  pub shown : shown_of new ≡ shown_after (shown_of old) (style_of old) (stripped_call call)
-  pub added : Adds sink (text_html (scheme_of old) (shown_of old) (style_of old) (stripped_call call))
-      (output_of old) (output_of new)
-
--- the style that is selected after the calls
-abbrev pub style_at_end : Style → List Call → Style
-style_at_end style [] = style
-style_at_end style (call ∷ calls) = style_at_end (style_after call style) calls
+  pub standing : standing_of new ≡ standing_after call (standing_of old)
+  pub added : Adds sink (call_html (scheme_of old) (standing_of old) call) (output_of old) (output_of new)
 
 -- The calls, one after another.
 pub record TakesAll {W : Type 0} (sink : SinkOf W)
     (old : HtmlWriter W) (calls : List Call) (new : HtmlWriter W) : Type 0 where
   pub scheme : scheme_of new ≡ scheme_of old
-  pub style : style_of new ≡ style_at_end (style_of old) calls
-  pub shown : shown_of new ≡ shown_at_end (shown_of old) (style_of old) calls
-  pub added : Adds sink (html_from (scheme_of old) (shown_of old) (style_of old) calls) (output_of old) (output_of new)
+  pub standing : standing_of new ≡ standing_at_end (standing_of old) calls
+  pub added : Adds sink (text_from old calls) (output_of old) (output_of new)

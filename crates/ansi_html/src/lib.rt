@@ -20,7 +20,7 @@ ghost use Rattle.ansi_style.specs.declared.style.Style.{Style};
 ghost use Rattle.ansi_style.specs.Style.{plain};
 ghost use Rattle.ansi_html.specs.Css.{selects_both, colors_css};
 ghost use Rattle.ansi_html.specs.Html.{html_text, html_ending, html, escaped_text};
-ghost use Rattle.ansi_html.specs.Reader.{byte_of, under, read, shown_from};
+ghost use Rattle.ansi_html.specs.Reader.{byte_of, under, read, normalized, drawn, ends_in_return, shown_from};
 ghost use Rattle.ansi_html.specs.Grammar.{AreReadable, IsFragment};
 
 pub mod contrast;
@@ -39,10 +39,13 @@ pub use scheme::Scheme;
 /// before it and `tail` after it, as they are, such as the two ends of a page.
 ///
 /// The text is the stripped text: each printed character in UTF-8, tab, line feed and carriage
-/// return. `& < > " '` are written as character references, and text that is not plain stands
-/// in `<span style="…">…</span>`, one for each run of equal style. Nothing else is written, so
-/// no input brings in markup. A browser makes a line feed of each carriage return, alone or
-/// before a line feed, and drops a line feed right after `<pre>`.
+/// return. `& < > " '` and a carriage return are written as character references, and text that is
+/// not plain stands in `<span style="…">…</span>`, one for each run of equal style. Since a carriage
+/// return that comes by a reference ends no line, `<br>` stands before the text behind it, unless that
+/// is a line feed. Nothing else is written, so no input brings in markup.
+///
+/// The page has to be UTF-8, and to have a newline of its own right after `<pre>`, since a browser
+/// drops the one that stands there. For [`Scheme::Both`] it has a `color-scheme`, or it is light.
 ///
 /// The bytes are read in pieces of at most 4096; no memory is taken. The writer is always
 /// handed back. The answer is
@@ -69,19 +72,24 @@ pub fn convert<R: Source, W: Sink>(
     // With Ok nothing of it is held back.
     ensures handed_on { OnOk result.1 (W.holds_nothing result.0) }
 
-    // The headline: reading the HTML, before a browser's changes of newlines, gives exactly the
-    // bytes of the stripped text, each with the declarations of the style that the stream has
-    // selected there.
+    // The headline: reading the HTML gives exactly the bytes of the stripped text, each with the
+    // declarations of the style that the stream has selected there.
     ensures read_back { (calls : List Call) → read (html scheme calls) ≡ shown_from scheme plain calls }
     ensures text { (calls : List Call) → map byte_of (read (html scheme calls)) ≡ stripped calls }
+
+    // Its lines are those of the text: 0D with or without 0A behind it ends one, as 0A does. (A 0D at
+    // the very end does not.)
+    ensures lines { (bytes : List ℕ) (calls : List Call) → AreCalls bytes calls
+        → ends_in_return (stripped calls) ≡ false
+        → drawn (html scheme calls) ≡ normalized (stripped calls) }
 
     // Text is read: the colours of a style have WCAG's 4.5:1 with the page, or with the ground
     // that the stream has selected alone. Where it has selected both colours, it may differ.
     ensures contrast { (style : Style) → selects_both style ≡ false
         → AreReadable scheme (colors_css scheme style) }
 
-    // No markup comes in: it is text and spans that do not nest, with such colours and with
-    // declarations from a fixed vocabulary.
+    // No markup comes in: it is text with line breaks, and spans that do not nest, with such colours
+    // and with declarations from a fixed vocabulary.
     ensures grammar { (bytes : List ℕ) (calls : List Call) → AreCalls bytes calls
         → IsFragment scheme (html scheme calls) }
 
@@ -89,17 +97,17 @@ pub fn convert<R: Source, W: Sink>(
     ensures utf8 { (bytes : List ℕ) (calls : List Call) → AreCalls bytes calls
         → IsUtf8 (html scheme calls) }
 
-    // It has at most 306 bytes for each byte that was read, and 7 more.
+    // It has at most 292 bytes for each byte that was read, and 7 more.
     ensures bound { (bytes : List ℕ) (calls : List Call) → AreCalls bytes calls
-        → length (html scheme calls) ≤ 306 * length bytes + 7 }
+        → length (html scheme calls) ≤ 292 * length bytes + 7 }
 {
     let mut output = Output::new(writer);
     output.put(head);
     write_calls_by(HtmlWriter::new(scheme, output), reader, tail)
 }
 
-/// Writes a text as HTML, such as a title for the head of a page: `& < > " '` as character
-/// references, and each other byte as it is.
+/// Writes a text as HTML, such as a title for the head of a page: `& < > " '` and carriage returns as
+/// character references, and each other byte as it is.
 pub fn put_text<W: Sink>(output: &mut Output<W>, text: &str)
     ensures added { Adds W.Sink (escaped_text text.now) output.old output.new }
 

@@ -1,10 +1,10 @@
 //! The performer that writes HTML.
-ghost use Rattle.std.specs.Prelude.{◌≡◌, [], false, encode_utf8, refl};
+ghost use Rattle.std.specs.Prelude.{◌≡◌, ◌++◌, [], true, false, encode_utf8, refl};
 ghost use Rattle.anstyle_parse.specs.Io.Output.{Adds};
 ghost use Rattle.ansi_style.specs.Style.{plain};
 ghost use Rattle.ansi_html.specs.Css.{css};
 ghost use Rattle.ansi_html.specs.Grammar.{is_special, AreClear, BeginWithClear};
-ghost use Rattle.ansi_html.specs.Html.{span_begin, span_end, change, escaped, escaped_text};
+ghost use Rattle.ansi_html.specs.Html.{line_break, beginning, span_begin, span_end, change, escaped, escaped_text};
 
 use crate::css::put_css;
 use crate::scheme::Scheme;
@@ -16,10 +16,10 @@ use anstyle_parse::{Params, Perform, PerformText};
 /// Writes the text of a stream as HTML, in the style that the stream selects.
 ///
 /// Each printed character, and of the controls tab (09), line feed (0A) and carriage return
-/// (0D), is text; `& < > " '` are written as character references. Text that is not plain
-/// stands in `<span style="…">…</span>`, one for each run of equal style. A span is opened only
-/// before text, and closed before text of another style or at the end. All other calls write
-/// nothing.
+/// (0D), is text; `& < > " '` and 0D are written as character references, and text behind 0D
+/// that is not 0A begins with `<br>`. Text that is not plain stands in `<span style="…">…</span>`,
+/// one for each run of equal style. A span is opened only before text, and closed before text of
+/// another style or at the end. All other calls write nothing.
 ///
 /// No memory is taken. A write that fails stops it: nothing more is written, and the fault is
 /// kept.
@@ -32,11 +32,13 @@ pub struct HtmlWriter<W> {
     shown: Style,
     /// The style that is selected for what comes, where a sequence has selected one since.
     next: Option<Style>,
+    /// The last text was 0D.
+    returned: bool,
 }
 
 impl<W: Sink> HtmlWriter<W> {
     ghost use Rattle.std.specs.Prelude.{◌∷◌, None};
-    ghost use Rattle.ansi_html.specs.Writer.{output_of, scheme_of, style_of, shown_of, next_of, IsNew};
+    ghost use Rattle.ansi_html.specs.Writer.{output_of, scheme_of, standing_of, in_style, next_of, IsNew};
 
     /// One that writes to this output, in colours for the pages of the scheme, and has received no
     /// call. Nothing is written.
@@ -49,16 +51,33 @@ impl<W: Sink> HtmlWriter<W> {
             scheme,
             shown: Style::default(),
             next: None,
+            returned: false,
+        }
+    }
+
+    /// Text of the selected style may follow. Behind 0D it begins with a line break, unless it is 0A.
+    #[inline(always)]
+    fn begin_text(&mut self, is_line_feed: bool)
+        ensures scheme { scheme_of self.new ≡ scheme_of self.old }
+        ensures standing { standing_of self.new ≡ in_style (standing_of self.old).selected false }
+        ensures added { Adds W.Sink (beginning (scheme_of self.old) (standing_of self.old) is_line_feed)
+            (output_of self.old) (output_of self.new) }
+    {
+        self.show_selected();
+        if self.returned {
+            self.returned = false;
+            put_line_break(&mut self.output, is_line_feed);
         }
     }
 
     /// Text of the selected style may follow.
-    #[inline]
-    fn begin_text(&mut self)
+    #[inline(always)]
+    fn show_selected(&mut self)
         ensures scheme { scheme_of self.new ≡ scheme_of self.old }
-        ensures style { style_of self.new ≡ style_of self.old }
-        ensures shown { shown_of self.new ≡ style_of self.old }
-        ensures added { Adds W.Sink (change (scheme_of self.old) (shown_of self.old) (style_of self.old))
+        ensures standing { standing_of self.new
+            ≡ in_style (standing_of self.old).selected (standing_of self.old).returned }
+        ensures added { Adds W.Sink
+            (change (scheme_of self.old) (standing_of self.old).shown (standing_of self.old).selected)
             (output_of self.old) (output_of self.new) }
     {
         if let Some(style) = self.next {
@@ -67,11 +86,12 @@ impl<W: Sink> HtmlWriter<W> {
     }
 
     /// Text of this style may follow.
+    #[inline(never)]
     fn change_to(&mut self, style: Style)
         ensures scheme { scheme_of self.new ≡ scheme_of self.old }
         ensures next { next_of self.new ≡ None }
-        ensures shown { shown_of self.new ≡ style }
-        ensures added { Adds W.Sink (change (scheme_of self.old) (shown_of self.old) style)
+        ensures standing { standing_of self.new ≡ in_style style (standing_of self.old).returned }
+        ensures added { Adds W.Sink (change (scheme_of self.old) (standing_of self.old).shown style)
             (output_of self.old) (output_of self.new) }
     {
         self.next = None;
@@ -80,6 +100,16 @@ impl<W: Sink> HtmlWriter<W> {
             put_span_begin(&mut self.output, self.scheme, style);
             self.shown = style;
         }
+    }
+}
+
+/// A line break behind 0D, unless a line feed follows.
+#[inline(never)]
+fn put_line_break<W: Sink>(output: &mut Output<W>, is_line_feed: bool)
+    ensures { Adds W.Sink (line_break true is_line_feed) output.old output.new }
+{
+    if !is_line_feed {
+        output.put(b"<br>");
     }
 }
 
@@ -106,13 +136,13 @@ fn put_span_end<W: Sink>(output: &mut Output<W>, style: Style)
 /// How many bytes are tested at once.
 const CHUNK: usize = 16;
 
-/// Whether a byte has a meaning in HTML: one of `& < > " '`.
+/// Whether a byte has a meaning in HTML: one of `& < > " '`, or 0D.
 #[inline(always)]
 #[tactic(auto, unfolding(crate::specs::Grammar::is_special))]
 fn is_special(byte: u8) -> bool
     ensures { result ≡ is_special byte }
 {
-    byte == b'&' || byte == b'<' || byte == b'>' || byte == b'"' || byte == b'\''
+    byte == b'&' || byte == b'<' || byte == b'>' || byte == b'"' || byte == b'\'' || byte == b'\r'
 }
 
 /// Whether some byte has a meaning in HTML. It has no early exit, so that a chunk is tested at
@@ -191,6 +221,18 @@ fn put_character<W: Sink>(output: &mut Output<W>, c: char)
     }
 }
 
+/// Writes a control that is text. A line feed, the most frequent one, goes straight to the output.
+#[inline]
+fn put_layout<W: Sink>(output: &mut Output<W>, byte: u8)
+    ensures { Adds W.Sink (escaped byte) output.old output.new }
+{
+    if byte == b'\n' {
+        output.put_byte(byte);
+    } else {
+        put_reference(output, byte);
+    }
+}
+
 /// Writes a byte, as a character reference where it has a meaning in HTML.
 fn put_reference<W: Sink>(output: &mut Output<W>, byte: u8)
     ensures { Adds W.Sink (escaped byte) output.old output.new }
@@ -201,6 +243,7 @@ fn put_reference<W: Sink>(output: &mut Output<W>, byte: u8)
         b'>' => output.put(b"&gt;"),
         b'"' => output.put(b"&quot;"),
         b'\'' => output.put(b"&#39;"),
+        b'\r' => output.put(b"&#13;"),
         _ => output.put_byte(byte),
     }
 }
@@ -212,15 +255,16 @@ impl<W: Sink> Perform for HtmlWriter<W> {
 
     #[inline]
     fn print(&mut self, c: char) {
-        self.begin_text();
+        self.begin_text(false);
         put_character(&mut self.output, c);
     }
 
     #[inline]
     fn execute(&mut self, byte: u8) {
         if is_layout(byte) {
-            self.begin_text();
-            self.output.put_byte(byte);
+            self.begin_text(byte == b'\n');
+            self.returned = byte == b'\r';
+            put_layout(&mut self.output, byte);
         }
     }
 
@@ -250,7 +294,7 @@ impl<W: Sink> PerformText for HtmlWriter<W> {
     #[inline]
     fn print_text(&mut self, text: &str) {
         if !text.is_empty() {
-            self.begin_text();
+            self.begin_text(false);
             put_escaped(&mut self.output, text.as_bytes());
         }
     }

@@ -1,6 +1,7 @@
 use Rattle.std.proofs.Common.{◌++◌, false, List, ℕ, ap, sym, subst, arith}
 use Rattle.ansi_html.proofs.ColorLemmas.{AreReadable-css}
 use Rattle.ansi_html.proofs.ReadLemmas.{read-html, text-html}
+use Rattle.ansi_html.proofs.DrawnLemmas.{drawn-html}
 use Rattle.anstyle_parse.proofs.Lawful.Calls.{lawful}
 use Rattle.ansi_strip.proofs.Showable.{AreShowable-lawful}
 use Rattle.ansi_html.proofs.GrammarLemmas.{IsFragment-html}
@@ -45,6 +46,9 @@ returns-clause-read_back g c = read-html c.args.scheme
 
 pub returns-clause-text : goal.returns-clause-text
 returns-clause-text g c = text-html c.args.scheme
+
+pub returns-clause-lines : goal.returns-clause-lines
+returns-clause-lines g c = λ bytes calls are. drawn-html c.args.scheme calls (AreShowable-lawful false calls (lawful bytes calls are))
 
 pub returns-clause-contrast : goal.returns-clause-contrast
 returns-clause-contrast g c = AreReadable-css c.args.scheme

@@ -1,26 +1,16 @@
-use Rattle.std.proofs.Common.{Option, sym, ap, ◌∙◌, subst}
-use Rattle.std.specs.Prelude.{unwrap_or}
+use Rattle.std.proofs.Common.{Bool, true, ◌++◌, sym, ap, ◌∙◌, subst}
 use Rattle.anstyle_parse.specs.Io.Output.{Adds}
-use Rattle.anstyle_parse.proofs.Written.Output.{Adds-nil}
-use Rattle.ansi_style.specs.declared.style.Style.{Style}
-use Rattle.ansi_html.specs.Html.{change}
-use Rattle.ansi_html.specs.Writer.{output_of, scheme_of, shown_of}
-use Rattle.ansi_html.proofs.HtmlLemmas.{change-same}
+use Rattle.anstyle_parse.proofs.Written.Output.{Adds-append}
+use Rattle.ansi_html.specs.Html.{line_break, change}
+use Rattle.ansi_html.specs.Writer.{output_of, scheme_of, standing_of}
 use Rattle.ansi_html.proofs.performer.HtmlWriter.begin_text.Goals as goal
 
-pub returns-in-Some-clause-added : goal.returns-in-Some-clause-added
-returns-in-Some-clause-added g c =
+pub returns-then-self-clause-added : goal.returns-then-self-clause-added
+returns-then-self-clause-added g c =
     let before = c.args.self.now in
-    let scheme = scheme_of before in
-    let shown = shown_of before in
-    subst (λ (next : Option Style). Adds g.W.Sink (change scheme shown (unwrap_or next shown)) (output_of before) (output_of c.change_to.new.self)) (sym c.in-Some.is)
-    c.change_to.ensures.added
-
-pub returns-in_default-clause-added : goal.returns-in_default-clause-added
-returns-in_default-clause-added g c =
-    let before = c.args.self.now in
-    let scheme = scheme_of before in
-    let shown = shown_of before in
-    let none = ap (λ (next : Option Style). change scheme shown (unwrap_or next shown)) c.in_default.is ∙ change-same scheme shown in
-    subst (λ text. Adds g.W.Sink text (output_of before) (output_of before)) (sym none)
-    (Adds-nil g.W.Sink (output_of before))
+    let at = standing_of before in
+    let changed = change (scheme_of before) at.shown at.selected in
+    let returned = sym (ap (λ it. it.returned) c.show_selected.ensures.standing) ∙ c.if-self.true in
+    subst (λ (is : Bool). Adds g.W.Sink (changed ++ line_break is c.args.is_line_feed) (output_of before) c.put_line_break.new.output) (sym returned)
+    (Adds-append g.W.Sink changed (line_break true c.args.is_line_feed) (output_of before) (output_of c.show_selected.new.self) c.put_line_break.new.output
+    c.show_selected.ensures.added c.put_line_break.ensures)

@@ -1,31 +1,29 @@
-use Rattle.std.proofs.Common.{List, ℕ, ◌++◌, length, map, sym, ap, subst, ◌∙◌}
+use Rattle.std.proofs.Common.{false, List, ℕ, ◌++◌, length, map, sym, ap, subst, ◌∙◌}
 use Rattle.std.specs.Str.{chars}
 use Rattle.std.proofs.lemmas.Str.{chars-nil}
 use Rattle.anstyle_parse.specs.Stream.Call.{Call, print}
 use Rattle.anstyle_parse.specs.Io.Output.{Adds}
 use Rattle.anstyle_parse.proofs.Written.Output.{Adds-append}
 use Rattle.ansi_html.specs.AddingProof.{TakesAll-none}
-use Rattle.ansi_html.specs.Html.{change, escaped_text}
-use Rattle.ansi_html.specs.Writer.{output_of, scheme_of, style_of, shown_of, TakesAll}
-use Rattle.ansi_html.proofs.PrintLemmas.{some_from_test, none_from_test, html_from-text, shown_at_end-text, style_at_end-text}
+use Rattle.ansi_html.specs.Html.{beginning, escaped_text}
+use Rattle.ansi_html.specs.Writer.{output_of, scheme_of, standing_of, TakesAll}
+use Rattle.ansi_html.proofs.PrintLemmas.{some_from_test, none_from_test, html_from-text, standing_at_end-text}
 use Rattle.ansi_html.proofs.performer.HtmlWriterPerformText.print_text.Goals as goal
 
 pub returns-then-not-is_empty : goal.returns-then-not-is_empty
 returns-then-not-is_empty g c =
     let before = c.args.self.now in
     let scheme = scheme_of before in
-    let shown = shown_of before in
-    let style = style_of before in
+    let at = standing_of before in
     let text = c.args.text.now in
     let some = some_from_test (length text) (sym c.is_empty.ensures ∙ c.if-not-is_empty.true) in
     let bytes = c.as_bytes.result.now in
     record {
       scheme = c.begin_text.ensures.scheme;
-      style = c.begin_text.ensures.style ∙ sym (style_at_end-text style text);
-      shown = c.begin_text.ensures.shown ∙ sym (shown_at_end-text scheme shown style text c.utf8.text some);
+      standing = c.begin_text.ensures.standing ∙ sym (standing_at_end-text scheme at text c.utf8.text some);
       added = subst (λ (t : List ℕ). Adds g.W.Sink t (output_of before) c.put_escaped.new.output)
-          (ap (λ t. change scheme shown style ++ escaped_text t) c.as_bytes.ensures.value ∙ sym (html_from-text scheme shown style text c.utf8.text some))
-          (Adds-append g.W.Sink (change scheme shown style) (escaped_text bytes) (output_of before) (output_of c.begin_text.new.self) c.put_escaped.new.output c.begin_text.ensures.added c.put_escaped.ensures);
+          (ap (λ t. beginning scheme at false ++ escaped_text t) c.as_bytes.ensures.value ∙ sym (html_from-text scheme at text c.utf8.text some))
+          (Adds-append g.W.Sink (beginning scheme at false) (escaped_text bytes) (output_of before) (output_of c.begin_text.new.self) c.put_escaped.new.output c.begin_text.ensures.added c.put_escaped.ensures);
     }
 
 pub returns-else-not-is_empty : goal.returns-else-not-is_empty

@@ -57,7 +57,7 @@ is_special-other b amp lt gt quot apos return =
 pub is_special-high : (b : ℕ) → 0x80 ≤ b → is_special b ≡ false
 is_special-high b high = is_special-other b (omega arith) (omega arith) (omega arith) (omega arith) (omega arith) (omega arith)
 
-AreClear-high : (bytes : List ℕ) → AreHigh bytes → AreClear bytes
+pub AreClear-high : (bytes : List ℕ) → AreHigh bytes → AreClear bytes
 AreClear-high [] high = tt
 AreClear-high (b ∷ bytes) high = (is_special-high b high.0, AreClear-high bytes high.1)
 

@@ -2,6 +2,7 @@ pub mod ContrastLemmas
 pub mod ColorLemmas
 pub mod HtmlLemmas
 pub mod PrintLemmas
+pub mod BytesLemmas
 pub mod DeclarationLemmas
 pub mod NewlineLemmas
 pub mod ReadLemmas

@@ -9,7 +9,8 @@ use Rattle.anstyle_parse.specs.Stream.Call.{Call, print, execute, hook, put, unh
 use Rattle.anstyle_parse.specs.Laws.Lawful.{is_character}
 use Rattle.anstyle_parse.proofs.Characters.Encoding.{encode_one}
 use Rattle.ansi_strip.specs.Strip.{is_layout, stripped_call}
-use Rattle.ansi_strip.proofs.Showable.{IsShowable, AreShowable, IsScalar-character, IsUtf8-byte, layout_low}
+use Rattle.anstyle_parse.proofs.Characters.Layout.{IsUtf8-byte, layout-low}
+use Rattle.ansi_strip.proofs.Showable.{IsShowable, AreShowable, IsScalar-character}
 use Rattle.ansi_style.specs.declared.style.Style.{Style}
 use Rattle.ansi_style.specs.Style.{are_equal}
 use Rattle.ansi_html.specs.declared.scheme.Scheme.{Scheme}
@@ -19,6 +20,9 @@ use Rattle.ansi_html.specs.Html.{escaped_text, is_plain, span_begin, span_end, c
 use Rattle.ansi_html.proofs.HtmlLemmas.{AreClear-encode, escaped_text-clear}
 use Rattle.ansi_html.proofs.ColorLemmas.{choose}
 use Rattle.ansi_html.proofs.DeclarationLemmas.{is_safe, AreSafe, AreSafe-css, ascii-safe}
+
+layout_ascii : (b : ℕ) → is_layout b ≡ true → b < 0x80
+layout_ascii b is = let low = layout-low b is in omega arith
 
 -- ASCII is UTF-8
 IsUtf8-ascii : (bytes : List ℕ) → list_all (λ b. nat_lt b 0x80) bytes ≡ true → IsUtf8 bytes
@@ -60,7 +64,7 @@ IsUtf8-printed c true e is = IsUtf8-special c e
 IsUtf8-printed c false e is = subst IsUtf8 (sym (escaped_text-clear (encode_utf8 c) (AreClear-encode c e))) (IsUtf8-encode c (IsScalar-character c is))
 
 IsUtf8-executed : (b : ℕ) (layout : Bool) → is_layout b ≡ layout → IsUtf8 (escaped_text (if layout then b ∷ [] else []))
-IsUtf8-executed b true is = subst (λ l. IsUtf8 (escaped_text l)) (encode_one b (layout_low b is)) (IsUtf8-ascii_character b (layout_low b is))
+IsUtf8-executed b true is = subst (λ l. IsUtf8 (escaped_text l)) (encode_one b (layout_ascii b is)) (IsUtf8-ascii_character b (layout_ascii b is))
 IsUtf8-executed b false is = IsUtf8-nil
 
 IsUtf8-stripped : (call : Call) → IsShowable call → IsUtf8 (escaped_text (stripped_call call))

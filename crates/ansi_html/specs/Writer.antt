@@ -1,5 +1,5 @@
 -- What a writer of HTML shows, and what a call does to it.
-use Rattle.std.specs.Prelude.{◌≡◌, ℕ, Bool, List, Option, unwrap_or}
+use Rattle.std.specs.Prelude.{◌≡◌, ℕ, Bool, ◌==◌, List, [], ◌∷◌, ◌++◌, Option, unwrap_or}
 use Rattle.anstyle_parse.specs.declared.io.devices.Sink.{Ghosts as SinkOf}
 use Rattle.anstyle_parse.specs.declared.io.output.Output.{Output}
 use Rattle.anstyle_parse.specs.Stream.Call.{Call}
@@ -7,7 +7,7 @@ use Rattle.anstyle_parse.specs.Io.Output.{Adds}
 use Rattle.ansi_style.specs.declared.style.Style.{Style}
 use Rattle.ansi_html.specs.declared.scheme.Scheme.{Scheme}
 use Rattle.ansi_html.specs.declared.performer.HtmlWriter.{HtmlWriter}
-use Rattle.ansi_html.specs.Html.{Standing, at_start, call_html, standing_after, html_from, standing_at_end, span_end}
+use Rattle.ansi_html.specs.Html.{Standing, at_start, escaped, beginning, call_html, standing_after, html_from, standing_at_end, span_end}
 
 -- the output that it writes to; the scheme of its colours
 abbrev pub output_of : {W : Type 0} → HtmlWriter W → Output W
@@ -56,3 +56,20 @@ pub record TakesAll {W : Type 0} (sink : SinkOf W)
   pub scheme : scheme_of new ≡ scheme_of old
   pub standing : standing_of new ≡ standing_at_end (standing_of old) calls
   pub added : Adds sink (text_from old calls) (output_of old) (output_of new)
+
+-- what it writes by the bytes of a text, and where they lead: each begins as text does
+abbrev pub bytes_html : Scheme → Standing → List ℕ → List ℕ
+bytes_html scheme at [] = []
+bytes_html scheme at (b ∷ bytes) =
+    (beginning scheme at (b == 0x0A) ++ escaped b) ++ bytes_html scheme (in_style at.selected (b == 0x0D)) bytes
+
+abbrev pub standing_after_bytes : Standing → List ℕ → Standing
+standing_after_bytes at [] = at
+standing_after_bytes at (b ∷ bytes) = standing_after_bytes (in_style at.selected (b == 0x0D)) bytes
+
+-- The bytes of a text are written.
+pub record TakesBytes {W : Type 0} (sink : SinkOf W)
+    (old : HtmlWriter W) (bytes : List ℕ) (new : HtmlWriter W) : Type 0 where
+  pub scheme : scheme_of new ≡ scheme_of old
+  pub standing : standing_of new ≡ standing_after_bytes (standing_of old) bytes
+  pub added : Adds sink (bytes_html (scheme_of old) (standing_of old) bytes) (output_of old) (output_of new)

@@ -1,5 +1,5 @@
 //! The performer that writes HTML.
-ghost use Rattle.std.specs.Prelude.{◌≡◌, ◌++◌, [], true, false, encode_utf8, refl};
+ghost use Rattle.std.specs.Prelude.{◌≡◌, ◌∷◌, ◌++◌, [], true, false, encode_utf8, refl};
 ghost use Rattle.anstyle_parse.specs.Io.Output.{Adds};
 ghost use Rattle.ansi_style.specs.Style.{plain};
 ghost use Rattle.ansi_html.specs.Css.{css};
@@ -37,8 +37,8 @@ pub struct HtmlWriter<W> {
 }
 
 impl<W: Sink> HtmlWriter<W> {
-    ghost use Rattle.std.specs.Prelude.{◌∷◌, None};
-    ghost use Rattle.ansi_html.specs.Writer.{output_of, scheme_of, standing_of, in_style, next_of, IsNew};
+    ghost use Rattle.std.specs.Prelude.{None};
+    ghost use Rattle.ansi_html.specs.Writer.{output_of, scheme_of, standing_of, in_style, next_of, IsNew, TakesBytes};
 
     /// One that writes to this output, in colours for the pages of the scheme, and has received no
     /// call. Nothing is written.
@@ -68,6 +68,28 @@ impl<W: Sink> HtmlWriter<W> {
             self.returned = false;
             put_line_break(&mut self.output, is_line_feed);
         }
+    }
+
+    /// Writes text of no byte with a meaning in HTML.
+    #[inline(always)]
+    fn put_clear(&mut self, clear: &[u8])
+        requires clear { AreClear clear.now }
+        ensures { TakesBytes W.Sink self.old clear.now self.new }
+    {
+        if let Some((first, _)) = clear.split_first() {
+            self.begin_text(*first == b'\n');
+            self.output.put(clear);
+        }
+    }
+
+    /// Writes a byte of text.
+    #[inline]
+    fn put_text_byte(&mut self, byte: u8)
+        ensures { TakesBytes W.Sink self.old (byte ∷ []) self.new }
+    {
+        self.begin_text(byte == b'\n');
+        self.returned = byte == b'\r';
+        put_layout(&mut self.output, byte);
     }
 
     /// Text of the selected style may follow.
@@ -262,9 +284,7 @@ impl<W: Sink> Perform for HtmlWriter<W> {
     #[inline]
     fn execute(&mut self, byte: u8) {
         if is_layout(byte) {
-            self.begin_text(byte == b'\n');
-            self.returned = byte == b'\r';
-            put_layout(&mut self.output, byte);
+            self.put_text_byte(byte);
         }
     }
 
@@ -284,7 +304,8 @@ impl<W: Sink> Perform for HtmlWriter<W> {
     fn esc_dispatch(&mut self, _intermediates: &[u8], _ignore: bool, _byte: u8) {}
 }
 
-/// A text is of one style, and its bytes are written at once but for those with a meaning in HTML.
+/// A text is of one style, and its bytes are written at once but for those with a meaning in HTML;
+/// what stands behind 0D begins anew.
 impl<W: Sink> PerformText for HtmlWriter<W> {
     ghost use Rattle.ansi_html.specs.Writer.{TakesAll};
     ghost use Rattle.ansi_html.specs.AddingProof.{TakesAll-none, TakesAll-one, TakesAll-more};
@@ -296,6 +317,21 @@ impl<W: Sink> PerformText for HtmlWriter<W> {
         if !text.is_empty() {
             self.begin_text(false);
             put_escaped(&mut self.output, text.as_bytes());
+        }
+    }
+
+    #[inline]
+    fn print_with_layout(&mut self, text: &str) {
+        let mut rest = text.as_bytes();
+        'rest: while !rest.is_empty() {
+            let special = after_clear(rest);
+            let (clear, _) = rest.split_at(rest.len() - special.len());
+            self.put_clear(clear);
+            rest = special;
+            if let Some((first, behind)) = special.split_first() {
+                self.put_text_byte(*first);
+                rest = behind;
+            }
         }
     }
 

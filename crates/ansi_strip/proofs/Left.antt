@@ -1,10 +1,13 @@
 -- The calls of which something is left are a lawful list, whose canonical text is what is left.
 use Rattle.std.proofs.Common.{◌≡◌, ℕ, Bool, true, false, List, [], ◌∷◌, ◌++◌, ◌≤◌, length, filter, IsTrue, encode_utf8, refl, ap, ◌∙◌, arith, length-append}
 use Rattle.std.specs.Prelude.{if◌then◌else◌}
+use Rattle.std.specs.Str.{IsUtf8}
 use Rattle.anstyle_parse.specs.Stream.Call.{Call, print, execute, hook, put, unhook, osc_dispatch, csi_dispatch, esc_dispatch}
 use Rattle.anstyle_parse.specs.Stream.Calls.{is_executed}
 use Rattle.anstyle_parse.specs.Stream.Canon.{call_text, canon}
+use Rattle.anstyle_parse.specs.Stream.Texts.{layout_calls}
 use Rattle.anstyle_parse.specs.Laws.Lawful.{AreLawfulFrom, AreLawful}
+use Rattle.anstyle_parse.proofs.Written.Texts.{flat_map-layout_calls}
 use Rattle.ansi_strip.specs.Strip.{is_layout, is_left, stripped_call, stripped}
 
 -- a control, where it is left
@@ -84,3 +87,10 @@ pub length-stripped : (calls : List Call) → length (stripped calls) ≤ length
 length-stripped [] = omega arith
 length-stripped (call ∷ calls) =
     omega (arith, length-stripped_call call, length-stripped calls, length-append (stripped_call call) (stripped calls), length-append (call_text call) (canon calls))
+
+-- a text with layout is left as it is
+pub stripped_call-layout : (byte : ℕ) → is_layout byte ≡ true → stripped_call (execute byte) ≡ byte ∷ []
+stripped_call-layout byte is = ap (λ t. if t then byte ∷ [] else []) is
+
+pub stripped-layout_calls : (text : List ℕ) → IsUtf8 text → stripped (layout_calls text) ≡ text
+stripped-layout_calls text utf8 = flat_map-layout_calls stripped_call (λ _. refl) stripped_call-layout text utf8

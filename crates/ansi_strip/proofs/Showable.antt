@@ -12,7 +12,8 @@ use Rattle.anstyle_parse.specs.Stream.Calls.{AreCalls, Continues}
 use Rattle.anstyle_parse.specs.Machine.Decoder.{decoded}
 use Rattle.anstyle_parse.specs.Machine.Step.{new_machine, machine_calls}
 use Rattle.anstyle_parse.specs.Laws.Lawful.{is_character, AreLawfulFrom}
-use Rattle.anstyle_parse.proofs.Characters.Encoding.{encode_one, within_parts}
+use Rattle.anstyle_parse.proofs.Characters.Encoding.{within_parts}
+use Rattle.anstyle_parse.proofs.Characters.Layout.{IsUtf8-layout}
 use Rattle.anstyle_parse.proofs.Lawful.Calls.{lawful}
 use Rattle.anstyle_parse.proofs.Agreement.Whole.{AreCalls-machine}
 use Rattle.ansi_strip.specs.Strip.{is_layout, stripped_call, stripped}
@@ -64,19 +65,9 @@ IsScalar-character c is =
     (λ h. let range = within_parts 0xE000 0x10FFFF c h in scalar_above c (omega (arith, range.0)) (omega (arith, range.1)))
     (or_cases (is_within 0x20 0xD7FF c) (is_within 0xE000 0x10FFFF c) is)
 
--- ASCII is UTF-8
-pub IsUtf8-byte : (b : ℕ) → b < 0x80 → IsUtf8 (b ∷ [])
-IsUtf8-byte b low = subst IsUtf8 (encode_one b low) (IsUtf8-encode b (scalar_below b (omega arith)))
-
-pub layout_low : (b : ℕ) → is_layout b ≡ true → b < 0x80
-layout_low b is =
-    let at : (k : ℕ) → k < 0x80 → eqb b k ≡ true → b < 0x80 = λ k low e. let same = eqb-true b k e in omega arith in
-    ⊎_elim (λ either. ⊎_elim (at 0x09 (omega arith)) (at 0x0A (omega arith)) (or_cases (eqb b 0x09) (eqb b 0x0A) either)) (at 0x0D (omega arith))
-    (or_cases (eqb b 0x09 || eqb b 0x0A) (eqb b 0x0D) is)
-
 -- what is left of a call, and of calls
 left-control : (b : ℕ) (layout : Bool) → is_layout b ≡ layout → IsUtf8 (if layout then b ∷ [] else [])
-left-control b true is = IsUtf8-byte b (layout_low b is)
+left-control b true is = IsUtf8-layout b is
 left-control b false is = IsUtf8-nil
 
 IsUtf8-call : (call : Call) → IsShowable call → IsUtf8 (stripped_call call)

@@ -2,10 +2,8 @@
 use Rattle.std.specs.List.{AllByRecursion, flat_map}
 use Rattle.std.specs.Prelude.{ℕ, Bool, true, false, ◌||◌, nat_le, ◌==◌, List, [], ◌∷◌, IsTrue, IsUtf8, encode_utf8, if◌then◌else◌}
 use Rattle.anstyle_parse.specs.Stream.Call.{Call, print, execute}
-
--- the controls that are left: tab, line feed and carriage return (HT, LF and CR of ECMA-48)
-abbrev pub is_layout : ℕ → Bool
-is_layout byte = byte == 0x09 || byte == 0x0A || byte == 0x0D
+-- the controls that are left: tab, line feed and carriage return
+pub use Rattle.anstyle_parse.specs.Stream.Texts.{is_layout}
 
 -- whether something is left of a call
 abbrev pub is_left : Call → Bool

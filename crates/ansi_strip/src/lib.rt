@@ -16,7 +16,8 @@ pub mod laws;
 mod performer;
 
 use anstyle_parse::canon::{Fault, Sink, Source, write_calls};
-pub use performer::{Stripper, is_layout};
+pub use anstyle_parse::is_layout;
+pub use performer::Stripper;
 
 /// Writes the stripped text of all bytes that the reader gives: each printed character in
 /// UTF-8, and of the controls tab (09), line feed (0A) and carriage return (0D), inside an escape

@@ -1,10 +1,10 @@
 //! The performer that writes stripped text.
 ghost use Rattle.std.specs.Prelude.{◌≡◌, [], ⊤, refl};
 ghost use Rattle.anstyle_parse.specs.Io.Output.{Adds};
-ghost use Rattle.ansi_strip.specs.Strip.{is_layout, stripped_call, stripped};
+ghost use Rattle.ansi_strip.specs.Strip.{stripped_call, stripped};
 
 use anstyle_parse::canon::{CallWriter, Output, Sink, WritingPerformer};
-use anstyle_parse::{Params, Perform, PerformText};
+use anstyle_parse::{Params, Perform, PerformText, is_layout};
 
 /// Writes each printed character in UTF-8, and the controls 09, 0A and 0D; nothing of any
 /// other call.
@@ -15,14 +15,6 @@ use anstyle_parse::{Params, Perform, PerformText};
 #[derive(Drop)]
 pub struct Stripper<W> {
     output: Output<W>,
-}
-
-/// Whether a control is text: tab (09), line feed (0A) or carriage return (0D).
-#[inline]
-pub fn is_layout(byte: u8) -> bool
-    ensures { result ≡ is_layout byte }
-{
-    matches!(byte, b'\t' | b'\n' | b'\r')
 }
 
 impl<W: Sink> Perform for Stripper<W> {
@@ -62,7 +54,7 @@ impl<W: Sink> Perform for Stripper<W> {
     fn esc_dispatch(&mut self, _intermediates: &[u8], _ignore: bool, _byte: u8) {}
 }
 
-/// A text is left as it is.
+/// A text is left as it is, and so is layout.
 impl<W: Sink> PerformText for Stripper<W> {
     ghost use Rattle.anstyle_parse.specs.Io.Output.{AddsTexts};
     ghost use Rattle.anstyle_parse.specs.Io.AddingProof.{AddsTexts-none, AddsTexts-one, AddsTexts-more};
@@ -72,6 +64,11 @@ impl<W: Sink> PerformText for Stripper<W> {
 
     #[inline(always)]
     fn print_text(&mut self, text: &str) {
+        self.output.put_text(text);
+    }
+
+    #[inline(always)]
+    fn print_with_layout(&mut self, text: &str) {
         self.output.put_text(text);
     }
 

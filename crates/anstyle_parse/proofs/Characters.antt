@@ -5,3 +5,4 @@ pub mod Decoder
 pub mod Encoding
 pub mod Scalars
 pub mod Whole
+pub mod Layout

@@ -24,9 +24,11 @@
 
 mod accumulator;
 pub mod canon;
+mod chunks;
 mod controls;
 pub mod io;
 pub mod laws;
+mod layout;
 mod params;
 mod parser;
 mod perform;
@@ -34,6 +36,7 @@ pub mod state;
 mod utf8;
 
 pub use accumulator::{AsciiParser, CharAccumulator, DefaultCharAccumulator, Taken, Utf8Parser};
+pub use layout::is_layout;
 pub use params::{Params, ParamsIter};
 pub use parser::Parser;
 pub use perform::{Perform, PerformText};

@@ -2,7 +2,6 @@
 //!
 //! Calls go downwards: the public ones here and in `texts`, many bytes in `runs`, one byte in
 //! `step`, what a sequence has said in `header` and `command`.
-mod chunks;
 mod command;
 mod header;
 mod runs;

@@ -1,8 +1,9 @@
 //! What a parser calls.
 ghost use Rattle.std.specs.Prelude.{map, ⊤, List, [], ◌∷◌, ◌++◌};
 ghost use Rattle.anstyle_parse.specs.Stream.Call.{Call, print, execute, hook, put, unhook, osc_dispatch, csi_dispatch, esc_dispatch};
-ghost use Rattle.anstyle_parse.specs.Stream.Texts.{text_calls};
+ghost use Rattle.anstyle_parse.specs.Stream.Texts.{text_calls, layout_calls};
 
+use crate::layout::split_at_layout;
 use crate::params::Params;
 
 /// Receives the calls that a [`Parser`](crate::Parser) makes of its bytes.
@@ -94,10 +95,10 @@ impl Perform for () {
 /// once.
 ///
 /// [`Parser::advance_texts`](crate::Parser::advance_texts) hands characters that are printed one
-/// after another on as one text. An implementation states in `receives` what a list of calls
-/// does to it. It need not say how it stands between two calls of the list, so that a text may
-/// change it in one step. One that writes `print_text` itself shows that it does what the same
-/// characters, each by `print`, would have done.
+/// after another, with the layout among them, on as one text. An implementation states in
+/// `receives` what a list of calls does to it. It need not say how it stands between two calls of
+/// the list, so that a text may change it in one step. One that writes `print_text` or
+/// `print_with_layout` itself shows that it does what the same calls, one by one, would have done.
 pub trait PerformText: Perform {
     // What a list of calls does to it: the performer before, the calls, the performer after.
     ghost receives: { Self → List Call → Self → Type 0 };
@@ -109,6 +110,29 @@ pub trait PerformText: Perform {
     {
         for c in text.chars() {
             self.print(c);
+        }
+    }
+
+    /// A text with layout: the tabs (09), line feeds (0A) and carriage returns (0D) in it are to be
+    /// executed, as by [`Perform::execute`], and the other characters to be shown, all in order. A
+    /// parser hands on no empty text.
+    ///
+    /// Where an implementation does not write it, what stands between these controls goes to
+    /// `print_text`.
+    fn print_with_layout(&mut self, text: &str)
+        ensures { receives self.old (layout_calls text.now) self.new }
+    {
+        let mut rest = text;
+        'rest: while !rest.is_empty() {
+            let (shown, found) = split_at_layout(rest);
+            if !shown.is_empty() {
+                self.print_text(shown);
+            }
+            let Some((control, behind)) = found else {
+                break;
+            };
+            self.execute(control);
+            rest = behind;
         }
     }
 

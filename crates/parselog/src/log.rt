@@ -61,6 +61,20 @@ fn digit(number: u32) -> u8
     DIGITS[(number % 16) as usize]
 }
 
+/// The line of a character whose number has four digits.
+#[inline(always)]
+fn four_digit_line(n: u32) -> [u8; 13]
+    requires { n < 0x10000 }
+    ensures { result ≡ line (print n) }
+{
+    let mut line = *b"print U+0000\n";
+    line[8] = digit(n / 0x1000);
+    line[9] = digit(n / 0x100);
+    line[10] = digit(n / 0x10);
+    line[11] = digit(n);
+    line
+}
+
 impl<W: Sink> Perform for LogWriter<W> {
     ghost use Rattle.parselog.specs.Log.{output_of};
 
@@ -69,12 +83,7 @@ impl<W: Sink> Perform for LogWriter<W> {
     fn print(&mut self, c: char) {
         let n = u32::from(c);
         if n < 0x1_0000 {
-            let mut line = *b"print U+0000\n";
-            line[8] = digit(n / 0x1000);
-            line[9] = digit(n / 0x100);
-            line[10] = digit(n / 0x10);
-            line[11] = digit(n);
-            self.output.put(&line);
+            self.output.put(&four_digit_line(n));
         } else if n < 0x10_0000 {
             let mut line = *b"print U+00000\n";
             line[8] = digit(n / 0x1_0000);
@@ -139,13 +148,12 @@ impl<W: Sink> Perform for LogWriter<W> {
 /// The bytes of lines that are put together at most.
 const TOGETHER: usize = 256;
 
-/// The line of an ASCII character that is printed.
+/// The line of an ASCII character.
 #[inline(always)]
-fn ascii_line(byte: u8) -> [u8; 13]
-    requires { byte < 0x80 }
-    ensures { result ≡ line (print byte) }
+fn ascii_line(n: u32) -> [u8; 13]
+    requires { n < 0x80 }
+    ensures { result ≡ line (print n) }
 {
-    let n = u32::from(byte);
     let mut line = *b"print U+0000\n";
     line[10] = digit(n / 0x10);
     line[11] = digit(n);
@@ -163,8 +171,11 @@ impl<W: Sink> PerformText for LogWriter<W> {
     fn print_text(&mut self, text: &str) {
         let mut lines = ArrayVec::<u8, TOGETHER>::new();
         for c in text.chars() {
-            if c.is_ascii() {
-                self.put_together(&mut lines, &ascii_line(c as u8));
+            let n = u32::from(c);
+            if n < 0x80 {
+                self.put_together(&mut lines, &ascii_line(n));
+            } else if n < 0x1_0000 {
+                self.put_together(&mut lines, &four_digit_line(n));
             } else {
                 self.output.put(lines.as_slice());
                 lines.clear();

@@ -69,12 +69,8 @@ impl<'a> Perform for SliceWriter<'a> {
 
     #[inline]
     fn print(&mut self, c: char) {
-        if c.is_ascii() {
-            self.put_byte(c as u8);
-        } else {
-            let mut bytes = [0; 4];
-            self.put_bytes(c.encode_utf8(&mut bytes).as_bytes());
-        }
+        let mut bytes = [0; 4];
+        self.put_bytes(c.encode_utf8(&mut bytes).as_bytes());
     }
 
     #[inline]
@@ -103,7 +99,7 @@ impl<'a> Perform for SliceWriter<'a> {
     fn esc_dispatch(&mut self, _intermediates: &[u8], _ignore: bool, _byte: u8) {}
 }
 
-/// A text is left as it is.
+/// A text is left as it is, and so is layout.
 impl<'a> PerformText for SliceWriter<'a> {
     ghost use Rattle.strip_pieces.specs.SliceWriter.{Puts};
     ghost use Rattle.strip_pieces.specs.PuttingProof.{Puts-none, Puts-one, Puts-more};
@@ -112,6 +108,11 @@ impl<'a> PerformText for SliceWriter<'a> {
 
     #[inline(always)]
     fn print_text(&mut self, text: &str) {
+        self.put_bytes(text.as_bytes());
+    }
+
+    #[inline(always)]
+    fn print_with_layout(&mut self, text: &str) {
         self.put_bytes(text.as_bytes());
     }
 

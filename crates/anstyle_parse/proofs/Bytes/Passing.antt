@@ -14,6 +14,10 @@ pub EachIs-append : (test : ℕ → Bool) (a b : List ℕ) → EachIs test a →
 EachIs-append test [] b p q = q
 EachIs-append test (x ∷ a) b p q = (p.0, EachIs-append test a b p.1 q)
 
+pub EachIs-parts : (test : ℕ → Bool) (a b : List ℕ) → EachIs test (a ++ b) → EachIs test a × EachIs test b
+EachIs-parts test [] b p = (tt, p)
+EachIs-parts test (x ∷ a) b p = let rest = EachIs-parts test a b p.1 in ((p.0, rest.0), rest.1)
+
 -- one more byte that passes
 pub EachIs-push : (test : ℕ → Bool) (a : List ℕ) (b : ℕ) → EachIs test a → IsTrue (test b) → EachIs test (a ++ b ∷ [])
 EachIs-push test a b p q = EachIs-append test a (b ∷ []) p (q, tt)

@@ -1,13 +1,16 @@
 -- Sixteen bytes, tested at once.
-use Rattle.std.proofs.Common.{◌≡◌, ◌≢◌, ⊎_elim, ◌&&◌, ℕ, ◌+◌, ◌-◌, ◌%◌, ◌^◌, ◌<◌, ◌≤◌, Bool, true, false, cond, eqb, leb, List, [], ◌∷◌, length, map, replicate, refl, sym, ap, ap₂, ◌∙◌, arith, w8, Fits}
+use Rattle.std.proofs.Common.{◌≡◌, ◌≢◌, ◌⊎◌, ⊎_elim, ◌&&◌, ◌||◌, bit_or, ℕ, ◌+◌, ◌*◌, ◌-◌, ◌%◌, ◌^◌, ◌<◌, ◌≤◌, Bool, true, false, cond, eqb, leb, List, [], ◌∷◌, length, take, map, replicate, suc, subst, refl, sym, ap, ap₂, ◌∙◌, arith, w8, Fits}
 use Rattle.std.specs.Prelude.{not, nat_le}
 use Rattle.std.specs.List.{prefix_len}
 use Rattle.std.specs.Simd.Lanes.{zip2, mask_l, top, Each1}
-use Rattle.std.proofs.lemmas.Bool.{cases_lt, le-leb, lt-leb, eq-eqb, ne_eqb, cond-true, cond-false}
+use Rattle.std.proofs.lemmas.Bool.{cases_lt, false≢true, le-leb, lt-leb, eq-eqb, ne_eqb, cond-true, cond-false}
 use Rattle.std.proofs.lemmas.List.{length-map}
-use Rattle.std.proofs.lemmas.Simd.{zip2_splat, zip2_splat_left, map-map, mask_l-mod, first_set_mask_l}
+use Rattle.std.proofs.lemmas.Simd.{zip2_splat, zip2_splat_left, zip2_of_maps, map-map, mask_l-mod, first_set_mask_l}
 use Rattle.anstyle_parse.specs.Stream.Bytes.{is_within}
 use Rattle.anstyle_parse.specs.Stream.Items.{EachIs}
+use Rattle.anstyle_parse.specs.Stream.Texts.{is_layout}
+use Rattle.anstyle_parse.specs.Views.Texts.{is_text_byte}
+use Rattle.anstyle_parse.proofs.Characters.Layout.{layout-low}
 use lib.Count.{count_trailing_zeros}
 
 -- what a subtraction and a comparison are, lane by lane
@@ -77,15 +80,64 @@ module _ (count : ℕ) (few : count ≤ 0xE0) where
       ap (λ l. mask_l l % 2 ^ 64) (ap (map (top 7)) (lanes_are bytes long) ∙ all_lanes bytes fits)
       ∙ mask_l-mod (map (is_outside count) bytes) 64 (omega (arith, length-map bytes (is_outside count)))
 
--- the bytes before the first that is outside are those that are within
-not-not : (t : Bool) → not (not t) ≡ t
-not-not true = refl
-not-not false = refl
+-- whether a byte is a layout control, lane by lane
+abbrev hit : ℕ → ℕ → ℕ
+hit a b = cond (eqb a b) 255 0
 
-prefix-same : (count : ℕ) (bytes : List ℕ) → prefix_len (λ b. not (is_outside count b)) bytes ≡ prefix_len (λ b. is_within 0x20 (0x1F + count) b) bytes
-prefix-same count [] = refl
-prefix-same count (b ∷ bytes) = ap₂ (λ t n. cond t (1 + n) 0) (not-not (is_within 0x20 (0x1F + count) b)) (prefix-same count bytes)
+abbrev any_of_three : Bool → Bool → Bool → ℕ
+any_of_three s t u = bit_or (bit_or (cond s 255 0) (cond t 255 0)) (cond u 255 0)
 
+abbrev layout_lane : ℕ → ℕ
+layout_lane b = any_of_three (eqb b 0x09) (eqb b 0x0A) (eqb b 0x0D)
+
+top-any : (s t u : Bool) → top 7 (any_of_three s t u) ≡ (s || t || u)
+top-any true true true = refl
+top-any true true false = refl
+top-any true false true = refl
+top-any true false false = refl
+top-any false true true = refl
+top-any false true false = refl
+top-any false false true = refl
+top-any false false false = refl
+
+layout_lanes : (bytes : List ℕ) → map (top 7) (map layout_lane bytes) ≡ map is_layout bytes
+layout_lanes [] = refl
+layout_lanes (b ∷ bytes) = ap₂ (λ x xs. x ∷ xs) (top-any (eqb b 0x09) (eqb b 0x0A) (eqb b 0x0D)) (layout_lanes bytes)
+
+pub mask-layouts : (bytes : List ℕ) → length bytes ≡ 16
+    → mask_l (map (top 7) (zip2 bit_or (zip2 bit_or (zip2 hit bytes (replicate 16 0x09)) (zip2 hit bytes (replicate 16 0x0A))) (zip2 hit bytes (replicate 16 0x0D)))) % 2 ^ 64
+    ≡ mask_l (map is_layout bytes)
+mask-layouts bytes long =
+    let is : (b : ℕ) → zip2 hit bytes (replicate 16 b) ≡ map (λ x. hit x b) bytes = λ b. zip2_splat hit bytes 16 b long in
+    let two = zip2_of_maps bit_or (λ x. hit x 0x09) (λ x. hit x 0x0A) bytes (is 0x09) (is 0x0A) in
+    let three = zip2_of_maps bit_or (λ x. bit_or (hit x 0x09) (hit x 0x0A)) (λ x. hit x 0x0D) bytes two (is 0x0D) in
+    ap (λ l. mask_l l % 2 ^ 64) (ap (map (top 7)) three ∙ layout_lanes bytes)
+    ∙ mask_l-mod (map is_layout bytes) 64 (omega (arith, length-map bytes is_layout))
+
+-- the bytes that are not printed are layout controls and those that stand in no text
+one_part : (printed layout : Bool) → (layout ≡ true → printed ≡ false) → cond (not printed) 1 0 ≡ cond layout 1 0 + cond (not (printed || layout)) 1 0
+one_part true true apart = absurd (false≢true (sym (apart refl)))
+one_part true false apart = refl
+one_part false true apart = refl
+one_part false false apart = refl
+
+unprinted-layout : (b : ℕ) → is_layout b ≡ true → is_within 0x20 0x7F b ≡ false
+unfolding is_within
+unprinted-layout b is = ap (λ t. t && nat_le b 0x7F) (lt-leb 0x20 b (omega (arith, layout-low b is)))
+
+mask-parts : (bytes : List ℕ) → mask_l (map (is_outside 0x60) bytes) ≡ mask_l (map is_layout bytes) + mask_l (map (λ b. not (is_text_byte b)) bytes)
+mask-parts [] = refl
+mask-parts (b ∷ bytes) =
+    omega (arith, mask-parts bytes, one_part (is_within 0x20 0x7F b) (is_layout b) (unprinted-layout b))
+
+module _ (bytes : List ℕ) (unprinted layouts : ℕ) (are_unprinted : unprinted ≡ mask_l (map (is_outside 0x60) bytes)) (are_layouts : layouts ≡ mask_l (map is_layout bytes)) where
+  pub layouts-le : layouts ≤ unprinted
+  layouts-le = omega (arith, mask-parts bytes, are_unprinted, are_layouts)
+
+  pub others-mask : unprinted - layouts ≡ mask_l (map (λ b. not (is_text_byte b)) bytes)
+  others-mask = omega (arith, mask-parts bytes, are_unprinted, are_layouts)
+
+-- how many bytes come before the first that does not pass a test
 pub prefix_len-le : (test : ℕ → Bool) (bytes : List ℕ) → prefix_len test bytes ≤ length bytes
 prefix_len-le test [] = omega arith
 prefix_len-le test (b ∷ bytes) = by (prefix_len-le test bytes) (test b)
@@ -94,7 +146,7 @@ prefix_len-le test (b ∷ bytes) = by (prefix_len-le test bytes) (test b)
     by rest true = omega (arith, rest)
     by rest false = omega arith
 
--- where all come before it, each is
+-- where all come before it, each passes
 each_of_prefix : (test : ℕ → Bool) (bytes : List ℕ) → prefix_len test bytes ≡ length bytes → EachIs test bytes
 each_of_prefix test [] all = tt
 each_of_prefix test (b ∷ bytes) all = by (each_of_prefix test bytes) (test b) refl all
@@ -104,21 +156,64 @@ each_of_prefix test (b ∷ bytes) all = by (each_of_prefix test bytes) (test b) 
     by rest true is more = (is, rest (omega (arith, more)))
     by rest false is more = absurd (omega (arith, more))
 
-module _ (count : ℕ) (bytes : List ℕ) (mask : ℕ) (long : length bytes ≡ 16) (is : mask ≡ mask_l (map (is_outside count) bytes)) where
-  counted : cond (eqb mask 0) 16 (count_trailing_zeros 64 mask) ≡ prefix_len (λ b. is_within 0x20 (0x1F + count) b) bytes
-  counted =
-      ap (λ m. cond (eqb m 0) 16 (count_trailing_zeros 64 m)) is
-      ∙ first_set_mask_l (is_outside count) bytes 16 long (omega arith) ∙ prefix-same count bytes
+-- these pass
+pub EachIs-prefix : (test : ℕ → Bool) (bytes : List ℕ) → EachIs test (take (prefix_len test bytes) bytes)
+EachIs-prefix test [] = tt
+EachIs-prefix test (b ∷ bytes) = by (EachIs-prefix test bytes) (test b) refl
+  where
+    by : EachIs test (take (prefix_len test bytes) bytes) → (t : Bool) → test b ≡ t → EachIs test (take (cond t (1 + prefix_len test bytes) 0) (b ∷ bytes))
+    by rest true is =
+        let counted : suc (prefix_len test bytes) ≡ 1 + prefix_len test bytes = omega arith in
+        subst (λ k. EachIs test (take k (b ∷ bytes))) counted (is, rest)
+    by rest false is = tt
 
-  pub prefix_of_all : mask ≡ 0 → 16 ≡ prefix_len (λ b. is_within 0x20 (0x1F + count) b) bytes
-  prefix_of_all none = sym (cond-true (eqb mask 0) 16 (count_trailing_zeros 64 mask) (eq-eqb mask 0 none)) ∙ counted
+-- those before the first that passes another test
+module _ (other : ℕ → Bool) where
+  pub prefix_len-lt : (bytes : List ℕ) → mask_l (map other bytes) ≢ 0 → prefix_len (λ b. not (other b)) bytes < length bytes
+  prefix_len-lt [] some = absurd (some refl)
+  prefix_len-lt (b ∷ bytes) some = by (other b) (prefix_len-lt bytes) some
+    where
+      by : (t : Bool) → (mask_l (map other bytes) ≢ 0 → prefix_len (λ x. not (other x)) bytes < length bytes)
+          → cond t 1 0 + 2 * mask_l (map other bytes) ≢ 0 → cond (not t) (1 + prefix_len (λ x. not (other x)) bytes) 0 < length (b ∷ bytes)
+      by true rest more = omega arith
+      by false rest more = let shorter = rest (λ none. more (omega (arith, none))) in omega (arith, shorter)
 
-  pub prefix_of_lowest : mask ≢ 0 → count_trailing_zeros 64 mask ≡ prefix_len (λ b. is_within 0x20 (0x1F + count) b) bytes
-  prefix_of_lowest some = sym (cond-false (eqb mask 0) 16 (count_trailing_zeros 64 mask) (ne_eqb mask 0 some)) ∙ counted
+  module _ (bytes : List ℕ) (mask : ℕ) (long : length bytes ≡ 16) (is : mask ≡ mask_l (map other bytes)) where
+    counted : cond (eqb mask 0) 16 (count_trailing_zeros 64 mask) ≡ prefix_len (λ b. not (other b)) bytes
+    counted = ap (λ m. cond (eqb m 0) 16 (count_trailing_zeros 64 m)) is ∙ first_set_mask_l other bytes 16 long (omega arith)
 
-  pub each_is_within : mask ≡ 0 → EachIs (λ b. is_within 0x20 (0x1F + count) b) bytes
-  each_is_within none = each_of_prefix (λ b. is_within 0x20 (0x1F + count) b) bytes (sym (prefix_of_all none) ∙ sym long)
+    pub before_lowest : mask ≢ 0 → count_trailing_zeros 64 mask ≡ prefix_len (λ b. not (other b)) bytes
+    before_lowest some = sym (cond-false (eqb mask 0) 16 (count_trailing_zeros 64 mask) (ne_eqb mask 0 some)) ∙ counted
+
+    pub lowest-lt : mask ≢ 0 → count_trailing_zeros 64 mask < length bytes
+    lowest-lt some = omega (arith, before_lowest some, prefix_len-lt bytes (λ none. some (is ∙ none)))
+
+    pub each_before_lowest : mask ≢ 0 → EachIs (λ b. not (other b)) (take (count_trailing_zeros 64 mask) bytes)
+    each_before_lowest some =
+        subst (λ n. EachIs (λ b. not (other b)) (take n bytes)) (sym (before_lowest some)) (EachIs-prefix (λ b. not (other b)) bytes)
+
+    pub each_before : mask ≡ 0 → EachIs (λ b. not (other b)) bytes
+    each_before none =
+        each_of_prefix (λ b. not (other b)) bytes (sym counted ∙ cond-true (eqb mask 0) 16 (count_trailing_zeros 64 mask) (eq-eqb mask 0 none) ∙ sym long)
 
 pub each_as : (test same : ℕ → Bool) → ((b : ℕ) → same b ≡ test b) → (bytes : List ℕ) → EachIs test bytes → EachIs same bytes
 each_as test same are_same [] are = tt
 each_as test same are_same (b ∷ bytes) are = (are_same b ∙ are.0, each_as test same are_same bytes are.1)
+
+-- the same by a mask of those that do not pass a test
+not-not : (t : Bool) → not (not t) ≡ t
+not-not true = refl
+not-not false = refl
+
+module _ (test : ℕ → Bool) (bytes : List ℕ) (mask : ℕ) (long : length bytes ≡ 16) (is : mask ≡ mask_l (map (λ b. not (test b)) bytes)) where
+  passes : (passed : List ℕ) → EachIs (λ b. not (not (test b))) passed → EachIs test passed
+  passes = each_as (λ b. not (not (test b))) test (λ b. sym (not-not (test b)))
+
+  pub lowest_within : mask ≢ 0 → count_trailing_zeros 64 mask < length bytes
+  lowest_within = lowest-lt (λ b. not (test b)) bytes mask long is
+
+  pub each_to_lowest : mask ≢ 0 → EachIs test (take (count_trailing_zeros 64 mask) bytes)
+  each_to_lowest some = passes _ (each_before_lowest (λ b. not (test b)) bytes mask long is some)
+
+  pub each_passes : mask ≡ 0 → EachIs test bytes
+  each_passes none = passes bytes (each_before (λ b. not (test b)) bytes mask long is none)

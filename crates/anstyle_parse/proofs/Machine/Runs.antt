@@ -1,8 +1,8 @@
 -- Runs one after another, and the runs of each kind of bytes.
-use Rattle.std.proofs.Common.{◌≡◌, ℕ, ◌<◌, ◌≤◌, ◌⊎◌, arith, Bool, IsTrue, cond, eqb, refl, List, length, [], ◌∷◌, ◌++◌, ⊎_elim, inl, map, take, drop, ap, sym, ◌∙◌, subst, append_assoc}
+use Rattle.std.proofs.Common.{◌≡◌, ℕ, ◌+◌, ◌<◌, ◌≤◌, ◌⊎◌, arith, Bool, IsTrue, cond, eqb, refl, List, length, [], ◌∷◌, ◌++◌, ⊎_elim, inl, map, take, drop, ap, sym, ◌∙◌, subst, append_assoc}
 use Rattle.std.specs.Prelude.{nat_le, ◌||◌}
 use Rattle.std.specs.List.{range_with_len}
-use Rattle.std.proofs.lemmas.List.{take-append-drop}
+use Rattle.std.proofs.lemmas.List.{length-take-le, take-append-le, take-append-drop}
 use Rattle.std.proofs.lemmas.Bool.{cond-true, cond_both, and_from, and_parts, leb-true, le-leb, or_cases}
 use Rattle.anstyle_parse.specs.declared.state.definitions.State.{State}
 use Rattle.anstyle_parse.specs.declared.state.definitions.State.TheVariants.{Anywhere, CsiEntry, CsiIgnore, CsiParam, DcsIgnore, DcsPassthrough, Escape, Ground, OscString, SosPmApcString, Utf8}
@@ -30,6 +30,13 @@ use Rattle.anstyle_parse.proofs.Streams.{CanTakeAll-rest}
 pub chunk_and_rest : (n : ℕ) (whole chunk behind : List ℕ) → chunk ≡ take n whole → behind ≡ drop n whole → whole ≡ chunk ++ behind
 chunk_and_rest n whole chunk behind front back =
     sym (ap (λ xs. xs ++ behind) front ∙ ap (λ ys. take n whole ++ ys) back ∙ take-append-drop n whole)
+
+pub front_of_chunk : (n count : ℕ) (whole chunk : List ℕ) → chunk ≡ take n whole → count ≤ length chunk → take count whole ≡ take count chunk
+front_of_chunk n count whole chunk front within =
+    ap (take count) (chunk_and_rest n whole chunk (drop n whole) front refl) ∙ take-append-le count chunk (drop n whole) within
+
+pub length-first_chunk : (n : ℕ) (whole chunk behind : List ℕ) → chunk ≡ take n whole → length behind + n ≡ length whole → length chunk ≡ n
+length-first_chunk n whole chunk behind front room = ap length front ∙ length-take-le n whole (omega (arith, room))
 
 -- a state gives the bytes that pass a test one answer, where that computes below 256
 change_at-where : (state : State) (test : ℕ → Bool) (answer : Change) → (b : ℕ) → b < 0x100 → IsTrue (test b)
@@ -397,3 +404,10 @@ module _ {C : Type 0} (takes : C → ℕ → Type 0) (adds : AccumulatorStep C) 
       → LeadsQuietlyTo takes adds p xs q ys → LeadsQuietlyTo takes adds q ys r zs → LeadsQuietlyTo takes adds p xs r zs
   LeadsQuietlyTo-trans first second =
       record { can = second.can; machine = second.machine ∙ first.machine; calls = second.calls ∙ first.calls }
+
+  -- a byte that begins nothing
+  pub LeadsQuietlyTo-nothing : (parser : Parser C) (b : ℕ) (left : List ℕ) → CanTakeAll takes parser (b ∷ left) → parser.state ≡ Ground
+      → IsTrue (is_within 0x9D 0xC1 b || is_within 0xF5 0xFF b) → LeadsQuietlyTo takes adds parser (b ∷ left) parser left
+  LeadsQuietlyTo-nothing parser b left can ground nothing =
+      let stepped = step-by adds (machine_of parser) b (Anywhere by Nop) (λ h. absurd (cc (ground, h))) (change_at-nothing parser.state b ground nothing) in
+      LeadsQuietlyTo-byte parser parser b left can (sym stepped.0) stepped.1

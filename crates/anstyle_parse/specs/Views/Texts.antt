@@ -1,31 +1,41 @@
 -- What a text that is handed on at once leads to.
-use Rattle.std.specs.Prelude.{◌≡◌, ℕ, ◌<◌, List, [], ◌++◌, length}
+use Rattle.std.specs.Prelude.{◌≡◌, ℕ, ◌<◌, Bool, not, ◌||◌, List, [], ◌∷◌, ◌++◌, length, ⊤, IsTrue}
 use Rattle.std.specs.Str.{encode_utf8_all}
 use Rattle.anstyle_parse.specs.declared.accumulator.Utf8Parser.{Utf8Parser}
 use Rattle.anstyle_parse.specs.declared.parser.Parser.{Parser}
 use Rattle.anstyle_parse.specs.declared.state.definitions.State.TheVariants.{Ground}
+use Rattle.anstyle_parse.specs.Stream.Bytes.{is_within}
 use Rattle.anstyle_parse.specs.Stream.Call.{Call}
 use Rattle.anstyle_parse.specs.Stream.Items.{EachIs}
+use Rattle.anstyle_parse.specs.Stream.Texts.{is_layout}
 use Rattle.anstyle_parse.specs.Laws.Lawful.{is_character}
 use Rattle.anstyle_parse.specs.Machine.Step.{machine_after, machine_calls}
 use Rattle.anstyle_parse.specs.Views.Accumulator.{front_of, parser_after}
 use Rattle.anstyle_parse.specs.Views.Parser.{machine_of}
 
--- the bytes begin with whole characters that can be printed, and these bytes are left
+-- a character of a text that is handed on: one that can be printed, or a layout control
+unfoldable pub is_text_character : ℕ → Bool
+is_text_character c = is_character c || is_layout c
+
+-- a byte that is such a character alone
+abbrev pub is_text_byte : ℕ → Bool
+is_text_byte b = is_within 0x20 0x7F b || is_layout b
+
+-- the bytes begin with whole characters of a text, and these bytes are left
 abbrev pub BeginWithText : List ℕ → (left : List ℕ) → Type 0
 BeginWithText bytes left =
-    (characters : List ℕ) × EachIs is_character characters × (bytes ≡ encode_utf8_all characters ++ left)
+    (characters : List ℕ) × EachIs is_text_character characters × (bytes ≡ encode_utf8_all characters ++ left)
 
 -- in the ground state, and no character is begun
 abbrev pub AtText : Parser Utf8Parser → Type 0
 AtText parser = (parser.state ≡ Ground) × (front_of parser.accumulator ≡ [])
 
--- the text stands at the front of the bytes, where it is printed, and these are left
+-- the text stands at the front of the bytes, where it is printed with its layout, and these are left
 pub record IsTextAt (parser : Parser Utf8Parser) (bytes text left : List ℕ) : Type 0 where
   pub at : AtText parser
   pub some : length left < length bytes
   pub characters : List ℕ
-  pub printed : EachIs is_character characters
+  pub printed : EachIs is_text_character characters
   pub encoded : text ≡ encode_utf8_all characters
   pub joined : bytes ≡ text ++ left
 
@@ -39,3 +49,15 @@ pub record LeadsByTextTo {P : Type 0} (receives : P → List Call → P → Type
   pub joined : machine_calls parser_after bytes (machine_of old)
       ≡ made ++ machine_calls parser_after left (machine_of new)
   pub received : receives before made after
+
+-- a layout control comes first, or nothing comes
+abbrev pub AreAtLayout : List ℕ → Type 0
+AreAtLayout [] = ⊤
+AreAtLayout (b ∷ bytes) = IsTrue (is_layout b)
+
+-- The bytes that are left begin at the first layout control.
+pub record StopsAtLayout (bytes left : List ℕ) : Type 0 where
+  pub passed : List ℕ
+  pub joined : bytes ≡ passed ++ left
+  pub before : EachIs (λ b. not (is_layout b)) passed
+  pub at : AreAtLayout left

@@ -126,7 +126,7 @@ impl<W: Sink> Perform for CanonWriter<W> {
     }
 }
 
-/// A text is written as it is.
+/// A text is written as it is, and so is layout.
 impl<W: Sink> PerformText for CanonWriter<W> {
     ghost use Rattle.anstyle_parse.specs.Io.Output.{AddsTexts};
     ghost use Rattle.anstyle_parse.specs.Io.AddingProof.{AddsTexts-none, AddsTexts-one, AddsTexts-more};
@@ -136,6 +136,11 @@ impl<W: Sink> PerformText for CanonWriter<W> {
 
     #[inline(always)]
     fn print_text(&mut self, text: &str) {
+        self.output.put_text(text);
+    }
+
+    #[inline(always)]
+    fn print_with_layout(&mut self, text: &str) {
         self.output.put_text(text);
     }
 

@@ -12,9 +12,9 @@ ghost use Rattle.anstyle_parse.specs.Stream.Items.{EachIs};
 ghost use Rattle.anstyle_parse.specs.Views.Runs.{Takes, LeadsTo, LeadsQuietlyTo, KeepsTo, is_of_run, run_calls, AreMade};
 
 use super::Parser;
-use super::chunks::{CHUNK, outside};
 use super::command::is_plain_byte;
 use crate::accumulator::CharAccumulator;
+use crate::chunks::{CHUNK, outside};
 use crate::controls::{BELL, CANCEL, ESCAPE, SPACE};
 use crate::perform::Perform;
 use crate::state::{Action, State};
@@ -263,8 +263,7 @@ impl<C: CharAccumulator> Parser<C> {
             return behind;
         }
         if begins_nothing(first) {
-            self.step_by_answer(performer, State::Anywhere, Action::Nop, first);
-            return behind;
+            return self.take_nothing(first, behind);
         }
         let rest = self.take_characters(performer, bytes);
         if rest.len() < bytes.len() {
@@ -274,6 +273,25 @@ impl<C: CharAccumulator> Parser<C> {
             return rest;
         };
         self.take_by_table(performer, *other, further)
+    }
+
+    /// A byte that begins nothing, and others after it.
+    #[inline(always)]
+    fn take_nothing<'a>(&self, first: u8, behind: &'a [u8]) -> &'a [u8]
+        requires ground { self.now.state ≡ State.Ground }
+        requires nothing { IsTrue (is_within 0x9D 0xC1 first || is_within 0xF5 0xFF first) }
+        requires can { CanTakeAll C.takes self.now (first ∷ behind.now) }
+        ensures leads { LeadsQuietlyTo C.takes C.taken self.now (first ∷ behind.now) self.now result.now }
+        ensures within { length result.now ≤ length behind.now }
+    {
+        let mut rest = behind;
+        'bytes: while let Some((first, behind)) = rest.split_first() {
+            if !begins_nothing(*first) {
+                break;
+            }
+            rest = behind;
+        }
+        rest
     }
 
     /// Whole characters, one after another.
@@ -448,11 +466,11 @@ impl<C: CharAccumulator> Parser<C> {
             self.new performer.new result.now }
     {
         if first == ESCAPE {
-            self.step_by_answer(performer, State::Escape, Action::Nop, first);
+            self.end_command(performer, State::Escape, first);
             return behind;
         }
         if first == BELL {
-            self.step_by_answer(performer, State::Ground, Action::Nop, first);
+            self.end_command(performer, State::Ground, first);
             return behind;
         }
         self.take_by_table(performer, first, behind)

@@ -80,11 +80,13 @@ impl<C: CharAccumulator> Parser<C> {
         ensures calls { Goes P.means performer.old
             (step_calls_from C.taken state byte (machine_of self.old)) performer.new }
     {
+        let exit = exit_action(state);
         let (state, action) = state_change(state, byte);
-        self.change_state(performer, state, action, byte);
+        self.change_state(performer, exit, state, action, byte);
     }
 
-    /// A byte outside a character, of which the table's answer is known.
+    /// A byte outside a character, of which the table's answer is known, in a state that is left
+    /// with no action.
     #[inline(always)]
     pub(super) fn step_by_answer<P: Perform>(
         &mut self,
@@ -93,13 +95,25 @@ impl<C: CharAccumulator> Parser<C> {
         action: Action,
         byte: u8,
     )
+        requires exit { exit_of self.old.state ≡ Action.Nop }
         requires known { change_at self.old.state byte ≡ (state by action) }
         requires outside { self.old.state ≢ State.Utf8 }
         requires begins_none { action ≢ Action.BeginUtf8 }
         ensures machine { machine_of self.new ≡ step C.taken byte (machine_of self.old) }
         ensures calls { Goes P.means performer.old (step_calls C.taken byte (machine_of self.old)) performer.new }
     {
-        self.change_state(performer, state, action, byte);
+        self.change_state(performer, Action::Nop, state, action, byte);
+    }
+
+    /// A byte that ends an operating system command, of which it is known where it leads.
+    #[inline(always)]
+    pub(super) fn end_command<P: Perform>(&mut self, performer: &mut P, state: State, byte: u8)
+        requires command { self.old.state ≡ State.OscString }
+        requires known { change_at self.old.state byte ≡ (state by Action.Nop) }
+        ensures machine { machine_of self.new ≡ step C.taken byte (machine_of self.old) }
+        ensures calls { Goes P.means performer.old (step_calls C.taken byte (machine_of self.old)) performer.new }
+    {
+        self.change_state(performer, Action::OscEnd, state, Action::Nop, byte);
     }
 }
 
@@ -108,17 +122,19 @@ impl<C: CharAccumulator> Parser<C> {
     ghost use Rattle.anstyle_parse.specs.Views.Parser.{machine_of};
     ghost use Rattle.anstyle_parse.specs.Machine.Step.{after_change, change_calls, after_action, action_calls};
 
-    /// A change of state: the exit action of the old state, the action, the entry action of
-    /// the new one. Anywhere keeps the state, with no exit and no entry.
+    /// A change of state: `exit`, the exit action of the old state, the action, the entry action
+    /// of the new one. Anywhere keeps the state, with no exit and no entry.
     #[inline(always)]
     fn change_state<P: Perform>(
         &mut self,
         performer: &mut P,
+        exit: Action,
         state: State,
         action: Action,
         byte: u8,
     )
-        requires { action ≡ Action.BeginUtf8 → C.takes self.old.accumulator byte }
+        requires exit { exit_of self.old.state ≡ exit }
+        requires takes { action ≡ Action.BeginUtf8 → C.takes self.old.accumulator byte }
         ensures machine { machine_of self.new ≡ after_change C.taken state action byte (machine_of self.old) }
         ensures calls { Goes P.means performer.old
             (change_calls C.taken state action byte (machine_of self.old)) performer.new }
@@ -126,7 +142,7 @@ impl<C: CharAccumulator> Parser<C> {
         match state {
             State::Anywhere => self.perform_action(performer, action, byte),
             state => {
-                self.perform_action(performer, exit_action(self.state), byte);
+                self.perform_action(performer, exit, byte);
                 self.perform_action(performer, action, byte);
                 self.perform_action(performer, entry_action(state), byte);
                 self.state = state;

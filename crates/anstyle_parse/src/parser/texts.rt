@@ -1,14 +1,13 @@
-//! Texts: characters that are printed one after another, and handed on at once.
-ghost use Rattle.std.specs.Prelude.{◌≡◌, ◌≤◌, ◌||◌, ◌++◌, ℕ, List, IfSome, length};
-ghost use Rattle.std.specs.List.{prefix_len};
-ghost use Rattle.anstyle_parse.specs.Stream.Bytes.{is_within};
-ghost use Rattle.anstyle_parse.specs.Stream.Characters.{is_lead};
+//! Texts: characters that are printed one after another, with layout, and handed on at once.
+ghost use Rattle.std.specs.Prelude.{◌≡◌, ◌≤◌, ◌<◌, ◌++◌, ◌∷◌, ℕ, List, IfSome, length, take};
+ghost use Rattle.anstyle_parse.specs.Stream.Items.{EachIs};
 ghost use Rattle.anstyle_parse.specs.Views.Accumulator.{front_of, parser_after};
-ghost use Rattle.anstyle_parse.specs.Views.Texts.{BeginWithText, IsTextAt};
+ghost use Rattle.anstyle_parse.specs.Views.Texts.{is_text_byte, BeginWithText, IsTextAt, LeadsByTextTo};
 
 use super::Parser;
-use super::chunks::{CHUNK, outside};
 use crate::accumulator::Utf8Parser;
+use crate::chunks::{CHUNK, layouts, outside};
+use crate::layout::is_layout;
 use crate::perform::PerformText;
 use crate::state::State;
 use crate::utf8::{Front, whole};
@@ -17,31 +16,33 @@ use std::simd::prelude::*;
 /// How many bytes are characters of their own and printed, from 20 on.
 const PRINTED: u8 = 0x60;
 
-/// A byte that is a character of its own and is printed: 20..7F.
+/// A byte of a text that is a character of its own: one that is printed, 20..7F, or layout.
 #[inline(always)]
 #[tactic(auto, unfolding(crate::specs::Stream::Bytes::is_within))]
-fn is_printed(byte: u8) -> bool
-    ensures { result ≡ is_within 0x20 0x7F byte }
+fn is_text_byte(byte: u8) -> bool
+    ensures { result ≡ is_text_byte byte }
 {
-    matches!(byte, 0x20..=0x7F)
+    matches!(byte, 0x20..=0x7F) || is_layout(byte)
 }
 
-/// Whether a text may begin with the byte: one that is printed, or the first of a character.
+/// How many bytes of a chunk come first that stand in a text by themselves. Mostly all are printed,
+/// or up to one that stands in no text.
 #[inline(always)]
-#[tactic(auto, unfolding(crate::specs::Stream::Bytes::is_within, crate::specs::Stream::Characters::is_lead))]
-fn begins_text(byte: u8) -> bool
-    ensures { result ≡ (is_within 0x20 0x7F byte || is_lead byte) }
-{
-    matches!(byte, 0x20..=0x7F | 0xC2..=0xF4)
-}
-
-/// How many bytes of a chunk come before the first that is not printed.
-#[inline(always)]
-fn printed_count(chunk: &[u8; CHUNK]) -> usize
+fn text_count(chunk: &[u8; CHUNK]) -> usize
     ensures within { result ≤ length chunk.now }
-    ensures count { result ≡ prefix_len (λ b. is_within 0x20 0x7F b) chunk.now }
+    ensures text { EachIs is_text_byte (take result chunk.now) }
 {
-    let others = outside(u8x16::from_array(*chunk), PRINTED);
+    let bytes = u8x16::from_array(*chunk);
+    let unprinted = outside(bytes, PRINTED);
+    if unprinted == 0 {
+        return CHUNK;
+    }
+    let count = unprinted.trailing_zeros() as usize;
+    if !is_layout(chunk[count]) {
+        return count;
+    }
+    // Layout is among what is not printed.
+    let others = unprinted - layouts(bytes);
     if others == 0 {
         CHUNK
     } else {
@@ -49,22 +50,31 @@ fn printed_count(chunk: &[u8; CHUNK]) -> usize
     }
 }
 
-/// What comes after the printed bytes at the front.
+/// What comes after the characters of one byte at the front of a text.
 #[inline(always)]
-fn after_printed(bytes: &[u8]) -> &[u8]
+fn after_bytes(bytes: &[u8]) -> &[u8]
     ensures { BeginWithText bytes.now result.now }
 {
     let mut rest = bytes;
-    'chunks: while let Some((chunk, _)) = rest.split_first_chunk::<CHUNK>() {
-        let count = printed_count(chunk);
-        let (_, behind) = rest.split_at(count);
+    'chunks: while let Some((chunk, behind)) = rest.split_first_chunk::<CHUNK>() {
+        let count = text_count(chunk);
         if count < CHUNK {
-            return behind;
+            let (_, others) = rest.split_at(count);
+            return others;
         }
         rest = behind;
     }
+    after_few(rest)
+}
+
+/// The same, byte by byte.
+#[inline(always)]
+fn after_few(bytes: &[u8]) -> &[u8]
+    ensures { BeginWithText bytes.now result.now }
+{
+    let mut rest = bytes;
     'bytes: while let Some((first, behind)) = rest.split_first() {
-        if !is_printed(*first) {
+        if !is_text_byte(*first) {
             break;
         }
         rest = behind;
@@ -72,35 +82,49 @@ fn after_printed(bytes: &[u8]) -> &[u8]
     rest
 }
 
-/// What comes after the printed characters at the front.
+/// What comes after the first character of a text, and others of one byte that follow such a one.
+#[inline(always)]
+fn after_first(first: u8, behind: &[u8]) -> Option<&[u8]>
+    ensures text { IfSome result (λ rest. BeginWithText (first ∷ behind.now) rest.now) }
+    ensures within { IfSome result (λ rest. length rest.now ≤ length behind.now) }
+{
+    if first.is_ascii() {
+        if !is_text_byte(first) {
+            return None;
+        }
+        return Some(after_bytes(behind));
+    }
+    let (_, rest) = whole(first, behind)?;
+    Some(rest)
+}
+
+/// What comes after the text at the front.
 #[inline(always)]
 fn after_text(bytes: &[u8]) -> &[u8]
     ensures { BeginWithText bytes.now result.now }
 {
     let mut rest = bytes;
     'text: while let Some((first, behind)) = rest.split_first() {
-        if is_printed(*first) {
-            rest = after_printed(behind);
-            continue;
-        }
-        match whole(*first, behind) {
-            Some((_, further)) => rest = further,
-            None => break,
-        }
+        let Some(further) = after_first(*first, behind) else {
+            break;
+        };
+        rest = further;
     }
     rest
 }
 
-/// The printed characters at the front, and what comes after them.
+/// The text at the front, which is not empty, and what comes after it.
 #[inline(always)]
-fn split_text(bytes: &[u8]) -> (&str, &[u8])
-    ensures text { BeginWithText bytes.now result.1.now }
-    ensures joined { bytes.now ≡ result.0.now ++ result.1.now }
+fn split_text(bytes: &[u8]) -> Option<(&str, &[u8])>
+    ensures text { IfSome result (λ split. BeginWithText bytes.now split.1.now) }
+    ensures some { IfSome result (λ split. length split.1.now < length bytes.now) }
+    ensures joined { IfSome result (λ split. bytes.now ≡ split.0.now ++ split.1.now) }
 {
-    let rest = after_text(bytes);
+    let (first, behind) = bytes.split_first()?;
+    let rest = after_text(after_first(*first, behind)?);
     let (text, _) = bytes.split_at(bytes.len() - rest.len());
     // All that was passed is whole characters.
-    (unsafe { str::from_utf8_unchecked(text) }, rest)
+    Some((unsafe { str::from_utf8_unchecked(text) }, rest))
 }
 
 /// Streams of UTF-8.
@@ -111,7 +135,8 @@ impl Parser<Utf8Parser> {
     ghost use Rattle.anstyle_parse.specs.Machine.Step.{machine_after, IsWithinLimits};
 
     /// Takes bytes, as [`advance_all`](Parser::advance_all) does, but hands characters that are
-    /// printed one after another on as one text, as far as they stand in `bytes`.
+    /// printed one after another, with tabs, line feeds and carriage returns among them, on as one
+    /// text, as far as they stand in `bytes`: by [`PerformText::print_with_layout`].
     ///
     /// A stream may come in any pieces, by any mixture of this call and the others. A character
     /// that is begun in one piece and ends in another is printed by itself.
@@ -144,33 +169,43 @@ impl Parser<Utf8Parser> {
         ensures calls { P.receives performer.old (calls_made parser_after self.old bytes.now) performer.new }
     {
         let mut rest = bytes;
-        'rest: while let Some((first, _)) = rest.split_first() {
+        'rest: while !rest.is_empty() {
             rest = match self.state {
-                State::Ground => match self.text_at(*first, rest) {
-                    Some((text, further)) => {
-                        performer.print_text(text);
-                        further
-                    }
-                    None => self.take_in_ground(performer, rest),
-                },
+                State::Ground => {
+                    let further = self.take_text(performer, rest);
+                    self.take_in_ground(performer, further)
+                }
                 _ => self.take_first(performer, rest),
             };
         }
     }
 
+    /// The text at the front, if there is one.
+    #[inline(always)]
+    fn take_text<'a, P: PerformText>(&self, performer: &mut P, bytes: &'a [u8]) -> &'a [u8]
+        requires { self.now.state ≡ State.Ground }
+        ensures leads { LeadsByTextTo P.receives self.now performer.old bytes.now
+            self.now performer.new result.now }
+        ensures within { length result.now ≤ length bytes.now }
+    {
+        match self.text_at(bytes) {
+            Some((text, further)) => {
+                performer.print_with_layout(text);
+                further
+            }
+            None => bytes,
+        }
+    }
+
     /// The text at the front, and what comes after it, where no character is begun.
     #[inline(always)]
-    fn text_at<'a>(&self, first: u8, bytes: &'a [u8]) -> Option<(&'a str, &'a [u8])>
+    fn text_at<'a>(&self, bytes: &'a [u8]) -> Option<(&'a str, &'a [u8])>
         requires { self.now.state ≡ State.Ground }
         ensures { IfSome result (λ split. IsTextAt self.now bytes.now split.0.now split.1.now) }
     {
-        if !begins_text(first) || !matches!(self.accumulator.front(), Front::Empty) {
-            return None;
+        match self.accumulator.front() {
+            Front::Empty => split_text(bytes),
+            _ => None,
         }
-        let (text, rest) = split_text(bytes);
-        if text.is_empty() {
-            return None;
-        }
-        Some((text, rest))
     }
 }

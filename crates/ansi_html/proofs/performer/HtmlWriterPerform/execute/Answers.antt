@@ -1,6 +1,6 @@
-use Rattle.std.proofs.Common.{eqb, sym, ap, refl, ◌∙◌, subst}
+use Rattle.std.proofs.Common.{refl, sym, ◌∙◌, ◌++◌, eqb, subst, append-nil}
 use Rattle.anstyle_parse.specs.Io.Output.{Adds}
-use Rattle.anstyle_parse.proofs.Written.Output.{Adds-nil, Adds-append}
+use Rattle.anstyle_parse.proofs.Written.Output.{Adds-nil}
 use Rattle.ansi_html.specs.Html.{beginning, escaped}
 use Rattle.ansi_html.specs.Writer.{output_of, scheme_of, standing_of}
 use Rattle.ansi_html.proofs.HtmlLemmas.{call_html-layout, standing_after-layout, call_html-other, standing_after-other}
@@ -13,12 +13,12 @@ returns-then-is_layout g c =
     let scheme = scheme_of before in
     let at = standing_of before in
     let is = sym c.is_layout.ensures ∙ c.if-is_layout.true in
+    let taken = c.put_text_byte.ensures in
     record {
-      scheme = c.begin_text.ensures.scheme;
-      standing = ap (λ it. record { shown = it.shown; selected = it.selected; returned = eqb byte 0x0D }) c.begin_text.ensures.standing
-          ∙ sym (standing_after-layout scheme at byte is);
-      added = subst (λ text. Adds g.W.Sink text (output_of before) c.put_layout.new.output) (sym (call_html-layout scheme at byte is))
-          (Adds-append g.W.Sink (beginning scheme at (eqb byte 0x0A)) (escaped byte) (output_of before) (output_of c.begin_text.new.self) c.put_layout.new.output c.begin_text.ensures.added c.put_layout.ensures);
+      scheme = taken.scheme;
+      standing = taken.standing ∙ sym (standing_after-layout scheme at byte is);
+      added = subst (λ text. Adds g.W.Sink text (output_of before) (output_of c.put_text_byte.new.self))
+          (append-nil (beginning scheme at (eqb byte 0x0A) ++ escaped byte) ∙ sym (call_html-layout scheme at byte is)) taken.added;
     }
 
 pub returns-else-is_layout : goal.returns-else-is_layout

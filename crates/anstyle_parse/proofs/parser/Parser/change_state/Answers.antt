@@ -1,4 +1,5 @@
 -- The three actions one after another, as the machine makes them.
+use Rattle.std.proofs.Common.{sym}
 use Rattle.anstyle_parse.specs.Views.Parser.{machine_of}
 use Rattle.anstyle_parse.proofs.Machine.Steps.{moved, moved_calls}
 use Rattle.anstyle_parse.proofs.parser.Parser.change_state.Goals as goal
@@ -16,11 +17,11 @@ returns-in_default g c =
     let p2 = c.perform_action-in_default-2.new.performer in
     let p3 = c.perform_action-in_default-3.new.performer in
     record {
-      machine = moved add means c.args.state c.args.action c.exit_action.result c.entry_action.result c.args.byte m m1 m2 m3 p p1 p2 p3
-          c.in_default.not-Anywhere c.exit_action.ensures c.entry_action.ensures
+      machine = moved add means c.args.state c.args.action c.args.exit c.entry_action.result c.args.byte m m1 m2 m3 p p1 p2 p3
+          c.in_default.not-Anywhere (sym c.requires.exit) c.entry_action.ensures
           c.perform_action-in_default.ensures.machine c.perform_action-in_default-2.ensures.machine c.perform_action-in_default-3.ensures.machine;
-      calls = moved_calls add means c.args.state c.args.action c.exit_action.result c.entry_action.result c.args.byte m m1 m2 m3 p p1 p2 p3
-          c.in_default.not-Anywhere c.exit_action.ensures c.entry_action.ensures
+      calls = moved_calls add means c.args.state c.args.action c.args.exit c.entry_action.result c.args.byte m m1 m2 m3 p p1 p2 p3
+          c.in_default.not-Anywhere (sym c.requires.exit) c.entry_action.ensures
           c.perform_action-in_default.ensures.machine c.perform_action-in_default-2.ensures.machine c.perform_action-in_default-3.ensures.machine
           c.perform_action-in_default.ensures.calls c.perform_action-in_default-2.ensures.calls c.perform_action-in_default-3.ensures.calls;
     }

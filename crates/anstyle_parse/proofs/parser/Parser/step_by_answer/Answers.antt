@@ -5,8 +5,8 @@ use Rattle.anstyle_parse.specs.Views.Parser.{machine_of}
 use Rattle.anstyle_parse.proofs.Machine.Runs.{step-by}
 use Rattle.anstyle_parse.proofs.parser.Parser.step_by_answer.Goals as goal
 
-pub change_state-requires : goal.change_state-requires
-change_state-requires g c = λ begins. absurd (c.requires.begins_none begins)
+pub change_state-requires-clause-takes : goal.change_state-requires-clause-takes
+change_state-requires-clause-takes g c = λ begins. absurd (c.requires.begins_none begins)
 
 pub returns-clause-machine : goal.returns-clause-machine
 returns-clause-machine g c =

@@ -7,8 +7,8 @@ use Rattle.anstyle_parse.proofs.Machine.Steps.{step_from-outside, step_calls_fro
 use Rattle.anstyle_parse.proofs.Machine.Reaches.{ReachesAccumulator-begin}
 use Rattle.anstyle_parse.proofs.parser.Parser.step_by_table.Goals as goal
 
-pub change_state-requires : goal.change_state-requires
-change_state-requires g c = λ begins.
+pub change_state-requires-clause-takes : goal.change_state-requires-clause-takes
+change_state-requires-clause-takes g c = λ begins.
     c.requires.takes (ReachesAccumulator-begin c.args.state c.args.byte (sym c.state_change-state.ensures.action ∙ begins))
 
 pub returns : goal.returns

@@ -1,7 +1,7 @@
 use Rattle.std.proofs.Common.{◌≡◌, arith, ap, ◌∙◌, sym, inl}
 use Rattle.anstyle_parse.specs.declared.state.definitions.State.TheVariants.{CsiEntry, Escape, Utf8}
 use Rattle.anstyle_parse.specs.declared.state.definitions.Action.TheVariants.{Nop}
-use Rattle.anstyle_parse.specs.Machine.Step.{Machine}
+use Rattle.anstyle_parse.specs.Machine.Step.{Machine, exit_action}
 use Rattle.anstyle_parse.specs.Views.Parser.{machine_of}
 use Rattle.anstyle_parse.proofs.Machine.Runs.{change_at-escape, change_at-introducer, change_at-command, state-by, LeadsTo-first, LeadsTo-byte, LeadsTo-trans, Takes-byte}
 use Rattle.anstyle_parse.proofs.parser.Parser.take_escape.Goals as goal
@@ -102,3 +102,19 @@ pub returns-in_default : goal.returns-in_default
 returns-in_default g c =
     Takes-byte g.C.CharAccumulator.takes g.C.CharAccumulator.taken g.P.Perform.means c.args.self.now c.step_by_answer.new.self c.args.performer.now c.step_by_answer.new.performer
     c.args.first c.args.behind.now c.requires.can c.step_by_answer.ensures.machine c.step_by_answer.ensures.calls
+
+pub step_by_answer-requires-then-next-eq91-clause-exit : goal.step_by_answer-requires-then-next-eq91-clause-exit
+step_by_answer-requires-then-next-eq91-clause-exit g c =
+    let n = g.C.CharAccumulator in
+    let m = machine_of c.args.self.now in
+    let escape = ap (λ (x : Machine g.row.C.Denot). x.state) c.step_by_answer.ensures.machine
+    ∙ state-by n.taken c.args.first m Escape Nop (λ h. absurd (cc (c.requires.ground, h))) (λ h. absurd (cc)) (change_at-escape m.state c.args.first c.requires.ground c.requires.escape) in
+    ap exit_action escape
+
+pub step_by_answer-requires-then-next-eq93-clause-exit : goal.step_by_answer-requires-then-next-eq93-clause-exit
+step_by_answer-requires-then-next-eq93-clause-exit g c =
+    let n = g.C.CharAccumulator in
+    let m = machine_of c.args.self.now in
+    let escape = ap (λ (x : Machine g.row.C.Denot). x.state) c.step_by_answer.ensures.machine
+    ∙ state-by n.taken c.args.first m Escape Nop (λ h. absurd (cc (c.requires.ground, h))) (λ h. absurd (cc)) (change_at-escape m.state c.args.first c.requires.ground c.requires.escape) in
+    ap exit_action escape

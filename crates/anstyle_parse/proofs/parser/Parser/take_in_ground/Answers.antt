@@ -1,6 +1,6 @@
-use Rattle.std.proofs.Common.{subst, List, ℕ, sym, ◌∙◌}
+use Rattle.std.proofs.Common.{subst, List, ℕ, ◌∷◌, sym, ◌∙◌}
 use Rattle.anstyle_parse.specs.Views.Parser.{CanTakeAll}
-use Rattle.anstyle_parse.proofs.Machine.Runs.{KeepsTo-printed, change_at-control, change_at-nothing, LeadsTo-byte, LeadsTo-same, LeadsTo-first}
+use Rattle.anstyle_parse.proofs.Machine.Runs.{KeepsTo-printed, change_at-control, LeadsTo-byte, LeadsTo-same, LeadsTo-first, LeadsTo-quiet}
 use Rattle.anstyle_parse.proofs.parser.Parser.take_in_ground.Goals as goal
 
 pub take_run-requires-clause-keeps : goal.take_run-requires-clause-keeps
@@ -27,14 +27,14 @@ returns-clause-leads g c =
     LeadsTo-first g.C.CharAccumulator.takes g.C.CharAccumulator.taken g.P.Perform.means c.in-Some-split_first.ensures.cases.0 c.take_characters-rest.ensures.leads
     (λ can. c.take_by_table.ensures.leads)
 
-pub step_by_answer-requires-then-begins_nothing-clause-known : goal.step_by_answer-requires-then-begins_nothing-clause-known
-step_by_answer-requires-then-begins_nothing-clause-known g c =
-    change_at-nothing c.args.self.now.state c.in-Some.first.now c.requires.ground (sym c.begins_nothing.ensures ∙ c.if-begins_nothing.true)
+pub take_nothing-requires-clause-nothing : goal.take_nothing-requires-clause-nothing
+take_nothing-requires-clause-nothing g c = sym c.begins_nothing.ensures ∙ c.if-begins_nothing.true
 
 pub returns-then-begins_nothing-clause-leads : goal.returns-then-begins_nothing-clause-leads
 returns-then-begins_nothing-clause-leads g c =
     let n = g.C.CharAccumulator in
     let means = g.P.Perform.means in
+    let first = c.in-Some.first.now in
+    let behind = c.in-Some.behind.now in
     LeadsTo-first n.takes n.taken means c.in-Some.ensures.cases.0 (LeadsTo-same n.takes n.taken means c.args.self.now c.args.performer.now c.args.bytes.now c.requires.can)
-    (λ can. LeadsTo-byte n.takes n.taken means c.args.self.now c.step_by_answer-then-begins_nothing.new.self c.args.performer.now c.step_by_answer-then-begins_nothing.new.performer
-    c.in-Some.first.now c.in-Some.behind.now can c.step_by_answer-then-begins_nothing.ensures.machine c.step_by_answer-then-begins_nothing.ensures.calls)
+    (λ can. LeadsTo-quiet n.takes n.taken means c.args.self.now c.args.self.now c.args.performer.now (first ∷ behind) c.take_nothing.result.now c.take_nothing.ensures.leads)

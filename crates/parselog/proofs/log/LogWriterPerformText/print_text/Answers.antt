@@ -17,14 +17,23 @@ loop-c-init g c =
     let before = output_of c.args.self.now in
     Holds-none g.W.Sink before before [] c.new-lines.result.items c.new-lines.ensures (Adds-nil g.W.Sink before)
 
-pub loop-c-preserved-then-is_ascii : goal.loop-c-preserved-then-is_ascii
-loop-c-preserved-then-is_ascii g c =
+pub loop-c-preserved-then-n-lt128 : goal.loop-c-preserved-then-n-lt128
+loop-c-preserved-then-n-lt128 g c =
     let so_far = c.loop-c.yielded in
     let before = output_of c.args.self.now in
     let text = flat_map line (map print so_far) in
     subst (λ (t : List ℕ). Holds g.W.Sink before t (output_of c.put_together.new.self) c.put_together.new.lines.items)
-    (ap (λ l. text ++ l) c.ascii_line.ensures ∙ sym (lines-print so_far c.in-Some.c))
+    (ap (λ l. text ++ l) (c.ascii_line.ensures ∙ ap (λ n. line (print n)) c.from-n.ensures) ∙ sym (lines-print so_far c.in-Some.c))
     (c.put_together.ensures before text c.loop-c.invariant)
+
+pub loop-c-preserved-then-n-lt65536 : goal.loop-c-preserved-then-n-lt65536
+loop-c-preserved-then-n-lt65536 g c =
+    let so_far = c.loop-c.yielded in
+    let before = output_of c.args.self.now in
+    let text = flat_map line (map print so_far) in
+    subst (λ (t : List ℕ). Holds g.W.Sink before t (output_of c.put_together-then-n-lt65536.new.self) c.put_together-then-n-lt65536.new.lines.items)
+    (ap (λ l. text ++ l) (c.four_digit_line.ensures ∙ ap (λ n. line (print n)) c.from-n.ensures) ∙ sym (lines-print so_far c.in-Some.c))
+    (c.put_together-then-n-lt65536.ensures before text c.loop-c.invariant)
 
 pub loop-c-preserved : goal.loop-c-preserved
 loop-c-preserved g c =

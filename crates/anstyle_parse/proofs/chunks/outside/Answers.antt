@@ -1,5 +1,5 @@
 use Rattle.anstyle_parse.proofs.Machine.Lanes.{mask-outside}
-use Rattle.anstyle_parse.proofs.parser.chunks.outside.Goals as goal
+use Rattle.anstyle_parse.proofs.chunks.outside.Goals as goal
 
 pub returns : goal.returns
 returns c = mask-outside c.args.count c.requires c.args.bytes c.fits-bytes.0 c.fits-bytes.1

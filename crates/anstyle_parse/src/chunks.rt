@@ -2,20 +2,31 @@
 ghost use Rattle.std.specs.Prelude.{◌≡◌, ◌≤◌, ◌+◌, map, not};
 ghost use Rattle.std.specs.Simd.Lanes.{mask_l};
 ghost use Rattle.anstyle_parse.specs.Stream.Bytes.{is_within};
+ghost use Rattle.anstyle_parse.specs.Stream.Texts.{is_layout};
 
 use std::simd::prelude::*;
 
 /// How many bytes are tested at once.
-pub(super) const CHUNK: usize = 16;
+pub(crate) const CHUNK: usize = 16;
 
 /// A bit for each byte, the lowest for the first: whether it is none of the `count` from 20 on. With
 /// 20 taken off, modulo 100, these are the smallest.
 #[inline(always)]
-pub(super) fn outside(bytes: u8x16, count: u8) -> u64
+pub(crate) fn outside(bytes: u8x16, count: u8) -> u64
     requires { count ≤ 0xE0 }
     ensures { result ≡ mask_l (map (λ b. not (is_within 0x20 (0x1F + count) b)) bytes) }
 {
     (bytes - u8x16::splat(0x20))
         .simd_ge(u8x16::splat(count))
         .to_bitmask()
+}
+
+/// The same: whether it is a layout control.
+#[inline(always)]
+pub(crate) fn layouts(bytes: u8x16) -> u64
+    ensures { result ≡ mask_l (map is_layout bytes) }
+{
+    (bytes.simd_eq(u8x16::splat(b'\t'))
+        | bytes.simd_eq(u8x16::splat(b'\n'))
+        | bytes.simd_eq(u8x16::splat(b'\r'))).to_bitmask()
 }

@@ -1,13 +1,7 @@
 -- What is passed so far is text.
 use Rattle.std.proofs.Common.{length}
 use Rattle.anstyle_parse.specs.Views.Texts.{BeginWithText}
-use Rattle.anstyle_parse.proofs.parser.texts.after_printed.Given as goal
-
-abbrev pub invariant-chunks : goal.invariant-chunks
-invariant-chunks l = BeginWithText l.bytes l.rest
-
-abbrev pub decreases-chunks : goal.decreases-chunks
-decreases-chunks l = length l.rest
+use Rattle.anstyle_parse.proofs.parser.texts.after_few.Given as goal
 
 abbrev pub invariant-bytes : goal.invariant-bytes
 invariant-bytes l = BeginWithText l.bytes l.rest

@@ -13,7 +13,10 @@ use crate::state::State;
 use crate::utf8::{Front, whole};
 use std::simd::prelude::*;
 
-/// How many bytes are characters of their own and printed, from 20 on.
+/// The first byte that is a character of its own and printed.
+const FIRST_PRINTED: u8 = 0x20;
+
+/// How many such bytes there are, one after another.
 const PRINTED: u8 = 0x60;
 
 /// A byte of a text that is a character of its own: one that is printed, 20..7F, or layout.
@@ -113,7 +116,8 @@ fn after_text(bytes: &[u8]) -> &[u8]
     rest
 }
 
-/// The text at the front, which is not empty, and what comes after it.
+/// The text at the front, which is not empty, and what comes after it. It begins with what is
+/// shown: a control at the front is executed alone, since often no text follows it.
 #[inline(always)]
 fn split_text(bytes: &[u8]) -> Option<(&str, &[u8])>
     ensures text { IfSome result (λ split. BeginWithText bytes.now split.1.now) }
@@ -121,6 +125,9 @@ fn split_text(bytes: &[u8]) -> Option<(&str, &[u8])>
     ensures joined { IfSome result (λ split. bytes.now ≡ split.0.now ++ split.1.now) }
 {
     let (first, behind) = bytes.split_first()?;
+    if *first < FIRST_PRINTED {
+        return None;
+    }
     let rest = after_text(after_first(*first, behind)?);
     let (text, _) = bytes.split_at(bytes.len() - rest.len());
     // All that was passed is whole characters.

@@ -2,15 +2,14 @@
 """Compares ansi2screen by hand with tmux, xterm or libvterm: the text that is shown at the end of
 generated streams, or of recordings.
 
-Usage: tests/screen/compare.py [--count N] [--seed N] [--program PROGRAM] [--xterm | --peer PROGRAM]
+Usage: tests/screen/compare.py [--count N] [--seed N] [--program PROGRAM] [--xterm | --libvterm]
                                [--size COLUMNSxROWS RECORDING ..]
 
     --count N          so many generated streams (default: 500)
     --seed N           the seed of the first (default: 1)
     --program PROGRAM  the built program (default: crates/ansi2screen/out/ansi2screen)
     --xterm            in place of tmux, xterm, under an Xvfb of its own
-    --peer PROGRAM     in place of tmux, a program that is called with columns and rows, as the one that
-                       `cc -O2 tests/screen/vterm_text.c -lvterm` makes: for recordings
+    --libvterm         in place of tmux, libvterm, by tests/screen/vterm_text.c, which cc makes a program of
     --size .. RECORDING ..  files with the bytes of a stream, and the screen that they were made for, as
                        those of bench/record.py for 120x40
 
@@ -25,8 +24,13 @@ where docs/DECISIONS.md decides otherwise than tmux 3.3a does, and its faults: C
 not; edits, line feeds and moves at a pending wrap; BS in the first column behind a row that was wrapped;
 halves of wide characters; IL and DL outside the margins, and the column behind them; ICH of the whole rest
 of a row, and IRM behind a wrap; where DECSTBM leaves the cursor in origin mode; DECSTR; 1049. tmux writes
-line drawing as the letters that select it, and so it is compared. Each difference is told, and the last
-line is 'N agree, M differ'.
+line drawing as the letters that select it, and so it is compared.
+
+For libvterm streams have every operation, often at a pending wrap, and two characters at the end, which show
+where the cursor is. Where libvterm differs, an operation is left out or given in another form: each such place
+is a row in tests/screen/vterm_differences.py, with a smallest stream, on which the two must indeed differ.
+
+Each difference is told, and the last line is 'N agree, M differ'.
 """
 
 import argparse
@@ -43,17 +47,21 @@ import tty
 
 sys.dont_write_bytecode = True
 
+import streams
 import twin
+import vterm_differences
 
 ROOT = os.path.dirname(os.path.dirname(os.path.dirname(os.path.realpath(__file__))))
 LETTERS = str.maketrans({drawn: c for c, drawn in twin.DRAWN.items() if drawn != " "})
-PATIENCE = 5  # the seconds for which tmux may take a stream
+PATIENCE = 5  # the seconds for which a terminal may take a stream
 
 
 class Pane:
     """A pane of a tmux of our own, to which streams are written."""
 
     letters = LETTERS
+    stream = staticmethod(streams.tmux)
+    differences = []
 
     def __init__(self, folder, width, height):
         self.socket, self.number = os.path.join(folder, "tmux"), 0
@@ -90,6 +98,8 @@ class Xterm:
     """An xterm of our own, which is told streams and asked for the checksum of each cell: its character."""
 
     letters = {}
+    stream = staticmethod(streams.xterm)
+    differences = []
     LIBERTIES = ["allowWindowOps: true", "checksumExtension: 23", "utf8: 2", "scrollBar: false", "jumpScroll: false"]
 
     def __init__(self, folder, width, height):
@@ -133,16 +143,25 @@ class Xterm:
         self.server.terminate()
 
 
-class Peer:
-    """A program that is run on each stream."""
+class Libvterm:
+    """A program over libvterm that is run on each stream."""
 
     letters = {}
+    stream = staticmethod(streams.libvterm)
+    differences = vterm_differences.DIFFERENCES
 
-    def __init__(self, program, width, height):
+    def __init__(self, folder, width, height):
+        program = os.path.join(folder, "vterm_text")
+        source = os.path.join(ROOT, "tests", "screen", "vterm_text.c")
+        subprocess.run(["cc", "-O2", "-o", program, source, "-lvterm"], check=True)
         self.command = [program, str(width), str(height)]
 
     def shown(self, data):
-        return subprocess.run(self.command, input=data, capture_output=True).stdout.decode()
+        try:
+            ended = subprocess.run(self.command, input=data, capture_output=True, timeout=PATIENCE)
+        except subprocess.TimeoutExpired:
+            return "no end"
+        return "status %d" % ended.returncode if ended.returncode else ended.stdout.decode()
 
     def end(self):
         pass
@@ -153,68 +172,17 @@ def text_of(rows, letters):
     return "\n".join(row.rstrip(" ") for row in rows.translate(letters).split("\n")).rstrip("\n")
 
 
-def piece(draw, width, height):
-    """A piece of a stream. Controls and edits come behind a move, so that no wrap is pending."""
-    kind, some = draw.random(), str(draw.randint(0, 9))
-    move = "\x1b[%d;%dH" % (draw.randint(1, height), draw.randint(1, width - 2))
-    if kind < 0.35:
-        words = ["a", "xyz", "lqk", "e\u0301", "o\u0302\u0323", " ", "word", "\x1b[%sb" % some]
-        return "".join(draw.choice(words) for _ in range(draw.randint(1, 5)))
-    if kind < 0.5:
-        return draw.choice(["\r", "\r\n", "\r\n", "\x0e", "\x0f", "\x1b(0", "\x1b(B", "\x1b)0", "\x1b)B"])
-    if kind < 0.7:
-        return move + draw.choice(["\x1b[@", *("\x1b[" + some + final for final in "PXKJABCDEFGdZST`")])
-    if kind < 0.8:
-        return move + draw.choice(["\n", "x\b", "\t", "\x1bD", "\x1bE", "\x1bM", "\x1bH", "\x1b[g", "\x1b7", "\x1b8"])
-    if kind < 0.9:
-        top = draw.randint(1, height - 1)
-        region = "\x1b[%d;%dr\x1b[H" % (top, draw.randint(top + 1, height))
-        return region + draw.choice(["", "\x1b[%sL\r" % some if top == 1 else ""])
-    return move + draw.choice(["\x1b[4hx\x1b[4l", "\x1b[?6h", "\x1b[?6l", "\x1b[r", "\x1b[H"])
-
-
-def any_piece(draw, width, height, has_origin, has_wide):
-    """A piece of a stream for xterm, in whatever state."""
-    kind, some = draw.random(), str(draw.randint(1, 9))
-    move = "\x1b[%d;%dH" % (draw.randint(1, height), draw.randint(1, width))
-    if kind < 0.35:
-        wide = "\x1b[%dG" % draw.randint(1, width - 3) + draw.choice(["漢字", "한"])
-        words = ["a", "xyz", "lqk", wide if has_wide else "b", "ﾊ", " ", "word", "\xad", "\x7f", "0123456789" * 2]
-        return "".join(draw.choice(words) for _ in range(draw.randint(1, 5)))
-    if kind < 0.5:
-        return draw.choice([*"\r\n\b\t\v\f\a\x0e\x0f", "\r\n", "\x1b(0", "\x1b(B", "\x1b)0", "\x1b)B"])
-    if kind < 0.75:
-        final = draw.choice("ABCDEFGHIJKLMSTX`adfg" + ("" if has_wide else "@P"))
-        numbers = {"J": ["", "1", "2", some], "K": ["", "1", "2", some], "S": ["", "1"], "T": ["", "1"]}
-        return "\x1b[%s%s" % (draw.choice(numbers.get(final, ["", some, some])), final)
-    if kind < 0.85:
-        origin = ["\x1b[?6h", "\x1b[?6l"] if has_origin else ["\x1b7", "\x1b8"]
-        insert = [] if has_wide else ["\x1b[4h", "\x1b[4l"]
-        return draw.choice(["\x1bD", "\x1bE", "\x1bM", "\x1bH", "\x1b[?7h", "\x1b[?7l", *origin, *insert])
-    if kind < 0.9:
-        return "\x1b[%d;%dr" % (draw.randint(0, height), draw.randint(0, height + 1))
-    alternate = "" if has_origin else "\x1b[?1049h漢xyz\x1b[J\x1b[?1049l"
-    again = "\r%s\x1b[%sb" % ("漢" if has_wide else "a", some)
-    return move + draw.choice(["\x1b[%sZ" % some, again, "\x1b[3g", "\x1b[!p", alternate])
-
-
-def stream(draw, width, height, is_any):
-    if not is_any:
-        return "".join(piece(draw, width, height) for _ in range(draw.randint(2, 20))).encode()
-    has = draw.random() < 0.5, draw.random() < 0.5
-    text = "".join(any_piece(draw, width, height, *has) for _ in range(draw.randint(2, 20)))
-    last = ["", "", "\x1b[4l\x1b[?7h\x1b[%dG漢字" % draw.randint(width - 2, width)]
-    return (text + draw.choice(last)).encode()
-
-
-def streams(options):
-    """The streams of a size, each with its name."""
+def inputs(options, pane, width, height):
+    """The streams, each with its name and whether the two must agree on it."""
     for path in options.recordings:
         with open(path, "rb") as recording:
-            yield path, recording.read()
-    for seed in [] if options.recordings else range(options.seed, options.seed + options.count):
-        data = stream(random.Random(seed), 20, 6, options.xterm)
-        yield "stream %d, %r" % (seed, data), data
+            yield path, recording.read(), True
+    if not options.recordings:
+        for words, smallest, *_ in pane.differences:
+            yield "%s, %r" % (words, smallest), smallest.encode(), False
+        for seed in range(options.seed, options.seed + options.count):
+            data = pane.stream(random.Random(seed), width, height).encode()
+            yield "stream %d, %r" % (seed, data), data, True
 
 
 def main():
@@ -222,22 +190,22 @@ def main():
     reader.add_argument("--count", type=int, default=500)
     reader.add_argument("--seed", type=int, default=1)
     reader.add_argument("--program", default=os.path.join(ROOT, "crates", "ansi2screen", "out", "ansi2screen"))
-    reader.add_argument("--xterm", action="store_true")
-    reader.add_argument("--peer")
+    reader.add_argument("--xterm", dest="kind", action="store_const", const=Xterm, default=Pane)
+    reader.add_argument("--libvterm", dest="kind", action="store_const", const=Libvterm)
     reader.add_argument("--size", default="80x24")
     reader.add_argument("recordings", nargs="*")
     options = reader.parse_args()
     width, height = map(int, options.size.split("x")) if options.recordings else (20, 6)
     agree = differ = 0
     with tempfile.TemporaryDirectory() as folder:
-        kind = Xterm if options.xterm else Pane
-        pane = Peer(options.peer, width, height) if options.peer else kind(folder, width, height)
-        for name, data in streams(options):
+        pane = options.kind(folder, width, height)
+        for name, data, must_agree in inputs(options, pane, width, height):
             theirs = text_of(pane.shown(data), pane.letters)
             run = subprocess.run([options.program, "--size=%dx%d" % (width, height)], input=data, capture_output=True)
             ours = text_of(run.stdout.decode(), pane.letters)
-            agree, differ = agree + (ours == theirs), differ + (ours != theirs)
-            if ours != theirs:
+            fits = must_agree == (ours == theirs)
+            agree, differ = agree + (fits and must_agree), differ + (not fits)
+            if not fits:
                 print("%s\n    peer %r\n    ours %r" % (name, theirs, ours))
         pane.end()
     print("%d agree, %d differ" % (agree, differ))

@@ -1,0 +1,93 @@
+"""Generated streams, for each of the terminals that tests/screen/compare.py asks.
+
+    tmux(draw, width, height)       operations on which tmux agrees, of those of tests/screen/twin.py
+    xterm(draw, width, height)      the same for xterm, in whatever state they come to
+    libvterm(draw, width, height)   every operation, but where vterm_differences.py has a row for libvterm
+
+`draw` is a random.Random. tests/screen/compare.py says what is left out for tmux and xterm.
+"""
+
+from string import ascii_lowercase
+
+from vterm_differences import agreed
+
+
+def tmux_piece(draw, width, height):
+    """A piece of a stream for tmux. Controls and edits come behind a move, so that no wrap is pending."""
+    kind, some = draw.random(), str(draw.randint(0, 9))
+    move = "\x1b[%d;%dH" % (draw.randint(1, height), draw.randint(1, width - 2))
+    if kind < 0.35:
+        words = ["a", "xyz", "lqk", "e\u0301", "o\u0302\u0323", " ", "word", "\x1b[%sb" % some]
+        return "".join(draw.choice(words) for _ in range(draw.randint(1, 5)))
+    if kind < 0.5:
+        return draw.choice(["\r", "\r\n", "\r\n", "\x0e", "\x0f", "\x1b(0", "\x1b(B", "\x1b)0", "\x1b)B"])
+    if kind < 0.7:
+        return move + draw.choice(["\x1b[@", *("\x1b[" + some + final for final in "PXKJABCDEFGdZST`")])
+    if kind < 0.8:
+        return move + draw.choice(["\n", "x\b", "\t", "\x1bD", "\x1bE", "\x1bM", "\x1bH", "\x1b[g", "\x1b7", "\x1b8"])
+    if kind < 0.9:
+        top = draw.randint(1, height - 1)
+        region = "\x1b[%d;%dr\x1b[H" % (top, draw.randint(top + 1, height))
+        return region + draw.choice(["", "\x1b[%sL\r" % some if top == 1 else ""])
+    return move + draw.choice(["\x1b[4hx\x1b[4l", "\x1b[?6h", "\x1b[?6l", "\x1b[r", "\x1b[H"])
+
+
+def xterm_piece(draw, width, height, has_origin, has_wide):
+    """A piece of a stream for xterm, in whatever state."""
+    kind, some = draw.random(), str(draw.randint(1, 9))
+    move = "\x1b[%d;%dH" % (draw.randint(1, height), draw.randint(1, width))
+    if kind < 0.35:
+        wide = "\x1b[%dG" % draw.randint(1, width - 3) + draw.choice(["漢字", "한"])
+        words = ["a", "xyz", "lqk", wide if has_wide else "b", "ﾊ", " ", "word", "\xad", "\x7f", "0123456789" * 2]
+        return "".join(draw.choice(words) for _ in range(draw.randint(1, 5)))
+    if kind < 0.5:
+        return draw.choice([*"\r\n\b\t\v\f\a\x0e\x0f", "\r\n", "\x1b(0", "\x1b(B", "\x1b)0", "\x1b)B"])
+    if kind < 0.75:
+        final = draw.choice("ABCDEFGHIJKLMSTX`adfg" + ("" if has_wide else "@P"))
+        numbers = {"J": ["", "1", "2", some], "K": ["", "1", "2", some], "S": ["", "1"], "T": ["", "1"]}
+        return "\x1b[%s%s" % (draw.choice(numbers.get(final, ["", some, some])), final)
+    if kind < 0.85:
+        origin = ["\x1b[?6h", "\x1b[?6l"] if has_origin else ["\x1b7", "\x1b8"]
+        insert = [] if has_wide else ["\x1b[4h", "\x1b[4l"]
+        return draw.choice(["\x1bD", "\x1bE", "\x1bM", "\x1bH", "\x1b[?7h", "\x1b[?7l", *origin, *insert])
+    if kind < 0.9:
+        return "\x1b[%d;%dr" % (draw.randint(0, height), draw.randint(0, height + 1))
+    alternate = "" if has_origin else "\x1b[?1049h漢xyz\x1b[J\x1b[?1049l"
+    again = "\r%s\x1b[%sb" % ("漢" if has_wide else "a", some)
+    return move + draw.choice(["\x1b[%sZ" % some, again, "\x1b[3g", "\x1b[!p", alternate])
+
+
+def every_piece(draw, width, height):
+    """A piece of a stream for libvterm: one as for xterm, often at a pending wrap, or of what else there is."""
+    some, is_full = str(draw.randint(0, 12)), draw.random() < 0.2
+    if draw.random() < 0.7:
+        full = "\x1b[%dGx" % width if is_full else ""
+        return full + xterm_piece(draw, width, height, draw.random() < 0.5, draw.random() < 0.5)
+    words = ["e\u0301", "o\u0302\u0323\u0301", "\u0301", "\u200d", "漢\u0301", "😀", "l_q", "\x85", "xyz#%s" % some]
+    text = "".join(draw.choice(words) for _ in range(draw.randint(1, 3)))
+    late = "\x1b[%dG" % draw.randint(width - 2, width) + draw.choice(["", "\x1b(0"]) + text
+    moves = ["\x1b[%s;%sf" % (some, some), "\x1b[;%sH" % some, "\x1b[65535" + draw.choice("ABCDEFGHILMPSTXZ@`ad")]
+    repeated = ["\x1b[b", "a\x1b[%sb" % some, "\x1b[65535b", "漢\x1b[%sb" % some]
+    modes = ["\x1b[?6;7h", "\x1b[?7;6l", "\x1b[4;5h", "\x1b[?25l", "\x1b[7h", "\x1b[?6h\x1b7"]
+    saved = ["\x1b7", "\x1b8", "\x1b[?1049h", "\x1b[?1049l", "\x1bc"]
+    unknown = ["\x1b[?5J", "\x1b[2$X", "\x1b[31;44m", "\x1b]0;t\x07", "\x1b=", "\x1b(A", "\x1b*0", "\x1b[%sy" % some]
+    return draw.choice([text, late, *map(draw.choice, (moves, repeated, modes, saved, saved, unknown))])
+
+
+def tmux(draw, width, height):
+    return "".join(tmux_piece(draw, width, height) for _ in range(draw.randint(2, 20)))
+
+
+def xterm(draw, width, height):
+    has = draw.random() < 0.5, draw.random() < 0.5
+    text = "".join(xterm_piece(draw, width, height, *has) for _ in range(draw.randint(2, 20)))
+    return text + draw.choice(["", "", "\x1b[4l\x1b[?7h\x1b[%dG漢字" % draw.randint(width - 2, width)])
+
+
+def libvterm(draw, width, height):
+    """Rows of letters, so that an edit shows; operations; and two characters, which show where the cursor is,
+    and whether a wrap is pending."""
+    rows = ["".join(draw.sample(ascii_lowercase, draw.choice([0, 5, width]))) for _ in range(height)]
+    moved = "\r\n".join(rows) + "\x1b[%d;%dH" % (draw.randint(1, height), draw.randint(1, width))
+    text = "".join(every_piece(draw, width, height) for _ in range(draw.randint(1, 12)))
+    return agreed(moved + text + draw.choice(["", "\x1b[4l\x1b[?7h"]) + "+-", width, height)

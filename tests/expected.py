@@ -368,6 +368,15 @@ def span(style, text=b"x"):
     return b'<span style="%s">%s</span>' % (style, text)
 
 
+def link(href, style=b"", text=b"x"):
+    return b'<a rel="nofollow noreferrer" href="%s" style="color:inherit;%s">%s</a>' % (href, style, text)
+
+
+def linked(uri, text=b"x", params=b""):
+    """A text with a link, as egmontkob's "Hyperlinks in terminal emulators" says: OSC 8 ; params ; URI ST."""
+    return b"\x1b]8;%s;%s\x1b\\%s\x1b]8;;\x1b\\" % (params, uri, text)
+
+
 BOTH, LIGHT, DARK = "both", "light", "dark"
 
 
@@ -415,6 +424,38 @@ def html_rows(scheme):
         ("controls", b"a\x00\x07\x08\x0bb", b"ab"),
         ("a script in a title", b"\x1b]0;<script>alert(1)</script>\x07x", b"x"),
         ("a script in a link", b"\x1b]8;;javascript:alert(1)\x1b\\link\x1b]8;;\x1b\\", b"link"),
+        ("a link", linked(b"https://a.b/c?d=1&e") + b"y", link(b"https://a.b/c?d=1&amp;e") + b"y"),
+        ("a link to a mailbox, with an id", linked(b"mailto:a@b", params=b"id=1"), link(b"mailto:a@b")),
+        ("a link that a bell ends", b"\x1b]8;;http://a\x07x\x1b]8;;\x07y", link(b"http://a") + b"y"),
+        ("a link to the end", b"\x1b]8;;http://a\x07x", link(b"http://a")),
+        ("quotes in a link", linked(b"https://a/\"><b>'"), link(b"https://a/&quot;&gt;&lt;b&gt;&#39;")),
+        ("separators in a link", linked(b"https://a/;b;;c"), link(b"https://a/;b;;c")),
+        ("a link to data", linked(b"data:text/html,x"), b"x"),
+        ("a link in large letters", linked(b"HTTPS://a"), b"x"),
+        ("a link without its colon", linked(b"mailto"), b"x"),
+        ("a space in a link", linked(b"https://a b"), b"x"),
+        ("DEL in a link", linked(b"https://a\x7f"), b"x"),
+        ("a character in a link", linked(b"https://\xc3\xa4"), b"x"),
+        # (with the 8 a command has 1,024 bytes, of which the last may have been followed by more)
+        ("a link of 1,022 bytes", linked(b"https://" + b"a" * 1014), link(b"https://" + b"a" * 1014)),
+        ("a link of 1,023 bytes", linked(b"https://" + b"a" * 1015), b"x"),
+        ("a link of 15 parts", linked(b"https://" + b";" * 12), link(b"https://" + b";" * 12)),
+        ("a link of 16 parts", linked(b"https://" + b";" * 13), b"x"),
+        ("a link that another one ends", b"\x1b]8;;http://a\x07x\x1b]8;;file:///\x07y", link(b"http://a") + b"y"),
+        (
+            "a link in a style",
+            b"\x1b[1m" + linked(b"http://a") + b"y",
+            link(b"http://a", b"font-weight:bold;") + span(b"font-weight:bold;", b"y"),
+        ),
+        (
+            "a link of two styles",
+            linked(b"http://a", b"x\x1b[31my"),
+            link(b"http://a") + link(b"http://a", shades(b"#cf222e", b"#ff7b72"), b"y"),
+        ),
+        ("the same link twice", linked(b"http://a") + linked(b"http://a", b"y"), link(b"http://a", b"", b"xy")),
+        ("links of no text", b"\x1b]8;;http://a\x07\x1b]8;;\x07" + linked(b"http://b", b"\x1b[1m"), b""),
+        ("a title in a link", linked(b"http://a", b"x\x1b]0;t\x07y"), link(b"http://a", b"", b"xy")),
+        ("a carriage return in a link", linked(b"http://a", b"a\rb"), link(b"http://a", b"", b"a&#13;<br>b")),
         ("markup in strings", b"\x1bPq<b>\x1b\\\x1b_<b>\x9c\x1b[2J\x1b[?25lx", b"x"),
         ("bold, and no more", b"\x1b[1mb\x1b[m.", span(b"font-weight:bold;", b"b") + b"."),
         ("bold to the end", b"\x1b[1mb", span(b"font-weight:bold;", b"b")),

@@ -1,6 +1,7 @@
 """Reads the HTML that a program writes with Python's own reader, which knows nothing of ours."""
 
 import html.parser
+import re
 
 # What a program of colours writes, and what a stranger may put into a log. In the last ones a
 # reference, a tag or a character is cut, or stands where it is no text.
@@ -16,6 +17,7 @@ STREAMS = {
     "markup in colours": b"\x1b[31m<\x1b[32mscript\x1b[33m>\x1b[0m&\x1b[1mlt;",
     "a title with a script": b"\x1b]0;<script>alert(1)</script>\x07\x1b]2;</pre>\x1b\\text",
     "a link with a script": b"\x1b]8;;javascript:alert(1)\x1b\\press\x1b]8;;\x1b\\",
+    "a link": b"\x1b]8;id=1;https://a.org/?a=1&b='2'\x07it\x1b[31mtoo\x1b]8;;\x07 \x1b]8;;mailto:a@b\x1b\\\x1b[mme",
     "a link with markup": b"\x1b]8;;\"><b>\x07it\x1b]8;;\x07 \x1b]8;<i>;' x='\x07too\x1b]8;;\x07",
     "a device control string": b"\x1bPq<script>\x1b\\\x1b_<b>\x1b\\\x1b^<i>\x1b\\\x1bX<u>\x1b\\end",
     "broken characters": b"\xc3<\xe2\x82<b>\xf0\x9f\x98\x1b[31m\xed\xa0\x80\xff\xe0\x80\xbcx",
@@ -29,7 +31,7 @@ STREAMS = {
     "a newline first": b"\n\nafter",
     "nothing": b"",
 }
-# A page as a whole may have these elements besides spans; a fragment has none.
+# A page as a whole may have these elements besides spans and links; a fragment has none.
 OF_A_PAGE = ["html", "head", "meta", "title", "style", "body", "pre"]
 # What a page says of itself beside its language: its charset, that a phone draws it at the phone's width, that it is
 # light or dark as its reader has it, and that long lines are wrapped.
@@ -39,6 +41,8 @@ STYLE = {
     "pre": {"white-space": "pre-wrap", "overflow-wrap": "anywhere"},
 }
 WITH_NO_END = ["meta"]
+# What a link leads to: one of three schemes, and ASCII without controls and the space.
+HREF = re.compile(r"(?:https?://|mailto:)[\x21-\x7e]*")
 
 
 class Reader(html.parser.HTMLParser):
@@ -49,6 +53,7 @@ class Reader(html.parser.HTMLParser):
         self.is_page, self.open, self.text, self.faults = is_page, [], "", []
         self.declared, self.language, self.metas, self.style, self.title = [], [], [], "", ""
         self.lines = ""  # the text as its lines are drawn: 0A at each line break, and no 0D
+        self.link, self.links = "", []  # what each character of the text leads to
 
     def handle_starttag(self, tag, attributes):
         if tag == "br":
@@ -56,11 +61,12 @@ class Reader(html.parser.HTMLParser):
             if attributes or self.text[-1:] != "\r":
                 self.faults.append("a line break with %s behind %r" % (attributes, self.text[-1:]))
             return
-        if tag == "span":
-            if "span" in self.open:
-                self.faults.append("a span stands in a span")
-            if [name for name, _ in attributes] != ["style"]:
-                self.faults.append("a span has the attributes %s" % attributes)
+        if tag in ("span", "a"):
+            if "span" in self.open or "a" in self.open:
+                self.faults.append("an element %s stands in %s" % (tag, self.open))
+            if not is_of(tag, attributes):
+                self.faults.append("an element %s has the attributes %s" % (tag, attributes))
+            self.link = dict(attributes).get("href", "")
         elif not self.is_page or tag not in OF_A_PAGE or "pre" in self.open:
             self.faults.append("an element %s" % tag)
         elif tag == "meta":
@@ -77,10 +83,12 @@ class Reader(html.parser.HTMLParser):
             self.faults.append("%s is ended, with %s open" % (tag, self.open))
         else:
             self.open.pop()
+            self.link = ""
 
     def handle_data(self, data):
         if not self.is_page or "pre" in self.open:
             self.text += data
+            self.links += [self.link] * len(data)
             self.lines += data.replace("\r", "")
         elif "style" in self.open:
             self.style += data
@@ -96,13 +104,22 @@ class Reader(html.parser.HTMLParser):
         self.faults.append("a comment %r" % data)
 
 
+def is_of(tag, attributes):
+    """Whether a span, or a link, has these attributes: a link's colour is that of the text around it, or its own."""
+    if tag == "span":
+        return [name for name, _ in attributes] == ["style"]
+    names, values = zip(*attributes)
+    is_link = names == ("rel", "href", "style") and values[0] == "nofollow noreferrer"
+    return is_link and HREF.fullmatch(values[1]) is not None and values[2].startswith("color:inherit;")
+
+
 def normalized(text):
     """Newlines as a browser reads them: the HTML standard, 13.2.3.5."""
     return text.replace("\r\n", "\n").replace("\r", "\n")
 
 
-def differs(written, stripped, is_page):
-    """Says how this HTML is not that of the stripped text, or answers None."""
+def differs(written, stripped, is_page, links=None):
+    """Says how this HTML is not that of the stripped text, with these links, or answers None."""
     reader = Reader(is_page)
     try:
         reader.feed(normalized(written.decode()))
@@ -117,6 +134,8 @@ def differs(written, stripped, is_page):
     for what, found, wanted in (("text is", reader.text, text), ("lines are", reader.lines, lines)):
         if found[begin:] != wanted:
             return "its %s %r, and not %r" % (what, found[begin:], wanted)
+    if links is not None and reader.links[begin:] != links:
+        return "its links are %r, and not %r" % (reader.links[begin:], links)
     if reader.open:
         return "it leaves %s open" % ", ".join(reader.open)
     if reader.faults:

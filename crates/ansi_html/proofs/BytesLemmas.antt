@@ -11,12 +11,11 @@ use Rattle.anstyle_parse.proofs.Written.Output.{Adds-nil, Adds-append}
 use Rattle.anstyle_parse.proofs.Characters.Encoding.{encode_one}
 use Rattle.anstyle_parse.proofs.Characters.Layout.{layout-low, layout_call-layout, layout_call-other}
 use Rattle.anstyle_parse.proofs.Characters.Scalars.{length-encode-some}
-use Rattle.ansi_style.specs.declared.style.Style.{Style}
 use Rattle.ansi_html.specs.declared.performer.HtmlWriter.{HtmlWriter}
 use Rattle.ansi_html.specs.declared.scheme.Scheme.{Scheme}
 use Rattle.ansi_html.specs.Grammar.{AreClear}
-use Rattle.ansi_html.specs.Html.{escaped, escaped_text, Standing, beginning, call_html, standing_after, html_from, standing_at_end}
-use Rattle.ansi_html.specs.Writer.{output_of, scheme_of, standing_of, in_style, bytes_html, standing_after_bytes, TakesBytes, TakesAll}
+use Rattle.ansi_html.specs.Html.{escaped, escaped_text, Element, Standing, beginning, call_html, standing_after, html_from, standing_at_end}
+use Rattle.ansi_html.specs.Writer.{output_of, scheme_of, standing_of, in_element, bytes_html, standing_after_bytes, TakesBytes, TakesAll}
 use Rattle.ansi_html.proofs.HtmlLemmas.{AreHigh, AreHigh-encode, AreClear-high, escaped-clear, escaped_text-clear, not_return-clear, call_html-print, standing_after-print, call_html-layout, standing_after-layout, change-same}
 
 -- two texts, one after another
@@ -25,14 +24,14 @@ bytes_html-append : (scheme : Scheme) (front back : List ℕ) (at : Standing)
 bytes_html-append scheme [] back at = refl
 bytes_html-append scheme (b ∷ front) back at =
     let text = beginning scheme at (eqb b 0x0A) ++ escaped b in
-    let after = in_style at.selected (eqb b 0x0D) in
+    let after = in_element at.selected (eqb b 0x0D) in
     ap (λ l. text ++ l) (bytes_html-append scheme front back after)
     ∙ sym (append_assoc text (bytes_html scheme after front) (bytes_html scheme (standing_after_bytes after front) back))
 
 standing_after_bytes-append : (front back : List ℕ) (at : Standing)
     → standing_after_bytes at (front ++ back) ≡ standing_after_bytes (standing_after_bytes at front) back
 standing_after_bytes-append [] back at = refl
-standing_after_bytes-append (b ∷ front) back at = standing_after_bytes-append front back (in_style at.selected (eqb b 0x0D))
+standing_after_bytes-append (b ∷ front) back at = standing_after_bytes-append front back (in_element at.selected (eqb b 0x0D))
 
 module _ {W : Type 0} (sink : SinkOf W) where
   pub TakesBytes-none : (performer : HtmlWriter W) → TakesBytes sink performer [] performer
@@ -51,32 +50,32 @@ module _ {W : Type 0} (sink : SinkOf W) where
             (Adds-append sink (bytes_html scheme at front) (bytes_html (scheme_of middle) (standing_of middle) back) (output_of old) (output_of middle) (output_of new) first.added second.added);
       }
 
--- bytes with no meaning in HTML, behind text of their style
-module _ (scheme : Scheme) (style : Style) where
-  bytes_html-same : (bytes : List ℕ) → AreClear bytes → bytes_html scheme (in_style style false) bytes ≡ bytes
+-- bytes with no meaning in HTML, behind text of their element
+module _ (scheme : Scheme) (it : Element) where
+  bytes_html-same : (bytes : List ℕ) → AreClear bytes → bytes_html scheme (in_element it false) bytes ≡ bytes
   bytes_html-same [] clear = refl
   bytes_html-same (b ∷ bytes) clear =
-      ap₂ (λ text after. text ++ bytes_html scheme (in_style style after) bytes)
-      (ap₂ (λ changed text. (changed ++ []) ++ text) (change-same scheme style) (escaped-clear b clear.0)) (not_return-clear b clear.0)
+      ap₂ (λ text after. text ++ bytes_html scheme (in_element it after) bytes)
+      (ap₂ (λ changed text. (changed ++ []) ++ text) (change-same scheme it) (escaped-clear b clear.0)) (not_return-clear b clear.0)
       ∙ ap (λ l. b ∷ l) (bytes_html-same bytes clear.1)
 
-  standing_after_bytes-same : (bytes : List ℕ) → AreClear bytes → standing_after_bytes (in_style style false) bytes ≡ in_style style false
+  standing_after_bytes-same : (bytes : List ℕ) → AreClear bytes → standing_after_bytes (in_element it false) bytes ≡ in_element it false
   standing_after_bytes-same [] clear = refl
   standing_after_bytes-same (b ∷ bytes) clear =
-      ap (λ after. standing_after_bytes (in_style style after) bytes) (not_return-clear b clear.0) ∙ standing_after_bytes-same bytes clear.1
+      ap (λ after. standing_after_bytes (in_element it after) bytes) (not_return-clear b clear.0) ∙ standing_after_bytes-same bytes clear.1
 
 -- bytes with no meaning in HTML
 module _ (scheme : Scheme) (at : Standing) (b : ℕ) (bytes : List ℕ) (clear : AreClear (b ∷ bytes)) where
   pub bytes_html-clear : bytes_html scheme at (b ∷ bytes) ≡ beginning scheme at (eqb b 0x0A) ++ (b ∷ bytes)
   bytes_html-clear =
-      ap₂ (λ text after. (beginning scheme at (eqb b 0x0A) ++ text) ++ bytes_html scheme (in_style at.selected after) bytes)
+      ap₂ (λ text after. (beginning scheme at (eqb b 0x0A) ++ text) ++ bytes_html scheme (in_element at.selected after) bytes)
       (escaped-clear b clear.0) (not_return-clear b clear.0)
       ∙ ap (λ l. (beginning scheme at (eqb b 0x0A) ++ b ∷ []) ++ l) (bytes_html-same scheme at.selected bytes clear.1)
       ∙ append_assoc (beginning scheme at (eqb b 0x0A)) (b ∷ []) bytes
 
-  pub standing_after_bytes-clear : standing_after_bytes at (b ∷ bytes) ≡ in_style at.selected false
+  pub standing_after_bytes-clear : standing_after_bytes at (b ∷ bytes) ≡ in_element at.selected false
   standing_after_bytes-clear =
-      ap (λ after. standing_after_bytes (in_style at.selected after) bytes) (not_return-clear b clear.0) ∙ standing_after_bytes-same scheme at.selected bytes clear.1
+      ap (λ after. standing_after_bytes (in_element at.selected after) bytes) (not_return-clear b clear.0) ∙ standing_after_bytes-same scheme at.selected bytes clear.1
 
 -- a character, as its call and as its bytes
 module _ (scheme : Scheme) (at : Standing) where
@@ -110,7 +109,7 @@ module _ (scheme : Scheme) (at : Standing) where
             ∙ sym (append_assoc (beginning scheme at false) (escaped c) [])
             ∙ ap (λ is. (beginning scheme at is ++ escaped c) ++ []) (sym (or_parts (eqb c 0x09) (eqb c 0x0A) parts.0).1),
         ap (λ call. standing_after call at) (layout_call-other c other) ∙ standing_after-print scheme at c
-            ∙ ap (in_style at.selected) (sym parts.1),
+            ∙ ap (in_element at.selected) (sym parts.1),
       )
 
   same : (c : ℕ) → Same c (encode_utf8 c)

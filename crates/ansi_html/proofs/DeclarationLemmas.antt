@@ -1,4 +1,4 @@
--- A style's declarations stand in the grammar, and so hold no quote and only ASCII.
+-- A style's declarations stand in the grammar, and so hold no quote, no reference and only ASCII.
 use Rattle.std.proofs.Common.{◌≡◌, ◌<◌, ◌≤◌, ℕ, ◌+◌, ◌%◌, ◌/◌, Bool, true, false, ◌&&◌, eqb, List, [], ◌∷◌, ◌++◌, codes, refl, sym, ap, subst, append_assoc, append-nil, arith}
 use Rattle.std.specs.Prelude.{not, nat_lt, nat_le, if◌then◌else◌}
 use Rattle.std.specs.List.{list_all}
@@ -13,6 +13,8 @@ use Rattle.ansi_html.specs.Contrast.{black, white}
 use Rattle.ansi_html.specs.Palette.{hex_digit, hex_byte, hex}
 use Rattle.ansi_html.specs.Css.{declared, light_dark, themed, colors_css, text_if, is_underlined, lines_css, underline_css, others_css, css}
 use Rattle.ansi_html.specs.Grammar.{AreReadable, of_page, on_page, on_reversed, on_color, AreColors, readable, chosen, AreLines, no_line, underline, overline, line_through, blink, IsDeclaration, bold, italic, hidden, lines, double, wavy, dotted, dashed, AreDeclarations, no_declaration, declaration}
+use Rattle.ansi_html.specs.Links.{is_none}
+use Rattle.ansi_html.specs.Html.{Element, element_css}
 use Rattle.ansi_html.proofs.ColorLemmas.{choose, AreColors-css}
 use Rattle.ansi_html.proofs.HtmlLemmas.{false-from_not}
 
@@ -58,7 +60,7 @@ AreDeclarations-others style =
 
 -- a byte that may stand in an attribute
 pub is_safe : ℕ → Bool
-is_safe b = nat_le 0x20 b && (nat_lt b 0x80 && not (eqb b 0x22))
+is_safe b = nat_le 0x20 b && (nat_lt b 0x80 && (not (eqb b 0x22) && not (eqb b 0x26)))
 
 abbrev pub AreSafe : List ℕ → Type 0
 AreSafe bytes = list_all is_safe bytes ≡ true
@@ -69,11 +71,12 @@ AreSafe-append (x ∷ first) second a b =
     let parts = and_parts (is_safe x) (list_all is_safe first) a in
     and_from (is_safe x) (list_all is_safe (first ++ second)) parts.0 (AreSafe-append first second parts.1 b)
 
-safe_between : (b : ℕ) → 0x23 ≤ b → b < 0x80 → is_safe b ≡ true
+safe_between : (b : ℕ) → 0x27 ≤ b → b < 0x80 → is_safe b ≡ true
 unfolding is_safe
 safe_between b low high =
-    and_from (nat_le 0x20 b) (nat_lt b 0x80 && not (eqb b 0x22)) (le-leb 0x20 b (omega (arith, low)))
-    (and_from (nat_lt b 0x80) (not (eqb b 0x22)) (lt-ltb b 0x80 high) (ap not (ne_eqb b 0x22 (λ e. omega arith))))
+    and_from (nat_le 0x20 b) (nat_lt b 0x80 && (not (eqb b 0x22) && not (eqb b 0x26))) (le-leb 0x20 b (omega (arith, low)))
+    (and_from (nat_lt b 0x80) (not (eqb b 0x22) && not (eqb b 0x26)) (lt-ltb b 0x80 high)
+    (and_from (not (eqb b 0x22)) (not (eqb b 0x26)) (ap not (ne_eqb b 0x22 (λ e. omega arith))) (ap not (ne_eqb b 0x26 (λ e. omega arith)))))
 
 safe_digit : (n : ℕ) → is_safe (hex_digit n) ≡ true
 safe_digit n = by_case (nat_lt (n % 16) 10)
@@ -158,15 +161,25 @@ pub AreSafe-css : (scheme : Scheme) (style : Style) → AreSafe (css scheme styl
 AreSafe-css scheme style =
     AreSafe-append (colors_css scheme style) (others_css style) (AreSafe-colors scheme (AreColors-css scheme style)) (AreSafe-declarations (AreDeclarations-others style))
 
-safe_parts : (b : ℕ) → is_safe b ≡ true → (0x20 ≤ b) × ((b < 0x80) × (eqb b 0x22 ≡ false))
+pub AreSafe-element_css : (scheme : Scheme) (element : Element) → AreSafe (element_css scheme element)
+unfolding is_safe
+AreSafe-element_css scheme element =
+    choose AreSafe (is_none element.link) (css scheme element.style) (codes "color:inherit;" ++ css scheme element.style)
+    (AreSafe-css scheme element.style) (AreSafe-append (codes "color:inherit;") (css scheme element.style) refl (AreSafe-css scheme element.style))
+
+safe_parts : (b : ℕ) → is_safe b ≡ true → (0x20 ≤ b) × ((b < 0x80) × ((eqb b 0x22 ≡ false) × (eqb b 0x26 ≡ false)))
 unfolding is_safe
 safe_parts b safe =
-    let parts = and_parts (nat_le 0x20 b) (nat_lt b 0x80 && not (eqb b 0x22)) safe in
-    let more = and_parts (nat_lt b 0x80) (not (eqb b 0x22)) parts.1 in
-    (leb-true 0x20 b parts.0, (ltb-true b 0x80 more.0, false-from_not (eqb b 0x22) more.1))
+    let parts = and_parts (nat_le 0x20 b) (nat_lt b 0x80 && (not (eqb b 0x22) && not (eqb b 0x26))) safe in
+    let more = and_parts (nat_lt b 0x80) (not (eqb b 0x22) && not (eqb b 0x26)) parts.1 in
+    let others = and_parts (not (eqb b 0x22)) (not (eqb b 0x26)) more.1 in
+    (leb-true 0x20 b parts.0, (ltb-true b 0x80 more.0, (false-from_not (eqb b 0x22) others.0, false-from_not (eqb b 0x26) others.1)))
 
 pub not_quote-safe : (b : ℕ) → is_safe b ≡ true → eqb b 0x22 ≡ false
-not_quote-safe b safe = (safe_parts b safe).1.1
+not_quote-safe b safe = (safe_parts b safe).1.1.0
+
+pub not_ampersand-safe : (b : ℕ) → is_safe b ≡ true → eqb b 0x26 ≡ false
+not_ampersand-safe b safe = (safe_parts b safe).1.1.1
 
 pub ascii-safe : (b : ℕ) → is_safe b ≡ true → b < 0x80
 ascii-safe b safe = (safe_parts b safe).1.0

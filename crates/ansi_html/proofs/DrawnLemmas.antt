@@ -9,9 +9,8 @@ use Rattle.std.specs.Prelude.{encode_utf8}
 use Rattle.ansi_strip.specs.Strip.{is_layout, stripped_call, stripped}
 use Rattle.ansi_strip.proofs.Showable.{IsShowable, AreShowable}
 use Rattle.ansi_html.specs.declared.scheme.Scheme.{Scheme}
-use Rattle.ansi_html.specs.Css.{css}
 use Rattle.ansi_html.specs.Html.{Standing, at_start, after_text, is_executed, standing_after, html}
-use Rattle.ansi_html.specs.Reader.{normalized_from, normalized, text, break, drawn_of, drawn, ends_returned, ends_in_return}
+use Rattle.ansi_html.specs.Reader.{Attributes, attributes_of, normalized_from, normalized, text, break, drawn_of, drawn, ends_returned, ends_in_return}
 use Rattle.ansi_html.proofs.LawfulText.{ArePrinted, ArePrinted-encode}
 use Rattle.ansi_html.proofs.ReadLemmas.{seen_text, seen_calls, seen-html}
 
@@ -43,10 +42,10 @@ normalized-drawn_text returned (b ∷ bytes) = by_case returned (eqb b 0x0D) (eq
     by_case true false false e f behind other = ap (λ l. 0x0A ∷ b ∷ l) other
 
 -- bytes that are no controls stay
-drawn-printed : (attribute bytes : List ℕ) → ArePrinted bytes → flat_map drawn_of (map (text attribute) bytes) ≡ bytes
-drawn-printed attribute [] printed = refl
-drawn-printed attribute (b ∷ bytes) printed =
-    ap₂ (λ (is : Bool) l. (if is then [] else b ∷ []) ++ l) (ne_eqb b 0x0D (λ e. omega (arith, printed.0))) (drawn-printed attribute bytes printed.1)
+drawn-printed : (attributes : Attributes) (bytes : List ℕ) → ArePrinted bytes → flat_map drawn_of (map (text attributes) bytes) ≡ bytes
+drawn-printed attributes [] printed = refl
+drawn-printed attributes (b ∷ bytes) printed =
+    ap₂ (λ (is : Bool) l. (if is then [] else b ∷ []) ++ l) (ne_eqb b 0x0D (λ e. omega (arith, printed.0))) (drawn-printed attributes bytes printed.1)
 
 drawn_text-printed : (bytes rest : List ℕ) → ArePrinted bytes → drawn_text false (bytes ++ rest) ≡ bytes ++ drawn_text false rest
 unfolding drawn_text line_feed_if
@@ -61,7 +60,6 @@ module _ (scheme : Scheme) (at : Standing) where
   unfolding drawn_text line_feed_if
   drawn-text [] rest printed = refl
   drawn-text (b ∷ bytes) rest printed =
-      let attribute = css scheme at.selected in
       let no_feed = ne_eqb b 0x0A (λ e. omega (arith, printed.0)) in
       let no_return = ne_eqb b 0x0D (λ e. omega (arith, printed.0)) in
       by_case at.returned
@@ -69,10 +67,10 @@ module _ (scheme : Scheme) (at : Standing) where
       ∙ sym (ap₂ (λ (feed is : Bool). (if at.returned && not feed then 0x0A ∷ [] else []) ++ ((if is then [] else b ∷ []) ++ drawn_text is (bytes ++ rest))) no_feed no_return)
     where
       by_case : (returned : Bool)
-          → flat_map drawn_of ((if returned && true then break ∷ [] else []) ++ map (text (css scheme at.selected)) (b ∷ bytes)) ++ drawn_text false rest
+          → flat_map drawn_of ((if returned && true then break ∷ [] else []) ++ map (text (attributes_of scheme at.selected)) (b ∷ bytes)) ++ drawn_text false rest
           ≡ (if returned && true then 0x0A ∷ [] else []) ++ ((b ∷ bytes) ++ drawn_text false rest)
-      by_case true = ap (λ l. 0x0A ∷ (l ++ drawn_text false rest)) (drawn-printed (css scheme at.selected) (b ∷ bytes) printed)
-      by_case false = ap (λ l. l ++ drawn_text false rest) (drawn-printed (css scheme at.selected) (b ∷ bytes) printed)
+      by_case true = ap (λ l. 0x0A ∷ (l ++ drawn_text false rest)) (drawn-printed (attributes_of scheme at.selected) (b ∷ bytes) printed)
+      by_case false = ap (λ l. l ++ drawn_text false rest) (drawn-printed (attributes_of scheme at.selected) (b ∷ bytes) printed)
 
   drawn-executed : (b : ℕ) (rest : List ℕ) (layout : Bool)
       → flat_map drawn_of (seen_text scheme at (eqb b 0x0A) (if layout then b ∷ [] else [])) ++ drawn_text (after_text at.returned (eqb b 0x0D) (if layout then b ∷ [] else [])) rest
@@ -82,7 +80,7 @@ module _ (scheme : Scheme) (at : Standing) where
   drawn-executed b rest true = by_case (at.returned && not (eqb b 0x0A)) (eqb b 0x0D)
     where
       by_case : (wanted is : Bool)
-          → flat_map drawn_of ((if wanted then break ∷ [] else []) ++ (text (css scheme at.selected) b ∷ [])) ++ drawn_text is rest
+          → flat_map drawn_of ((if wanted then break ∷ [] else []) ++ (text (attributes_of scheme at.selected) b ∷ [])) ++ drawn_text is rest
           ≡ (if wanted then 0x0A ∷ [] else []) ++ ((if eqb b 0x0D then [] else b ∷ []) ++ drawn_text is rest)
       by_case true is = ap (λ l. 0x0A ∷ (l ++ drawn_text is rest)) (append-nil (if eqb b 0x0D then [] else b ∷ []))
       by_case false is = ap (λ l. l ++ drawn_text is rest) (append-nil (if eqb b 0x0D then [] else b ∷ []))

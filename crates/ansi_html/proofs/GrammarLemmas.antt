@@ -1,17 +1,19 @@
 -- The HTML stands in the grammar.
-use Rattle.std.proofs.Common.{◌≡◌, ℕ, Bool, true, false, ◌||◌, ◌&&◌, eqb, List, [], ◌∷◌, ◌++◌, codes, refl, sym, ap, ◌∙◌, subst, append_assoc, append-nil, ⊎_elim}
+use Rattle.std.proofs.Common.{◌≡◌, ℕ, Bool, true, false, ◌||◌, ◌&&◌, eqb, List, [], ◌∷◌, ◌++◌, codes, refl, sym, ap, ◌∙◌, subst, append_assoc, append-nil, ⊎_elim, inl, inr}
 use Rattle.std.specs.Prelude.{not, nat_le, if◌then◌else◌}
 use Rattle.std.proofs.lemmas.Bool.{and_from, or_cases, eqb-true}
 use Rattle.anstyle_parse.specs.Stream.Call.{Call}
 use Rattle.ansi_strip.specs.Strip.{stripped_call}
 use Rattle.ansi_style.specs.declared.style.Style.{Style}
-use Rattle.ansi_style.specs.Style.{plain, are_equal}
-use Rattle.ansi_style.proofs.EqualityLemmas.{are_equal-same, are_equal-refl}
+use Rattle.ansi_style.specs.Style.{plain}
+use Rattle.ansi_style.proofs.EqualityLemmas.{are_equal-refl}
 use Rattle.ansi_html.specs.declared.scheme.Scheme.{Scheme}
 use Rattle.ansi_html.specs.Css.{colors_css, others_css, css}
-use Rattle.ansi_html.specs.Grammar.{is_special, is_text_byte, ampersand, less_than, greater_than, quotation_mark, apostrophe, carriage_return, IsText, nothing, byte, reference, line_break as broken, IsFragment, end, text, span}
-use Rattle.ansi_html.specs.Html.{escaped, escaped_text, is_plain, span_begin, span_end, change, Standing, at_start, line_break, after_text, is_executed, text_html, call_html, standing_after, html_from, standing_at_end, html}
-use Rattle.ansi_html.proofs.HtmlLemmas.{escaped-clear, not_return-clear}
+use Rattle.ansi_html.specs.Links.{is_linkable, IsLink, is_none}
+use Rattle.ansi_html.specs.Grammar.{is_special, is_text_byte, ampersand, less_than, greater_than, quotation_mark, apostrophe, carriage_return, IsText, nothing, byte, reference, line_break as broken, IsFragment, end, text, span, link}
+use Rattle.ansi_html.specs.Html.{escaped, escaped_text, is_plain, span_begin, span_end, Element, are_same, link_begin, element_begin, element_end, change, Standing, at_start, line_break, after_text, is_executed, text_html, call_html, standing_after, html_from, standing_at_end, html}
+use Rattle.ansi_html.proofs.HtmlLemmas.{escaped-clear, not_return-clear, are_same-same}
+use Rattle.ansi_html.proofs.SoundLemmas.{IsHref-escaped, AreSound, AreSound-start, AreSound-after}
 use Rattle.ansi_html.proofs.DeclarationLemmas.{AreDeclarations-others}
 use Rattle.ansi_html.proofs.ColorLemmas.{AreColors-css}
 use Rattle.ansi_strip.proofs.Showable.{AreShowable}
@@ -48,98 +50,121 @@ IsText-escaped [] rest are more = more
 IsText-escaped (b ∷ bytes) rest are more =
     subst IsText (sym (append_assoc (escaped b) (escaped_text bytes) rest)) (IsText-byte b (escaped_text bytes ++ rest) are.0 (IsText-escaped bytes rest are.1 more))
 
--- what may follow inside a span: text, the end of the span, and a fragment
-record IsInside (scheme : Scheme) (all : List ℕ) : Type 0 where
-  styled : List ℕ
+-- what may follow inside an element of this end, which is empty where there is none: text, the end,
+-- and a fragment
+record IsInside (scheme : Scheme) (close : List ℕ) (all : List ℕ) : Type 0 where
+  inside : List ℕ
   rest : List ℕ
-  whole : all ≡ styled ++ (codes "</span>" ++ rest)
-  is_text : IsText styled
+  whole : all ≡ inside ++ (close ++ rest)
+  is_text : IsText inside
   fragment : IsFragment scheme rest
 
--- what may follow, by whether the text so far is plain
-GoesOn : (scheme : Scheme) → Bool → List ℕ → Type 0
-GoesOn scheme true all = IsFragment scheme all
-GoesOn scheme false all = IsInside scheme all
-
 -- text, which before any text is text, goes on as what follows it does
-GoesOn-prefix : (scheme : Scheme) → (plain_is : Bool) (bytes rest : List ℕ) → ((more : List ℕ) → IsText more → IsText (bytes ++ more))
-    → GoesOn scheme plain_is rest → GoesOn scheme plain_is (bytes ++ rest)
-unfolding GoesOn
-GoesOn-prefix scheme true bytes rest is more =
-    subst (λ l. IsFragment scheme (l ++ rest)) (append-nil bytes) (text (bytes ++ []) rest (is [] nothing) more)
-GoesOn-prefix scheme false bytes rest is more = record {
-  styled = bytes ++ more.styled;
+IsInside-prefix : (scheme : Scheme) (close bytes rest : List ℕ) → ((more : List ℕ) → IsText more → IsText (bytes ++ more))
+    → IsInside scheme close rest → IsInside scheme close (bytes ++ rest)
+IsInside-prefix scheme close bytes rest is more = record {
+  inside = bytes ++ more.inside;
   rest = more.rest;
-  whole = ap (λ l. bytes ++ l) more.whole ∙ sym (append_assoc bytes more.styled (codes "</span>" ++ more.rest));
-  is_text = is more.styled more.is_text;
+  whole = ap (λ l. bytes ++ l) more.whole ∙ sym (append_assoc bytes more.inside (close ++ more.rest));
+  is_text = is more.inside more.is_text;
   fragment = more.fragment;
 }
 
-GoesOn-text : (scheme : Scheme) → (plain_is : Bool) (bytes rest : List ℕ) → AreTextual bytes → GoesOn scheme plain_is rest → GoesOn scheme plain_is (escaped_text bytes ++ rest)
-GoesOn-text scheme plain_is bytes rest are more = GoesOn-prefix scheme plain_is (escaped_text bytes) rest (λ after is. IsText-escaped bytes after are is) more
+IsInside-text : (scheme : Scheme) (close bytes rest : List ℕ) → AreTextual bytes → IsInside scheme close rest → IsInside scheme close (escaped_text bytes ++ rest)
+IsInside-text scheme close bytes rest are more = IsInside-prefix scheme close (escaped_text bytes) rest (λ after is. IsText-escaped bytes after are is) more
+
+-- outside an element that is a fragment
+IsFragment-plain : (scheme : Scheme) (all : List ℕ) → IsInside scheme [] all → IsFragment scheme all
+IsFragment-plain scheme all within = subst (IsFragment scheme) (sym within.whole) (text within.inside within.rest within.is_text within.fragment)
 
 -- the beginning of a span, and what follows it, is a fragment
-IsFragment-begin : (scheme : Scheme) → (style : Style) (all : List ℕ) → GoesOn scheme (is_plain style) all → IsFragment scheme (span_begin scheme style ++ all)
-unfolding GoesOn
-IsFragment-begin scheme style all more = by_case (is_plain style) more
+IsFragment-span : (scheme : Scheme) (style : Style) (all : List ℕ) → IsInside scheme (span_end style) all → IsFragment scheme (span_begin scheme style ++ all)
+IsFragment-span scheme style all more = by_case (is_plain style) more
   where
-    by_case : (plain_is : Bool) → GoesOn scheme plain_is all → IsFragment scheme ((if plain_is then [] else codes "<span style=\"" ++ (css scheme style ++ codes "\">")) ++ all)
-    by_case true fragment = fragment
-    by_case false inside =
+    by_case : (plain_is : Bool) → IsInside scheme (if plain_is then [] else codes "</span>") all
+        → IsFragment scheme ((if plain_is then [] else codes "<span style=\"" ++ (css scheme style ++ codes "\">")) ++ all)
+    by_case true within = IsFragment-plain scheme all within
+    by_case false within =
         subst (IsFragment scheme)
-        (ap (λ l. codes "<span style=\"" ++ (css scheme style ++ (codes "\">" ++ l))) (sym inside.whole) ∙ ap (λ l. codes "<span style=\"" ++ l) (sym (append_assoc (css scheme style) (codes "\">") all)))
-        (span (colors_css scheme style) (others_css style) inside.styled inside.rest (AreColors-css scheme style) (AreDeclarations-others style) inside.is_text inside.fragment)
+        (ap (λ l. codes "<span style=\"" ++ (css scheme style ++ (codes "\">" ++ l))) (sym within.whole) ∙ ap (λ l. codes "<span style=\"" ++ l) (sym (append_assoc (css scheme style) (codes "\">") all)))
+        (span (colors_css scheme style) (others_css style) within.inside within.rest (AreColors-css scheme style) (AreDeclarations-others style) within.is_text within.fragment)
 
--- the end of a span, and a fragment after it, goes on inside it
-GoesOn-end : (scheme : Scheme) → (shown : Style) (rest : List ℕ) → IsFragment scheme rest → GoesOn scheme (is_plain shown) (span_end shown ++ rest)
-unfolding GoesOn
-GoesOn-end scheme shown rest fragment = by_case (is_plain shown)
-  where
-    by_case : (plain_is : Bool) → GoesOn scheme plain_is ((if plain_is then [] else codes "</span>") ++ rest)
-    by_case true = fragment
-    by_case false = record { styled = []; rest = rest; whole = refl; is_text = nothing; fragment = fragment }
+-- the same of a link
+IsFragment-link : (scheme : Scheme) (uri : List ℕ) (style : Style) (all : List ℕ) → is_linkable uri ≡ true → IsInside scheme (codes "</a>") all
+    → IsFragment scheme (link_begin uri (codes "color:inherit;" ++ css scheme style) ++ all)
+IsFragment-link scheme uri style all is within =
+    let before : List ℕ → List ℕ = λ l. codes "<a rel=\"nofollow noreferrer\" href=\"" ++ l in
+    let declarations = css scheme style in
+    subst (IsFragment scheme)
+    (ap (λ l. before (escaped_text uri ++ (codes "\" style=\"color:inherit;" ++ (declarations ++ (codes "\">" ++ l))))) (sym within.whole)
+    ∙ ap (λ l. before (escaped_text uri ++ (codes "\" style=\"color:inherit;" ++ l))) (sym (append_assoc declarations (codes "\">") all))
+    ∙ ap before (sym (append_assoc (escaped_text uri) (codes "\" style=\"color:inherit;" ++ (declarations ++ codes "\">")) all)))
+    (link (escaped_text uri) (colors_css scheme style) (others_css style) within.inside within.rest (IsHref-escaped uri is) (AreColors-css scheme style) (AreDeclarations-others style)
+    within.is_text within.fragment)
 
-GoesOn-change : (scheme : Scheme) → (shown style : Style) (all : List ℕ) → GoesOn scheme (is_plain style) all → GoesOn scheme (is_plain shown) (change scheme shown style ++ all)
-GoesOn-change scheme shown style all more = by_case (are_equal shown style) refl
-  where
-    by_case : (same : Bool) → are_equal shown style ≡ same → GoesOn scheme (is_plain shown) ((if same then [] else span_end shown ++ span_begin scheme style) ++ all)
-    by_case true is = subst (λ (s : Style). GoesOn scheme (is_plain s) all) (sym (are_equal-same shown style is)) more
-    by_case false is =
-        subst (GoesOn scheme (is_plain shown)) (sym (append_assoc (span_end shown) (span_begin scheme style) all))
-        (GoesOn-end scheme shown (span_begin scheme style ++ all) (IsFragment-begin scheme style all more))
+-- a link that is there is a URI
+linkable : (uri : List ℕ) → is_none uri ≡ false → IsLink uri → is_linkable uri ≡ true
+linkable uri some (inl none) = cc (some, none)
+linkable uri some (inr is) = is
 
-GoesOn-break : (scheme : Scheme) → (plain_is returned is_line_feed : Bool) (all : List ℕ) → GoesOn scheme plain_is all → GoesOn scheme plain_is (line_break returned is_line_feed ++ all)
-GoesOn-break scheme plain_is returned is_line_feed all more = by_case (returned && not is_line_feed)
+IsFragment-begin : (scheme : Scheme) (element : Element) (all : List ℕ) → IsLink element.link → IsInside scheme (element_end element) all
+    → IsFragment scheme (element_begin scheme element ++ all)
+IsFragment-begin scheme element all is more = by_case (is_none element.link) refl more
   where
-    by_case : (wanted : Bool) → GoesOn scheme plain_is ((if wanted then codes "<br>" else []) ++ all)
-    by_case true = GoesOn-prefix scheme plain_is (codes "<br>") all (λ rest is. broken rest is) more
+    by_case : (none : Bool) → is_none element.link ≡ none → IsInside scheme (if none then span_end element.style else codes "</a>") all
+        → IsFragment scheme ((if none then span_begin scheme element.style
+        else link_begin element.link (if none then css scheme element.style else codes "color:inherit;" ++ css scheme element.style)) ++ all)
+    by_case true e within = IsFragment-span scheme element.style all within
+    by_case false e within = IsFragment-link scheme element.link element.style all (linkable element.link e is) within
+
+-- the end of an element, and a fragment after it, goes on inside it
+IsInside-end : (scheme : Scheme) (close rest : List ℕ) → IsFragment scheme rest → IsInside scheme close (close ++ rest)
+IsInside-end scheme close rest fragment = record { inside = []; rest = rest; whole = refl; is_text = nothing; fragment = fragment }
+
+IsInside-change : (scheme : Scheme) (shown next : Element) (all : List ℕ) → IsLink next.link → IsInside scheme (element_end next) all
+    → IsInside scheme (element_end shown) (change scheme shown next ++ all)
+IsInside-change scheme shown next all is more = by_case (are_same shown next) refl
+  where
+    by_case : (same : Bool) → are_same shown next ≡ same → IsInside scheme (element_end shown) ((if same then [] else element_end shown ++ element_begin scheme next) ++ all)
+    by_case true e = subst (λ (it : Element). IsInside scheme (element_end it) all) (sym (are_same-same shown next e)) more
+    by_case false e =
+        subst (IsInside scheme (element_end shown)) (sym (append_assoc (element_end shown) (element_begin scheme next) all))
+        (IsInside-end scheme (element_end shown) (element_begin scheme next ++ all) (IsFragment-begin scheme next all is more))
+
+IsInside-break : (scheme : Scheme) (close : List ℕ) (returned is_line_feed : Bool) (all : List ℕ) → IsInside scheme close all → IsInside scheme close (line_break returned is_line_feed ++ all)
+IsInside-break scheme close returned is_line_feed all more = by_case (returned && not is_line_feed)
+  where
+    by_case : (wanted : Bool) → IsInside scheme close ((if wanted then codes "<br>" else []) ++ all)
+    by_case true = IsInside-prefix scheme close (codes "<br>") all (λ rest is. broken rest is) more
     by_case false = more
 
-GoesOn-text_html : (scheme : Scheme) (at : Standing) (is_line_feed : Bool) (bytes rest : List ℕ) → AreTextual bytes
-    → GoesOn scheme (is_plain (after_text at.shown at.selected bytes)) rest → GoesOn scheme (is_plain at.shown) (text_html scheme at is_line_feed bytes ++ rest)
+IsInside-text_html : (scheme : Scheme) (at : Standing) (is_line_feed : Bool) (bytes rest : List ℕ) → AreSound at → AreTextual bytes
+    → IsInside scheme (element_end (after_text at.shown at.selected bytes)) rest → IsInside scheme (element_end at.shown) (text_html scheme at is_line_feed bytes ++ rest)
 unfolding text_html
-GoesOn-text_html scheme at is_line_feed [] rest are more = more
-GoesOn-text_html scheme at is_line_feed (b ∷ bytes) rest are more =
+IsInside-text_html scheme at is_line_feed [] rest sound are more = more
+IsInside-text_html scheme at is_line_feed (b ∷ bytes) rest sound are more =
     let changed = change scheme at.shown at.selected in
     let break = line_break at.returned is_line_feed in
     let escaped_bytes = escaped_text (b ∷ bytes) in
-    subst (GoesOn scheme (is_plain at.shown)) (sym (append_assoc (changed ++ break) escaped_bytes rest ∙ append_assoc changed break (escaped_bytes ++ rest)))
-    (GoesOn-change scheme at.shown at.selected (break ++ (escaped_bytes ++ rest))
-    (GoesOn-break scheme (is_plain at.selected) at.returned is_line_feed (escaped_bytes ++ rest)
-    (GoesOn-text scheme (is_plain at.selected) (b ∷ bytes) rest are more)))
+    subst (IsInside scheme (element_end at.shown)) (sym (append_assoc (changed ++ break) escaped_bytes rest ∙ append_assoc changed break (escaped_bytes ++ rest)))
+    (IsInside-change scheme at.shown at.selected (break ++ (escaped_bytes ++ rest)) sound.selected.is_link
+    (IsInside-break scheme (element_end at.selected) at.returned is_line_feed (escaped_bytes ++ rest)
+    (IsInside-text scheme (element_end at.selected) (b ∷ bytes) rest are more)))
 
-GoesOn-html_from : (scheme : Scheme) (at : Standing) (calls : List Call) → AreShowable calls → GoesOn scheme (is_plain at.shown) (html_from scheme at calls ++ span_end (standing_at_end at calls).shown)
-GoesOn-html_from scheme at [] are = subst (GoesOn scheme (is_plain at.shown)) (append-nil (span_end at.shown)) (GoesOn-end scheme at.shown [] end)
-GoesOn-html_from scheme at (call ∷ calls) are =
+IsInside-html_from : (scheme : Scheme) (at : Standing) (calls : List Call) → AreSound at → AreShowable calls
+    → IsInside scheme (element_end at.shown) (html_from scheme at calls ++ element_end (standing_at_end at calls).shown)
+IsInside-html_from scheme at [] sound are = subst (IsInside scheme (element_end at.shown)) (append-nil (element_end at.shown)) (IsInside-end scheme (element_end at.shown) [] end)
+IsInside-html_from scheme at (call ∷ calls) sound are =
     let bytes = stripped_call call in
     let after = standing_after call at in
-    let last = span_end (standing_at_end after calls).shown in
-    subst (GoesOn scheme (is_plain at.shown)) (sym (append_assoc (call_html scheme at call) (html_from scheme after calls) last))
-    (GoesOn-text_html scheme at (is_executed 0x0A call) bytes (html_from scheme after calls ++ last) (AreTextual-stripped call are.0) (GoesOn-html_from scheme after calls are.1))
+    let last = element_end (standing_at_end after calls).shown in
+    subst (IsInside scheme (element_end at.shown)) (sym (append_assoc (call_html scheme at call) (html_from scheme after calls) last))
+    (IsInside-text_html scheme at (is_executed 0x0A call) bytes (html_from scheme after calls ++ last) sound (AreTextual-stripped call are.0)
+    (IsInside-html_from scheme after calls (AreSound-after call at sound) are.1))
 
 -- The HTML of calls that can be shown is a fragment.
 pub IsFragment-html : (scheme : Scheme) → (calls : List Call) → AreShowable calls → IsFragment scheme (html scheme calls)
-unfolding GoesOn
 IsFragment-html scheme calls are =
     let all = html scheme calls in
-    subst (λ plain_is. GoesOn scheme plain_is all) (are_equal-refl plain) (GoesOn-html_from scheme at_start calls are)
+    IsFragment-plain scheme all
+    (subst (λ (none : Bool). IsInside scheme (if none then [] else codes "</span>") all) (are_equal-refl plain) (IsInside-html_from scheme at_start calls AreSound-start are))

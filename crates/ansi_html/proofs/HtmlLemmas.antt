@@ -1,19 +1,21 @@
 -- Text as HTML.
-use Rattle.std.proofs.Common.{◌≡◌, ◌≢◌, ◌<◌, ◌≤◌, ℕ, Bool, true, false, ⊎_elim, eqb, List, [], ◌∷◌, ◌++◌, ◌-◌, length, take, refl, sym, ap, ap₂, ◌∙◌, subst, arith, append_assoc, append-nil, length-append}
+use Rattle.std.proofs.Common.{◌≡◌, ◌≢◌, ◌<◌, ◌≤◌, ℕ, Bool, true, false, ◌&&◌, ⊎_elim, eqb, List, [], ◌∷◌, ◌++◌, ◌-◌, length, take, refl, sym, ap, ap₂, ◌∙◌, subst, arith, append_assoc, append-nil, length-append}
 use Rattle.std.specs.Prelude.{not, encode_utf8, if◌then◌else◌}
 use Rattle.std.specs.List.{AllByRecursion}
 use Rattle.std.proofs.lemmas.Grind.{flat_map-append}
 use Rattle.std.proofs.lemmas.List.{take_at}
-use Rattle.std.proofs.lemmas.Bool.{ne_eqb, cases_lt, or_parts}
+use Rattle.std.proofs.lemmas.Bool.{ne_eqb, cases_lt, or_parts, and_parts, eqb-true}
 use Rattle.anstyle_parse.proofs.Characters.Scalars.{length-encode-some}
 use Rattle.anstyle_parse.proofs.Characters.Encoding.{encode_one, encode_two, encode_three, encode_four}
 use Rattle.ansi_strip.specs.Strip.{is_layout}
-use Rattle.ansi_style.specs.declared.style.Style.{Style}
-use Rattle.ansi_style.proofs.EqualityLemmas.{are_equal-refl}
+use Rattle.std.specs.Str.{bytes_eq}
+use Rattle.std.proofs.lemmas.Slice.Eq.{bytes_eq-Decides}
+use Rattle.ansi_style.specs.Style.{are_equal}
+use Rattle.ansi_style.proofs.EqualityLemmas.{are_equal-refl, are_equal-same}
 use Rattle.ansi_html.specs.declared.scheme.Scheme.{Scheme}
 use Rattle.anstyle_parse.specs.Stream.Call.{print, execute}
-use Rattle.ansi_html.specs.Html.{escaped, escaped_text, Standing, beginning, after_text, text_html, call_html, standing_after, change, span_begin, span_end}
-use Rattle.ansi_html.specs.Writer.{in_style}
+use Rattle.ansi_html.specs.Html.{escaped, escaped_text, Element, element, are_same, Standing, beginning, element_begin, element_end, after_text, text_html, call_html, standing_after, change}
+use Rattle.ansi_html.specs.Writer.{in_element}
 use Rattle.ansi_html.specs.Grammar.{is_special, AreClear, BeginWithClear}
 
 pub false-from_not : (b : Bool) → not b ≡ true → b ≡ false
@@ -23,6 +25,11 @@ false-from_not false h = refl
 pub true-from_not : (b : Bool) → not b ≡ false → b ≡ true
 true-from_not true h = refl
 true-from_not false h = cc
+
+-- the test that there is no text
+pub none_from_test : (text : List ℕ) → eqb (length text) 0 ≡ true → text ≡ []
+none_from_test [] test = refl
+none_from_test (b ∷ text) test = absurd (omega (arith, eqb-true (length (b ∷ text)) 0 test))
 
 -- text that is not empty
 text_html-some : (scheme : Scheme) (at : Standing) (is_line_feed : Bool) (bytes : List ℕ) → 0 < length bytes
@@ -128,7 +135,7 @@ module _ (scheme : Scheme) (at : Standing) (c : ℕ) where
   pub call_html-print : call_html scheme at (print c) ≡ beginning scheme at false ++ escaped_text (encode_utf8 c)
   call_html-print = text_html-some scheme at false (encode_utf8 c) (length-encode-some c)
 
-  pub standing_after-print : standing_after (print c) at ≡ in_style at.selected false
+  pub standing_after-print : standing_after (print c) at ≡ in_element at.selected false
   standing_after-print =
       ap₂ (λ shown returned. record { shown = shown; selected = at.selected; returned = returned })
       (after_text-some at.shown at.selected (encode_utf8 c) (length-encode-some c))
@@ -150,7 +157,7 @@ module _ (scheme : Scheme) (at : Standing) (b : ℕ) where
   unfolding text_html
   call_html-layout is = ap (λ layout. text_html scheme at (eqb b 0x0A) (executed layout)) is ∙ ap (λ l. beginning scheme at (eqb b 0x0A) ++ l) (escaped_one b)
 
-  pub standing_after-layout : is_layout b ≡ true → standing_after (execute b) at ≡ in_style at.selected (eqb b 0x0D)
+  pub standing_after-layout : is_layout b ≡ true → standing_after (execute b) at ≡ in_element at.selected (eqb b 0x0D)
   standing_after-layout is = ap (λ layout. after_executed (executed layout)) is
 
   pub call_html-other : is_layout b ≡ false → call_html scheme at (execute b) ≡ []
@@ -160,6 +167,18 @@ module _ (scheme : Scheme) (at : Standing) (b : ℕ) where
   pub standing_after-other : is_layout b ≡ false → standing_after (execute b) at ≡ at
   standing_after-other is = ap (λ layout. after_executed (executed layout)) is
 
--- where the style stays nothing changes
-pub change-same : (scheme : Scheme) → (style : Style) → change scheme style style ≡ []
-change-same scheme style = ap (λ (same : Bool). if same then [] else span_end style ++ span_begin scheme style) (are_equal-refl style)
+pub bytes_eq-refl : (bytes : List ℕ) → bytes_eq bytes bytes ≡ true
+bytes_eq-refl bytes = (bytes_eq-Decides bytes bytes).1 refl
+
+pub are_same-refl : (element : Element) → are_same element element ≡ true
+are_same-refl element = ap₂ (λ (x y : Bool). x && y) (are_equal-refl element.style) (bytes_eq-refl element.link)
+
+-- equal elements are the same
+pub are_same-same : (one other : Element) → are_same one other ≡ true → one ≡ other
+are_same-same one other same =
+    let parts = and_parts (are_equal one.style other.style) (bytes_eq one.link other.link) same in
+    ap₂ element (are_equal-same one.style other.style parts.0) ((bytes_eq-Decides one.link other.link).0 parts.1)
+
+-- where the element stays nothing changes
+pub change-same : (scheme : Scheme) → (element : Element) → change scheme element element ≡ []
+change-same scheme element = ap (λ (same : Bool). if same then [] else element_end element ++ element_begin scheme element) (are_same-refl element)

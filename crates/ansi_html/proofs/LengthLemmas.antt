@@ -8,7 +8,6 @@ use Rattle.ansi_strip.specs.Strip.{is_layout, stripped_call}
 use Rattle.ansi_style.specs.declared.style.Style.{Style}
 use Rattle.ansi_style.specs.declared.style.Underline.{Underline}
 use Rattle.ansi_style.specs.declared.style.Underline.TheVariants.{Off, Single, Double, Curly, Dotted, Dashed}
-use Rattle.ansi_style.specs.Style.{are_equal}
 use Rattle.ansi_html.specs.declared.contrast.Rgb.{Rgb}
 use Rattle.ansi_html.specs.declared.scheme.Scheme.{Scheme}
 use Rattle.ansi_html.specs.declared.scheme.Scheme.TheVariants.{Light, Dark, Both}
@@ -16,9 +15,11 @@ use Rattle.ansi_html.specs.Contrast.{black, white}
 use Rattle.ansi_html.specs.Palette.{hex}
 use Rattle.ansi_html.specs.Css.{declared, light_dark, themed, colors_css, text_if, is_underlined, lines_css, underline_css, css}
 use Rattle.ansi_html.specs.Grammar.{AreReadable, of_page, on_page, on_reversed, on_color, AreColors, readable, chosen}
-use Rattle.ansi_html.specs.Html.{escaped, escaped_text, is_plain, span_begin, span_end, change, Standing, at_start, line_break, is_executed, text_html, call_html, standing_after, html_from, standing_at_end, html}
+use Rattle.ansi_html.specs.Html.{escaped, escaped_text, is_plain, span_begin, span_end, Element, are_same, element_css, link_begin, element_begin, element_end, change, Standing, at_start, line_break, is_executed, text_html, call_html, standing_after, html_from, standing_at_end, html}
 use Rattle.ansi_html.proofs.HtmlLemmas.{escaped_one, escaped_ascii, escaped_high}
 use Rattle.ansi_html.proofs.ColorLemmas.{choose, AreColors-css}
+use Rattle.ansi_html.specs.Links.{is_none}
+use Rattle.ansi_html.proofs.SoundLemmas.{AreSound, AreSound-start, AreSound-after}
 
 -- a test that a text is at most so long
 AtMost : ℕ → List ℕ → Type 0
@@ -113,9 +114,11 @@ AtMost-css scheme style =
     (AtMost-append 29 18 (underline_css style.underline) (text_if style.hidden (codes "visibility:hidden;")) (AtMost-underline style.underline)
     (AtMost-if 18 style.hidden (codes "visibility:hidden;") (omega arith))))))
 
-AtMost-span_end : (shown : Style) → AtMost 7 (span_end shown)
+AtMost-end : (shown : Element) → AtMost 7 (element_end shown)
 unfolding AtMost
-AtMost-span_end shown = choose (λ l. length l ≤ 7) (is_plain shown) [] (codes "</span>") (omega arith) (omega arith)
+AtMost-end shown =
+    let P : List ℕ → Type 0 = λ l. length l ≤ 7 in
+    choose P (is_none shown.link) (span_end shown.style) (codes "</a>") (choose P (is_plain shown.style) [] (codes "</span>") (omega arith) (omega arith)) (omega arith)
 
 AtMost-span_begin : (scheme : Scheme) → (style : Style) → AtMost 275 (span_begin scheme style)
 unfolding AtMost
@@ -123,17 +126,44 @@ AtMost-span_begin scheme style =
     choose (λ l. length l ≤ 275) (is_plain style) [] (codes "<span style=\"" ++ (css scheme style ++ codes "\">")) (omega arith)
     (AtMost-append 13 262 (codes "<span style=\"") (css scheme style ++ codes "\">") (omega arith) (AtMost-append 260 2 (css scheme style) (codes "\">") (AtMost-css scheme style) (omega arith)))
 
-AtMost-change : (scheme : Scheme) → (shown style : Style) → AtMost 282 (change scheme shown style)
-unfolding AtMost
-AtMost-change scheme shown style =
-    choose (λ l. length l ≤ 282) (are_equal shown style) [] (span_end shown ++ span_begin scheme style) (omega arith)
-    (AtMost-append 7 275 (span_end shown) (span_begin scheme style) (AtMost-span_end shown) (AtMost-span_begin scheme style))
-
 length-escaped : (b : ℕ) → length (escaped b) ≤ 6
 length-escaped b =
     let P : List ℕ → Type 0 = λ l. length l ≤ 6 in
     choose P (eqb b 0x26) _ _ (omega arith) (choose P (eqb b 0x3C) _ _ (omega arith) (choose P (eqb b 0x3E) _ _ (omega arith)
     (choose P (eqb b 0x22) _ _ (omega arith) (choose P (eqb b 0x27) _ _ (omega arith) (choose P (eqb b 0x0D) _ _ (omega arith) (omega arith))))))
+
+length-escaped_text : (bytes : List ℕ) → length (escaped_text bytes) ≤ 6 * length bytes
+length-escaped_text [] = omega arith
+length-escaped_text (b ∷ bytes) = omega (arith, length-append (escaped b) (escaped_text bytes), length-escaped b, length-escaped_text bytes)
+
+AtMost-link : (link : List ℕ) → length link ≤ 1035 → AtMost 6210 (escaped_text link)
+unfolding AtMost
+AtMost-link link short = omega (arith, length-escaped_text link, short)
+
+-- 14 for the colour, and the style
+AtMost-element_css : (scheme : Scheme) (element : Element) → AtMost 274 (element_css scheme element)
+unfolding AtMost
+AtMost-element_css scheme element =
+    choose (λ l. length l ≤ 274) (is_none element.link) (css scheme element.style) (codes "color:inherit;" ++ css scheme element.style)
+    (omega (arith, AtMost-css scheme element.style))
+    (AtMost-append 14 260 (codes "color:inherit;") (css scheme element.style) (omega arith) (AtMost-css scheme element.style))
+
+AtMost-begin : (scheme : Scheme) (element : Element) → length element.link ≤ 1035 → AtMost 6530 (element_begin scheme element)
+unfolding AtMost
+AtMost-begin scheme element short =
+    let declarations = element_css scheme element in
+    choose (λ l. length l ≤ 6530) (is_none element.link) (span_begin scheme element.style) (link_begin element.link declarations)
+    (omega (arith, AtMost-span_begin scheme element.style))
+    (AtMost-append 35 6495 (codes "<a rel=\"nofollow noreferrer\" href=\"") _ (omega arith)
+    (AtMost-append 6210 285 (escaped_text element.link) _ (AtMost-link element.link short)
+    (AtMost-append 9 276 (codes "\" style=\"") (declarations ++ codes "\">") (omega arith)
+    (AtMost-append 274 2 declarations (codes "\">") (AtMost-element_css scheme element) (omega arith)))))
+
+AtMost-change : (scheme : Scheme) (shown next : Element) → length next.link ≤ 1035 → AtMost 6537 (change scheme shown next)
+unfolding AtMost
+AtMost-change scheme shown next short =
+    choose (λ l. length l ≤ 6537) (are_same shown next) [] (element_end shown ++ element_begin scheme next) (omega arith)
+    (AtMost-append 7 6530 (element_end shown) (element_begin scheme next) (AtMost-end shown) (AtMost-begin scheme next short))
 
 AtMost-line_break : (returned is_line_feed : Bool) → AtMost 4 (line_break returned is_line_feed)
 unfolding AtMost
@@ -158,23 +188,28 @@ length-stripped (osc_dispatch parts bell) = omega arith
 length-stripped (csi_dispatch gs is ig f) = omega arith
 length-stripped (esc_dispatch is ig f) = omega arith
 
--- 282 for a change of styles, 4 for a line break and 6 for the text
-length-text_html : (scheme : Scheme) (at : Standing) (is_line_feed : Bool) (bytes : List ℕ) → length (escaped_text bytes) ≤ 6 → length (text_html scheme at is_line_feed bytes) ≤ 292
+-- 6537 for a change of elements, 4 for a line break and 6 for the text
+length-text_html : (scheme : Scheme) (at : Standing) (is_line_feed : Bool) (bytes : List ℕ) → AreSound at → length (escaped_text bytes) ≤ 6 → length (text_html scheme at is_line_feed bytes) ≤ 6547
 unfolding text_html AtMost
-length-text_html scheme at is_line_feed [] few = omega arith
-length-text_html scheme at is_line_feed (b ∷ bytes) few =
+length-text_html scheme at is_line_feed [] sound few = omega arith
+length-text_html scheme at is_line_feed (b ∷ bytes) sound few =
     let changed = change scheme at.shown at.selected in
     let broken = line_break at.returned is_line_feed in
-    omega (arith, few, length-append (changed ++ broken) (escaped_text (b ∷ bytes)), length-append changed broken, AtMost-change scheme at.shown at.selected, AtMost-line_break at.returned is_line_feed)
+    omega (arith, few, length-append (changed ++ broken) (escaped_text (b ∷ bytes)), length-append changed broken, AtMost-change scheme at.shown at.selected sound.selected.short, AtMost-line_break at.returned is_line_feed)
 
-length-html_from : (scheme : Scheme) (at : Standing) (calls : List Call) → length (html_from scheme at calls) ≤ 292 * length calls
-length-html_from scheme at [] = omega arith
-length-html_from scheme at (call ∷ calls) =
+length-html_from : (scheme : Scheme) (at : Standing) (calls : List Call) → AreSound at → length (html_from scheme at calls) ≤ 6547 * length calls
+length-html_from scheme at [] sound = omega arith
+length-html_from scheme at (call ∷ calls) sound =
     let after = standing_after call at in
-    omega (arith, length-append (call_html scheme at call) (html_from scheme after calls), length-text_html scheme at (is_executed 0x0A call) (stripped_call call) (length-stripped call), length-html_from scheme after calls)
+    omega (
+      arith,
+      length-append (call_html scheme at call) (html_from scheme after calls),
+      length-text_html scheme at (is_executed 0x0A call) (stripped_call call) sound (length-stripped call),
+      length-html_from scheme after calls (AreSound-after call at sound),
+    )
 
-pub length-html : (scheme : Scheme) → (calls : List Call) → length (html scheme calls) ≤ 292 * length calls + 7
+pub length-html : (scheme : Scheme) → (calls : List Call) → length (html scheme calls) ≤ 6547 * length calls + 7
 unfolding AtMost
 length-html scheme calls =
     let last = (standing_at_end at_start calls).shown in
-    omega (arith, length-append (html_from scheme at_start calls) (span_end last), length-html_from scheme at_start calls, AtMost-span_end last)
+    omega (arith, length-append (html_from scheme at_start calls) (element_end last), length-html_from scheme at_start calls AreSound-start, AtMost-end last)

@@ -11,4 +11,8 @@ pub mod LawfulText
 pub mod GrammarLemmas
 pub mod TextLemmas
 pub mod LengthLemmas
+pub mod LinkLemmas
+pub mod SoundLemmas
+pub mod ShownLemmas
+pub mod WholeLemmas
 pub mod WriterLemmas

@@ -7,15 +7,15 @@ use Rattle.std.proofs.lemmas.List.Folds.{list_all-append}
 use Rattle.anstyle_parse.specs.Stream.Call.{Call}
 use Rattle.ansi_strip.specs.Strip.{stripped_call}
 use Rattle.ansi_style.specs.declared.style.Style.{Style}
-use Rattle.ansi_style.specs.Style.{are_equal}
 use Rattle.ansi_html.specs.declared.scheme.Scheme.{Scheme}
 use Rattle.ansi_html.specs.Css.{css}
+use Rattle.ansi_html.specs.Links.{is_none}
 use Rattle.ansi_html.specs.Grammar.{is_special}
-use Rattle.ansi_html.specs.Html.{escaped, escaped_text, is_plain, span_begin, span_end, change, Standing, at_start, line_break, beginning, is_executed, text_html, call_html, standing_after, html_from, standing_at_end, html}
+use Rattle.ansi_html.specs.Html.{escaped, escaped_text, is_plain, span_begin, span_end, Element, are_same, element_css, link_begin, element_begin, element_end, change, Standing, at_start, line_break, beginning, is_executed, text_html, call_html, standing_after, html_from, standing_at_end, html}
 use Rattle.ansi_html.specs.Reader.{normalized_from, normalized}
 use Rattle.ansi_html.proofs.ColorLemmas.{choose}
 use Rattle.ansi_html.proofs.HtmlLemmas.{escaped-clear, not_return-clear, false-from_not}
-use Rattle.ansi_html.proofs.DeclarationLemmas.{is_safe, AreSafe, AreSafe-css, not_return-safe}
+use Rattle.ansi_html.proofs.DeclarationLemmas.{is_safe, AreSafe, AreSafe-css, AreSafe-element_css, not_return-safe}
 
 is_other : ℕ → Bool
 is_other b = not (eqb b 0x0D)
@@ -71,22 +71,39 @@ HasNoReturn-escaped (b ∷ bytes) = HasNoReturn-append (escaped b) (escaped_text
 pub normalized-escaped : (bytes : List ℕ) → normalized (escaped_text bytes) ≡ escaped_text bytes
 normalized-escaped bytes = normalized-same (escaped_text bytes) (HasNoReturn-escaped bytes)
 
-HasNoReturn-end : (shown : Style) → HasNoReturn (span_end shown)
+HasNoReturn-end : (shown : Element) → HasNoReturn (element_end shown)
 unfolding is_other
-HasNoReturn-end shown = choose (λ l. list_all (λ x. not (eqb x 0x0D)) l ≡ true) (is_plain shown) [] (codes "</span>") refl refl
+HasNoReturn-end shown =
+    let Q : List ℕ → Type 0 = λ l. list_all (λ x. not (eqb x 0x0D)) l ≡ true in
+    choose Q (is_none shown.link) (span_end shown.style) (codes "</a>") (choose Q (is_plain shown.style) [] (codes "</span>") refl refl) refl
 
 module _ (scheme : Scheme) where
-  HasNoReturn-begin : (style : Style) → HasNoReturn (span_begin scheme style)
+  HasNoReturn-span : (style : Style) → HasNoReturn (span_begin scheme style)
   unfolding is_other
-  HasNoReturn-begin style =
+  HasNoReturn-span style =
       choose HasNoReturn (is_plain style) [] (codes "<span style=\"" ++ (css scheme style ++ codes "\">")) refl
       (HasNoReturn-append (codes "<span style=\"") (css scheme style ++ codes "\">") refl
       (HasNoReturn-append (css scheme style) (codes "\">") (HasNoReturn-safe (css scheme style) (AreSafe-css scheme style)) refl))
 
-  HasNoReturn-change : (shown style : Style) → HasNoReturn (change scheme shown style)
-  HasNoReturn-change shown style =
-      choose HasNoReturn (are_equal shown style) [] (span_end shown ++ span_begin scheme style) refl
-      (HasNoReturn-append (span_end shown) (span_begin scheme style) (HasNoReturn-end shown) (HasNoReturn-begin style))
+  HasNoReturn-link : (element : Element) → HasNoReturn (link_begin element.link (element_css scheme element))
+  unfolding is_other
+  HasNoReturn-link element =
+      let declarations = element_css scheme element in
+      let last = declarations ++ codes "\">" in
+      HasNoReturn-append (codes "<a rel=\"nofollow noreferrer\" href=\"") (escaped_text element.link ++ (codes "\" style=\"" ++ last)) refl
+      (HasNoReturn-append (escaped_text element.link) (codes "\" style=\"" ++ last) (HasNoReturn-escaped element.link)
+      (HasNoReturn-append (codes "\" style=\"") last refl
+      (HasNoReturn-append declarations (codes "\">") (HasNoReturn-safe declarations (AreSafe-element_css scheme element)) refl)))
+
+  HasNoReturn-begin : (element : Element) → HasNoReturn (element_begin scheme element)
+  HasNoReturn-begin element =
+      choose HasNoReturn (is_none element.link) (span_begin scheme element.style) (link_begin element.link (element_css scheme element))
+      (HasNoReturn-span element.style) (HasNoReturn-link element)
+
+  HasNoReturn-change : (shown next : Element) → HasNoReturn (change scheme shown next)
+  HasNoReturn-change shown next =
+      choose HasNoReturn (are_same shown next) [] (element_end shown ++ element_begin scheme next) refl
+      (HasNoReturn-append (element_end shown) (element_begin scheme next) (HasNoReturn-end shown) (HasNoReturn-begin next))
 
   HasNoReturn-beginning : (at : Standing) (is_line_feed : Bool) → HasNoReturn (beginning scheme at is_line_feed)
   unfolding is_other
@@ -110,4 +127,4 @@ module _ (scheme : Scheme) where
   pub normalized-html : (calls : List Call) → normalized (html scheme calls) ≡ html scheme calls
   normalized-html calls =
       let last = (standing_at_end at_start calls).shown in
-      normalized-same (html scheme calls) (HasNoReturn-append (html_from scheme at_start calls) (span_end last) (HasNoReturn-html_from at_start calls) (HasNoReturn-end last))
+      normalized-same (html scheme calls) (HasNoReturn-append (html_from scheme at_start calls) (element_end last) (HasNoReturn-html_from at_start calls) (HasNoReturn-end last))

@@ -1,15 +1,14 @@
 -- The HTML of a text that is printed at once.
-use Rattle.std.proofs.Common.{◌≡◌, ◌<◌, ℕ, zero, suc, true, false, eqb, eqb-true, List, [], ◌∷◌, ◌++◌, length, map, refl, sym, ap, ap₂, ◌∙◌, append_assoc, arith}
+use Rattle.std.proofs.Common.{◌≡◌, ◌<◌, ℕ, zero, suc, false, eqb, List, [], ◌∷◌, ◌++◌, length, map, refl, sym, ap, ap₂, ◌∙◌, append_assoc, arith}
 use Rattle.std.specs.Prelude.{encode_utf8}
 use Rattle.std.specs.Str.{IsUtf8, chars, encode_utf8_all}
 use Rattle.std.proofs.lemmas.Grind.{flat_map-append}
 use Rattle.std.proofs.lemmas.Str.{encodes-chars}
 use Rattle.anstyle_parse.specs.Stream.Call.{print}
 use Rattle.anstyle_parse.specs.Stream.Texts.{text_calls}
-use Rattle.ansi_style.specs.declared.style.Style.{Style}
 use Rattle.ansi_html.specs.declared.scheme.Scheme.{Scheme}
-use Rattle.ansi_html.specs.Html.{escaped, escaped_text, Standing, beginning, html_from, standing_at_end}
-use Rattle.ansi_html.specs.Writer.{in_style}
+use Rattle.ansi_html.specs.Html.{escaped, escaped_text, Element, Standing, beginning, html_from, standing_at_end}
+use Rattle.ansi_html.specs.Writer.{in_element}
 use Rattle.ansi_html.proofs.HtmlLemmas.{call_html-print, standing_after-print, change-same}
 
 -- the test whether there is text
@@ -17,24 +16,20 @@ pub some_from_test : (n : ℕ) → eqb n 0 ≡ false → 0 < n
 some_from_test zero test = cc
 some_from_test (suc n) test = omega arith
 
-pub none_from_test : (text : List ℕ) → eqb (length text) 0 ≡ true → text ≡ []
-none_from_test [] test = refl
-none_from_test (b ∷ text) test = absurd (omega (arith, eqb-true (length (b ∷ text)) 0 test))
-
--- more text of a style behind text of that style
-module _ (scheme : Scheme) (style : Style) where
-  html_from-same : (cs : List ℕ) → html_from scheme (in_style style false) (map print cs) ≡ escaped_text (encode_utf8_all cs)
+-- more text of an element behind text of it
+module _ (scheme : Scheme) (element : Element) where
+  html_from-same : (cs : List ℕ) → html_from scheme (in_element element false) (map print cs) ≡ escaped_text (encode_utf8_all cs)
   html_from-same [] = refl
   html_from-same (c ∷ cs) =
-      let at = in_style style false in
+      let at = in_element element false in
       ap₂ (λ text after. text ++ html_from scheme after (map print cs))
-      (call_html-print scheme at c ∙ ap (λ l. (l ++ []) ++ escaped_text (encode_utf8 c)) (change-same scheme style)) (standing_after-print scheme at c)
+      (call_html-print scheme at c ∙ ap (λ l. (l ++ []) ++ escaped_text (encode_utf8 c)) (change-same scheme element)) (standing_after-print scheme at c)
       ∙ ap (λ l. escaped_text (encode_utf8 c) ++ l) (html_from-same cs) ∙ sym (flat_map-append escaped (encode_utf8 c) (encode_utf8_all cs))
 
-  standing_at_end-same : (cs : List ℕ) → standing_at_end (in_style style false) (map print cs) ≡ in_style style false
+  standing_at_end-same : (cs : List ℕ) → standing_at_end (in_element element false) (map print cs) ≡ in_element element false
   standing_at_end-same [] = refl
   standing_at_end-same (c ∷ cs) =
-      ap (λ after. standing_at_end after (map print cs)) (standing_after-print scheme (in_style style false) c) ∙ standing_at_end-same cs
+      ap (λ after. standing_at_end after (map print cs)) (standing_after-print scheme (in_element element false) c) ∙ standing_at_end-same cs
 
 -- a text
 module _ (scheme : Scheme) (at : Standing) where
@@ -46,7 +41,7 @@ module _ (scheme : Scheme) (at : Standing) where
       ∙ append_assoc (beginning scheme at false) (escaped_text (encode_utf8 c)) (escaped_text (encode_utf8_all cs))
       ∙ ap (λ l. beginning scheme at false ++ l) (sym (flat_map-append escaped (encode_utf8 c) (encode_utf8_all cs)))
 
-  standing_at_end-prints : (cs : List ℕ) → 0 < length (encode_utf8_all cs) → standing_at_end at (map print cs) ≡ in_style at.selected false
+  standing_at_end-prints : (cs : List ℕ) → 0 < length (encode_utf8_all cs) → standing_at_end at (map print cs) ≡ in_element at.selected false
   standing_at_end-prints [] some = absurd (omega arith)
   standing_at_end-prints (c ∷ cs) some =
       ap (λ after. standing_at_end after (map print cs)) (standing_after-print scheme at c) ∙ standing_at_end-same scheme at.selected cs
@@ -58,5 +53,5 @@ module _ (scheme : Scheme) (at : Standing) where
     pub html_from-text : html_from scheme at (text_calls text) ≡ beginning scheme at false ++ escaped_text text
     html_from-text = html_from-prints (chars text) some_characters ∙ ap (λ t. beginning scheme at false ++ escaped_text t) (encodes-chars text utf8)
 
-    pub standing_at_end-text : standing_at_end at (text_calls text) ≡ in_style at.selected false
+    pub standing_at_end-text : standing_at_end at (text_calls text) ≡ in_element at.selected false
     standing_at_end-text = standing_at_end-prints (chars text) some_characters

@@ -7,44 +7,44 @@ use Rattle.std.proofs.lemmas.Grind.{flat_map-append}
 use Rattle.anstyle_parse.specs.Stream.Call.{Call}
 use Rattle.ansi_strip.specs.Strip.{stripped_call, stripped}
 use Rattle.ansi_style.specs.declared.style.Style.{Style}
-use Rattle.ansi_style.specs.Style.{plain, are_equal}
-use Rattle.ansi_style.specs.Rendition.{style_after}
+use Rattle.ansi_style.specs.Style.{plain}
 use Rattle.ansi_style.proofs.EqualityLemmas.{are_equal-same}
 use Rattle.ansi_html.specs.declared.scheme.Scheme.{Scheme}
 use Rattle.ansi_html.specs.Css.{colors_css, css}
+use Rattle.ansi_html.specs.Links.{is_none}
 use Rattle.ansi_html.specs.Grammar.{is_special}
-use Rattle.ansi_html.specs.Html.{escaped, escaped_text, is_plain, span_begin, span_end, change, Standing, at_start, line_break, after_text, is_executed, text_html, call_html, standing_after, html_from, standing_at_end, html}
-use Rattle.ansi_html.specs.Reader.{Shown, under, byte_of, in_text, in_tag, in_value, Seen, text, break, seen_from, seen, read_of, read, shown_from}
-use Rattle.ansi_html.proofs.HtmlLemmas.{escaped-clear}
-use Rattle.ansi_html.proofs.DeclarationLemmas.{is_safe, AreSafe, AreSafe-css, not_quote-safe}
+use Rattle.ansi_html.specs.Html.{escaped, escaped_text, is_plain, span_begin, span_end, Element, no_element, are_same, element_css, link_begin, element_begin, element_end, element_after, change, Standing, at_start, line_break, after_text, is_executed, text_html, call_html, standing_after, html_from, standing_at_end, html}
+use Rattle.ansi_html.specs.Reader.{Attributes, no_attributes, Shown, under, byte_of, in_text, in_tag, in_value, in_value_reference, with_attribute, attributes_of, Seen, text, break, seen_from, seen, read_of, read, shown_from}
+use Rattle.ansi_html.proofs.HtmlLemmas.{escaped-clear, none_from_test, are_same-same}
+use Rattle.ansi_html.proofs.DeclarationLemmas.{is_safe, AreSafe, AreSafe-css, AreSafe-element_css, not_quote-safe, not_ampersand-safe}
 use Rattle.ansi_html.proofs.NewlineLemmas.{normalized-escaped, normalized-html}
 
 -- a text byte, escaped, is seen as that byte
-SeenAs : List ℕ → List ℕ → ℕ → Type 0
+SeenAs : Attributes → List ℕ → ℕ → Type 0
 SeenAs attribute rest b = seen_from (in_text attribute) (escaped b ++ rest) ≡ text attribute b ∷ seen_from (in_text attribute) rest
 
-seen_special : (attribute rest : List ℕ) (b : ℕ) → is_special b ≡ true → SeenAs attribute rest b
+seen_special : (attribute : Attributes) (rest : List ℕ) (b : ℕ) → is_special b ≡ true → SeenAs attribute rest b
 unfolding is_special SeenAs
 seen_special attribute rest b is =
     let at : (k : ℕ) → SeenAs attribute rest k → eqb b k ≡ true → SeenAs attribute rest b = λ k h e. subst (SeenAs attribute rest) (sym (eqb-true b k e)) h in
     ⊎_elim (at 0x26 refl) (λ h. ⊎_elim (at 0x3C refl) (λ h. ⊎_elim (at 0x3E refl) (λ h. ⊎_elim (at 0x22 refl) (λ h. ⊎_elim (at 0x27 refl) (at 0x0D refl)
     (or_cases (eqb b 0x27) (eqb b 0x0D) h)) (or_cases (eqb b 0x22) _ h)) (or_cases (eqb b 0x3E) _ h)) (or_cases (eqb b 0x3C) _ h)) (or_cases (eqb b 0x26) _ is)
 
-seen_clear : (attribute rest : List ℕ) (b : ℕ) → is_special b ≡ false → SeenAs attribute rest b
+seen_clear : (attribute : Attributes) (rest : List ℕ) (b : ℕ) → is_special b ≡ false → SeenAs attribute rest b
 unfolding is_special SeenAs
 seen_clear attribute rest b clear =
     let h0 = or_parts (eqb b 0x26) _ clear in
     let h1 = or_parts (eqb b 0x3C) _ h0.1 in
     ap (λ l. seen_from (in_text attribute) (l ++ rest)) (escaped-clear b clear) ∙ rw (h1.0, h0.0) refl
 
-seen_byte : (attribute rest : List ℕ) (b : ℕ) → SeenAs attribute rest b
+seen_byte : (attribute : Attributes) (rest : List ℕ) (b : ℕ) → SeenAs attribute rest b
 seen_byte attribute rest b = by_case (is_special b) refl
   where
     by_case : (special : Bool) → is_special b ≡ special → SeenAs attribute rest b
     by_case true is = seen_special attribute rest b is
     by_case false is = seen_clear attribute rest b is
 
-seen-escaped_text : (attribute bytes rest : List ℕ)
+seen-escaped_text : (attribute : Attributes) (bytes rest : List ℕ)
     → seen_from (in_text attribute) (escaped_text bytes ++ rest) ≡ map (text attribute) bytes ++ seen_from (in_text attribute) rest
 unfolding SeenAs
 seen-escaped_text attribute [] rest = refl
@@ -53,62 +53,145 @@ seen-escaped_text attribute (b ∷ bytes) rest =
     ∙ seen_byte attribute (escaped_text bytes ++ rest) b
     ∙ ap (λ l. text attribute b ∷ l) (seen-escaped_text attribute bytes rest)
 
-read-text : (attribute bytes : List ℕ) → flat_map read_of (map (text attribute) bytes) ≡ map (under attribute) bytes
+read-text : (attribute : Attributes) (bytes : List ℕ) → flat_map read_of (map (text attribute) bytes) ≡ map (under attribute) bytes
 read-text attribute [] = refl
 read-text attribute (b ∷ bytes) = ap (λ l. under attribute b ∷ l) (read-text attribute bytes)
 
 -- Reading an escaped text gives the text, in no span.
-pub read-escaped : (bytes : List ℕ) → read (escaped_text bytes) ≡ map (under []) bytes
+pub read-escaped : (bytes : List ℕ) → read (escaped_text bytes) ≡ map (under no_attributes) bytes
 read-escaped bytes =
-    ap (λ l. flat_map read_of (seen_from (in_text []) l)) (normalized-escaped bytes ∙ sym (append-nil (escaped_text bytes)))
-    ∙ ap (flat_map read_of) (seen-escaped_text [] bytes [] ∙ append-nil (map (text []) bytes))
-    ∙ read-text [] bytes
+    ap (λ l. flat_map read_of (seen_from (in_text no_attributes) l)) (normalized-escaped bytes ∙ sym (append-nil (escaped_text bytes)))
+    ∙ ap (flat_map read_of) (seen-escaped_text no_attributes bytes [] ∙ append-nil (map (text no_attributes) bytes))
+    ∙ read-text no_attributes bytes
 
--- a value without a quote
-seen-value : (so_far bytes rest : List ℕ) → AreSafe bytes → seen_from (in_value so_far) (bytes ++ rest) ≡ seen_from (in_value (so_far ++ bytes)) rest
-seen-value so_far [] rest safe = ap (λ v. seen_from (in_value v) rest) (sym (append-nil so_far))
-seen-value so_far (b ∷ bytes) rest safe =
+-- a value without a quote or a reference
+seen-value : (so_far : Attributes) (name value bytes rest : List ℕ) → AreSafe bytes
+    → seen_from (in_value so_far name value) (bytes ++ rest) ≡ seen_from (in_value so_far name (value ++ bytes)) rest
+seen-value so_far name value [] rest safe = ap (λ v. seen_from (in_value so_far name v) rest) (sym (append-nil value))
+seen-value so_far name value (b ∷ bytes) rest safe =
     let parts = and_parts (is_safe b) (list_all is_safe bytes) safe in
-    ap (λ (t : Bool). seen_from (if t then in_tag so_far else in_value (so_far ++ b ∷ [])) (bytes ++ rest)) (not_quote-safe b parts.0)
-    ∙ seen-value (so_far ++ b ∷ []) bytes rest parts.1
-    ∙ ap (λ v. seen_from (in_value v) rest) (append_assoc so_far (b ∷ []) bytes)
+    let more = value ++ b ∷ [] in
+    ap₂ (λ (quote reference : Bool). seen_from (if quote then in_tag (with_attribute name value so_far) [] else if reference then in_value_reference so_far name value [] else in_value so_far name more) (bytes ++ rest))
+    (not_quote-safe b parts.0) (not_ampersand-safe b parts.0)
+    ∙ seen-value so_far name more bytes rest parts.1
+    ∙ ap (λ v. seen_from (in_value so_far name v) rest) (append_assoc value (b ∷ []) bytes)
 
--- the beginning of a span puts its declarations in force, and the end of one puts none
-seen-begin : (attribute bytes rest : List ℕ) → AreSafe bytes
-    → seen_from (in_text attribute) ((codes "<span style=\"" ++ (bytes ++ codes "\">")) ++ rest) ≡ seen_from (in_text bytes) rest
-seen-begin attribute bytes rest safe =
-    ap (λ l. seen_from (in_value []) l) (append_assoc bytes (codes "\">") rest)
-    ∙ seen-value [] bytes (codes "\">" ++ rest) safe
+-- a byte, escaped, in a value
+module _ (so_far : Attributes) (name value rest : List ℕ) where
+  ValuedAs : ℕ → Type 0
+  ValuedAs b = seen_from (in_value so_far name value) (escaped b ++ rest) ≡ seen_from (in_value so_far name (value ++ b ∷ [])) rest
+
+  valued_special : (b : ℕ) → is_special b ≡ true → ValuedAs b
+  unfolding is_special ValuedAs
+  valued_special b is =
+      let at : (k : ℕ) → ValuedAs k → eqb b k ≡ true → ValuedAs b = λ k h e. subst ValuedAs (sym (eqb-true b k e)) h in
+      ⊎_elim (at 0x26 refl) (λ h. ⊎_elim (at 0x3C refl) (λ h. ⊎_elim (at 0x3E refl) (λ h. ⊎_elim (at 0x22 refl) (λ h. ⊎_elim (at 0x27 refl) (at 0x0D refl)
+      (or_cases (eqb b 0x27) (eqb b 0x0D) h)) (or_cases (eqb b 0x22) _ h)) (or_cases (eqb b 0x3E) _ h)) (or_cases (eqb b 0x3C) _ h)) (or_cases (eqb b 0x26) _ is)
+
+  valued_clear : (b : ℕ) → is_special b ≡ false → ValuedAs b
+  unfolding is_special ValuedAs
+  valued_clear b clear =
+      let h0 = or_parts (eqb b 0x26) _ clear in
+      let h3 = or_parts (eqb b 0x22) _ (or_parts (eqb b 0x3E) _ (or_parts (eqb b 0x3C) _ h0.1).1).1 in
+      ap (λ l. seen_from (in_value so_far name value) (l ++ rest)) (escaped-clear b clear)
+      ∙ ap₂ (λ (quote reference : Bool). seen_from (if quote then in_tag (with_attribute name value so_far) [] else if reference then in_value_reference so_far name value [] else in_value so_far name (value ++ b ∷ [])) rest)
+      h3.0 h0.0
+
+  valued_byte : (b : ℕ) → ValuedAs b
+  valued_byte b = by_case (is_special b) refl
+    where
+      by_case : (special : Bool) → is_special b ≡ special → ValuedAs b
+      by_case true is = valued_special b is
+      by_case false is = valued_clear b is
+
+-- a value that was escaped
+seen-escaped_value : (so_far : Attributes) (name value bytes rest : List ℕ)
+    → seen_from (in_value so_far name value) (escaped_text bytes ++ rest) ≡ seen_from (in_value so_far name (value ++ bytes)) rest
+unfolding ValuedAs
+seen-escaped_value so_far name value [] rest = ap (λ v. seen_from (in_value so_far name v) rest) (sym (append-nil value))
+seen-escaped_value so_far name value (b ∷ bytes) rest =
+    ap (seen_from (in_value so_far name value)) (append_assoc (escaped b) (escaped_text bytes) rest)
+    ∙ valued_byte so_far name value (escaped_text bytes ++ rest) b
+    ∙ seen-escaped_value so_far name (value ++ b ∷ []) bytes rest
+    ∙ ap (λ v. seen_from (in_value so_far name v) rest) (append_assoc value (b ∷ []) bytes)
+
+-- The beginning of a span puts its declarations in force, that of a link also its URI, and the end of
+-- either puts none.
+seen-span : (bytes rest : List ℕ) → AreSafe bytes
+    → seen_from (in_text no_attributes) ((codes "<span style=\"" ++ (bytes ++ codes "\">")) ++ rest) ≡ seen_from (in_text (record { style = bytes; href = [] })) rest
+seen-span bytes rest safe =
+    ap (λ l. seen_from (in_value no_attributes (codes "style") []) l) (append_assoc bytes (codes "\">") rest)
+    ∙ seen-value no_attributes (codes "style") [] bytes (codes "\">" ++ rest) safe
+
+seen-link : (link bytes rest : List ℕ) → AreSafe bytes
+    → seen_from (in_text no_attributes) (link_begin link bytes ++ rest) ≡ seen_from (in_text (record { style = bytes; href = link })) rest
+seen-link link bytes rest safe =
+    let behind = bytes ++ codes "\">" in
+    let read : Attributes = record { style = []; href = link } in
+    ap (λ l. seen_from (in_value no_attributes (codes "href") []) l) (append_assoc (escaped_text link) (codes "\" style=\"" ++ behind) rest)
+    ∙ seen-escaped_value no_attributes (codes "href") [] link (codes "\" style=\"" ++ (behind ++ rest))
+    ∙ ap (λ l. seen_from (in_value read (codes "style") []) l) (append_assoc bytes (codes "\">") rest)
+    ∙ seen-value read (codes "style") [] bytes (codes "\">" ++ rest) safe
 
 module _ (rest : List ℕ) where
-  seen-span_begin : (scheme : Scheme) → (style : Style) → seen_from (in_text []) (span_begin scheme style ++ rest) ≡ seen_from (in_text (css scheme style)) rest
+  seen-span_begin : (scheme : Scheme) (style : Style)
+      → seen_from (in_text no_attributes) (span_begin scheme style ++ rest) ≡ seen_from (in_text (record { style = css scheme style; href = [] })) rest
   unfolding colors_css
   seen-span_begin scheme style = by_case (is_plain style) refl
     where
       by_case : (plain_is : Bool) → is_plain style ≡ plain_is
-          → seen_from (in_text []) ((if plain_is then [] else codes "<span style=\"" ++ (css scheme style ++ codes "\">")) ++ rest) ≡ seen_from (in_text (css scheme style)) rest
-      by_case true is = ap (λ s. seen_from (in_text (css scheme s)) rest) (sym (are_equal-same style plain is))
-      by_case false is = seen-begin [] (css scheme style) rest (AreSafe-css scheme style)
+          → seen_from (in_text no_attributes) ((if plain_is then [] else codes "<span style=\"" ++ (css scheme style ++ codes "\">")) ++ rest)
+          ≡ seen_from (in_text (record { style = css scheme style; href = [] })) rest
+      by_case true is = ap (λ s. seen_from (in_text (record { style = css scheme s; href = [] })) rest) (sym (are_equal-same style plain is))
+      by_case false is = seen-span (css scheme style) rest (AreSafe-css scheme style)
 
-  seen-span_end : (scheme : Scheme) (shown : Style) → seen_from (in_text (css scheme shown)) (span_end shown ++ rest) ≡ seen_from (in_text []) rest
+  seen-span_end : (scheme : Scheme) (shown : Style)
+      → seen_from (in_text (record { style = css scheme shown; href = [] })) (span_end shown ++ rest) ≡ seen_from (in_text no_attributes) rest
   unfolding colors_css
   seen-span_end scheme shown = by_case (is_plain shown) refl
     where
       by_case : (plain_is : Bool) → is_plain shown ≡ plain_is
-          → seen_from (in_text (css scheme shown)) ((if plain_is then [] else codes "</span>") ++ rest) ≡ seen_from (in_text []) rest
-      by_case true is = ap (λ s. seen_from (in_text (css scheme s)) rest) (are_equal-same shown plain is)
+          → seen_from (in_text (record { style = css scheme shown; href = [] })) ((if plain_is then [] else codes "</span>") ++ rest) ≡ seen_from (in_text no_attributes) rest
+      by_case true is = ap (λ s. seen_from (in_text (record { style = css scheme s; href = [] })) rest) (are_equal-same shown plain is)
       by_case false is = refl
 
-seen-change : (scheme : Scheme) → (shown style : Style) (rest : List ℕ) → seen_from (in_text (css scheme shown)) (change scheme shown style ++ rest) ≡ seen_from (in_text (css scheme style)) rest
-seen-change scheme shown style rest = by_case (are_equal shown style) refl
+  -- an element without a link is a span, or none
+  attributes-none : (scheme : Scheme) (element : Element) → is_none element.link ≡ true
+      → attributes_of scheme element ≡ record { style = css scheme element.style; href = [] }
+  attributes-none scheme element none =
+      ap₂ (λ (is : Bool) (link : List ℕ). record { style = if is then css scheme element.style else codes "color:inherit;" ++ css scheme element.style; href = link })
+      none (none_from_test element.link none)
+
+  seen-element_begin : (scheme : Scheme) (element : Element)
+      → seen_from (in_text no_attributes) (element_begin scheme element ++ rest) ≡ seen_from (in_text (attributes_of scheme element)) rest
+  seen-element_begin scheme element = by_case (is_none element.link) refl
+    where
+      by_case : (none : Bool) → is_none element.link ≡ none
+          → seen_from (in_text no_attributes) ((if none then span_begin scheme element.style else link_begin element.link (element_css scheme element)) ++ rest)
+          ≡ seen_from (in_text (attributes_of scheme element)) rest
+      by_case true is = seen-span_begin scheme element.style ∙ ap (λ a. seen_from (in_text a) rest) (sym (attributes-none scheme element is))
+      by_case false is = seen-link element.link (element_css scheme element) rest (AreSafe-element_css scheme element)
+
+  seen-element_end : (scheme : Scheme) (shown : Element)
+      → seen_from (in_text (attributes_of scheme shown)) (element_end shown ++ rest) ≡ seen_from (in_text no_attributes) rest
+  seen-element_end scheme shown = by_case (is_none shown.link) refl
+    where
+      by_case : (none : Bool) → is_none shown.link ≡ none
+          → seen_from (in_text (attributes_of scheme shown)) ((if none then span_end shown.style else codes "</a>") ++ rest) ≡ seen_from (in_text no_attributes) rest
+      by_case true is = ap (λ a. seen_from (in_text a) (span_end shown.style ++ rest)) (attributes-none scheme shown is) ∙ seen-span_end scheme shown.style
+      by_case false is = refl
+
+seen-change : (scheme : Scheme) (shown next : Element) (rest : List ℕ)
+    → seen_from (in_text (attributes_of scheme shown)) (change scheme shown next ++ rest) ≡ seen_from (in_text (attributes_of scheme next)) rest
+seen-change scheme shown next rest = by_case (are_same shown next) refl
   where
-    by_case : (same : Bool) → are_equal shown style ≡ same
-        → seen_from (in_text (css scheme shown)) ((if same then [] else span_end shown ++ span_begin scheme style) ++ rest) ≡ seen_from (in_text (css scheme style)) rest
-    by_case true is = ap (λ s. seen_from (in_text (css scheme s)) rest) (are_equal-same shown style is)
+    by_case : (same : Bool) → are_same shown next ≡ same
+        → seen_from (in_text (attributes_of scheme shown)) ((if same then [] else element_end shown ++ element_begin scheme next) ++ rest) ≡ seen_from (in_text (attributes_of scheme next)) rest
+    by_case true is = ap (λ s. seen_from (in_text (attributes_of scheme s)) rest) (are_same-same shown next is)
     by_case false is =
-        ap (seen_from (in_text (css scheme shown))) (append_assoc (span_end shown) (span_begin scheme style) rest)
-        ∙ seen-span_end (span_begin scheme style ++ rest) scheme shown
-        ∙ seen-span_begin rest scheme style
+        ap (seen_from (in_text (attributes_of scheme shown))) (append_assoc (element_end shown) (element_begin scheme next) rest)
+        ∙ seen-element_end (element_begin scheme next ++ rest) scheme shown
+        ∙ seen-element_begin rest scheme next
 
 -- the line break behind 0D, and a text
 abbrev pub breaks : (returned is_line_feed : Bool) → List Seen
@@ -116,14 +199,14 @@ breaks returned is_line_feed = if returned && not is_line_feed then break ∷ []
 
 abbrev pub seen_text : Scheme → Standing → Bool → List ℕ → List Seen
 seen_text scheme at is_line_feed [] = []
-seen_text scheme at is_line_feed (b ∷ bytes) = breaks at.returned is_line_feed ++ map (text (css scheme at.selected)) (b ∷ bytes)
+seen_text scheme at is_line_feed (b ∷ bytes) = breaks at.returned is_line_feed ++ map (text (attributes_of scheme at.selected)) (b ∷ bytes)
 
 abbrev pub seen_calls : Scheme → Standing → List Call → List Seen
 seen_calls scheme at [] = []
 seen_calls scheme at (call ∷ calls) =
     seen_text scheme at (is_executed 0x0A call) (stripped_call call) ++ seen_calls scheme (standing_after call at) calls
 
-seen-line_break : (attribute rest : List ℕ) (returned is_line_feed : Bool)
+seen-line_break : (attribute : Attributes) (rest : List ℕ) (returned is_line_feed : Bool)
     → seen_from (in_text attribute) (line_break returned is_line_feed ++ rest) ≡ breaks returned is_line_feed ++ seen_from (in_text attribute) rest
 seen-line_break attribute rest returned is_line_feed = by_case (returned && not is_line_feed)
   where
@@ -134,44 +217,44 @@ seen-line_break attribute rest returned is_line_feed = by_case (returned && not 
 module _ (scheme : Scheme) where
   -- text of a style is seen with its declarations
   seen-text : (at : Standing) (is_line_feed : Bool) (bytes rest : List ℕ)
-      → seen_from (in_text (css scheme at.shown)) (text_html scheme at is_line_feed bytes ++ rest)
-      ≡ seen_text scheme at is_line_feed bytes ++ seen_from (in_text (css scheme (after_text at.shown at.selected bytes))) rest
+      → seen_from (in_text (attributes_of scheme at.shown)) (text_html scheme at is_line_feed bytes ++ rest)
+      ≡ seen_text scheme at is_line_feed bytes ++ seen_from (in_text (attributes_of scheme (after_text at.shown at.selected bytes))) rest
   unfolding text_html
   seen-text at is_line_feed [] rest = refl
   seen-text at is_line_feed (b ∷ bytes) rest =
       let changed = change scheme at.shown at.selected in
       let broken = line_break at.returned is_line_feed in
       let escaped_bytes = escaped_text (b ∷ bytes) in
-      let attribute = css scheme at.selected in
-      ap (seen_from (in_text (css scheme at.shown))) (append_assoc (changed ++ broken) escaped_bytes rest ∙ append_assoc changed broken (escaped_bytes ++ rest))
+      let attribute = attributes_of scheme at.selected in
+      ap (seen_from (in_text (attributes_of scheme at.shown))) (append_assoc (changed ++ broken) escaped_bytes rest ∙ append_assoc changed broken (escaped_bytes ++ rest))
       ∙ seen-change scheme at.shown at.selected (broken ++ (escaped_bytes ++ rest))
       ∙ seen-line_break attribute (escaped_bytes ++ rest) at.returned is_line_feed
       ∙ ap (λ l. breaks at.returned is_line_feed ++ l) (seen-escaped_text attribute (b ∷ bytes) rest)
       ∙ sym (append_assoc (breaks at.returned is_line_feed) (map (text attribute) (b ∷ bytes)) (seen_from (in_text attribute) rest))
 
   seen-html_from : (at : Standing) (calls : List Call)
-      → seen_from (in_text (css scheme at.shown)) (html_from scheme at calls ++ span_end (standing_at_end at calls).shown) ≡ seen_calls scheme at calls
-  seen-html_from at [] = ap (seen_from (in_text (css scheme at.shown))) (sym (append-nil (span_end at.shown))) ∙ seen-span_end [] scheme at.shown
+      → seen_from (in_text (attributes_of scheme at.shown)) (html_from scheme at calls ++ element_end (standing_at_end at calls).shown) ≡ seen_calls scheme at calls
+  seen-html_from at [] = ap (seen_from (in_text (attributes_of scheme at.shown))) (sym (append-nil (element_end at.shown))) ∙ seen-element_end [] scheme at.shown
   seen-html_from at (call ∷ calls) =
       let bytes = stripped_call call in
       let after = standing_after call at in
-      let rest = html_from scheme after calls ++ span_end (standing_at_end after calls).shown in
-      ap (seen_from (in_text (css scheme at.shown))) (append_assoc (call_html scheme at call) (html_from scheme after calls) (span_end (standing_at_end after calls).shown))
+      let rest = html_from scheme after calls ++ element_end (standing_at_end after calls).shown in
+      ap (seen_from (in_text (attributes_of scheme at.shown))) (append_assoc (call_html scheme at call) (html_from scheme after calls) (element_end (standing_at_end after calls).shown))
       ∙ seen-text at (is_executed 0x0A call) bytes rest
       ∙ ap (λ l. seen_text scheme at (is_executed 0x0A call) bytes ++ l) (seen-html_from after calls)
 
   pub seen-html : (calls : List Call) → seen (html scheme calls) ≡ seen_calls scheme at_start calls
   unfolding colors_css
-  seen-html calls = ap (seen_from (in_text [])) (normalized-html scheme calls) ∙ seen-html_from at_start calls
+  seen-html calls = ap (seen_from (in_text no_attributes)) (normalized-html scheme calls) ∙ seen-html_from at_start calls
 
   -- line breaks are not read
-  read-seen_text : (at : Standing) (is_line_feed : Bool) (bytes : List ℕ) → flat_map read_of (seen_text scheme at is_line_feed bytes) ≡ map (under (css scheme at.selected)) bytes
+  read-seen_text : (at : Standing) (is_line_feed : Bool) (bytes : List ℕ) → flat_map read_of (seen_text scheme at is_line_feed bytes) ≡ map (under (attributes_of scheme at.selected)) bytes
   read-seen_text at is_line_feed [] = refl
   read-seen_text at is_line_feed (b ∷ bytes) = by_case (at.returned && not is_line_feed)
     where
-      by_case : (wanted : Bool) → flat_map read_of ((if wanted then break ∷ [] else []) ++ map (text (css scheme at.selected)) (b ∷ bytes)) ≡ map (under (css scheme at.selected)) (b ∷ bytes)
-      by_case true = read-text (css scheme at.selected) (b ∷ bytes)
-      by_case false = read-text (css scheme at.selected) (b ∷ bytes)
+      by_case : (wanted : Bool) → flat_map read_of ((if wanted then break ∷ [] else []) ++ map (text (attributes_of scheme at.selected)) (b ∷ bytes)) ≡ map (under (attributes_of scheme at.selected)) (b ∷ bytes)
+      by_case true = read-text (attributes_of scheme at.selected) (b ∷ bytes)
+      by_case false = read-text (attributes_of scheme at.selected) (b ∷ bytes)
 
   read-seen_calls : (at : Standing) (calls : List Call) → flat_map read_of (seen_calls scheme at calls) ≡ shown_from scheme at.selected calls
   read-seen_calls at [] = refl
@@ -180,10 +263,10 @@ module _ (scheme : Scheme) where
       ∙ ap₂ (λ a b. a ++ b) (read-seen_text at (is_executed 0x0A call) (stripped_call call)) (read-seen_calls (standing_after call at) calls)
 
   -- Reading the HTML of calls gives what they show.
-  pub read-html : (calls : List Call) → read (html scheme calls) ≡ shown_from scheme plain calls
+  pub read-html : (calls : List Call) → read (html scheme calls) ≡ shown_from scheme no_element calls
   read-html calls = ap (flat_map read_of) (seen-html calls) ∙ read-seen_calls at_start calls
 
-bytes-under : (attribute bytes : List ℕ) → map byte_of (map (under attribute) bytes) ≡ bytes
+bytes-under : (attribute : Attributes) (bytes : List ℕ) → map byte_of (map (under attribute) bytes) ≡ bytes
 bytes-under attribute [] = refl
 bytes-under attribute (b ∷ bytes) = ap (λ l. b ∷ l) (bytes-under attribute bytes)
 
@@ -191,12 +274,12 @@ map-append_bytes : (first second : List Shown) → map byte_of (first ++ second)
 map-append_bytes [] second = refl
 map-append_bytes (s ∷ first) second = ap (λ l. byte_of s ∷ l) (map-append_bytes first second)
 
-bytes-shown_from : (scheme : Scheme) → (style : Style) (calls : List Call) → map byte_of (shown_from scheme style calls) ≡ stripped calls
-bytes-shown_from scheme style [] = refl
-bytes-shown_from scheme style (call ∷ calls) =
-    map-append_bytes (map (under (css scheme style)) (stripped_call call)) (shown_from scheme (style_after call style) calls)
-    ∙ ap₂ (λ a b. a ++ b) (bytes-under (css scheme style) (stripped_call call)) (bytes-shown_from scheme (style_after call style) calls)
+bytes-shown_from : (scheme : Scheme) (element : Element) (calls : List Call) → map byte_of (shown_from scheme element calls) ≡ stripped calls
+bytes-shown_from scheme element [] = refl
+bytes-shown_from scheme element (call ∷ calls) =
+    map-append_bytes (map (under (attributes_of scheme element)) (stripped_call call)) (shown_from scheme (element_after call element) calls)
+    ∙ ap₂ (λ a b. a ++ b) (bytes-under (attributes_of scheme element) (stripped_call call)) (bytes-shown_from scheme (element_after call element) calls)
 
 -- and so its text is the stripped text
 pub text-html : (scheme : Scheme) → (calls : List Call) → map byte_of (read (html scheme calls)) ≡ stripped calls
-text-html scheme calls = ap (map byte_of) (read-html scheme calls) ∙ bytes-shown_from scheme plain calls
+text-html scheme calls = ap (map byte_of) (read-html scheme calls) ∙ bytes-shown_from scheme no_element calls

@@ -1,9 +1,9 @@
 -- The HTML is UTF-8.
-use Rattle.std.proofs.Common.{◌≡◌, ◌<◌, ℕ, Bool, true, false, ◌&&◌, eqb, List, [], ◌∷◌, ◌++◌, codes, refl, sym, subst, ⊎_elim, arith}
-use Rattle.std.specs.Prelude.{not, nat_lt, encode_utf8, if◌then◌else◌}
+use Rattle.std.proofs.Common.{◌≡◌, ◌<◌, ℕ, Bool, true, false, ◌&&◌, eqb, List, [], ◌∷◌, ◌++◌, codes, refl, sym, subst, ⊎_elim, inl, inr, arith}
+use Rattle.std.specs.Prelude.{not, nat_lt, nat_le, encode_utf8, if◌then◌else◌}
 use Rattle.std.specs.List.{list_all}
 use Rattle.std.specs.Str.{IsUtf8}
-use Rattle.std.proofs.lemmas.Bool.{and_parts, or_cases, eqb-true, ltb-true}
+use Rattle.std.proofs.lemmas.Bool.{and_parts, or_cases, eqb-true, ltb-true, leb-true}
 use Rattle.std.proofs.lemmas.Str.{IsUtf8-append, IsUtf8-nil, IsUtf8-encode}
 use Rattle.anstyle_parse.specs.Stream.Call.{Call, print, execute, hook, put, unhook, osc_dispatch, csi_dispatch, esc_dispatch}
 use Rattle.anstyle_parse.specs.Laws.Lawful.{is_character}
@@ -12,14 +12,15 @@ use Rattle.ansi_strip.specs.Strip.{is_layout, stripped_call}
 use Rattle.anstyle_parse.proofs.Characters.Layout.{IsUtf8-byte, layout-low}
 use Rattle.ansi_strip.proofs.Showable.{IsShowable, AreShowable, IsScalar-character}
 use Rattle.ansi_style.specs.declared.style.Style.{Style}
-use Rattle.ansi_style.specs.Style.{are_equal}
 use Rattle.ansi_html.specs.declared.scheme.Scheme.{Scheme}
 use Rattle.ansi_html.specs.Css.{css}
-use Rattle.ansi_html.specs.Grammar.{is_special}
-use Rattle.ansi_html.specs.Html.{escaped_text, is_plain, span_begin, span_end, change, Standing, at_start, line_break, beginning, is_executed, text_html, call_html, standing_after, html_from, standing_at_end, html}
+use Rattle.ansi_html.specs.Links.{IsLink, is_none}
+use Rattle.ansi_html.specs.Grammar.{is_special, is_href_byte}
+use Rattle.ansi_html.specs.Html.{escaped_text, is_plain, span_begin, span_end, Element, are_same, element_css, link_begin, element_begin, element_end, change, Standing, at_start, line_break, beginning, is_executed, text_html, call_html, standing_after, html_from, standing_at_end, html}
 use Rattle.ansi_html.proofs.HtmlLemmas.{AreClear-encode, escaped_text-clear}
 use Rattle.ansi_html.proofs.ColorLemmas.{choose}
-use Rattle.ansi_html.proofs.DeclarationLemmas.{is_safe, AreSafe, AreSafe-css, ascii-safe}
+use Rattle.ansi_html.proofs.DeclarationLemmas.{is_safe, AreSafe, AreSafe-css, AreSafe-element_css, ascii-safe}
+use Rattle.ansi_html.proofs.SoundLemmas.{IsHref-escaped, AreSound, AreSound-start, AreSound-after}
 
 layout_ascii : (b : ℕ) → is_layout b ≡ true → b < 0x80
 layout_ascii b is = let low = layout-low b is in omega arith
@@ -77,8 +78,24 @@ IsUtf8-stripped (osc_dispatch parts bell) h = IsUtf8-nil
 IsUtf8-stripped (csi_dispatch gs is ig f) h = IsUtf8-nil
 IsUtf8-stripped (esc_dispatch is ig f) h = IsUtf8-nil
 
-IsUtf8-span_end : (shown : Style) → IsUtf8 (span_end shown)
-IsUtf8-span_end shown = choose IsUtf8 (is_plain shown) [] (codes "</span>") IsUtf8-nil (IsUtf8-ascii (codes "</span>") refl)
+-- a link
+IsUtf8-href : (bytes : List ℕ) → list_all is_href_byte bytes ≡ true → IsUtf8 bytes
+unfolding is_href_byte
+IsUtf8-href [] are = IsUtf8-nil
+IsUtf8-href (b ∷ bytes) are =
+    let parts = and_parts (is_href_byte b) (list_all is_href_byte bytes) are in
+    let visible = and_parts (nat_le 0x21 b && nat_le b 0x7E) _ parts.0 in
+    let low = leb-true b 0x7E (and_parts (nat_le 0x21 b) (nat_le b 0x7E) visible.0).1 in
+    IsUtf8-append (b ∷ []) bytes (IsUtf8-byte b (omega (arith, low))) (IsUtf8-href bytes parts.1)
+
+IsUtf8-link : (link : List ℕ) → IsLink link → IsUtf8 (escaped_text link)
+IsUtf8-link link (inl none) = subst (λ l. IsUtf8 (escaped_text l)) (sym none) IsUtf8-nil
+IsUtf8-link link (inr is) = IsUtf8-href (escaped_text link) (IsHref-escaped link is).bytes
+
+IsUtf8-end : (shown : Element) → IsUtf8 (element_end shown)
+IsUtf8-end shown =
+    choose IsUtf8 (is_none shown.link) (span_end shown.style) (codes "</a>")
+    (choose IsUtf8 (is_plain shown.style) [] (codes "</span>") IsUtf8-nil (IsUtf8-ascii (codes "</span>") refl)) (IsUtf8-ascii (codes "</a>") refl)
 
 IsUtf8-span_begin : (scheme : Scheme) → (style : Style) → IsUtf8 (span_begin scheme style)
 IsUtf8-span_begin scheme style =
@@ -86,28 +103,38 @@ IsUtf8-span_begin scheme style =
     (IsUtf8-append (codes "<span style=\"") (css scheme style ++ codes "\">") (IsUtf8-ascii (codes "<span style=\"") refl)
     (IsUtf8-append (css scheme style) (codes "\">") (IsUtf8-safe (css scheme style) (AreSafe-css scheme style)) (IsUtf8-ascii (codes "\">") refl)))
 
-IsUtf8-change : (scheme : Scheme) → (shown style : Style) → IsUtf8 (change scheme shown style)
-IsUtf8-change scheme shown style =
-    choose IsUtf8 (are_equal shown style) [] (span_end shown ++ span_begin scheme style) IsUtf8-nil
-    (IsUtf8-append (span_end shown) (span_begin scheme style) (IsUtf8-span_end shown) (IsUtf8-span_begin scheme style))
+IsUtf8-begin : (scheme : Scheme) (element : Element) → IsLink element.link → IsUtf8 (element_begin scheme element)
+IsUtf8-begin scheme element is =
+    let declarations = element_css scheme element in
+    choose IsUtf8 (is_none element.link) (span_begin scheme element.style) (link_begin element.link declarations) (IsUtf8-span_begin scheme element.style)
+    (IsUtf8-append (codes "<a rel=\"nofollow noreferrer\" href=\"") _ (IsUtf8-ascii (codes "<a rel=\"nofollow noreferrer\" href=\"") refl)
+    (IsUtf8-append (escaped_text element.link) _ (IsUtf8-link element.link is)
+    (IsUtf8-append (codes "\" style=\"") (declarations ++ codes "\">") (IsUtf8-ascii (codes "\" style=\"") refl)
+    (IsUtf8-append declarations (codes "\">") (IsUtf8-safe declarations (AreSafe-element_css scheme element)) (IsUtf8-ascii (codes "\">") refl)))))
 
-IsUtf8-beginning : (scheme : Scheme) (at : Standing) (is_line_feed : Bool) → IsUtf8 (beginning scheme at is_line_feed)
-IsUtf8-beginning scheme at is_line_feed =
-    IsUtf8-append (change scheme at.shown at.selected) (line_break at.returned is_line_feed) (IsUtf8-change scheme at.shown at.selected)
+IsUtf8-change : (scheme : Scheme) (shown next : Element) → IsLink next.link → IsUtf8 (change scheme shown next)
+IsUtf8-change scheme shown next is =
+    choose IsUtf8 (are_same shown next) [] (element_end shown ++ element_begin scheme next) IsUtf8-nil
+    (IsUtf8-append (element_end shown) (element_begin scheme next) (IsUtf8-end shown) (IsUtf8-begin scheme next is))
+
+IsUtf8-beginning : (scheme : Scheme) (at : Standing) (is_line_feed : Bool) → AreSound at → IsUtf8 (beginning scheme at is_line_feed)
+IsUtf8-beginning scheme at is_line_feed sound =
+    IsUtf8-append (change scheme at.shown at.selected) (line_break at.returned is_line_feed) (IsUtf8-change scheme at.shown at.selected sound.selected.is_link)
     (choose IsUtf8 (at.returned && not is_line_feed) (codes "<br>") [] (IsUtf8-ascii (codes "<br>") refl) IsUtf8-nil)
 
-IsUtf8-text_html : (scheme : Scheme) (at : Standing) (is_line_feed : Bool) (bytes : List ℕ) → IsUtf8 (escaped_text bytes) → IsUtf8 (text_html scheme at is_line_feed bytes)
+IsUtf8-text_html : (scheme : Scheme) (at : Standing) (is_line_feed : Bool) (bytes : List ℕ) → AreSound at → IsUtf8 (escaped_text bytes) → IsUtf8 (text_html scheme at is_line_feed bytes)
 unfolding text_html
-IsUtf8-text_html scheme at is_line_feed [] is = IsUtf8-nil
-IsUtf8-text_html scheme at is_line_feed (b ∷ bytes) is = IsUtf8-append (beginning scheme at is_line_feed) (escaped_text (b ∷ bytes)) (IsUtf8-beginning scheme at is_line_feed) is
+IsUtf8-text_html scheme at is_line_feed [] sound is = IsUtf8-nil
+IsUtf8-text_html scheme at is_line_feed (b ∷ bytes) sound is = IsUtf8-append (beginning scheme at is_line_feed) (escaped_text (b ∷ bytes)) (IsUtf8-beginning scheme at is_line_feed sound) is
 
-IsUtf8-html_from : (scheme : Scheme) (at : Standing) (calls : List Call) → AreShowable calls → IsUtf8 (html_from scheme at calls)
-IsUtf8-html_from scheme at [] are = IsUtf8-nil
-IsUtf8-html_from scheme at (call ∷ calls) are =
+IsUtf8-html_from : (scheme : Scheme) (at : Standing) (calls : List Call) → AreSound at → AreShowable calls → IsUtf8 (html_from scheme at calls)
+IsUtf8-html_from scheme at [] sound are = IsUtf8-nil
+IsUtf8-html_from scheme at (call ∷ calls) sound are =
     IsUtf8-append (call_html scheme at call) (html_from scheme (standing_after call at) calls)
-    (IsUtf8-text_html scheme at (is_executed 0x0A call) (stripped_call call) (IsUtf8-stripped call are.0)) (IsUtf8-html_from scheme (standing_after call at) calls are.1)
+    (IsUtf8-text_html scheme at (is_executed 0x0A call) (stripped_call call) sound (IsUtf8-stripped call are.0))
+    (IsUtf8-html_from scheme (standing_after call at) calls (AreSound-after call at sound) are.1)
 
 pub IsUtf8-html : (scheme : Scheme) → (calls : List Call) → AreShowable calls → IsUtf8 (html scheme calls)
 IsUtf8-html scheme calls are =
     let last = (standing_at_end at_start calls).shown in
-    IsUtf8-append (html_from scheme at_start calls) (span_end last) (IsUtf8-html_from scheme at_start calls are) (IsUtf8-span_end last)
+    IsUtf8-append (html_from scheme at_start calls) (element_end last) (IsUtf8-html_from scheme at_start calls AreSound-start are) (IsUtf8-end last)

@@ -7,7 +7,7 @@ use Rattle.anstyle_parse.specs.Io.Output.{Adds}
 use Rattle.anstyle_parse.proofs.Written.Output.{Adds-nil, Adds-append}
 use Rattle.ansi_html.specs.declared.scheme.Scheme.{Scheme}
 use Rattle.ansi_html.specs.declared.performer.HtmlWriter.{HtmlWriter}
-use Rattle.ansi_html.specs.Html.{Standing, call_html, standing_after, html_from, standing_at_end, span_end}
+use Rattle.ansi_html.specs.Html.{Standing, call_html, standing_after, html_from, standing_at_end, element_end}
 use Rattle.ansi_html.specs.Writer.{output_of, scheme_of, standing_of, text_from, ending_from, Takes, TakesAll}
 
 -- the HTML of two lists of calls, one after another, and where it stands at the end
@@ -47,6 +47,6 @@ module _ {W : Type 0} (sink : SinkOf W) where
             (Adds-append sink (html_from scheme at calls) (text_from middle more) (output_of old) (output_of middle) (output_of new) first.added second.added);
       }
 
-  -- the end of the span that is open behind the calls
+  -- the end of the element that is open behind the calls
   pub ending_from-taken : (old new : HtmlWriter W) (calls : List Call) → TakesAll sink old calls new → ending_from new [] ≡ ending_from old calls
-  ending_from-taken old new calls taken = ap (λ at. span_end at.shown) taken.standing
+  ending_from-taken old new calls taken = ap (λ at. element_end at.shown) taken.standing

@@ -1,12 +1,13 @@
--- The grammar of the HTML that is written in a scheme. A fragment is text and spans, which do not
--- nest; a span has one attribute, of colours and declarations from a fixed vocabulary; in a text
--- there are line breaks. Nothing else is in it.
+-- The grammar of the HTML that is written in a scheme. A fragment is text, spans and links, which do
+-- not nest; a span has one attribute, of colours and declarations from a fixed vocabulary, and a link
+-- has a URI too; in a text there are line breaks. Nothing else is in it.
 use Rattle.std.specs.Prelude.{◌≡◌, ℕ, Bool, false, ◌||◌, ◌&&◌, nat_le, ◌==◌, not, List, [], ◌∷◌, ◌++◌, codes, IsTrue}
-use Rattle.std.specs.List.{AllByRecursion}
+use Rattle.std.specs.List.{AllByRecursion, list_all}
 use Rattle.ansi_html.specs.declared.contrast.Rgb.{Rgb}
 use Rattle.ansi_html.specs.declared.scheme.Scheme.{Scheme}
 use Rattle.ansi_html.specs.Contrast.{IsReadOnLight, IsReadOnDark, are_readable, black, white}
 use Rattle.ansi_html.specs.Css.{declared, themed}
+use Rattle.ansi_html.specs.Links.{has_scheme, is_visible}
 
 -- A byte of text: 20 and above, 09 or 0A; and none with a meaning in HTML, as 0D has one too.
 unfoldable pub is_special : ℕ → Bool
@@ -76,10 +77,24 @@ pub data AreDeclarations : List ℕ → Type 0 where
   no_declaration : AreDeclarations []
   declaration : (first rest : List ℕ) → IsDeclaration first → AreDeclarations rest → AreDeclarations (first ++ rest)
 
--- text, and spans of text with an attribute of colours and declarations
+-- What a link's href is: it begins with one of the schemes, and is visible ASCII without quotes and
+-- brackets.
+unfoldable pub is_href_byte : ℕ → Bool
+is_href_byte b = is_visible b && not (b == 0x22 || (b == 0x27 || (b == 0x3C || b == 0x3E)))
+
+pub record IsHref (href : List ℕ) : Type 0 where
+  pub scheme : IsTrue (has_scheme href)
+  pub bytes : IsTrue (list_all is_href_byte href)
+
+-- text; spans of text with an attribute of colours and declarations; and links with one too, where
+-- a colour for all pages stands before these
 pub data IsFragment (scheme : Scheme) : List ℕ → Type 0 where
   end : IsFragment scheme []
   text : (plain rest : List ℕ) → IsText plain → IsFragment scheme rest → IsFragment scheme (plain ++ rest)
   span : (colors others styled rest : List ℕ) → AreColors scheme colors → AreDeclarations others → IsText styled
       → IsFragment scheme rest
       → IsFragment scheme (codes "<span style=\"" ++ ((colors ++ others) ++ (codes "\">" ++ (styled ++ (codes "</span>" ++ rest)))))
+  link : (href colors others linked rest : List ℕ) → IsHref href → AreColors scheme colors → AreDeclarations others
+      → IsText linked → IsFragment scheme rest
+      → IsFragment scheme (codes "<a rel=\"nofollow noreferrer\" href=\"" ++ (href ++ (codes "\" style=\"color:inherit;"
+      ++ ((colors ++ others) ++ (codes "\">" ++ (linked ++ (codes "</a>" ++ rest)))))))

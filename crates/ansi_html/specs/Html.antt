@@ -1,6 +1,7 @@
--- The HTML of a list of calls: their text, escaped, in spans that give it its style.
+-- The HTML of a list of calls: their text, escaped, in elements that give it its style and its link.
 use Rattle.std.specs.Prelude.{ℕ, Bool, false, ◌&&◌, not, ◌==◌, List, [], ◌∷◌, ◌++◌, codes, if◌then◌else◌}
 use Rattle.std.specs.List.{flat_map}
+use Rattle.std.specs.Str.{bytes_eq}
 use Rattle.anstyle_parse.specs.Stream.Call.{Call, execute}
 use Rattle.ansi_strip.specs.Strip.{stripped_call}
 use Rattle.ansi_style.specs.declared.style.Style.{Style}
@@ -8,6 +9,7 @@ use Rattle.ansi_style.specs.Style.{plain, are_equal}
 use Rattle.ansi_style.specs.Rendition.{style_after}
 use Rattle.ansi_html.specs.declared.scheme.Scheme.{Scheme}
 use Rattle.ansi_html.specs.Css.{css}
+use Rattle.ansi_html.specs.Links.{is_none, link_after}
 
 -- The bytes that have a meaning in HTML (13.1.2.3 and 13.1.4 of the HTML standard), as
 -- character references; and 0D, which a reader would make 0A of (13.2.3.5).
@@ -34,26 +36,61 @@ span_begin scheme style = if is_plain style then [] else codes "<span style=\"" 
 abbrev pub span_end : Style → List ℕ
 span_end style = if is_plain style then [] else codes "</span>"
 
--- from the style of the text so far to that of the text to come
-abbrev pub change : Scheme → Style → Style → List ℕ
-change scheme shown style = if are_equal shown style then [] else span_end shown ++ span_begin scheme style
+-- What text stands in: an element of its style and its link, or none where it has neither.
+pub record Element : Type 0 where
+  pub style : Style
+  pub link : List ℕ
 
--- Where the HTML of a stream stands: the style of the last text, and the one that is selected for what
--- comes; and whether the last text was 0D.
+abbrev pub element : Style → (link : List ℕ) → Element
+element style link = record { style = style; link = link }
+
+abbrev pub no_element : Element
+no_element = element plain []
+
+abbrev pub are_same : Element → Element → Bool
+are_same one other = are_equal one.style other.style && bytes_eq one.link other.link
+
+-- The declarations of an element. A link whose style has no colour has that of the text around it,
+-- since a browser's own for links is not read on each page (CSS Cascade, 7.2; where the style has a
+-- colour, that one counts, which stands later).
+abbrev pub element_css : Scheme → Element → List ℕ
+element_css scheme element =
+    if is_none element.link then css scheme element.style else codes "color:inherit;" ++ css scheme element.style
+
+-- the beginning of a link, which asks that no page be told where it is (HTML standard, 4.6.7)
+abbrev pub link_begin : (link css : List ℕ) → List ℕ
+link_begin link css =
+    codes "<a rel=\"nofollow noreferrer\" href=\""
+    ++ (escaped_text link ++ (codes "\" style=\"" ++ (css ++ codes "\">")))
+
+abbrev pub element_begin : Scheme → Element → List ℕ
+element_begin scheme element =
+    if is_none element.link then span_begin scheme element.style
+    else link_begin element.link (element_css scheme element)
+
+abbrev pub element_end : Element → List ℕ
+element_end element = if is_none element.link then span_end element.style else codes "</a>"
+
+-- from the element of the text so far to that of the text to come
+abbrev pub change : Scheme → Element → Element → List ℕ
+change scheme shown next = if are_same shown next then [] else element_end shown ++ element_begin scheme next
+
+-- Where the HTML of a stream stands: the element of the last text, and the one that is selected for
+-- what comes; and whether the last text was 0D.
 pub record Standing : Type 0 where
-  pub shown : Style
-  pub selected : Style
+  pub shown : Element
+  pub selected : Element
   pub returned : Bool
 
 abbrev pub at_start : Standing
-at_start = record { shown = plain; selected = plain; returned = false }
+at_start = record { shown = no_element; selected = no_element; returned = false }
 
 -- A 0D that comes by a reference ends no line. So where the last text was 0D, a line break stands
 -- before the next, unless that is 0A.
 abbrev pub line_break : (returned is_line_feed : Bool) → List ℕ
 line_break returned is_line_feed = if returned && not is_line_feed then codes "<br>" else []
 
--- what begins a text in the style that is selected, and the text; where there is none, nothing
+-- what begins a text in the element that is selected, and the text; where there is none, nothing
 abbrev pub beginning : Scheme → Standing → (is_line_feed : Bool) → List ℕ
 beginning scheme at is_line_feed = change scheme at.shown at.selected ++ line_break at.returned is_line_feed
 
@@ -74,10 +111,13 @@ is_executed byte _ = false
 abbrev pub call_html : Scheme → Standing → Call → List ℕ
 call_html scheme at call = text_html scheme at (is_executed 0x0A call) (stripped_call call)
 
+abbrev pub element_after : Call → Element → Element
+element_after call it = element (style_after call it.style) (link_after call it.link)
+
 abbrev pub standing_after : Call → Standing → Standing
 standing_after call at = record {
   shown = after_text at.shown at.selected (stripped_call call);
-  selected = style_after call at.selected;
+  selected = element_after call at.selected;
   returned = after_text at.returned (is_executed 0x0D call) (stripped_call call);
 }
 
@@ -95,7 +135,7 @@ abbrev pub html_text : Scheme → List Call → List ℕ
 html_text scheme calls = html_from scheme at_start calls
 
 abbrev pub html_ending : List Call → List ℕ
-html_ending calls = span_end (standing_at_end at_start calls).shown
+html_ending calls = element_end (standing_at_end at_start calls).shown
 
 -- The HTML of a stream's calls, in a scheme.
 abbrev pub html : Scheme → List Call → List ℕ

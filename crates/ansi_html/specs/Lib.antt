@@ -1,8 +1,10 @@
 pub mod Contrast
 pub mod Palette
 pub mod Css
+pub mod Links
 pub mod Html
 pub mod Reader
 pub mod Grammar
+pub mod ShownLinks
 pub mod Writer
 pub mod AddingProof

@@ -1,8 +1,9 @@
--- A reader of HTML, as far as it is used here: text, line breaks, tags with one quoted attribute, and
+-- A reader of HTML, as far as it is used here: text, line breaks, tags with quoted attributes, and
 -- the six character references. First it makes one 0A of each 0D, with the 0A behind it where there is
 -- one (HTML standard, 13.2.3.5). The states are those of the standard's tokenizer that such text meets:
 -- data (13.2.5.1), character reference (13.2.5.72 to 80), tag and its name (13.2.5.6 to 8), attributes
--- (13.2.5.32 to 40), attribute value, double-quoted (13.2.5.36). A `br` has no end and no text.
+-- (13.2.5.32 to 40), attribute value, double-quoted (13.2.5.36), and a reference in it. A `br` has no
+-- end and no text.
 --
 -- What a fragment needs of its page, so that a browser reads it as this reader does: it stands in a
 -- `<pre>`, right after a newline of the page's own, since a browser drops the 0A that begins a `<pre>`
@@ -12,21 +13,37 @@ use Rattle.std.specs.Prelude.{ℕ, Bool, true, false, ◌&&◌, ◌==◌, bytes_
 use Rattle.std.specs.List.{flat_map}
 use Rattle.anstyle_parse.specs.Stream.Call.{Call}
 use Rattle.ansi_strip.specs.Strip.{stripped_call}
-use Rattle.ansi_style.specs.declared.style.Style.{Style}
-use Rattle.ansi_style.specs.Rendition.{style_after}
 use Rattle.ansi_html.specs.declared.scheme.Scheme.{Scheme}
-use Rattle.ansi_html.specs.Css.{css}
+use Rattle.ansi_html.specs.Html.{Element, element_css, element_after}
 
--- A byte of text, and the style attribute under which it stands.
+-- What a tag has: the declarations of its style, and the URI of its link. What it lacks is empty.
+pub record Attributes : Type 0 where
+  pub style : List ℕ
+  pub href : List ℕ
+
+abbrev pub no_attributes : Attributes
+no_attributes = record { style = []; href = [] }
+
+-- these with one more; another one than the two changes nothing
+abbrev pub with_attribute : (name value : List ℕ) → Attributes → Attributes
+with_attribute name value attributes =
+    if bytes_eq name (codes "style") then record { style = value; href = attributes.href }
+    else if bytes_eq name (codes "href") then record { style = attributes.style; href = value }
+    else attributes
+
+-- A byte of text, and the attributes under which it stands.
 pub record Shown : Type 0 where
   pub byte : ℕ
-  pub attribute : List ℕ
+  pub attributes : Attributes
 
-abbrev pub under : List ℕ → ℕ → Shown
-under attribute b = record { byte = b; attribute = attribute }
+abbrev pub under : Attributes → ℕ → Shown
+under attributes b = record { byte = b; attributes = attributes }
 
 abbrev pub byte_of : Shown → ℕ
 byte_of shown = shown.byte
+
+abbrev pub href_of : Shown → List ℕ
+href_of shown = shown.attributes.href
 
 -- Newlines, normalized: each 0D is 0A, and a 0A behind it is dropped.
 abbrev pub normalized_from : (returned : Bool) → List ℕ → List ℕ
@@ -39,14 +56,16 @@ normalized_from returned (b ∷ bytes) =
 abbrev pub normalized : List ℕ → List ℕ
 normalized bytes = normalized_from false bytes
 
--- where a reader is: in text or in a reference under an attribute; in the name of a tag that stands
--- in such text; in a tag, or in its quoted value, with the value so far
+-- where a reader is: in text or in a reference under attributes; in the name of a tag that stands in
+-- such text; in a tag, with its attributes so far, in the name of one, in a quoted value, or in a
+-- reference there
 pub data Place : Type 0 where
-  in_text : (attribute : List ℕ) → Place
-  in_reference : (attribute name : List ℕ) → Place
-  in_name : (attribute name : List ℕ) → Place
-  in_tag : (value : List ℕ) → Place
-  in_value : (value : List ℕ) → Place
+  in_text : Attributes → Place
+  in_reference : Attributes → (name : List ℕ) → Place
+  in_name : Attributes → (name : List ℕ) → Place
+  in_tag : Attributes → (attribute : List ℕ) → Place
+  in_value : Attributes → (attribute value : List ℕ) → Place
+  in_value_reference : Attributes → (attribute value name : List ℕ) → Place
 
 -- the character of a reference
 abbrev pub referred : List ℕ → List ℕ
@@ -59,31 +78,43 @@ referred name =
     else if bytes_eq name (codes "#13") then 0x0D ∷ []
     else []
 
--- What one byte leads to. A tag puts the value of its attribute in force, and an end tag, which
--- has none, the empty one: this reads spans that do not nest. A `br` changes nothing.
+-- What one byte leads to. A tag puts its attributes in force, and an end tag, which has none, the
+-- empty ones: this reads elements that do not nest. A `br` changes nothing.
 abbrev pub place_after : Place → ℕ → Place
-place_after (in_text attribute) b =
-    if b == 0x3C then in_name attribute [] else if b == 0x26 then in_reference attribute [] else in_text attribute
-place_after (in_reference attribute name) b =
-    if b == 0x3B then in_text attribute else in_reference attribute (name ++ b ∷ [])
-place_after (in_name attribute name) b =
-    if b == 0x3E then in_text (if bytes_eq name (codes "br") then attribute else [])
-    else if b == 0x20 then in_tag []
-    else in_name attribute (name ++ b ∷ [])
-place_after (in_tag value) b = if b == 0x3E then in_text value else if b == 0x22 then in_value [] else in_tag value
-place_after (in_value value) b = if b == 0x22 then in_tag value else in_value (value ++ b ∷ [])
+place_after (in_text attributes) b =
+    if b == 0x3C then in_name attributes [] else if b == 0x26 then in_reference attributes [] else in_text attributes
+place_after (in_reference attributes name) b =
+    if b == 0x3B then in_text attributes else in_reference attributes (name ++ b ∷ [])
+place_after (in_name attributes name) b =
+    if b == 0x3E then in_text (if bytes_eq name (codes "br") then attributes else no_attributes)
+    else if b == 0x20 then in_tag no_attributes []
+    else in_name attributes (name ++ b ∷ [])
+place_after (in_tag attributes attribute) b =
+    if b == 0x3E then in_text attributes
+    else if b == 0x22 then in_value attributes attribute []
+    else if b == 0x20 then in_tag attributes []
+    else if b == 0x3D then in_tag attributes attribute
+    else in_tag attributes (attribute ++ b ∷ [])
+place_after (in_value attributes attribute value) b =
+    if b == 0x22 then in_tag (with_attribute attribute value attributes) []
+    else if b == 0x26 then in_value_reference attributes attribute value []
+    else in_value attributes attribute (value ++ b ∷ [])
+place_after (in_value_reference attributes attribute value name) b =
+    if b == 0x3B then in_value attributes attribute (value ++ referred name)
+    else in_value_reference attributes attribute value (name ++ b ∷ [])
 
 -- What is seen with it: bytes of text, or a line break.
 pub data Seen : Type 0 where
-  text : (attribute : List ℕ) → (byte : ℕ) → Seen
+  text : Attributes → (byte : ℕ) → Seen
   break : Seen
 
 abbrev pub seen_of : Place → ℕ → List Seen
-seen_of (in_text attribute) b = if b == 0x3C then [] else if b == 0x26 then [] else text attribute b ∷ []
-seen_of (in_reference attribute name) b = if b == 0x3B then map (text attribute) (referred name) else []
-seen_of (in_name attribute name) b = if b == 0x3E then (if bytes_eq name (codes "br") then break ∷ [] else []) else []
-seen_of (in_tag value) b = []
-seen_of (in_value value) b = []
+seen_of (in_text attributes) b = if b == 0x3C then [] else if b == 0x26 then [] else text attributes b ∷ []
+seen_of (in_reference attributes name) b = if b == 0x3B then map (text attributes) (referred name) else []
+seen_of (in_name attributes name) b = if b == 0x3E then (if bytes_eq name (codes "br") then break ∷ [] else []) else []
+seen_of (in_tag attributes attribute) b = []
+seen_of (in_value attributes attribute value) b = []
+seen_of (in_value_reference attributes attribute value name) b = []
 
 -- what is seen of these bytes
 abbrev pub seen_from : Place → List ℕ → List Seen
@@ -91,11 +122,11 @@ seen_from place [] = []
 seen_from place (b ∷ bytes) = seen_of place b ++ seen_from (place_after place b) bytes
 
 abbrev pub seen : List ℕ → List Seen
-seen bytes = seen_from (in_text []) (normalized bytes)
+seen bytes = seen_from (in_text no_attributes) (normalized bytes)
 
--- What a reader reads: each byte of text with its attribute.
+-- What a reader reads: each byte of text with its attributes.
 abbrev pub read_of : Seen → List Shown
-read_of (text attribute b) = under attribute b ∷ []
+read_of (text attributes b) = under attributes b ∷ []
 read_of break = []
 
 abbrev pub read : List ℕ → List Shown
@@ -104,18 +135,22 @@ read bytes = flat_map read_of (seen bytes)
 -- What is drawn in a `<pre>`, line after line: a line ends at 0A and at a line break. A 0D that came
 -- by a reference ends none, and is left out (CSS Text, 4, has a space for it; some draw nothing).
 abbrev pub drawn_of : Seen → List ℕ
-drawn_of (text attribute b) = if b == 0x0D then [] else b ∷ []
+drawn_of (text attributes b) = if b == 0x0D then [] else b ∷ []
 drawn_of break = 0x0A ∷ []
 
 abbrev pub drawn : List ℕ → List ℕ
 drawn bytes = flat_map drawn_of (seen bytes)
 
--- What the calls show: each byte that is left of them, with the declarations of the style that
--- is selected there.
-abbrev pub shown_from : Scheme → Style → List Call → List Shown
-shown_from scheme style [] = []
-shown_from scheme style (call ∷ calls) =
-    map (under (css scheme style)) (stripped_call call) ++ shown_from scheme (style_after call style) calls
+-- What the calls show: each byte that is left of them, with the declarations of the style and the
+-- link that are selected there.
+abbrev pub attributes_of : Scheme → Element → Attributes
+attributes_of scheme element = record { style = element_css scheme element; href = element.link }
+
+abbrev pub shown_from : Scheme → Element → List Call → List Shown
+shown_from scheme element [] = []
+shown_from scheme element (call ∷ calls) =
+    map (under (attributes_of scheme element)) (stripped_call call)
+    ++ shown_from scheme (element_after call element) calls
 
 -- whether a text ends in 0D, where what stands before it does or not
 abbrev pub ends_returned : (returned : Bool) → List ℕ → Bool

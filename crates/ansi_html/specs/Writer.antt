@@ -1,5 +1,5 @@
 -- What a writer of HTML shows, and what a call does to it.
-use Rattle.std.specs.Prelude.{◌≡◌, ℕ, Bool, ◌==◌, List, [], ◌∷◌, ◌++◌, Option, unwrap_or}
+use Rattle.std.specs.Prelude.{◌≡◌, ℕ, Bool, ◌==◌, List, [], ◌∷◌, ◌++◌, Option, None, Some}
 use Rattle.anstyle_parse.specs.declared.io.devices.Sink.{Ghosts as SinkOf}
 use Rattle.anstyle_parse.specs.declared.io.output.Output.{Output}
 use Rattle.anstyle_parse.specs.Stream.Call.{Call}
@@ -7,7 +7,9 @@ use Rattle.anstyle_parse.specs.Io.Output.{Adds}
 use Rattle.ansi_style.specs.declared.style.Style.{Style}
 use Rattle.ansi_html.specs.declared.scheme.Scheme.{Scheme}
 use Rattle.ansi_html.specs.declared.performer.HtmlWriter.{HtmlWriter}
-use Rattle.ansi_html.specs.Html.{Standing, at_start, escaped, beginning, call_html, standing_after, html_from, standing_at_end, span_end}
+use Rattle.ansi_html.specs.Html.{Element, element, Standing, at_start, escaped, beginning, call_html, standing_after, html_from, standing_at_end, element_end}
+use Rattle.ansi_html.specs.declared.link.Links.{Links}
+use Rattle.ansi_html.specs.ShownLinks.{shown_link, selected_link}
 
 -- the output that it writes to; the scheme of its colours
 abbrev pub output_of : {W : Type 0} → HtmlWriter W → Output W
@@ -16,35 +18,44 @@ output_of performer = performer.output
 abbrev pub scheme_of : {W : Type 0} → HtmlWriter W → Scheme
 scheme_of performer = performer.scheme
 
--- the style that a sequence has selected since the last text
+-- the style that is selected, where a sequence has selected a style or a link since the last text
 abbrev pub next_of : {W : Type 0} → HtmlWriter W → Option Style
 next_of performer = performer.next
 
--- Where it stands. Where no style has been selected since the last text, that one's is.
+-- the link of the last text, and the one for what comes
+abbrev pub links_of : {W : Type 0} → HtmlWriter W → Links
+links_of performer = performer.links
+
+-- The element that is selected; where nothing has been selected since the last text, that one's.
+abbrev pub selected_of : Option Style → Style → Links → Element
+selected_of None shown links = element shown (shown_link links)
+selected_of (Some style) shown links = element style (selected_link links)
+
+-- where it stands
 abbrev pub standing_of : {W : Type 0} → HtmlWriter W → Standing
 standing_of performer = record {
-  shown = performer.shown;
-  selected = unwrap_or (next_of performer) performer.shown;
+  shown = element performer.shown (shown_link performer.links);
+  selected = selected_of (next_of performer) performer.shown performer.links;
   returned = performer.returned;
 }
 
--- in the midst of text of a style
-abbrev pub in_style : Style → (returned : Bool) → Standing
-in_style style returned = record { shown = style; selected = style; returned = returned }
+-- in the midst of text of an element
+abbrev pub in_element : Element → (returned : Bool) → Standing
+in_element it returned = record { shown = it; selected = it; returned = returned }
 
 -- at the start, in colours of this scheme
 pub record IsNew {W : Type 0} (wanted : Scheme) (performer : HtmlWriter W) : Type 0 where
   pub scheme : scheme_of performer ≡ wanted
   pub standing : standing_of performer ≡ at_start
 
--- what it writes by a list of calls, as it stands; and the end of the span that is then open
+-- what it writes by a list of calls, as it stands; and the end of the element that is then open
 abbrev pub text_from : {W : Type 0} → HtmlWriter W → List Call → List ℕ
 text_from performer calls = html_from (scheme_of performer) (standing_of performer) calls
 
 abbrev pub ending_from : {W : Type 0} → HtmlWriter W → List Call → List ℕ
-ending_from performer calls = span_end (standing_at_end (standing_of performer) calls).shown
+ending_from performer calls = element_end (standing_at_end (standing_of performer) calls).shown
 
--- A call selects a style, or its text is written.
+-- A call selects a style or a link, or its text is written.
 pub record Takes {W : Type 0} (sink : SinkOf W) (old : HtmlWriter W) (call : Call) (new : HtmlWriter W) : Type 0 where
   pub scheme : scheme_of new ≡ scheme_of old
   pub standing : standing_of new ≡ standing_after call (standing_of old)
@@ -61,11 +72,11 @@ pub record TakesAll {W : Type 0} (sink : SinkOf W)
 abbrev pub bytes_html : Scheme → Standing → List ℕ → List ℕ
 bytes_html scheme at [] = []
 bytes_html scheme at (b ∷ bytes) =
-    (beginning scheme at (b == 0x0A) ++ escaped b) ++ bytes_html scheme (in_style at.selected (b == 0x0D)) bytes
+    (beginning scheme at (b == 0x0A) ++ escaped b) ++ bytes_html scheme (in_element at.selected (b == 0x0D)) bytes
 
 abbrev pub standing_after_bytes : Standing → List ℕ → Standing
 standing_after_bytes at [] = at
-standing_after_bytes at (b ∷ bytes) = standing_after_bytes (in_style at.selected (b == 0x0D)) bytes
+standing_after_bytes at (b ∷ bytes) = standing_after_bytes (in_element at.selected (b == 0x0D)) bytes
 
 -- The bytes of a text are written.
 pub record TakesBytes {W : Type 0} (sink : SinkOf W)

@@ -1,5 +1,5 @@
-//! From a terminal's colours to HTML: the text of a stream, escaped, in spans that give each
-//! part its style. No input brings in markup.
+//! From a terminal's colours to HTML: the text of a stream, escaped, in spans and links that give
+//! each part its style and its URI. No input brings in markup.
 //!
 //! ```
 //! let mut reader = FromRead::new(log);
@@ -9,22 +9,25 @@
 //! ```
 #![tactic(auto)]
 
-ghost use Rattle.std.specs.Prelude.{◌≡◌, ◌≤◌, ◌+◌, ◌*◌, ◌++◌, [], ℕ, false, List, OnOk, length, map};
+ghost use Rattle.std.specs.Prelude.{◌≡◌, ◌≢◌, ◌≤◌, ◌+◌, ◌*◌, ◌++◌, [], ℕ, false, List, OnOk, IsTrue, length, map};
+ghost use Rattle.std.specs.List.{AllByRecursion};
 ghost use Rattle.std.specs.Str.{IsUtf8};
+ghost use Rattle.anstyle_parse.specs.Stream.Arguments.{parts_of};
 ghost use Rattle.anstyle_parse.specs.Stream.Call.{Call};
 ghost use Rattle.anstyle_parse.specs.Stream.Calls.{AreCalls};
 ghost use Rattle.anstyle_parse.specs.Io.Output.{Adds};
 ghost use Rattle.anstyle_parse.specs.Io.Run.{RunsToEnding};
 ghost use Rattle.ansi_strip.specs.Strip.{stripped};
 ghost use Rattle.ansi_style.specs.declared.style.Style.{Style};
-ghost use Rattle.ansi_style.specs.Style.{plain};
 ghost use Rattle.ansi_html.specs.Css.{selects_both, colors_css};
-ghost use Rattle.ansi_html.specs.Html.{html_text, html_ending, html, escaped_text};
-ghost use Rattle.ansi_html.specs.Reader.{byte_of, under, read, normalized, drawn, ends_in_return, shown_from};
+ghost use Rattle.ansi_html.specs.Links.{IsLink, is_link_command, link_of, SaysLink};
+ghost use Rattle.ansi_html.specs.Html.{no_element, html_text, html_ending, html, escaped_text};
+ghost use Rattle.ansi_html.specs.Reader.{no_attributes, byte_of, href_of, under, read, normalized, drawn, ends_in_return, shown_from};
 ghost use Rattle.ansi_html.specs.Grammar.{AreReadable, IsFragment};
 
 pub mod contrast;
 mod css;
+mod link;
 mod palette;
 mod performer;
 mod scheme;
@@ -40,9 +43,12 @@ pub use scheme::Scheme;
 ///
 /// The text is the stripped text: each printed character in UTF-8, tab, line feed and carriage
 /// return. `& < > " '` and a carriage return are written as character references, and text that is
-/// not plain stands in `<span style="…">…</span>`, one for each run of equal style. Since a carriage
-/// return that comes by a reference ends no line, `<br>` stands before the text behind it, unless that
-/// is a line feed. Nothing else is written, so no input brings in markup.
+/// not plain stands in `<span style="…">…</span>`, or in `<a rel="nofollow noreferrer" href="…"
+/// style="…">…</a>` where it has a link (OSC 8): one for each run of equal style and link. A link is
+/// shown where its URI begins with `https://`, `http://` or `mailto:`, has the bytes 21 to 7E only, and
+/// was not cut. Since a carriage return that comes by a reference ends no line, `<br>` stands before
+/// the text behind it, unless that is a line feed. Nothing else is written, so no input brings in
+/// markup.
 ///
 /// The page has to be UTF-8, and to have a newline of its own right after `<pre>`, since a browser
 /// drops the one that stands there. For [`Scheme::Both`] it has a `color-scheme`, or it is light.
@@ -53,7 +59,7 @@ pub use scheme::Scheme;
 /// - `Ok(())` where a read gave 0, and the flush that followed went well;
 /// - `Err(Fault::Flush)` where that flush failed;
 /// - `Err(Fault::Read)` where a read failed, or 2^64 - 1 reads all gave bytes: the HTML of the
-///   bytes read by then is written, its last span is closed and the tail is written, as far as
+///   bytes read by then is written, its last element is closed and the tail is written, as far as
 ///   the writer takes these, and the writer is flushed once, whatever that answers;
 /// - `Err(Fault::Write)` where a write failed: what is written is a proper prefix of head,
 ///   HTML and tail, and nothing was read or written after the fault.
@@ -73,8 +79,8 @@ pub fn convert<R: Source, W: Sink>(
     ensures handed_on { OnOk result.1 (W.holds_nothing result.0) }
 
     // The headline: reading the HTML gives exactly the bytes of the stripped text, each with the
-    // declarations of the style that the stream has selected there.
-    ensures read_back { (calls : List Call) → read (html scheme calls) ≡ shown_from scheme plain calls }
+    // declarations of the style and the URI of the link that the stream has selected there.
+    ensures read_back { (calls : List Call) → read (html scheme calls) ≡ shown_from scheme no_element calls }
     ensures text { (calls : List Call) → map byte_of (read (html scheme calls)) ≡ stripped calls }
 
     // Its lines are those of the text: 0D with or without 0A behind it ends one, as 0A does. (A 0D at
@@ -88,8 +94,15 @@ pub fn convert<R: Source, W: Sink>(
     ensures contrast { (style : Style) → selects_both style ≡ false
         → AreReadable scheme (colors_css scheme style) }
 
-    // No markup comes in: it is text with line breaks, and spans that do not nest, with such colours
-    // and with declarations from a fixed vocabulary.
+    // A link's URI begins with https://, http:// or mailto:, and is visible ASCII.
+    ensures links { (calls : List Call) → AllByRecursion IsLink (map href_of (read (html scheme calls))) }
+
+    // It is the whole URI that a command says, none that was cut.
+    ensures whole_links { (text : List ℕ) → IsTrue (is_link_command (parts_of text)) → link_of (parts_of text) ≢ []
+        → SaysLink text (link_of (parts_of text)) }
+
+    // No markup comes in: it is text with line breaks, and spans and links that do not nest, with such
+    // colours and URIs, and with declarations from a fixed vocabulary.
     ensures grammar { (bytes : List ℕ) (calls : List Call) → AreCalls bytes calls
         → IsFragment scheme (html scheme calls) }
 
@@ -97,9 +110,10 @@ pub fn convert<R: Source, W: Sink>(
     ensures utf8 { (bytes : List ℕ) (calls : List Call) → AreCalls bytes calls
         → IsUtf8 (html scheme calls) }
 
-    // It has at most 292 bytes for each byte that was read, and 7 more.
+    // It has at most 6547 bytes for each byte that was read, and 7 more: a link of 1035 bytes can stand
+    // there again with each change of style.
     ensures bound { (bytes : List ℕ) (calls : List Call) → AreCalls bytes calls
-        → length (html scheme calls) ≤ 292 * length bytes + 7 }
+        → length (html scheme calls) ≤ 6547 * length bytes + 7 }
 {
     let mut output = Output::new(writer);
     output.put(head);
@@ -111,8 +125,8 @@ pub fn convert<R: Source, W: Sink>(
 pub fn put_text<W: Sink>(output: &mut Output<W>, text: &str)
     ensures added { Adds W.Sink (escaped_text text.now) output.old output.new }
 
-    // No markup comes in: reading the HTML gives exactly the bytes of the text, in no span.
-    ensures read_back { read (escaped_text text.now) ≡ map (under []) text.now }
+    // No markup comes in: reading the HTML gives exactly the bytes of the text, in no element.
+    ensures read_back { read (escaped_text text.now) ≡ map (under no_attributes) text.now }
 {
     put_escaped(output, text.as_bytes());
 }

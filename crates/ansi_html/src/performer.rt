@@ -1,12 +1,14 @@
 //! The performer that writes HTML.
-ghost use Rattle.std.specs.Prelude.{◌≡◌, ◌∷◌, ◌++◌, [], true, false, encode_utf8, refl};
+ghost use Rattle.std.specs.Prelude.{◌≡◌, ◌∷◌, ◌++◌, [], true, false, not, encode_utf8, codes, refl};
 ghost use Rattle.anstyle_parse.specs.Io.Output.{Adds};
 ghost use Rattle.ansi_style.specs.Style.{plain};
 ghost use Rattle.ansi_html.specs.Css.{css};
 ghost use Rattle.ansi_html.specs.Grammar.{is_special, AreClear, BeginWithClear};
-ghost use Rattle.ansi_html.specs.Html.{line_break, beginning, span_begin, span_end, change, escaped, escaped_text};
+ghost use Rattle.ansi_html.specs.ShownLinks.{shown_link, selected_link};
+ghost use Rattle.ansi_html.specs.Html.{line_break, beginning, span_begin, span_end, link_begin, element, are_same, element_begin, element_end, change, escaped, escaped_text};
 
 use crate::css::put_css;
+use crate::link::{Links, is_link_command};
 use crate::scheme::Scheme;
 use ansi_strip::is_layout;
 use ansi_style::Style;
@@ -18,8 +20,9 @@ use anstyle_parse::{Params, Perform, PerformText};
 /// Each printed character, and of the controls tab (09), line feed (0A) and carriage return
 /// (0D), is text; `& < > " '` and 0D are written as character references, and text behind 0D
 /// that is not 0A begins with `<br>`. Text that is not plain stands in `<span style="…">…</span>`,
-/// one for each run of equal style. A span is opened only before text, and closed before text of
-/// another style or at the end. All other calls write nothing.
+/// and text of a link in `<a href="…" style="…">…</a>`, one for each run of equal style and link. An
+/// element is opened only before text, and closed before text of another one or at the end. All
+/// other calls write nothing.
 ///
 /// No memory is taken. A write that fails stops it: nothing more is written, and the fault is
 /// kept.
@@ -28,17 +31,19 @@ pub struct HtmlWriter<W> {
     output: Output<W>,
     /// The pages that the colours are for.
     scheme: Scheme,
-    /// The style of the last text; plain where no span is open.
+    /// The style of the last text; plain where there was none.
     shown: Style,
-    /// The style that is selected for what comes, where a sequence has selected one since.
+    /// The style that is selected for what comes, where a sequence has selected one, or a link, since.
     next: Option<Style>,
+    /// The link of the last text, and the one for what comes.
+    links: Links,
     /// The last text was 0D.
     returned: bool,
 }
 
 impl<W: Sink> HtmlWriter<W> {
-    ghost use Rattle.std.specs.Prelude.{None};
-    ghost use Rattle.ansi_html.specs.Writer.{output_of, scheme_of, standing_of, in_style, next_of, IsNew, TakesBytes};
+    ghost use Rattle.std.specs.Prelude.{None, Some};
+    ghost use Rattle.ansi_html.specs.Writer.{output_of, scheme_of, standing_of, in_element, next_of, links_of, IsNew, TakesBytes};
 
     /// One that writes to this output, in colours for the pages of the scheme, and has received no
     /// call. Nothing is written.
@@ -51,15 +56,16 @@ impl<W: Sink> HtmlWriter<W> {
             scheme,
             shown: Style::default(),
             next: None,
+            links: Links::none(),
             returned: false,
         }
     }
 
-    /// Text of the selected style may follow. Behind 0D it begins with a line break, unless it is 0A.
+    /// Text of the selected style and link may follow. Behind 0D it begins with a line break, unless it is 0A.
     #[inline(always)]
     fn begin_text(&mut self, is_line_feed: bool)
         ensures scheme { scheme_of self.new ≡ scheme_of self.old }
-        ensures standing { standing_of self.new ≡ in_style (standing_of self.old).selected false }
+        ensures standing { standing_of self.new ≡ in_element (standing_of self.old).selected false }
         ensures added { Adds W.Sink (beginning (scheme_of self.old) (standing_of self.old) is_line_feed)
             (output_of self.old) (output_of self.new) }
     {
@@ -92,12 +98,12 @@ impl<W: Sink> HtmlWriter<W> {
         put_layout(&mut self.output, byte);
     }
 
-    /// Text of the selected style may follow.
+    /// Text of the selected style and link may follow.
     #[inline(always)]
     fn show_selected(&mut self)
         ensures scheme { scheme_of self.new ≡ scheme_of self.old }
         ensures standing { standing_of self.new
-            ≡ in_style (standing_of self.old).selected (standing_of self.old).returned }
+            ≡ in_element (standing_of self.old).selected (standing_of self.old).returned }
         ensures added { Adds W.Sink
             (change (scheme_of self.old) (standing_of self.old).shown (standing_of self.old).selected)
             (output_of self.old) (output_of self.new) }
@@ -107,20 +113,40 @@ impl<W: Sink> HtmlWriter<W> {
         }
     }
 
-    /// Text of this style may follow.
+    /// Text of this style and of the selected link may follow.
     #[inline(never)]
     fn change_to(&mut self, style: Style)
         ensures scheme { scheme_of self.new ≡ scheme_of self.old }
         ensures next { next_of self.new ≡ None }
-        ensures standing { standing_of self.new ≡ in_style style (standing_of self.old).returned }
-        ensures added { Adds W.Sink (change (scheme_of self.old) (standing_of self.old).shown style)
-            (output_of self.old) (output_of self.new) }
+        ensures standing { standing_of self.new
+            ≡ in_element (element style (selected_link (links_of self.old))) (standing_of self.old).returned }
+        ensures added { Adds W.Sink (change (scheme_of self.old) (standing_of self.old).shown
+            (element style (selected_link (links_of self.old)))) (output_of self.old) (output_of self.new) }
     {
+        put_change(
+            &mut self.output,
+            self.scheme,
+            self.shown,
+            style,
+            &self.links,
+        );
         self.next = None;
-        if self.shown != style {
-            put_span_end(&mut self.output, self.shown);
-            put_span_begin(&mut self.output, self.scheme, style);
-            self.shown = style;
+        self.shown = style;
+        self.links.show_selected();
+    }
+
+    /// A style or a link is selected for what comes. The first one since the last text is from that
+    /// text's on.
+    #[inline(always)]
+    fn begin_selection(&mut self)
+        ensures scheme { scheme_of self.new ≡ scheme_of self.old }
+        ensures output { output_of self.new ≡ output_of self.old }
+        ensures next { next_of self.new ≡ Some (standing_of self.old).selected.style }
+        ensures standing { standing_of self.new ≡ standing_of self.old }
+    {
+        if self.next.is_none() {
+            self.next = Some(self.shown);
+            self.links.keep_shown();
         }
     }
 }
@@ -133,6 +159,69 @@ fn put_line_break<W: Sink>(output: &mut Output<W>, is_line_feed: bool)
     if !is_line_feed {
         output.put(b"<br>");
     }
+}
+
+/// From an element of the style and the link that are shown to one of the style and the link for
+/// what comes.
+#[inline(always)]
+fn put_change<W: Sink>(
+    output: &mut Output<W>,
+    scheme: Scheme,
+    shown: Style,
+    style: Style,
+    links: &Links,
+)
+    ensures { Adds W.Sink
+        (change scheme (element shown (shown_link links.now)) (element style (selected_link links.now)))
+        output.old output.new }
+{
+    if is_other(shown, style, links) {
+        put_end(output, shown, links.shown());
+        put_begin(output, scheme, style, links.selected());
+    }
+}
+
+/// Whether these two elements differ.
+#[inline(always)]
+fn is_other(shown: Style, style: Style, links: &Links) -> bool
+    ensures { result ≡ not (are_same (element shown (shown_link links.now)) (element style (selected_link links.now))) }
+{
+    shown != style || links.differ()
+}
+
+/// Opens an element of the style and the link, where there is either.
+#[inline]
+fn put_begin<W: Sink>(output: &mut Output<W>, scheme: Scheme, style: Style, link: &[u8])
+    ensures { Adds W.Sink (element_begin scheme (element style link.now)) output.old output.new }
+{
+    if link.is_empty() {
+        put_span_begin(output, scheme, style);
+    } else {
+        put_link_begin(output, scheme, style, link);
+    }
+}
+
+/// Closes it.
+#[inline(always)]
+fn put_end<W: Sink>(output: &mut Output<W>, style: Style, link: &[u8])
+    ensures { Adds W.Sink (element_end (element style link.now)) output.old output.new }
+{
+    if link.is_empty() {
+        put_span_end(output, style);
+    } else {
+        output.put(b"</a>");
+    }
+}
+
+/// Opens a link, in the style.
+fn put_link_begin<W: Sink>(output: &mut Output<W>, scheme: Scheme, style: Style, link: &[u8])
+    ensures { Adds W.Sink (link_begin link.now (codes "color:inherit;" ++ css scheme style)) output.old output.new }
+{
+    output.put(b"<a rel=\"nofollow noreferrer\" href=\"");
+    put_in_parts(output, link);
+    output.put(b"\" style=\"color:inherit;");
+    put_css(output, scheme, style);
+    output.put(b"\">");
 }
 
 /// Opens a span of the style, unless it is plain.
@@ -214,6 +303,7 @@ pub(crate) fn put_escaped<W: Sink>(output: &mut Output<W>, text: &[u8])
 }
 
 /// The same, with what is between these bytes at once.
+#[inline(always)]
 fn put_in_parts<W: Sink>(output: &mut Output<W>, text: &[u8])
     ensures { Adds W.Sink (escaped_text text.now) output.old output.new }
 {
@@ -294,9 +384,15 @@ impl<W: Sink> Perform for HtmlWriter<W> {
 
     fn unhook(&mut self) {}
 
-    fn osc_dispatch(&mut self, _params: &[&[u8]], _bell_terminated: bool) {}
+    fn osc_dispatch(&mut self, params: &[&[u8]], _bell_terminated: bool) {
+        if is_link_command(params) {
+            self.begin_selection();
+            self.links.select(params);
+        }
+    }
 
     fn csi_dispatch(&mut self, params: &Params, intermediates: &[u8], ignore: bool, action: u8) {
+        self.begin_selection();
         let style = self.next.get_or_insert(self.shown);
         style.csi_dispatch(params, intermediates, ignore, action);
     }
@@ -342,7 +438,7 @@ impl<W: Sink> PerformText for HtmlWriter<W> {
     ghost receives_more = { TakesAll-more W.Sink };
 }
 
-/// What is still to be written is the end of the span that is open.
+/// What is still to be written is the end of the element that is open.
 impl<W: Sink> WritingPerformer<W> for HtmlWriter<W> {
     ghost use Rattle.ansi_html.specs.Writer.{output_of, text_from, ending_from};
     ghost use Rattle.ansi_html.specs.AddingProof.{ending_from-taken};
@@ -365,9 +461,10 @@ impl<W: Sink> WritingPerformer<W> for HtmlWriter<W> {
         let HtmlWriter {
             mut output,
             shown,
+            links,
             ..
         } = self;
-        put_span_end(&mut output, shown);
+        put_end(&mut output, shown, links.shown());
         output
     }
 

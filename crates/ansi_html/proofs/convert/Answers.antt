@@ -6,6 +6,8 @@ use Rattle.anstyle_parse.proofs.Lawful.Calls.{lawful}
 use Rattle.ansi_strip.proofs.Showable.{AreShowable-lawful}
 use Rattle.ansi_html.proofs.GrammarLemmas.{IsFragment-html}
 use Rattle.ansi_html.proofs.TextLemmas.{IsUtf8-html}
+use Rattle.ansi_html.proofs.ShownLemmas.{AreLinks-html}
+use Rattle.ansi_html.proofs.WholeLemmas.{says_link}
 use Rattle.anstyle_parse.proofs.Canonical.Bounds.{length-calls}
 use Rattle.ansi_html.proofs.LengthLemmas.{length-html}
 use Rattle.anstyle_parse.specs.Stream.Call.{Call}
@@ -52,6 +54,12 @@ returns-clause-lines g c = λ bytes calls are. drawn-html c.args.scheme calls (A
 
 pub returns-clause-contrast : goal.returns-clause-contrast
 returns-clause-contrast g c = AreReadable-css c.args.scheme
+
+pub returns-clause-links : goal.returns-clause-links
+returns-clause-links g c = AreLinks-html c.args.scheme
+
+pub returns-clause-whole_links : goal.returns-clause-whole_links
+returns-clause-whole_links g c = says_link
 
 pub returns-clause-grammar : goal.returns-clause-grammar
 returns-clause-grammar g c = λ bytes calls are. IsFragment-html c.args.scheme calls (AreShowable-lawful false calls (lawful bytes calls are))

@@ -7,7 +7,8 @@ use Rattle.anstyle_parse.proofs.Written.Output.{Adds-append}
 use Rattle.ansi_html.specs.AddingProof.{TakesAll-none}
 use Rattle.ansi_html.specs.Html.{beginning, escaped_text}
 use Rattle.ansi_html.specs.Writer.{output_of, scheme_of, standing_of, TakesAll}
-use Rattle.ansi_html.proofs.PrintLemmas.{some_from_test, none_from_test, html_from-text, standing_at_end-text}
+use Rattle.ansi_html.proofs.HtmlLemmas.{none_from_test}
+use Rattle.ansi_html.proofs.PrintLemmas.{some_from_test, html_from-text, standing_at_end-text}
 use Rattle.ansi_html.proofs.performer.HtmlWriterPerformText.print_text.Goals as goal
 
 pub returns-then-not-is_empty : goal.returns-then-not-is_empty

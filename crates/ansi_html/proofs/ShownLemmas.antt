@@ -1,0 +1,37 @@
+-- The links that a reader reads.
+use Rattle.std.proofs.Common.{ℕ, List, [], ◌∷◌, ◌++◌, map, sym, subst}
+use Rattle.std.specs.List.{AllByRecursion}
+use Rattle.anstyle_parse.specs.Stream.Call.{Call}
+use Rattle.ansi_strip.specs.Strip.{stripped_call}
+use Rattle.ansi_html.specs.declared.scheme.Scheme.{Scheme}
+use Rattle.ansi_html.specs.Links.{IsLink}
+use Rattle.ansi_html.specs.Html.{Element, no_element, element_after, html}
+use Rattle.ansi_html.specs.Reader.{Shown, Attributes, href_of, under, attributes_of, read, shown_from}
+use Rattle.ansi_html.proofs.ReadLemmas.{read-html}
+use Rattle.ansi_html.proofs.SoundLemmas.{IsSound, IsSound-none, IsSound-after}
+
+AreLinks : List Shown → Type 0
+AreLinks shown = AllByRecursion IsLink (map href_of shown)
+
+AreLinks-append : (first second : List Shown) → AreLinks first → AreLinks second → AreLinks (first ++ second)
+unfolding AreLinks
+AreLinks-append [] second one other = other
+AreLinks-append (it ∷ first) second one other = (one.0, AreLinks-append first second one.1 other)
+
+AreLinks-under : (attributes : Attributes) (bytes : List ℕ) → IsLink attributes.href → AreLinks (map (under attributes) bytes)
+unfolding AreLinks
+AreLinks-under attributes [] is = tt
+AreLinks-under attributes (b ∷ bytes) is = (is, AreLinks-under attributes bytes is)
+
+AreLinks-from : (scheme : Scheme) (element : Element) (calls : List Call) → IsSound element.link → AreLinks (shown_from scheme element calls)
+unfolding AreLinks
+AreLinks-from scheme element [] sound = tt
+AreLinks-from scheme element (call ∷ calls) sound =
+    AreLinks-append (map (under (attributes_of scheme element)) (stripped_call call)) (shown_from scheme (element_after call element) calls)
+    (AreLinks-under (attributes_of scheme element) (stripped_call call) sound.is_link)
+    (AreLinks-from scheme (element_after call element) calls (IsSound-after call element.link sound))
+
+pub AreLinks-html : (scheme : Scheme) (calls : List Call) → AllByRecursion IsLink (map href_of (read (html scheme calls)))
+unfolding AreLinks
+AreLinks-html scheme calls =
+    subst (λ l. AllByRecursion IsLink (map href_of l)) (sym (read-html scheme calls)) (AreLinks-from scheme no_element calls IsSound-none)

@@ -1,0 +1,193 @@
+//! The links of a stream (OSC 8).
+ghost use Rattle.std.specs.Prelude.{◌≡◌, true, false, not, nat_lt, [], length, map};
+ghost use Rattle.std.specs.List.{concat, list_all};
+ghost use Rattle.std.specs.Str.{bytes_eq};
+ghost use Rattle.anstyle_parse.specs.Stream.Arguments.{max_osc_bytes};
+ghost use Rattle.ansi_html.specs.Links.{has_scheme, is_visible, is_linkable, is_link_command, is_whole, uri_of, link_of};
+
+use arrayvec::ArrayVec;
+
+/// The parts of a command that the parser hands on at most, and the bytes that it stores.
+const MAX_PARTS: usize = 16;
+
+const MAX_BYTES: usize = 1024;
+
+/// The bytes of a link at most: 1,023 that are stored, and twelve separators between thirteen parts.
+const MAX_LINK: usize = 1035;
+
+/// The link of the last text, and the one for what comes. None is empty.
+#[derive(Drop)]
+pub(crate) struct Links {
+    shown: ArrayVec<u8, MAX_LINK>,
+    /// The link that a command has selected since, if one has.
+    next: ArrayVec<u8, MAX_LINK>,
+    has_next: bool,
+}
+
+impl Links {
+    ghost use Rattle.ansi_html.specs.ShownLinks.{shown_link, selected_link, has_next};
+
+    /// No link.
+    pub(crate) fn none() -> Links
+        ensures shown { shown_link result ≡ [] }
+        ensures selected { selected_link result ≡ [] }
+    {
+        Links {
+            shown: ArrayVec::new(),
+            next: ArrayVec::new(),
+            has_next: false,
+        }
+    }
+
+    /// The link of the last text.
+    #[inline(always)]
+    pub(crate) fn shown(&self) -> &[u8]
+        ensures { result.now ≡ shown_link self.now }
+    {
+        self.shown.as_slice()
+    }
+
+    /// The link for what comes.
+    #[inline(always)]
+    pub(crate) fn selected(&self) -> &[u8]
+        ensures { result.now ≡ selected_link self.now }
+    {
+        if self.has_next {
+            self.next.as_slice()
+        } else {
+            self.shown.as_slice()
+        }
+    }
+
+    /// Whether these differ.
+    #[inline(always)]
+    pub(crate) fn differ(&self) -> bool
+        ensures { result ≡ not (bytes_eq (shown_link self.now) (selected_link self.now)) }
+    {
+        self.has_next && self.shown.as_slice() != self.next.as_slice()
+    }
+
+    /// Text of the selected link follows.
+    #[inline(always)]
+    pub(crate) fn show_selected(&mut self)
+        ensures shown { shown_link self.new ≡ selected_link self.old }
+        ensures selected { selected_link self.new ≡ selected_link self.old }
+        ensures next { has_next self.new ≡ false }
+    {
+        if self.has_next {
+            self.show_next();
+        }
+    }
+
+    /// Text of the link that was selected follows.
+    #[inline(never)]
+    fn show_next(&mut self)
+        requires { has_next self.old ≡ true }
+        ensures shown { shown_link self.new ≡ selected_link self.old }
+        ensures next { has_next self.new ≡ false }
+    {
+        self.has_next = false;
+        self.shown.clear();
+        let _ = self.shown.try_extend_from_slice(self.next.as_slice());
+    }
+
+    /// The link of the last text is the one for what comes.
+    #[inline(always)]
+    pub(crate) fn keep_shown(&mut self)
+        ensures shown { shown_link self.new ≡ shown_link self.old }
+        ensures selected { selected_link self.new ≡ shown_link self.old }
+    {
+        self.has_next = false;
+    }
+
+    /// Selects the link of a command that is OSC 8.
+    pub(crate) fn select(&mut self, parts: &[&[u8]])
+        ensures shown { shown_link self.new ≡ shown_link self.old }
+        ensures selected { selected_link self.new ≡ link_of (map (λ part. part.now) parts.now) }
+    {
+        self.has_next = true;
+        self.next.clear();
+        if is_whole(parts) {
+            put_uri(&mut self.next, parts);
+            if !is_linkable(self.next.as_slice()) {
+                self.next.clear();
+            }
+        }
+    }
+}
+
+/// Whether a command is OSC 8.
+pub(crate) fn is_link_command(parts: &[&[u8]]) -> bool
+    ensures { result ≡ is_link_command (map (λ part. part.now) parts.now) }
+{
+    match parts.split_first() {
+        Some((number, _)) => *number == b"8".as_slice(),
+        None => false,
+    }
+}
+
+/// Whether nothing of a command's parts was dropped.
+fn is_whole(parts: &[&[u8]]) -> bool
+    ensures { result ≡ is_whole (map (λ part. part.now) parts.now) }
+{
+    parts.len() < MAX_PARTS && are_stored(parts)
+}
+
+/// Whether these are fewer bytes than the parser stores.
+fn are_stored(parts: &[&[u8]]) -> bool
+    ensures { result ≡ nat_lt (length (concat (map (λ part. part.now) parts.now))) max_osc_bytes }
+{
+    let mut room = MAX_BYTES;
+    for part in parts {
+        if part.len() >= room {
+            return false;
+        }
+        room -= part.len();
+    }
+    true
+}
+
+/// Writes the URI of a command, with its own separators.
+fn put_uri(uri: &mut ArrayVec<u8, MAX_LINK>, parts: &[&[u8]])
+    requires empty { uri.old.items ≡ [] }
+    requires whole { is_whole (map (λ part. part.now) parts.now) ≡ true }
+    ensures { uri.new.items ≡ uri_of (map (λ part. part.now) parts.now) }
+{
+    if let [_, _, first, others @ ..] = parts {
+        let _ = uri.try_extend_from_slice(first);
+        for part in others {
+            uri.push(b';');
+            let _ = uri.try_extend_from_slice(part);
+        }
+    }
+}
+
+/// Whether a link may have this URI.
+#[tactic(auto, unfolding(crate::specs::Links::is_linkable))]
+fn is_linkable(uri: &[u8]) -> bool
+    ensures { result ≡ is_linkable uri.now }
+{
+    has_scheme(uri) && are_visible(uri)
+}
+
+/// Whether a URI is of one of the three schemes.
+#[tactic(auto, unfolding(crate::specs::Links::has_scheme))]
+fn has_scheme(uri: &[u8]) -> bool
+    ensures { result ≡ has_scheme uri.now }
+{
+    uri.starts_with(b"https://") || uri.starts_with(b"http://") || uri.starts_with(b"mailto:")
+}
+
+/// Whether it is ASCII without controls and the space.
+fn are_visible(uri: &[u8]) -> bool
+    ensures { result ≡ list_all is_visible uri.now }
+{
+    uri.iter().all(|byte| is_visible(*byte))
+}
+
+/// Whether a byte is.
+fn is_visible(byte: u8) -> bool
+    ensures { result ≡ is_visible byte }
+{
+    0x21 <= byte && byte <= 0x7E
+}

@@ -69,9 +69,10 @@ def every_piece(draw, width, height):
     moves = ["\x1b[%s;%sf" % (some, some), "\x1b[;%sH" % some, "\x1b[65535" + draw.choice("ABCDEFGHILMPSTXZ@`ad")]
     repeated = ["\x1b[b", "a\x1b[%sb" % some, "\x1b[65535b", "漢\x1b[%sb" % some]
     modes = ["\x1b[?6;7h", "\x1b[?7;6l", "\x1b[4;5h", "\x1b[?25l", "\x1b[7h", "\x1b[?6h\x1b7"]
+    tabs = ["\x1bH\r\t", "\x1b[9G\x1b[g\r\t", "\x1b[3g\t", "\t\x1b[%sI" % some, "\x1b[%sZ" % some]
     saved = ["\x1b7", "\x1b8", "\x1b[?1049h", "\x1b[?1049l", "\x1bc"]
     unknown = ["\x1b[?5J", "\x1b[2$X", "\x1b[31;44m", "\x1b]0;t\x07", "\x1b=", "\x1b(A", "\x1b*0", "\x1b[%sy" % some]
-    return draw.choice([text, late, *map(draw.choice, (moves, repeated, modes, saved, saved, unknown))])
+    return draw.choice([text, late, *map(draw.choice, (moves, repeated, modes, tabs, saved, saved, unknown))])
 
 
 def tmux(draw, width, height):

@@ -1,8 +1,6 @@
-//! Rows that were worked by hand, by the library that they are of, streams that fail, the examples,
-//! and every public item by its name.
+//! Streams in pieces, streams that fail, the examples, and every public item but those of the
+//! screen, by its name.
 mod example_runs;
 mod faults;
 mod names;
 mod pieces;
-mod screen;
-mod style;

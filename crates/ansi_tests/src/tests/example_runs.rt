@@ -1,15 +1,9 @@
 //! The examples once each: what the pages say that they write, and the counts that no clause gives.
-use ansi_screen::laws::{determined, enclosed, plain_text, reachable, reset, rewritten, show};
-use ansi_screen::{
-    Cell, Charsets, MAX_COLUMNS, MAX_ROWS, MIN_COLUMNS, MIN_ROWS, Marks, Part, Place, Screen,
-};
-use ansi_style::Style;
 use anstyle_parse::canon::{FromWrite, Output};
 use examples::{
     Quiet, calls_made, canonical, html, make_first_calls, plain, printed, stay_quiet,
     strip_two_pieces, write_last_style,
 };
-use std::test::Fail;
 use strip_pieces::Fed;
 
 /// A device control string with its terminator, 1B 5C.
@@ -64,45 +58,4 @@ fn pages(rt: HostRuntime) {
     };
     assert_eq!(rt; fed, (Some(first), Some(second)));
     assert!(rt; room.starts_with(b"hi"));
-}
-
-// The names of the screen, and its least and greatest sizes.
-#[test]
-fn a_screen_shows_a_stream(rt: HostRuntime) -> Result<(), Fail> {
-    let mut screen = Screen::new(rt.alloc(), MIN_COLUMNS, MIN_ROWS)?;
-    show(
-        &mut screen,
-        &[b"a", b"\x1b[1m\x1b(0x", "\u{301}".as_bytes()],
-    );
-    determined();
-    reachable();
-    enclosed();
-    plain_text();
-    rewritten();
-    reset();
-    assert_eq!(rt; screen.rows(), 1);
-    assert_eq!(rt; screen.columns(), 2);
-    let mut style = Style::default();
-    style.bold = true;
-    let cell = Cell {
-        character: '│',
-        marks: Marks::One('\u{301}'),
-        style,
-        part: Part::Whole,
-    };
-    assert_eq!(rt; screen.row(0)[1], cell);
-    let place = Place {
-        row: 0,
-        column: 2,
-        style,
-        is_relative: false,
-        charsets: Charsets {
-            g0_draws: true,
-            g1_draws: false,
-            uses_g1: false,
-        },
-    };
-    assert_eq!(rt; screen.cursor(), place);
-    assert_eq!(rt; (MAX_COLUMNS, MAX_ROWS), (1000, 1000));
-    Ok(())
 }

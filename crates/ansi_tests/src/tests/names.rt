@@ -1,5 +1,5 @@
-//! Every public item of every library, by its name, and every implementation that a type of theirs
-//! has of a trait of std: what is gone is missed here.
+//! Every public item of every library but the screen, by its name, and every implementation that a
+//! type of theirs has of a trait of std: what is gone is missed here.
 use ansi_html::contrast::{BLACK, Rgb, WHITE, linear};
 use ansi_html::{HtmlWriter, Scheme, convert, put_text};
 use ansi_strip::{Stripper, is_layout, strip};

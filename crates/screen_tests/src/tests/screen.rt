@@ -1,6 +1,9 @@
 //! What the text of a screen does not say: styles, halves, the cursor. Rows of text stand in
 //! tests/screen_twin.
-use ansi_screen::{Cell, Marks, Part, Place, Screen};
+use ansi_screen::laws::{determined, enclosed, plain_text, reachable, reset, rewritten, show};
+use ansi_screen::{
+    Cell, Charsets, MAX_COLUMNS, MAX_ROWS, MIN_COLUMNS, MIN_ROWS, Marks, Part, Place, Screen,
+};
 use ansi_style::{Color, Hue, Style};
 use anstyle_parse::{Parser, Utf8Parser};
 use std::alloc::{AllocError, Global};
@@ -112,5 +115,46 @@ fn cursor_is_hidden(rt: HostRuntime) -> Result<(), Fail> {
     let is_hidden = !is_visible_after(rt.alloc(), b"\x1b[?25l")?;
     let is_back = is_visible_after(rt.alloc(), b"\x1b[?25l\x1b[!p")?;
     assert!(rt; is_hidden && is_back);
+    Ok(())
+}
+
+// The names of the screen, and its least and greatest sizes.
+#[test]
+fn a_screen_shows_a_stream(rt: HostRuntime) -> Result<(), Fail> {
+    let mut screen = Screen::new(rt.alloc(), MIN_COLUMNS, MIN_ROWS)?;
+    show(
+        &mut screen,
+        &[b"a", b"\x1b[1m\x1b(0x", "\u{301}".as_bytes()],
+    );
+    determined();
+    reachable();
+    enclosed();
+    plain_text();
+    rewritten();
+    reset();
+    assert_eq!(rt; screen.rows(), 1);
+    assert_eq!(rt; screen.columns(), 2);
+    let mut style = Style::default();
+    style.bold = true;
+    let cell = Cell {
+        character: '│',
+        marks: Marks::One('\u{301}'),
+        style,
+        part: Part::Whole,
+    };
+    assert_eq!(rt; screen.row(0)[1], cell);
+    let place = Place {
+        row: 0,
+        column: 2,
+        style,
+        is_relative: false,
+        charsets: Charsets {
+            g0_draws: true,
+            g1_draws: false,
+            uses_g1: false,
+        },
+    };
+    assert_eq!(rt; screen.cursor(), place);
+    assert_eq!(rt; (MAX_COLUMNS, MAX_ROWS), (1000, 1000));
     Ok(())
 }

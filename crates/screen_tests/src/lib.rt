@@ -1,0 +1,6 @@
+//! The tests of `ansi_screen` and `ansi_style`, through their public calls. They stand in a crate
+//! above them, since a crate with tests is proved twice, and wait for no other.
+#![tactic(auto)]
+
+#[cfg(test)]
+mod tests;

@@ -1,0 +1,3 @@
+//! Rows that were worked by hand, by the library that they are of, and the names of the screen.
+mod screen;
+mod style;

@@ -85,10 +85,19 @@ def xterm(draw, width, height):
     return text + draw.choice(["", "", "\x1b[4l\x1b[?7h\x1b[%dG漢字" % draw.randint(width - 2, width)])
 
 
+def some_screen(draw, width, height):
+    """What leads to rows of letters, so that an edit shows, to margins and modes, and to a place."""
+    letters = lambda n: "".join(draw.sample(ascii_lowercase, n))
+    rows = [draw.choice(["", letters(5), letters(width), letters(5) + "漢字한"]) for _ in range(height)]
+    top = draw.randint(1, height - 1)
+    region = "\x1b[%d;%dr" % (top, draw.randint(top + 1, height))
+    modes = [draw.choice(["", "", mode]) for mode in ("\x1b[?6h", "\x1b[4h", "\x1b[?7l")]
+    place = "\x1b[%d;%dH" % (draw.randint(1, height), draw.randint(1, width))
+    return draw.choice(["", "", "\x1b[?1049h"]) + "\r\n".join(rows) + draw.choice(["", region]) + "".join(modes) + place
+
+
 def libvterm(draw, width, height):
-    """Rows of letters, so that an edit shows; operations; and two characters, which show where the cursor is,
-    and whether a wrap is pending."""
-    rows = ["".join(draw.sample(ascii_lowercase, draw.choice([0, 5, width]))) for _ in range(height)]
-    moved = "\r\n".join(rows) + "\x1b[%d;%dH" % (draw.randint(1, height), draw.randint(1, width))
+    """Two characters at the end show where the cursor is, and whether a wrap is pending."""
     text = "".join(every_piece(draw, width, height) for _ in range(draw.randint(1, 12)))
-    return agreed(moved + text + draw.choice(["", "\x1b[4l\x1b[?7h"]) + "+-", width, height)
+    last = draw.choice(["", "\x1b[4l\x1b[?7h"]) + "+-"
+    return agreed(some_screen(draw, width, height) + text + last, width, height)

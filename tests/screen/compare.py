@@ -9,7 +9,8 @@ Usage: tests/screen/compare.py [--count N] [--seed N] [--program PROGRAM] [--xte
     --seed N           the seed of the first (default: 1)
     --program PROGRAM  the built program (default: crates/ansi2screen/out/ansi2screen)
     --xterm            in place of tmux, xterm, under an Xvfb of its own
-    --libvterm         in place of tmux, libvterm, by tests/screen/vterm_text.c, which cc makes a program of
+    --libvterm         in place of tmux, libvterm (Debian's libvterm-dev), by tests/screen/vterm_text.c, which
+                       cc makes a program of
     --size .. RECORDING ..  files with the bytes of a stream, and the screen that they were made for, as
                        those of bench/record.py for 120x40
 

@@ -67,7 +67,8 @@ impl<'a> Perform for SliceWriter<'a> {
     // What is left of the call is put.
     ghost means = { λ old call new. Puts (stripped_call call) old new };
 
-    #[inline]
+    // Mostly a character comes in a text.
+    #[inline(never)]
     fn print(&mut self, c: char) {
         let mut bytes = [0; 4];
         self.put_bytes(c.encode_utf8(&mut bytes).as_bytes());

@@ -116,8 +116,7 @@ fn after_text(bytes: &[u8]) -> &[u8]
     rest
 }
 
-/// The text at the front, which is not empty, and what comes after it. It begins with what is
-/// shown: a control at the front is executed alone, since often no text follows it.
+/// The text at the front, which is not empty, and what comes after it.
 #[inline(always)]
 fn split_text(bytes: &[u8]) -> Option<(&str, &[u8])>
     ensures text { IfSome result (λ split. BeginWithText bytes.now split.1.now) }
@@ -125,9 +124,6 @@ fn split_text(bytes: &[u8]) -> Option<(&str, &[u8])>
     ensures joined { IfSome result (λ split. bytes.now ≡ split.0.now ++ split.1.now) }
 {
     let (first, behind) = bytes.split_first()?;
-    if *first < FIRST_PRINTED {
-        return None;
-    }
     let rest = after_text(after_first(*first, behind)?);
     let (text, _) = bytes.split_at(bytes.len() - rest.len());
     // All that was passed is whole characters.
@@ -187,7 +183,8 @@ impl Parser<Utf8Parser> {
         }
     }
 
-    /// The text at the front, if there is one.
+    /// The text at the front, if there is one. A control at the front is left, since often no text
+    /// follows it.
     #[inline(always)]
     fn take_text<'a, P: PerformText>(&self, performer: &mut P, bytes: &'a [u8]) -> &'a [u8]
         requires { self.now.state ≡ State.Ground }
@@ -195,6 +192,9 @@ impl Parser<Utf8Parser> {
             self.now performer.new result.now }
         ensures within { length result.now ≤ length bytes.now }
     {
+        if matches!(bytes.first(), Some(first) if *first < FIRST_PRINTED) {
+            return bytes;
+        }
         match self.text_at(bytes) {
             Some((text, further)) => {
                 performer.print_with_layout(text);

@@ -9,12 +9,12 @@ BLOCK = 1 << 20
 
 class Program:
     """A filter of standard input: the words that it refuses, each with the line that it says then;
-    its modes; its own options, where it has options; and the words with which it writes a fragment
-    or a whole page of HTML, if it does."""
+    its modes; its own options, where it has options; the words with which it writes fragments
+    or a whole page of HTML, if it does; and those by which it writes a text of its own, and reads nothing."""
 
-    def __init__(self, name, refused, modes, options=None, fragment=None, page=None):
+    def __init__(self, name, refused, modes, options=None, fragments=(), page=None, written=()):
         self.name, self.refused, self.modes, self.options = name, refused, modes, options
-        self.fragment, self.page = fragment, page
+        self.fragments, self.page, self.written = fragments, page, written
 
 
 class Mode:
@@ -505,6 +505,43 @@ def html_rows(scheme):
     ]
 
 
+def classed(names, text=b"x"):
+    return b'<span class="%s">%s</span>' % (b" ".join(b"ansi-" + it for it in names.split()), text)
+
+
+# The names of classes: f, r and t are a text on the page, on a ground of the page's own text and on one that is
+# chosen; i is the text on one that is, where none is chosen for it; b is that ground; d before f, r or i is dim.
+CLASS_ROWS = [
+    ("plain text", b"a<b\r\n", b"a&lt;b&#13;\n"),
+    ("red", b"\x1b[31mx\x1b[my", classed(b"f1") + b"y"),
+    ("bright white", b"\x1b[97mx", classed(b"f15")),
+    ("colour 208", b"\x1b[38;5;208mx", classed(b"f208")),
+    ("on colour 208", b"\x1b[48;5;208mx", classed(b"i208 b208")),
+    ("yellow on red", b"\x1b[33;41mx", classed(b"t3 b1")),
+    ("dim yellow on red", b"\x1b[2;33;41mx", classed(b"t3 b1")),
+    ("dim on red", b"\x1b[2;41mx", classed(b"di1 b1")),
+    ("reverse yellow on red", b"\x1b[7;33;41mx", classed(b"t1 b3")),
+    ("reverse", b"\x1b[7mx", classed(b"r reverse")),
+    ("reverse on red, dim", b"\x1b[7;41;2mx", classed(b"dr1 reverse")),
+    ("dim", b"\x1b[2mx", classed(b"df")),
+    ("dim red", b"\x1b[2;31mx", classed(b"df1")),
+    # (0, 175, 255 of the cube is 1, 4 and 0 away; and 118, 118, 118 of the greys 2, 3 and 4)
+    ("near the cube", b"\x1b[38;2;1;171;255mx", classed(b"f39")),
+    ("near a grey", b"\x1b[38;2;120;121;122mx", classed(b"f243")),
+    # (as near to 95 as to 135; and what stands twice, in the cube and in the greys)
+    ("between two", b"\x1b[38;2;115;0;0mx", classed(b"f52")),
+    ("a grey of the cube", b"\x1b[38;2;0;0;0mx\x1b[38;2;255;255;255my", classed(b"f16") + classed(b"f231", b"y")),
+    ("attributes", b"\x1b[1;3;8mx", classed(b"bold italic hidden")),
+    ("lines", b"\x1b[4:3;53;9;5mx", classed(b"uosk wavy")),
+    ("underlined", b"\x1b[4mx\x1b[21my", classed(b"u") + classed(b"u double", b"y")),
+    (
+        "links",
+        linked(b"http://a/&") + b"\x1b[1;31m" + linked(b"http://b"),
+        b'<a rel="nofollow noreferrer" href="http://a/&amp;" class="ansi-link">x</a>'
+        b'<a rel="nofollow noreferrer" href="http://b" class="ansi-link ansi-f1 ansi-bold">x</a>',
+    ),
+]
+
 # The second span is open where the stream ends.
 RED = span(themed(BOTH, b"color", b"#cf222e", b"#ff7b72"), b"h")
 BOLD_RED = span(themed(BOTH, b"color", b"#cf222e", b"#ff7b72") + b"font-weight:bold;", b"i")
@@ -598,10 +635,10 @@ PROGRAMS = [
         "ansi2html",
         refused_by(
             "ansi2html",
-            *(["--title"], ["--titles=x"], ["--Page"], ["pages"], ["--page="], ["--light=1"], ["dark"], ["fragment"]),
+            *(["--title"], ["--titles=x"], ["--Page"], ["pages"], ["--page="], ["--light=1"], ["dark"], ["fragment"], ["--class"]),
         ),
         [
-            Mode(words, html_rows(scheme), (b"\x1b[mA\n", b"A\n"), hostile, head, tail, cut=cut)
+            Mode(words, html_rows(scheme) if scheme else CLASS_ROWS, (b"\x1b[mA\n", b"A\n"), hostile, head, tail, cut=cut)
             for words, scheme, hostile, head, tail, cut in (
                 ([], BOTH, HTML_HOSTILE, b"", b"", HTML_CUT),
                 (["page"], BOTH, HTML_HOSTILE, PAGE_HEAD, PAGE_TAIL, None),
@@ -611,10 +648,12 @@ PROGRAMS = [
                 (["--dark", "--light"], LIGHT, [], b"", b"", None),
                 (["--dark", "--page", "--light"], LIGHT, [], LIGHT_HEAD, PAGE_TAIL, None),
                 (["--light", "--dark", "--title=" + TITLE], DARK, [], DARK_TITLED_HEAD, PAGE_TAIL, None),
+                (["--classes", "--dark"], None, HTML_HOSTILE, b"", b"", None),
             )
         ],
-        options=["--page", "--title=TEXT", "--light", "--dark"],
-        fragment=[],
+        options=["--page", "--title=TEXT", "--light", "--dark", "--classes", "--stylesheet"],
+        fragments=[[], ["--classes"]],
         page=["--page"],
+        written=["--stylesheet"],
     ),
 ]

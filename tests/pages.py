@@ -107,10 +107,11 @@ class Reader(html.parser.HTMLParser):
 def is_of(tag, attributes):
     """Whether a span, or a link, has these attributes: a link's colour is that of the text around it, or its own."""
     if tag == "span":
-        return [name for name, _ in attributes] == ["style"]
+        return [name for name, _ in attributes] in (["style"], ["class"])
     names, values = zip(*attributes)
-    is_link = names == ("rel", "href", "style") and values[0] == "nofollow noreferrer"
-    return is_link and HREF.fullmatch(values[1]) is not None and values[2].startswith("color:inherit;")
+    is_link = names[:2] == ("rel", "href") and values[0] == "nofollow noreferrer"
+    begins = {"style": "color:inherit;", "class": "ansi-link"}.get(names[2], None) if len(names) == 3 else None
+    return is_link and HREF.fullmatch(values[1]) is not None and begins is not None and values[2].startswith(begins)
 
 
 def normalized(text):

@@ -8,7 +8,10 @@ use Rattle.std.specs.Prelude.{ℕ, List, [], ◌∷◌, ◌++◌, codes}
 use Rattle.std.specs.List.{flat_map}
 use Rattle.ansi_html.specs.declared.scheme.Scheme.{Scheme}
 use Rattle.ansi_html.specs.declared.scheme.Scheme.TheVariants.{Light, Dark, Both}
+use Rattle.ansi_html.specs.declared.scheme.Styling.{Styling}
+use Rattle.ansi_html.specs.declared.scheme.Styling.TheVariants.{Inline, Classes}
 use Rattle.ansi_html.specs.Html.{escaped_text}
+use Rattle.ansi_html.specs.Stylesheet.{stylesheet}
 use Rattle.ansi2html.specs.declared.form.Form.{Form}
 use Rattle.ansi2html.specs.declared.form.Form.TheVariants.{Fragment, Page}
 
@@ -47,20 +50,26 @@ after_colors =
     codes "<body>" ∷
     codes "<pre>" ∷ [])
 
+-- the rules of the classes, where there are any
+abbrev pub page_rules : Styling → Scheme → List ℕ
+page_rules (Inline inline) scheme = []
+page_rules Classes scheme = stylesheet scheme
+
 -- The page as far as its text, with this title, of which the bytes with a meaning in HTML are
 -- references.
-abbrev pub page_head : Scheme → (title : List ℕ) → List ℕ
-page_head scheme title =
-    before_title ++ (escaped_text title ++ (after_title ++ (page_colors scheme ++ after_colors)))
+abbrev pub page_head : Styling → Scheme → (title : List ℕ) → List ℕ
+page_head styling scheme title =
+    before_title ++ (escaped_text title ++ (after_title
+    ++ (page_colors scheme ++ (page_rules styling scheme ++ after_colors))))
 
 -- the page after its text
 abbrev pub page_tail : List ℕ
 page_tail = lines (codes "</pre>" ∷ codes "</body>" ∷ codes "</html>" ∷ [])
 
 -- a fragment stands alone; a page has a head and a tail
-abbrev pub head_of : Form → Scheme → (title : List ℕ) → List ℕ
-head_of Fragment scheme title = []
-head_of Page scheme title = page_head scheme title
+abbrev pub head_of : Form → Styling → Scheme → (title : List ℕ) → List ℕ
+head_of Fragment styling scheme title = []
+head_of Page styling scheme title = page_head styling scheme title
 
 abbrev pub tail_of : Form → List ℕ
 tail_of Fragment = []

@@ -3,6 +3,8 @@ use Rattle.std.specs.Prelude.{ℕ, Bool, ◌||◌, nat_eq, List, [], ◌∷◌, 
 use Rattle.std.specs.List.{list_any, starts_with}
 use Rattle.ansi_html.specs.declared.scheme.Scheme.{Scheme}
 use Rattle.ansi_html.specs.declared.scheme.Scheme.TheVariants.{Light, Dark, Both}
+use Rattle.ansi_html.specs.declared.scheme.Styling.{Styling}
+use Rattle.ansi_html.specs.declared.scheme.Styling.TheVariants.{Inline, Classes}
 use Rattle.ansi2html.specs.declared.form.Form.{Form}
 use Rattle.ansi2html.specs.declared.form.Form.TheVariants.{Fragment, Page}
 
@@ -26,6 +28,18 @@ scheme_from scheme (word ∷ words) = scheme_from (scheme_after scheme word) wor
 
 abbrev pub scheme_of : (words : List (List ℕ)) → Scheme
 scheme_of words = scheme_from Both words
+
+-- a word stands among the words
+abbrev pub has_word : (wanted : List ℕ) → (words : List (List ℕ)) → Bool
+has_word wanted words = list_any (λ word. bytes_eq word wanted) words
+
+-- classes where some word is --classes, and else declarations
+abbrev pub styling_of : Scheme → (words : List (List ℕ)) → Styling
+styling_of scheme words = if has_word (codes "--classes") words then Classes else Inline scheme
+
+-- the stylesheet, in place of HTML
+abbrev pub asks_for_stylesheet : (words : List (List ℕ)) → Bool
+asks_for_stylesheet words = has_word (codes "--stylesheet") words
 
 -- the title of a page that is given none
 abbrev pub default_title : List ℕ

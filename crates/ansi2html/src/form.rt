@@ -1,10 +1,12 @@
 //! What stands around the text.
 ghost use Rattle.std.specs.Prelude.{◌≡◌, IfOk};
+ghost use Rattle.anstyle_parse.specs.Io.Output.{Writes};
 ghost use Rattle.anstyle_parse.specs.Io.Output.{Adds};
-ghost use Rattle.ansi2html.specs.Page.{page_colors, page_head, head_of, tail_of};
+ghost use Rattle.ansi2html.specs.Page.{page_colors, page_rules, page_head, head_of, tail_of};
+ghost use Rattle.ansi_html.specs.Stylesheet.{stylesheet};
 
-use ansi_html::{Scheme, put_text};
-use anstyle_parse::io::{FromWrite, Output, Sink};
+use ansi_html::{Scheme, Styling, put_stylesheet, put_text};
+use anstyle_parse::io::{Fault, FromWrite, Output, Sink};
 use std::alloc::{AllocError, Global};
 
 /// What is written.
@@ -60,27 +62,43 @@ fn colors(scheme: Scheme) -> &'static [u8]
     }
 }
 
+/// Writes the rules of the classes, where styles are said by classes.
+fn put_rules<W: Sink>(output: &mut Output<W>, styling: Styling, scheme: Scheme)
+    ensures { Adds W.Sink (page_rules styling scheme) output.old output.new }
+{
+    if styling == Styling::Classes {
+        put_stylesheet(output, scheme);
+    }
+}
+
 /// Writes the page as far as its text.
-fn put_head<W: Sink>(output: &mut Output<W>, scheme: Scheme, title: &str)
-    ensures { Adds W.Sink (page_head scheme title.now) output.old output.new }
+fn put_head<W: Sink>(output: &mut Output<W>, styling: Styling, scheme: Scheme, title: &str)
+    ensures { Adds W.Sink (page_head styling scheme title.now) output.old output.new }
 {
     output.put(BEFORE_TITLE);
     put_text(output, title);
     output.put(AFTER_TITLE);
     output.put(colors(scheme));
+    put_rules(output, styling, scheme);
     output.put(AFTER_COLORS);
 }
 
 impl Form {
     /// What is written before the text: of a page, its head with this title, in which `& < > " '` and
-    /// carriage returns are character references, and with the colours of the scheme. A page's takes
-    /// memory.
-    pub fn head(self, alloc: Global, scheme: Scheme, title: &str) -> Result<Vec<u8>, AllocError>
-        ensures { IfOk result (λ head. head.items ≡ head_of self scheme title.now) }
+    /// carriage returns are character references, and with the colours of the scheme, and their rules
+    /// where styles are said by classes. A page's takes memory.
+    pub fn head(
+        self,
+        alloc: Global,
+        styling: Styling,
+        scheme: Scheme,
+        title: &str,
+    ) -> Result<Vec<u8>, AllocError>
+        ensures { IfOk result (λ head. head.items ≡ head_of self styling scheme title.now) }
     {
         let mut output = Output::new(FromWrite::new(Vec::new(alloc)));
         if self == Form::Page {
-            put_head(&mut output, scheme, title);
+            put_head(&mut output, styling, scheme, title);
         }
         let (writer, answer) = output.finish();
         match answer {
@@ -98,4 +116,14 @@ impl Form {
             Form::Page => PAGE_TAIL,
         }
     }
+}
+
+/// Writes the stylesheet for pages of the scheme. The writer is handed back, flushed; the answer is that of
+/// a write or of the flush that failed.
+pub fn write_stylesheet<W: Sink>(scheme: Scheme, writer: W) -> (W, Result<(), Fault>)
+    ensures written { Writes (stylesheet scheme) (W.contents writer) (W.contents result.0) result.1 }
+{
+    let mut output = Output::new(writer);
+    put_stylesheet(&mut output, scheme);
+    output.finish()
 }

@@ -6,9 +6,10 @@ mod words;
 
 use ansi_html::convert;
 use anstyle_parse::canon::FromRead;
+use form::write_stylesheet;
 use standard_streams::{answered, asked_of, buffered, ended_with_reason, failed, given_words};
 use std::process::ExitCode;
-use words::{HELP, OPTIONS, form, scheme, title};
+use words::{HELP, OPTIONS, asks_for_stylesheet, form, scheme, styling, title};
 
 /// The name at the front of what the program says of failures.
 const PROGRAM: &str = "ansi2html";
@@ -22,12 +23,17 @@ fn main(rt: HostRuntime) -> ExitCode {
     }
     let form = form(words.as_slice());
     let scheme = scheme(words.as_slice());
-    let Ok(head) = form.head(rt.alloc(), scheme, title(words.as_slice())) else {
+    let mut reader = FromRead::new(rt.stdin());
+    if asks_for_stylesheet(words.as_slice()) {
+        let ran = write_stylesheet(scheme, buffered(rt.stdout()));
+        return ended_with_reason(&rt, PROGRAM, reader, ran);
+    }
+    let styling = styling(words.as_slice(), scheme);
+    let Ok(head) = form.head(rt.alloc(), styling, scheme, title(words.as_slice())) else {
         return failed(&rt, PROGRAM, "out of memory");
     };
-    let mut reader = FromRead::new(rt.stdin());
     let ran = convert(
-        scheme,
+        styling,
         head.as_slice(),
         &mut reader,
         buffered(rt.stdout()),

@@ -1,18 +1,27 @@
 //! The words of the program: what its options say.
 ghost use Rattle.std.specs.Prelude.{◌≡◌, codes, map, string_bytes, unwrap_or};
 ghost use Rattle.standard_streams.specs.Options.{last_value};
-ghost use Rattle.ansi2html.specs.Words.{asks_for_page, form_of, scheme_after, scheme_of, default_title};
+ghost use Rattle.ansi2html.specs.Words.{asks_for_page, form_of, scheme_after, scheme_of, has_word, styling_of, asks_for_stylesheet, default_title};
 
 use crate::form::{Form, TITLE};
-use ansi_html::Scheme;
+use ansi_html::{Scheme, Styling};
 use standard_streams::value_of;
 
 /// The options: `page` is the word of earlier versions.
-pub const OPTIONS: &[&str] = &["--page", "page", "--title=", "--light", "--dark"];
+pub const OPTIONS: &[&str] = &[
+    "--page",
+    "page",
+    "--title=",
+    "--light",
+    "--dark",
+    "--classes",
+    "--stylesheet",
+];
 
 /// What `--help` says.
 pub const HELP: &str = "\
-usage: ansi2html [--page] [--title=TEXT] [--light | --dark] < FILE
+usage: ansi2html [--page] [--title=TEXT] [--light | --dark] [--classes] < FILE
+       ansi2html --stylesheet [--light | --dark]
 
 Writes the text of standard input to standard output as HTML, in its colours:
 a fragment, to be put into a <pre> of a page in UTF-8, or a whole page.
@@ -23,6 +32,9 @@ Input is UTF-8. No file is opened: one is given by <.
   --title=TEXT    write a whole page with this title
   --light         colours for light pages alone
   --dark          colours for dark pages alone, no lighter than #1e1e1e
+  --classes       attributes class in place of style, for sites that forbid
+                  inline styles; colours are snapped to the 256
+  --stylesheet    write the stylesheet of these classes, and read nothing
   --help          say this
   --version       say which version it is
 
@@ -70,6 +82,31 @@ fn scheme_after(scheme: Scheme, word: &str) -> Scheme
     } else {
         scheme
     }
+}
+
+/// How styles are said: by classes where a word is `--classes`, and else inline, for these pages.
+pub fn styling(words: &[String], scheme: Scheme) -> Styling
+    ensures { result ≡ styling_of scheme (map string_bytes words.now) }
+{
+    if has_word(words, "--classes") {
+        Styling::Classes
+    } else {
+        Styling::Inline(scheme)
+    }
+}
+
+/// Whether the stylesheet is asked for, in place of HTML.
+pub fn asks_for_stylesheet(words: &[String]) -> bool
+    ensures { result ≡ asks_for_stylesheet (map string_bytes words.now) }
+{
+    has_word(words, "--stylesheet")
+}
+
+/// Whether one of the words is this one.
+fn has_word(words: &[String], wanted: &str) -> bool
+    ensures { result ≡ has_word wanted.now (map string_bytes words.now) }
+{
+    words.iter().any(|word| word.as_str() == wanted)
 }
 
 /// The title of the page: the last that the words say.

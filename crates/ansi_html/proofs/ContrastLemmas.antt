@@ -11,7 +11,7 @@ use Rattle.ansi_html.specs.declared.contrast.TheConstants.{LINEAR}
 use Rattle.ansi_html.specs.Contrast.{is_made_linear, linear, luminance, is_readable, are_readable, rgb, black, white, lightest_dark, is_read_on_light, IsReadOnLight, is_read_on_dark, IsReadOnDark, darkened, lightened, light_from, dark_from, light_shade, dark_shade, ink, mixture, dim_on}
 
 -- what holds of all numbers below another
-all_below : (p : ℕ → Bool) (n v : ℕ) → list_all p (range_with_len 0 n) ≡ true → v < n → p v ≡ true
+pub all_below : (p : ℕ → Bool) (n v : ℕ) → list_all p (range_with_len 0 n) ≡ true → v < n → p v ≡ true
 all_below p n v all below = by_case (p v) refl
   where
     at : p (get_or (range_with_len 0 n) v 0) ≡ p v

@@ -13,8 +13,6 @@ use Rattle.ansi_html.specs.Contrast.{black, white}
 use Rattle.ansi_html.specs.Palette.{hex_digit, hex_byte, hex}
 use Rattle.ansi_html.specs.Css.{declared, light_dark, themed, colors_css, text_if, is_underlined, lines_css, underline_css, others_css, css}
 use Rattle.ansi_html.specs.Grammar.{AreReadable, of_page, on_page, on_reversed, on_color, AreColors, readable, chosen, AreLines, no_line, underline, overline, line_through, blink, IsDeclaration, bold, italic, hidden, lines, double, wavy, dotted, dashed, AreDeclarations, no_declaration, declaration}
-use Rattle.ansi_html.specs.Links.{is_none}
-use Rattle.ansi_html.specs.Html.{Element, element_css}
 use Rattle.ansi_html.proofs.ColorLemmas.{choose, AreColors-css}
 use Rattle.ansi_html.proofs.HtmlLemmas.{false-from_not}
 
@@ -59,13 +57,13 @@ AreDeclarations-others style =
     (AreDeclarations-append _ (AreDeclarations-underline style.underline) (AreDeclarations-if style.hidden _ (single _ hidden)))))
 
 -- a byte that may stand in an attribute
-pub is_safe : ℕ → Bool
+unfoldable pub is_safe : ℕ → Bool
 is_safe b = nat_le 0x20 b && (nat_lt b 0x80 && (not (eqb b 0x22) && not (eqb b 0x26)))
 
 abbrev pub AreSafe : List ℕ → Type 0
 AreSafe bytes = list_all is_safe bytes ≡ true
 
-AreSafe-append : (first second : List ℕ) → AreSafe first → AreSafe second → AreSafe (first ++ second)
+pub AreSafe-append : (first second : List ℕ) → AreSafe first → AreSafe second → AreSafe (first ++ second)
 AreSafe-append [] second a b = b
 AreSafe-append (x ∷ first) second a b =
     let parts = and_parts (is_safe x) (list_all is_safe first) a in
@@ -160,12 +158,6 @@ AreSafe-declarations (declaration first rest is others) = AreSafe-append first r
 pub AreSafe-css : (scheme : Scheme) (style : Style) → AreSafe (css scheme style)
 AreSafe-css scheme style =
     AreSafe-append (colors_css scheme style) (others_css style) (AreSafe-colors scheme (AreColors-css scheme style)) (AreSafe-declarations (AreDeclarations-others style))
-
-pub AreSafe-element_css : (scheme : Scheme) (element : Element) → AreSafe (element_css scheme element)
-unfolding is_safe
-AreSafe-element_css scheme element =
-    choose AreSafe (is_none element.link) (css scheme element.style) (codes "color:inherit;" ++ css scheme element.style)
-    (AreSafe-css scheme element.style) (AreSafe-append (codes "color:inherit;") (css scheme element.style) refl (AreSafe-css scheme element.style))
 
 safe_parts : (b : ℕ) → is_safe b ≡ true → (0x20 ≤ b) × ((b < 0x80) × ((eqb b 0x22 ≡ false) × (eqb b 0x26 ≡ false)))
 unfolding is_safe

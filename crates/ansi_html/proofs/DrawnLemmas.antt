@@ -8,7 +8,7 @@ use Rattle.anstyle_parse.specs.Stream.Call.{Call, print, execute, hook, put, unh
 use Rattle.std.specs.Prelude.{encode_utf8}
 use Rattle.ansi_strip.specs.Strip.{is_layout, stripped_call, stripped}
 use Rattle.ansi_strip.proofs.Showable.{IsShowable, AreShowable}
-use Rattle.ansi_html.specs.declared.scheme.Scheme.{Scheme}
+use Rattle.ansi_html.specs.declared.scheme.Styling.{Styling}
 use Rattle.ansi_html.specs.Html.{Standing, at_start, after_text, is_executed, standing_after, html}
 use Rattle.ansi_html.specs.Reader.{Attributes, attributes_of, normalized_from, normalized, text, break, drawn_of, drawn, ends_returned, ends_in_return}
 use Rattle.ansi_html.proofs.LawfulText.{ArePrinted, ArePrinted-encode}
@@ -54,9 +54,9 @@ drawn_text-printed (b ∷ bytes) rest printed =
     ap (λ (is : Bool). (if is then [] else b ∷ []) ++ drawn_text is (bytes ++ rest)) (ne_eqb b 0x0D (λ e. omega (arith, printed.0)))
     ∙ ap (λ l. b ∷ l) (drawn_text-printed bytes rest printed.1)
 
-module _ (scheme : Scheme) (at : Standing) where
+module _ (styling : Styling) (at : Standing) where
   drawn-text : (bytes rest : List ℕ) → ArePrinted bytes
-      → flat_map drawn_of (seen_text scheme at false bytes) ++ drawn_text (after_text at.returned false bytes) rest ≡ drawn_text at.returned (bytes ++ rest)
+      → flat_map drawn_of (seen_text styling at false bytes) ++ drawn_text (after_text at.returned false bytes) rest ≡ drawn_text at.returned (bytes ++ rest)
   unfolding drawn_text line_feed_if
   drawn-text [] rest printed = refl
   drawn-text (b ∷ bytes) rest printed =
@@ -67,20 +67,20 @@ module _ (scheme : Scheme) (at : Standing) where
       ∙ sym (ap₂ (λ (feed is : Bool). (if at.returned && not feed then 0x0A ∷ [] else []) ++ ((if is then [] else b ∷ []) ++ drawn_text is (bytes ++ rest))) no_feed no_return)
     where
       by_case : (returned : Bool)
-          → flat_map drawn_of ((if returned && true then break ∷ [] else []) ++ map (text (attributes_of scheme at.selected)) (b ∷ bytes)) ++ drawn_text false rest
+          → flat_map drawn_of ((if returned && true then break ∷ [] else []) ++ map (text (attributes_of styling at.selected)) (b ∷ bytes)) ++ drawn_text false rest
           ≡ (if returned && true then 0x0A ∷ [] else []) ++ ((b ∷ bytes) ++ drawn_text false rest)
-      by_case true = ap (λ l. 0x0A ∷ (l ++ drawn_text false rest)) (drawn-printed (attributes_of scheme at.selected) (b ∷ bytes) printed)
-      by_case false = ap (λ l. l ++ drawn_text false rest) (drawn-printed (attributes_of scheme at.selected) (b ∷ bytes) printed)
+      by_case true = ap (λ l. 0x0A ∷ (l ++ drawn_text false rest)) (drawn-printed (attributes_of styling at.selected) (b ∷ bytes) printed)
+      by_case false = ap (λ l. l ++ drawn_text false rest) (drawn-printed (attributes_of styling at.selected) (b ∷ bytes) printed)
 
   drawn-executed : (b : ℕ) (rest : List ℕ) (layout : Bool)
-      → flat_map drawn_of (seen_text scheme at (eqb b 0x0A) (if layout then b ∷ [] else [])) ++ drawn_text (after_text at.returned (eqb b 0x0D) (if layout then b ∷ [] else [])) rest
+      → flat_map drawn_of (seen_text styling at (eqb b 0x0A) (if layout then b ∷ [] else [])) ++ drawn_text (after_text at.returned (eqb b 0x0D) (if layout then b ∷ [] else [])) rest
       ≡ drawn_text at.returned ((if layout then b ∷ [] else []) ++ rest)
   unfolding drawn_text line_feed_if
   drawn-executed b rest false = refl
   drawn-executed b rest true = by_case (at.returned && not (eqb b 0x0A)) (eqb b 0x0D)
     where
       by_case : (wanted is : Bool)
-          → flat_map drawn_of ((if wanted then break ∷ [] else []) ++ (text (attributes_of scheme at.selected) b ∷ [])) ++ drawn_text is rest
+          → flat_map drawn_of ((if wanted then break ∷ [] else []) ++ (text (attributes_of styling at.selected) b ∷ [])) ++ drawn_text is rest
           ≡ (if wanted then 0x0A ∷ [] else []) ++ ((if eqb b 0x0D then [] else b ∷ []) ++ drawn_text is rest)
       by_case true is = ap (λ l. 0x0A ∷ (l ++ drawn_text is rest)) (append-nil (if eqb b 0x0D then [] else b ∷ []))
       by_case false is = ap (λ l. l ++ drawn_text is rest) (append-nil (if eqb b 0x0D then [] else b ∷ []))
@@ -89,7 +89,7 @@ module _ (scheme : Scheme) (at : Standing) where
   Draws : Call → Type 0
   Draws call =
       (rest : List ℕ)
-      → flat_map drawn_of (seen_text scheme at (is_executed 0x0A call) (stripped_call call)) ++ drawn_text (after_text at.returned (is_executed 0x0D call) (stripped_call call)) rest
+      → flat_map drawn_of (seen_text styling at (is_executed 0x0A call) (stripped_call call)) ++ drawn_text (after_text at.returned (is_executed 0x0D call) (stripped_call call)) rest
       ≡ drawn_text at.returned (stripped_call call ++ rest)
 
   Draws-call : (call : Call) → IsShowable call → Draws call
@@ -103,21 +103,21 @@ module _ (scheme : Scheme) (at : Standing) where
   Draws-call (csi_dispatch gs is ig f) h = λ rest. refl
   Draws-call (esc_dispatch is ig f) h = λ rest. refl
 
-drawn-calls : (scheme : Scheme) (at : Standing) (calls : List Call) → AreShowable calls → flat_map drawn_of (seen_calls scheme at calls) ≡ drawn_text at.returned (stripped calls)
+drawn-calls : (styling : Styling) (at : Standing) (calls : List Call) → AreShowable calls → flat_map drawn_of (seen_calls styling at calls) ≡ drawn_text at.returned (stripped calls)
 unfolding Draws drawn_text
-drawn-calls scheme at [] are = refl
-drawn-calls scheme at (call ∷ calls) are =
-    let here = seen_text scheme at (is_executed 0x0A call) (stripped_call call) in
-    flat_map-append drawn_of here (seen_calls scheme (standing_after call at) calls)
-    ∙ ap (λ l. flat_map drawn_of here ++ l) (drawn-calls scheme (standing_after call at) calls are.1)
-    ∙ Draws-call scheme at call are.0 (stripped calls)
+drawn-calls styling at [] are = refl
+drawn-calls styling at (call ∷ calls) are =
+    let here = seen_text styling at (is_executed 0x0A call) (stripped_call call) in
+    flat_map-append drawn_of here (seen_calls styling (standing_after call at) calls)
+    ∙ ap (λ l. flat_map drawn_of here ++ l) (drawn-calls styling (standing_after call at) calls are.1)
+    ∙ Draws-call styling at call are.0 (stripped calls)
 
 -- The HTML of calls that can be shown is drawn as their text with its newlines normalized.
-pub drawn-html : (scheme : Scheme) (calls : List Call) → AreShowable calls → ends_in_return (stripped calls) ≡ false → drawn (html scheme calls) ≡ normalized (stripped calls)
+pub drawn-html : (styling : Styling) (calls : List Call) → AreShowable calls → ends_in_return (stripped calls) ≡ false → drawn (html styling calls) ≡ normalized (stripped calls)
 unfolding line_feed_if
-drawn-html scheme calls are ends =
+drawn-html styling calls are ends =
     let text = stripped calls in
-    ap (flat_map drawn_of) (seen-html scheme calls) ∙ drawn-calls scheme at_start calls are
+    ap (flat_map drawn_of) (seen-html styling calls) ∙ drawn-calls styling at_start calls are
     ∙ sym (
     normalized-drawn_text false text
     ∙ ap (λ (is : Bool). drawn_text false text ++ (if is then 0x0A ∷ [] else [])) ends ∙ append-nil (drawn_text false text)

@@ -12,7 +12,7 @@ use Rattle.std.specs.Str.{bytes_eq}
 use Rattle.std.proofs.lemmas.Slice.Eq.{bytes_eq-Decides}
 use Rattle.ansi_style.specs.Style.{are_equal}
 use Rattle.ansi_style.proofs.EqualityLemmas.{are_equal-refl, are_equal-same}
-use Rattle.ansi_html.specs.declared.scheme.Scheme.{Scheme}
+use Rattle.ansi_html.specs.declared.scheme.Styling.{Styling}
 use Rattle.anstyle_parse.specs.Stream.Call.{print, execute}
 use Rattle.ansi_html.specs.Html.{escaped, escaped_text, Element, element, are_same, Standing, beginning, element_begin, element_end, after_text, text_html, call_html, standing_after, change}
 use Rattle.ansi_html.specs.Writer.{in_element}
@@ -32,11 +32,11 @@ none_from_test [] test = refl
 none_from_test (b ∷ text) test = absurd (omega (arith, eqb-true (length (b ∷ text)) 0 test))
 
 -- text that is not empty
-text_html-some : (scheme : Scheme) (at : Standing) (is_line_feed : Bool) (bytes : List ℕ) → 0 < length bytes
-    → text_html scheme at is_line_feed bytes ≡ beginning scheme at is_line_feed ++ escaped_text bytes
+text_html-some : (styling : Styling) (at : Standing) (is_line_feed : Bool) (bytes : List ℕ) → 0 < length bytes
+    → text_html styling at is_line_feed bytes ≡ beginning styling at is_line_feed ++ escaped_text bytes
 unfolding text_html
-text_html-some scheme at is_line_feed [] some = absurd (omega arith)
-text_html-some scheme at is_line_feed (b ∷ bytes) some = refl
+text_html-some styling at is_line_feed [] some = absurd (omega arith)
+text_html-some styling at is_line_feed (b ∷ bytes) some = refl
 
 pub after_text-some : {A : Type 0} (before after : A) (bytes : List ℕ) → 0 < length bytes → after_text before after bytes ≡ after
 after_text-some before after [] some = absurd (omega arith)
@@ -131,9 +131,9 @@ escaped_text-begun bytes left begun =
     ap escaped_text begun.2 ∙ flat_map-append escaped begun.0 left ∙ ap (λ l. l ++ escaped_text left) (escaped_text-clear begun.0 begun.1)
 
 -- a printed character
-module _ (scheme : Scheme) (at : Standing) (c : ℕ) where
-  pub call_html-print : call_html scheme at (print c) ≡ beginning scheme at false ++ escaped_text (encode_utf8 c)
-  call_html-print = text_html-some scheme at false (encode_utf8 c) (length-encode-some c)
+module _ (styling : Styling) (at : Standing) (c : ℕ) where
+  pub call_html-print : call_html styling at (print c) ≡ beginning styling at false ++ escaped_text (encode_utf8 c)
+  call_html-print = text_html-some styling at false (encode_utf8 c) (length-encode-some c)
 
   pub standing_after-print : standing_after (print c) at ≡ in_element at.selected false
   standing_after-print =
@@ -142,7 +142,7 @@ module _ (scheme : Scheme) (at : Standing) (c : ℕ) where
       (after_text-some at.returned false (encode_utf8 c) (length-encode-some c))
 
 -- a control: where it is text, and where it is none
-module _ (scheme : Scheme) (at : Standing) (b : ℕ) where
+module _ (styling : Styling) (at : Standing) (b : ℕ) where
   abbrev executed : Bool → List ℕ
   executed layout = if layout then b ∷ [] else []
 
@@ -153,16 +153,16 @@ module _ (scheme : Scheme) (at : Standing) (b : ℕ) where
     returned = after_text at.returned (eqb b 0x0D) bytes;
   }
 
-  pub call_html-layout : is_layout b ≡ true → call_html scheme at (execute b) ≡ beginning scheme at (eqb b 0x0A) ++ escaped b
+  pub call_html-layout : is_layout b ≡ true → call_html styling at (execute b) ≡ beginning styling at (eqb b 0x0A) ++ escaped b
   unfolding text_html
-  call_html-layout is = ap (λ layout. text_html scheme at (eqb b 0x0A) (executed layout)) is ∙ ap (λ l. beginning scheme at (eqb b 0x0A) ++ l) (escaped_one b)
+  call_html-layout is = ap (λ layout. text_html styling at (eqb b 0x0A) (executed layout)) is ∙ ap (λ l. beginning styling at (eqb b 0x0A) ++ l) (escaped_one b)
 
   pub standing_after-layout : is_layout b ≡ true → standing_after (execute b) at ≡ in_element at.selected (eqb b 0x0D)
   standing_after-layout is = ap (λ layout. after_executed (executed layout)) is
 
-  pub call_html-other : is_layout b ≡ false → call_html scheme at (execute b) ≡ []
+  pub call_html-other : is_layout b ≡ false → call_html styling at (execute b) ≡ []
   unfolding text_html
-  call_html-other is = ap (λ layout. text_html scheme at (eqb b 0x0A) (executed layout)) is
+  call_html-other is = ap (λ layout. text_html styling at (eqb b 0x0A) (executed layout)) is
 
   pub standing_after-other : is_layout b ≡ false → standing_after (execute b) at ≡ at
   standing_after-other is = ap (λ layout. after_executed (executed layout)) is
@@ -180,5 +180,5 @@ are_same-same one other same =
     ap₂ element (are_equal-same one.style other.style parts.0) ((bytes_eq-Decides one.link other.link).0 parts.1)
 
 -- where the element stays nothing changes
-pub change-same : (scheme : Scheme) → (element : Element) → change scheme element element ≡ []
-change-same scheme element = ap (λ (same : Bool). if same then [] else element_end element ++ element_begin scheme element) (are_same-refl element)
+pub change-same : (styling : Styling) → (element : Element) → change styling element element ≡ []
+change-same styling element = ap (λ (same : Bool). if same then [] else element_end element ++ element_begin styling element) (are_same-refl element)

@@ -1,5 +1,5 @@
 -- How long the HTML can be.
-use Rattle.std.proofs.Common.{◌≤◌, ◌<◌, ℕ, ◌+◌, ◌*◌, Bool, ◌||◌, ◌&&◌, eqb, ⊎_elim, ap, List, [], ◌∷◌, ◌++◌, codes, length, arith, length-append}
+use Rattle.std.proofs.Common.{◌≤◌, ◌<◌, ℕ, ◌+◌, ◌*◌, Bool, true, false, ◌||◌, ◌&&◌, eqb, ⊎_elim, ap, List, [], ◌∷◌, ◌++◌, codes, length, arith, length-append}
 use Rattle.std.specs.Prelude.{not, encode_utf8}
 use Rattle.std.proofs.lemmas.Bool.{cases_lt}
 use Rattle.std.proofs.lemmas.Str.{length-encode, len_utf8_bounds}
@@ -11,13 +11,16 @@ use Rattle.ansi_style.specs.declared.style.Underline.TheVariants.{Off, Single, D
 use Rattle.ansi_html.specs.declared.contrast.Rgb.{Rgb}
 use Rattle.ansi_html.specs.declared.scheme.Scheme.{Scheme}
 use Rattle.ansi_html.specs.declared.scheme.Scheme.TheVariants.{Light, Dark, Both}
+use Rattle.ansi_html.specs.declared.scheme.Styling.{Styling}
+use Rattle.ansi_html.specs.declared.scheme.Styling.TheVariants.{Inline, Classes}
 use Rattle.ansi_html.specs.Contrast.{black, white}
 use Rattle.ansi_html.specs.Palette.{hex}
 use Rattle.ansi_html.specs.Css.{declared, light_dark, themed, colors_css, text_if, is_underlined, lines_css, underline_css, css}
 use Rattle.ansi_html.specs.Grammar.{AreReadable, of_page, on_page, on_reversed, on_color, AreColors, readable, chosen}
-use Rattle.ansi_html.specs.Html.{escaped, escaped_text, is_plain, span_begin, span_end, Element, are_same, element_css, link_begin, element_begin, element_end, change, Standing, at_start, line_break, is_executed, text_html, call_html, standing_after, html_from, standing_at_end, html}
+use Rattle.ansi_html.specs.Html.{escaped, escaped_text, is_plain, span_begin, span_end, Element, are_same, value_of, element_value, attribute_text, link_begin, element_begin, element_end, change, Standing, at_start, line_break, is_executed, text_html, call_html, standing_after, html_from, standing_at_end, html}
 use Rattle.ansi_html.proofs.HtmlLemmas.{escaped_one, escaped_ascii, escaped_high}
 use Rattle.ansi_html.proofs.ColorLemmas.{choose, AreColors-css}
+use Rattle.ansi_html.proofs.ClassLemmas.{length-class_names}
 use Rattle.ansi_html.specs.Links.{is_none}
 use Rattle.ansi_html.proofs.SoundLemmas.{AreSound, AreSound-start, AreSound-after}
 
@@ -120,11 +123,26 @@ AtMost-end shown =
     let P : List ℕ → Type 0 = λ l. length l ≤ 7 in
     choose P (is_none shown.link) (span_end shown.style) (codes "</a>") (choose P (is_plain shown.style) [] (codes "</span>") (omega arith) (omega arith)) (omega arith)
 
-AtMost-span_begin : (scheme : Scheme) → (style : Style) → AtMost 275 (span_begin scheme style)
+-- 14 for the colour of a link, and the style; or the names of classes
+AtMost-value : (styling : Styling) (linked : Bool) (style : Style) → AtMost 274 (value_of styling linked style)
 unfolding AtMost
-AtMost-span_begin scheme style =
-    choose (λ l. length l ≤ 275) (is_plain style) [] (codes "<span style=\"" ++ (css scheme style ++ codes "\">")) (omega arith)
-    (AtMost-append 13 262 (codes "<span style=\"") (css scheme style ++ codes "\">") (omega arith) (AtMost-append 260 2 (css scheme style) (codes "\">") (AtMost-css scheme style) (omega arith)))
+AtMost-value (Inline scheme) linked style =
+    AtMost-append 14 260 (text_if linked (codes "color:inherit;")) (css scheme style) (AtMost-if 14 linked (codes "color:inherit;") (omega arith)) (AtMost-css scheme style)
+AtMost-value Classes linked style = omega (arith, length-class_names linked style)
+
+AtMost-attribute : (styling : Styling) (value : List ℕ) → AtMost 274 value → AtMost 284 (attribute_text styling value)
+unfolding AtMost
+AtMost-attribute (Inline scheme) value few =
+    AtMost-append 8 276 (codes " style=\"") (value ++ codes "\">") (omega arith) (AtMost-append 274 2 value (codes "\">") few (omega arith))
+AtMost-attribute Classes value few =
+    AtMost-append 8 276 (codes " class=\"") (value ++ codes "\">") (omega arith) (AtMost-append 274 2 value (codes "\">") few (omega arith))
+
+AtMost-span_begin : (styling : Styling) → (style : Style) → AtMost 289 (span_begin styling style)
+unfolding AtMost
+AtMost-span_begin styling style =
+    let tag = attribute_text styling (value_of styling false style) in
+    choose (λ l. length l ≤ 289) (is_plain style) [] (codes "<span" ++ tag) (omega arith)
+    (AtMost-append 5 284 (codes "<span") tag (omega arith) (AtMost-attribute styling (value_of styling false style) (AtMost-value styling false style)))
 
 length-escaped : (b : ℕ) → length (escaped b) ≤ 6
 length-escaped b =
@@ -140,30 +158,27 @@ AtMost-link : (link : List ℕ) → length link ≤ 1035 → AtMost 6210 (escape
 unfolding AtMost
 AtMost-link link short = omega (arith, length-escaped_text link, short)
 
--- 14 for the colour, and the style
-AtMost-element_css : (scheme : Scheme) (element : Element) → AtMost 274 (element_css scheme element)
+AtMost-element_value : (styling : Styling) (element : Element) → AtMost 274 (element_value styling element)
 unfolding AtMost
-AtMost-element_css scheme element =
-    choose (λ l. length l ≤ 274) (is_none element.link) (css scheme element.style) (codes "color:inherit;" ++ css scheme element.style)
-    (omega (arith, AtMost-css scheme element.style))
-    (AtMost-append 14 260 (codes "color:inherit;") (css scheme element.style) (omega arith) (AtMost-css scheme element.style))
+AtMost-element_value styling element =
+    choose (λ l. length l ≤ 274) (is_none element.link) (value_of styling false element.style) (value_of styling true element.style)
+    (AtMost-value styling false element.style) (AtMost-value styling true element.style)
 
-AtMost-begin : (scheme : Scheme) (element : Element) → length element.link ≤ 1035 → AtMost 6530 (element_begin scheme element)
+AtMost-begin : (styling : Styling) (element : Element) → length element.link ≤ 1035 → AtMost 6530 (element_begin styling element)
 unfolding AtMost
-AtMost-begin scheme element short =
-    let declarations = element_css scheme element in
-    choose (λ l. length l ≤ 6530) (is_none element.link) (span_begin scheme element.style) (link_begin element.link declarations)
-    (omega (arith, AtMost-span_begin scheme element.style))
+AtMost-begin styling element short =
+    let value = element_value styling element in
+    choose (λ l. length l ≤ 6530) (is_none element.link) (span_begin styling element.style) (link_begin styling element.link value)
+    (omega (arith, AtMost-span_begin styling element.style))
     (AtMost-append 35 6495 (codes "<a rel=\"nofollow noreferrer\" href=\"") _ (omega arith)
     (AtMost-append 6210 285 (escaped_text element.link) _ (AtMost-link element.link short)
-    (AtMost-append 9 276 (codes "\" style=\"") (declarations ++ codes "\">") (omega arith)
-    (AtMost-append 274 2 declarations (codes "\">") (AtMost-element_css scheme element) (omega arith)))))
+    (AtMost-append 1 284 (codes "\"") (attribute_text styling value) (omega arith) (AtMost-attribute styling value (AtMost-element_value styling element)))))
 
-AtMost-change : (scheme : Scheme) (shown next : Element) → length next.link ≤ 1035 → AtMost 6537 (change scheme shown next)
+AtMost-change : (styling : Styling) (shown next : Element) → length next.link ≤ 1035 → AtMost 6537 (change styling shown next)
 unfolding AtMost
-AtMost-change scheme shown next short =
-    choose (λ l. length l ≤ 6537) (are_same shown next) [] (element_end shown ++ element_begin scheme next) (omega arith)
-    (AtMost-append 7 6530 (element_end shown) (element_begin scheme next) (AtMost-end shown) (AtMost-begin scheme next short))
+AtMost-change styling shown next short =
+    choose (λ l. length l ≤ 6537) (are_same shown next) [] (element_end shown ++ element_begin styling next) (omega arith)
+    (AtMost-append 7 6530 (element_end shown) (element_begin styling next) (AtMost-end shown) (AtMost-begin styling next short))
 
 AtMost-line_break : (returned is_line_feed : Bool) → AtMost 4 (line_break returned is_line_feed)
 unfolding AtMost
@@ -189,27 +204,27 @@ length-stripped (csi_dispatch gs is ig f) = omega arith
 length-stripped (esc_dispatch is ig f) = omega arith
 
 -- 6537 for a change of elements, 4 for a line break and 6 for the text
-length-text_html : (scheme : Scheme) (at : Standing) (is_line_feed : Bool) (bytes : List ℕ) → AreSound at → length (escaped_text bytes) ≤ 6 → length (text_html scheme at is_line_feed bytes) ≤ 6547
+length-text_html : (styling : Styling) (at : Standing) (is_line_feed : Bool) (bytes : List ℕ) → AreSound at → length (escaped_text bytes) ≤ 6 → length (text_html styling at is_line_feed bytes) ≤ 6547
 unfolding text_html AtMost
-length-text_html scheme at is_line_feed [] sound few = omega arith
-length-text_html scheme at is_line_feed (b ∷ bytes) sound few =
-    let changed = change scheme at.shown at.selected in
+length-text_html styling at is_line_feed [] sound few = omega arith
+length-text_html styling at is_line_feed (b ∷ bytes) sound few =
+    let changed = change styling at.shown at.selected in
     let broken = line_break at.returned is_line_feed in
-    omega (arith, few, length-append (changed ++ broken) (escaped_text (b ∷ bytes)), length-append changed broken, AtMost-change scheme at.shown at.selected sound.selected.short, AtMost-line_break at.returned is_line_feed)
+    omega (arith, few, length-append (changed ++ broken) (escaped_text (b ∷ bytes)), length-append changed broken, AtMost-change styling at.shown at.selected sound.selected.short, AtMost-line_break at.returned is_line_feed)
 
-length-html_from : (scheme : Scheme) (at : Standing) (calls : List Call) → AreSound at → length (html_from scheme at calls) ≤ 6547 * length calls
-length-html_from scheme at [] sound = omega arith
-length-html_from scheme at (call ∷ calls) sound =
+length-html_from : (styling : Styling) (at : Standing) (calls : List Call) → AreSound at → length (html_from styling at calls) ≤ 6547 * length calls
+length-html_from styling at [] sound = omega arith
+length-html_from styling at (call ∷ calls) sound =
     let after = standing_after call at in
     omega (
       arith,
-      length-append (call_html scheme at call) (html_from scheme after calls),
-      length-text_html scheme at (is_executed 0x0A call) (stripped_call call) sound (length-stripped call),
-      length-html_from scheme after calls (AreSound-after call at sound),
+      length-append (call_html styling at call) (html_from styling after calls),
+      length-text_html styling at (is_executed 0x0A call) (stripped_call call) sound (length-stripped call),
+      length-html_from styling after calls (AreSound-after call at sound),
     )
 
-pub length-html : (scheme : Scheme) → (calls : List Call) → length (html scheme calls) ≤ 6547 * length calls + 7
+pub length-html : (styling : Styling) → (calls : List Call) → length (html styling calls) ≤ 6547 * length calls + 7
 unfolding AtMost
-length-html scheme calls =
+length-html styling calls =
     let last = (standing_at_end at_start calls).shown in
-    omega (arith, length-append (html_from scheme at_start calls) (element_end last), length-html_from scheme at_start calls AreSound-start, AtMost-end last)
+    omega (arith, length-append (html_from styling at_start calls) (element_end last), length-html_from styling at_start calls AreSound-start, AtMost-end last)

@@ -4,6 +4,12 @@ pub mod HtmlLemmas
 pub mod PrintLemmas
 pub mod BytesLemmas
 pub mod DeclarationLemmas
+pub mod NearestLemmas
+pub mod ClassLemmas
+pub mod StylesheetLemmas
+pub mod SnappedLemmas
+pub mod NameLemmas
+pub mod CascadeLemmas
 pub mod NewlineLemmas
 pub mod ReadLemmas
 pub mod DrawnLemmas

@@ -7,15 +7,16 @@ use Rattle.std.proofs.lemmas.List.Folds.{list_all-append}
 use Rattle.anstyle_parse.specs.Stream.Call.{Call}
 use Rattle.ansi_strip.specs.Strip.{stripped_call}
 use Rattle.ansi_style.specs.declared.style.Style.{Style}
-use Rattle.ansi_html.specs.declared.scheme.Scheme.{Scheme}
-use Rattle.ansi_html.specs.Css.{css}
+use Rattle.ansi_html.specs.declared.scheme.Styling.{Styling}
+use Rattle.ansi_html.specs.declared.scheme.Styling.TheVariants.{Inline, Classes}
 use Rattle.ansi_html.specs.Links.{is_none}
 use Rattle.ansi_html.specs.Grammar.{is_special}
-use Rattle.ansi_html.specs.Html.{escaped, escaped_text, is_plain, span_begin, span_end, Element, are_same, element_css, link_begin, element_begin, element_end, change, Standing, at_start, line_break, beginning, is_executed, text_html, call_html, standing_after, html_from, standing_at_end, html}
+use Rattle.ansi_html.specs.Html.{escaped, escaped_text, is_plain, span_begin, span_end, Element, are_same, value_of, element_value, attribute_text, link_begin, element_begin, element_end, change, Standing, at_start, line_break, beginning, is_executed, text_html, call_html, standing_after, html_from, standing_at_end, html}
 use Rattle.ansi_html.specs.Reader.{normalized_from, normalized}
 use Rattle.ansi_html.proofs.ColorLemmas.{choose}
 use Rattle.ansi_html.proofs.HtmlLemmas.{escaped-clear, not_return-clear, false-from_not}
-use Rattle.ansi_html.proofs.DeclarationLemmas.{is_safe, AreSafe, AreSafe-css, AreSafe-element_css, not_return-safe}
+use Rattle.ansi_html.proofs.DeclarationLemmas.{is_safe, AreSafe, not_return-safe}
+use Rattle.ansi_html.proofs.ClassLemmas.{AreSafe-value, AreSafe-element_value}
 
 is_other : ℕ → Bool
 is_other b = not (eqb b 0x0D)
@@ -77,54 +78,59 @@ HasNoReturn-end shown =
     let Q : List ℕ → Type 0 = λ l. list_all (λ x. not (eqb x 0x0D)) l ≡ true in
     choose Q (is_none shown.link) (span_end shown.style) (codes "</a>") (choose Q (is_plain shown.style) [] (codes "</span>") refl refl) refl
 
-module _ (scheme : Scheme) where
-  HasNoReturn-span : (style : Style) → HasNoReturn (span_begin scheme style)
+HasNoReturn-attribute : (styling : Styling) (value : List ℕ) → AreSafe value → HasNoReturn (attribute_text styling value)
+unfolding is_other
+HasNoReturn-attribute (Inline scheme) value safe =
+    HasNoReturn-append (codes " style=\"") (value ++ codes "\">") refl (HasNoReturn-append value (codes "\">") (HasNoReturn-safe value safe) refl)
+HasNoReturn-attribute Classes value safe =
+    HasNoReturn-append (codes " class=\"") (value ++ codes "\">") refl (HasNoReturn-append value (codes "\">") (HasNoReturn-safe value safe) refl)
+
+module _ (styling : Styling) where
+  HasNoReturn-span : (style : Style) → HasNoReturn (span_begin styling style)
   unfolding is_other
   HasNoReturn-span style =
-      choose HasNoReturn (is_plain style) [] (codes "<span style=\"" ++ (css scheme style ++ codes "\">")) refl
-      (HasNoReturn-append (codes "<span style=\"") (css scheme style ++ codes "\">") refl
-      (HasNoReturn-append (css scheme style) (codes "\">") (HasNoReturn-safe (css scheme style) (AreSafe-css scheme style)) refl))
+      let tag = attribute_text styling (value_of styling false style) in
+      choose HasNoReturn (is_plain style) [] (codes "<span" ++ tag) refl
+      (HasNoReturn-append (codes "<span") tag refl (HasNoReturn-attribute styling (value_of styling false style) (AreSafe-value styling false style)))
 
-  HasNoReturn-link : (element : Element) → HasNoReturn (link_begin element.link (element_css scheme element))
+  HasNoReturn-link : (element : Element) → HasNoReturn (link_begin styling element.link (element_value styling element))
   unfolding is_other
   HasNoReturn-link element =
-      let declarations = element_css scheme element in
-      let last = declarations ++ codes "\">" in
-      HasNoReturn-append (codes "<a rel=\"nofollow noreferrer\" href=\"") (escaped_text element.link ++ (codes "\" style=\"" ++ last)) refl
-      (HasNoReturn-append (escaped_text element.link) (codes "\" style=\"" ++ last) (HasNoReturn-escaped element.link)
-      (HasNoReturn-append (codes "\" style=\"") last refl
-      (HasNoReturn-append declarations (codes "\">") (HasNoReturn-safe declarations (AreSafe-element_css scheme element)) refl)))
+      let tag = attribute_text styling (element_value styling element) in
+      HasNoReturn-append (codes "<a rel=\"nofollow noreferrer\" href=\"") (escaped_text element.link ++ (codes "\"" ++ tag)) refl
+      (HasNoReturn-append (escaped_text element.link) (codes "\"" ++ tag) (HasNoReturn-escaped element.link)
+      (HasNoReturn-append (codes "\"") tag refl (HasNoReturn-attribute styling (element_value styling element) (AreSafe-element_value styling element))))
 
-  HasNoReturn-begin : (element : Element) → HasNoReturn (element_begin scheme element)
+  HasNoReturn-begin : (element : Element) → HasNoReturn (element_begin styling element)
   HasNoReturn-begin element =
-      choose HasNoReturn (is_none element.link) (span_begin scheme element.style) (link_begin element.link (element_css scheme element))
+      choose HasNoReturn (is_none element.link) (span_begin styling element.style) (link_begin styling element.link (element_value styling element))
       (HasNoReturn-span element.style) (HasNoReturn-link element)
 
-  HasNoReturn-change : (shown next : Element) → HasNoReturn (change scheme shown next)
+  HasNoReturn-change : (shown next : Element) → HasNoReturn (change styling shown next)
   HasNoReturn-change shown next =
-      choose HasNoReturn (are_same shown next) [] (element_end shown ++ element_begin scheme next) refl
-      (HasNoReturn-append (element_end shown) (element_begin scheme next) (HasNoReturn-end shown) (HasNoReturn-begin next))
+      choose HasNoReturn (are_same shown next) [] (element_end shown ++ element_begin styling next) refl
+      (HasNoReturn-append (element_end shown) (element_begin styling next) (HasNoReturn-end shown) (HasNoReturn-begin next))
 
-  HasNoReturn-beginning : (at : Standing) (is_line_feed : Bool) → HasNoReturn (beginning scheme at is_line_feed)
+  HasNoReturn-beginning : (at : Standing) (is_line_feed : Bool) → HasNoReturn (beginning styling at is_line_feed)
   unfolding is_other
   HasNoReturn-beginning at is_line_feed =
-      HasNoReturn-append (change scheme at.shown at.selected) (line_break at.returned is_line_feed) (HasNoReturn-change at.shown at.selected)
+      HasNoReturn-append (change styling at.shown at.selected) (line_break at.returned is_line_feed) (HasNoReturn-change at.shown at.selected)
       (choose HasNoReturn (at.returned && not is_line_feed) (codes "<br>") [] refl refl)
 
-  HasNoReturn-text : (at : Standing) (is_line_feed : Bool) (bytes : List ℕ) → HasNoReturn (text_html scheme at is_line_feed bytes)
+  HasNoReturn-text : (at : Standing) (is_line_feed : Bool) (bytes : List ℕ) → HasNoReturn (text_html styling at is_line_feed bytes)
   unfolding text_html
   HasNoReturn-text at is_line_feed [] = refl
   HasNoReturn-text at is_line_feed (b ∷ bytes) =
-      HasNoReturn-append (beginning scheme at is_line_feed) (escaped_text (b ∷ bytes)) (HasNoReturn-beginning at is_line_feed) (HasNoReturn-escaped (b ∷ bytes))
+      HasNoReturn-append (beginning styling at is_line_feed) (escaped_text (b ∷ bytes)) (HasNoReturn-beginning at is_line_feed) (HasNoReturn-escaped (b ∷ bytes))
 
-  HasNoReturn-html_from : (at : Standing) (calls : List Call) → HasNoReturn (html_from scheme at calls)
+  HasNoReturn-html_from : (at : Standing) (calls : List Call) → HasNoReturn (html_from styling at calls)
   HasNoReturn-html_from at [] = refl
   HasNoReturn-html_from at (call ∷ calls) =
-      HasNoReturn-append (call_html scheme at call) (html_from scheme (standing_after call at) calls)
+      HasNoReturn-append (call_html styling at call) (html_from styling (standing_after call at) calls)
       (HasNoReturn-text at (is_executed 0x0A call) (stripped_call call)) (HasNoReturn-html_from (standing_after call at) calls)
 
   -- The HTML stays as it is.
-  pub normalized-html : (calls : List Call) → normalized (html scheme calls) ≡ html scheme calls
+  pub normalized-html : (calls : List Call) → normalized (html styling calls) ≡ html styling calls
   normalized-html calls =
       let last = (standing_at_end at_start calls).shown in
-      normalized-same (html scheme calls) (HasNoReturn-append (html_from scheme at_start calls) (element_end last) (HasNoReturn-html_from at_start calls) (HasNoReturn-end last))
+      normalized-same (html styling calls) (HasNoReturn-append (html_from styling at_start calls) (element_end last) (HasNoReturn-html_from at_start calls) (HasNoReturn-end last))

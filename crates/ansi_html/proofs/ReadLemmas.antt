@@ -9,14 +9,17 @@ use Rattle.ansi_strip.specs.Strip.{stripped_call, stripped}
 use Rattle.ansi_style.specs.declared.style.Style.{Style}
 use Rattle.ansi_style.specs.Style.{plain}
 use Rattle.ansi_style.proofs.EqualityLemmas.{are_equal-same}
-use Rattle.ansi_html.specs.declared.scheme.Scheme.{Scheme}
-use Rattle.ansi_html.specs.Css.{colors_css, css}
+use Rattle.ansi_html.specs.declared.scheme.Styling.{Styling}
+use Rattle.ansi_html.specs.declared.scheme.Styling.TheVariants.{Inline, Classes}
+use Rattle.ansi_html.specs.Css.{colors_css}
+use Rattle.ansi_html.specs.Classes.{classes_of}
 use Rattle.ansi_html.specs.Links.{is_none}
 use Rattle.ansi_html.specs.Grammar.{is_special}
-use Rattle.ansi_html.specs.Html.{escaped, escaped_text, is_plain, span_begin, span_end, Element, no_element, are_same, element_css, link_begin, element_begin, element_end, element_after, change, Standing, at_start, line_break, after_text, is_executed, text_html, call_html, standing_after, html_from, standing_at_end, html}
-use Rattle.ansi_html.specs.Reader.{Attributes, no_attributes, Shown, under, byte_of, in_text, in_tag, in_value, in_value_reference, with_attribute, attributes_of, Seen, text, break, seen_from, seen, read_of, read, shown_from}
+use Rattle.ansi_html.specs.Html.{escaped, escaped_text, is_plain, span_begin, span_end, Element, no_element, are_same, value_of, element_value, attribute_text, link_begin, element_begin, element_end, element_after, change, Standing, at_start, line_break, after_text, is_executed, text_html, call_html, standing_after, html_from, standing_at_end, html}
+use Rattle.ansi_html.specs.Reader.{Attributes, no_attributes, Shown, under, byte_of, in_text, in_tag, in_value, in_value_reference, with_attribute, attributes_by, attributes_of, Seen, text, break, seen_from, seen, read_of, read, shown_from}
 use Rattle.ansi_html.proofs.HtmlLemmas.{escaped-clear, none_from_test, are_same-same}
-use Rattle.ansi_html.proofs.DeclarationLemmas.{is_safe, AreSafe, AreSafe-css, AreSafe-element_css, not_quote-safe, not_ampersand-safe}
+use Rattle.ansi_html.proofs.DeclarationLemmas.{is_safe, AreSafe, not_quote-safe, not_ampersand-safe}
+use Rattle.ansi_html.proofs.ClassLemmas.{AreSafe-value, AreSafe-element_value}
 use Rattle.ansi_html.proofs.NewlineLemmas.{normalized-escaped, normalized-html}
 
 -- a text byte, escaped, is seen as that byte
@@ -115,96 +118,114 @@ seen-escaped_value so_far name value (b ∷ bytes) rest =
     ∙ seen-escaped_value so_far name (value ++ b ∷ []) bytes rest
     ∙ ap (λ v. seen_from (in_value so_far name v) rest) (append_assoc value (b ∷ []) bytes)
 
--- The beginning of a span puts its declarations in force, that of a link also its URI, and the end of
--- either puts none.
-seen-span : (bytes rest : List ℕ) → AreSafe bytes
-    → seen_from (in_text no_attributes) ((codes "<span style=\"" ++ (bytes ++ codes "\">")) ++ rest) ≡ seen_from (in_text (record { style = bytes; href = [] })) rest
-seen-span bytes rest safe =
-    ap (λ l. seen_from (in_value no_attributes (codes "style") []) l) (append_assoc bytes (codes "\">") rest)
-    ∙ seen-value no_attributes (codes "style") [] bytes (codes "\">" ++ rest) safe
+-- The beginning of a span puts its declarations or classes in force, that of a link also its URI, and the
+-- end of either puts none.
+seen-attribute : (styling : Styling) (link value rest : List ℕ) → AreSafe value
+    → seen_from (in_tag (record { style = []; classes = []; href = link }) []) (attribute_text styling value ++ rest) ≡ seen_from (in_text (attributes_by styling value link)) rest
+seen-attribute (Inline scheme) link value rest safe =
+    let before : Attributes = record { style = []; classes = []; href = link } in
+    ap (λ l. seen_from (in_value before (codes "style") []) l) (append_assoc value (codes "\">") rest)
+    ∙ seen-value before (codes "style") [] value (codes "\">" ++ rest) safe
+seen-attribute Classes link value rest safe =
+    let before : Attributes = record { style = []; classes = []; href = link } in
+    ap (λ l. seen_from (in_value before (codes "class") []) l) (append_assoc value (codes "\">") rest)
+    ∙ seen-value before (codes "class") [] value (codes "\">" ++ rest) safe
 
-seen-link : (link bytes rest : List ℕ) → AreSafe bytes
-    → seen_from (in_text no_attributes) (link_begin link bytes ++ rest) ≡ seen_from (in_text (record { style = bytes; href = link })) rest
-seen-link link bytes rest safe =
-    let behind = bytes ++ codes "\">" in
-    let read : Attributes = record { style = []; href = link } in
-    ap (λ l. seen_from (in_value no_attributes (codes "href") []) l) (append_assoc (escaped_text link) (codes "\" style=\"" ++ behind) rest)
-    ∙ seen-escaped_value no_attributes (codes "href") [] link (codes "\" style=\"" ++ (behind ++ rest))
-    ∙ ap (λ l. seen_from (in_value read (codes "style") []) l) (append_assoc bytes (codes "\">") rest)
-    ∙ seen-value read (codes "style") [] bytes (codes "\">" ++ rest) safe
+seen-span : (styling : Styling) (value rest : List ℕ) → AreSafe value
+    → seen_from (in_text no_attributes) ((codes "<span" ++ attribute_text styling value) ++ rest) ≡ seen_from (in_text (attributes_by styling value [])) rest
+seen-span styling value rest safe = seen-attribute styling [] value rest safe
+
+seen-link : (styling : Styling) (link value rest : List ℕ) → AreSafe value
+    → seen_from (in_text no_attributes) (link_begin styling link value ++ rest) ≡ seen_from (in_text (attributes_by styling value link)) rest
+seen-link styling link value rest safe =
+    let tag = attribute_text styling value in
+    ap (λ l. seen_from (in_value no_attributes (codes "href") []) l) (append_assoc (escaped_text link) (codes "\"" ++ tag) rest)
+    ∙ seen-escaped_value no_attributes (codes "href") [] link (codes "\"" ++ (tag ++ rest))
+    ∙ seen-attribute styling link value rest safe
+
+-- plain text stands under nothing
+attributes-plain : (styling : Styling) → attributes_by styling (value_of styling false plain) [] ≡ no_attributes
+unfolding colors_css classes_of
+attributes-plain (Inline scheme) = refl
+attributes-plain Classes = refl
+
+-- the attributes of a span, and none
+abbrev spanned : Styling → Style → Attributes
+spanned styling style = attributes_by styling (value_of styling false style) []
+
+spanned-plain : (styling : Styling) (style : Style) → is_plain style ≡ true → spanned styling style ≡ no_attributes
+spanned-plain styling style is = ap (spanned styling) (are_equal-same style plain is) ∙ attributes-plain styling
 
 module _ (rest : List ℕ) where
-  seen-span_begin : (scheme : Scheme) (style : Style)
-      → seen_from (in_text no_attributes) (span_begin scheme style ++ rest) ≡ seen_from (in_text (record { style = css scheme style; href = [] })) rest
-  unfolding colors_css
-  seen-span_begin scheme style = by_case (is_plain style) refl
+  seen-span_begin : (styling : Styling) (style : Style)
+      → seen_from (in_text no_attributes) (span_begin styling style ++ rest) ≡ seen_from (in_text (spanned styling style)) rest
+  seen-span_begin styling style = by_case (is_plain style) refl
     where
       by_case : (plain_is : Bool) → is_plain style ≡ plain_is
-          → seen_from (in_text no_attributes) ((if plain_is then [] else codes "<span style=\"" ++ (css scheme style ++ codes "\">")) ++ rest)
-          ≡ seen_from (in_text (record { style = css scheme style; href = [] })) rest
-      by_case true is = ap (λ s. seen_from (in_text (record { style = css scheme s; href = [] })) rest) (sym (are_equal-same style plain is))
-      by_case false is = seen-span (css scheme style) rest (AreSafe-css scheme style)
+          → seen_from (in_text no_attributes) ((if plain_is then [] else codes "<span" ++ attribute_text styling (value_of styling false style)) ++ rest)
+          ≡ seen_from (in_text (spanned styling style)) rest
+      by_case true is = ap (λ a. seen_from (in_text a) rest) (sym (spanned-plain styling style is))
+      by_case false is = seen-span styling (value_of styling false style) rest (AreSafe-value styling false style)
 
-  seen-span_end : (scheme : Scheme) (shown : Style)
-      → seen_from (in_text (record { style = css scheme shown; href = [] })) (span_end shown ++ rest) ≡ seen_from (in_text no_attributes) rest
-  unfolding colors_css
-  seen-span_end scheme shown = by_case (is_plain shown) refl
+  -- an end tag puts none in force, whatever was
+  seen-span_end : (styling : Styling) (shown : Style)
+      → seen_from (in_text (spanned styling shown)) (span_end shown ++ rest) ≡ seen_from (in_text no_attributes) rest
+  seen-span_end styling shown = by_case (is_plain shown) refl
     where
       by_case : (plain_is : Bool) → is_plain shown ≡ plain_is
-          → seen_from (in_text (record { style = css scheme shown; href = [] })) ((if plain_is then [] else codes "</span>") ++ rest) ≡ seen_from (in_text no_attributes) rest
-      by_case true is = ap (λ s. seen_from (in_text (record { style = css scheme s; href = [] })) rest) (are_equal-same shown plain is)
+          → seen_from (in_text (spanned styling shown)) ((if plain_is then [] else codes "</span>") ++ rest) ≡ seen_from (in_text no_attributes) rest
+      by_case true is = ap (λ a. seen_from (in_text a) rest) (spanned-plain styling shown is)
       by_case false is = refl
 
   -- an element without a link is a span, or none
-  attributes-none : (scheme : Scheme) (element : Element) → is_none element.link ≡ true
-      → attributes_of scheme element ≡ record { style = css scheme element.style; href = [] }
-  attributes-none scheme element none =
-      ap₂ (λ (is : Bool) (link : List ℕ). record { style = if is then css scheme element.style else codes "color:inherit;" ++ css scheme element.style; href = link })
+  attributes-none : (styling : Styling) (element : Element) → is_none element.link ≡ true → attributes_of styling element ≡ spanned styling element.style
+  attributes-none styling element none =
+      ap₂ (λ (is : Bool) (link : List ℕ). attributes_by styling (if is then value_of styling false element.style else value_of styling true element.style) link)
       none (none_from_test element.link none)
 
-  seen-element_begin : (scheme : Scheme) (element : Element)
-      → seen_from (in_text no_attributes) (element_begin scheme element ++ rest) ≡ seen_from (in_text (attributes_of scheme element)) rest
-  seen-element_begin scheme element = by_case (is_none element.link) refl
+  seen-element_begin : (styling : Styling) (element : Element)
+      → seen_from (in_text no_attributes) (element_begin styling element ++ rest) ≡ seen_from (in_text (attributes_of styling element)) rest
+  seen-element_begin styling element = by_case (is_none element.link) refl
     where
       by_case : (none : Bool) → is_none element.link ≡ none
-          → seen_from (in_text no_attributes) ((if none then span_begin scheme element.style else link_begin element.link (element_css scheme element)) ++ rest)
-          ≡ seen_from (in_text (attributes_of scheme element)) rest
-      by_case true is = seen-span_begin scheme element.style ∙ ap (λ a. seen_from (in_text a) rest) (sym (attributes-none scheme element is))
-      by_case false is = seen-link element.link (element_css scheme element) rest (AreSafe-element_css scheme element)
+          → seen_from (in_text no_attributes) ((if none then span_begin styling element.style else link_begin styling element.link (element_value styling element)) ++ rest)
+          ≡ seen_from (in_text (attributes_of styling element)) rest
+      by_case true is = seen-span_begin styling element.style ∙ ap (λ a. seen_from (in_text a) rest) (sym (attributes-none styling element is))
+      by_case false is = seen-link styling element.link (element_value styling element) rest (AreSafe-element_value styling element)
 
-  seen-element_end : (scheme : Scheme) (shown : Element)
-      → seen_from (in_text (attributes_of scheme shown)) (element_end shown ++ rest) ≡ seen_from (in_text no_attributes) rest
-  seen-element_end scheme shown = by_case (is_none shown.link) refl
+  seen-element_end : (styling : Styling) (shown : Element)
+      → seen_from (in_text (attributes_of styling shown)) (element_end shown ++ rest) ≡ seen_from (in_text no_attributes) rest
+  seen-element_end styling shown = by_case (is_none shown.link) refl
     where
       by_case : (none : Bool) → is_none shown.link ≡ none
-          → seen_from (in_text (attributes_of scheme shown)) ((if none then span_end shown.style else codes "</a>") ++ rest) ≡ seen_from (in_text no_attributes) rest
-      by_case true is = ap (λ a. seen_from (in_text a) (span_end shown.style ++ rest)) (attributes-none scheme shown is) ∙ seen-span_end scheme shown.style
+          → seen_from (in_text (attributes_of styling shown)) ((if none then span_end shown.style else codes "</a>") ++ rest) ≡ seen_from (in_text no_attributes) rest
+      by_case true is = ap (λ a. seen_from (in_text a) (span_end shown.style ++ rest)) (attributes-none styling shown is) ∙ seen-span_end styling shown.style
       by_case false is = refl
 
-seen-change : (scheme : Scheme) (shown next : Element) (rest : List ℕ)
-    → seen_from (in_text (attributes_of scheme shown)) (change scheme shown next ++ rest) ≡ seen_from (in_text (attributes_of scheme next)) rest
-seen-change scheme shown next rest = by_case (are_same shown next) refl
+seen-change : (styling : Styling) (shown next : Element) (rest : List ℕ)
+    → seen_from (in_text (attributes_of styling shown)) (change styling shown next ++ rest) ≡ seen_from (in_text (attributes_of styling next)) rest
+seen-change styling shown next rest = by_case (are_same shown next) refl
   where
     by_case : (same : Bool) → are_same shown next ≡ same
-        → seen_from (in_text (attributes_of scheme shown)) ((if same then [] else element_end shown ++ element_begin scheme next) ++ rest) ≡ seen_from (in_text (attributes_of scheme next)) rest
-    by_case true is = ap (λ s. seen_from (in_text (attributes_of scheme s)) rest) (are_same-same shown next is)
+        → seen_from (in_text (attributes_of styling shown)) ((if same then [] else element_end shown ++ element_begin styling next) ++ rest) ≡ seen_from (in_text (attributes_of styling next)) rest
+    by_case true is = ap (λ s. seen_from (in_text (attributes_of styling s)) rest) (are_same-same shown next is)
     by_case false is =
-        ap (seen_from (in_text (attributes_of scheme shown))) (append_assoc (element_end shown) (element_begin scheme next) rest)
-        ∙ seen-element_end (element_begin scheme next ++ rest) scheme shown
-        ∙ seen-element_begin rest scheme next
+        ap (seen_from (in_text (attributes_of styling shown))) (append_assoc (element_end shown) (element_begin styling next) rest)
+        ∙ seen-element_end (element_begin styling next ++ rest) styling shown
+        ∙ seen-element_begin rest styling next
 
 -- the line break behind 0D, and a text
 abbrev pub breaks : (returned is_line_feed : Bool) → List Seen
 breaks returned is_line_feed = if returned && not is_line_feed then break ∷ [] else []
 
-abbrev pub seen_text : Scheme → Standing → Bool → List ℕ → List Seen
-seen_text scheme at is_line_feed [] = []
-seen_text scheme at is_line_feed (b ∷ bytes) = breaks at.returned is_line_feed ++ map (text (attributes_of scheme at.selected)) (b ∷ bytes)
+abbrev pub seen_text : Styling → Standing → Bool → List ℕ → List Seen
+seen_text styling at is_line_feed [] = []
+seen_text styling at is_line_feed (b ∷ bytes) = breaks at.returned is_line_feed ++ map (text (attributes_of styling at.selected)) (b ∷ bytes)
 
-abbrev pub seen_calls : Scheme → Standing → List Call → List Seen
-seen_calls scheme at [] = []
-seen_calls scheme at (call ∷ calls) =
-    seen_text scheme at (is_executed 0x0A call) (stripped_call call) ++ seen_calls scheme (standing_after call at) calls
+abbrev pub seen_calls : Styling → Standing → List Call → List Seen
+seen_calls styling at [] = []
+seen_calls styling at (call ∷ calls) =
+    seen_text styling at (is_executed 0x0A call) (stripped_call call) ++ seen_calls styling (standing_after call at) calls
 
 seen-line_break : (attribute : Attributes) (rest : List ℕ) (returned is_line_feed : Bool)
     → seen_from (in_text attribute) (line_break returned is_line_feed ++ rest) ≡ breaks returned is_line_feed ++ seen_from (in_text attribute) rest
@@ -214,56 +235,57 @@ seen-line_break attribute rest returned is_line_feed = by_case (returned && not 
     by_case true = refl
     by_case false = refl
 
-module _ (scheme : Scheme) where
+module _ (styling : Styling) where
   -- text of a style is seen with its declarations
   seen-text : (at : Standing) (is_line_feed : Bool) (bytes rest : List ℕ)
-      → seen_from (in_text (attributes_of scheme at.shown)) (text_html scheme at is_line_feed bytes ++ rest)
-      ≡ seen_text scheme at is_line_feed bytes ++ seen_from (in_text (attributes_of scheme (after_text at.shown at.selected bytes))) rest
+      → seen_from (in_text (attributes_of styling at.shown)) (text_html styling at is_line_feed bytes ++ rest)
+      ≡ seen_text styling at is_line_feed bytes ++ seen_from (in_text (attributes_of styling (after_text at.shown at.selected bytes))) rest
   unfolding text_html
   seen-text at is_line_feed [] rest = refl
   seen-text at is_line_feed (b ∷ bytes) rest =
-      let changed = change scheme at.shown at.selected in
+      let changed = change styling at.shown at.selected in
       let broken = line_break at.returned is_line_feed in
       let escaped_bytes = escaped_text (b ∷ bytes) in
-      let attribute = attributes_of scheme at.selected in
-      ap (seen_from (in_text (attributes_of scheme at.shown))) (append_assoc (changed ++ broken) escaped_bytes rest ∙ append_assoc changed broken (escaped_bytes ++ rest))
-      ∙ seen-change scheme at.shown at.selected (broken ++ (escaped_bytes ++ rest))
+      let attribute = attributes_of styling at.selected in
+      ap (seen_from (in_text (attributes_of styling at.shown))) (append_assoc (changed ++ broken) escaped_bytes rest ∙ append_assoc changed broken (escaped_bytes ++ rest))
+      ∙ seen-change styling at.shown at.selected (broken ++ (escaped_bytes ++ rest))
       ∙ seen-line_break attribute (escaped_bytes ++ rest) at.returned is_line_feed
       ∙ ap (λ l. breaks at.returned is_line_feed ++ l) (seen-escaped_text attribute (b ∷ bytes) rest)
       ∙ sym (append_assoc (breaks at.returned is_line_feed) (map (text attribute) (b ∷ bytes)) (seen_from (in_text attribute) rest))
 
   seen-html_from : (at : Standing) (calls : List Call)
-      → seen_from (in_text (attributes_of scheme at.shown)) (html_from scheme at calls ++ element_end (standing_at_end at calls).shown) ≡ seen_calls scheme at calls
-  seen-html_from at [] = ap (seen_from (in_text (attributes_of scheme at.shown))) (sym (append-nil (element_end at.shown))) ∙ seen-element_end [] scheme at.shown
+      → seen_from (in_text (attributes_of styling at.shown)) (html_from styling at calls ++ element_end (standing_at_end at calls).shown) ≡ seen_calls styling at calls
+  seen-html_from at [] = ap (seen_from (in_text (attributes_of styling at.shown))) (sym (append-nil (element_end at.shown))) ∙ seen-element_end [] styling at.shown
   seen-html_from at (call ∷ calls) =
       let bytes = stripped_call call in
       let after = standing_after call at in
-      let rest = html_from scheme after calls ++ element_end (standing_at_end after calls).shown in
-      ap (seen_from (in_text (attributes_of scheme at.shown))) (append_assoc (call_html scheme at call) (html_from scheme after calls) (element_end (standing_at_end after calls).shown))
+      let rest = html_from styling after calls ++ element_end (standing_at_end after calls).shown in
+      ap (seen_from (in_text (attributes_of styling at.shown))) (append_assoc (call_html styling at call) (html_from styling after calls) (element_end (standing_at_end after calls).shown))
       ∙ seen-text at (is_executed 0x0A call) bytes rest
-      ∙ ap (λ l. seen_text scheme at (is_executed 0x0A call) bytes ++ l) (seen-html_from after calls)
+      ∙ ap (λ l. seen_text styling at (is_executed 0x0A call) bytes ++ l) (seen-html_from after calls)
 
-  pub seen-html : (calls : List Call) → seen (html scheme calls) ≡ seen_calls scheme at_start calls
-  unfolding colors_css
-  seen-html calls = ap (seen_from (in_text no_attributes)) (normalized-html scheme calls) ∙ seen-html_from at_start calls
+  pub seen-html : (calls : List Call) → seen (html styling calls) ≡ seen_calls styling at_start calls
+  seen-html calls =
+      ap (seen_from (in_text no_attributes)) (normalized-html styling calls)
+      ∙ ap (λ a. seen_from (in_text a) (html styling calls)) (sym (attributes-plain styling)) ∙ seen-html_from at_start calls
 
   -- line breaks are not read
-  read-seen_text : (at : Standing) (is_line_feed : Bool) (bytes : List ℕ) → flat_map read_of (seen_text scheme at is_line_feed bytes) ≡ map (under (attributes_of scheme at.selected)) bytes
+  read-seen_text : (at : Standing) (is_line_feed : Bool) (bytes : List ℕ) → flat_map read_of (seen_text styling at is_line_feed bytes) ≡ map (under (attributes_of styling at.selected)) bytes
   read-seen_text at is_line_feed [] = refl
   read-seen_text at is_line_feed (b ∷ bytes) = by_case (at.returned && not is_line_feed)
     where
-      by_case : (wanted : Bool) → flat_map read_of ((if wanted then break ∷ [] else []) ++ map (text (attributes_of scheme at.selected)) (b ∷ bytes)) ≡ map (under (attributes_of scheme at.selected)) (b ∷ bytes)
-      by_case true = read-text (attributes_of scheme at.selected) (b ∷ bytes)
-      by_case false = read-text (attributes_of scheme at.selected) (b ∷ bytes)
+      by_case : (wanted : Bool) → flat_map read_of ((if wanted then break ∷ [] else []) ++ map (text (attributes_of styling at.selected)) (b ∷ bytes)) ≡ map (under (attributes_of styling at.selected)) (b ∷ bytes)
+      by_case true = read-text (attributes_of styling at.selected) (b ∷ bytes)
+      by_case false = read-text (attributes_of styling at.selected) (b ∷ bytes)
 
-  read-seen_calls : (at : Standing) (calls : List Call) → flat_map read_of (seen_calls scheme at calls) ≡ shown_from scheme at.selected calls
+  read-seen_calls : (at : Standing) (calls : List Call) → flat_map read_of (seen_calls styling at calls) ≡ shown_from styling at.selected calls
   read-seen_calls at [] = refl
   read-seen_calls at (call ∷ calls) =
-      flat_map-append read_of (seen_text scheme at (is_executed 0x0A call) (stripped_call call)) (seen_calls scheme (standing_after call at) calls)
+      flat_map-append read_of (seen_text styling at (is_executed 0x0A call) (stripped_call call)) (seen_calls styling (standing_after call at) calls)
       ∙ ap₂ (λ a b. a ++ b) (read-seen_text at (is_executed 0x0A call) (stripped_call call)) (read-seen_calls (standing_after call at) calls)
 
   -- Reading the HTML of calls gives what they show.
-  pub read-html : (calls : List Call) → read (html scheme calls) ≡ shown_from scheme no_element calls
+  pub read-html : (calls : List Call) → read (html styling calls) ≡ shown_from styling no_element calls
   read-html calls = ap (flat_map read_of) (seen-html calls) ∙ read-seen_calls at_start calls
 
 bytes-under : (attribute : Attributes) (bytes : List ℕ) → map byte_of (map (under attribute) bytes) ≡ bytes
@@ -274,12 +296,12 @@ map-append_bytes : (first second : List Shown) → map byte_of (first ++ second)
 map-append_bytes [] second = refl
 map-append_bytes (s ∷ first) second = ap (λ l. byte_of s ∷ l) (map-append_bytes first second)
 
-bytes-shown_from : (scheme : Scheme) (element : Element) (calls : List Call) → map byte_of (shown_from scheme element calls) ≡ stripped calls
-bytes-shown_from scheme element [] = refl
-bytes-shown_from scheme element (call ∷ calls) =
-    map-append_bytes (map (under (attributes_of scheme element)) (stripped_call call)) (shown_from scheme (element_after call element) calls)
-    ∙ ap₂ (λ a b. a ++ b) (bytes-under (attributes_of scheme element) (stripped_call call)) (bytes-shown_from scheme (element_after call element) calls)
+bytes-shown_from : (styling : Styling) (element : Element) (calls : List Call) → map byte_of (shown_from styling element calls) ≡ stripped calls
+bytes-shown_from styling element [] = refl
+bytes-shown_from styling element (call ∷ calls) =
+    map-append_bytes (map (under (attributes_of styling element)) (stripped_call call)) (shown_from styling (element_after call element) calls)
+    ∙ ap₂ (λ a b. a ++ b) (bytes-under (attributes_of styling element) (stripped_call call)) (bytes-shown_from styling (element_after call element) calls)
 
 -- and so its text is the stripped text
-pub text-html : (scheme : Scheme) → (calls : List Call) → map byte_of (read (html scheme calls)) ≡ stripped calls
-text-html scheme calls = ap (map byte_of) (read-html scheme calls) ∙ bytes-shown_from scheme no_element calls
+pub text-html : (styling : Styling) → (calls : List Call) → map byte_of (read (html styling calls)) ≡ stripped calls
+text-html styling calls = ap (map byte_of) (read-html styling calls) ∙ bytes-shown_from styling no_element calls

@@ -12,14 +12,15 @@ use Rattle.ansi_strip.specs.Strip.{is_layout, stripped_call}
 use Rattle.anstyle_parse.proofs.Characters.Layout.{IsUtf8-byte, layout-low}
 use Rattle.ansi_strip.proofs.Showable.{IsShowable, AreShowable, IsScalar-character}
 use Rattle.ansi_style.specs.declared.style.Style.{Style}
-use Rattle.ansi_html.specs.declared.scheme.Scheme.{Scheme}
-use Rattle.ansi_html.specs.Css.{css}
+use Rattle.ansi_html.specs.declared.scheme.Styling.{Styling}
+use Rattle.ansi_html.specs.declared.scheme.Styling.TheVariants.{Inline, Classes}
 use Rattle.ansi_html.specs.Links.{IsLink, is_none}
 use Rattle.ansi_html.specs.Grammar.{is_special, is_href_byte}
-use Rattle.ansi_html.specs.Html.{escaped_text, is_plain, span_begin, span_end, Element, are_same, element_css, link_begin, element_begin, element_end, change, Standing, at_start, line_break, beginning, is_executed, text_html, call_html, standing_after, html_from, standing_at_end, html}
+use Rattle.ansi_html.specs.Html.{escaped_text, is_plain, span_begin, span_end, Element, are_same, value_of, element_value, attribute_text, link_begin, element_begin, element_end, change, Standing, at_start, line_break, beginning, is_executed, text_html, call_html, standing_after, html_from, standing_at_end, html}
 use Rattle.ansi_html.proofs.HtmlLemmas.{AreClear-encode, escaped_text-clear}
 use Rattle.ansi_html.proofs.ColorLemmas.{choose}
-use Rattle.ansi_html.proofs.DeclarationLemmas.{is_safe, AreSafe, AreSafe-css, AreSafe-element_css, ascii-safe}
+use Rattle.ansi_html.proofs.DeclarationLemmas.{is_safe, AreSafe, ascii-safe}
+use Rattle.ansi_html.proofs.ClassLemmas.{AreSafe-value, AreSafe-element_value}
 use Rattle.ansi_html.proofs.SoundLemmas.{IsHref-escaped, AreSound, AreSound-start, AreSound-after}
 
 layout_ascii : (b : ℕ) → is_layout b ≡ true → b < 0x80
@@ -97,44 +98,51 @@ IsUtf8-end shown =
     choose IsUtf8 (is_none shown.link) (span_end shown.style) (codes "</a>")
     (choose IsUtf8 (is_plain shown.style) [] (codes "</span>") IsUtf8-nil (IsUtf8-ascii (codes "</span>") refl)) (IsUtf8-ascii (codes "</a>") refl)
 
-IsUtf8-span_begin : (scheme : Scheme) → (style : Style) → IsUtf8 (span_begin scheme style)
-IsUtf8-span_begin scheme style =
-    choose IsUtf8 (is_plain style) [] (codes "<span style=\"" ++ (css scheme style ++ codes "\">")) IsUtf8-nil
-    (IsUtf8-append (codes "<span style=\"") (css scheme style ++ codes "\">") (IsUtf8-ascii (codes "<span style=\"") refl)
-    (IsUtf8-append (css scheme style) (codes "\">") (IsUtf8-safe (css scheme style) (AreSafe-css scheme style)) (IsUtf8-ascii (codes "\">") refl)))
+IsUtf8-attribute : (styling : Styling) (value : List ℕ) → AreSafe value → IsUtf8 (attribute_text styling value)
+IsUtf8-attribute (Inline scheme) value safe =
+    IsUtf8-append (codes " style=\"") (value ++ codes "\">") (IsUtf8-ascii (codes " style=\"") refl)
+    (IsUtf8-append value (codes "\">") (IsUtf8-safe value safe) (IsUtf8-ascii (codes "\">") refl))
+IsUtf8-attribute Classes value safe =
+    IsUtf8-append (codes " class=\"") (value ++ codes "\">") (IsUtf8-ascii (codes " class=\"") refl)
+    (IsUtf8-append value (codes "\">") (IsUtf8-safe value safe) (IsUtf8-ascii (codes "\">") refl))
 
-IsUtf8-begin : (scheme : Scheme) (element : Element) → IsLink element.link → IsUtf8 (element_begin scheme element)
-IsUtf8-begin scheme element is =
-    let declarations = element_css scheme element in
-    choose IsUtf8 (is_none element.link) (span_begin scheme element.style) (link_begin element.link declarations) (IsUtf8-span_begin scheme element.style)
+IsUtf8-span_begin : (styling : Styling) → (style : Style) → IsUtf8 (span_begin styling style)
+IsUtf8-span_begin styling style =
+    let tag = attribute_text styling (value_of styling false style) in
+    choose IsUtf8 (is_plain style) [] (codes "<span" ++ tag) IsUtf8-nil
+    (IsUtf8-append (codes "<span") tag (IsUtf8-ascii (codes "<span") refl) (IsUtf8-attribute styling (value_of styling false style) (AreSafe-value styling false style)))
+
+IsUtf8-begin : (styling : Styling) (element : Element) → IsLink element.link → IsUtf8 (element_begin styling element)
+IsUtf8-begin styling element is =
+    let value = element_value styling element in
+    choose IsUtf8 (is_none element.link) (span_begin styling element.style) (link_begin styling element.link value) (IsUtf8-span_begin styling element.style)
     (IsUtf8-append (codes "<a rel=\"nofollow noreferrer\" href=\"") _ (IsUtf8-ascii (codes "<a rel=\"nofollow noreferrer\" href=\"") refl)
     (IsUtf8-append (escaped_text element.link) _ (IsUtf8-link element.link is)
-    (IsUtf8-append (codes "\" style=\"") (declarations ++ codes "\">") (IsUtf8-ascii (codes "\" style=\"") refl)
-    (IsUtf8-append declarations (codes "\">") (IsUtf8-safe declarations (AreSafe-element_css scheme element)) (IsUtf8-ascii (codes "\">") refl)))))
+    (IsUtf8-append (codes "\"") (attribute_text styling value) (IsUtf8-ascii (codes "\"") refl) (IsUtf8-attribute styling value (AreSafe-element_value styling element)))))
 
-IsUtf8-change : (scheme : Scheme) (shown next : Element) → IsLink next.link → IsUtf8 (change scheme shown next)
-IsUtf8-change scheme shown next is =
-    choose IsUtf8 (are_same shown next) [] (element_end shown ++ element_begin scheme next) IsUtf8-nil
-    (IsUtf8-append (element_end shown) (element_begin scheme next) (IsUtf8-end shown) (IsUtf8-begin scheme next is))
+IsUtf8-change : (styling : Styling) (shown next : Element) → IsLink next.link → IsUtf8 (change styling shown next)
+IsUtf8-change styling shown next is =
+    choose IsUtf8 (are_same shown next) [] (element_end shown ++ element_begin styling next) IsUtf8-nil
+    (IsUtf8-append (element_end shown) (element_begin styling next) (IsUtf8-end shown) (IsUtf8-begin styling next is))
 
-IsUtf8-beginning : (scheme : Scheme) (at : Standing) (is_line_feed : Bool) → AreSound at → IsUtf8 (beginning scheme at is_line_feed)
-IsUtf8-beginning scheme at is_line_feed sound =
-    IsUtf8-append (change scheme at.shown at.selected) (line_break at.returned is_line_feed) (IsUtf8-change scheme at.shown at.selected sound.selected.is_link)
+IsUtf8-beginning : (styling : Styling) (at : Standing) (is_line_feed : Bool) → AreSound at → IsUtf8 (beginning styling at is_line_feed)
+IsUtf8-beginning styling at is_line_feed sound =
+    IsUtf8-append (change styling at.shown at.selected) (line_break at.returned is_line_feed) (IsUtf8-change styling at.shown at.selected sound.selected.is_link)
     (choose IsUtf8 (at.returned && not is_line_feed) (codes "<br>") [] (IsUtf8-ascii (codes "<br>") refl) IsUtf8-nil)
 
-IsUtf8-text_html : (scheme : Scheme) (at : Standing) (is_line_feed : Bool) (bytes : List ℕ) → AreSound at → IsUtf8 (escaped_text bytes) → IsUtf8 (text_html scheme at is_line_feed bytes)
+IsUtf8-text_html : (styling : Styling) (at : Standing) (is_line_feed : Bool) (bytes : List ℕ) → AreSound at → IsUtf8 (escaped_text bytes) → IsUtf8 (text_html styling at is_line_feed bytes)
 unfolding text_html
-IsUtf8-text_html scheme at is_line_feed [] sound is = IsUtf8-nil
-IsUtf8-text_html scheme at is_line_feed (b ∷ bytes) sound is = IsUtf8-append (beginning scheme at is_line_feed) (escaped_text (b ∷ bytes)) (IsUtf8-beginning scheme at is_line_feed sound) is
+IsUtf8-text_html styling at is_line_feed [] sound is = IsUtf8-nil
+IsUtf8-text_html styling at is_line_feed (b ∷ bytes) sound is = IsUtf8-append (beginning styling at is_line_feed) (escaped_text (b ∷ bytes)) (IsUtf8-beginning styling at is_line_feed sound) is
 
-IsUtf8-html_from : (scheme : Scheme) (at : Standing) (calls : List Call) → AreSound at → AreShowable calls → IsUtf8 (html_from scheme at calls)
-IsUtf8-html_from scheme at [] sound are = IsUtf8-nil
-IsUtf8-html_from scheme at (call ∷ calls) sound are =
-    IsUtf8-append (call_html scheme at call) (html_from scheme (standing_after call at) calls)
-    (IsUtf8-text_html scheme at (is_executed 0x0A call) (stripped_call call) sound (IsUtf8-stripped call are.0))
-    (IsUtf8-html_from scheme (standing_after call at) calls (AreSound-after call at sound) are.1)
+IsUtf8-html_from : (styling : Styling) (at : Standing) (calls : List Call) → AreSound at → AreShowable calls → IsUtf8 (html_from styling at calls)
+IsUtf8-html_from styling at [] sound are = IsUtf8-nil
+IsUtf8-html_from styling at (call ∷ calls) sound are =
+    IsUtf8-append (call_html styling at call) (html_from styling (standing_after call at) calls)
+    (IsUtf8-text_html styling at (is_executed 0x0A call) (stripped_call call) sound (IsUtf8-stripped call are.0))
+    (IsUtf8-html_from styling (standing_after call at) calls (AreSound-after call at sound) are.1)
 
-pub IsUtf8-html : (scheme : Scheme) → (calls : List Call) → AreShowable calls → IsUtf8 (html scheme calls)
-IsUtf8-html scheme calls are =
+pub IsUtf8-html : (styling : Styling) → (calls : List Call) → AreShowable calls → IsUtf8 (html styling calls)
+IsUtf8-html styling calls are =
     let last = (standing_at_end at_start calls).shown in
-    IsUtf8-append (html_from scheme at_start calls) (element_end last) (IsUtf8-html_from scheme at_start calls AreSound-start are) (IsUtf8-end last)
+    IsUtf8-append (html_from styling at_start calls) (element_end last) (IsUtf8-html_from styling at_start calls AreSound-start are) (IsUtf8-end last)

@@ -5,20 +5,20 @@ use Rattle.anstyle_parse.specs.declared.io.devices.Sink.{Ghosts as SinkOf}
 use Rattle.anstyle_parse.specs.Stream.Call.{Call}
 use Rattle.anstyle_parse.specs.Io.Output.{Adds}
 use Rattle.anstyle_parse.proofs.Written.Output.{Adds-nil, Adds-append}
-use Rattle.ansi_html.specs.declared.scheme.Scheme.{Scheme}
+use Rattle.ansi_html.specs.declared.scheme.Styling.{Styling}
 use Rattle.ansi_html.specs.declared.performer.HtmlWriter.{HtmlWriter}
 use Rattle.ansi_html.specs.Html.{Standing, call_html, standing_after, html_from, standing_at_end, element_end}
-use Rattle.ansi_html.specs.Writer.{output_of, scheme_of, standing_of, text_from, ending_from, Takes, TakesAll}
+use Rattle.ansi_html.specs.Writer.{output_of, styling_of, standing_of, text_from, ending_from, Takes, TakesAll}
 
 -- the HTML of two lists of calls, one after another, and where it stands at the end
-html_from-append : (scheme : Scheme) (calls more : List Call) (at : Standing)
-    → html_from scheme at (calls ++ more) ≡ html_from scheme at calls ++ html_from scheme (standing_at_end at calls) more
-html_from-append scheme [] more at = refl
-html_from-append scheme (call ∷ calls) more at =
-    let text = call_html scheme at call in
+html_from-append : (styling : Styling) (calls more : List Call) (at : Standing)
+    → html_from styling at (calls ++ more) ≡ html_from styling at calls ++ html_from styling (standing_at_end at calls) more
+html_from-append styling [] more at = refl
+html_from-append styling (call ∷ calls) more at =
+    let text = call_html styling at call in
     let after = standing_after call at in
-    ap (λ t. text ++ t) (html_from-append scheme calls more after)
-    ∙ sym (append_assoc text (html_from scheme after calls) (html_from scheme (standing_at_end after calls) more))
+    ap (λ t. text ++ t) (html_from-append styling calls more after)
+    ∙ sym (append_assoc text (html_from styling after calls) (html_from styling (standing_at_end after calls) more))
 
 standing_at_end-append : (calls more : List Call) (at : Standing) → standing_at_end at (calls ++ more) ≡ standing_at_end (standing_at_end at calls) more
 standing_at_end-append [] more at = refl
@@ -26,25 +26,25 @@ standing_at_end-append (call ∷ calls) more at = standing_at_end-append calls m
 
 module _ {W : Type 0} (sink : SinkOf W) where
   pub TakesAll-none : (performer : HtmlWriter W) → TakesAll sink performer [] performer
-  TakesAll-none performer = record { scheme = refl; standing = refl; added = Adds-nil sink (output_of performer) }
+  TakesAll-none performer = record { styling = refl; standing = refl; added = Adds-nil sink (output_of performer) }
 
   pub TakesAll-one : (old : HtmlWriter W) (call : Call) (new : HtmlWriter W) → Takes sink old call new → TakesAll sink old (call ∷ []) new
   TakesAll-one old call new takes = record {
-    scheme = takes.scheme;
+    styling = takes.styling;
     standing = takes.standing;
-    added = subst (λ t. Adds sink t (output_of old) (output_of new)) (sym (append-nil (call_html (scheme_of old) (standing_of old) call))) takes.added;
+    added = subst (λ t. Adds sink t (output_of old) (output_of new)) (sym (append-nil (call_html (styling_of old) (standing_of old) call))) takes.added;
   }
 
   pub TakesAll-more : (old middle new : HtmlWriter W) (calls more : List Call) → TakesAll sink old calls middle → TakesAll sink middle more new → TakesAll sink old (calls ++ more) new
   TakesAll-more old middle new calls more first second =
-      let scheme = scheme_of old in
+      let styling = styling_of old in
       let at = standing_of old in
       record {
-        scheme = second.scheme ∙ first.scheme;
+        styling = second.styling ∙ first.styling;
         standing = second.standing ∙ ap (λ it. standing_at_end it more) first.standing ∙ sym (standing_at_end-append calls more at);
         added = subst (λ t. Adds sink t (output_of old) (output_of new))
-            (ap₂ (λ it after. html_from scheme at calls ++ html_from it after more) first.scheme first.standing ∙ sym (html_from-append scheme calls more at))
-            (Adds-append sink (html_from scheme at calls) (text_from middle more) (output_of old) (output_of middle) (output_of new) first.added second.added);
+            (ap₂ (λ it after. html_from styling at calls ++ html_from it after more) first.styling first.standing ∙ sym (html_from-append styling calls more at))
+            (Adds-append sink (html_from styling at calls) (text_from middle more) (output_of old) (output_of middle) (output_of new) first.added second.added);
       }
 
   -- the end of the element that is open behind the calls

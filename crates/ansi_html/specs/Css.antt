@@ -57,11 +57,16 @@ abbrev pub on_page : Scheme → (dim : Bool) → (text : Color) → List ℕ
 on_page scheme dim text =
     themed scheme (codes "color:") (light_text dim (shades_of text)) (dark_text dim (shades_of text))
 
--- a text on a ground of the page's own text: black on light pages, white on dark ones
-abbrev pub on_reversed : Scheme → (dim : Bool) → (text : Color) → List ℕ
-on_reversed scheme dim text =
+-- a text on a ground of the page's own text, and that ground: black on light pages, white on dark ones
+abbrev pub reversed_text : Scheme → (dim : Bool) → (text : Color) → List ℕ
+reversed_text scheme dim text =
     themed scheme (codes "color:") (dark_text dim (shades_of text)) (light_text dim (shades_of text))
-    ++ themed scheme (codes "background-color:") black white
+
+abbrev pub reversed_ground : Scheme → List ℕ
+reversed_ground scheme = themed scheme (codes "background-color:") black white
+
+abbrev pub on_reversed : Scheme → (dim : Bool) → (text : Color) → List ℕ
+on_reversed scheme dim text = reversed_text scheme dim text ++ reversed_ground scheme
 
 -- what is written on a ground that is chosen: white or black where no colour is chosen for it
 abbrev pub color_on : (text : Color) → (behind : Rgb) → Rgb

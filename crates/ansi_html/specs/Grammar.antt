@@ -1,12 +1,19 @@
--- The grammar of the HTML that is written in a scheme. A fragment is text, spans and links, which do
--- not nest; a span has one attribute, of colours and declarations from a fixed vocabulary, and a link
+-- The grammar of the HTML. A fragment is text, spans and links, which do not nest; a span has one
+-- attribute, either of colours and declarations or of class names, both from a fixed vocabulary, and a link
 -- has a URI too; in a text there are line breaks. Nothing else is in it.
 use Rattle.std.specs.Prelude.{◌≡◌, ℕ, Bool, false, ◌||◌, ◌&&◌, nat_le, ◌==◌, not, List, [], ◌∷◌, ◌++◌, codes, IsTrue}
-use Rattle.std.specs.List.{AllByRecursion, list_all}
+use Rattle.std.specs.List.{AllByRecursion, Contains, list_all}
 use Rattle.ansi_html.specs.declared.contrast.Rgb.{Rgb}
 use Rattle.ansi_html.specs.declared.scheme.Scheme.{Scheme}
+use Rattle.ansi_html.specs.declared.scheme.Styling.{Styling}
+use Rattle.ansi_html.specs.declared.scheme.Styling.TheVariants.{Inline, Classes}
+use Rattle.ansi_html.specs.declared.class.Class.{Class}
+use Rattle.ansi_html.specs.declared.class.Class.TheVariants.{Link}
 use Rattle.ansi_html.specs.Contrast.{IsReadOnLight, IsReadOnDark, are_readable, black, white}
 use Rattle.ansi_html.specs.Css.{declared, themed}
+use Rattle.ansi_html.specs.Classes.{class_names}
+use Rattle.ansi_html.specs.Stylesheet.{vocabulary}
+use Rattle.ansi_html.specs.Html.{attribute_text}
 use Rattle.ansi_html.specs.Links.{has_scheme, is_visible}
 
 -- A byte of text: 20 and above, 09 or 0A; and none with a meaning in HTML, as 0D has one too.
@@ -86,15 +93,26 @@ pub record IsHref (href : List ℕ) : Type 0 where
   pub scheme : IsTrue (has_scheme href)
   pub bytes : IsTrue (list_all is_href_byte href)
 
--- text; spans of text with an attribute of colours and declarations; and links with one too, where
--- a colour for all pages stands before these
-pub data IsFragment (scheme : Scheme) : List ℕ → Type 0 where
-  end : IsFragment scheme []
-  text : (plain rest : List ℕ) → IsText plain → IsFragment scheme rest → IsFragment scheme (plain ++ rest)
-  span : (colors others styled rest : List ℕ) → AreColors scheme colors → AreDeclarations others → IsText styled
-      → IsFragment scheme rest
-      → IsFragment scheme (codes "<span style=\"" ++ ((colors ++ others) ++ (codes "\">" ++ (styled ++ (codes "</span>" ++ rest)))))
-  link : (href colors others linked rest : List ℕ) → IsHref href → AreColors scheme colors → AreDeclarations others
-      → IsText linked → IsFragment scheme rest
-      → IsFragment scheme (codes "<a rel=\"nofollow noreferrer\" href=\"" ++ (href ++ (codes "\" style=\"color:inherit;"
-      ++ ((colors ++ others) ++ (codes "\">" ++ (linked ++ (codes "</a>" ++ rest)))))))
+-- What the attribute of a span says: colours and declarations, or names of classes that have a rule in the
+-- stylesheet. A link has a colour for all pages before these, or a class of its own.
+pub data IsSpanValue : Styling → List ℕ → Type 0 where
+  declarations : (scheme : Scheme) (colors others : List ℕ) → AreColors scheme colors → AreDeclarations others
+      → IsSpanValue (Inline scheme) (colors ++ others)
+  classes : (names : List Class) → AllByRecursion (Contains vocabulary) names → IsSpanValue Classes (class_names names)
+
+pub data IsLinkValue : Styling → List ℕ → Type 0 where
+  declarations : (scheme : Scheme) (colors others : List ℕ) → AreColors scheme colors → AreDeclarations others
+      → IsLinkValue (Inline scheme) (codes "color:inherit;" ++ (colors ++ others))
+  classes : (names : List Class) → AllByRecursion (Contains vocabulary) names
+      → IsLinkValue Classes (class_names (Link ∷ names))
+
+-- text; spans of text with an attribute; and links with one too
+pub data IsFragment (styling : Styling) : List ℕ → Type 0 where
+  end : IsFragment styling []
+  text : (plain rest : List ℕ) → IsText plain → IsFragment styling rest → IsFragment styling (plain ++ rest)
+  span : (value styled rest : List ℕ) → IsSpanValue styling value → IsText styled → IsFragment styling rest
+      → IsFragment styling (codes "<span" ++ (attribute_text styling value ++ (styled ++ (codes "</span>" ++ rest))))
+  link : (href value linked rest : List ℕ) → IsHref href → IsLinkValue styling value → IsText linked
+      → IsFragment styling rest
+      → IsFragment styling (codes "<a rel=\"nofollow noreferrer\" href=\"" ++ (href ++ (codes "\""
+      ++ (attribute_text styling value ++ (linked ++ (codes "</a>" ++ rest))))))

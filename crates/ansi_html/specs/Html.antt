@@ -1,5 +1,5 @@
 -- The HTML of a list of calls: their text, escaped, in elements that give it its style and its link.
-use Rattle.std.specs.Prelude.{ℕ, Bool, false, ◌&&◌, not, ◌==◌, List, [], ◌∷◌, ◌++◌, codes, if◌then◌else◌}
+use Rattle.std.specs.Prelude.{ℕ, Bool, true, false, ◌&&◌, not, ◌==◌, List, [], ◌∷◌, ◌++◌, codes, if◌then◌else◌}
 use Rattle.std.specs.List.{flat_map}
 use Rattle.std.specs.Str.{bytes_eq}
 use Rattle.anstyle_parse.specs.Stream.Call.{Call, execute}
@@ -7,8 +7,10 @@ use Rattle.ansi_strip.specs.Strip.{stripped_call}
 use Rattle.ansi_style.specs.declared.style.Style.{Style}
 use Rattle.ansi_style.specs.Style.{plain, are_equal}
 use Rattle.ansi_style.specs.Rendition.{style_after}
-use Rattle.ansi_html.specs.declared.scheme.Scheme.{Scheme}
-use Rattle.ansi_html.specs.Css.{css}
+use Rattle.ansi_html.specs.declared.scheme.Styling.{Styling}
+use Rattle.ansi_html.specs.declared.scheme.Styling.TheVariants.{Inline, Classes}
+use Rattle.ansi_html.specs.Css.{text_if, css}
+use Rattle.ansi_html.specs.Classes.{class_names, classes_of}
 use Rattle.ansi_html.specs.Links.{is_none, link_after}
 
 -- The bytes that have a meaning in HTML (13.1.2.3 and 13.1.4 of the HTML standard), as
@@ -29,9 +31,26 @@ escaped_text bytes = flat_map escaped bytes
 abbrev pub is_plain : Style → Bool
 is_plain style = are_equal style plain
 
+-- How a style is said: by its declarations in the attribute `style`, or by its classes in `class`.
+abbrev pub attribute_name : Styling → List ℕ
+attribute_name (Inline scheme) = codes "style"
+attribute_name Classes = codes "class"
+
+-- What that says of a style and a link. A link whose style has no colour has that of the text around it,
+-- since a browser's own for links is not read on each page (CSS Cascade, 7.2; where the style has a colour,
+-- that one counts, which stands later).
+abbrev pub value_of : Styling → (linked : Bool) → Style → List ℕ
+value_of (Inline scheme) linked style = text_if linked (codes "color:inherit;") ++ css scheme style
+value_of Classes linked style = class_names (classes_of linked style)
+
+-- an attribute of this value, and the end of its tag
+abbrev pub attribute_text : Styling → (value : List ℕ) → List ℕ
+attribute_text styling value = codes " " ++ (attribute_name styling ++ (codes "=\"" ++ (value ++ codes "\">")))
+
 -- what begins a span of a style, and what ends it; plain text stands in none
-abbrev pub span_begin : Scheme → Style → List ℕ
-span_begin scheme style = if is_plain style then [] else codes "<span style=\"" ++ (css scheme style ++ codes "\">")
+abbrev pub span_begin : Styling → Style → List ℕ
+span_begin styling style =
+    if is_plain style then [] else codes "<span" ++ attribute_text styling (value_of styling false style)
 
 abbrev pub span_end : Style → List ℕ
 span_end style = if is_plain style then [] else codes "</span>"
@@ -50,30 +69,28 @@ no_element = element plain []
 abbrev pub are_same : Element → Element → Bool
 are_same one other = are_equal one.style other.style && bytes_eq one.link other.link
 
--- The declarations of an element. A link whose style has no colour has that of the text around it,
--- since a browser's own for links is not read on each page (CSS Cascade, 7.2; where the style has a
--- colour, that one counts, which stands later).
-abbrev pub element_css : Scheme → Element → List ℕ
-element_css scheme element =
-    if is_none element.link then css scheme element.style else codes "color:inherit;" ++ css scheme element.style
+-- what the attribute of an element says
+abbrev pub element_value : Styling → Element → List ℕ
+element_value styling element =
+    if is_none element.link then value_of styling false element.style else value_of styling true element.style
 
 -- the beginning of a link, which asks that no page be told where it is (HTML standard, 4.6.7)
-abbrev pub link_begin : (link css : List ℕ) → List ℕ
-link_begin link css =
+abbrev pub link_begin : Styling → (link value : List ℕ) → List ℕ
+link_begin styling link value =
     codes "<a rel=\"nofollow noreferrer\" href=\""
-    ++ (escaped_text link ++ (codes "\" style=\"" ++ (css ++ codes "\">")))
+    ++ (escaped_text link ++ (codes "\"" ++ attribute_text styling value))
 
-abbrev pub element_begin : Scheme → Element → List ℕ
-element_begin scheme element =
-    if is_none element.link then span_begin scheme element.style
-    else link_begin element.link (element_css scheme element)
+abbrev pub element_begin : Styling → Element → List ℕ
+element_begin styling element =
+    if is_none element.link then span_begin styling element.style
+    else link_begin styling element.link (element_value styling element)
 
 abbrev pub element_end : Element → List ℕ
 element_end element = if is_none element.link then span_end element.style else codes "</a>"
 
 -- from the element of the text so far to that of the text to come
-abbrev pub change : Scheme → Element → Element → List ℕ
-change scheme shown next = if are_same shown next then [] else element_end shown ++ element_begin scheme next
+abbrev pub change : Styling → Element → Element → List ℕ
+change styling shown next = if are_same shown next then [] else element_end shown ++ element_begin styling next
 
 -- Where the HTML of a stream stands: the element of the last text, and the one that is selected for
 -- what comes; and whether the last text was 0D.
@@ -91,12 +108,12 @@ abbrev pub line_break : (returned is_line_feed : Bool) → List ℕ
 line_break returned is_line_feed = if returned && not is_line_feed then codes "<br>" else []
 
 -- what begins a text in the element that is selected, and the text; where there is none, nothing
-abbrev pub beginning : Scheme → Standing → (is_line_feed : Bool) → List ℕ
-beginning scheme at is_line_feed = change scheme at.shown at.selected ++ line_break at.returned is_line_feed
+abbrev pub beginning : Styling → Standing → (is_line_feed : Bool) → List ℕ
+beginning styling at is_line_feed = change styling at.shown at.selected ++ line_break at.returned is_line_feed
 
-unfoldable pub text_html : Scheme → Standing → (is_line_feed : Bool) → (text : List ℕ) → List ℕ
-text_html scheme at is_line_feed [] = []
-text_html scheme at is_line_feed (b ∷ bytes) = beginning scheme at is_line_feed ++ escaped_text (b ∷ bytes)
+unfoldable pub text_html : Styling → Standing → (is_line_feed : Bool) → (text : List ℕ) → List ℕ
+text_html styling at is_line_feed [] = []
+text_html styling at is_line_feed (b ∷ bytes) = beginning styling at is_line_feed ++ escaped_text (b ∷ bytes)
 
 -- what holds after a text, where this held before
 abbrev pub after_text : {A : Type 0} → (before after : A) → (text : List ℕ) → A
@@ -108,8 +125,8 @@ is_executed byte (execute b) = b == byte
 is_executed byte _ = false
 
 -- what a call writes, and where it leads
-abbrev pub call_html : Scheme → Standing → Call → List ℕ
-call_html scheme at call = text_html scheme at (is_executed 0x0A call) (stripped_call call)
+abbrev pub call_html : Styling → Standing → Call → List ℕ
+call_html styling at call = text_html styling at (is_executed 0x0A call) (stripped_call call)
 
 abbrev pub element_after : Call → Element → Element
 element_after call it = element (style_after call it.style) (link_after call it.link)
@@ -122,21 +139,21 @@ standing_after call at = record {
 }
 
 -- the calls, one after another
-abbrev pub html_from : Scheme → Standing → List Call → List ℕ
-html_from scheme at [] = []
-html_from scheme at (call ∷ calls) = call_html scheme at call ++ html_from scheme (standing_after call at) calls
+abbrev pub html_from : Styling → Standing → List Call → List ℕ
+html_from styling at [] = []
+html_from styling at (call ∷ calls) = call_html styling at call ++ html_from styling (standing_after call at) calls
 
 abbrev pub standing_at_end : Standing → List Call → Standing
 standing_at_end at [] = at
 standing_at_end at (call ∷ calls) = standing_at_end (standing_after call at) calls
 
 -- the HTML of the calls of a stream, as far as it has come; and what ends it
-abbrev pub html_text : Scheme → List Call → List ℕ
-html_text scheme calls = html_from scheme at_start calls
+abbrev pub html_text : Styling → List Call → List ℕ
+html_text styling calls = html_from styling at_start calls
 
 abbrev pub html_ending : List Call → List ℕ
 html_ending calls = element_end (standing_at_end at_start calls).shown
 
--- The HTML of a stream's calls, in a scheme.
-abbrev pub html : Scheme → List Call → List ℕ
-html scheme calls = html_text scheme calls ++ html_ending calls
+-- The HTML of a stream's calls, in a styling.
+abbrev pub html : Styling → List Call → List ℕ
+html styling calls = html_text styling calls ++ html_ending calls

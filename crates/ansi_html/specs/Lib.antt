@@ -1,6 +1,9 @@
 pub mod Contrast
 pub mod Palette
 pub mod Css
+pub mod Nearest
+pub mod Classes
+pub mod Stylesheet
 pub mod Links
 pub mod Html
 pub mod Reader

@@ -8,27 +8,34 @@
 -- What a fragment needs of its page, so that a browser reads it as this reader does: it stands in a
 -- `<pre>`, right after a newline of the page's own, since a browser drops the 0A that begins a `<pre>`
 -- (13.2.6.4.7); and the page is UTF-8. Colours for both kinds of pages want a page that has a
--- `color-scheme`, or that is light.
+-- `color-styling`, or that is light.
 use Rattle.std.specs.Prelude.{ℕ, Bool, true, false, ◌&&◌, ◌==◌, bytes_eq, List, [], ◌∷◌, ◌++◌, codes, map, if◌then◌else◌}
 use Rattle.std.specs.List.{flat_map}
 use Rattle.anstyle_parse.specs.Stream.Call.{Call}
 use Rattle.ansi_strip.specs.Strip.{stripped_call}
-use Rattle.ansi_html.specs.declared.scheme.Scheme.{Scheme}
-use Rattle.ansi_html.specs.Html.{Element, element_css, element_after}
+use Rattle.ansi_html.specs.declared.scheme.Styling.{Styling}
+use Rattle.ansi_html.specs.declared.scheme.Styling.TheVariants.{Inline, Classes}
+use Rattle.ansi_html.specs.Html.{Element, element_value, element_after}
 
--- What a tag has: the declarations of its style, and the URI of its link. What it lacks is empty.
+-- What a tag has: the declarations of its style, the names of its classes, and the URI of its link. What
+-- it lacks is empty.
 pub record Attributes : Type 0 where
   pub style : List ℕ
+  pub classes : List ℕ
   pub href : List ℕ
 
 abbrev pub no_attributes : Attributes
-no_attributes = record { style = []; href = [] }
+no_attributes = record { style = []; classes = []; href = [] }
 
--- these with one more; another one than the two changes nothing
+-- these with one more; another one than the three changes nothing
 abbrev pub with_attribute : (name value : List ℕ) → Attributes → Attributes
 with_attribute name value attributes =
-    if bytes_eq name (codes "style") then record { style = value; href = attributes.href }
-    else if bytes_eq name (codes "href") then record { style = attributes.style; href = value }
+    if bytes_eq name (codes "style")
+    then record { style = value; classes = attributes.classes; href = attributes.href }
+    else if bytes_eq name (codes "class")
+    then record { style = attributes.style; classes = value; href = attributes.href }
+    else if bytes_eq name (codes "href")
+    then record { style = attributes.style; classes = attributes.classes; href = value }
     else attributes
 
 -- A byte of text, and the attributes under which it stands.
@@ -141,16 +148,20 @@ drawn_of break = 0x0A ∷ []
 abbrev pub drawn : List ℕ → List ℕ
 drawn bytes = flat_map drawn_of (seen bytes)
 
--- What the calls show: each byte that is left of them, with the declarations of the style and the
--- link that are selected there.
-abbrev pub attributes_of : Scheme → Element → Attributes
-attributes_of scheme element = record { style = element_css scheme element; href = element.link }
+-- What the calls show: each byte that is left of them, with the declarations of the style or its classes,
+-- and the link that are selected there.
+abbrev pub attributes_by : Styling → (value link : List ℕ) → Attributes
+attributes_by (Inline scheme) value link = record { style = value; classes = []; href = link }
+attributes_by Classes value link = record { style = []; classes = value; href = link }
 
-abbrev pub shown_from : Scheme → Element → List Call → List Shown
-shown_from scheme element [] = []
-shown_from scheme element (call ∷ calls) =
-    map (under (attributes_of scheme element)) (stripped_call call)
-    ++ shown_from scheme (element_after call element) calls
+abbrev pub attributes_of : Styling → Element → Attributes
+attributes_of styling element = attributes_by styling (element_value styling element) element.link
+
+abbrev pub shown_from : Styling → Element → List Call → List Shown
+shown_from styling element [] = []
+shown_from styling element (call ∷ calls) =
+    map (under (attributes_of styling element)) (stripped_call call)
+    ++ shown_from styling (element_after call element) calls
 
 -- whether a text ends in 0D, where what stands before it does or not
 abbrev pub ends_returned : (returned : Bool) → List ℕ → Bool

@@ -5,18 +5,18 @@ use Rattle.anstyle_parse.specs.declared.io.output.Output.{Output}
 use Rattle.anstyle_parse.specs.Stream.Call.{Call}
 use Rattle.anstyle_parse.specs.Io.Output.{Adds}
 use Rattle.ansi_style.specs.declared.style.Style.{Style}
-use Rattle.ansi_html.specs.declared.scheme.Scheme.{Scheme}
+use Rattle.ansi_html.specs.declared.scheme.Styling.{Styling}
 use Rattle.ansi_html.specs.declared.performer.HtmlWriter.{HtmlWriter}
 use Rattle.ansi_html.specs.Html.{Element, element, Standing, at_start, escaped, beginning, call_html, standing_after, html_from, standing_at_end, element_end}
 use Rattle.ansi_html.specs.declared.link.Links.{Links}
 use Rattle.ansi_html.specs.ShownLinks.{shown_link, selected_link}
 
--- the output that it writes to; the scheme of its colours
+-- the output that it writes to; the styling of its colours
 abbrev pub output_of : {W : Type 0} → HtmlWriter W → Output W
 output_of performer = performer.output
 
-abbrev pub scheme_of : {W : Type 0} → HtmlWriter W → Scheme
-scheme_of performer = performer.scheme
+abbrev pub styling_of : {W : Type 0} → HtmlWriter W → Styling
+styling_of performer = performer.styling
 
 -- the style that is selected, where a sequence has selected a style or a link since the last text
 abbrev pub next_of : {W : Type 0} → HtmlWriter W → Option Style
@@ -43,36 +43,36 @@ standing_of performer = record {
 abbrev pub in_element : Element → (returned : Bool) → Standing
 in_element it returned = record { shown = it; selected = it; returned = returned }
 
--- at the start, in colours of this scheme
-pub record IsNew {W : Type 0} (wanted : Scheme) (performer : HtmlWriter W) : Type 0 where
-  pub scheme : scheme_of performer ≡ wanted
+-- at the start, in colours of this styling
+pub record IsNew {W : Type 0} (wanted : Styling) (performer : HtmlWriter W) : Type 0 where
+  pub styling : styling_of performer ≡ wanted
   pub standing : standing_of performer ≡ at_start
 
 -- what it writes by a list of calls, as it stands; and the end of the element that is then open
 abbrev pub text_from : {W : Type 0} → HtmlWriter W → List Call → List ℕ
-text_from performer calls = html_from (scheme_of performer) (standing_of performer) calls
+text_from performer calls = html_from (styling_of performer) (standing_of performer) calls
 
 abbrev pub ending_from : {W : Type 0} → HtmlWriter W → List Call → List ℕ
 ending_from performer calls = element_end (standing_at_end (standing_of performer) calls).shown
 
 -- A call selects a style or a link, or its text is written.
 pub record Takes {W : Type 0} (sink : SinkOf W) (old : HtmlWriter W) (call : Call) (new : HtmlWriter W) : Type 0 where
-  pub scheme : scheme_of new ≡ scheme_of old
+  pub styling : styling_of new ≡ styling_of old
   pub standing : standing_of new ≡ standing_after call (standing_of old)
-  pub added : Adds sink (call_html (scheme_of old) (standing_of old) call) (output_of old) (output_of new)
+  pub added : Adds sink (call_html (styling_of old) (standing_of old) call) (output_of old) (output_of new)
 
 -- The calls, one after another.
 pub record TakesAll {W : Type 0} (sink : SinkOf W)
     (old : HtmlWriter W) (calls : List Call) (new : HtmlWriter W) : Type 0 where
-  pub scheme : scheme_of new ≡ scheme_of old
+  pub styling : styling_of new ≡ styling_of old
   pub standing : standing_of new ≡ standing_at_end (standing_of old) calls
   pub added : Adds sink (text_from old calls) (output_of old) (output_of new)
 
 -- what it writes by the bytes of a text, and where they lead: each begins as text does
-abbrev pub bytes_html : Scheme → Standing → List ℕ → List ℕ
-bytes_html scheme at [] = []
-bytes_html scheme at (b ∷ bytes) =
-    (beginning scheme at (b == 0x0A) ++ escaped b) ++ bytes_html scheme (in_element at.selected (b == 0x0D)) bytes
+abbrev pub bytes_html : Styling → Standing → List ℕ → List ℕ
+bytes_html styling at [] = []
+bytes_html styling at (b ∷ bytes) =
+    (beginning styling at (b == 0x0A) ++ escaped b) ++ bytes_html styling (in_element at.selected (b == 0x0D)) bytes
 
 abbrev pub standing_after_bytes : Standing → List ℕ → Standing
 standing_after_bytes at [] = at
@@ -81,6 +81,6 @@ standing_after_bytes at (b ∷ bytes) = standing_after_bytes (in_element at.sele
 -- The bytes of a text are written.
 pub record TakesBytes {W : Type 0} (sink : SinkOf W)
     (old : HtmlWriter W) (bytes : List ℕ) (new : HtmlWriter W) : Type 0 where
-  pub scheme : scheme_of new ≡ scheme_of old
+  pub styling : styling_of new ≡ styling_of old
   pub standing : standing_of new ≡ standing_after_bytes (standing_of old) bytes
-  pub added : Adds sink (bytes_html (scheme_of old) (standing_of old) bytes) (output_of old) (output_of new)
+  pub added : Adds sink (bytes_html (styling_of old) (standing_of old) bytes) (output_of old) (output_of new)

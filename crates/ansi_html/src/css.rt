@@ -2,7 +2,7 @@
 ghost use Rattle.std.specs.Prelude.{◌≡◌, ◌<◌, ◌++◌, ◌∷◌, ◌||◌, [], codes};
 ghost use Rattle.anstyle_parse.specs.Io.Output.{Adds};
 ghost use Rattle.ansi_html.specs.Palette.{hex_digit, hex};
-ghost use Rattle.ansi_html.specs.Css.{declared as declared_color, light_dark, themed, is_chosen, text_of, behind_of, light_text, dark_text, on_page, on_reversed, color_on, text_on, on_chosen, colors_css, text_if, is_underlined, lines_css, underline_css, css};
+ghost use Rattle.ansi_html.specs.Css.{declared as declared_color, light_dark, themed, is_chosen, text_of, behind_of, light_text, dark_text, on_page, reversed_text, reversed_ground, on_reversed, color_on, text_on, on_chosen, colors_css, text_if, is_underlined, lines_css, underline_css, css};
 
 use crate::contrast::{BLACK, Rgb, WHITE};
 use crate::palette::{Shades, shades_of};
@@ -39,7 +39,7 @@ fn put_hex<W: Sink>(output: &mut Output<W>, color: Rgb, end: u8)
 }
 
 /// A property with a colour.
-fn put_declared<W: Sink>(output: &mut Output<W>, property: &[u8], color: Rgb)
+pub(crate) fn put_declared<W: Sink>(output: &mut Output<W>, property: &[u8], color: Rgb)
     ensures { Adds W.Sink (declared_color property.now color) output.old output.new }
 {
     output.put(property);
@@ -85,7 +85,8 @@ fn is_chosen(color: Color) -> bool
 }
 
 /// The colour of the text, which reversed is the one of its ground.
-fn text_of(style: Style) -> Color
+#[inline(always)]
+pub(crate) fn text_of(style: Style) -> Color
     ensures { result ≡ text_of style }
 {
     if style.reverse {
@@ -96,7 +97,8 @@ fn text_of(style: Style) -> Color
 }
 
 /// The colour of the ground, which reversed is the one of its text.
-fn behind_of(style: Style) -> Color
+#[inline(always)]
+pub(crate) fn behind_of(style: Style) -> Color
     ensures { result ≡ behind_of style }
 {
     if style.reverse {
@@ -129,7 +131,8 @@ fn dark_text(dim: bool, shades: Shades) -> Rgb
 }
 
 /// A text on the page's ground.
-fn put_on_page<W: Sink>(output: &mut Output<W>, scheme: Scheme, dim: bool, text: Color)
+#[inline(always)]
+pub(crate) fn put_on_page<W: Sink>(output: &mut Output<W>, scheme: Scheme, dim: bool, text: Color)
     ensures { Adds W.Sink (on_page scheme dim text) output.old output.new }
 {
     let shades = shades_of(text);
@@ -138,13 +141,32 @@ fn put_on_page<W: Sink>(output: &mut Output<W>, scheme: Scheme, dim: bool, text:
 }
 
 /// A text on a ground of the page's own text.
-fn put_on_reversed<W: Sink>(output: &mut Output<W>, scheme: Scheme, dim: bool, text: Color)
-    ensures { Adds W.Sink (on_reversed scheme dim text) output.old output.new }
+pub(crate) fn put_reversed_text<W: Sink>(
+    output: &mut Output<W>,
+    scheme: Scheme,
+    dim: bool,
+    text: Color,
+)
+    ensures { Adds W.Sink (reversed_text scheme dim text) output.old output.new }
 {
     let shades = shades_of(text);
     let dark = dark_text(dim, shades);
     put_themed(output, scheme, b"color:", dark, light_text(dim, shades));
+}
+
+/// That ground.
+pub(crate) fn put_reversed_ground<W: Sink>(output: &mut Output<W>, scheme: Scheme)
+    ensures { Adds W.Sink (reversed_ground scheme) output.old output.new }
+{
     put_themed(output, scheme, b"background-color:", BLACK, WHITE);
+}
+
+/// Both.
+fn put_on_reversed<W: Sink>(output: &mut Output<W>, scheme: Scheme, dim: bool, text: Color)
+    ensures { Adds W.Sink (on_reversed scheme dim text) output.old output.new }
+{
+    put_reversed_text(output, scheme, dim, text);
+    put_reversed_ground(output, scheme);
 }
 
 /// What is written on a ground that is chosen: white or black where no colour is chosen for it.
@@ -159,7 +181,8 @@ fn color_on(text: Color, behind: Rgb) -> Rgb
 }
 
 /// The same, or where it is dim as much of it as is read.
-fn text_on(dim: bool, text: Color, behind: Rgb) -> Rgb
+#[inline(always)]
+pub(crate) fn text_on(dim: bool, text: Color, behind: Rgb) -> Rgb
     ensures { result ≡ text_on dim text behind }
 {
     let color = color_on(text, behind);
@@ -191,7 +214,7 @@ fn put_colors<W: Sink>(output: &mut Output<W>, scheme: Scheme, style: Style)
 }
 
 /// The text, where it is wanted.
-fn put_if<W: Sink>(output: &mut Output<W>, wanted: bool, text: &[u8])
+pub(crate) fn put_if<W: Sink>(output: &mut Output<W>, wanted: bool, text: &[u8])
     ensures { Adds W.Sink (text_if wanted text.now) output.old output.new }
 {
     if wanted {
@@ -200,21 +223,24 @@ fn put_if<W: Sink>(output: &mut Output<W>, wanted: bool, text: &[u8])
 }
 
 /// Whether there is any underline.
-fn is_underlined(underline: Underline) -> bool
+#[inline(always)]
+pub(crate) fn is_underlined(underline: Underline) -> bool
     ensures { result ≡ is_underlined underline }
 {
     !matches!(underline, Underline::Off)
 }
 
 /// Whether there is any line.
-fn has_line(underlined: bool, overlined: bool, struck_out: bool, blink: bool) -> bool
+#[inline(always)]
+pub(crate) fn has_line(underlined: bool, overlined: bool, struck_out: bool, blink: bool) -> bool
     ensures { result ≡ (underlined || (overlined || (struck_out || blink))) }
 {
     underlined || overlined || struck_out || blink
 }
 
 /// The lines by their names, where there is one.
-fn put_lines<W: Sink>(
+#[inline(always)]
+pub(crate) fn put_lines<W: Sink>(
     output: &mut Output<W>,
     underlined: bool,
     overlined: bool,
@@ -234,7 +260,8 @@ fn put_lines<W: Sink>(
 }
 
 /// How an underline is drawn.
-fn underline_css(underline: Underline) -> &'static [u8]
+#[inline(always)]
+pub(crate) fn underline_css(underline: Underline) -> &'static [u8]
     ensures { result.now ≡ underline_css underline }
 {
     match underline {

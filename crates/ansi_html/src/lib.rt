@@ -4,13 +4,14 @@
 //! ```
 //! let mut reader = FromRead::new(log);
 //! let writer = FromWrite::new(Vec::new(alloc));
-//! let (writer, answer) = convert(Scheme::Both, b"<pre>", &mut reader, writer, b"</pre>");
+//! let styling = Styling::Inline(Scheme::Both);
+//! let (writer, answer) = convert(styling, b"<pre>", &mut reader, writer, b"</pre>");
 //! // of ESC [ 1 m < h i: <pre><span style="font-weight:bold;">&lt;hi</span></pre>
 //! ```
 #![tactic(auto)]
 
-ghost use Rattle.std.specs.Prelude.{◌≡◌, ◌≢◌, ◌≤◌, ◌+◌, ◌*◌, ◌++◌, [], ℕ, false, List, OnOk, IsTrue, length, map};
-ghost use Rattle.std.specs.List.{AllByRecursion};
+ghost use Rattle.std.specs.Prelude.{◌≡◌, ◌≢◌, ◌≤◌, ◌+◌, ◌*◌, ◌++◌, [], ℕ, Bool, false, List, OnOk, IsTrue, length, map};
+ghost use Rattle.std.specs.List.{AllByRecursion, Contains};
 ghost use Rattle.std.specs.Str.{IsUtf8};
 ghost use Rattle.anstyle_parse.specs.Stream.Arguments.{parts_of};
 ghost use Rattle.anstyle_parse.specs.Stream.Call.{Call};
@@ -19,39 +20,49 @@ ghost use Rattle.anstyle_parse.specs.Io.Output.{Adds};
 ghost use Rattle.anstyle_parse.specs.Io.Run.{RunsToEnding};
 ghost use Rattle.ansi_strip.specs.Strip.{stripped};
 ghost use Rattle.ansi_style.specs.declared.style.Style.{Style};
+ghost use Rattle.ansi_html.specs.declared.scheme.Scheme.{Scheme};
 ghost use Rattle.ansi_html.specs.Css.{selects_both, colors_css};
 ghost use Rattle.ansi_html.specs.Links.{IsLink, is_link_command, link_of, SaysLink};
-ghost use Rattle.ansi_html.specs.Html.{no_element, html_text, html_ending, html, escaped_text};
+ghost use Rattle.ansi_html.specs.Html.{no_element, html_text, html_ending, html, escaped_text, value_of};
 ghost use Rattle.ansi_html.specs.Reader.{no_attributes, byte_of, href_of, under, read, normalized, drawn, ends_in_return, shown_from};
 ghost use Rattle.ansi_html.specs.Grammar.{AreReadable, IsFragment};
+ghost use Rattle.ansi_html.specs.declared.class.Class.{Class};
+ghost use Rattle.ansi_html.specs.Classes.{class_name, classes_of};
+ghost use Rattle.ansi_html.specs.Stylesheet.{vocabulary, stylesheet, applied, snapped};
 
+mod class;
 pub mod contrast;
 mod css;
 mod link;
+mod nearest;
 mod palette;
 mod performer;
 mod scheme;
+mod stylesheet;
 
 use anstyle_parse::canon::{Fault, Output, Sink, Source, write_calls_by};
 pub use performer::HtmlWriter;
 use performer::put_escaped;
-pub use scheme::Scheme;
+pub use scheme::{Scheme, Styling};
+use stylesheet::put_all;
 
 /// Writes the text of all bytes that the reader gives as HTML, in the styles that the stream
-/// selects, with colours for the pages of `scheme`: a fragment for a `<pre>`. `head` is written
-/// before it and `tail` after it, as they are, such as the two ends of a page.
+/// selects, said as `styling` has it: a fragment for a `<pre>`. `head` is written before it and `tail`
+/// after it, as they are, such as the two ends of a page.
 ///
 /// The text is the stripped text: each printed character in UTF-8, tab, line feed and carriage
 /// return. `& < > " '` and a carriage return are written as character references, and text that is
 /// not plain stands in `<span style="…">…</span>`, or in `<a rel="nofollow noreferrer" href="…"
-/// style="…">…</a>` where it has a link (OSC 8): one for each run of equal style and link. A link is
+/// style="…">…</a>` where it has a link (OSC 8): one for each run of equal style and link. By classes
+/// the attribute is `class`. A link is
 /// shown where its URI begins with `https://`, `http://` or `mailto:`, has the bytes 21 to 7E only, and
 /// was not cut. Since a carriage return that comes by a reference ends no line, `<br>` stands before
 /// the text behind it, unless that is a line feed. Nothing else is written, so no input brings in
 /// markup.
 ///
 /// The page has to be UTF-8, and to have a newline of its own right after `<pre>`, since a browser
-/// drops the one that stands there. For [`Scheme::Both`] it has a `color-scheme`, or it is light.
+/// drops the one that stands there. For [`Scheme::Both`] it has a `color-scheme`, or it is light. For
+/// [`Styling::Classes`] it has the stylesheet.
 ///
 /// The bytes are read in pieces of at most 4096; no memory is taken. The writer is always
 /// handed back. The answer is
@@ -64,7 +75,7 @@ pub use scheme::Scheme;
 /// - `Err(Fault::Write)` where a write failed: what is written is a proper prefix of head,
 ///   HTML and tail, and nothing was read or written after the fault.
 pub fn convert<R: Source, W: Sink>(
-    scheme: Scheme,
+    styling: Styling,
     head: &[u8],
     reader: &mut R,
     writer: W,
@@ -72,52 +83,71 @@ pub fn convert<R: Source, W: Sink>(
 ) -> (W, Result<(), Fault>)
     // What is written is the head, the HTML of the calls of what was read, and the tail.
     ensures runs { RunsToEnding R.Source W.Sink
-        (λ calls. head.now ++ html_text scheme calls) (λ calls. html_ending calls ++ tail.now)
+        (λ calls. head.now ++ html_text styling calls) (λ calls. html_ending calls ++ tail.now)
         reader.old reader.new writer result.0 result.1 }
 
     // With Ok nothing of it is held back.
     ensures handed_on { OnOk result.1 (W.holds_nothing result.0) }
 
     // The headline: reading the HTML gives exactly the bytes of the stripped text, each with the
-    // declarations of the style and the URI of the link that the stream has selected there.
-    ensures read_back { (calls : List Call) → read (html scheme calls) ≡ shown_from scheme no_element calls }
-    ensures text { (calls : List Call) → map byte_of (read (html scheme calls)) ≡ stripped calls }
+    // declarations of the style or its classes, and the URI of the link that the stream has selected there.
+    ensures read_back { (calls : List Call) → read (html styling calls) ≡ shown_from styling no_element calls }
+    ensures text { (calls : List Call) → map byte_of (read (html styling calls)) ≡ stripped calls }
 
     // Its lines are those of the text: 0D with or without 0A behind it ends one, as 0A does. (A 0D at
     // the very end does not.)
     ensures lines { (bytes : List ℕ) (calls : List Call) → AreCalls bytes calls
         → ends_in_return (stripped calls) ≡ false
-        → drawn (html scheme calls) ≡ normalized (stripped calls) }
+        → drawn (html styling calls) ≡ normalized (stripped calls) }
 
     // Text is read: the colours of a style have WCAG's 4.5:1 with the page, or with the ground
     // that the stream has selected alone. Where it has selected both colours, it may differ.
-    ensures contrast { (style : Style) → selects_both style ≡ false
+    ensures contrast { (scheme : Scheme) (style : Style) → selects_both style ≡ false
         → AreReadable scheme (colors_css scheme style) }
 
     // A link's URI begins with https://, http:// or mailto:, and is visible ASCII.
-    ensures links { (calls : List Call) → AllByRecursion IsLink (map href_of (read (html scheme calls))) }
+    ensures links { (calls : List Call) → AllByRecursion IsLink (map href_of (read (html styling calls))) }
 
     // It is the whole URI that a command says, none that was cut.
     ensures whole_links { (text : List ℕ) → IsTrue (is_link_command (parts_of text)) → link_of (parts_of text) ≢ []
         → SaysLink text (link_of (parts_of text)) }
 
     // No markup comes in: it is text with line breaks, and spans and links that do not nest, with such
-    // colours and URIs, and with declarations from a fixed vocabulary.
+    // colours and URIs, and with declarations or classes from a fixed vocabulary.
     ensures grammar { (bytes : List ℕ) (calls : List Call) → AreCalls bytes calls
-        → IsFragment scheme (html scheme calls) }
+        → IsFragment styling (html styling calls) }
 
     // It is UTF-8, whatever was read.
     ensures utf8 { (bytes : List ℕ) (calls : List Call) → AreCalls bytes calls
-        → IsUtf8 (html scheme calls) }
+        → IsUtf8 (html styling calls) }
 
     // It has at most 6547 bytes for each byte that was read, and 7 more: a link of 1035 bytes can stand
     // there again with each change of style.
     ensures bound { (bytes : List ℕ) (calls : List Call) → AreCalls bytes calls
-        → length (html scheme calls) ≤ 6547 * length bytes + 7 }
+        → length (html styling calls) ≤ 6547 * length bytes + 7 }
 {
     let mut output = Output::new(writer);
     output.put(head);
-    write_calls_by(HtmlWriter::new(scheme, output), reader, tail)
+    write_calls_by(HtmlWriter::new(styling, output), reader, tail)
+}
+
+/// Writes the stylesheet for HTML by [`Styling::Classes`], for the pages of `scheme`: for each class that
+/// a style can have a rule with its declarations, which are those of [`Styling::Inline`].
+pub fn put_stylesheet<W: Sink>(output: &mut Output<W>, scheme: Scheme)
+    ensures added { Adds W.Sink (stylesheet scheme) output.old output.new }
+
+    // Each class of a style has its rule, and no two classes have one name.
+    ensures rules { (linked : Bool) (style : Style) → AllByRecursion (Contains vocabulary) (classes_of linked style) }
+    ensures names { (one other : Class) → Contains vocabulary one → Contains vocabulary other
+        → class_name one ≡ class_name other → one ≡ other }
+
+    // The rules that count for the names of a style's classes declare, in their order, what its attribute
+    // `style` would: of the style with its colours snapped to the 256, and not dim where it has selected both.
+    ensures cascade { (linked : Bool) (style : Style) →
+        applied scheme (map class_name (classes_of linked style))
+        ≡ value_of (Styling.Inline scheme) linked (snapped style) }
+{
+    put_all(output, scheme);
 }
 
 /// Writes a text as HTML, such as a title for the head of a page: `& < > " '` and carriage returns as

@@ -91,7 +91,7 @@ fn level(step: u8) -> u8
 }
 
 /// One of 256.
-fn indexed(index: u8) -> Shades
+pub(crate) fn indexed(index: u8) -> Shades
     ensures { result ≡ indexed index }
 {
     if index < 8 {

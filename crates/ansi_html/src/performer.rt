@@ -3,13 +3,15 @@ ghost use Rattle.std.specs.Prelude.{◌≡◌, ◌∷◌, ◌++◌, [], true, fa
 ghost use Rattle.anstyle_parse.specs.Io.Output.{Adds};
 ghost use Rattle.ansi_style.specs.Style.{plain};
 ghost use Rattle.ansi_html.specs.Css.{css};
+ghost use Rattle.ansi_html.specs.Classes.{class_names, classes_of};
 ghost use Rattle.ansi_html.specs.Grammar.{is_special, AreClear, BeginWithClear};
 ghost use Rattle.ansi_html.specs.ShownLinks.{shown_link, selected_link};
-ghost use Rattle.ansi_html.specs.Html.{line_break, beginning, span_begin, span_end, link_begin, element, are_same, element_begin, element_end, change, escaped, escaped_text};
+ghost use Rattle.ansi_html.specs.Html.{line_break, beginning, value_of, attribute_text, span_begin, span_end, link_begin, element, are_same, element_begin, element_end, change, escaped, escaped_text};
 
+use crate::class::put_classes;
 use crate::css::put_css;
 use crate::link::{Links, is_link_command};
-use crate::scheme::Scheme;
+use crate::scheme::{Scheme, Styling};
 use ansi_strip::is_layout;
 use ansi_style::Style;
 use anstyle_parse::canon::{Output, Sink, WritingPerformer};
@@ -20,17 +22,17 @@ use anstyle_parse::{Params, Perform, PerformText};
 /// Each printed character, and of the controls tab (09), line feed (0A) and carriage return
 /// (0D), is text; `& < > " '` and 0D are written as character references, and text behind 0D
 /// that is not 0A begins with `<br>`. Text that is not plain stands in `<span style="…">…</span>`,
-/// and text of a link in `<a href="…" style="…">…</a>`, one for each run of equal style and link. An
-/// element is opened only before text, and closed before text of another one or at the end. All
-/// other calls write nothing.
+/// and text of a link in `<a href="…" style="…">…</a>`, one for each run of equal style and link; by
+/// classes the attribute is `class`. An element is opened only before text, and closed before text of
+/// another one or at the end. All other calls write nothing.
 ///
 /// No memory is taken. A write that fails stops it: nothing more is written, and the fault is
 /// kept.
 #[derive(Drop)]
 pub struct HtmlWriter<W> {
     output: Output<W>,
-    /// The pages that the colours are for.
-    scheme: Scheme,
+    /// How it says a style.
+    styling: Styling,
     /// The style of the last text; plain where there was none.
     shown: Style,
     /// The style that is selected for what comes, where a sequence has selected one, or a link, since.
@@ -43,17 +45,17 @@ pub struct HtmlWriter<W> {
 
 impl<W: Sink> HtmlWriter<W> {
     ghost use Rattle.std.specs.Prelude.{None, Some};
-    ghost use Rattle.ansi_html.specs.Writer.{output_of, scheme_of, standing_of, in_element, next_of, links_of, IsNew, TakesBytes};
+    ghost use Rattle.ansi_html.specs.Writer.{output_of, styling_of, standing_of, in_element, next_of, links_of, IsNew, TakesBytes};
 
-    /// One that writes to this output, in colours for the pages of the scheme, and has received no
-    /// call. Nothing is written.
-    pub fn new(scheme: Scheme, output: Output<W>) -> HtmlWriter<W>
+    /// One that writes to this output, says styles in this way, and has received no call.
+    /// Nothing is written.
+    pub fn new(styling: Styling, output: Output<W>) -> HtmlWriter<W>
         ensures output { output_of result ≡ output }
-        ensures new { IsNew scheme result }
+        ensures new { IsNew styling result }
     {
         HtmlWriter {
             output,
-            scheme,
+            styling,
             shown: Style::default(),
             next: None,
             links: Links::none(),
@@ -64,9 +66,9 @@ impl<W: Sink> HtmlWriter<W> {
     /// Text of the selected style and link may follow. Behind 0D it begins with a line break, unless it is 0A.
     #[inline(always)]
     fn begin_text(&mut self, is_line_feed: bool)
-        ensures scheme { scheme_of self.new ≡ scheme_of self.old }
+        ensures styling { styling_of self.new ≡ styling_of self.old }
         ensures standing { standing_of self.new ≡ in_element (standing_of self.old).selected false }
-        ensures added { Adds W.Sink (beginning (scheme_of self.old) (standing_of self.old) is_line_feed)
+        ensures added { Adds W.Sink (beginning (styling_of self.old) (standing_of self.old) is_line_feed)
             (output_of self.old) (output_of self.new) }
     {
         self.show_selected();
@@ -101,11 +103,11 @@ impl<W: Sink> HtmlWriter<W> {
     /// Text of the selected style and link may follow.
     #[inline(always)]
     fn show_selected(&mut self)
-        ensures scheme { scheme_of self.new ≡ scheme_of self.old }
+        ensures styling { styling_of self.new ≡ styling_of self.old }
         ensures standing { standing_of self.new
             ≡ in_element (standing_of self.old).selected (standing_of self.old).returned }
         ensures added { Adds W.Sink
-            (change (scheme_of self.old) (standing_of self.old).shown (standing_of self.old).selected)
+            (change (styling_of self.old) (standing_of self.old).shown (standing_of self.old).selected)
             (output_of self.old) (output_of self.new) }
     {
         if let Some(style) = self.next {
@@ -116,16 +118,16 @@ impl<W: Sink> HtmlWriter<W> {
     /// Text of this style and of the selected link may follow.
     #[inline(never)]
     fn change_to(&mut self, style: Style)
-        ensures scheme { scheme_of self.new ≡ scheme_of self.old }
+        ensures styling { styling_of self.new ≡ styling_of self.old }
         ensures next { next_of self.new ≡ None }
         ensures standing { standing_of self.new
             ≡ in_element (element style (selected_link (links_of self.old))) (standing_of self.old).returned }
-        ensures added { Adds W.Sink (change (scheme_of self.old) (standing_of self.old).shown
+        ensures added { Adds W.Sink (change (styling_of self.old) (standing_of self.old).shown
             (element style (selected_link (links_of self.old)))) (output_of self.old) (output_of self.new) }
     {
         put_change(
             &mut self.output,
-            self.scheme,
+            self.styling,
             self.shown,
             style,
             &self.links,
@@ -139,7 +141,7 @@ impl<W: Sink> HtmlWriter<W> {
     /// text's on.
     #[inline(always)]
     fn begin_selection(&mut self)
-        ensures scheme { scheme_of self.new ≡ scheme_of self.old }
+        ensures styling { styling_of self.new ≡ styling_of self.old }
         ensures output { output_of self.new ≡ output_of self.old }
         ensures next { next_of self.new ≡ Some (standing_of self.old).selected.style }
         ensures standing { standing_of self.new ≡ standing_of self.old }
@@ -166,18 +168,18 @@ fn put_line_break<W: Sink>(output: &mut Output<W>, is_line_feed: bool)
 #[inline(always)]
 fn put_change<W: Sink>(
     output: &mut Output<W>,
-    scheme: Scheme,
+    styling: Styling,
     shown: Style,
     style: Style,
     links: &Links,
 )
     ensures { Adds W.Sink
-        (change scheme (element shown (shown_link links.now)) (element style (selected_link links.now)))
+        (change styling (element shown (shown_link links.now)) (element style (selected_link links.now)))
         output.old output.new }
 {
     if is_other(shown, style, links) {
         put_end(output, shown, links.shown());
-        put_begin(output, scheme, style, links.selected());
+        put_begin(output, styling, style, links.selected());
     }
 }
 
@@ -191,13 +193,13 @@ fn is_other(shown: Style, style: Style, links: &Links) -> bool
 
 /// Opens an element of the style and the link, where there is either.
 #[inline]
-fn put_begin<W: Sink>(output: &mut Output<W>, scheme: Scheme, style: Style, link: &[u8])
-    ensures { Adds W.Sink (element_begin scheme (element style link.now)) output.old output.new }
+fn put_begin<W: Sink>(output: &mut Output<W>, styling: Styling, style: Style, link: &[u8])
+    ensures { Adds W.Sink (element_begin styling (element style link.now)) output.old output.new }
 {
     if link.is_empty() {
-        put_span_begin(output, scheme, style);
+        put_span_begin(output, styling, style);
     } else {
-        put_link_begin(output, scheme, style, link);
+        put_link_begin(output, styling, style, link);
     }
 }
 
@@ -214,25 +216,65 @@ fn put_end<W: Sink>(output: &mut Output<W>, style: Style, link: &[u8])
 }
 
 /// Opens a link, in the style.
-fn put_link_begin<W: Sink>(output: &mut Output<W>, scheme: Scheme, style: Style, link: &[u8])
-    ensures { Adds W.Sink (link_begin link.now (codes "color:inherit;" ++ css scheme style)) output.old output.new }
+fn put_link_begin<W: Sink>(output: &mut Output<W>, styling: Styling, style: Style, link: &[u8])
+    ensures { Adds W.Sink (link_begin styling link.now (value_of styling true style)) output.old output.new }
 {
     output.put(b"<a rel=\"nofollow noreferrer\" href=\"");
     put_in_parts(output, link);
-    output.put(b"\" style=\"color:inherit;");
+    put_link_style(output, styling, style);
+}
+
+/// The end of a link's URI, and its style.
+#[inline(always)]
+fn put_link_style<W: Sink>(output: &mut Output<W>, styling: Styling, style: Style)
+    ensures { Adds W.Sink (codes "\"" ++ attribute_text styling (value_of styling true style)) output.old output.new }
+{
+    match styling {
+        Styling::Inline(scheme) => {
+            put_css_between(output, b"\" style=\"color:inherit;", scheme, style);
+        }
+        Styling::Classes => put_classes_between(output, b"\" class=\"", true, style),
+    }
+}
+
+/// Opens a span of the style, unless it is plain.
+fn put_span_begin<W: Sink>(output: &mut Output<W>, styling: Styling, style: Style)
+    ensures { Adds W.Sink (span_begin styling style) output.old output.new }
+{
+    if style != Style::default() {
+        put_span(output, styling, style);
+    }
+}
+
+/// Opens a span of the style.
+#[inline(always)]
+fn put_span<W: Sink>(output: &mut Output<W>, styling: Styling, style: Style)
+    ensures { Adds W.Sink (codes "<span" ++ attribute_text styling (value_of styling false style))
+        output.old output.new }
+{
+    match styling {
+        Styling::Inline(scheme) => put_css_between(output, b"<span style=\"", scheme, style),
+        Styling::Classes => put_classes_between(output, b"<span class=\"", false, style),
+    }
+}
+
+/// The declarations of a style behind a text, and the end of their attribute and tag.
+#[inline(always)]
+fn put_css_between<W: Sink>(output: &mut Output<W>, before: &[u8], scheme: Scheme, style: Style)
+    ensures { Adds W.Sink (before.now ++ (css scheme style ++ codes "\">")) output.old output.new }
+{
+    output.put(before);
     put_css(output, scheme, style);
     output.put(b"\">");
 }
 
-/// Opens a span of the style, unless it is plain.
-fn put_span_begin<W: Sink>(output: &mut Output<W>, scheme: Scheme, style: Style)
-    ensures { Adds W.Sink (span_begin scheme style) output.old output.new }
+/// The same with the names of its classes.
+fn put_classes_between<W: Sink>(output: &mut Output<W>, before: &[u8], linked: bool, style: Style)
+    ensures { Adds W.Sink (before.now ++ (class_names (classes_of linked style) ++ codes "\">")) output.old output.new }
 {
-    if style != Style::default() {
-        output.put(b"<span style=\"");
-        put_css(output, scheme, style);
-        output.put(b"\">");
-    }
+    output.put(before);
+    put_classes(output, linked, style);
+    output.put(b"\">");
 }
 
 /// Closes a span of the style, unless it is plain.

@@ -1,7 +1,7 @@
 //! Each read, write and flush of std fails in turn, over bytes that come one a read: no clause says
 //! what an adapter does where the stream within fails. What the programs say then, and that their
 //! text stands as far as it went, is in tests/programs.
-use ansi_html::{Scheme, convert};
+use ansi_html::{Scheme, Styling, convert};
 use ansi_strip::strip;
 use anstyle_parse::canon::{CanonWriter, Fault, FromRead, FromWrite, write_calls};
 use std::io::ErrorKind;
@@ -83,7 +83,13 @@ fn run_over<'a>(
     let (writer, answer) = match form {
         Form::Canon => write_calls::<CanonWriter<Writer>, Reader<'a>, Writer>(&mut reader, writer),
         Form::Stripped => strip(&mut reader, writer),
-        Form::Html => convert(Scheme::Both, b"a", &mut reader, writer, b"z"),
+        Form::Html => convert(
+            Styling::Inline(Scheme::Both),
+            b"a",
+            &mut reader,
+            writer,
+            b"z",
+        ),
     };
     (reader, writer, answer)
 }

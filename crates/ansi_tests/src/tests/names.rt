@@ -1,39 +1,106 @@
 //! Every public item of every library but the screen, by its name, and every implementation that a
 //! type of theirs has of a trait of std: what is gone is missed here.
-use ansi_html::contrast::{BLACK, Rgb, WHITE, linear};
-use ansi_html::{HtmlWriter, Scheme, convert, put_text};
-use ansi_strip::{Stripper, is_layout, strip};
-use ansi_style::{Color, Hue, Style, Underline};
-use anstyle_parse::canon::{CanonWriter, MAX_CHECKPOINT, checkpoint};
-use anstyle_parse::io::{
-    Buffer, CallWriter, Fault, FromRead, FromWrite, Output, Sink, Source, Stop, WritingPerformer,
-    drive, perform_to_end, write_calls, write_calls_between, write_calls_by,
-};
-use anstyle_parse::laws::{
-    action_as_number, bounds, calls_are_lawful, cancelled, canonical_again, canonical_text, clones,
-    counted, default_variants, equal_accumulators, equal_parsers, equal_texts, equal_variants,
-    forgotten, front_of_a_character, headline, lawful_exactly, replay, state_as_number,
-};
-use anstyle_parse::state::{Action, State, state_change};
-use anstyle_parse::{
-    AsciiParser, CharAccumulator, DefaultCharAccumulator, Params, ParamsIter, Parser, Perform,
-    PerformText, Taken, Utf8Parser,
-};
-use examples::{plain, write_last_style};
-use standard_streams::{
-    Request, VERSION, answered, asked_of, buffered, ended, ended_with_reason, failed, given_words,
-    message, misused, value_of,
-};
+use ansi_html::HtmlWriter;
+use ansi_html::Scheme;
+use ansi_html::Styling;
+use ansi_html::contrast::BLACK;
+use ansi_html::contrast::Rgb;
+use ansi_html::contrast::WHITE;
+use ansi_html::contrast::linear;
+use ansi_html::convert;
+use ansi_html::put_stylesheet;
+use ansi_html::put_text;
+use ansi_strip::Stripper;
+use ansi_strip::is_layout;
+use ansi_strip::strip;
+use ansi_style::Color;
+use ansi_style::Hue;
+use ansi_style::Style;
+use ansi_style::Underline;
+use anstyle_parse::AsciiParser;
+use anstyle_parse::CharAccumulator;
+use anstyle_parse::DefaultCharAccumulator;
+use anstyle_parse::Params;
+use anstyle_parse::ParamsIter;
+use anstyle_parse::Parser;
+use anstyle_parse::Perform;
+use anstyle_parse::PerformText;
+use anstyle_parse::Taken;
+use anstyle_parse::Utf8Parser;
+use anstyle_parse::canon::CanonWriter;
+use anstyle_parse::canon::MAX_CHECKPOINT;
+use anstyle_parse::canon::checkpoint;
+use anstyle_parse::io::Buffer;
+use anstyle_parse::io::CallWriter;
+use anstyle_parse::io::Fault;
+use anstyle_parse::io::FromRead;
+use anstyle_parse::io::FromWrite;
+use anstyle_parse::io::Output;
+use anstyle_parse::io::Sink;
+use anstyle_parse::io::Source;
+use anstyle_parse::io::Stop;
+use anstyle_parse::io::WritingPerformer;
+use anstyle_parse::io::drive;
+use anstyle_parse::io::perform_to_end;
+use anstyle_parse::io::write_calls;
+use anstyle_parse::io::write_calls_between;
+use anstyle_parse::io::write_calls_by;
+use anstyle_parse::laws::action_as_number;
+use anstyle_parse::laws::bounds;
+use anstyle_parse::laws::calls_are_lawful;
+use anstyle_parse::laws::cancelled;
+use anstyle_parse::laws::canonical_again;
+use anstyle_parse::laws::canonical_text;
+use anstyle_parse::laws::clones;
+use anstyle_parse::laws::counted;
+use anstyle_parse::laws::default_variants;
+use anstyle_parse::laws::equal_accumulators;
+use anstyle_parse::laws::equal_parsers;
+use anstyle_parse::laws::equal_texts;
+use anstyle_parse::laws::equal_variants;
+use anstyle_parse::laws::forgotten;
+use anstyle_parse::laws::front_of_a_character;
+use anstyle_parse::laws::headline;
+use anstyle_parse::laws::lawful_exactly;
+use anstyle_parse::laws::replay;
+use anstyle_parse::laws::state_as_number;
+use anstyle_parse::state::Action;
+use anstyle_parse::state::State;
+use anstyle_parse::state::state_change;
+use examples::plain;
+use examples::write_last_style;
+use standard_streams::Request;
+use standard_streams::VERSION;
+use standard_streams::answered;
+use standard_streams::asked_of;
+use standard_streams::buffered;
+use standard_streams::ended;
+use standard_streams::ended_with_reason;
+use standard_streams::failed;
+use standard_streams::given_words;
+use standard_streams::message;
+use standard_streams::misused;
+use standard_streams::value_of;
 use std::alloc::Global;
 use std::fmt::Debug;
 use std::io;
-use std::io::{ErrorKind, IsTerminal, Read, Write};
+use std::io::ErrorKind;
+use std::io::IsTerminal;
+use std::io::Read;
+use std::io::Write;
 use std::iter::FusedIterator;
-use std::process::{Abort, ExitCode};
+use std::process::Abort;
+use std::process::ExitCode;
 use std::rt::Env;
 use std::test::Fail;
-use strip_pieces::{Fed, LEAST_ROOM, StreamState};
-use test_streams::{Paper, TROUBLES, Tape, narrow_papers, repeated};
+use strip_pieces::Fed;
+use strip_pieces::LEAST_ROOM;
+use strip_pieces::StreamState;
+use test_streams::Paper;
+use test_streams::TROUBLES;
+use test_streams::Tape;
+use test_streams::narrow_papers;
+use test_streams::repeated;
 
 type Memory = FromWrite<Vec<u8>>;
 
@@ -179,7 +246,13 @@ fn names_of_runs(rt: HostRuntime) {
     assert_well(&rt, strip(&mut reader(), memory(rt.alloc())));
     assert_well(
         &rt,
-        convert(Scheme::Both, b"<", &mut reader(), memory(rt.alloc()), b">"),
+        convert(
+            Styling::Inline(Scheme::Both),
+            b"<",
+            &mut reader(),
+            memory(rt.alloc()),
+            b">",
+        ),
     );
     assert_well(&rt, plain(rt.alloc(), b"a"));
     assert_well(
@@ -188,7 +261,10 @@ fn names_of_runs(rt: HostRuntime) {
     );
     assert!(rt; MAX_CHECKPOINT > 0 && is_layout(b'\t') && !is_layout(0x07));
     writes_calls(&Stripper::over(Output::new(memory(rt.alloc()))));
-    let writer = HtmlWriter::new(Scheme::Dark, Output::new(memory(rt.alloc())));
+    let writer = HtmlWriter::new(
+        Styling::Inline(Scheme::Dark),
+        Output::new(memory(rt.alloc())),
+    );
     is_writing(&writer);
     assert_well(&rt, write_calls_by(writer, &mut reader(), b">"));
     let mut style = Style::default();
@@ -200,6 +276,7 @@ fn names_of_runs(rt: HostRuntime) {
 fn names_of_what_is_put(rt: HostRuntime) {
     let mut output = Output::new(memory(rt.alloc()));
     put_text(&mut output, "<");
+    put_stylesheet(&mut output, Scheme::Light);
     output.put(b"a");
     output.put_byte(b'b');
     output.put_char('c');
@@ -214,6 +291,7 @@ fn names_of_what_is_put(rt: HostRuntime) {
 #[test]
 fn names_of_styles_and_pieces(rt: HostRuntime) {
     is_plain(Scheme::Both);
+    is_plain(Styling::Classes);
     is_plain(Rgb {
         red: 1,
         green: 2,
@@ -221,6 +299,7 @@ fn names_of_styles_and_pieces(rt: HostRuntime) {
     });
     assert!(rt; linear(255) == 1_000_000);
     assert!(rt; BLACK.is_read_on_light() && WHITE.is_read_on_dark());
+    assert_eq!(rt; WHITE.nearest(), 231);
     is_plain(Hue::Black);
     is_plain(Color::Default);
     is_plain(Color::Named(Hue::at(1)));

@@ -22,7 +22,7 @@ returns g c =
     let style = c.csi_dispatch.ensures ∙ ap (style_after call) (c.get_or_insert-style.ensures.value ∙ ap (λ (next : Option Style). unwrap_or next begun.shown) is.next) in
     let link = ap (λ (next : Option Style). (selected_of next begun.shown begun.links).link) (sym is.next) ∙ ap (λ (it : Standing). it.selected.link) is.standing in
     record {
-      scheme = is.scheme;
+      styling = is.styling;
       standing = ap₂ (λ (s : Style) (l : List ℕ). record { shown = now.shown; selected = element s l; returned = now.returned }) style link
           ∙ ap (λ (it : Standing). record { shown = it.shown; selected = element (style_after call at.selected.style) at.selected.link; returned = it.returned }) is.standing;
       added = subst (λ output. Adds g.W.Sink [] (output_of before) output) (sym is.output) (Adds-nil g.W.Sink (output_of before));

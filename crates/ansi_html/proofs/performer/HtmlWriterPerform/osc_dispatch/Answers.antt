@@ -22,7 +22,7 @@ returns-then-is_link_command g c =
     let link = c.select.ensures.selected ∙ sym (ap (λ (it : Bool). if it then link_of (texts c.args.params.now) else at.selected.link) command) in
     let selected = ap (λ (next : Option Style). selected_of next begun.shown links) is.next ∙ ap (element style) link in
     record {
-      scheme = is.scheme;
+      styling = is.styling;
       standing = ap₂ (λ (l : List ℕ) (it : Element). record { shown = element begun.shown l; selected = it; returned = begun.returned }) c.select.ensures.shown selected
           ∙ ap (λ (it : Standing). record { shown = it.shown; selected = element style (if is_link_command (texts c.args.params.now) then link_of (texts c.args.params.now) else at.selected.link); returned = it.returned }) is.standing;
       added = subst (λ output. Adds g.W.Sink [] (output_of before) output) (sym is.output) (Adds-nil g.W.Sink (output_of before));
@@ -36,7 +36,7 @@ returns-else-is_link_command g c =
     let no = sym c.is_link_command.ensures ∙ c.if-is_link_command.false in
     let link = ap (λ (it : Bool). if it then link_of (texts c.args.params.now) else at.selected.link) no in
     record {
-      scheme = refl;
+      styling = refl;
       standing = ap (λ (l : List ℕ). record { shown = at.shown; selected = element at.selected.style l; returned = at.returned }) (sym link);
       added = Adds-nil g.W.Sink (output_of before);
     }

@@ -6,4 +6,4 @@ use Rattle.ansi_html.proofs.performer.HtmlWriterPerform.put.Goals as goal
 
 pub returns : goal.returns
 unfolding text_html
-returns g c = record { scheme = refl; standing = refl; added = Adds-nil g.W.Sink (output_of c.args.self.now) }
+returns g c = record { styling = refl; standing = refl; added = Adds-nil g.W.Sink (output_of c.args.self.now) }

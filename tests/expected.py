@@ -22,11 +22,11 @@ class Mode:
     line and its text, which does not depend on what came before; hostile streams, each with
     its text or the digest of it; and what is written before and after each text. `stays` says
     that each text is its own text; `cut` is a stream, and what is written of the bytes before
-    each of its bytes, and of all of them."""
+    each of its bytes, and of all of them; `waits` says that lines may be written at the end alone."""
 
-    def __init__(self, words, rows, line, hostile, head=b"", tail=b"", stays=False, cut=None):
+    def __init__(self, words, rows, line, hostile, head=b"", tail=b"", stays=False, cut=None, waits=False):
         self.words, self.rows, self.line, self.hostile = words, rows, line, hostile
-        self.head, self.tail, self.stays, self.cut = head, tail, stays, cut
+        self.head, self.tail, self.stays, self.cut, self.waits = head, tail, stays, cut, waits
 
     def whole(self, text):
         return self.head + text + self.tail
@@ -364,6 +364,34 @@ STRIP_HOSTILE = [
 
 
 
+BOX = "┌─┐\n│ │\n└─┘\n".encode()
+
+# What a person sees, with what scrolled off.
+SHOWN_ROWS = [
+    ("overstruck", b"B\bB\bo\bo", b"o\n"),
+    ("back and over", b"abc\b\b\bxyz", b"xyz\n"),
+    ("progress", b"10%\r20%\r\x1b[K100%", b"100%\n"),
+    ("a move forward", b"foo\x1b[10Cbar", b"foo          bar\n"),
+    ("lines drawn in ASCII", b"+-+\n| |\n+-+\n", b"+-+\n| |\n+-+\n"),
+    ("line drawing", b"\x1b(0lqk\nx x\nmqj\x1b(B\n", BOX),
+    ("lines that scroll off", b"a\r\nb\n" * 500 + b"c", b"a\nb\n" * 500 + b"c\n"),
+    ("a line longer than the screen", b"a" * 5000 + b"\nb\n", b"a" * 5000 + b"\nb\n"),
+    ("a line as long as a row", b"a" * 80 + b"\r\nb\r\n", b"a" * 80 + b"\nb\n"),
+    ("a wide character for which the row has no room", b"a" * 79 + "漢\n".encode(), b"a" * 79 + "漢\n".encode()),
+    ("a row that went on and is rewritten", b"a" * 81 + b"\x1b[1;80Hb\x1b[2Hc", b"a" * 79 + b"b\nc\n"),
+    ("a row that went on and is erased", b"a" * 81 + b"\x1b[1;9H\x1b[K", b"a" * 8 + b"\na\n"),
+    ("characters deleted and inserted", b"a" * 81 + b"\x1b[1H\x1b[P\x1b[@", b" " + b"a" * 79 + b"\na\n"),
+    ("blanks that were printed, and others", b"a  \nb\x1b[9C\nc\td\t\n", b"a  \nb\nc       d\n"),
+    ("blank lines", b"a\n\n\nb\n\n\n", b"a\n\n\nb\n"),
+    ("the alternate screen", b"a\n\x1b[?1049h" + b"b\n" * 99 + b"\x1b[?1049lc\n", b"a\nc\n"),
+    ("margins below the top", b"a\n\x1b[2;24r\x1b[24H" + b"\n" * 99 + b"c", b"a\n" + b"\n" * 22 + b"c\n"),
+    ("more rows than there are", b"a\nb\x1b[65535Sc", b"a\nb\n" + b"\n" * 23 + b" c\n"),
+    ("rows deleted at the top", b"a\nb\x1b[H\x1b[M", b"b\n"),
+    ("an erased screen", b"a\n\x1b[2J\x1b[Hb", b"b\n"),
+    ("colours, titles and a broken character", b"\x1b[31m\x1b]0;t\x07a\xc3\x1b[mb\n", b"a\xef\xbf\xbdb\n"),
+]
+
+
 def span(style, text=b"x"):
     return b'<span style="%s">%s</span>' % (style, text)
 
@@ -601,6 +629,8 @@ def refused_by(name, *more):
     return [unknown(name, words) for words in [*rows, *more]] + shown
 
 
+WRONG_SIZE = b"ansi2text: a size is COLUMNSxROWS, from 2x1 to 1000x1000 (see ansi2text --help)"
+
 PROGRAMS = [
     Program(
         "parselog",
@@ -627,9 +657,15 @@ PROGRAMS = [
     ),
     Program(
         "ansi2text",
-        refused_by("ansi2text", ["--page"], ["text"]),
-        [Mode([], STRIP_ROWS, (b"\x1b[1mA\n", b"A\n"), STRIP_HOSTILE, stays=True, cut=STRIP_CUT)],
-        options=[],
+        refused_by("ansi2text", ["--page"], ["text"], ["--Shown"], ["--shown80x24"], ["shown"])
+        + [([word], WRONG_SIZE) for word in ("--shown=", "--shown=1x1", "--shown=80", "--shown=80x1001", "--shown==80x24")]
+        + [(["--shown", "--shown=0x0"], WRONG_SIZE)],
+        [
+            Mode([], STRIP_ROWS, (b"\x1b[1mA\n", b"A\n"), STRIP_HOSTILE, stays=True, cut=STRIP_CUT),
+            Mode(["--shown"], SHOWN_ROWS, (b"\x1b[1mA\n", b"A\n"), [], stays=True, waits=True),
+            Mode(["--shown=9x9", "--shown=80x24"], SHOWN_ROWS[-3:], (b"A\b\n", b"A\n"), [], stays=True, waits=True),
+        ],
+        options=["--shown", "--shown=COLUMNSxROWS"],
     ),
     Program(
         "ansi2html",

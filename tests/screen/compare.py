@@ -3,14 +3,16 @@
 generated streams, or of recordings.
 
 Usage: tests/screen/compare.py [--count N] [--seed N] [--program PROGRAM] [--xterm | --libvterm]
-                               [--size COLUMNSxROWS RECORDING ..]
+                               [--shown] [--size COLUMNSxROWS RECORDING ..]
 
     --count N          so many generated streams (default: 500)
     --seed N           the seed of the first (default: 1)
-    --program PROGRAM  the built program (default: crates/ansi2screen/out/ansi2screen)
+    --program PROGRAM  the built program (default: crates/ansi2screen/out/ansi2screen, or ansi2text)
     --xterm            in place of tmux, xterm, under an Xvfb of its own
     --libvterm         in place of tmux, libvterm (Debian's libvterm-dev), by tests/screen/vterm_text.c, which
                        cc makes a program of
+    --shown            of recordings, ansi2text --shown beside tmux's history and screen, lines joined
+                       where they wrapped (capture-pane -J), blanks at their ends left out
     --size .. RECORDING ..  files with the bytes of a stream, and the screen that they were made for, as
                        those of bench/record.py for 120x40
 
@@ -65,7 +67,7 @@ class Pane:
     differences = []
 
     def __init__(self, folder, width, height):
-        self.socket, self.number = os.path.join(folder, "tmux"), 0
+        self.socket, self.number, self.captured = os.path.join(folder, "tmux"), 0, []
         pipe = os.path.join(folder, "stream")
         os.mkfifo(pipe)
         shell = "stty raw -echo; exec cat %s -" % pipe
@@ -80,16 +82,22 @@ class Pane:
         return subprocess.run(command, capture_output=True, env=dict(os.environ, LC_ALL="C.UTF-8")).stdout
 
     def shown(self, data):
-        """The text of the pane after a reset and the stream; the title says when tmux has read it."""
+        """The text of the pane after a reset and the stream."""
+        self.tell(b"\x1b[?1049l\x1bc\x1b7\x1b(B\x1b)B\x0f")
+        self.ask("clear-history")
+        self.tell(data)
+        return self.ask("capture-pane", "-p", *self.captured).decode()
+
+    def tell(self, data):
+        """Writes a stream; the title says when tmux has read it."""
         self.number += 1
         title = b"stream %d" % self.number
-        self.out.write(b"\x1b[?1049l\x1bc\x1b7\x1b(B\x1b)B\x0f" + data + b"\x1b]2;" + title + b"\x07")
+        self.out.write(data + b"\x1b]2;" + title + b"\x07")
         end = time.monotonic() + PATIENCE
         while self.ask("display", "-p", "#{pane_title}").strip() != title:
             if time.monotonic() > end:
                 sys.exit("compare.py: tmux did not read the stream")
             time.sleep(0.005)
-        return self.ask("capture-pane", "-p").decode()
 
     def end(self):
         self.ask("kill-server")
@@ -190,19 +198,25 @@ def main():
     reader = argparse.ArgumentParser(usage=__doc__.split("Usage: ")[1].split("\n\n")[0], description=__doc__)
     reader.add_argument("--count", type=int, default=500)
     reader.add_argument("--seed", type=int, default=1)
-    reader.add_argument("--program", default=os.path.join(ROOT, "crates", "ansi2screen", "out", "ansi2screen"))
+    reader.add_argument("--program")
     reader.add_argument("--xterm", dest="kind", action="store_const", const=Xterm, default=Pane)
     reader.add_argument("--libvterm", dest="kind", action="store_const", const=Libvterm)
+    reader.add_argument("--shown", action="store_true")
     reader.add_argument("--size", default="80x24")
     reader.add_argument("recordings", nargs="*")
     options = reader.parse_args()
+    name = "ansi2text" if options.shown else "ansi2screen"
+    program = options.program or os.path.join(ROOT, "crates", name, "out", name)
     width, height = map(int, options.size.split("x")) if options.recordings else (20, 6)
     agree = differ = 0
     with tempfile.TemporaryDirectory() as folder:
         pane = options.kind(folder, width, height)
+        if options.shown:
+            pane.captured = ["-J", "-S", "-"]
         for name, data, must_agree in inputs(options, pane, width, height):
             theirs = text_of(pane.shown(data), pane.letters)
-            run = subprocess.run([options.program, "--size=%dx%d" % (width, height)], input=data, capture_output=True)
+            word = "--%s=%dx%d" % ("shown" if options.shown else "size", width, height)
+            run = subprocess.run([program, word], input=data, capture_output=True)
             ours = text_of(run.stdout.decode(), pane.letters)
             fits = must_agree == (ours == theirs)
             agree, differ = agree + (fits and must_agree), differ + (not fits)

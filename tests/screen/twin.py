@@ -1,6 +1,7 @@
 """The meaning of a screen, executable: the definitions of crates/ansi_screen/specs in Python.
 
     show(bytes, width, height)      the text that ansi2screen must write
+    showed(bytes, width, height)    the text that ansi2text --shown must write
 
 It has a parser of its own, for streams that are well formed. Widths come from Unicode's data as
 Python has it, not from the repository's table.
@@ -8,7 +9,7 @@ Python has it, not from the repository's table.
 
 import unicodedata
 
-WHOLE, LEFT, RIGHT = range(3)
+WHOLE, LEFT, RIGHT, EMPTY = range(4)
 
 
 def columns(c):
@@ -37,13 +38,14 @@ class Place:
 
 
 class Display:
-    """Cells are triples of a character, a part and marks, row by row in one list."""
+    """Cells are a character, a part, marks, and whether the row goes on behind it, row by row in one list."""
 
-    BLANK = (" ", WHOLE, "")
+    BLANK = (" ", EMPTY, "", False)
     MARKS = 2
 
     def __init__(self, width, height):
         self.width, self.height = width, height
+        self.left = []
         self.reset()
 
     def reset(self):
@@ -140,11 +142,17 @@ class Display:
         elif kind == 2:
             self.change(start, end, self.erased)
 
+    def goes_on(self, on):
+        end = self.row_end() - 1
+        self.cells[end] = (*self.cells[end][:3], on)
+
     def delete_characters(self, n):
+        self.goes_on(False)
         self.cut(min(self.row_end(), self.here() + n))
         self.change(self.here(), self.row_end(), self.moved_back(n))
 
     def insert_characters(self, n):
+        self.goes_on(False)
         self.cut(max(self.here(), self.row_end() - n))
         self.change(self.here(), self.row_end(), self.moved_on(n))
 
@@ -157,6 +165,8 @@ class Display:
             self.to_column(0)
 
     def scroll(self, how, n):
+        if how == self.moved_back and self.top == 0 and not self.is_alternate:
+            self.left += [self.row(row) for row in range(min(n, self.bottom))]
         self.rows(self.top, self.bottom, how, n)
 
     def index(self):
@@ -183,6 +193,7 @@ class Display:
             return
         if self.cursor.column + n > self.width:
             if self.wraps:
+                self.goes_on(True)
                 self.to_column(0)
                 self.index()
             else:
@@ -190,7 +201,7 @@ class Display:
         if self.cursor.column + n <= self.width:
             if self.inserts:
                 self.insert_characters(n)
-            glyph = [(c, LEFT, ""), (" ", RIGHT, "")] if n == 2 else [(c, WHOLE, "")]
+            glyph = [(c, LEFT, "", False), (" ", RIGHT, "", False)] if n == 2 else [(c, WHOLE, "", False)]
             self.change(self.here(), self.here() + n, lambda run: glyph)
             self.cursor.column += n
 
@@ -199,8 +210,8 @@ class Display:
         if self.cursor.column:
             if self.cells[at][1] == RIGHT:
                 at -= 1
-            c, part, marks = self.cells[at]
-            self.cells[at] = (c, part, (marks + mark)[: self.MARKS])
+            c, part, marks, on = self.cells[at]
+            self.cells[at] = (c, part, (marks + mark)[: self.MARKS], on)
 
     def print_again(self, c):
         if self.cursor.column + columns(c) <= self.width:
@@ -349,14 +360,22 @@ class Display:
 
     # -------------------------------------------------------------- text
 
+    def row(self, row):
+        return self.cells[row * self.width : (row + 1) * self.width]
+
     def text(self):
         rows = []
         for row in range(self.height):
-            cells = self.cells[row * self.width : (row + 1) * self.width]
-            rows.append("".join(c + marks for c, part, marks in cells if part != RIGHT).rstrip(" "))
+            rows.append("".join(c + marks for c, part, marks, _ in self.row(row) if part != RIGHT).rstrip(" "))
         while rows and not rows[-1]:
             rows.pop()
         return "".join("%s\n" % row for row in rows)
+
+
+def line_text(cells):
+    """The text of a row: cells at its end where nothing was printed leave nothing; whether it goes on."""
+    used = max((column + 1 for column, (c, part, marks, _) in enumerate(cells) if part != EMPTY or marks), default=0)
+    return "".join(c + marks for c, part, marks, _ in cells[:used] if part != RIGHT), cells[-1][3]
 
 
 def feed(display, data):
@@ -402,3 +421,14 @@ def show(data, width, height):
     display = Display(width, height)
     feed(display, data)
     return display.text().encode()
+
+
+def showed(data, width, height):
+    """What scrolled off and what still shows, as lines; a line feed does a carriage return first."""
+    display = Display(width, height)
+    feed(display, data.replace(b"\n", b"\r\n"))
+    rows = [line_text(display.row(row)) for row in range(height)]
+    while rows and not rows[-1][0]:
+        rows.pop()
+    text = "".join(text + ("" if on else "\n") for text, on in [line_text(row) for row in display.left] + rows)
+    return (text if text.endswith("\n") or not text else text + "\n").encode()

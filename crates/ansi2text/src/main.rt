@@ -1,37 +1,41 @@
-//! Strips standard input of its escapes, to standard output.
+//! Strips standard input of its escapes, to standard output, or writes what a screen showed of it.
 #![tactic(auto)]
 
+mod words;
+
+use ansi_screen::Screen;
 use ansi_strip::strip;
-use anstyle_parse::canon::FromRead;
-use standard_streams::{answered, asked_of, buffered, ended_with_reason, failed, given_words};
+use anstyle_parse::io::FromRead;
+use screen_text::write_shown;
+use standard_streams::{
+    answered, asked_of, buffered, ended_with_reason, failed, given_words, misused,
+};
 use std::process::ExitCode;
+use words::{Form, HELP, OPTIONS, WRONG_SIZE, named_form};
 
 /// The name at the front of what the program says of failures.
 const PROGRAM: &str = "ansi2text";
-
-/// What `--help` says.
-const HELP: &str = "\
-usage: ansi2text < FILE
-
-Writes the text of standard input to standard output, without the escapes of
-terminals: colours, cursor moves, titles and the like. Input is UTF-8. No file is
-opened: one is given by <.
-
-  --help       say this
-  --version    say which version it is
-
-Example, which keeps a build's log as text:
-  make 2>&1 | ansi2text > build.log
-";
 
 fn main(rt: HostRuntime) -> ExitCode {
     let Ok(words) = given_words(&rt) else {
         return failed(&rt, PROGRAM, "arguments not read");
     };
-    if let Some(request) = asked_of(words.as_slice(), &[]) {
+    if let Some(request) = asked_of(words.as_slice(), OPTIONS) {
         return answered(&rt, PROGRAM, HELP, request);
     }
+    let Some(form) = named_form(words.as_slice()) else {
+        return misused(&rt, WRONG_SIZE);
+    };
     let mut reader = FromRead::new(rt.stdin());
-    let ran = strip(&mut reader, buffered(rt.stdout()));
+    let output = buffered(rt.stdout());
+    let ran = match form {
+        Form::Stripped => strip(&mut reader, output),
+        Form::Shown(size) => {
+            let Ok(screen) = Screen::new(rt.alloc(), size.columns, size.rows) else {
+                return failed(&rt, PROGRAM, "out of memory");
+            };
+            write_shown(screen, &mut reader, output)
+        }
+    };
     ended_with_reason(&rt, PROGRAM, reader, ran)
 }

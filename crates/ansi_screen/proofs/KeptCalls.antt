@@ -20,7 +20,7 @@ use Rattle.ansi_screen.specs.declared.function.Function.TheVariants.{Edits, Move
 use Rattle.ansi_screen.specs.Cells.{blank, is_right, marked_before}
 use Rattle.ansi_screen.specs.Display.{Display, here, row_end, stops, blanks, fresh, most_columns, most_rows}
 use Rattle.ansi_screen.specs.Moves.{to_row, to_column, settled, up, down, to_position, tabbed, tabbed_back, with_stop}
-use Rattle.ansi_screen.specs.Edits.{space, with_cells, inserted_characters, index, reverse_index}
+use Rattle.ansi_screen.specs.Edits.{space, with_cells, row_going_on, inserted_characters, index, reverse_index}
 use Rattle.ansi_screen.specs.Widths.{is_shown, columns, is_among}
 use Rattle.ansi_screen.specs.Ranges.{no_column, two_columns}
 use Rattle.ansi_screen.specs.Print.{wrapped, with_room, with_glyph, put, marked, shown, drawn, draws, printed, printed_again}
@@ -29,15 +29,16 @@ use Rattle.ansi_screen.specs.After.{State, function_of, first_of, second_of, cou
 use Rattle.ansi_screen.specs.Reachable.{is_left, IsWhole, IsScreen}
 use Rattle.ansi_screen.proofs.PairLemmas.{paired-replicate, right-replicate}
 use Rattle.ansi_screen.proofs.WholeLemmas.{whole-glyph, length-put, whole-marked, length-marked}
-use Rattle.ansi_screen.proofs.KeptLemmas.{kept-if, kept-place, kept-cells, kept-column, kept-settled, settled-column, kept-up, kept-down, kept-line, kept-position, kept-tabbed, kept-tabbed_back, kept-times, kept-stop, kept-cleared, row_end-inside, kept-erased_display, kept-erased_line, kept-erased_characters, kept-deleted, kept-inserted, kept-scrolled_up, kept-scrolled_down, kept-inserted_lines, kept-deleted_lines, kept-index, kept-reverse_index}
+use Rattle.ansi_screen.proofs.KeptLemmas.{kept-if, kept-place, kept-cells, kept-column, kept-settled, settled-column, kept-up, kept-down, kept-line, kept-position, kept-tabbed, kept-tabbed_back, kept-times, kept-stop, kept-cleared, row_end-inside, kept-erased_display, kept-erased_line, kept-erased_characters, kept-going_on, kept-deleted, kept-inserted, kept-scrolled_up, kept-scrolled_down, kept-inserted_lines, kept-deleted_lines, kept-index, kept-reverse_index}
 
 -- printing
 kept-wrapped : (n : ℕ) (d : Display) → IsScreen d → IsScreen (wrapped n d)
 unfolding wrapped
 kept-wrapped n d s =
-    let inner : Display = if d.wraps then index (to_column 0 d) else settled d in
+    let joined : Display = row_going_on true d in
+    let inner : Display = if d.wraps then index (to_column 0 joined) else settled d in
     kept-if (nat_lt d.width (d.cursor.column + n)) inner d
-    (λ is. kept-if d.wraps (index (to_column 0 d)) (settled d) (λ on. kept-index (to_column 0 d) (kept-column 0 d s)) (λ off. kept-settled d s))
+    (λ is. kept-if d.wraps (index (to_column 0 joined)) (settled d) (λ on. kept-index (to_column 0 joined) (kept-column 0 joined (kept-going_on true d s))) (λ off. kept-settled d s))
     (λ fits. s)
 
 kept-glyph : (n c : ℕ) (d : Display) → IsScreen d → 1 ≤ n → n ≤ 2 → d.cursor.column + n ≤ d.width → IsScreen (with_glyph n c d)

@@ -9,13 +9,13 @@ use Rattle.std.proofs.Math.Nat.{mul-le-mul_right, suc-mul}
 use borrow.Author.Tests.{ltb-true, ltb-false, eqb-false}
 use Rattle.ansi_screen.specs.declared.cell.Cell.{Cell}
 use Rattle.ansi_screen.specs.declared.place.Place.{Place}
-use Rattle.ansi_screen.specs.Cells.{change, erased}
+use Rattle.ansi_screen.specs.Cells.{change, erased, going_on}
 use Rattle.ansi_screen.specs.Display.{Display, here, row_start, row_end, stops}
 use Rattle.ansi_screen.specs.Moves.{to_row, to_column, settled, up, down, to_line, to_position, tabbed, tabbed_back, with_stop, cleared_stops, column_of, before_stop}
-use Rattle.ansi_screen.specs.Edits.{with_cells, space, erased_cells, erased_part, erased_display, erased_line, erased_characters, deleted_characters, inserted_characters, rows_up, rows_down, scrolled_up, scrolled_down, is_in_margins, inserted_lines, deleted_lines, index, reverse_index}
+use Rattle.ansi_screen.specs.Edits.{with_cells, space, row_going_on, erased_cells, erased_part, erased_display, erased_line, erased_characters, deleted_characters, inserted_characters, rows_up, rows_down, scrolled_up, scrolled_down, is_in_margins, inserted_lines, deleted_lines, index, reverse_index}
 use Rattle.ansi_screen.specs.Reachable.{IsWhole, IsScreen}
 use Rattle.ansi_screen.proofs.PairLemmas.{whole-erased}
-use Rattle.ansi_screen.proofs.WholeLemmas.{whole-deleted, length-deleted, whole-inserted, length-inserted, whole-rows_up, length-rows_up, whole-rows_down, length-rows_down, length-erased}
+use Rattle.ansi_screen.proofs.WholeLemmas.{whole-deleted, length-deleted, whole-inserted, length-inserted, whole-rows_up, length-rows_up, whole-rows_down, length-rows_down, length-erased, whole-going_on, length-going_on}
 
 -- either of two displays
 pub kept-if : (t : Bool) (a b : Display) → (t ≡ true → IsScreen a) → (t ≡ false → IsScreen b) → IsScreen (if t then a else b)
@@ -169,25 +169,34 @@ kept-erased_characters n d s inside =
     let end : row_end d ≤ length d.cells = row_end-inside d s in
     kept-erased (here d) (min (row_end d) (here d + n)) d s (omega arith) (omega arith)
 
+-- the row goes on, or does not
+pub kept-going_on : (on : Bool) (d : Display) → IsScreen d → IsScreen (row_going_on on d)
+kept-going_on on d s =
+    kept-cells (going_on on (row_end d) d.cells) d s (length-going_on on (row_end d) d.cells) (whole-going_on d.width on (row_end d) d.cells s.whole)
+
 pub kept-deleted : (n : ℕ) (d : Display) → IsScreen d → d.cursor.column < d.width → IsScreen (deleted_characters n d)
 unfolding deleted_characters
 kept-deleted n d s inside =
-    let end : row_end d ≤ length d.cells = row_end-inside d s in
+    let marked : IsScreen (row_going_on false d) = kept-going_on false d s in
+    let cells : List Cell = going_on false (row_end d) d.cells in
+    let end : row_end d ≤ length cells = row_end-inside (row_going_on false d) marked in
     let from : row_start d ≤ here d = omega arith in
     let order : here d ≤ row_end d = omega arith in
     let to : row_end d ≤ row_end d = omega arith in
-    kept-cells _ d s (length-deleted d.width d.cursor.row (here d) (row_end d) n (space d) d.cells refl refl from order to end)
-    (whole-deleted d.width d.cursor.row (here d) (row_end d) n (space d) d.cells refl refl from order to end s.whole)
+    kept-cells _ (row_going_on false d) marked (length-deleted d.width d.cursor.row (here d) (row_end d) n (space d) cells refl refl from order to end)
+    (whole-deleted d.width d.cursor.row (here d) (row_end d) n (space d) cells refl refl from order to end marked.whole)
 
 pub kept-inserted : (n : ℕ) (d : Display) → IsScreen d → d.cursor.column < d.width → IsScreen (inserted_characters n d)
 unfolding inserted_characters
 kept-inserted n d s inside =
-    let end : row_end d ≤ length d.cells = row_end-inside d s in
+    let marked : IsScreen (row_going_on false d) = kept-going_on false d s in
+    let cells : List Cell = going_on false (row_end d) d.cells in
+    let end : row_end d ≤ length cells = row_end-inside (row_going_on false d) marked in
     let from : row_start d ≤ here d = omega arith in
     let order : here d ≤ row_end d = omega arith in
     let to : row_end d ≤ row_end d = omega arith in
-    kept-cells _ d s (length-inserted d.width d.cursor.row (here d) (row_end d) n (space d) d.cells refl refl from order to end)
-    (whole-inserted d.width d.cursor.row (here d) (row_end d) n (space d) d.cells refl refl from order to end s.whole)
+    kept-cells _ (row_going_on false d) marked (length-inserted d.width d.cursor.row (here d) (row_end d) n (space d) cells refl refl from order to end)
+    (whole-inserted d.width d.cursor.row (here d) (row_end d) n (space d) cells refl refl from order to end marked.whole)
 
 pub kept-rows_up : (n first last : ℕ) (d : Display) → IsScreen d → first ≤ last → last ≤ d.height → IsScreen (rows_up n first last d)
 unfolding rows_up

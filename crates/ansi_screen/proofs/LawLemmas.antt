@@ -31,7 +31,7 @@ back-cursor zero d = refl
 back-cursor (suc n) d =
     back-cursor n (tabbed_back d) ∙ ap (at_place (iterate tabbed_back n (tabbed_back d)).cursor) (one-back d)
 
-moved-cursor : (move : Move) (n m : ℕ) (d : Display) → moved move n m (settled d) ≡ at_place (moved move n m (settled d)).cursor d
+pub moved-cursor : (move : Move) (n m : ℕ) (d : Display) → moved move n m (settled d) ≡ at_place (moved move n m (settled d)).cursor d
 unfolding moved
 moved-cursor Up n m d = refl
 moved-cursor Down n m d = refl
@@ -63,14 +63,14 @@ repeat-nothing : function_of 0x62 ≡ Nothing
 unfolding function_of
 repeat-nothing = refl
 
-no-repeat : (final : ℕ) → (final ≡ 0x62 → ⊥) → is_repeat [] final ≡ false
+pub no-repeat : (final : ℕ) → (final ≡ 0x62 → ⊥) → is_repeat [] final ≡ false
 unfolding is_repeat
 no-repeat final other = rw (ne_eqb final 0x62 other) refl
 
 move-other : (final : ℕ) (move : Move) → function_of final ≡ Moves move → final ≡ 0x62 → ⊥
 move-other final move is e = let none : function_of final ≡ Nothing = ap function_of e ∙ repeat-nothing in cc
 
-after-sequence : (groups : List (List ℕ)) (final : ℕ) (s : State) → is_repeat [] final ≡ false
+pub after-sequence : (groups : List (List ℕ)) (final : ℕ) (s : State) → is_repeat [] final ≡ false
     → (after (csi_dispatch groups [] false final) s).display ≡ controlled (function_of final) groups s.display
 unfolding sequenced
 after-sequence groups final s other = rw other refl

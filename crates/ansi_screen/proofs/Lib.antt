@@ -8,6 +8,9 @@ pub mod RangeLemmas
 pub mod TextLemmas
 pub mod CallLemmas
 pub mod RepeatLemmas
+pub mod LeavingLemmas
 pub mod LawLemmas
+pub mod ScrollLemmas
 pub mod PlainLemmas
 pub mod RowLemmas
+pub mod CharacterLemmas

@@ -8,17 +8,19 @@ use borrow.Author.Tests.{ltb-true, ltb-false}
 use Rattle.ansi_style.specs.Style.{plain}
 use Rattle.ansi_screen.specs.declared.cell.Cell.{Cell}
 use Rattle.ansi_screen.specs.declared.cell.Part.{Part}
-use Rattle.ansi_screen.specs.declared.cell.Part.TheVariants.{Whole, Left, Right}
+use Rattle.ansi_screen.specs.declared.cell.Part.TheVariants.{Empty, Whole, Left, Right}
 use Rattle.ansi_screen.specs.Cells.{blank, emptied, is_right, cell_at, cut, within, change, erased, moved_back, moved_on}
 use Rattle.ansi_screen.specs.Reachable.{is_left, ArePaired, IsWhole}
 
 -- a part is not both
 right-not-left : (part : Part) → is_right part ≡ true → is_left part ≡ false
+right-not-left Empty is = cc is
 right-not-left Whole is = cc is
 right-not-left Left is = cc is
 right-not-left Right is = refl
 
 left-not-right : (part : Part) → is_left part ≡ true → is_right part ≡ false
+left-not-right Empty is = cc is
 left-not-right Whole is = cc is
 left-not-right Left is = refl
 left-not-right Right is = cc is

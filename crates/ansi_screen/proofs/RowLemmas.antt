@@ -10,7 +10,7 @@ use Rattle.anstyle_parse.specs.Stream.Bytes.{is_within}
 use Rattle.anstyle_parse.specs.Stream.Call.{print}
 use Rattle.ansi_style.specs.Style.{plain}
 use Rattle.ansi_screen.specs.declared.cell.Cell.{Cell}
-use Rattle.ansi_screen.specs.Cells.{blank, emptied, is_right, cell_at, cut, within, change, erased, moved_on, inserted, with_mark, marked_before}
+use Rattle.ansi_screen.specs.Cells.{blank, emptied, is_right, cell_at, cut, within, change, erased, moved_on, inserted, with_mark, marked_before, going_on}
 use Rattle.ansi_screen.specs.Display.{Display, here, row_start, row_end}
 use Rattle.ansi_screen.specs.Moves.{to_column, settled}
 use Rattle.ansi_screen.specs.Edits.{space, with_cells, erased_part, erased_line, inserted_characters}
@@ -22,7 +22,7 @@ use Rattle.ansi_screen.specs.Laws.{carriage_return, erase_rest, printing, text_c
 use Rattle.ansi_screen.proofs.PairLemmas.{length-cut, length-run, length-within, length-on, right-on, within-place, clear-cut, clear-cut_other}
 use Rattle.ansi_screen.proofs.WholeLemmas.{length-glyph, right-same, length-marked}
 use Rattle.ansi_screen.proofs.RangeLemmas.{no_column-below, two_columns-below}
-use Rattle.ansi_screen.proofs.KeptLemmas.{kept-column, kept-inserted, row_end-inside}
+use Rattle.ansi_screen.proofs.KeptLemmas.{kept-column, kept-going_on, kept-inserted, row_end-inside}
 use Rattle.ansi_screen.proofs.KeptCalls.{columns-few, kept-printed}
 
 -- lists of cells that differ between two places at most
@@ -178,6 +178,16 @@ marked-free mark place j cells free =
     let at : ℕ = if is_right (cell_at (place - 1) cells).part then place - 2 else place - 1 in
     right-same cells at j (with_mark mark (cell_at at cells)) refl free
 
+-- the row does not go on
+same-going_on : (start end : ℕ) (cells : List Cell) → start < end → Same start end (going_on false end cells) cells
+unfolding going_on
+same-going_on start end cells some =
+    same-set start end (end - 1) cells (record (cell_at (end - 1) cells) { goes_on = false }) (omega arith) (omega arith)
+
+going_on-free : (end j : ℕ) (cells : List Cell) → IsFree j cells → IsFree j (going_on false end cells)
+unfolding going_on
+going_on-free end j cells free = right-same cells (end - 1) j (record (cell_at (end - 1) cells) { goes_on = false }) refl free
+
 -- a display with other cells and the cursor in another column
 abbrev in_row : List Cell → ℕ → Display → Display
 in_row cells column d = record d { cells = cells; cursor = record d.cursor { column = column } }
@@ -254,7 +264,7 @@ drawn-by c true is =
     rw is (at-narrow line_drawing (c - 0x5F) drawing-narrow (omega arith) ∙ sym (ascii-narrow c (omega arith)))
 drawn-by c false is = rw is refl
 
-drawn-if : (c : ℕ) (t : Bool) → columns (if t then drawn c else c) ≡ columns c
+pub drawn-if : (c : ℕ) (t : Bool) → columns (if t then drawn c else c) ≡ columns c
 drawn-if c true = drawn-by c _ refl
 drawn-if c false = refl
 
@@ -263,7 +273,8 @@ abbrev with_mark_by : Bool → ℕ → Display → List Cell → List Cell
 with_mark_by first c d cells = if first then cells else marked_before c (here d) cells
 
 abbrev room_by : Bool → ℕ → Display → List Cell → List Cell
-room_by inserts n d cells = if inserts then inserted n (here d) (row_end d) (space d) cells else cells
+room_by inserts n d cells =
+    if inserts then inserted n (here d) (row_end d) (space d) (going_on false (row_end d) cells) else cells
 
 abbrev put_by : Bool → ℕ → ℕ → Display → List Cell → List Cell
 put_by inserts n c d cells = change (here d) (here d + n) (λ run. glyph n c d.cursor.style) (room_by inserts n d cells)
@@ -316,13 +327,20 @@ module _ (n c : ℕ) (d : Display) (cells : List Cell) (screen : IsScreen (with_
   room-same : (start : ℕ) (t : Bool) → start ≤ here d → IsFree start cells
       → Same start (row_end d) (room_by t n d cells) cells
   room-same start true from free =
-      same-inserted start (row_end d) (here d) n (space d) cells from (omega arith) (row_end-inside (with_cells cells d) screen) free
-      (row_end-free (with_cells cells d) screen)
+      let before : List Cell = going_on false (row_end d) cells in
+      let s : IsScreen (with_cells before d) = kept-going_on false (with_cells cells d) screen in
+      same-trans start (row_end d) (inserted n (here d) (row_end d) (space d) before) before cells
+      (same-inserted start (row_end d) (here d) n (space d) before from (omega arith) (row_end-inside (with_cells before d) s)
+      (going_on-free (row_end d) start cells free) (row_end-free (with_cells before d) s))
+      (same-going_on start (row_end d) cells (omega arith))
   room-same start false from free = same-refl start (row_end d) cells
 
   room-free : (t : Bool) → IsFree (here d) cells → IsFree (here d) (room_by t n d cells)
   room-free true free =
-      inserted-free (here d) (row_end d) n (space d) cells some (omega arith) (row_end-inside (with_cells cells d) screen) refl free
+      let before : List Cell = going_on false (row_end d) cells in
+      let s : IsScreen (with_cells before d) = kept-going_on false (with_cells cells d) screen in
+      inserted-free (here d) (row_end d) n (space d) before some (omega arith) (row_end-inside (with_cells before d) s) refl
+      (going_on-free (row_end d) (here d) cells free)
   room-free false free = free
 
   glyph-long : length (glyph n c d.cursor.style) ≡ here d + n - here d

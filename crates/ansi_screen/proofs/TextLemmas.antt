@@ -1,5 +1,5 @@
 -- The text of rows, cell by cell and row by row.
-use Rattle.std.proofs.Common.{◌≡◌, ℕ, suc, ◌+◌, ◌<◌, true, false, List, [], ◌∷◌, ◌++◌, length, get_or, take, refl, ap, sym, ◌∙◌, subst, arith, add-one}
+use Rattle.std.proofs.Common.{◌≡◌, ℕ, suc, ◌+◌, ◌<◌, Bool, true, false, List, [], ◌∷◌, ◌++◌, length, get_or, take, refl, ap, sym, ◌∙◌, subst, arith, add-one}
 use Rattle.std.specs.Prelude.{◌==◌}
 use Rattle.std.specs.List.{flat_map}
 use Rattle.std.proofs.lemmas.Bool.{ne_eqb}
@@ -10,28 +10,29 @@ use Rattle.anstyle_parse.specs.Io.Output.{Adds}
 use Rattle.anstyle_parse.proofs.Written.Output.{Adds-append, Adds-append3}
 use Rattle.ansi_screen.specs.declared.cell.Cell.{Cell}
 use Rattle.ansi_screen.specs.Display.{Display, row_cells}
-use Rattle.ansi_screen.specs.Text.{is_blank, used, cell_text, row_text, rows_text}
+use Rattle.ansi_screen.specs.Text.{used, cell_text, row_text, rows_text}
 
--- one cell more, blank or not
-used-push_blank : (cells : List Cell) (cell : Cell) → is_blank cell ≡ true → used (cells ++ cell ∷ []) ≡ used cells
-used-push_blank [] cell blank = rw blank refl
-used-push_blank (first ∷ cells) cell blank = rw (used-push_blank cells cell blank) refl
+-- one cell more, which is left out at the end, or is not
+module _ (is_left_out : Cell → Bool) where
+  used-push_blank : (cells : List Cell) (cell : Cell) → is_left_out cell ≡ true → used is_left_out (cells ++ cell ∷ []) ≡ used is_left_out cells
+  used-push_blank [] cell blank = rw blank refl
+  used-push_blank (first ∷ cells) cell blank = rw (used-push_blank cells cell blank) refl
 
-used-push_other : (cells : List Cell) (cell : Cell) → is_blank cell ≡ false → used (cells ++ cell ∷ []) ≡ suc (length cells)
-used-push_other [] cell other = rw other refl
-used-push_other (first ∷ cells) cell other =
-    let some : (suc (length cells) == 0) ≡ false = ne_eqb (suc (length cells)) 0 (λ e. omega arith) in
-    rw (used-push_other cells cell other) (simp some)
+  used-push_other : (cells : List Cell) (cell : Cell) → is_left_out cell ≡ false → used is_left_out (cells ++ cell ∷ []) ≡ suc (length cells)
+  used-push_other [] cell other = rw other refl
+  used-push_other (first ∷ cells) cell other =
+      let some : (suc (length cells) == 0) ≡ false = ne_eqb (suc (length cells)) 0 (λ e. omega arith) in
+      rw (used-push_other cells cell other) (simp some)
 
-pub used-more_blank : (cells : List Cell) (i : ℕ) (d : Cell) → i < length cells → is_blank (get_or cells i d) ≡ true
-    → used (take (i + 1) cells) ≡ used (take i cells)
-used-more_blank cells i d inside blank = rw (take_more cells i d inside) (used-push_blank (take i cells) (get_or cells i d) blank)
+  pub used-more_blank : (cells : List Cell) (i : ℕ) (d : Cell) → i < length cells → is_left_out (get_or cells i d) ≡ true
+      → used is_left_out (take (i + 1) cells) ≡ used is_left_out (take i cells)
+  used-more_blank cells i d inside blank = rw (take_more cells i d inside) (used-push_blank (take i cells) (get_or cells i d) blank)
 
-pub used-more_other : (cells : List Cell) (i : ℕ) (d : Cell) → i < length cells → is_blank (get_or cells i d) ≡ false
-    → used (take (i + 1) cells) ≡ i + 1
-used-more_other cells i d inside other =
-    let front : length (take i cells) ≡ i = length-take-le i cells (omega arith) in
-    rw (take_more cells i d inside) (used-push_other (take i cells) (get_or cells i d) other ∙ (ap suc front ∙ sym (add-one i)))
+  pub used-more_other : (cells : List Cell) (i : ℕ) (d : Cell) → i < length cells → is_left_out (get_or cells i d) ≡ false
+      → used is_left_out (take (i + 1) cells) ≡ i + 1
+  used-more_other cells i d inside other =
+      let front : length (take i cells) ≡ i = length-take-le i cells (omega arith) in
+      rw (take_more cells i d inside) (used-push_other (take i cells) (get_or cells i d) other ∙ (ap suc front ∙ sym (add-one i)))
 
 module _ {W : Type 0} (sink : SinkOf W) where
   -- one cell more is written

@@ -7,7 +7,7 @@ use borrow.Author.Tests.{ltb-true, ltb-false, eqb-true, eqb-false}
 use Rattle.ansi_style.specs.Style.{plain}
 use Rattle.ansi_style.specs.declared.style.Style.{Style}
 use Rattle.ansi_screen.specs.declared.cell.Cell.{Cell}
-use Rattle.ansi_screen.specs.Cells.{blank, is_right, cell_at, cut, within, change, erased, moved_back, moved_on, deleted, inserted, with_mark, marked_before}
+use Rattle.ansi_screen.specs.Cells.{blank, is_right, cell_at, cut, within, change, erased, moved_back, moved_on, deleted, inserted, with_mark, marked_before, going_on}
 use Rattle.ansi_screen.specs.Print.{glyph}
 use Rattle.ansi_screen.specs.Reachable.{is_left, ArePaired, IsWhole}
 use Rattle.ansi_screen.proofs.PairLemmas.{paired-run, paired-within, within-place, length-run, length-within, length-cut, length-change, length-back, length-on, paired-back, paired-on, right-back, right-on, clear-cut, clear-cut_other, whole-cut, whole-change}
@@ -247,6 +247,20 @@ unfolding marked_before
 length-marked mark place cells =
     length-set cells (if is_right (cell_at (place - 1) cells).part then place - 2 else place - 1)
     (with_mark mark (cell_at (if is_right (cell_at (place - 1) cells).part then place - 2 else place - 1) cells))
+
+-- a row that goes on, or does not
+pub whole-going_on : (width : ℕ) (on : Bool) (end : ℕ) (cells : List Cell) → IsWhole width cells → IsWhole width (going_on on end cells)
+unfolding going_on
+whole-going_on width on end cells whole =
+    let x : Cell = record (cell_at (end - 1) cells) { goes_on = on } in
+    record {
+      paired = paired-same false cells (end - 1) x refl whole.paired;
+      rows_begin = λ row. right-same cells (end - 1) (row * width) x refl (whole.rows_begin row);
+    }
+
+pub length-going_on : (on : Bool) (end : ℕ) (cells : List Cell) → length (going_on on end cells) ≡ length cells
+unfolding going_on
+length-going_on on end cells = length-set cells (end - 1) (record (cell_at (end - 1) cells) { goes_on = on })
 
 pub length-erased : (start end : ℕ) (space : Cell) (cells : List Cell) → start ≤ end → end ≤ length cells
     → length (change start end (erased space) cells) ≡ length cells

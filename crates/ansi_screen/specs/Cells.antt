@@ -9,19 +9,19 @@ use Rattle.ansi_screen.specs.declared.cell.Cell.{Cell}
 use Rattle.ansi_screen.specs.declared.cell.Marks.{Marks}
 use Rattle.ansi_screen.specs.declared.cell.Marks.TheVariants.{Unmarked, One, Two}
 use Rattle.ansi_screen.specs.declared.cell.Part.{Part}
-use Rattle.ansi_screen.specs.declared.cell.Part.TheVariants.{Whole, Right}
+use Rattle.ansi_screen.specs.declared.cell.Part.TheVariants.{Empty, Right}
 
 -- a character without marks
 abbrev pub plain_cell : ℕ → Style → Part → Cell
-plain_cell c style part = record { character = c; marks = Unmarked; style = style; part = part }
+plain_cell c style part = record { character = c; marks = Unmarked; style = style; part = part; goes_on = false }
 
 -- What is erased shows the background that is selected, and nothing else of the style.
 abbrev pub blank : Style → Cell
-blank style = plain_cell 0x20 (record plain { background = style.background }) Whole
+blank style = plain_cell 0x20 (record plain { background = style.background }) Empty
 
 -- a half of a wide character that has lost the other: a space in its own style
 abbrev pub emptied : Cell → Cell
-emptied cell = plain_cell 0x20 cell.style Whole
+emptied cell = plain_cell 0x20 cell.style Empty
 
 -- A cell keeps two marks, as xterm does unless it is told otherwise; the others are lost.
 abbrev pub one_more : ℕ → Marks → Marks
@@ -45,6 +45,11 @@ unfoldable pub marked_before : ℕ → ℕ → List Cell → List Cell
 marked_before mark place cells =
     let at = if is_right (cell_at (place - 1) cells).part then place - 2 else place - 1 in
     slice_set cells at (with_mark mark (cell_at at cells))
+
+-- Whether the row that ends at a place goes on in the next one is kept in its last cell: so what
+-- erases or overwrites this cell takes it away, and where rows move it goes with them.
+unfoldable pub going_on : Bool → ℕ → List Cell → List Cell
+going_on on end cells = slice_set cells (end - 1) (record (cell_at (end - 1) cells) { goes_on = on })
 
 -- A wide character whose right half stands at the place, so that its left half stands before
 -- it, becomes two blanks: so xterm does wherever it changes one of the halves.

@@ -2,9 +2,9 @@
 --
 -- Sources: xterm's ctlseqs; ECMA-48, 8.3 (ED, EL, ECH, ICH, DCH, IL, DL, SU, SD); for IND, RI
 -- and DECSTBM the VT510 manual.
-use Rattle.std.specs.Prelude.{ℕ, ◌+◌, ◌-◌, ◌*◌, min, Bool, ◌&&◌, ◌==◌, nat_lt, nat_le, List, length, if◌then◌else◌}
+use Rattle.std.specs.Prelude.{ℕ, ◌+◌, ◌-◌, ◌*◌, min, Bool, false, ◌&&◌, ◌==◌, nat_lt, nat_le, List, length, if◌then◌else◌}
 use Rattle.ansi_screen.specs.declared.cell.Cell.{Cell}
-use Rattle.ansi_screen.specs.Cells.{blank, within, change, erased, moved_back, moved_on, deleted, inserted}
+use Rattle.ansi_screen.specs.Cells.{blank, going_on, within, change, erased, moved_back, moved_on, deleted, inserted}
 use Rattle.ansi_screen.specs.Display.{Display, here, row_start, row_end}
 use Rattle.ansi_screen.specs.Moves.{to_row, to_column}
 
@@ -36,12 +36,20 @@ erased_line kind d = erased_part kind (row_start d) (row_end d) d
 unfoldable pub erased_characters : ℕ → Display → Display
 erased_characters n d = erased_cells (here d) (min (row_end d) (here d + n)) d
 
--- DCH, ICH: within the cursor's row
+-- the cursor's row goes on in the next row, or does not
+abbrev pub row_going_on : Bool → Display → Display
+row_going_on on d = with_cells (going_on on (row_end d) d.cells) d
+
+-- DCH, ICH: within the cursor's row, which then ends where it ends
 unfoldable pub deleted_characters : ℕ → Display → Display
-deleted_characters n d = with_cells (deleted n (here d) (row_end d) (space d) d.cells) d
+deleted_characters n d =
+    let cells = going_on false (row_end d) d.cells in
+    with_cells (deleted n (here d) (row_end d) (space d) cells) d
 
 unfoldable pub inserted_characters : ℕ → Display → Display
-inserted_characters n d = with_cells (inserted n (here d) (row_end d) (space d) d.cells) d
+inserted_characters n d =
+    let cells = going_on false (row_end d) d.cells in
+    with_cells (inserted n (here d) (row_end d) (space d) cells) d
 
 -- the rows from one up to another move up, or down, by n
 unfoldable pub rows_up : ℕ → ℕ → ℕ → Display → Display

@@ -1,5 +1,5 @@
 -- What the laws speak of.
-use Rattle.std.specs.Prelude.{◌≡◌, ◌⊎◌, ℕ, ◌+◌, ◌-◌, ◌≤◌, false, true, List, [], ◌∷◌, ◌++◌, length, map, replicate, encode_utf8}
+use Rattle.std.specs.Prelude.{◌≡◌, ◌≢◌, ⊤, ◌⊎◌, ℕ, ◌+◌, ◌-◌, ◌≤◌, false, true, ◌&&◌, not, ◌==◌, if◌then◌else◌, List, [], ◌∷◌, ◌++◌, length, map, replicate, encode_utf8}
 use Rattle.std.specs.List.{AllByRecursion, flat_map, join_by}
 use Rattle.anstyle_parse.specs.Stream.Call.{Call, print, execute, csi_dispatch, esc_dispatch}
 use Rattle.anstyle_parse.specs.Laws.Lawful.{is_character}
@@ -7,11 +7,14 @@ use Rattle.ansi_style.specs.Style.{plain}
 use Rattle.ansi_screen.specs.declared.cell.Cell.{Cell}
 use Rattle.ansi_screen.specs.declared.cell.Part.TheVariants.{Whole}
 use Rattle.ansi_screen.specs.declared.function.Move.{Move}
-use Rattle.ansi_screen.specs.declared.function.Function.TheVariants.{Moves}
+use Rattle.ansi_screen.specs.declared.function.Function.{Function}
+use Rattle.ansi_screen.specs.declared.function.Function.TheVariants.{Edits, Moves, Sets}
+use Rattle.ansi_screen.specs.declared.function.Setting.TheVariants.{ScrollDown}
 use Rattle.ansi_screen.specs.Cells.{plain_cell, blank}
-use Rattle.ansi_screen.specs.Display.{blanks}
+use Rattle.ansi_screen.specs.Display.{Display, blanks}
 use Rattle.ansi_screen.specs.Widths.{is_shown, columns}
-use Rattle.ansi_screen.specs.After.{function_of}
+use Rattle.ansi_screen.specs.Print.{wrapped}
+use Rattle.ansi_screen.specs.After.{State, function_of, displayed}
 
 -- ESC c, ESC 7 and ESC 8: RIS, DECSC, DECRC
 abbrev pub reset : Call
@@ -27,6 +30,25 @@ restore = esc_dispatch [] false 0x38
 abbrev pub IsMoveOrStyle : Call → Type 0
 IsMoveOrStyle (csi_dispatch groups [] false final) = ((move : Move) × (function_of final ≡ Moves move)) ⊎ (final ≡ 0x6D)
 IsMoveOrStyle call = ⊥
+
+-- The calls that edit no cells, but for what they print and scroll up: all but IL, DL, ICH, DCH, ECH, ED,
+-- EL and SD; REP; DECSET, DECRST and DECSTR; RI and RIS.
+abbrev pub EditsNothing : Function → Type 0
+EditsNothing (Edits edit) = ⊥
+EditsNothing (Sets ScrollDown) = ⊥
+EditsNothing function = ⊤
+
+abbrev pub KeepsRows : Call → Type 0
+KeepsRows (csi_dispatch groups [] false final) = (final ≢ 0x62) × EditsNothing (function_of final)
+KeepsRows (csi_dispatch groups (mark ∷ marks) false final) = ⊥
+KeepsRows (esc_dispatch [] false final) = (final ≢ 0x4D) × (final ≢ 0x63)
+KeepsRows call = ⊤
+
+-- the display once a call has scrolled it: before the character that it prints is put, if it prints one
+abbrev pub once_scrolled : Call → State → Display
+once_scrolled (print c) s =
+    if is_shown c && not (columns c == 0) then wrapped (columns c) s.display else s.display
+once_scrolled call s = displayed call s
 
 -- CR, LF, and EL as ESC [ K makes it
 abbrev pub carriage_return : Call

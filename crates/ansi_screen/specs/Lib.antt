@@ -8,5 +8,7 @@ pub mod Print
 pub mod Modes
 pub mod Reachable
 pub mod After
+pub mod Leaving
+pub mod Size
 pub mod Text
 pub mod Laws

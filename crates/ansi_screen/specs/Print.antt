@@ -2,7 +2,7 @@
 --
 -- Sources: xterm's ctlseqs (DECAWM, IRM, REP, "Designate G0 Character Set"); the VT510 manual,
 -- "DECAWM"; for line drawing the VT220's "DEC Special Graphics", in Unicode's characters.
-use Rattle.std.specs.Prelude.{ℕ, ◌+◌, ◌-◌, Bool, ◌==◌, nat_lt, nat_le, List, [], ◌∷◌, slice_index, if◌then◌else◌}
+use Rattle.std.specs.Prelude.{ℕ, ◌+◌, ◌-◌, Bool, true, ◌==◌, nat_lt, nat_le, List, [], ◌∷◌, slice_index, if◌then◌else◌}
 use Rattle.anstyle_parse.specs.Stream.Bytes.{is_within}
 use Rattle.ansi_style.specs.declared.style.Style.{Style}
 use Rattle.ansi_screen.specs.declared.cell.Cell.{Cell}
@@ -11,7 +11,7 @@ use Rattle.ansi_screen.specs.declared.place.Charsets.{Charsets}
 use Rattle.ansi_screen.specs.Cells.{plain_cell, change, marked_before}
 use Rattle.ansi_screen.specs.Display.{Display, here}
 use Rattle.ansi_screen.specs.Moves.{to_column, settled}
-use Rattle.ansi_screen.specs.Edits.{with_cells, index, inserted_characters}
+use Rattle.ansi_screen.specs.Edits.{with_cells, row_going_on, index, inserted_characters}
 use Rattle.ansi_screen.specs.Widths.{is_shown, columns}
 
 -- the cells of a character of one column, or of two
@@ -21,10 +21,10 @@ glyph n c style =
     else plain_cell c style Whole ∷ []
 
 -- Where the row has no room for so many columns: with autowrap the cursor goes to the start of
--- the next row, and else to the last column.
+-- the next row, in which this row goes on, and else to the last column.
 unfoldable pub wrapped : ℕ → Display → Display
 wrapped n d =
-    if nat_lt d.width (d.cursor.column + n) then (if d.wraps then index (to_column 0 d) else settled d)
+    if nat_lt d.width (d.cursor.column + n) then (if d.wraps then index (to_column 0 (row_going_on true d)) else settled d)
     else d
 
 -- in insert mode the rest of the row makes room

@@ -23,10 +23,11 @@ is_unmarked (Two first second) = false
 unfoldable pub is_blank : Cell → Bool
 is_blank cell = cell.character == 0x20 && not (is_right cell.part) && is_unmarked cell.marks
 
--- how many cells come up to the last that is not blank, and with it
-abbrev pub used : List Cell → ℕ
-used [] = 0
-used (cell ∷ cells) = if used cells == 0 && is_blank cell then 0 else suc (used cells)
+-- how many cells come up to the last that is none of those which a test names, and with it
+abbrev pub used : (Cell → Bool) → List Cell → ℕ
+used is_left_out [] = 0
+used is_left_out (cell ∷ cells) =
+    if used is_left_out cells == 0 && is_left_out cell then 0 else suc (used is_left_out cells)
 
 -- a cell's character and its marks; the right half of a wide one has none
 unfoldable pub cell_text : Cell → List ℕ
@@ -34,12 +35,13 @@ cell_text cell = if is_right cell.part then [] else encode_utf8 cell.character +
 
 -- a row, without the blanks at its end
 abbrev pub row_text : List Cell → List ℕ
-row_text cells = flat_map cell_text (take (used cells) cells)
+row_text cells = flat_map cell_text (take (used is_blank cells) cells)
 
--- of so many rows, how many come up to the last that is not blank, and with it
-abbrev pub used_rows : ℕ → Display → ℕ
-used_rows zero d = 0
-used_rows (suc row) d = if used (row_cells row d) == 0 then used_rows row d else suc row
+-- of so many rows, how many come up to the last that has others than those, and with it
+abbrev pub used_rows : (Cell → Bool) → ℕ → Display → ℕ
+used_rows is_left_out zero d = 0
+used_rows is_left_out (suc row) d =
+    if used is_left_out (row_cells row d) == 0 then used_rows is_left_out row d else suc row
 
 -- so many rows, each with a line feed
 abbrev pub rows_text : ℕ → Display → List ℕ
@@ -48,4 +50,4 @@ rows_text (suc row) d = rows_text row d ++ (row_text (row_cells row d) ++ 0x0A �
 
 -- the text of the display
 abbrev pub text_of : Display → List ℕ
-text_of d = rows_text (used_rows d.height d) d
+text_of d = rows_text (used_rows is_blank d.height d) d

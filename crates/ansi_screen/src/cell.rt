@@ -6,6 +6,8 @@ use ansi_style::Style;
 /// How much of a character a cell shows: a wide one stands in two cells.
 #[derive(Debug, Clone, Copy, PartialEq, Eq)]
 pub enum Part {
+    /// Nothing was printed there, or what was is erased: its character is a space.
+    Empty,
     Whole,
     /// The left half, which has the character.
     Left,
@@ -43,6 +45,8 @@ pub struct Cell {
     pub marks: Marks,
     pub style: Style,
     pub part: Part,
+    /// In the last cell of a row: autowrap went on from it to the next row, so that both are one line.
+    pub goes_on: bool,
 }
 
 impl Cell {
@@ -57,6 +61,7 @@ impl Cell {
             marks: Marks::Unmarked,
             style,
             part,
+            goes_on: false,
         }
     }
 
@@ -66,7 +71,7 @@ impl Cell {
     {
         let mut plain = Style::default();
         plain.background = style.background;
-        Cell::unmarked(' ', plain, Part::Whole)
+        Cell::unmarked(' ', plain, Part::Empty)
     }
 
     /// Whether it is the right half of a wide character.
@@ -76,11 +81,11 @@ impl Cell {
         matches!(self.part, Part::Right)
     }
 
-    /// A space in its own style.
+    /// What is left of a half: a space in its own style.
     pub(crate) fn emptied(self) -> Cell
         ensures { result ≡ emptied self }
     {
-        Cell::unmarked(' ', self.style, Part::Whole)
+        Cell::unmarked(' ', self.style, Part::Empty)
     }
 
     /// With one mark more, where there is room.

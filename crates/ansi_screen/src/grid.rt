@@ -1,7 +1,7 @@
 //! The cells of a screen, in memory in which all of them can move on.
 ghost use Rattle.std.specs.Prelude.{◌≡◌, ◌+◌, ◌<◌, ◌≤◌, length, take, drop, replicate, IfOk};
 ghost use Rattle.ansi_style.specs.Style.{plain};
-ghost use Rattle.ansi_screen.specs.Cells.{blank, marked_before, within, change, erased, moved_back, moved_on, deleted, inserted};
+ghost use Rattle.ansi_screen.specs.Cells.{blank, marked_before, going_on, within, change, erased, moved_back, moved_on, deleted, inserted};
 ghost use Rattle.ansi_screen.specs.Print.{glyph};
 
 use crate::cell::Cell;
@@ -123,6 +123,17 @@ impl Grid {
     {
         let shown = &mut self.memory.as_mut_slice()[self.start..self.start + self.size];
         runs::mark_before(shown, place, mark);
+    }
+
+    /// Says whether the row that ends at `end` goes on in the next.
+    pub(crate) fn set_goes_on(&mut self, end: usize, on: bool)
+        requires some { 0 < end }
+        requires within { end ≤ length self.old }
+        ensures cells { self.new ≡ going_on on end self.old }
+        ensures length { length self.new ≡ length self.old }
+    {
+        let shown = &mut self.memory.as_mut_slice()[self.start..self.start + self.size];
+        runs::set_goes_on(shown, end, on);
     }
 
     /// The cells from `first` up to `last` move on by as many as `count`; blanks come before them.

@@ -5,8 +5,11 @@ ghost use Rattle.anstyle_parse.specs.Stream.Call.{Call};
 ghost use Rattle.ansi_screen.specs.Display.{most_columns, most_rows};
 ghost use Rattle.ansi_screen.specs.Reachable.{IsScreen};
 ghost use Rattle.ansi_screen.specs.After.{State, new_state, after, after_all, Shows};
-ghost use Rattle.ansi_screen.specs.Laws.{reset, save, restore, IsMoveOrStyle, carriage_return, erase_rest, printing, typing, lines_text, FitsIn, page, text_columns};
+ghost use Rattle.ansi_screen.specs.Leaving.{ScrollsBy, leaving, before_scroll};
+ghost use Rattle.ansi_screen.specs.Edits.{rows_up};
+ghost use Rattle.ansi_screen.specs.Laws.{KeepsRows, once_scrolled, reset, save, restore, IsMoveOrStyle, carriage_return, erase_rest, printing, typing, lines_text, FitsIn, page, text_columns};
 
+use crate::leaving::{Scrolling, TakeRow};
 use crate::screen::Screen;
 
 /// After any bytes, in whatever pieces they are handed to a new parser, a screen shows what the
@@ -71,4 +74,22 @@ pub fn rewritten()
         → text_columns text ≤ screen.display.width
         → after_all (printing before ++ carriage_return ∷ (printing text ++ erase_rest ∷ [])) screen
         ≡ after_all (carriage_return ∷ (printing text ++ erase_rest ∷ [])) screen }
+{}
+
+/// Rows that leave: after any bytes, in whatever pieces, exactly the rows that the definition says were
+/// handed on, in order, each once; and the screen is the one that [`show`] says.
+pub fn scrolled_off<R: TakeRow>(scrolling: &mut Scrolling<R>, pieces: &[&[u8]])
+    ensures { ScrollsBy R.takes scrolling.old (flat_map (λ piece. piece.now) pieces.now) scrolling.new }
+{
+    anstyle_parse::laws::headline(scrolling, pieces);
+}
+
+/// As many rows leave as the screen itself moves up: on the main screen, with the upper margin at its
+/// first row, each call that edits no cells leaves them as they were, moved up by the rows that leave,
+/// but for the character that it prints.
+pub fn rows_leave()
+    ensures { (screen : State) (call : Call) → IsScreen screen.display → KeepsRows call
+        → screen.display.top ≡ 0 → screen.display.is_alternate ≡ false
+        → (once_scrolled call screen).cells
+        ≡ (rows_up (leaving call screen.display) 0 screen.display.bottom (before_scroll call screen.display)).cells }
 {}

@@ -10,13 +10,18 @@ mod display;
 mod function;
 mod grid;
 pub mod laws;
+mod leaving;
 mod place;
 mod runs;
 mod screen;
+mod size;
 mod tabs;
 mod text;
 mod width;
 
 pub use cell::{Cell, Marks, Part};
+pub use leaving::{Scrolling, TakeRow};
 pub use place::{Charsets, Place};
 pub use screen::{MAX_COLUMNS, MAX_ROWS, MIN_COLUMNS, MIN_ROWS, Screen};
+pub use size::Size;
+pub use text::put_cells;

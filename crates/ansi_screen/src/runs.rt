@@ -1,6 +1,6 @@
 //! Edits of cells in a row, or in several.
 ghost use Rattle.std.specs.Prelude.{◌≡◌, ◌+◌, ◌<◌, ◌≤◌, length};
-ghost use Rattle.ansi_screen.specs.Cells.{cut, marked_before, change, erased, moved_back, moved_on, deleted, inserted};
+ghost use Rattle.ansi_screen.specs.Cells.{cut, marked_before, going_on, change, erased, moved_back, moved_on, deleted, inserted};
 ghost use Rattle.ansi_screen.specs.Print.{glyph};
 
 use crate::cell::{Cell, Part};
@@ -87,6 +87,17 @@ pub(crate) fn mark_before(cells: &mut [Cell], place: usize, mark: char)
         last
     };
     cells[base] = cells[base].with_mark(mark);
+}
+
+/// Says whether the row that ends at `end` goes on in the next.
+#[tactic(auto, unfolding(crate::specs::Cells::going_on))]
+pub(crate) fn set_goes_on(cells: &mut [Cell], end: usize, on: bool)
+    requires some { 0 < end }
+    requires within { end ≤ length cells.old }
+    ensures set { cells.new ≡ going_on on end cells.old }
+    ensures length { length cells.new ≡ length cells.old }
+{
+    cells[end - 1].goes_on = on;
 }
 
 /// A character of so many columns.

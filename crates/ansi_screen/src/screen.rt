@@ -63,7 +63,9 @@ fn is_repeat(intermediates: &[u8], final_byte: u8) -> bool
 
 impl Screen {
     ghost use Rattle.ansi_screen.specs.Display.{IsSized, row_cells};
+    ghost use Rattle.anstyle_parse.specs.Stream.Call.{print};
     ghost use Rattle.ansi_screen.specs.After.{new_state};
+    ghost use Rattle.ansi_screen.specs.Leaving.{before_scroll, leaving};
 
     /// A blank screen of so many columns and rows, with the cursor at its top left. `Err` means
     /// that memory is wanting.
@@ -118,6 +120,16 @@ impl Screen {
         ensures { result ≡ self.now.display.is_visible }
     {
         self.display.is_visible()
+    }
+
+    /// What a character does before anything scrolls: where autowrap comes before it, the cursor's row
+    /// goes on in the next. The answer is how many rows leave by it.
+    pub(crate) fn begin_print(&mut self, c: char) -> usize
+        ensures marked { self.new ≡ record self.old { display = before_scroll (print c) self.old.display } }
+        ensures count { result ≡ leaving (print c) self.old.display }
+        ensures within { result ≤ self.new.display.height }
+    {
+        self.display.begin_print(c)
     }
 
     /// What it shows.

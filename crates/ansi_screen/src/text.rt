@@ -1,5 +1,6 @@
 //! What a screen shows, as text.
 ghost use Rattle.std.specs.Prelude.{◌≡◌, ◌≤◌, ◌<◌, length};
+ghost use Rattle.std.specs.List.{flat_map};
 ghost use Rattle.anstyle_parse.specs.Io.Output.{Adds};
 ghost use Rattle.ansi_screen.specs.Text.{is_blank, used, cell_text, row_text, used_rows, rows_text, text_of, marks_text};
 
@@ -18,7 +19,7 @@ fn is_blank(cell: Cell) -> bool
 
 /// How many cells come up to the last that is not blank.
 fn used(cells: &[Cell]) -> usize
-    ensures used { result ≡ used cells.now }
+    ensures used { result ≡ used is_blank cells.now }
     ensures within { result ≤ length cells.now }
 {
     let mut used = 0;
@@ -55,20 +56,27 @@ fn put_cell<W: Sink>(output: &mut Output<W>, cell: Cell)
     }
 }
 
+/// Writes the characters of the cells, each with its marks, in UTF-8.
+pub fn put_cells<W: Sink>(output: &mut Output<W>, cells: &[Cell])
+    ensures { Adds W.Sink (flat_map cell_text cells.now) output.old output.new }
+{
+    for cell in cells {
+        put_cell(output, *cell);
+    }
+}
+
 /// Writes the row, without the blanks at its end.
 fn put_row<W: Sink>(output: &mut Output<W>, cells: &[Cell])
     ensures { Adds W.Sink (row_text cells.now) output.old output.new }
 {
     let end = used(cells);
-    for cell in &cells[..end] {
-        put_cell(output, *cell);
-    }
+    put_cells(output, &cells[..end]);
 }
 
 impl Display {
     /// How many rows come up to the last that is not blank.
     fn used_rows(&self) -> usize
-        ensures used { result ≡ used_rows self.now.height self.now }
+        ensures used { result ≡ used_rows is_blank self.now.height self.now }
         ensures within { result ≤ self.now.height }
     {
         let mut end = 0;

@@ -1,3 +1,4 @@
 //! Rows that were worked by hand, by the library that they are of, and the names of the screen.
+mod leaving;
 mod screen;
 mod style;

@@ -2,7 +2,7 @@
 ghost use Rattle.std.specs.Prelude.{◌≡◌, ◌+◌, ◌*◌, ◌<◌, ◌≤◌, length};
 ghost use Rattle.ansi_screen.specs.Display.{here, row_start, row_end};
 ghost use Rattle.ansi_screen.specs.Moves.{settled};
-ghost use Rattle.ansi_screen.specs.Edits.{space, erased_cells, erased_part, erased_display, erased_line, erased_characters, deleted_characters, inserted_characters, rows_up, rows_down, scrolled_up, scrolled_down, inserted_lines, deleted_lines, index, reverse_index};
+ghost use Rattle.ansi_screen.specs.Edits.{space, row_going_on, erased_cells, erased_part, erased_display, erased_line, erased_characters, deleted_characters, inserted_characters, rows_up, rows_down, scrolled_up, scrolled_down, inserted_lines, deleted_lines, index, reverse_index};
 
 use super::Display;
 use crate::cell::Cell;
@@ -74,6 +74,14 @@ impl Display {
         self.erase_cells(here, end.min(here + usize::from(count)));
     }
 
+    /// Says whether the cursor's row goes on in the next.
+    pub(super) fn set_goes_on(&mut self, on: bool)
+        ensures { self.new ≡ row_going_on on self.old }
+    {
+        let end = self.row_start() + self.width;
+        self.cells.set_goes_on(end, on);
+    }
+
     /// DCH
     #[tactic(auto, unfolding(crate::specs::Edits::deleted_characters))]
     pub(super) fn delete_characters(&mut self, count: u16)
@@ -83,6 +91,7 @@ impl Display {
         let here = self.here();
         let end = self.row_start() + self.width;
         let space = self.space();
+        self.cells.set_goes_on(end, false);
         self.cells.delete(here, end, usize::from(count), space);
     }
 
@@ -97,6 +106,7 @@ impl Display {
         let here = self.here();
         let end = self.row_start() + self.width;
         let space = self.space();
+        self.cells.set_goes_on(end, false);
         self.cells.insert(here, end, usize::from(count), space);
     }
 

@@ -99,6 +99,7 @@ impl Display {
     {
         if self.width < self.cursor.column + usize::from(columns) {
             if self.wraps {
+                self.set_goes_on(true);
                 self.to_column(0);
                 self.index();
             } else {

@@ -1,6 +1,8 @@
 //! What the text of a screen does not say: styles, halves, the cursor. Rows of text stand in
 //! tests/screen_twin.
-use ansi_screen::laws::{determined, enclosed, plain_text, reachable, reset, rewritten, show};
+use ansi_screen::laws::{
+    determined, enclosed, plain_text, reachable, reset, rewritten, rows_leave, show,
+};
 use ansi_screen::{
     Cell, Charsets, MAX_COLUMNS, MAX_ROWS, MIN_COLUMNS, MIN_ROWS, Marks, Part, Place, Screen,
 };
@@ -44,6 +46,7 @@ fn cell(character: char, style: Style, part: Part) -> Cell {
         marks: Marks::Unmarked,
         style,
         part,
+        goes_on: false,
     }
 }
 
@@ -64,7 +67,7 @@ fn styles(rt: HostRuntime) -> Result<(), Fail> {
     };
     assert_eq!(rt; row[0], cell('a', selected, Part::Whole));
     assert_eq!(rt; row[1], cell('b', Style::default(), Part::Whole));
-    assert_eq!(rt; row[7], cell(' ', erased, Part::Whole));
+    assert_eq!(rt; row[7], cell(' ', erased, Part::Empty));
     Ok(())
 }
 
@@ -76,7 +79,7 @@ fn halves(rt: HostRuntime) -> Result<(), Fail> {
     let [first, second] = [screen.row(0), screen.row(1)];
     assert_eq!(rt; first[1], cell('漢', plain, Part::Left));
     assert_eq!(rt; first[2], cell(' ', plain, Part::Right));
-    assert_eq!(rt; second[0], cell(' ', plain, Part::Whole));
+    assert_eq!(rt; second[0], cell(' ', plain, Part::Empty));
     assert_eq!(rt; second[1], cell('x', plain, Part::Whole));
     Ok(())
 }
@@ -131,6 +134,7 @@ fn a_screen_shows_a_stream(rt: HostRuntime) -> Result<(), Fail> {
     enclosed();
     plain_text();
     rewritten();
+    rows_leave();
     reset();
     assert_eq!(rt; screen.rows(), 1);
     assert_eq!(rt; screen.columns(), 2);
@@ -141,6 +145,7 @@ fn a_screen_shows_a_stream(rt: HostRuntime) -> Result<(), Fail> {
         marks: Marks::One('\u{301}'),
         style,
         part: Part::Whole,
+        goes_on: false,
     };
     assert_eq!(rt; screen.row(0)[1], cell);
     let place = Place {

@@ -1,7 +1,7 @@
--- The words of the program.
+-- The size of a screen.
 use Rattle.std.specs.Prelude.{◌≤◌}
 use Rattle.ansi_screen.specs.declared.screen.TheConstants.{MIN_COLUMNS, MAX_COLUMNS, MIN_ROWS, MAX_ROWS}
-use Rattle.ansi2screen.specs.declared.words.Size.{Size}
+use Rattle.ansi_screen.specs.declared.size.Size.{Size}
 
 -- a size that a screen can have
 abbrev pub IsTaken : Size → Type 0

@@ -1,0 +1,153 @@
+//! A screen of which no row is lost: what scrolls off at its top is handed on.
+ghost use Rattle.std.specs.Prelude.{◌≡◌, ◌≤◌, List, ◌∷◌};
+ghost use Rattle.ansi_screen.specs.declared.cell.Cell.{Cell as ACell};
+ghost use Rattle.ansi_screen.specs.Leaving.{TakesRows, first_rows};
+
+use crate::cell::Cell;
+use crate::display::Display;
+use crate::screen::Screen;
+use anstyle_parse::{Params, Perform};
+
+/// Takes rows, one after another.
+pub trait TakeRow {
+    // What a row does to it: as it was, the row's cells, as it is then.
+    ghost takes: { Self → List ACell → Self → Type 0 };
+
+    // What handing on what it holds back does to it.
+    ghost passes_on: { Self → Self → Type 0 };
+
+    /// Takes the cells of a row.
+    fn take_row(&mut self, row: &[Cell])
+        ensures { takes self.old row.now self.new };
+
+    /// Hands on what it holds back, as a writer may of rows that it has taken.
+    fn pass_on(&mut self)
+        ensures { passes_on self.old self.new };
+}
+
+/// A screen, and a taker to which each row of the main screen that scrolls off at the top is handed,
+/// before it is gone: in order, each once. A row that autowrap left is handed on as one that goes on.
+///
+/// Such rows leave by LF, VT, FF, IND, NEL, SU and autowrap, where the upper margin is the first row. No
+/// row leaves by DL or ED, which take away what they are told to, nor from the alternate screen.
+#[derive(Drop)]
+pub struct Scrolling<R> {
+    screen: Screen,
+    taker: R,
+}
+
+/// Hands the first rows on.
+fn hand_on<R: TakeRow>(display: &Display, count: usize, taker: &mut R)
+    requires { count ≤ display.now.height }
+    ensures { TakesRows R.takes taker.old (first_rows count display.now) taker.new }
+{
+    for row in 0..count {
+        taker.take_row(display.row(row));
+    }
+}
+
+impl<R: TakeRow> Scrolling<R> {
+    ghost use Rattle.ansi_screen.specs.Leaving.{screen_of, taker_of};
+
+    /// One with this screen, of which no row has left yet.
+    pub fn new(screen: Screen, taker: R) -> Scrolling<R>
+        ensures screen { screen_of result ≡ screen }
+        ensures taker { taker_of result ≡ taker }
+    {
+        Scrolling { screen, taker }
+    }
+
+    /// The screen.
+    pub fn screen(&self) -> &Screen
+        ensures { result.now ≡ screen_of self.now }
+    {
+        &self.screen
+    }
+
+    /// What takes the rows.
+    pub fn taker(&self) -> &R
+        ensures { result.now ≡ taker_of self.now }
+    {
+        &self.taker
+    }
+
+    /// What takes the rows hands on what it holds back; the screen stays.
+    pub fn pass_on(&mut self)
+        ensures screen { screen_of self.new ≡ screen_of self.old }
+        ensures taker { R.passes_on (taker_of self.old) (taker_of self.new) }
+    {
+        self.taker.pass_on();
+    }
+
+    /// The screen, and what took the rows.
+    pub fn into_parts(self) -> (Screen, R)
+        ensures screen { result.0 ≡ screen_of self }
+        ensures taker { result.1 ≡ taker_of self }
+    {
+        let Scrolling { screen, taker } = self;
+        (screen, taker)
+    }
+
+    /// Hands so many rows of the screen on, from the first: as at the end of a stream, where they still
+    /// show.
+    pub fn hand_on(&mut self, count: usize)
+        requires { count ≤ (screen_of self.old).display.height }
+        ensures screen { screen_of self.new ≡ screen_of self.old }
+        ensures taken { TakesRows R.takes (taker_of self.old) (first_rows count (screen_of self.old).display) (taker_of self.new) }
+    {
+        hand_on(self.screen.display(), count, &mut self.taker);
+    }
+}
+
+/// After each call the rows that left by it are taken, and the screen is the one after the call.
+impl<R: TakeRow> Perform for Scrolling<R> {
+    ghost use Rattle.ansi_screen.specs.Leaving.{Scrolls};
+
+    ghost means = { Scrolls R.takes };
+
+    fn print(&mut self, c: char) {
+        let count = self.screen.begin_print(c);
+        self.hand_on(count);
+        self.screen.print(c);
+    }
+
+    fn execute(&mut self, byte: u8) {
+        let count = self.screen.display().leaving_by_control(byte);
+        self.hand_on(count);
+        self.screen.execute(byte);
+    }
+
+    fn hook(&mut self, params: &Params, intermediates: &[u8], ignore: bool, action: u8) {
+        self.screen.hook(params, intermediates, ignore, action);
+    }
+
+    fn put(&mut self, byte: u8) {
+        self.screen.put(byte);
+    }
+
+    fn unhook(&mut self) {
+        self.screen.unhook();
+    }
+
+    fn osc_dispatch(&mut self, params: &[&[u8]], bell_terminated: bool) {
+        self.screen.osc_dispatch(params, bell_terminated);
+    }
+
+    fn csi_dispatch(&mut self, params: &Params, intermediates: &[u8], ignore: bool, action: u8) {
+        if !ignore {
+            let display = self.screen.display();
+            let count = display.leaving_by_sequence(params, intermediates, action);
+            self.hand_on(count);
+        }
+        self.screen
+            .csi_dispatch(params, intermediates, ignore, action);
+    }
+
+    fn esc_dispatch(&mut self, intermediates: &[u8], ignore: bool, byte: u8) {
+        if !ignore {
+            let count = self.screen.display().leaving_by_escape(intermediates, byte);
+            self.hand_on(count);
+        }
+        self.screen.esc_dispatch(intermediates, ignore, byte);
+    }
+}

@@ -1,0 +1,52 @@
+//! The size of a screen, and how a text says it.
+ghost use Rattle.std.specs.Prelude.{IfSome};
+ghost use Rattle.ansi_screen.specs.Size.{IsTaken};
+
+use crate::screen::{MAX_COLUMNS, MAX_ROWS, MIN_COLUMNS, MIN_ROWS};
+
+/// The size of a screen.
+#[derive(Clone, Copy, Debug, PartialEq, Eq)]
+pub struct Size {
+    pub columns: usize,
+    pub rows: usize,
+}
+
+impl Size {
+    /// 80 columns and 24 rows, as of the VT100 and of terminals that are told nothing else.
+    pub fn of_a_terminal() -> Size
+        ensures { IsTaken result }
+    {
+        Size {
+            columns: 80,
+            rows: 24,
+        }
+    }
+
+    /// The size that a text says, COLUMNSxROWS, of 2 to 1,000 columns and 1 to 1,000 rows, in decimal.
+    /// `None` for a text that says none.
+    pub fn parse(text: &str) -> Option<Size>
+        ensures { IfSome result IsTaken }
+    {
+        let (columns, rows) = text.split_once('x')?;
+        let size = Size {
+            columns: number(columns)?,
+            rows: number(rows)?,
+        };
+        let is_taken = MIN_COLUMNS <= size.columns
+            && size.columns <= MAX_COLUMNS
+            && MIN_ROWS <= size.rows
+            && size.rows <= MAX_ROWS;
+        if is_taken { Some(size) } else { None }
+    }
+}
+
+/// A number in decimal: digits alone.
+fn number(text: &str) -> Option<usize> {
+    if text.starts_with('+') {
+        return None;
+    }
+    match text.parse::<u16>() {
+        Ok(number) => Some(usize::from(number)),
+        Err(_) => None,
+    }
+}

@@ -1,0 +1,90 @@
+//! Rows that leave a screen, and what it showed as text. Streams stand in tests/screen_twin.
+use ansi_screen::laws::scrolled_off;
+use ansi_screen::{Cell, Part, Screen, Scrolling, Size, TakeRow, put_cells};
+use ansi_style::Style;
+use anstyle_parse::io::{FromRead, FromWrite, Output, write_calls_by};
+use screen_text::laws::clean;
+use screen_text::{ShownWriter, write_shown};
+use std::test::Fail;
+
+/// Counts the rows that it takes, and keeps whether the last one goes on.
+#[derive(Drop)]
+struct Counter {
+    count: usize,
+    goes_on: bool,
+}
+
+impl TakeRow for Counter {
+    ghost use Rattle.std.specs.Prelude.{⊤};
+
+    ghost takes = { λ _ _ _. ⊤ };
+
+    ghost passes_on = { λ _ _. ⊤ };
+
+    fn take_row(&mut self, row: &[Cell]) {
+        self.count = self.count.saturating_add(1);
+        self.goes_on = row.last().is_some_and(|cell| cell.goes_on);
+    }
+
+    fn pass_on(&mut self) {}
+}
+
+// A screen of one row too: the row that a character wraps from goes on.
+#[test]
+fn rows_that_leave(rt: HostRuntime) -> Result<(), Fail> {
+    let counter = Counter {
+        count: 0,
+        goes_on: false,
+    };
+    let mut scrolling = Scrolling::new(Screen::new(rt.alloc(), 3, 1)?, counter);
+    scrolled_off(&mut scrolling, &[b"ab\r\n\x1b[S", b"abc", b"d"]);
+    scrolling.pass_on();
+    assert_eq!(rt; scrolling.taker().count, 3);
+    assert!(rt; scrolling.taker().goes_on);
+    assert_eq!(rt; scrolling.screen().rows(), 1);
+    scrolling.hand_on(1);
+    let (screen, counter) = scrolling.into_parts();
+    assert!(rt; counter.count == 4 && !counter.goes_on);
+    assert_eq!(rt; screen.columns(), 3);
+    assert!(rt; matches!(screen.row(0)[1].part, Part::Empty));
+    Ok(())
+}
+
+#[test]
+fn what_was_shown(rt: HostRuntime) -> Result<(), Fail> {
+    let screen = Screen::new(rt.alloc(), 4, 2)?;
+    let mut reader = FromRead::new(b"10%\r20%\nlonger\n\x1b[31m ok \n".as_slice());
+    let (writer, answer) = write_shown(screen, &mut reader, FromWrite::new(Vec::new(rt.alloc())));
+    assert_eq!(rt; answer, Ok(()));
+    let written = writer.into_inner();
+    assert_eq!(rt; written.as_slice(), b"20%\nlonger\n ok \n".as_slice());
+    clean();
+    Ok(())
+}
+
+// By hand: what came before counts as written.
+#[test]
+fn a_writer_that_is_given(rt: HostRuntime) -> Result<(), Fail> {
+    let mut output = Output::new(FromWrite::new(Vec::new(rt.alloc())));
+    put_cells(&mut output, &[Cell::blank(Style::default())]);
+    let performer = ShownWriter::new(Screen::new(rt.alloc(), 2, 1)?, output);
+    let mut reader = FromRead::new("\u{6F22}\u{5B57}".as_bytes());
+    let (writer, answer) = write_calls_by(performer, &mut reader, b".");
+    assert_eq!(rt; answer, Ok(()));
+    let written = writer.into_inner();
+    assert_eq!(rt; written.as_slice(), " \u{6F22}\u{5B57}\n.".as_bytes());
+    Ok(())
+}
+
+#[test]
+fn sizes(rt: HostRuntime) -> Result<(), Fail> {
+    let size = Size {
+        columns: 120,
+        rows: 40,
+    };
+    assert_eq!(rt; Size::parse("120x40"), Some(size));
+    assert_eq!(rt; Size::parse("120"), None);
+    let usual = Size::of_a_terminal();
+    assert_eq!(rt; (usual.columns, usual.rows), (80, 24));
+    Ok(())
+}

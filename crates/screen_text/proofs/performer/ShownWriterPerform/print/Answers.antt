@@ -1,0 +1,6 @@
+-- The screen has received it.
+use Rattle.screen_text.proofs.ShownLemmas.{scrolls-shows}
+use Rattle.screen_text.proofs.performer.ShownWriterPerform.print.Goals as goal
+
+pub returns : goal.returns
+returns g c = scrolls-shows g.W.Sink _ c.args.self.now (record { scrolling = c.print.new.self }) c.print.ensures

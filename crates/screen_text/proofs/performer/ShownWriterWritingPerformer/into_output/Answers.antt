@@ -1,0 +1,10 @@
+-- The rows that still show, and the end of the last line.
+use Rattle.ansi_screen.specs.Leaving.{screen_of, taker_of}
+use Rattle.screen_text.proofs.ShownLemmas.{adds-ending}
+use Rattle.screen_text.proofs.performer.ShownWriterWritingPerformer.into_output.Goals as goal
+
+pub returns : goal.returns
+returns g c =
+    adds-ending g.W.Sink (screen_of c.args.self.scrolling) c.screen.result.now c.used_rows-count.result
+    (taker_of c.args.self.scrolling) (taker_of c.hand_on.new.self) c.into_parts-screen.result.1 c.into_output.result
+    c.screen.ensures c.used_rows-count.ensures.used c.hand_on.ensures.taken c.into_parts-screen.ensures.taker c.into_output.ensures

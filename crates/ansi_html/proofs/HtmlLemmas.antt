@@ -4,7 +4,7 @@ use Rattle.std.specs.Prelude.{not, encode_utf8, if◌then◌else◌}
 use Rattle.std.specs.List.{AllByRecursion}
 use Rattle.std.proofs.lemmas.Grind.{flat_map-append}
 use Rattle.std.proofs.lemmas.List.{take_at}
-use Rattle.std.proofs.lemmas.Bool.{ne_eqb, cases_lt, or_parts, and_parts, eqb-true}
+use Rattle.std.proofs.lemmas.Bool.{ne_eqb, cases_lt, or_parts, and_parts}
 use Rattle.anstyle_parse.proofs.Characters.Scalars.{length-encode-some}
 use Rattle.anstyle_parse.proofs.Characters.Encoding.{encode_one, encode_two, encode_three, encode_four}
 use Rattle.ansi_strip.specs.Strip.{is_layout}
@@ -25,11 +25,6 @@ false-from_not false h = refl
 pub true-from_not : (b : Bool) → not b ≡ false → b ≡ true
 true-from_not true h = refl
 true-from_not false h = cc
-
--- the test that there is no text
-pub none_from_test : (text : List ℕ) → eqb (length text) 0 ≡ true → text ≡ []
-none_from_test [] test = refl
-none_from_test (b ∷ text) test = absurd (omega (arith, eqb-true (length (b ∷ text)) 0 test))
 
 -- text that is not empty
 text_html-some : (styling : Styling) (at : Standing) (is_line_feed : Bool) (bytes : List ℕ) → 0 < length bytes

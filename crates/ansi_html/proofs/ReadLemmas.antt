@@ -1,8 +1,9 @@
 -- What a reader reads of the HTML.
-use Rattle.std.proofs.Common.{◌≡◌, ℕ, Bool, true, false, ◌&&◌, eqb, List, [], ◌∷◌, ◌++◌, codes, map, refl, sym, ap, ap₂, ◌∙◌, subst, append_assoc, append-nil, ⊎_elim}
+use Rattle.std.proofs.Common.{◌≡◌, ℕ, Bool, true, false, ◌&&◌, eqb, List, [], ◌∷◌, ◌++◌, codes, length, map, refl, sym, ap, ap₂, ◌∙◌, subst, append_assoc, append-nil, ⊎_elim}
 use Rattle.std.specs.Prelude.{not, if◌then◌else◌}
 use Rattle.std.specs.List.{list_all, flat_map}
 use Rattle.std.proofs.lemmas.Bool.{and_parts, or_cases, or_parts, eqb-true}
+use Rattle.std.proofs.lemmas.List.{nil_from_length}
 use Rattle.std.proofs.lemmas.Grind.{flat_map-append}
 use Rattle.anstyle_parse.specs.Stream.Call.{Call}
 use Rattle.ansi_strip.specs.Strip.{stripped_call, stripped}
@@ -17,7 +18,7 @@ use Rattle.ansi_html.specs.Links.{is_none}
 use Rattle.ansi_html.specs.Grammar.{is_special}
 use Rattle.ansi_html.specs.Html.{escaped, escaped_text, is_plain, span_begin, span_end, Element, no_element, are_same, value_of, element_value, attribute_text, link_begin, element_begin, element_end, element_after, change, Standing, at_start, line_break, after_text, is_executed, text_html, call_html, standing_after, html_from, standing_at_end, html}
 use Rattle.ansi_html.specs.Reader.{Attributes, no_attributes, Shown, under, byte_of, in_text, in_tag, in_value, in_value_reference, with_attribute, attributes_by, attributes_of, Seen, text, break, seen_from, seen, read_of, read, shown_from}
-use Rattle.ansi_html.proofs.HtmlLemmas.{escaped-clear, none_from_test, are_same-same}
+use Rattle.ansi_html.proofs.HtmlLemmas.{escaped-clear, are_same-same}
 use Rattle.ansi_html.proofs.DeclarationLemmas.{is_safe, AreSafe, not_quote-safe, not_ampersand-safe}
 use Rattle.ansi_html.proofs.ClassLemmas.{AreSafe-value, AreSafe-element_value}
 use Rattle.ansi_html.proofs.NewlineLemmas.{normalized-escaped, normalized-html}
@@ -181,7 +182,7 @@ module _ (rest : List ℕ) where
   attributes-none : (styling : Styling) (element : Element) → is_none element.link ≡ true → attributes_of styling element ≡ spanned styling element.style
   attributes-none styling element none =
       ap₂ (λ (is : Bool) (link : List ℕ). attributes_by styling (if is then value_of styling false element.style else value_of styling true element.style) link)
-      none (none_from_test element.link none)
+      none (nil_from_length element.link (eqb-true (length element.link) 0 none))
 
   seen-element_begin : (styling : Styling) (element : Element)
       → seen_from (in_text no_attributes) (element_begin styling element ++ rest) ≡ seen_from (in_text (attributes_of styling element)) rest

@@ -54,11 +54,10 @@ use stylesheet::put_all;
 /// return. `& < > " '` and a carriage return are written as character references, and text that is
 /// not plain stands in `<span style="…">…</span>`, or in `<a rel="nofollow noreferrer" href="…"
 /// style="…">…</a>` where it has a link (OSC 8): one for each run of equal style and link. By classes
-/// the attribute is `class`. A link is
-/// shown where its URI begins with `https://`, `http://` or `mailto:`, has the bytes 21 to 7E only, and
-/// was not cut. Since a carriage return that comes by a reference ends no line, `<br>` stands before
-/// the text behind it, unless that is a line feed. Nothing else is written, so no input brings in
-/// markup.
+/// the attribute is `class`. A link is shown where its URI begins with `https://`, `http://` or `mailto:`,
+/// has the bytes 21 to 7E only, and was not cut. Since a carriage return that comes by a reference ends
+/// no line, `<br>` stands before the text behind it, unless that is a line feed. Nothing else is written,
+/// so no input brings in markup.
 ///
 /// The page has to be UTF-8, and to have a newline of its own right after `<pre>`, since a browser
 /// drops the one that stands there. For [`Scheme::Both`] it has a `color-scheme`, or it is light. For

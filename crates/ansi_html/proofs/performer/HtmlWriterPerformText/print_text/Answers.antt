@@ -1,5 +1,6 @@
-use Rattle.std.proofs.Common.{false, List, ℕ, ◌++◌, length, map, sym, ap, subst, ◌∙◌}
+use Rattle.std.proofs.Common.{false, List, ℕ, ◌++◌, length, map, eqb-true, sym, ap, subst, ◌∙◌}
 use Rattle.std.specs.Str.{chars}
+use Rattle.std.proofs.lemmas.List.{nil_from_length}
 use Rattle.std.proofs.lemmas.Str.{chars-nil}
 use Rattle.anstyle_parse.specs.Stream.Call.{Call, print}
 use Rattle.anstyle_parse.specs.Io.Output.{Adds}
@@ -7,7 +8,6 @@ use Rattle.anstyle_parse.proofs.Written.Output.{Adds-append}
 use Rattle.ansi_html.specs.AddingProof.{TakesAll-none}
 use Rattle.ansi_html.specs.Html.{beginning, escaped_text}
 use Rattle.ansi_html.specs.Writer.{output_of, styling_of, standing_of, TakesAll}
-use Rattle.ansi_html.proofs.HtmlLemmas.{none_from_test}
 use Rattle.ansi_html.proofs.PrintLemmas.{some_from_test, html_from-text, standing_at_end-text}
 use Rattle.ansi_html.proofs.performer.HtmlWriterPerformText.print_text.Goals as goal
 
@@ -30,6 +30,6 @@ returns-then-not-is_empty g c =
 pub returns-else-not-is_empty : goal.returns-else-not-is_empty
 returns-else-not-is_empty g c =
     let before = c.args.self.now in
-    let none = none_from_test c.args.text.now (sym c.is_empty.ensures ∙ c.if-not-is_empty.false) in
+    let none = nil_from_length c.args.text.now (eqb-true (length c.args.text.now) 0 (sym c.is_empty.ensures ∙ c.if-not-is_empty.false)) in
     let no_calls = ap (λ t. map print (chars t)) none ∙ ap (map print) chars-nil in
     subst (λ (calls : List Call). TakesAll g.W.Sink before calls before) (sym no_calls) (TakesAll-none g.W.Sink before)

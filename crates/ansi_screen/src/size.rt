@@ -1,6 +1,7 @@
 //! The size of a screen, and how a text says it.
-ghost use Rattle.std.specs.Prelude.{IfSome};
-ghost use Rattle.ansi_screen.specs.Size.{IsTaken};
+ghost use Rattle.std.specs.Prelude.{ℕ, ◌^◌, ◌<◌, MatchOption};
+ghost use Rattle.ansi_screen.specs.declared.size.Size.{Size as ASize};
+ghost use Rattle.ansi_screen.specs.Size.{IsTaken, IsNumber, Says};
 
 use crate::screen::{MAX_COLUMNS, MAX_ROWS, MIN_COLUMNS, MIN_ROWS};
 
@@ -25,7 +26,8 @@ impl Size {
     /// The size that a text says, COLUMNSxROWS, of 2 to 1,000 columns and 1 to 1,000 rows, in decimal.
     /// `None` for a text that says none.
     pub fn parse(text: &str) -> Option<Size>
-        ensures { IfSome result IsTaken }
+        ensures { MatchOption result ((size : ASize) → Says text.now size → ¬ (IsTaken size))
+            (λ size. Says text.now size × IsTaken size) }
     {
         let (columns, rows) = text.split_once('x')?;
         let size = Size {
@@ -40,8 +42,10 @@ impl Size {
     }
 }
 
-/// A number in decimal: digits alone.
-fn number(text: &str) -> Option<usize> {
+/// A number of at most 16 bits in decimal: digits alone.
+fn number(text: &str) -> Option<usize>
+    ensures { MatchOption result ((n : ℕ) → IsNumber text.now n → ¬ (n < 2 ^ 16)) (IsNumber text.now) }
+{
     if text.starts_with('+') {
         return None;
     }

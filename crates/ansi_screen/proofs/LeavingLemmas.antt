@@ -1,7 +1,7 @@
 -- Rows that are handed on, one after another; and a character before which a row was marked.
-use Rattle.std.proofs.Common.{◌≡◌, ℕ, zero, suc, ◌+◌, ◌-◌, Bool, true, false, List, [], ◌∷◌, ◌++◌, get_or, set, refl, ap, sym, ◌∙◌, subst, add-one}
+use Rattle.std.proofs.Common.{◌≡◌, ℕ, zero, suc, ◌+◌, ◌-◌, ◌≤◌, Bool, true, false, List, [], ◌∷◌, ◌++◌, get_or, set, refl, ap, sym, ◌∙◌, subst, add-one, arith}
 use Rattle.std.specs.Prelude.{nat_lt, ◌==◌, ◌&&◌, not, if◌then◌else◌}
-use Rattle.std.proofs.lemmas.Bool.{and_parts}
+use Rattle.std.proofs.lemmas.Bool.{and_parts, le-ltb}
 use Rattle.anstyle_parse.specs.Stream.Call.{Call, print, Goes}
 use Rattle.ansi_style.specs.Style.{plain}
 use Rattle.ansi_screen.specs.declared.cell.Cell.{Cell}
@@ -14,6 +14,7 @@ use Rattle.ansi_screen.specs.Widths.{is_shown, columns}
 use Rattle.ansi_screen.specs.Print.{wrapped, put, shown, drawn, draws, printed}
 use Rattle.ansi_screen.specs.After.{State, after, after_all, left_to_repeat}
 use Rattle.ansi_screen.specs.Leaving.{leaving, is_wrapping, before_scroll, first_rows, rows_left, all_left, TakesRows, screen_of, taker_of, Scrolls, ScrollsAll}
+use Rattle.ansi_screen.proofs.KeptCalls.{columns-few}
 use Rattle.ansi_screen.proofs.RowLemmas.{drawn-if}
 
 module _ {R : Type 0} (takes : R → List Cell → R → Type 0) where
@@ -53,6 +54,19 @@ set-twice (x ∷ cells) (suc i) = ap (λ l. x ∷ l) (set-twice cells i)
 going_on-twice : (end : ℕ) (cells : List Cell) → going_on true end (going_on true end cells) ≡ going_on true end cells
 unfolding going_on
 going_on-twice end cells = set-twice cells (end - 1)
+
+-- A character that the row has room for does not wrap.
+one_false : (a b d : Bool) → (a && b && false && d) ≡ false
+one_false true true d = refl
+one_false true false d = refl
+one_false false b d = refl
+
+pub not_wrapping : (c : ℕ) (d : Display) → d.cursor.column + 2 ≤ d.width → is_wrapping c d ≡ false
+unfolding is_wrapping
+not_wrapping c d room =
+    let few : columns c ≤ 2 = columns-few c _ _ refl refl in
+    let fits : nat_lt d.width (d.cursor.column + columns c) ≡ false = le-ltb d.width (d.cursor.column + columns c) (omega arith) in
+    rw fits (one_false (is_shown c) (not (columns c == 0)) d.wraps)
 
 picked : (t : Bool) (a b : Display) → t ≡ true → (if t then a else b) ≡ a
 picked true a b is = refl

@@ -154,7 +154,7 @@ impl Grid {
         ensures cells { self.new ≡ within first last (moved_back count blank) self.old }
         ensures length { length self.new ≡ length self.old }
     {
-        if last - first == self.size && self.size <= self.memory.len() - self.size {
+        if last - first == self.size {
             let (start, size) = (self.start, self.size);
             self.start = go_on(self.memory.as_mut_slice(), start, size, count, blank);
         } else {
@@ -165,32 +165,33 @@ impl Grid {
 }
 
 /// The window of so many cells from `start` on goes on by as many as `count`, and blanks come into
-/// it. The answer is where it begins then. Where there is no more room, all go to the front first.
+/// it. The answer is where it begins then.
 fn go_on(memory: &mut [Cell], start: usize, size: usize, count: usize, blank: Cell) -> usize
     requires window { start + size ≤ length memory.old }
-    requires room { size + size ≤ length memory.old }
     ensures window { result + size ≤ length memory.new }
     ensures cells { take size (drop result memory.new) ≡ moved_back count blank (take size (drop start memory.old)) }
 {
     let count = count.min(size);
-    let first = with_room(memory, start, size, count);
-    clear(memory, first + size, first + size + count, blank);
-    first + count
+    let kept = size - count;
+    let first = with_room(memory, start + count, kept, size);
+    clear(memory, first + kept, first + size, blank);
+    first
 }
 
-/// Where the window begins then: where it was, if there is room for so many cells behind it, and
-/// else at the front, to which all cells go.
-fn with_room(memory: &mut [Cell], start: usize, size: usize, count: usize) -> usize
-    requires window { start + size ≤ length memory.old }
-    requires room { size + count ≤ length memory.old }
+/// Where a window of so many cells has room whose first are the `kept` ones from `start` on: there, or
+/// else at the front, to which these go.
+fn with_room(memory: &mut [Cell], start: usize, kept: usize, size: usize) -> usize
+    requires few { kept ≤ size }
+    requires kept { start + kept ≤ length memory.old }
+    requires room { size ≤ length memory.old }
     ensures length { length memory.new ≡ length memory.old }
-    ensures room { result + size + count ≤ length memory.new }
-    ensures cells { take size (drop result memory.new) ≡ take size (drop start memory.old) }
+    ensures room { result + size ≤ length memory.new }
+    ensures cells { take kept (drop result memory.new) ≡ take kept (drop start memory.old) }
 {
-    if start + size + count <= memory.len() {
+    if start + size <= memory.len() {
         start
     } else {
-        memory.rotate_left(start);
+        memory.copy_within(start..start + kept, 0);
         0
     }
 }

@@ -9,6 +9,9 @@ use crate::function::{Function, Setting};
 use crate::width::{columns, is_shown};
 use anstyle_parse::Params;
 
+/// A character takes no more columns.
+const MOST_COLUMNS: usize = 2;
+
 impl Display {
     /// Of so many rows that scroll up within the margins.
     #[tactic(auto, unfolding(crate::specs::Leaving::leaving_up))]
@@ -41,6 +44,9 @@ impl Display {
     fn is_wrapping(&self, c: char) -> bool
         ensures { result ≡ is_wrapping c self.now }
     {
+        if self.cursor.column + MOST_COLUMNS <= self.width {
+            return false;
+        }
         let columns = columns(c);
         is_shown(c)
             && columns != 0

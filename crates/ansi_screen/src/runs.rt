@@ -24,7 +24,7 @@ pub(crate) fn move_back(run: &mut [Cell], count: usize, blank: Cell)
 {
     let count = count.min(run.len());
     let kept = run.len() - count;
-    run.rotate_left(count);
+    run.copy_within(count.., 0);
     run[kept..].fill(blank);
 }
 
@@ -33,7 +33,8 @@ pub(crate) fn move_on(run: &mut [Cell], count: usize, blank: Cell)
     ensures { run.new ≡ moved_on count blank run.old }
 {
     let count = count.min(run.len());
-    run.rotate_right(count);
+    let kept = run.len() - count;
+    run.copy_within(..kept, count);
     run[..count].fill(blank);
 }
 

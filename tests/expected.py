@@ -363,7 +363,6 @@ STRIP_HOSTILE = [
 ]
 
 
-
 BOX = "┌─┐\n│ │\n└─┘\n".encode()
 
 # What a person sees, with what scrolled off.
@@ -389,6 +388,24 @@ SHOWN_ROWS = [
     ("rows deleted at the top", b"a\nb\x1b[H\x1b[M", b"b\n"),
     ("an erased screen", b"a\n\x1b[2J\x1b[Hb", b"b\n"),
     ("colours, titles and a broken character", b"\x1b[31m\x1b]0;t\x07a\xc3\x1b[mb\n", b"a\xef\xbf\xbdb\n"),
+]
+
+SCROLLS = 2_000_000  # the bytes of a stream of which each few move a whole screen
+WIDE = "漢".encode()
+
+
+def line_of(unit, count):
+    return lambda: [unit * count, b"\n"]
+
+
+# By line feeds alone blank rows scroll off, from the 24th on; those that still show are left out.
+SHOWN_HOSTILE = [
+    ("line feeds", times(b"\n", SCROLLS), times(b"\n", SCROLLS - 23)),
+    ("one line that wraps", times(b"a", SCROLLS), line_of(b"a", SCROLLS)),
+    ("wide characters", times(WIDE, SCROLLS // 3), line_of(WIDE, SCROLLS // 3)),
+    ("SU of 65535", times(b"\x1b[65535S", SCROLLS // 8), times(b"\n", 24 * (SCROLLS // 8))),
+    ("resets", times(b"A\x1bc", SCROLLS // 3), text(b"")),
+    ("the alternate screen", times(b"\x1b[?1049hA\x1b[?1049l", SCROLLS // 17), text(b"")),
 ]
 
 
@@ -662,7 +679,7 @@ PROGRAMS = [
         + [(["--shown", "--shown=0x0"], WRONG_SIZE)],
         [
             Mode([], STRIP_ROWS, (b"\x1b[1mA\n", b"A\n"), STRIP_HOSTILE, stays=True, cut=STRIP_CUT),
-            Mode(["--shown"], SHOWN_ROWS, (b"\x1b[1mA\n", b"A\n"), [], stays=True, waits=True),
+            Mode(["--shown"], SHOWN_ROWS, (b"\x1b[1mA\n", b"A\n"), SHOWN_HOSTILE, stays=True, waits=True),
             Mode(["--shown=9x9", "--shown=80x24"], SHOWN_ROWS[-3:], (b"A\b\n", b"A\n"), [], stays=True, waits=True),
         ],
         options=["--shown", "--shown=COLUMNSxROWS"],

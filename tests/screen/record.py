@@ -6,7 +6,7 @@ Usage: tests/screen/record.py FOLDER [NAME]..
 Each program runs on a terminal of its own of 80 columns and 24 rows; what it wrote stands in
 FOLDER/NAME. pip and npm download a package of this script's own, from a server of its own on this
 machine that hands it out slowly, as curl does; git clones this repository; apt-get, run by root,
-installs less anew; docker, the client, pulls an image that the same server says to have, as an engine
+installs less anew; cargo builds crates of its own; docker, the client, pulls an image that the same server says to have, as an engine
 would. Programs that are not installed are left out, and said.
 """
 
@@ -31,6 +31,10 @@ ROWS, COLUMNS = 24, 80
 SIZE, PIECE, PAUSE = 3 << 20, 1 << 17, 0.1
 NPM = "npm install --registry=AT --cache=INTO/cache --no-audit --no-fund --no-update-notifier slow"
 PIP = "python3 -m pip --isolated --disable-pip-version-check download --no-cache-dir --index-url=AT/simple -d INTO slow"
+# A workspace of crates that are built one after another; its bar comes after half a second.
+CRATES = "for it in alpha beta gamma delta epsilon; do cargo new -q --vcs=none --lib $it; done"
+WORKSPACE = "printf '[workspace]\\nmembers = [\"*\"]\\nexclude = [\"target\"]\\n' > Cargo.toml"
+CARGO = "cd INTO && %s && %s && CARGO_TERM_PROGRESS_WHEN=always CARGO_TERM_PROGRESS_WIDTH=60 cargo build -j1" % (CRATES, WORKSPACE)
 WHEEL = "slow-1.0-py3-none-any.whl"
 
 # What the engine says of a layer as it comes, in this order; the last two have a progress.
@@ -40,6 +44,7 @@ STEPS = "Pulling fs layer", "Waiting", "Downloading", "Verifying Checksum", "Dow
 # name: the command, in which AT is the server and INTO an empty folder, and for how many seconds it runs at most
 PROGRAMS = {
     "apt": ("apt-get install --reinstall -y -o Dpkg::Progress-Fancy=1 -o Dir::Ignore-Files-Silently::=. less", 60),
+    "cargo": (CARGO, 60),
     "curl": ("curl -o /dev/null AT/slow.tgz", 20),
     "curl_bar": ("curl -# -o /dev/null AT/slow.tgz", 20),
     "docker": ("DOCKER_CONFIG=INTO docker --host=tcp:AT pull slow", 30),

@@ -2,21 +2,25 @@
 //! what an adapter does where the stream within fails. What the programs say then, and that their
 //! text stands as far as it went, is in tests/programs.
 use ansi_html::{Scheme, Styling, convert};
+use ansi_screen::Screen;
 use ansi_strip::strip;
 use anstyle_parse::canon::{CanonWriter, Fault, FromRead, FromWrite, write_calls};
+use screen_text::write_shown;
 use std::io::ErrorKind;
 use std::process::Abort;
 use test_streams::{Paper, TROUBLES, Tape};
 
-/// What is written of the calls; of HTML between `a` and `z`.
+/// What is written of the calls; of HTML between `a` and `z`, and what a screen of three columns and one row
+/// showed.
 #[derive(Debug, Clone, Copy, PartialEq, Eq)]
 enum Form {
     Canon,
     Stripped,
     Html,
+    Shown,
 }
 
-const FORMS: [Form; 3] = [Form::Canon, Form::Stripped, Form::Html];
+const FORMS: [Form; 4] = [Form::Canon, Form::Stripped, Form::Html, Form::Shown];
 
 /// The HTML of the first six bytes, and of all: the span is still open where they end.
 const RED: &[u8] = b"a<span style=\"color:#cf222e;color:light-dark(#cf222e,#ff7b72);\">h</span>z";
@@ -32,6 +36,7 @@ impl Form {
             Form::Canon => b"\x1b]0;x\x1b\\",
             Form::Stripped => b"\x1b[31mhi\x07\x1b[0m\n",
             Form::Html => b"\x1b[31mh\x1b[1mi",
+            Form::Shown => b"ab\ncd",
         }
     }
 
@@ -48,11 +53,17 @@ impl Form {
             (Form::Html, 0..=5) => b"az",
             (Form::Html, 6..=10) => RED,
             (Form::Html, _) => BOLD_RED,
+            (Form::Shown, 0) => b"",
+            (Form::Shown, 1) => b"a\n",
+            (Form::Shown, 2..=3) => b"ab\n",
+            (Form::Shown, 4) => b"ab\nc\n",
+            (Form::Shown, _) => b"ab\ncd\n",
         }
     }
 
     /// How many reads are made where a write fails after so many bytes. Before the head is
-    /// written nothing is read; what closes a span is written before further text or at the end.
+    /// written nothing is read; what closes a span is written before further text or at the end. A row is
+    /// written when it scrolls off or at the end.
     fn reads(self, room: usize) -> u64 {
         match (self, room) {
             (Form::Canon, 0..=7) => 6,
@@ -64,6 +75,8 @@ impl Form {
             (Form::Html, 1..=64) => 6,
             (Form::Html, 65..=152) => 11,
             (Form::Html, _) => 12,
+            (Form::Shown, 0..=2) => 3,
+            (Form::Shown, _) => 6,
         }
     }
 }
@@ -74,6 +87,7 @@ type Writer = FromWrite<Paper>;
 
 /// What a run answers, and its reader and writer afterwards.
 fn run_over<'a>(
+    rt: &impl AllocGlobal,
     form: Form,
     tape: Tape<'a>,
     paper: Paper,
@@ -90,13 +104,17 @@ fn run_over<'a>(
             writer,
             b"z",
         ),
+        Form::Shown => match Screen::new(rt.alloc(), 3, 1) {
+            Ok(screen) => write_shown(screen, &mut reader, writer),
+            Err(_) => (writer, Err(Fault::Read)),
+        },
     };
     (reader, writer, answer)
 }
 
 /// What a run answers and writes, and how many reads and flushes it makes. Answers how many writes.
 fn assert_run(
-    rt: &impl Abort,
+    rt: &(impl Abort + AllocGlobal),
     form: Form,
     tape: Tape<'_>,
     paper: Paper,
@@ -104,7 +122,7 @@ fn assert_run(
     text: &[u8],
     calls: [u64; 2],
 ) -> u64 {
-    let (reader, writer, answered) = run_over(form, tape, paper);
+    let (reader, writer, answered) = run_over(rt, form, tape, paper);
     let (tape, paper) = (reader.into_inner(), writer.into_inner());
     assert!(rt;
         answered == answer,
@@ -271,18 +289,19 @@ fn two_rows(rt: HostRuntime) {
     for error in [ErrorKind::Other, ErrorKind::Interrupted] {
         assert_letter(&rt, Form::Stripped, b"a", error);
         assert_letter(&rt, Form::Html, b"aaz", error);
+        assert_letter(&rt, Form::Shown, b"a\n", error);
     }
 }
 
 /// The error that reader and writer keep is that of the call that failed, of whatever kind.
 fn assert_errors(
-    rt: &impl Abort,
+    rt: &(impl Abort + AllocGlobal),
     tape: Tape<'_>,
     paper: Paper,
     read_error: Option<ErrorKind>,
     write_error: Option<ErrorKind>,
 ) {
-    let (reader, writer, _) = run_over(Form::Stripped, tape, paper);
+    let (reader, writer, _) = run_over(rt, Form::Stripped, tape, paper);
     assert!(rt; reader.error().map(|it| it.kind()) == read_error);
     assert!(rt; writer.error().map(|it| it.kind()) == write_error);
 }

@@ -432,7 +432,7 @@ shown-wrote c d false is s fits =
     let some : columns c ≡ 0 → ⊥ = eqb-false (columns c) 0 is in
     rw is (put-wrote (columns c) c d s (omega arith) (columns-few c _ _ refl refl) fits)
 
-printed-wrote : (c : ℕ) (d : Display) (t : Bool) → is_shown c ≡ t → IsScreen d
+pub printed-wrote : (c : ℕ) (d : Display) (t : Bool) → is_shown c ≡ t → IsScreen d
     → d.cursor.column + columns c ≤ d.width → Wrote (columns c) d (printed c d)
 unfolding printed
 printed-wrote c d true is s fits =

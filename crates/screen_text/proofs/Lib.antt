@@ -1,2 +1,4 @@
 pub mod CleanLemmas
 pub mod ShownLemmas
+pub mod EndLemmas
+pub mod RewrittenLemmas

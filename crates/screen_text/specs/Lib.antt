@@ -1,4 +1,5 @@
 pub mod Lines
 pub mod Shown
 pub mod Writer
+pub mod Laws
 pub mod ShowingProof

@@ -20,11 +20,11 @@ pub open_after-append : (on : Bool) (rows more : List (List Cell)) → open_afte
 open_after-append on [] more = refl
 open_after-append on (row ∷ rows) more = open_after-append (goes_on row) rows more
 
-after_all-append : (first second : List Call) (s : State) → after_all (first ++ second) s ≡ after_all second (after_all first s)
+pub after_all-append : (first second : List Call) (s : State) → after_all (first ++ second) s ≡ after_all second (after_all first s)
 after_all-append [] second s = refl
 after_all-append (call ∷ calls) second s = after_all-append calls second (after call s)
 
-all_left-append : (calls more : List Call) (s : State) → all_left (calls ++ more) s ≡ all_left calls s ++ all_left more (after_all calls s)
+pub all_left-append : (calls more : List Call) (s : State) → all_left (calls ++ more) s ≡ all_left calls s ++ all_left more (after_all calls s)
 all_left-append [] more s = refl
 all_left-append (call ∷ calls) more s =
     ap (λ rows. rows_left call s.display ++ rows) (all_left-append calls more (after call s))

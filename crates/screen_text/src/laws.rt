@@ -1,14 +1,35 @@
 //! Laws of what a screen showed. Each is the contract of a function that does nothing.
-ghost use Rattle.std.specs.Prelude.{ℕ, List};
+ghost use Rattle.std.specs.Prelude.{◌≡◌, ◌≤◌, ◌+◌, ℕ, List, ◌∷◌, ◌++◌};
 ghost use Rattle.anstyle_parse.specs.Stream.Call.{Call};
 ghost use Rattle.anstyle_parse.specs.Stream.Calls.{AreCalls};
 ghost use Rattle.ansi_strip.specs.Strip.{IsClean};
-ghost use Rattle.ansi_screen.specs.After.{new_state};
-ghost use Rattle.screen_text.specs.Shown.{shown_text};
+ghost use Rattle.ansi_screen.specs.After.{State, new_state, after_all};
+ghost use Rattle.ansi_screen.specs.Reachable.{IsScreen};
+ghost use Rattle.ansi_screen.specs.Laws.{carriage_return, erase_rest, printing, text_columns};
+ghost use Rattle.screen_text.specs.Shown.{given_all, shown_text};
+ghost use Rattle.screen_text.specs.Laws.{IsEnded};
 
 /// What a new screen showed of any bytes is clean text: UTF-8 with no C0 control but line feeds, and so
 /// without escapes; `ansi_strip` leaves it as it is (`ansi_strip::laws::clean_text`).
 pub fn clean()
     ensures { (columns rows : ℕ) (bytes : List ℕ) (calls : List Call) → AreCalls bytes calls
         → IsClean (shown_text (new_state columns rows) calls) }
+{}
+
+/// What a new screen showed of any calls is empty or ends with a line feed.
+pub fn lines()
+    ensures { (screen : State) (calls : List Call) → IsEnded (shown_text screen calls) }
+{}
+
+/// A row that is written anew, as by a progress bar: of what was printed before, from the cursor on and with
+/// room in the row, a carriage return, a text that has room too, and EL leave nothing; so what a screen
+/// showed of a stream is as if it had never been printed, whatever came earlier and comes later.
+pub fn rewritten()
+    ensures { (screen : State) (earlier later : List Call) (before text : List ℕ)
+        → IsScreen (after_all (given_all earlier) screen).display
+        → (after_all (given_all earlier) screen).display.cursor.column + text_columns before
+        ≤ (after_all (given_all earlier) screen).display.width
+        → text_columns text ≤ (after_all (given_all earlier) screen).display.width
+        → shown_text screen (earlier ++ (printing before ++ carriage_return ∷ (printing text ++ erase_rest ∷ later)))
+        ≡ shown_text screen (earlier ++ carriage_return ∷ (printing text ++ erase_rest ∷ later)) }
 {}

@@ -1,0 +1,161 @@
+-- What a row showed before it is written anew is never written.
+use Rattle.std.proofs.Common.{◌≡◌, ℕ, ◌+◌, ◌-◌, ◌≤◌, Bool, true, false, List, [], ◌∷◌, ◌++◌, refl, ap, sym, ◌∙◌, subst, arith}
+use Rattle.std.specs.Prelude.{min, nat_lt, ◌==◌, ◌&&◌, not}
+use Rattle.std.proofs.lemmas.Bool.{le-ltb, and_left, and_right}
+use Rattle.std.proofs.lemmas.List.{append_assoc}
+use Rattle.std.proofs.lemmas.Grind.{flat_map-append}
+use Rattle.anstyle_parse.specs.Stream.Call.{Call, print}
+use Rattle.ansi_screen.specs.declared.cell.Cell.{Cell}
+use Rattle.ansi_screen.specs.Display.{Display, fresh, most_columns, most_rows}
+use Rattle.ansi_screen.specs.Widths.{is_shown, columns}
+use Rattle.ansi_screen.specs.Print.{printed}
+use Rattle.ansi_screen.specs.After.{State, new_state, function_of, executed, after, after_all}
+use Rattle.ansi_screen.specs.Leaving.{is_wrapping, leaving_by_control, leaving_by_function, leaving_by_sequence, leaving, before_scroll, first_rows, rows_left, all_left}
+use Rattle.ansi_screen.specs.Reachable.{IsScreen}
+use Rattle.ansi_screen.specs.Laws.{carriage_return, erase_rest, printing, text_columns}
+use Rattle.ansi_screen.proofs.LawLemmas.{after_all-append}
+use Rattle.ansi_screen.proofs.KeptCalls.{new-screen, kept-after, kept-printed, kept-after_all}
+use Rattle.ansi_screen.proofs.RowLemmas.{Wrote, printed-wrote, written-anew}
+use Rattle.screen_text.specs.Lines.{rows_text}
+use Rattle.screen_text.specs.Shown.{given, given_all, still_text, shown_text}
+use Rattle.screen_text.specs.Lines.{open_after}
+use Rattle.screen_text.specs.ShowingProof.{all_left-append}
+
+-- A character that has room moves no row off.
+fits-wraps : (c : ℕ) (d : Display) → d.cursor.column + columns c ≤ d.width → is_wrapping c d ≡ false
+unfolding is_wrapping
+fits-wraps c d fits =
+    let room : nat_lt d.width (d.cursor.column + columns c) ≡ false = le-ltb d.width (d.cursor.column + columns c) fits in
+    and_left (is_shown c && not (columns c == 0) && nat_lt d.width (d.cursor.column + columns c)) d.wraps
+    (and_right (is_shown c && not (columns c == 0)) (nat_lt d.width (d.cursor.column + columns c)) room)
+
+fits-left : (c : ℕ) (d : Display) → d.cursor.column + columns c ≤ d.width → rows_left (print c) d ≡ []
+fits-left c d fits = rw (fits-wraps c d fits) refl
+
+printing-left : (text : List ℕ) (s : State) → IsScreen s.display → s.display.cursor.column + text_columns text ≤ s.display.width
+    → all_left (printing text) s ≡ []
+printing-left [] s screen fits = refl
+printing-left (c ∷ text) s screen fits =
+    let wrote : Wrote (columns c) s.display (printed c s.display) = printed-wrote c s.display _ refl screen (omega arith) in
+    let width : (after (print c) s).display.width ≡ s.display.width = ap (λ (d : Display). d.width) wrote.is in
+    let column : (after (print c) s).display.cursor.column ≡ wrote.column = ap (λ (d : Display). d.cursor.column) wrote.is in
+    let near : wrote.column ≤ s.display.cursor.column + columns c = wrote.fits in
+    ap (λ l. l ++ all_left (printing text) (after (print c) s)) (fits-left c s.display (omega arith))
+    ∙ printing-left text (after (print c) s) (kept-after (print c) s screen) (omega arith)
+
+printing-width : (text : List ℕ) (s : State) → IsScreen s.display → s.display.cursor.column + text_columns text ≤ s.display.width
+    → (after_all (printing text) s).display.width ≡ s.display.width
+printing-width [] s screen fits = refl
+printing-width (c ∷ text) s screen fits =
+    let wrote : Wrote (columns c) s.display (printed c s.display) = printed-wrote c s.display _ refl screen (omega arith) in
+    let width : (after (print c) s).display.width ≡ s.display.width = ap (λ (d : Display). d.width) wrote.is in
+    let column : (after (print c) s).display.cursor.column ≡ wrote.column = ap (λ (d : Display). d.cursor.column) wrote.is in
+    let near : wrote.column ≤ s.display.cursor.column + columns c = wrote.fits in
+    printing-width text (after (print c) s) (kept-after (print c) s screen) (omega arith) ∙ width
+
+return-left : (d : Display) → rows_left carriage_return d ≡ []
+unfolding leaving_by_control
+return-left d = refl
+
+erase-left : (d : Display) → rows_left erase_rest d ≡ []
+unfolding leaving_by_sequence leaving_by_function function_of
+erase-left d = refl
+
+return-column : (d : Display) → (executed 0x0D d).cursor.column ≡ min 0 (d.width - 1)
+unfolding executed
+return-column d = refl
+
+return-width : (d : Display) → (executed 0x0D d).width ≡ d.width
+unfolding executed
+return-width d = refl
+
+-- a row that is written anew
+abbrev written : List ℕ → List Call
+written text = carriage_return ∷ (printing text ++ erase_rest ∷ [])
+
+written-left : (text : List ℕ) (s : State) → IsScreen s.display → text_columns text ≤ s.display.width
+    → all_left (written text) s ≡ []
+written-left text s screen fits =
+    let next : State = after carriage_return s in
+    let end : State = after_all (printing text) next in
+    let first : next.display.cursor.column ≡ min 0 (s.display.width - 1) = return-column s.display in
+    let wide : next.display.width ≡ s.display.width = return-width s.display in
+    ap (λ l. l ++ all_left (printing text ++ erase_rest ∷ []) next) (return-left s.display)
+    ∙ (all_left-append (printing text) (erase_rest ∷ []) next
+    ∙ (ap (λ l. l ++ (rows_left erase_rest end.display ++ [])) (printing-left text next (kept-after carriage_return s screen) (omega arith))
+    ∙ ap (λ l. l ++ []) (erase-left end.display)))
+
+-- what is given of these calls is they themselves
+given-printing : (text : List ℕ) → given_all (printing text) ≡ printing text
+given-printing [] = refl
+given-printing (c ∷ text) = ap (λ l. print c ∷ l) (given-printing text)
+
+given-written : (text : List ℕ) (calls : List Call)
+    → given_all (carriage_return ∷ (printing text ++ erase_rest ∷ calls)) ≡ written text ++ given_all calls
+given-written text calls =
+    ap (λ l. carriage_return ∷ l)
+    (flat_map-append given (printing text) (erase_rest ∷ calls)
+    ∙ (ap (λ l. l ++ erase_rest ∷ given_all calls) (given-printing text)
+    ∙ sym (append_assoc (printing text) (erase_rest ∷ []) (given_all calls))))
+
+-- Calls that lead to the same screen, and by which the same rows leave, show the same with any calls behind them.
+shown_given : State → List Call → List ℕ
+shown_given s given_calls =
+    rows_text (all_left given_calls s) ++ still_text (open_after false (all_left given_calls s)) (after_all given_calls s).display
+
+same-shown : (first second rest : List Call) (s : State) → all_left first s ≡ all_left second s → after_all first s ≡ after_all second s
+    → shown_given s (first ++ rest) ≡ shown_given s (second ++ rest)
+unfolding shown_given
+same-shown first second rest s left screen =
+    let rows : all_left (first ++ rest) s ≡ all_left (second ++ rest) s =
+    all_left-append first rest s
+    ∙ (ap (λ l. l ++ all_left rest (after_all first s)) left
+    ∙ (ap (λ e. all_left second s ++ all_left rest e) screen ∙ sym (all_left-append second rest s))) in
+    let end : after_all (first ++ rest) s ≡ after_all (second ++ rest) s =
+    after_all-append first rest s ∙ (ap (after_all rest) screen ∙ sym (after_all-append second rest s)) in
+    ap (λ l. rows_text l ++ still_text (open_after false l) (after_all (first ++ rest) s).display) rows
+    ∙ ap (λ (e : State). rows_text (all_left (second ++ rest) s) ++ still_text (open_after false (all_left (second ++ rest) s)) e.display) end
+
+shown-given : (calls : List Call) (s : State) → shown_text s calls ≡ shown_given s (given_all calls)
+unfolding shown_given
+shown-given calls s = refl
+
+-- what was on the row, from the cursor on, leaves no row and no trace
+anew-left : (before text : List ℕ) (s : State) → IsScreen s.display
+    → s.display.cursor.column + text_columns before ≤ s.display.width → text_columns text ≤ s.display.width
+    → all_left (printing before ++ written text) s ≡ []
+anew-left before text s screen room fits =
+    let next : State = after_all (printing before) s in
+    all_left-append (printing before) (written text) s
+    ∙ (ap (λ l. l ++ all_left (written text) next) (printing-left before s screen room)
+    ∙ written-left text next (kept-after_all (printing before) s screen) (omega (arith, printing-width before s screen room)))
+
+pub rewritten-shown : (s : State) (earlier later : List Call) (before text : List ℕ) → IsScreen (after_all (given_all earlier) s).display
+    → (after_all (given_all earlier) s).display.cursor.column + text_columns before ≤ (after_all (given_all earlier) s).display.width
+    → text_columns text ≤ (after_all (given_all earlier) s).display.width
+    → shown_text s (earlier ++ (printing before ++ carriage_return ∷ (printing text ++ erase_rest ∷ later)))
+    ≡ shown_text s (earlier ++ carriage_return ∷ (printing text ++ erase_rest ∷ later))
+rewritten-shown s earlier later before text screen room fits =
+    let start : List Call = given_all earlier in
+    let there : State = after_all start s in
+    let long : List Call = printing before ++ written text in
+    let rest : List Call = given_all later in
+    let first : given_all (earlier ++ (printing before ++ carriage_return ∷ (printing text ++ erase_rest ∷ later))) ≡ (start ++ long) ++ rest =
+    flat_map-append given earlier (printing before ++ carriage_return ∷ (printing text ++ erase_rest ∷ later))
+    ∙ (ap (λ l. start ++ l) (flat_map-append given (printing before) (carriage_return ∷ (printing text ++ erase_rest ∷ later))
+    ∙ (ap (λ l. l ++ given_all (carriage_return ∷ (printing text ++ erase_rest ∷ later))) (given-printing before)
+    ∙ (ap (λ l. printing before ++ l) (given-written text later) ∙ sym (append_assoc (printing before) (written text) rest))))
+    ∙ sym (append_assoc start long rest)) in
+    let second : given_all (earlier ++ carriage_return ∷ (printing text ++ erase_rest ∷ later)) ≡ (start ++ written text) ++ rest =
+    flat_map-append given earlier (carriage_return ∷ (printing text ++ erase_rest ∷ later))
+    ∙ (ap (λ l. start ++ l) (given-written text later) ∙ sym (append_assoc start (written text) rest)) in
+    let left : all_left (start ++ long) s ≡ all_left (start ++ written text) s =
+    all_left-append start long s
+    ∙ (ap (λ l. all_left start s ++ l) (anew-left before text there screen room fits ∙ sym (written-left text there screen fits))
+    ∙ sym (all_left-append start (written text) s)) in
+    let end : after_all (start ++ long) s ≡ after_all (start ++ written text) s =
+    after_all-append start long s ∙ (written-anew there before text screen room fits ∙ sym (after_all-append start (written text) s)) in
+    shown-given (earlier ++ (printing before ++ carriage_return ∷ (printing text ++ erase_rest ∷ later))) s
+    ∙ (ap (shown_given s) first
+    ∙ (same-shown (start ++ long) (start ++ written text) rest s left end
+    ∙ (ap (shown_given s) (sym second) ∙ sym (shown-given (earlier ++ carriage_return ∷ (printing text ++ erase_rest ∷ later)) s))))

@@ -1,0 +1,41 @@
+-- What the laws speak of.
+use Rattle.std.specs.Prelude.{◌≡◌, ◌≢◌, ⊤, ◌⊎◌, ℕ, true, List, [], ◌∷◌, ◌++◌, replicate, encode_utf8}
+use Rattle.std.specs.List.{AllByRecursion, flat_map}
+use Rattle.anstyle_parse.specs.Stream.Call.{Call}
+use Rattle.anstyle_parse.specs.Laws.Lawful.{is_character}
+use Rattle.ansi_screen.specs.Widths.{is_shown, columns}
+use Rattle.ansi_screen.specs.Laws.{line_feed, printing}
+
+-- it is empty, or its last byte is a line feed
+abbrev pub IsEnded : List ℕ → Type 0
+IsEnded text = (text ≡ []) ⊎ ((front : List ℕ) × (text ≡ front ++ 0x0A ∷ []))
+
+-- a character that is shown in one column or in two; lines of them
+abbrev pub IsPlain : ℕ → Type 0
+IsPlain c = (is_character c ≡ true) × (is_shown c ≡ true) × (columns c ≢ 0)
+
+abbrev pub ArePlain : List (List ℕ) → Type 0
+ArePlain lines = AllByRecursion (AllByRecursion IsPlain) lines
+
+-- the last of the lines, if there is one, is not empty
+abbrev pub LastIsNotEmpty : List (List ℕ) → Type 0
+LastIsNotEmpty [] = ⊤
+LastIsNotEmpty (line ∷ []) = line ≢ []
+LastIsNotEmpty (line ∷ next ∷ lines) = LastIsNotEmpty (next ∷ lines)
+
+-- lines, each with a line feed: what is printed, and the bytes, in UTF-8
+abbrev pub line_calls : List ℕ → List Call
+line_calls line = printing line ++ line_feed ∷ []
+
+abbrev pub lines_calls : List (List ℕ) → List Call
+lines_calls lines = flat_map line_calls lines
+
+abbrev pub line_bytes : List ℕ → List ℕ
+line_bytes line = flat_map encode_utf8 line ++ 0x0A ∷ []
+
+abbrev pub lines_bytes : List (List ℕ) → List ℕ
+lines_bytes lines = flat_map line_bytes lines
+
+-- so many empty lines
+abbrev pub empty_lines : ℕ → List (List ℕ)
+empty_lines n = replicate n []

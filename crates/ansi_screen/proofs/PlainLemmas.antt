@@ -12,7 +12,7 @@ use Rattle.anstyle_parse.specs.Stream.Calls.{AreCalls, is_executed}
 use Rattle.anstyle_parse.specs.Stream.Canon.{call_text, canon}
 use Rattle.anstyle_parse.specs.Laws.Lawful.{AreLawful}
 use Rattle.anstyle_parse.proofs.Canonical.Twice.{replay-only}
-use Rattle.ansi_style.specs.Style.{plain}
+pub use Rattle.ansi_style.specs.Style.{plain}
 use Rattle.ansi_screen.specs.declared.cell.Cell.{Cell}
 use Rattle.ansi_screen.specs.declared.cell.Part.TheVariants.{Whole}
 use Rattle.ansi_screen.specs.Cells.{plain_cell, blank, is_right, cell_at, cut, within, change}
@@ -27,18 +27,18 @@ use Rattle.ansi_screen.proofs.PairLemmas.{right-replicate}
 use Rattle.ansi_screen.proofs.LawLemmas.{after_all-append}
 
 -- a screen with these cells, and else as a new one but for the cursor's place
-abbrev at : ℕ → ℕ → List Cell → ℕ → ℕ → Display
+abbrev pub at : ℕ → ℕ → List Cell → ℕ → ℕ → Display
 at width height cells row column = record (fresh width height) { cells = cells; cursor = record home { row = row; column = column } }
 
 -- cells, and so many blanks behind them
-abbrev and_blanks : List Cell → ℕ → List Cell
+abbrev pub and_blanks : List Cell → ℕ → List Cell
 and_blanks front n = front ++ replicate n (blank plain)
 
 abbrev glyph_of : ℕ → Cell
 glyph_of c = plain_cell c plain Whole
 
 -- among the blanks nothing is cut
-cut-blanks : (front : List Cell) (n place : ℕ) → length front ≤ place
+pub cut-blanks : (front : List Cell) (n place : ℕ) → length front ≤ place
     → and_blanks front n ≡ cut place (and_blanks front n)
 cut-blanks front n place past =
     cut-none (and_blanks front n) place (and_right (nat_lt 0 place) (is_right (cell_at place (and_blanks front n)).part)
@@ -92,7 +92,7 @@ print-line (c ∷ line) width height row column n front s are long fits is =
     ∙ ap (λ cells. at width height (and_blanks cells n) row (column + length (c ∷ line))) (append_assoc front (glyph_of c ∷ []) (map glyph_of line)))
 
 -- CR and LF, above the last row
-return-first : (width height row column : ℕ) (cells : List Cell)
+pub return-first : (width height row column : ℕ) (cells : List Cell)
     → executed 0x0D (at width height cells row column) ≡ at width height cells row 0
 unfolding executed
 return-first width height row column cells =
@@ -194,7 +194,7 @@ canon-lines (line ∷ next ∷ lines) =
     ∙ (ap (λ l. l ++ 0x0D ∷ 0x0A ∷ canon (typing (next ∷ lines))) (canon-line line)
     ∙ ap (λ l. flat_map encode_utf8 line ++ 0x0D ∷ 0x0A ∷ l) (canon-lines (next ∷ lines)))
 
-executed-both : IsTrue (is_executed 0x0D) × IsTrue (is_executed 0x0A)
+pub executed-both : IsTrue (is_executed 0x0D) × IsTrue (is_executed 0x0A)
 unfolding is_executed is_control is_within
 executed-both = (refl, refl)
 

@@ -22,14 +22,14 @@ use Rattle.screen_text.specs.Lines.{open_after}
 use Rattle.screen_text.specs.ShowingProof.{all_left-append}
 
 -- A character that has room moves no row off.
-fits-wraps : (c : ℕ) (d : Display) → d.cursor.column + columns c ≤ d.width → is_wrapping c d ≡ false
+pub fits-wraps : (c : ℕ) (d : Display) → d.cursor.column + columns c ≤ d.width → is_wrapping c d ≡ false
 unfolding is_wrapping
 fits-wraps c d fits =
     let room : nat_lt d.width (d.cursor.column + columns c) ≡ false = le-ltb d.width (d.cursor.column + columns c) fits in
     and_left (is_shown c && not (columns c == 0) && nat_lt d.width (d.cursor.column + columns c)) d.wraps
     (and_right (is_shown c && not (columns c == 0)) (nat_lt d.width (d.cursor.column + columns c)) room)
 
-fits-left : (c : ℕ) (d : Display) → d.cursor.column + columns c ≤ d.width → rows_left (print c) d ≡ []
+pub fits-left : (c : ℕ) (d : Display) → d.cursor.column + columns c ≤ d.width → rows_left (print c) d ≡ []
 fits-left c d fits = rw (fits-wraps c d fits) refl
 
 printing-left : (text : List ℕ) (s : State) → IsScreen s.display → s.display.cursor.column + text_columns text ≤ s.display.width
@@ -53,7 +53,7 @@ printing-width (c ∷ text) s screen fits =
     let near : wrote.column ≤ s.display.cursor.column + columns c = wrote.fits in
     printing-width text (after (print c) s) (kept-after (print c) s screen) (omega arith) ∙ width
 
-return-left : (d : Display) → rows_left carriage_return d ≡ []
+pub return-left : (d : Display) → rows_left carriage_return d ≡ []
 unfolding leaving_by_control
 return-left d = refl
 
@@ -86,7 +86,7 @@ written-left text s screen fits =
     ∙ ap (λ l. l ++ []) (erase-left end.display)))
 
 -- what is given of these calls is they themselves
-given-printing : (text : List ℕ) → given_all (printing text) ≡ printing text
+pub given-printing : (text : List ℕ) → given_all (printing text) ≡ printing text
 given-printing [] = refl
 given-printing (c ∷ text) = ap (λ l. print c ∷ l) (given-printing text)
 

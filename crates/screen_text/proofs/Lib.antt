@@ -5,3 +5,4 @@ pub mod RewrittenLemmas
 pub mod RowTextLemmas
 pub mod TypedLemmas
 pub mod TypingLemmas
+pub mod KeptRowsLemmas

@@ -51,7 +51,7 @@ module _ (width height : ℕ) (left all : List (List Cell)) (current : List Cell
       let some : width ≤ length current + typed.rest = enough in
       omega arith
 
-  row-cells_split : joined typed.full ++ (current ++ spaces typed.rest) ≡ joined typed.full ++ ((current ++ spaces row-rest) ++ spaces (typed.rest - row-rest))
+  pub row-cells_split : joined typed.full ++ (current ++ spaces typed.rest) ≡ joined typed.full ++ ((current ++ spaces row-rest) ++ spaces (typed.rest - row-rest))
   row-cells_split =
       let some : width ≤ length current + typed.rest = enough in
       ap (λ l. joined typed.full ++ l) (spaces-behind current typed.rest row-rest (omega arith))

@@ -6,3 +6,4 @@ pub mod RowTextLemmas
 pub mod TypedLemmas
 pub mod TypingLemmas
 pub mod KeptRowsLemmas
+pub mod TextLemmas

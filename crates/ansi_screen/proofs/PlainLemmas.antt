@@ -181,7 +181,7 @@ lines-shown width height lines few fit =
     print-lines lines width height 0 height [] (new_state width height) fit (omega arith) few (omega arith) refl
 
 -- A parser makes these calls of the lines' bytes, and no others, since they are the calls' canonical text.
-canon-line : (line : List ℕ) → canon (printing line) ≡ flat_map encode_utf8 line
+pub canon-line : (line : List ℕ) → canon (printing line) ≡ flat_map encode_utf8 line
 canon-line [] = refl
 canon-line (c ∷ line) = ap (λ l. encode_utf8 c ++ l) (canon-line line)
 

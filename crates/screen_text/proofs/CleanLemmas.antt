@@ -1,6 +1,6 @@
 -- What a screen showed is clean text.
-use Rattle.std.proofs.Common.{◌≡◌, ℕ, ◌+◌, ◌/◌, ◌%◌, ◌<◌, ◌≤◌, Bool, true, false, List, [], ◌∷◌, ◌++◌, take, refl, sym, subst, le-leb, ⊎_elim, arith}
-use Rattle.std.specs.Prelude.{IsTrue, IsUtf8, encode_utf8, nat_lt, ◌==◌, if◌then◌else◌}
+use Rattle.std.proofs.Common.{◌≡◌, ℕ, ◌+◌, ◌/◌, ◌%◌, ◌≤◌, Bool, true, false, List, [], ◌∷◌, ◌++◌, take, refl, sym, subst, le-leb, ⊎_elim, arith}
+use Rattle.std.specs.Prelude.{IsTrue, encode_utf8, nat_lt, ◌==◌, if◌then◌else◌}
 use Rattle.std.specs.List.{AllByRecursion, flat_map}
 use Rattle.std.proofs.lemmas.Str.{IsUtf8-append, IsUtf8-nil, IsUtf8-encode}
 use Rattle.std.proofs.lemmas.Bool.{or_cases}
@@ -21,7 +21,7 @@ use Rattle.ansi_screen.specs.declared.cell.Marks.TheVariants.{Unmarked, One, Two
 use Rattle.ansi_screen.specs.Cells.{is_right}
 use Rattle.ansi_screen.specs.After.{State, new_state, after_all}
 use Rattle.ansi_screen.specs.Text.{marks_text, cell_text, used, used_rows}
-use Rattle.ansi_screen.specs.Leaving.{all_left, first_rows}
+use Rattle.ansi_screen.specs.Leaving.{all_left}
 use Rattle.screen_text.specs.Lines.{is_unprinted, goes_on, row_text, rows_text, open_after, closing, showing}
 use Rattle.screen_text.specs.Shown.{given, given_all, shown_text}
 use Rattle.ansi_screen.proofs.CharacterLemmas.{PrintsCharacter, IsGood, AreGoodMarks, IsGoodCell, AreGood, IsGoodState, good-new, good-after_all, good-left, good-first_rows}

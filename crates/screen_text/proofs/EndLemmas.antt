@@ -44,8 +44,10 @@ closed-ended on (row ∷ rows) = elim (closed-ended (goes_on row) rows) [
   | inl (front, is) ↦
       inl (row_text row ++ front, closed-row on row rows ∙ (ap (λ l. row_text row ++ l) is ∙ sym (append_assoc (row_text row) front (0x0A ∷ []))))
   | inr (off, none) ↦
-      inl (flat_map cell_text (take (used is_unprinted row) row),
-      closed-row on row rows ∙ (ap (λ l. row_text row ++ l) none ∙ (append-nil (row_text row) ∙ row-feed row off)))
+      inl (
+        flat_map cell_text (take (used is_unprinted row) row),
+        closed-row on row rows ∙ (ap (λ l. row_text row ++ l) none ∙ (append-nil (row_text row) ∙ row-feed row off)),
+      )
 ]
 
 closed-is : (rows : List (List Cell)) → IsEnded (closed_text false rows)

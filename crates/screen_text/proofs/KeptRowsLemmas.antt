@@ -1,18 +1,16 @@
 -- The rows that still show on a screen on which plain text was typed.
 use Rattle.std.proofs.Common.{◌≡◌, ℕ, zero, suc, ◌+◌, ◌-◌, ◌*◌, ◌<◌, ◌≤◌, Bool, true, false, List, [], ◌∷◌, ◌++◌, length, take, drop, refl, ap, sym, ◌∙◌, subst, inl, inr, arith}
 use Rattle.std.specs.Prelude.{◌⊎◌, nat_lt, ◌==◌, replicate}
-use Rattle.std.specs.List.{AllByRecursion, flat_map}
+use Rattle.std.specs.List.{AllByRecursion}
 use Rattle.std.proofs.lemmas.Bool.{ltb-true, ltb-false, ne_eqb}
-use Rattle.std.proofs.lemmas.List.{append-nil, append_assoc, length-append, length-drop, length-replicate, length_push, replicate-append-replicate, take-append-drop, take_at, drop_at, drop-append-le}
-use Rattle.std.proofs.lemmas.Grind.{flat_map-append}
+use Rattle.std.proofs.lemmas.List.{append-nil, append_assoc, length-append, length-replicate, length_push, replicate-append-replicate, take-append-drop, take_at, drop_at, drop-append-le}
 use Rattle.std.proofs.Math.Nat.{mul-le-mul_right}
 use Rattle.anstyle_parse.proofs.Lists.Parts.{AllByRecursion-take}
 use Rattle.ansi_screen.specs.declared.cell.Cell.{Cell}
 use Rattle.ansi_screen.specs.Display.{Display, row_cells}
 use Rattle.ansi_screen.specs.Text.{used, used_rows}
 use Rattle.ansi_screen.specs.Leaving.{first_rows}
-use Rattle.ansi_screen.proofs.PlainLemmas.{at}
-use Rattle.screen_text.specs.Lines.{is_unprinted, goes_on, row_text, rows_text, open_after, showing}
+use Rattle.screen_text.specs.Lines.{is_unprinted, goes_on, rows_text, open_after, showing}
 use Rattle.screen_text.specs.ShowingProof.{open_after-append}
 use Rattle.screen_text.proofs.RowTextLemmas.{spaces, unprinted-blank, used-printed, goes_on-printed, text-ended}
 use Rattle.screen_text.proofs.TypedLemmas.{joined, joined-append, AreLong, length-joined, long-append, Typed}

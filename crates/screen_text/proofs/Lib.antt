@@ -7,3 +7,4 @@ pub mod TypedLemmas
 pub mod TypingLemmas
 pub mod KeptRowsLemmas
 pub mod TextLemmas
+pub mod ThroughLemmas

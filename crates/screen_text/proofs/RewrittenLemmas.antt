@@ -1,20 +1,19 @@
 -- What a row showed before it is written anew is never written.
-use Rattle.std.proofs.Common.{◌≡◌, ℕ, ◌+◌, ◌-◌, ◌≤◌, Bool, true, false, List, [], ◌∷◌, ◌++◌, refl, ap, sym, ◌∙◌, subst, arith}
+use Rattle.std.proofs.Common.{◌≡◌, ℕ, ◌+◌, ◌-◌, ◌≤◌, false, List, [], ◌∷◌, ◌++◌, refl, ap, sym, ◌∙◌, arith}
 use Rattle.std.specs.Prelude.{min, nat_lt, ◌==◌, ◌&&◌, not}
 use Rattle.std.proofs.lemmas.Bool.{le-ltb, and_left, and_right}
 use Rattle.std.proofs.lemmas.List.{append_assoc}
 use Rattle.std.proofs.lemmas.Grind.{flat_map-append}
 use Rattle.anstyle_parse.specs.Stream.Call.{Call, print}
-use Rattle.ansi_screen.specs.declared.cell.Cell.{Cell}
-use Rattle.ansi_screen.specs.Display.{Display, fresh, most_columns, most_rows}
+use Rattle.ansi_screen.specs.Display.{Display}
 use Rattle.ansi_screen.specs.Widths.{is_shown, columns}
 use Rattle.ansi_screen.specs.Print.{printed}
-use Rattle.ansi_screen.specs.After.{State, new_state, function_of, executed, after, after_all}
-use Rattle.ansi_screen.specs.Leaving.{is_wrapping, leaving_by_control, leaving_by_function, leaving_by_sequence, leaving, before_scroll, first_rows, rows_left, all_left}
+use Rattle.ansi_screen.specs.After.{State, function_of, executed, after, after_all}
+use Rattle.ansi_screen.specs.Leaving.{is_wrapping, leaving_by_control, leaving_by_function, leaving_by_sequence, rows_left, all_left}
 use Rattle.ansi_screen.specs.Reachable.{IsScreen}
 use Rattle.ansi_screen.specs.Laws.{carriage_return, erase_rest, printing, text_columns}
 use Rattle.ansi_screen.proofs.LawLemmas.{after_all-append}
-use Rattle.ansi_screen.proofs.KeptCalls.{new-screen, kept-after, kept-printed, kept-after_all}
+use Rattle.ansi_screen.proofs.KeptCalls.{kept-after, kept-after_all}
 use Rattle.ansi_screen.proofs.RowLemmas.{Wrote, printed-wrote, written-anew}
 use Rattle.screen_text.specs.Lines.{rows_text}
 use Rattle.screen_text.specs.Shown.{given, given_all, still_text, shown_text}

@@ -1,6 +1,6 @@
 -- Plain text comes through: line by line.
 use Rattle.std.proofs.Common.{◌≡◌, ℕ, zero, suc, ◌+◌, ◌-◌, ◌*◌, ◌<◌, ◌≤◌, Bool, true, false, List, [], ◌∷◌, ◌++◌, length, refl, ap, sym, ◌∙◌, subst, inl, inr, arith}
-use Rattle.std.specs.Prelude.{◌≢◌, nat_lt, ◌==◌, replicate, encode_utf8}
+use Rattle.std.specs.Prelude.{nat_lt, replicate, encode_utf8}
 use Rattle.std.specs.List.{AllByRecursion, flat_map}
 use Rattle.std.proofs.lemmas.Bool.{ltb-true, ltb-false, ne_eqb}
 use Rattle.std.proofs.lemmas.List.{append-nil, append_assoc, length-append, replicate-append-replicate}
@@ -8,9 +8,9 @@ use Rattle.std.proofs.lemmas.Grind.{flat_map-append}
 use Rattle.anstyle_parse.specs.Stream.Call.{Call, print}
 use Rattle.ansi_screen.specs.declared.cell.Cell.{Cell}
 use Rattle.ansi_screen.specs.Display.{Display, fresh}
-use Rattle.ansi_screen.specs.Widths.{is_shown, columns}
+use Rattle.ansi_screen.specs.Widths.{columns}
 use Rattle.ansi_screen.specs.Print.{glyph, printed}
-use Rattle.ansi_screen.specs.After.{State, new_state, after, after_all}
+use Rattle.ansi_screen.specs.After.{State, after, after_all}
 use Rattle.ansi_screen.specs.Text.{cell_text, used}
 use Rattle.ansi_screen.specs.Leaving.{rows_left, all_left}
 use Rattle.ansi_screen.specs.Laws.{carriage_return, line_feed, printing}
@@ -18,7 +18,7 @@ use Rattle.ansi_screen.proofs.PlainLemmas.{plain}
 use Rattle.ansi_screen.proofs.LawLemmas.{after_all-append}
 use Rattle.ansi_screen.proofs.KeptCalls.{columns-few}
 use Rattle.ansi_screen.proofs.WholeLemmas.{length-glyph}
-use Rattle.screen_text.specs.Lines.{is_unprinted, goes_on, row_text, rows_text, open_after, closing, showing}
+use Rattle.screen_text.specs.Lines.{is_unprinted, row_text, rows_text, open_after, closing, showing}
 use Rattle.screen_text.specs.Shown.{given, given_all, shown_text}
 use Rattle.screen_text.specs.Laws.{IsPlain, ArePlain, LastIsNotEmpty, line_calls, lines_calls, line_bytes, lines_bytes, empty_lines}
 use Rattle.screen_text.specs.ShowingProof.{all_left-append}
@@ -41,7 +41,7 @@ pub record Line (width height least : ℕ) (left : List (List Cell)) (text : Lis
   pub shows : rows_text all ++ flat_map cell_text current ≡ text
   pub some : least ≤ length current
 
-line-same : (width height least : ℕ) (left left_then : List (List Cell)) (text text_then : List ℕ) (d e : Display) → left ≡ left_then
+pub line-same : (width height least : ℕ) (left left_then : List (List Cell)) (text text_then : List ℕ) (d e : Display) → left ≡ left_then
     → text ≡ text_then → d ≡ e → Line width height least left text d → Line width height least left_then text_then e
 line-same width height least left left_then text text_then d e same_left same_text same_display line =
     subst (λ l. Line width height least l text_then e) same_left
@@ -106,7 +106,7 @@ module _ (width height : ℕ) (wide : 2 ≤ width) where
       (record { all = next.all; current = next.current; typed = next.typed; shows = next.shows; some = let one : 1 ≤ length next.current = next.some in omega arith }))
 
   -- of which there is one at least
-  print-some : (c : ℕ) (line : List ℕ) (left : List (List Cell)) (text : List ℕ) (s : State) → AllByRecursion IsPlain (c ∷ line)
+  pub print-some : (c : ℕ) (line : List ℕ) (left : List (List Cell)) (text : List ℕ) (s : State) → AllByRecursion IsPlain (c ∷ line)
       → Line width height 0 left text s.display
       → Line width height 1 (left ++ all_left (printing (c ∷ line)) s) (text ++ flat_map encode_utf8 (c ∷ line)) (after_all (printing (c ∷ line)) s).display
   print-some c line left text s are before =
@@ -170,7 +170,7 @@ pub record Ended (width height n : ℕ) (left : List (List Cell)) (text : List �
   pub end : HasEnd base
   pub shows : rows_text base ≡ text
 
-ended-same : (width height n m : ℕ) (left left_then : List (List Cell)) (text text_then : List ℕ) (d e : Display) → n ≡ m → left ≡ left_then
+pub ended-same : (width height n m : ℕ) (left left_then : List (List Cell)) (text text_then : List ℕ) (d e : Display) → n ≡ m → left ≡ left_then
     → text ≡ text_then → d ≡ e → Ended width height n left text d → Ended width height m left_then text_then e
 ended-same width height n m left left_then text text_then d e same_n same_left same_text same_display ended =
     subst (λ k. Ended width height k left_then text_then e) same_n
@@ -191,13 +191,18 @@ module _ (width height : ℕ) (wide : 2 ≤ width) where
       record {
         base = base;
         typed = subst (λ l. Typed width height (left ++ all_left new_line s) l [] (after_all new_line s).display) (sym (append-nil base)) fed;
-        end = inr (line.all, row, refl, ne_eqb (used is_unprinted row) 0 (λ e. omega (arith, used-printed line.current n line.typed.printed)),
-            goes_on-printed line.current n line.typed.printed);
+        end = inr (
+          line.all,
+          row,
+          refl,
+          ne_eqb (used is_unprinted row) 0 (λ e. omega (arith, used-printed line.current n line.typed.printed)),
+          goes_on-printed line.current n line.typed.printed,
+        );
         shows = feed-text width height wide line.all line.current text n line.shows (text-ended line.current n line.typed.printed);
       }
 
   -- lines
-  print-lines : (lines : List (List ℕ)) (left : List (List Cell)) (text : List ℕ) (s : State) → ArePlain lines
+  pub print-lines : (lines : List (List ℕ)) (left : List (List Cell)) (text : List ℕ) (s : State) → ArePlain lines
       → Line width height 0 left text s.display
       → Line width height 0 (left ++ all_left (given_all (lines_calls lines)) s) (text ++ lines_bytes lines) (after_all (given_all (lines_calls lines)) s).display
   print-lines [] left text s are before =
@@ -218,7 +223,7 @@ module _ (width height : ℕ) (wide : 2 ≤ width) where
       (print-line width height wide line 0 left text s (omega arith) are.0 before)))
 
   -- lines of which the last is not empty
-  end-lines : (lines : List (List ℕ)) (line : List ℕ) (left : List (List Cell)) (text : List ℕ) (s : State) → ArePlain (line ∷ lines)
+  pub end-lines : (lines : List (List ℕ)) (line : List ℕ) (left : List (List Cell)) (text : List ℕ) (s : State) → ArePlain (line ∷ lines)
       → LastIsNotEmpty (line ∷ lines) → Line width height 0 left text s.display
       → Ended width height 0 (left ++ all_left (given_all (lines_calls (line ∷ lines))) s) (text ++ lines_bytes (line ∷ lines))
       (after_all (given_all (lines_calls (line ∷ lines))) s).display
@@ -266,7 +271,7 @@ module _ (width height : ℕ) (wide : 2 ≤ width) where
         shows = ended.shows;
       }
 
-  feed-blanks : (k n : ℕ) (left : List (List Cell)) (text : List ℕ) (s : State) → Ended width height n left text s.display
+  pub feed-blanks : (k n : ℕ) (left : List (List Cell)) (text : List ℕ) (s : State) → Ended width height n left text s.display
       → Ended width height (n + k) (left ++ all_left (given_all (lines_calls (empty_lines k))) s) text
       (after_all (given_all (lines_calls (empty_lines k))) s).display
   feed-blanks zero n left text s ended =
@@ -281,7 +286,7 @@ module _ (width height : ℕ) (wide : 2 ≤ width) where
       (feed-blanks k (n + 1) (left ++ all_left new_line s) text next (feed-blank n left text s ended))
 
 -- a new screen
-new-typed : (width height : ℕ) → 1 ≤ height → Typed width height [] [] [] (fresh width height)
+pub new-typed : (width height : ℕ) → 1 ≤ height → Typed width height [] [] [] (fresh width height)
 new-typed width height some = record {
   full = [];
   rest = height * width;
@@ -304,7 +309,7 @@ shown-rows calls s rows is closed =
     ∙ (ap (λ l. rows_text l ++ closing (open_after false l)) is
     ∙ (ap (λ t. rows_text rows ++ closing t) closed ∙ append-nil (rows_text rows)))
 
-shown-line : (width height : ℕ) (calls : List Call) (s : State) (text : List ℕ)
+pub shown-line : (width height : ℕ) (calls : List Call) (s : State) (text : List ℕ)
     → Line width height 1 (all_left (given_all calls) s) text (after_all (given_all calls) s).display → shown_text s calls ≡ text ++ 0x0A ∷ []
 shown-line width height calls s text line =
     let n : ℕ = width - length line.current in
@@ -315,7 +320,7 @@ shown-line width height calls s text line =
     ∙ (rows-push line.all row ∙ (ap (λ l. rows_text line.all ++ l) (text-ended line.current n line.typed.printed)
     ∙ (sym (append_assoc (rows_text line.all) (flat_map cell_text line.current) (0x0A ∷ [])) ∙ ap (λ l. l ++ 0x0A ∷ []) line.shows)))
 
-shown-ended : (width height n : ℕ) (calls : List Call) (s : State) (text : List ℕ)
+pub shown-ended : (width height n : ℕ) (calls : List Call) (s : State) (text : List ℕ)
     → Ended width height n (all_left (given_all calls) s) text (after_all (given_all calls) s).display
     → shown_text s calls ≡ text ++ replicate (n - (height - 1)) 0x0A
 shown-ended width height n calls s text ended =

@@ -1,26 +1,20 @@
 -- A screen on which plain text is typed: what its cells are, and what a character and a new line do to it.
-use Rattle.std.proofs.Common.{◌≡◌, ℕ, zero, suc, ◌+◌, ◌-◌, ◌*◌, ◌<◌, ◌≤◌, Bool, true, false, ◌&&◌, List, [], ◌∷◌, ◌++◌, length, take, drop, set, refl, ap, sym, ◌∙◌, subst, inl, inr, arith}
-use Rattle.std.specs.Prelude.{◌⊎◌, min, nat_lt, ◌==◌, not, replicate}
+use Rattle.std.proofs.Common.{◌≡◌, ℕ, ◌+◌, ◌-◌, ◌*◌, ◌<◌, ◌≤◌, Bool, true, false, List, [], ◌∷◌, ◌++◌, length, take, drop, refl, ap, sym, ◌∙◌, subst, inl, inr, arith}
+use Rattle.std.specs.Prelude.{◌⊎◌, min, nat_lt, ◌==◌, replicate}
 use Rattle.std.specs.List.{AllByRecursion, flat_map}
 use Rattle.std.proofs.lemmas.Bool.{lt-ltb, le-ltb, ne_eqb, eqb-true, eqb-false}
-use Rattle.std.proofs.lemmas.List.{append-nil, append_assoc, length-append, length-replicate, length_push, replicate-append-replicate, take_at, drop_at, take_all, drop_all, set-append_left, get_or_append_left, get_or-append-add}
+use Rattle.std.proofs.lemmas.List.{append-nil, append_assoc, length-append, length-replicate, length_push, replicate-append-replicate, take_at, drop_at, take_all, drop_all}
 use Rattle.std.proofs.lemmas.Grind.{flat_map-append}
-use Rattle.std.proofs.Math.Nat.{suc-mul, mul-le-mul_right}
-use Rattle.anstyle_parse.specs.Stream.Call.{Call, print}
+use Rattle.std.proofs.Math.Nat.{suc-mul}
 use Rattle.ansi_screen.specs.declared.cell.Cell.{Cell}
-use Rattle.ansi_screen.specs.Cells.{blank, cell_at, cut, within, change, going_on, moved_back}
-use Rattle.ansi_screen.specs.Display.{Display, fresh, here, row_end, row_cells}
-use Rattle.ansi_screen.specs.Moves.{to_column, settled}
-use Rattle.ansi_screen.specs.Edits.{space, row_going_on, rows_up, scrolled_up, index}
+use Rattle.ansi_screen.specs.Cells.{blank, cut, within, change, going_on, moved_back}
+use Rattle.ansi_screen.specs.Display.{Display}
+use Rattle.ansi_screen.specs.Edits.{rows_up, index}
 use Rattle.ansi_screen.specs.Widths.{is_shown, columns}
 use Rattle.ansi_screen.specs.Print.{glyph, wrapped, with_room, with_glyph, put, shown, printed}
-use Rattle.ansi_screen.specs.After.{State, executed, after, after_all}
-use Rattle.ansi_screen.specs.Leaving.{is_wrapping, leaving_up, leaving_by_index, leaving_by_control, leaving, before_scroll, first_rows, rows_left, all_left}
-use Rattle.ansi_screen.specs.Laws.{carriage_return, line_feed}
-use Rattle.ansi_screen.proofs.PlainLemmas.{plain, at, cut-blanks, return-first}
-use Rattle.ansi_screen.proofs.WholeLemmas.{length-glyph}
-use Rattle.screen_text.proofs.RowTextLemmas.{spaces, mark, length-mark, ArePrinted, printed-append, printed-glyph}
-use Rattle.screen_text.proofs.RewrittenLemmas.{fits-left}
+use Rattle.ansi_screen.specs.Leaving.{leaving_up, leaving_by_index, first_rows}
+use Rattle.ansi_screen.proofs.PlainLemmas.{plain, at, cut-blanks}
+use Rattle.screen_text.proofs.RowTextLemmas.{spaces, ArePrinted}
 
 -- the cells of rows, and rows that are so long
 abbrev pub joined : List (List Cell) → List Cell

@@ -1,22 +1,22 @@
 -- A character and a new line on a screen on which plain text is typed.
-use Rattle.std.proofs.Common.{◌≡◌, ℕ, zero, suc, ◌+◌, ◌-◌, ◌*◌, ◌<◌, ◌≤◌, Bool, true, false, ◌&&◌, List, [], ◌∷◌, ◌++◌, length, set, refl, ap, sym, ◌∙◌, subst, arith}
-use Rattle.std.specs.Prelude.{min, nat_lt, ◌==◌, not, if◌then◌else◌}
+use Rattle.std.proofs.Common.{◌≡◌, ℕ, zero, suc, ◌+◌, ◌-◌, ◌*◌, ◌<◌, ◌≤◌, true, false, List, [], ◌∷◌, ◌++◌, length, set, refl, ap, sym, ◌∙◌, subst, arith}
+use Rattle.std.specs.Prelude.{min, nat_lt, ◌==◌, if◌then◌else◌}
 use Rattle.std.proofs.lemmas.Bool.{lt-ltb, ne_eqb}
 use Rattle.std.proofs.lemmas.List.{append-nil, append_assoc, length-append, length-replicate, set-append_left, get_or_append_left}
 use Rattle.std.proofs.Math.Nat.{suc-mul, mul-le-mul_right}
-use Rattle.anstyle_parse.specs.Stream.Call.{Call, print}
+use Rattle.anstyle_parse.specs.Stream.Call.{print}
 use Rattle.ansi_screen.specs.declared.cell.Cell.{Cell}
 use Rattle.ansi_screen.specs.Cells.{blank, cell_at, going_on}
 use Rattle.ansi_screen.specs.Display.{Display, row_cells}
 use Rattle.ansi_screen.specs.Edits.{row_going_on, index}
 use Rattle.ansi_screen.specs.Widths.{is_shown, columns}
 use Rattle.ansi_screen.specs.Print.{glyph, printed}
-use Rattle.ansi_screen.specs.After.{State, executed, after, after_all}
+use Rattle.ansi_screen.specs.After.{State, executed, after_all}
 use Rattle.ansi_screen.specs.Leaving.{is_wrapping, leaving_up, leaving_by_index, leaving_by_control, first_rows, rows_left, all_left}
 use Rattle.ansi_screen.specs.Laws.{carriage_return, line_feed}
 use Rattle.ansi_screen.proofs.PlainLemmas.{plain, at, return-first}
 use Rattle.ansi_screen.proofs.WholeLemmas.{length-glyph}
-use Rattle.screen_text.proofs.RowTextLemmas.{spaces, mark, length-mark, ArePrinted, printed-append, printed-glyph}
+use Rattle.screen_text.proofs.RowTextLemmas.{spaces, mark, length-mark, printed-append, printed-glyph}
 use Rattle.screen_text.proofs.RewrittenLemmas.{fits-left, return-left}
 use Rattle.screen_text.proofs.TypedLemmas.{joined, AreLong, length-joined, spaces-split, put-room, put-wrapped, Typed, Next, next-row}
 

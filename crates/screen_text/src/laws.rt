@@ -1,13 +1,14 @@
 //! Laws of what a screen showed. Each is the contract of a function that does nothing.
-ghost use Rattle.std.specs.Prelude.{◌≡◌, ◌≤◌, ◌+◌, ℕ, List, ◌∷◌, ◌++◌};
+ghost use Rattle.std.specs.Prelude.{◌≡◌, ◌≢◌, ◌≤◌, ◌+◌, ◌-◌, ℕ, List, [], ◌∷◌, ◌++◌, encode_utf8};
+ghost use Rattle.std.specs.List.{AllByRecursion, flat_map};
 ghost use Rattle.anstyle_parse.specs.Stream.Call.{Call};
 ghost use Rattle.anstyle_parse.specs.Stream.Calls.{AreCalls};
-ghost use Rattle.ansi_strip.specs.Strip.{IsClean};
+ghost use Rattle.ansi_strip.specs.Strip.{IsClean, stripped};
 ghost use Rattle.ansi_screen.specs.After.{State, new_state, after_all};
 ghost use Rattle.ansi_screen.specs.Reachable.{IsScreen};
 ghost use Rattle.ansi_screen.specs.Laws.{carriage_return, erase_rest, printing, text_columns};
 ghost use Rattle.screen_text.specs.Shown.{given_all, shown_text};
-ghost use Rattle.screen_text.specs.Laws.{IsEnded};
+ghost use Rattle.screen_text.specs.Laws.{IsEnded, IsPlain, ArePlain, LastIsNotEmpty, lines_bytes, empty_lines};
 
 /// What a new screen showed of any bytes is clean text: UTF-8 with no C0 control but line feeds, and so
 /// without escapes; `ansi_strip` leaves it as it is (`ansi_strip::laws::clean_text`).
@@ -32,4 +33,24 @@ pub fn rewritten()
         → text_columns text ≤ (after_all (given_all earlier) screen).display.width
         → shown_text screen (earlier ++ (printing before ++ carriage_return ∷ (printing text ++ erase_rest ∷ later)))
         ≡ shown_text screen (earlier ++ carriage_return ∷ (printing text ++ erase_rest ∷ later)) }
+{}
+
+/// Plain text comes through: lines of characters of one column or two, each with a line feed, however long
+/// and however many, are what a new screen of any size showed of their bytes in UTF-8, byte for byte; this is what
+/// `ansi_strip` leaves of them too. Empty lines at the end are left out while they show, so all but those
+/// that scrolled off; and a last line without its line feed gets one.
+pub fn plain_text()
+    ensures same { (columns rows : ℕ) (lines : List (List ℕ)) (calls : List Call) → 2 ≤ columns → 1 ≤ rows
+        → ArePlain lines → LastIsNotEmpty lines → AreCalls (lines_bytes lines) calls
+        → shown_text (new_state columns rows) calls ≡ lines_bytes lines }
+    ensures stripped { (columns rows : ℕ) (lines : List (List ℕ)) (calls : List Call) → 2 ≤ columns → 1 ≤ rows
+        → ArePlain lines → LastIsNotEmpty lines → AreCalls (lines_bytes lines) calls
+        → shown_text (new_state columns rows) calls ≡ stripped calls }
+    ensures empty { (columns rows : ℕ) (lines : List (List ℕ)) (n : ℕ) (calls : List Call) → 2 ≤ columns → 1 ≤ rows
+        → ArePlain lines → LastIsNotEmpty lines → AreCalls (lines_bytes (lines ++ empty_lines n)) calls
+        → shown_text (new_state columns rows) calls ≡ lines_bytes (lines ++ empty_lines (n - (rows - 1))) }
+    ensures unended { (columns rows : ℕ) (lines : List (List ℕ)) (line : List ℕ) (calls : List Call)
+        → 2 ≤ columns → 1 ≤ rows → ArePlain lines → AllByRecursion IsPlain line → line ≢ []
+        → AreCalls (lines_bytes lines ++ flat_map encode_utf8 line) calls
+        → shown_text (new_state columns rows) calls ≡ lines_bytes (lines ++ line ∷ []) }
 {}

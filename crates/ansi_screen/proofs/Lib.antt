@@ -14,3 +14,4 @@ pub mod ScrollLemmas
 pub mod PlainLemmas
 pub mod RowLemmas
 pub mod CharacterLemmas
+pub mod SizeLemmas

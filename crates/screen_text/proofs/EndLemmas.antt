@@ -28,7 +28,7 @@ shown-closed calls s =
     ∙ ap (λ t. rows_text (left ++ rows) ++ closing t) (sym (open_after-append false left rows)))
 
 -- the same, of one row more
-closed-row : (on : Bool) (row : List Cell) (rows : List (List Cell))
+pub closed-row : (on : Bool) (row : List Cell) (rows : List (List Cell))
     → closed_text on (row ∷ rows) ≡ row_text row ++ closed_text (goes_on row) rows
 closed-row on row rows = append_assoc (row_text row) (rows_text rows) (closing (open_after (goes_on row) rows))
 

@@ -8,3 +8,4 @@ pub mod TypingLemmas
 pub mod KeptRowsLemmas
 pub mod TextLemmas
 pub mod ThroughLemmas
+pub mod BoundLemmas

@@ -6,6 +6,10 @@ use Rattle.anstyle_parse.specs.Laws.Lawful.{is_character}
 use Rattle.ansi_screen.specs.Widths.{is_shown, columns}
 use Rattle.ansi_screen.specs.Laws.{line_feed, printing}
 
+-- The most bytes of a cell: those of a character and of two marks, each of four bytes at most in UTF-8.
+abbrev pub most_cell_bytes : ℕ
+most_cell_bytes = 12
+
 -- it is empty, or its last byte is a line feed
 abbrev pub IsEnded : List ℕ → Type 0
 IsEnded text = (text ≡ []) ⊎ ((front : List ℕ) × (text ≡ front ++ 0x0A ∷ []))

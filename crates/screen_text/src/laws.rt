@@ -1,5 +1,5 @@
 //! Laws of what a screen showed. Each is the contract of a function that does nothing.
-ghost use Rattle.std.specs.Prelude.{◌≡◌, ◌≢◌, ◌≤◌, ◌+◌, ◌-◌, ℕ, List, [], ◌∷◌, ◌++◌, encode_utf8};
+ghost use Rattle.std.specs.Prelude.{◌≡◌, ◌≢◌, ◌≤◌, ◌+◌, ◌-◌, ◌*◌, ℕ, List, [], ◌∷◌, ◌++◌, length, encode_utf8};
 ghost use Rattle.std.specs.List.{AllByRecursion, flat_map};
 ghost use Rattle.anstyle_parse.specs.Stream.Call.{Call};
 ghost use Rattle.anstyle_parse.specs.Stream.Calls.{AreCalls};
@@ -8,7 +8,7 @@ ghost use Rattle.ansi_screen.specs.After.{State, new_state, after_all};
 ghost use Rattle.ansi_screen.specs.Reachable.{IsScreen};
 ghost use Rattle.ansi_screen.specs.Laws.{carriage_return, erase_rest, printing, text_columns};
 ghost use Rattle.screen_text.specs.Shown.{given_all, shown_text};
-ghost use Rattle.screen_text.specs.Laws.{IsEnded, IsPlain, ArePlain, LastIsNotEmpty, lines_bytes, empty_lines};
+ghost use Rattle.screen_text.specs.Laws.{most_cell_bytes, IsEnded, IsPlain, ArePlain, LastIsNotEmpty, lines_bytes, empty_lines};
 
 /// What a new screen showed of any bytes is clean text: UTF-8 with no C0 control but line feeds, and so
 /// without escapes; `ansi_strip` leaves it as it is (`ansi_strip::laws::clean_text`).
@@ -53,4 +53,12 @@ pub fn plain_text()
         → 2 ≤ columns → 1 ≤ rows → ArePlain lines → AllByRecursion IsPlain line → line ≢ []
         → AreCalls (lines_bytes lines ++ flat_map encode_utf8 line) calls
         → shown_text (new_state columns rows) calls ≡ lines_bytes (lines ++ line ∷ []) }
+{}
+
+/// Bound: by any bytes the text is at most as many screens of rows as there are bytes, and one more; a row is
+/// a cell's 12 bytes for each column, and a line feed.
+pub fn bound()
+    ensures { (columns rows : ℕ) (bytes : List ℕ) (calls : List Call) → AreCalls bytes calls
+        → length (shown_text (new_state columns rows) calls)
+        ≤ (length bytes + 1) * rows * (most_cell_bytes * columns + 1) }
 {}

@@ -1,0 +1,209 @@
+-- How long the text of what a screen showed can be.
+use Rattle.std.proofs.Common.{◌≡◌, ℕ, zero, suc, ◌+◌, ◌*◌, ◌≤◌, Bool, true, false, List, [], ◌∷◌, ◌++◌, length, take, drop, refl, ap, sym, ◌∙◌, subst, arith}
+use Rattle.std.specs.Prelude.{◌==◌, min, encode_utf8, if◌then◌else◌}
+use Rattle.std.specs.List.{AllByRecursion, flat_map}
+use Rattle.std.proofs.lemmas.List.{length-append, length-take}
+use Rattle.std.proofs.lemmas.Str.{length-encode, len_utf8_bounds}
+use Rattle.std.proofs.Math.Nat.{suc-mul, mul-le-mul_right}
+use Rattle.anstyle_parse.specs.Stream.Call.{Call, print, execute, hook, put, unhook, osc_dispatch, csi_dispatch, esc_dispatch}
+use Rattle.anstyle_parse.specs.Stream.Calls.{AreCalls}
+use Rattle.anstyle_parse.proofs.Canonical.Bounds.{length-calls}
+use Rattle.ansi_screen.specs.declared.cell.Cell.{Cell}
+use Rattle.ansi_screen.specs.declared.cell.Marks.{Marks}
+use Rattle.ansi_screen.specs.declared.cell.Marks.TheVariants.{Unmarked, One, Two}
+use Rattle.ansi_screen.specs.Cells.{is_right}
+use Rattle.ansi_screen.specs.Display.{Display, row_cells}
+use Rattle.ansi_screen.specs.Edits.{row_going_on}
+use Rattle.ansi_screen.specs.After.{State, new_state, after, after_all}
+use Rattle.ansi_screen.specs.Text.{marks_text, cell_text, used, used_rows}
+use Rattle.ansi_screen.specs.Leaving.{leaving, is_wrapping, before_scroll, first_rows, rows_left, all_left}
+use Rattle.ansi_screen.specs.Laws.{carriage_return, line_feed}
+use Rattle.ansi_screen.proofs.SizeLemmas.{HasSize, sized-after, sized-after_all, few-leave}
+use Rattle.screen_text.specs.Lines.{is_unprinted, goes_on, row_text, rows_text, open_after, closing, showing}
+use Rattle.screen_text.specs.Shown.{given, given_all, shown_text}
+use Rattle.screen_text.specs.Laws.{most_cell_bytes}
+use Rattle.screen_text.specs.ShowingProof.{all_left-append, after_all-append}
+use Rattle.screen_text.proofs.EndLemmas.{closed_text, closed-row, shown-closed}
+use Rattle.screen_text.proofs.RewrittenLemmas.{return-left}
+
+-- a cell
+length-character : (c : ℕ) → length (encode_utf8 c) ≤ 4
+length-character c = omega (arith, length-encode c, (len_utf8_bounds c).1)
+
+length-marks : (marks : Marks) → length (marks_text marks) ≤ 8
+length-marks Unmarked = omega arith
+length-marks (One first) = omega (arith, length-character first)
+length-marks (Two first second) =
+    omega (arith, length-append (encode_utf8 first) (encode_utf8 second), length-character first, length-character second)
+
+few-if : (t : Bool) (xs ys : List ℕ) (n : ℕ) → length xs ≤ n → length ys ≤ n → length (if t then xs else ys) ≤ n
+few-if true xs ys n first second = first
+few-if false xs ys n first second = second
+
+length-cell : (cell : Cell) → length (cell_text cell) ≤ 12
+unfolding cell_text
+length-cell cell =
+    few-if (is_right cell.part) [] (encode_utf8 cell.character ++ marks_text cell.marks) 12 (omega arith)
+    (omega (arith, length-append (encode_utf8 cell.character) (marks_text cell.marks), length-character cell.character, length-marks cell.marks))
+
+length-cells : (cells : List Cell) → length (flat_map cell_text cells) ≤ 12 * length cells
+length-cells [] = omega arith
+length-cells (cell ∷ cells) =
+    omega (arith, length-append (cell_text cell) (flat_map cell_text cells), length-cell cell, length-cells cells)
+
+-- a row of at most so many cells, of which the line feed is not there where it goes on
+abbrev row_bytes : ℕ → ℕ
+row_bytes width = most_cell_bytes * width + 1
+
+abbrev open_byte : Bool → ℕ
+open_byte on = if on then 1 else 0
+
+row-feed : (t : Bool) → length {A = ℕ} (if t then [] else 0x0A ∷ []) + open_byte t ≡ 1
+row-feed true = refl
+row-feed false = refl
+
+length-row : (width : ℕ) (row : List Cell) → length row ≤ width → length (row_text row) + open_byte (goes_on row) ≤ row_bytes width
+length-row width row few =
+    let k : ℕ = used is_unprinted row in
+    let cells : List Cell = take k row in
+    let feed : List ℕ = if goes_on row then [] else 0x0A ∷ [] in
+    omega (arith, length-append (flat_map cell_text cells) feed, length-cells cells, length-take k row, row-feed (goes_on row), few)
+
+abbrev AreFew : ℕ → List (List Cell) → Type 0
+AreFew width rows = AllByRecursion (λ (row : List Cell). length row ≤ width) rows
+
+length-closed : (width : ℕ) (on : Bool) (rows : List (List Cell)) → AreFew width rows
+    → length (closed_text on rows) ≤ length rows * row_bytes width + open_byte on
+length-closed width true [] are = omega arith
+length-closed width false [] are = omega arith
+length-closed width on (row ∷ rows) are =
+    omega (
+      arith,
+      ap length (closed-row on row rows),
+      length-append (row_text row) (closed_text (goes_on row) rows),
+      length-row width row are.0,
+      length-closed width (goes_on row) rows are.1,
+      suc-mul (length rows) (row_bytes width),
+    )
+
+-- rows of a display
+few-append : (width : ℕ) (rows more : List (List Cell)) → AreFew width rows
+    → AreFew width more → AreFew width (rows ++ more)
+few-append width [] more are others = others
+few-append width (row ∷ rows) more are others = (are.0, few-append width rows more are.1 others)
+
+few-first : (width n : ℕ) (d : Display) → d.width ≡ width → AreFew width (first_rows n d)
+few-first width zero d is = tt
+few-first width (suc n) d is =
+    few-append width (first_rows n d) (row_cells n d ∷ []) (few-first width n d is)
+    (omega (arith, length-take d.width (drop (n * d.width) d.cells), is), tt)
+
+length-first : (n : ℕ) (d : Display) → length (first_rows n d) ≡ n
+length-first zero d = refl
+length-first (suc n) d = omega (arith, length-append (first_rows n d) (row_cells n d ∷ []), length-first n d)
+
+used-if : (t : Bool) (a n : ℕ) → a ≤ n → (if t then a else n) ≤ n
+used-if true a n few = few
+used-if false a n few = omega arith
+
+few-used : (n : ℕ) (d : Display) → used_rows is_unprinted n d ≤ n
+few-used zero d = omega arith
+few-used (suc n) d = used-if _ (used_rows is_unprinted n d) (suc n) (omega (arith, few-used n d))
+
+width-if : {width : ℕ} (t : Bool) (d : Display) → d.width ≡ width → (if t then row_going_on true d else d).width ≡ width
+width-if true d is = is
+width-if false d is = is
+
+-- the rows that leave, and those that still show
+module _ (width height : ℕ) where
+  few-before : (call : Call) (d : Display) → d.width ≡ width → (before_scroll call d).width ≡ width
+  few-before (print c) d is = width-if (is_wrapping c d) d is
+  few-before (execute byte) d is = is
+  few-before (csi_dispatch groups intermediates ignore final) d is = is
+  few-before (esc_dispatch intermediates ignore final) d is = is
+  few-before (hook groups intermediates ignore final) d is = is
+  few-before (put byte) d is = is
+  few-before unhook d is = is
+  few-before (osc_dispatch parts bell) d is = is
+
+  few-left : (calls : List Call) (s : State) → HasSize width height s.display → AreFew width (all_left calls s)
+  few-left [] s is = tt
+  few-left (call ∷ calls) s is =
+      few-append width (rows_left call s.display) (all_left calls (after call s))
+      (few-first width (leaving call s.display) (before_scroll call s.display) (few-before call s.display is.0))
+      (few-left calls (after call s) (sized-after width height call s is))
+
+  -- by what is given of a call no more than the screen has
+  length-one : (call : Call) (s : State) → HasSize width height s.display → length (all_left (call ∷ []) s) ≤ height
+  length-one call s is =
+      omega (
+        arith,
+        length-append (rows_left call s.display) [],
+        length-first (leaving call s.display) (before_scroll call s.display),
+        few-leave width height call s.display is,
+      )
+
+  length-control : (byte : ℕ) (t : Bool) (s : State) → (byte == 0x0A) ≡ t → HasSize width height s.display
+      → length (all_left (given (execute byte)) s) ≤ height
+  length-control byte true s test is =
+      let next : State = after carriage_return s in
+      rw test (omega (
+        arith,
+        length-append (rows_left carriage_return s.display) (all_left (line_feed ∷ []) next),
+        ap length (return-left s.display),
+        length-one line_feed next (sized-after width height carriage_return s is),
+      ))
+  length-control byte false s test is = rw test (length-one (execute byte) s is)
+
+  length-given : (call : Call) (s : State) → HasSize width height s.display → length (all_left (given call) s) ≤ height
+  length-given (print c) s is = length-one (print c) s is
+  length-given (execute byte) s is = length-control byte _ s refl is
+  length-given (csi_dispatch groups intermediates ignore final) s is = length-one (csi_dispatch groups intermediates ignore final) s is
+  length-given (esc_dispatch intermediates ignore final) s is = length-one (esc_dispatch intermediates ignore final) s is
+  length-given (hook groups intermediates ignore final) s is = length-one (hook groups intermediates ignore final) s is
+  length-given (put byte) s is = length-one (put byte) s is
+  length-given unhook s is = length-one unhook s is
+  length-given (osc_dispatch parts bell) s is = length-one (osc_dispatch parts bell) s is
+
+  length-left : (calls : List Call) (s : State) → HasSize width height s.display → length (all_left (given_all calls) s) ≤ length calls * height
+  length-left [] s is = omega arith
+  length-left (call ∷ calls) s is =
+      let next : State = after_all (given call) s in
+      omega (
+        arith,
+        ap length (all_left-append (given call) (given_all calls) s),
+        length-append (all_left (given call) s) (all_left (given_all calls) next),
+        length-given call s is,
+        length-left calls next (sized-after_all width height (given call) s is),
+        suc-mul (length calls) height,
+      )
+
+pub length-shown : (width height : ℕ) (bytes : List ℕ) (calls : List Call) → AreCalls bytes calls
+    → length (shown_text (new_state width height) calls) ≤ (length bytes + 1) * height * (most_cell_bytes * width + 1)
+length-shown width height bytes calls are =
+    let s : State = new_state width height in
+    let new : HasSize width height s.display = (refl, refl, omega arith) in
+    let end : State = after_all (given_all calls) s in
+    let kept : HasSize width height end.display = sized-after_all width height (given_all calls) s new in
+    let left : List (List Cell) = all_left (given_all calls) s in
+    let shows : List (List Cell) = showing end.display in
+    let rows : List (List Cell) = left ++ shows in
+    let few : AreFew width rows =
+    few-append width left shows (few-left width height (given_all calls) s new)
+    (few-first width (used_rows is_unprinted end.display.height end.display) end.display kept.0) in
+    let calls_few : length calls * height ≤ length bytes * height =
+    mul-le-mul_right {m = length calls} {n = length bytes} height (length-calls bytes calls are) in
+    let count : length rows ≤ (length bytes + 1) * height =
+    omega (
+      arith,
+      length-append left shows,
+      length-left width height calls s new,
+      calls_few,
+      length-first (used_rows is_unprinted end.display.height end.display) end.display,
+      few-used end.display.height end.display,
+      kept.1,
+      suc-mul (length bytes) height,
+    ) in
+    let long : length rows * row_bytes width ≤ (length bytes + 1) * height * row_bytes width =
+    mul-le-mul_right {m = length rows} {n = (length bytes + 1) * height} (row_bytes width) count in
+    omega (arith, ap length (shown-closed calls s), length-closed width false rows few, long)

@@ -1,5 +1,5 @@
 -- What a row showed before it is written anew is never written.
-use Rattle.std.proofs.Common.{◌≡◌, ℕ, ◌+◌, ◌-◌, ◌≤◌, false, List, [], ◌∷◌, ◌++◌, refl, ap, sym, ◌∙◌, arith}
+use Rattle.std.proofs.Common.{◌≡◌, ℕ, ◌+◌, ◌-◌, ◌*◌, ◌≤◌, false, List, [], ◌∷◌, ◌++◌, refl, ap, sym, ◌∙◌, arith}
 use Rattle.std.specs.Prelude.{min, nat_lt, ◌==◌, ◌&&◌, not}
 use Rattle.std.proofs.lemmas.Bool.{le-ltb, and_left, and_right}
 use Rattle.std.proofs.lemmas.List.{append_assoc}
@@ -8,7 +8,8 @@ use Rattle.anstyle_parse.specs.Stream.Call.{Call, print}
 use Rattle.ansi_screen.specs.Display.{Display}
 use Rattle.ansi_screen.specs.Widths.{is_shown, columns}
 use Rattle.ansi_screen.specs.Print.{printed}
-use Rattle.ansi_screen.specs.After.{State, function_of, executed, after, after_all}
+use Rattle.ansi_screen.specs.Edits.{erased_part, erased_line}
+use Rattle.ansi_screen.specs.After.{State, function_of, is_known, edited, controlled, sequenced, is_repeat, executed, after, after_all}
 use Rattle.ansi_screen.specs.Leaving.{is_wrapping, leaving_by_control, leaving_by_function, leaving_by_sequence, rows_left, all_left}
 use Rattle.ansi_screen.specs.Reachable.{IsScreen}
 use Rattle.ansi_screen.specs.Laws.{carriage_return, erase_rest, printing, text_columns}
@@ -16,6 +17,7 @@ use Rattle.ansi_screen.proofs.LawLemmas.{after_all-append}
 use Rattle.ansi_screen.proofs.KeptCalls.{kept-after, kept-after_all}
 use Rattle.ansi_screen.proofs.RowLemmas.{Wrote, printed-wrote, written-anew}
 use Rattle.screen_text.specs.Lines.{rows_text}
+use Rattle.screen_text.specs.Laws.{erase_line}
 use Rattle.screen_text.specs.Shown.{given, given_all, still_text, shown_text}
 use Rattle.screen_text.specs.Lines.{open_after}
 use Rattle.screen_text.specs.ShowingProof.{all_left-append}
@@ -158,3 +160,53 @@ rewritten-shown s earlier later before text screen room fits =
     ∙ (ap (shown_given s) first
     ∙ (same-shown (start ++ long) (start ++ written text) rest s left end
     ∙ (ap (shown_given s) (sym second) ∙ sym (shown-given (earlier ++ carriage_return ∷ (printing text ++ erase_rest ∷ later)) s))))
+
+-- A row that is erased, and a carriage return: the same as these the other way round, when the rest of the row is erased.
+erased-returned : (s : State) → 2 ≤ s.display.width → after_all (erase_line ∷ carriage_return ∷ []) s ≡ after_all (carriage_return ∷ erase_rest ∷ []) s
+unfolding is_repeat sequenced controlled function_of is_known edited executed erased_line erased_part
+erased-returned s wide =
+    let first : min 0 (s.display.width - 1) ≡ 0 = omega arith in
+    let place : s.display.cursor.row * s.display.width + 0 ≡ s.display.cursor.row * s.display.width = omega arith in
+    rw (first, first, place) refl
+
+wipe-left : (s : State) → all_left (erase_line ∷ carriage_return ∷ []) s ≡ []
+unfolding leaving_by_sequence leaving_by_function function_of leaving_by_control
+wipe-left s = refl
+
+pub wiped-shown : (s : State) (earlier later : List Call) (before : List ℕ) → IsScreen (after_all (given_all earlier) s).display
+    → (after_all (given_all earlier) s).display.cursor.column + text_columns before ≤ (after_all (given_all earlier) s).display.width
+    → shown_text s (earlier ++ (printing before ++ erase_line ∷ carriage_return ∷ later))
+    ≡ shown_text s (earlier ++ erase_line ∷ carriage_return ∷ later)
+wiped-shown s earlier later before screen room =
+    let start : List Call = given_all earlier in
+    let there : State = after_all start s in
+    let wipe : List Call = erase_line ∷ carriage_return ∷ [] in
+    let long : List Call = printing before ++ wipe in
+    let next : State = after_all (printing before) there in
+    let rest : List Call = given_all later in
+    let wide : 2 ≤ there.display.width = screen.sized.two_columns in
+    let same_width : next.display.width ≡ there.display.width = printing-width before there screen room in
+    let first : given_all (earlier ++ (printing before ++ erase_line ∷ carriage_return ∷ later)) ≡ (start ++ long) ++ rest =
+    flat_map-append given earlier (printing before ++ erase_line ∷ carriage_return ∷ later)
+    ∙ (ap (λ l. start ++ l) (flat_map-append given (printing before) (erase_line ∷ carriage_return ∷ later)
+    ∙ (ap (λ l. l ++ (wipe ++ rest)) (given-printing before) ∙ sym (append_assoc (printing before) wipe rest)))
+    ∙ sym (append_assoc start long rest)) in
+    let second : given_all (earlier ++ erase_line ∷ carriage_return ∷ later) ≡ (start ++ wipe) ++ rest =
+    flat_map-append given earlier (erase_line ∷ carriage_return ∷ later) ∙ sym (append_assoc start wipe rest) in
+    let left : all_left (start ++ long) s ≡ all_left (start ++ wipe) s =
+    all_left-append start long s
+    ∙ (ap (λ l. all_left start s ++ l)
+    (all_left-append (printing before) wipe there
+    ∙ (ap (λ l. l ++ all_left wipe next) (printing-left before there screen room) ∙ (wipe-left next ∙ sym (wipe-left there))))
+    ∙ sym (all_left-append start wipe s)) in
+    let anew : after_all long there ≡ after_all wipe there =
+    after_all-append (printing before) wipe there
+    ∙ (erased-returned next (omega arith)
+    ∙ (sym (after_all-append (printing before) (written []) there)
+    ∙ (written-anew there before [] screen room (omega arith) ∙ sym (erased-returned there wide)))) in
+    let end : after_all (start ++ long) s ≡ after_all (start ++ wipe) s =
+    after_all-append start long s ∙ (anew ∙ sym (after_all-append start wipe s)) in
+    shown-given (earlier ++ (printing before ++ erase_line ∷ carriage_return ∷ later)) s
+    ∙ (ap (shown_given s) first
+    ∙ (same-shown (start ++ long) (start ++ wipe) rest s left end
+    ∙ (ap (shown_given s) (sym second) ∙ sym (shown-given (earlier ++ erase_line ∷ carriage_return ∷ later) s))))

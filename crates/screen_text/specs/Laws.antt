@@ -1,7 +1,7 @@
 -- What the laws speak of.
-use Rattle.std.specs.Prelude.{◌≡◌, ◌≢◌, ⊤, ◌⊎◌, ℕ, true, List, [], ◌∷◌, ◌++◌, replicate, encode_utf8}
+use Rattle.std.specs.Prelude.{◌≡◌, ◌≢◌, ⊤, ◌⊎◌, ℕ, true, false, List, [], ◌∷◌, ◌++◌, replicate, encode_utf8}
 use Rattle.std.specs.List.{AllByRecursion, flat_map}
-use Rattle.anstyle_parse.specs.Stream.Call.{Call}
+use Rattle.anstyle_parse.specs.Stream.Call.{Call, csi_dispatch}
 use Rattle.anstyle_parse.specs.Laws.Lawful.{is_character}
 use Rattle.ansi_screen.specs.Widths.{is_shown, columns}
 use Rattle.ansi_screen.specs.Laws.{line_feed, printing}
@@ -39,6 +39,10 @@ line_bytes line = flat_map encode_utf8 line ++ 0x0A ∷ []
 
 abbrev pub lines_bytes : List (List ℕ) → List ℕ
 lines_bytes lines = flat_map line_bytes lines
+
+-- EL as ESC [ 2 K makes it
+abbrev pub erase_line : Call
+erase_line = csi_dispatch ((2 ∷ []) ∷ []) [] false 0x4B
 
 -- so many empty lines
 abbrev pub empty_lines : ℕ → List (List ℕ)

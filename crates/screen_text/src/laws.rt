@@ -4,11 +4,12 @@ ghost use Rattle.std.specs.List.{AllByRecursion, flat_map};
 ghost use Rattle.anstyle_parse.specs.Stream.Call.{Call};
 ghost use Rattle.anstyle_parse.specs.Stream.Calls.{AreCalls};
 ghost use Rattle.ansi_strip.specs.Strip.{IsClean, stripped};
+ghost use Rattle.ansi_screen.specs.Display.{Display};
 ghost use Rattle.ansi_screen.specs.After.{State, new_state, after_all};
 ghost use Rattle.ansi_screen.specs.Reachable.{IsScreen};
 ghost use Rattle.ansi_screen.specs.Laws.{carriage_return, erase_rest, printing, text_columns};
 ghost use Rattle.screen_text.specs.Shown.{given_all, shown_text};
-ghost use Rattle.screen_text.specs.Laws.{most_cell_bytes, IsEnded, IsPlain, ArePlain, LastIsNotEmpty, lines_bytes, empty_lines};
+ghost use Rattle.screen_text.specs.Laws.{most_cell_bytes, erase_line, IsEnded, IsPlain, ArePlain, LastIsNotEmpty, lines_bytes, empty_lines};
 
 /// What a new screen showed of any bytes is clean text: UTF-8 with no C0 control but line feeds, and so
 /// without escapes; `ansi_strip` leaves it as it is (`ansi_strip::laws::clean_text`).
@@ -17,22 +18,9 @@ pub fn clean()
         → IsClean (shown_text (new_state columns rows) calls) }
 {}
 
-/// What a new screen showed of any calls is empty or ends with a line feed.
+/// What a screen showed of any calls is empty or ends with a line feed.
 pub fn lines()
     ensures { (screen : State) (calls : List Call) → IsEnded (shown_text screen calls) }
-{}
-
-/// A row that is written anew, as by a progress bar: of what was printed before, from the cursor on and with
-/// room in the row, a carriage return, a text that has room too, and EL leave nothing; so what a screen
-/// showed of a stream is as if it had never been printed, whatever came earlier and comes later.
-pub fn rewritten()
-    ensures { (screen : State) (earlier later : List Call) (before text : List ℕ)
-        → IsScreen (after_all (given_all earlier) screen).display
-        → (after_all (given_all earlier) screen).display.cursor.column + text_columns before
-        ≤ (after_all (given_all earlier) screen).display.width
-        → text_columns text ≤ (after_all (given_all earlier) screen).display.width
-        → shown_text screen (earlier ++ (printing before ++ carriage_return ∷ (printing text ++ erase_rest ∷ later)))
-        ≡ shown_text screen (earlier ++ carriage_return ∷ (printing text ++ erase_rest ∷ later)) }
 {}
 
 /// Plain text comes through: lines of characters of one column or two, each with a line feed, however long
@@ -55,8 +43,26 @@ pub fn plain_text()
         → shown_text (new_state columns rows) calls ≡ lines_bytes (lines ++ line ∷ []) }
 {}
 
-/// Bound: by any bytes the text is at most as many screens of rows as there are bytes, and one more; a row is
-/// a cell's 12 bytes for each column, and a line feed.
+/// A row that is written anew, as by a progress bar: what was printed before, from the cursor on and with
+/// room in the row, is never written, whatever came earlier and comes later. After it comes a carriage return,
+/// a text that has room too, and EL (`text`, where it may be empty), or EL of the whole line and a
+/// carriage return (`line`). Each screen that a stream leads to is one (`ansi_screen::laws::reachable`).
+pub fn rewritten()
+    ensures text { (screen : State) (earlier later : List Call) (before text : List ℕ) (there : Display)
+        → there ≡ (after_all (given_all earlier) screen).display → IsScreen there
+        → there.cursor.column + text_columns before ≤ there.width → text_columns text ≤ there.width
+        → shown_text screen (earlier ++ (printing before ++ carriage_return ∷ (printing text ++ erase_rest ∷ later)))
+        ≡ shown_text screen (earlier ++ carriage_return ∷ (printing text ++ erase_rest ∷ later)) }
+    ensures line { (screen : State) (earlier later : List Call) (before : List ℕ) (there : Display)
+        → there ≡ (after_all (given_all earlier) screen).display → IsScreen there
+        → there.cursor.column + text_columns before ≤ there.width
+        → shown_text screen (earlier ++ (printing before ++ erase_line ∷ carriage_return ∷ later))
+        ≡ shown_text screen (earlier ++ erase_line ∷ carriage_return ∷ later) }
+{}
+
+/// Bound: a byte writes at most a screen of rows, and the end of the stream another; a row has at most 12 bytes for
+/// each column, and a line feed. One byte does so where all rows are full of characters with two marks, of four
+/// bytes each: the final byte of SU, or on a screen of one row a line feed. No stream does so by every byte.
 pub fn bound()
     ensures { (columns rows : ℕ) (bytes : List ℕ) (calls : List Call) → AreCalls bytes calls
         → length (shown_text (new_state columns rows) calls)

@@ -1,6 +1,6 @@
 -- How long the text of what a screen showed can be.
-use Rattle.std.proofs.Common.{◌≡◌, ℕ, zero, suc, ◌+◌, ◌*◌, ◌≤◌, Bool, true, false, List, [], ◌∷◌, ◌++◌, length, take, drop, refl, ap, sym, ◌∙◌, subst, arith}
-use Rattle.std.specs.Prelude.{◌==◌, min, encode_utf8, if◌then◌else◌}
+use Rattle.std.proofs.Common.{◌≡◌, ℕ, zero, suc, ◌+◌, ◌*◌, ◌≤◌, Bool, true, false, List, [], ◌∷◌, ◌++◌, length, take, drop, refl, ap, arith}
+use Rattle.std.specs.Prelude.{◌==◌, encode_utf8, if◌then◌else◌}
 use Rattle.std.specs.List.{AllByRecursion, flat_map}
 use Rattle.std.proofs.lemmas.List.{length-append, length-take}
 use Rattle.std.proofs.lemmas.Str.{length-encode, len_utf8_bounds}
@@ -19,10 +19,10 @@ use Rattle.ansi_screen.specs.Text.{marks_text, cell_text, used, used_rows}
 use Rattle.ansi_screen.specs.Leaving.{leaving, is_wrapping, before_scroll, first_rows, rows_left, all_left}
 use Rattle.ansi_screen.specs.Laws.{carriage_return, line_feed}
 use Rattle.ansi_screen.proofs.SizeLemmas.{HasSize, sized-after, sized-after_all, few-leave}
-use Rattle.screen_text.specs.Lines.{is_unprinted, goes_on, row_text, rows_text, open_after, closing, showing}
+use Rattle.screen_text.specs.Lines.{is_unprinted, goes_on, row_text, showing}
 use Rattle.screen_text.specs.Shown.{given, given_all, shown_text}
 use Rattle.screen_text.specs.Laws.{most_cell_bytes}
-use Rattle.screen_text.specs.ShowingProof.{all_left-append, after_all-append}
+use Rattle.screen_text.specs.ShowingProof.{all_left-append}
 use Rattle.screen_text.proofs.EndLemmas.{closed_text, closed-row, shown-closed}
 use Rattle.screen_text.proofs.RewrittenLemmas.{return-left}
 

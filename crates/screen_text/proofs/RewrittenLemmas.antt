@@ -12,7 +12,7 @@ use Rattle.ansi_screen.specs.Edits.{erased_part, erased_line}
 use Rattle.ansi_screen.specs.After.{State, function_of, is_known, edited, controlled, sequenced, is_repeat, executed, after, after_all}
 use Rattle.ansi_screen.specs.Leaving.{is_wrapping, leaving_by_control, leaving_by_function, leaving_by_sequence, rows_left, all_left}
 use Rattle.ansi_screen.specs.Reachable.{IsScreen}
-use Rattle.ansi_screen.specs.Laws.{carriage_return, erase_rest, printing, text_columns}
+use Rattle.ansi_screen.specs.Laws.{carriage_return, line_feed, erase_rest, printing, text_columns}
 use Rattle.ansi_screen.proofs.LawLemmas.{after_all-append}
 use Rattle.ansi_screen.proofs.KeptCalls.{kept-after, kept-after_all}
 use Rattle.ansi_screen.proofs.RowLemmas.{Wrote, printed-wrote, written-anew}
@@ -210,3 +210,34 @@ wiped-shown s earlier later before screen room =
     ∙ (ap (shown_given s) first
     ∙ (same-shown (start ++ long) (start ++ wipe) rest s left end
     ∙ (ap (shown_given s) (sym second) ∙ sym (shown-given (earlier ++ erase_line ∷ carriage_return ∷ later) s))))
+
+-- A carriage return that is given twice.
+return-twice : (s : State) → after carriage_return (after carriage_return s) ≡ after carriage_return s
+unfolding executed
+return-twice s = refl
+
+pub returned-shown : (s : State) (earlier later : List Call)
+    → shown_text s (earlier ++ carriage_return ∷ line_feed ∷ later) ≡ shown_text s (earlier ++ line_feed ∷ later)
+returned-shown s earlier later =
+    let start : List Call = given_all earlier in
+    let there : State = after_all start s in
+    let twice : List Call = carriage_return ∷ carriage_return ∷ line_feed ∷ [] in
+    let once : List Call = carriage_return ∷ line_feed ∷ [] in
+    let rest : List Call = given_all later in
+    let next : State = after carriage_return there in
+    let first : given_all (earlier ++ carriage_return ∷ line_feed ∷ later) ≡ (start ++ twice) ++ rest =
+    flat_map-append given earlier (carriage_return ∷ line_feed ∷ later) ∙ sym (append_assoc start twice rest) in
+    let second : given_all (earlier ++ line_feed ∷ later) ≡ (start ++ once) ++ rest =
+    flat_map-append given earlier (line_feed ∷ later) ∙ sym (append_assoc start once rest) in
+    let rows : all_left twice there ≡ all_left once there =
+    ap (λ l. l ++ all_left once next) (return-left there.display)
+    ∙ (ap (λ l. l ++ all_left (line_feed ∷ []) (after carriage_return next)) (return-left next.display)
+    ∙ (ap (all_left (line_feed ∷ [])) (return-twice there) ∙ ap (λ l. l ++ all_left (line_feed ∷ []) next) (sym (return-left there.display)))) in
+    let left : all_left (start ++ twice) s ≡ all_left (start ++ once) s =
+    all_left-append start twice s ∙ (ap (λ l. all_left start s ++ l) rows ∙ sym (all_left-append start once s)) in
+    let end : after_all (start ++ twice) s ≡ after_all (start ++ once) s =
+    after_all-append start twice s ∙ (ap (after line_feed) (return-twice there) ∙ sym (after_all-append start once s)) in
+    shown-given (earlier ++ carriage_return ∷ line_feed ∷ later) s
+    ∙ (ap (shown_given s) first
+    ∙ (same-shown (start ++ twice) (start ++ once) rest s left end
+    ∙ (ap (shown_given s) (sym second) ∙ sym (shown-given (earlier ++ line_feed ∷ later) s))))

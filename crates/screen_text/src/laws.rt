@@ -7,7 +7,7 @@ ghost use Rattle.ansi_strip.specs.Strip.{IsClean, stripped};
 ghost use Rattle.ansi_screen.specs.Display.{Display};
 ghost use Rattle.ansi_screen.specs.After.{State, new_state, after_all};
 ghost use Rattle.ansi_screen.specs.Reachable.{IsScreen};
-ghost use Rattle.ansi_screen.specs.Laws.{carriage_return, erase_rest, printing, text_columns};
+ghost use Rattle.ansi_screen.specs.Laws.{carriage_return, line_feed, erase_rest, printing, text_columns};
 ghost use Rattle.screen_text.specs.Shown.{given_all, shown_text};
 ghost use Rattle.screen_text.specs.Laws.{most_cell_bytes, erase_line, IsEnded, IsPlain, ArePlain, LastIsNotEmpty, lines_bytes, empty_lines};
 
@@ -43,6 +43,14 @@ pub fn plain_text()
         → shown_text (new_state columns rows) calls ≡ lines_bytes (lines ++ line ∷ []) }
 {}
 
+/// A carriage return before a line feed changes nothing: a stream that was recorded on a terminal shows what the
+/// same does without them.
+pub fn returned()
+    ensures { (screen : State) (earlier later : List Call)
+        → shown_text screen (earlier ++ carriage_return ∷ line_feed ∷ later)
+        ≡ shown_text screen (earlier ++ line_feed ∷ later) }
+{}
+
 /// A row that is written anew, as by a progress bar: what was printed before, from the cursor on and with
 /// room in the row, is never written, whatever came earlier and comes later. After it comes a carriage return,
 /// a text that has room too, and EL (`text`, where it may be empty), or EL of the whole line and a
@@ -61,8 +69,8 @@ pub fn rewritten()
 {}
 
 /// Bound: a byte writes at most a screen of rows, and the end of the stream another; a row has at most 12 bytes for
-/// each column, and a line feed. One byte does so where all rows are full of characters with two marks, of four
-/// bytes each: the final byte of SU, or on a screen of one row a line feed. No stream does so by every byte.
+/// each column, and a line feed. One byte writes so much where all rows are full of characters with two marks, of
+/// four bytes each: the final byte of SU, and on a screen of one row a line feed too.
 pub fn bound()
     ensures { (columns rows : ℕ) (bytes : List ℕ) (calls : List Call) → AreCalls bytes calls
         → length (shown_text (new_state columns rows) calls)

@@ -3,7 +3,7 @@ use ansi_screen::laws::scrolled_off;
 use ansi_screen::{Cell, Part, Screen, Scrolling, Size, TakeRow, put_cells};
 use ansi_style::Style;
 use anstyle_parse::io::{FromRead, FromWrite, Output, write_calls_by};
-use screen_text::laws::clean;
+use screen_text::laws::{bound, clean, lines, plain_text, returned, rewritten};
 use screen_text::{ShownWriter, write_shown};
 use std::test::Fail;
 
@@ -59,6 +59,11 @@ fn what_was_shown(rt: HostRuntime) -> Result<(), Fail> {
     let written = writer.into_inner();
     assert_eq!(rt; written.as_slice(), b"20%\nlonger\n ok \n".as_slice());
     clean();
+    lines();
+    plain_text();
+    returned();
+    rewritten();
+    bound();
     Ok(())
 }
 

@@ -1,11 +1,15 @@
 -- What a display shows as text: its rows, without blanks at their ends and without blank rows
 -- at the end.
-use Rattle.std.specs.Prelude.{ℕ, zero, suc, Bool, true, false, ◌&&◌, not, ◌==◌, List, [], ◌∷◌, ◌++◌, take, encode_utf8, if◌then◌else◌}
+use Rattle.std.specs.Prelude.{ℕ, zero, suc, ◌-◌, Bool, true, false, ◌&&◌, not, ◌==◌, List, [], ◌∷◌, ◌++◌, length, take, encode_utf8, if◌then◌else◌}
 use Rattle.std.specs.List.{flat_map}
 use Rattle.ansi_screen.specs.declared.cell.Cell.{Cell}
 use Rattle.ansi_screen.specs.declared.cell.Marks.{Marks}
 use Rattle.ansi_screen.specs.declared.cell.Marks.TheVariants.{Unmarked, One, Two}
-use Rattle.ansi_screen.specs.Cells.{is_right}
+use Rattle.ansi_screen.specs.declared.cell.Part.{Part}
+use Rattle.ansi_screen.specs.declared.cell.Part.TheVariants.{Empty}
+use Rattle.ansi_screen.specs.declared.text.LeftOut.{LeftOut}
+use Rattle.ansi_screen.specs.declared.text.LeftOut.TheVariants.{Blanks, Unprinted}
+use Rattle.ansi_screen.specs.Cells.{is_right, cell_at}
 use Rattle.ansi_screen.specs.Display.{Display, row_cells}
 
 -- the characters of no column that came behind a cell's own
@@ -22,6 +26,23 @@ is_unmarked (Two first second) = false
 -- a space without marks, in whatever style
 unfoldable pub is_blank : Cell → Bool
 is_blank cell = cell.character == 0x20 && not (is_right cell.part) && is_unmarked cell.marks
+
+abbrev pub is_empty : Part → Bool
+is_empty Empty = true
+is_empty part = false
+
+-- a cell where nothing was printed, or what was is erased
+unfoldable pub is_unprinted : Cell → Bool
+is_unprinted cell = is_empty cell.part && is_unmarked cell.marks
+
+-- the test for what is left out at the end of a row
+abbrev pub left_out : LeftOut → Cell → Bool
+left_out Blanks = is_blank
+left_out Unprinted = is_unprinted
+
+-- whether a row and the next are one line: its last cell says so
+abbrev pub goes_on : List Cell → Bool
+goes_on row = (cell_at (length row - 1) row).goes_on
 
 -- how many cells come up to the last that is none of those which a test names, and with it
 abbrev pub used : (Cell → Bool) → List Cell → ℕ

@@ -24,4 +24,4 @@ pub use leaving::{Scrolling, TakeRow};
 pub use place::{Charsets, Place};
 pub use screen::{MAX_COLUMNS, MAX_ROWS, MIN_COLUMNS, MIN_ROWS, Screen};
 pub use size::Size;
-pub use text::put_cells;
+pub use text::{LeftOut, goes_on, put_cells, used};

@@ -2,9 +2,9 @@
 ghost use Rattle.std.specs.Prelude.{◌≡◌, ◌≤◌, ◌<◌, length};
 ghost use Rattle.std.specs.List.{flat_map};
 ghost use Rattle.anstyle_parse.specs.Io.Output.{Adds};
-ghost use Rattle.ansi_screen.specs.Text.{is_blank, used, cell_text, row_text, used_rows, rows_text, text_of, marks_text};
+ghost use Rattle.ansi_screen.specs.Text.{is_blank, is_unprinted, left_out, used, goes_on, cell_text, row_text, used_rows, rows_text, text_of, marks_text};
 
-use crate::cell::{Cell, Marks};
+use crate::cell::{Cell, Marks, Part};
 use crate::display::Display;
 use crate::screen::Screen;
 use anstyle_parse::io::{Output, Sink};
@@ -17,18 +17,54 @@ fn is_blank(cell: Cell) -> bool
     cell.character == ' ' && !cell.is_right() && matches!(cell.marks, Marks::Unmarked)
 }
 
-/// How many cells come up to the last that is not blank.
-fn used(cells: &[Cell]) -> usize
-    ensures used { result ≡ used is_blank cells.now }
+/// Whether nothing was printed there, or what was is erased.
+#[tactic(auto, unfolding(crate::specs::Text::is_unprinted))]
+fn is_unprinted(cell: Cell) -> bool
+    ensures { result ≡ is_unprinted cell }
+{
+    matches!(cell.part, Part::Empty) && matches!(cell.marks, Marks::Unmarked)
+}
+
+/// What is left out at the end of a row.
+#[derive(Clone, Copy, Debug, PartialEq, Eq)]
+pub enum LeftOut {
+    /// Spaces without marks, in whatever style.
+    Blanks,
+    /// Cells where nothing was printed, or what was is erased.
+    Unprinted,
+}
+
+impl LeftOut {
+    /// Whether it is such a cell.
+    fn has(self, cell: Cell) -> bool
+        ensures { result ≡ left_out self cell }
+    {
+        match self {
+            LeftOut::Blanks => is_blank(cell),
+            LeftOut::Unprinted => is_unprinted(cell),
+        }
+    }
+}
+
+/// How many cells of a row come up to the last that is not left out.
+pub fn used(cells: &[Cell], ends: LeftOut) -> usize
+    ensures used { result ≡ used (left_out ends) cells.now }
     ensures within { result ≤ length cells.now }
 {
     let mut used = 0;
     for (column, cell) in cells.iter().enumerate() {
-        if !is_blank(*cell) {
+        if !ends.has(*cell) {
             used = column + 1;
         }
     }
     used
+}
+
+/// Whether a row and the next are one line.
+pub fn goes_on(row: &[Cell]) -> bool
+    ensures { result ≡ goes_on row.now }
+{
+    !row.is_empty() && row[row.len() - 1].goes_on
 }
 
 /// Writes marks.
@@ -69,19 +105,19 @@ pub fn put_cells<W: Sink>(output: &mut Output<W>, cells: &[Cell])
 fn put_row<W: Sink>(output: &mut Output<W>, cells: &[Cell])
     ensures { Adds W.Sink (row_text cells.now) output.old output.new }
 {
-    let end = used(cells);
+    let end = used(cells, LeftOut::Blanks);
     put_cells(output, &cells[..end]);
 }
 
 impl Display {
-    /// How many rows come up to the last that is not blank.
-    fn used_rows(&self) -> usize
-        ensures used { result ≡ used_rows is_blank self.now.height self.now }
+    /// How many rows come up to the last that has a cell which is not left out.
+    fn used_rows(&self, ends: LeftOut) -> usize
+        ensures used { result ≡ used_rows (left_out ends) self.now.height self.now }
         ensures within { result ≤ self.now.height }
     {
         let mut end = 0;
         for row in 0..self.rows() {
-            if used(self.row(row)) > 0 {
+            if used(self.row(row), ends) > 0 {
                 end = row + 1;
             }
         }
@@ -92,7 +128,7 @@ impl Display {
     fn write_rows<W: Sink>(&self, output: &mut Output<W>)
         ensures { Adds W.Sink (text_of self.now) output.old output.new }
     {
-        let end = self.used_rows();
+        let end = self.used_rows(LeftOut::Blanks);
         for row in 0..end {
             put_row(output, self.row(row));
             output.put_byte(b'\n');
@@ -101,6 +137,14 @@ impl Display {
 }
 
 impl Screen {
+    /// How many rows come up to the last that has a cell which is not left out.
+    pub fn used_rows(&self, ends: LeftOut) -> usize
+        ensures used { result ≡ used_rows (left_out ends) self.now.display.height self.now.display }
+        ensures within { result ≤ self.now.display.height }
+    {
+        self.display().used_rows(ends)
+    }
+
     /// Writes what the screen shows as text in UTF-8: each row without the blanks at its end,
     /// and a line feed, without the blank rows at the end.
     pub fn write_text<W: Sink>(&self, output: &mut Output<W>)

@@ -1,37 +1,36 @@
 -- What a writer of what a screen showed has, and what calls do to it.
-use Rattle.std.specs.Prelude.{◌≡◌, ℕ, Bool, List}
-use Rattle.anstyle_parse.specs.declared.io.devices.Sink.{Ghosts as SinkOf}
-use Rattle.anstyle_parse.specs.declared.io.output.Output.{Output}
+use Rattle.std.specs.Prelude.{◌≡◌, ℕ, List}
 use Rattle.anstyle_parse.specs.Stream.Call.{Call}
-use Rattle.anstyle_parse.specs.Io.Output.{Adds}
+use Rattle.ansi_screen.specs.declared.cell.Cell.{Cell}
 use Rattle.ansi_screen.specs.After.{State, after_all}
 use Rattle.ansi_screen.specs.Leaving.{all_left, taker_of, screen_of as scrolling_screen}
 use Rattle.screen_text.specs.declared.performer.ShownWriter.{ShownWriter}
-use Rattle.screen_text.specs.Lines.{rows_text, open_after, output_of as row_output, is_open}
-use Rattle.screen_text.specs.Shown.{given_all, left_text, still_text}
+use Rattle.screen_text.specs.Lines.{showing}
+use Rattle.screen_text.specs.Rows.{rows_from, after_rows, last_rows_from, Took}
+use Rattle.screen_text.specs.Shown.{given_all}
 
--- the output that it writes to; its screen; whether the last row that left goes on
-abbrev pub output_of : {W : Type 0} → ShownWriter W → Output W
-output_of performer = row_output (taker_of performer.scrolling)
+-- what writes the rows; its screen
+abbrev pub rows_of : {R : Type 0} → ShownWriter R → R
+rows_of performer = taker_of performer.scrolling
 
-abbrev pub screen_of : {W : Type 0} → ShownWriter W → State
+abbrev pub screen_of : {R : Type 0} → ShownWriter R → State
 screen_of performer = scrolling_screen performer.scrolling
 
-abbrev pub is_open_of : {W : Type 0} → ShownWriter W → Bool
-is_open_of performer = is_open (taker_of performer.scrolling)
-
 -- what it writes by a list of calls, as it stands, and at the end behind them
-abbrev pub text_from : {W : Type 0} → ShownWriter W → List Call → List ℕ
-text_from performer calls = left_text (screen_of performer) calls
+abbrev pub text_from : {R S : Type 0} → (standing_in : R → S) → (row_text : S → List Cell → List ℕ)
+    → (after_row : S → List Cell → S) → ShownWriter R → List Call → List ℕ
+text_from standing_in row_text after_row performer calls =
+    rows_from row_text after_row (standing_in (rows_of performer)) (all_left (given_all calls) (screen_of performer))
 
-abbrev pub ending_from : {W : Type 0} → ShownWriter W → List Call → List ℕ
-ending_from performer calls =
-    still_text (open_after (is_open_of performer) (all_left (given_all calls) (screen_of performer)))
-    (after_all (given_all calls) (screen_of performer)).display
+abbrev pub ending_from : {R S : Type 0} → (standing_in : R → S) → (row_text : S → List Cell → List ℕ)
+    → (after_row : S → List Cell → S) → (closing : S → List ℕ) → ShownWriter R → List Call → List ℕ
+ending_from standing_in row_text after_row closing performer calls =
+    last_rows_from row_text after_row closing
+    (after_rows after_row (standing_in (rows_of performer)) (all_left (given_all calls) (screen_of performer)))
+    (showing (after_all (given_all calls) (screen_of performer)).display)
 
--- The screen has received these calls, and the rows that left are written.
-pub record Shows {W : Type 0} (sink : SinkOf W)
-    (old : ShownWriter W) (calls : List Call) (new : ShownWriter W) : Type 0 where
+-- The screen has received these calls, and the rows that left were taken.
+pub record Shows {R : Type 0} (takes : R → List Cell → R → Type 0) (passes_on : R → R → Type 0)
+    (old : ShownWriter R) (calls : List Call) (new : ShownWriter R) : Type 0 where
   pub screen : screen_of new ≡ after_all calls (screen_of old)
-  pub line : is_open_of new ≡ open_after (is_open_of old) (all_left calls (screen_of old))
-  pub added : Adds sink (rows_text (all_left calls (screen_of old))) (output_of old) (output_of new)
+  pub taken : Took takes passes_on (rows_of old) (all_left calls (screen_of old)) (rows_of new)

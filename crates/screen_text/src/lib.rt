@@ -12,6 +12,7 @@ mod rows;
 use ansi_screen::Screen;
 use anstyle_parse::io::{Fault, Output, Sink, Source, write_calls_by};
 pub use performer::ShownWriter;
+pub use rows::{TextRows, WriteRows};
 
 /// Writes what a screen showed of all bytes that the reader gives: each row of the main screen as it scrolls
 /// off at the top, and at the end the rows that still show, in UTF-8.
@@ -33,5 +34,6 @@ pub fn write_shown<R: Source, W: Sink>(
     // With Ok nothing of it is held back.
     ensures handed_on { OnOk result.1 (W.holds_nothing result.0) }
 {
-    write_calls_by(ShownWriter::new(screen, Output::new(writer)), reader, b"")
+    let rows = TextRows::new(Output::new(writer));
+    write_calls_by(ShownWriter::new(screen, rows), reader, b"")
 }

@@ -1,39 +1,37 @@
 //! The performer that writes what a screen showed.
-ghost use Rattle.std.specs.Prelude.{◌≡◌, [], false};
-ghost use Rattle.anstyle_parse.specs.Io.Output.{Adds};
+ghost use Rattle.std.specs.Prelude.{◌≡◌, []};
 ghost use Rattle.screen_text.specs.Shown.{given, given_all};
-ghost use Rattle.screen_text.specs.Writer.{output_of, screen_of, is_open_of, text_from, ending_from, Shows};
+ghost use Rattle.screen_text.specs.Writer.{rows_of, screen_of, text_from, ending_from, Shows};
 
-use crate::rows::{RowWriter, used_rows};
-use ansi_screen::{Screen, Scrolling};
+use crate::rows::WriteRows;
+use ansi_screen::{LeftOut, Screen, Scrolling, TakeRow};
 use anstyle_parse::io::{Output, Sink, WritingPerformer};
 use anstyle_parse::{Params, Perform, PerformText};
 
-/// Writes each row of a screen's main screen as it scrolls off at the top, and when it hands its output
-/// back the rows that still show, as [`write_shown`](crate::write_shown) says.
+/// Gives each row of a screen's main screen to a writer of rows as it scrolls off at the top, and when it hands
+/// its output back the rows that still show, as [`write_shown`](crate::write_shown) says.
 ///
 /// No memory is taken. A write that fails stops the writing: the fault is kept.
 #[derive(Drop)]
-pub struct ShownWriter<W> {
-    scrolling: Scrolling<RowWriter<W>>,
+pub struct ShownWriter<R> {
+    scrolling: Scrolling<R>,
 }
 
-impl<W: Sink> ShownWriter<W> {
-    /// One with this screen, of which no row has left, that writes to this output. Nothing is written.
-    pub fn new(screen: Screen, output: Output<W>) -> ShownWriter<W>
-        ensures output { output_of result ≡ output }
+impl<R: TakeRow> ShownWriter<R> {
+    /// One with this screen, of which no row has left, and this writer of rows. Nothing is written.
+    pub fn new(screen: Screen, rows: R) -> ShownWriter<R>
+        ensures rows { rows_of result ≡ rows }
         ensures screen { screen_of result ≡ screen }
-        ensures closed { is_open_of result ≡ false }
     {
         ShownWriter {
-            scrolling: Scrolling::new(screen, RowWriter::new(output)),
+            scrolling: Scrolling::new(screen, rows),
         }
     }
 }
 
 /// A call does to the screen what it does; a line feed does a carriage return first.
-impl<W: Sink> Perform for ShownWriter<W> {
-    ghost means = { λ old call new. Shows W.Sink old (given call) new };
+impl<R: TakeRow> Perform for ShownWriter<R> {
+    ghost means = { λ old call new. Shows R.takes R.passes_on old (given call) new };
 
     fn print(&mut self, c: char) {
         self.scrolling.print(c);
@@ -72,27 +70,27 @@ impl<W: Sink> Perform for ShownWriter<W> {
     }
 }
 
-impl<W: Sink> PerformText for ShownWriter<W> {
+impl<R: TakeRow> PerformText for ShownWriter<R> {
     ghost use Rattle.screen_text.specs.ShowingProof.{receives-none, receives-one, receives-more};
 
-    ghost receives = { λ old calls new. Shows W.Sink old (given_all calls) new };
+    ghost receives = { λ old calls new. Shows R.takes R.passes_on old (given_all calls) new };
 
-    ghost receives_none = { receives-none W.Sink };
+    ghost receives_none = { receives-none R.takes R.passes_on };
 
-    ghost receives_one = { receives-one W.Sink };
+    ghost receives_one = { receives-one R.takes R.passes_on };
 
-    ghost receives_more = { receives-more W.Sink };
+    ghost receives_more = { receives-more R.takes R.passes_on };
 }
 
 /// At the end it writes the rows that still show.
-impl<W: Sink> WritingPerformer<W> for ShownWriter<W> {
+impl<W: Sink, R: WriteRows<W>> WritingPerformer<W> for ShownWriter<R> {
     ghost use Rattle.screen_text.specs.ShowingProof.{adds-shown, ends-shown};
 
-    ghost output_in = { output_of };
+    ghost output_in = { λ performer. R.output_in (rows_of performer) };
 
-    ghost text_from = { text_from };
+    ghost text_from = { text_from R.standing_in R.row_text R.after_row };
 
-    ghost ending_from = { ending_from };
+    ghost ending_from = { ending_from R.standing_in R.row_text R.after_row R.closing };
 
     fn output(&self) -> &Output<W> {
         self.scrolling.taker().output()
@@ -104,13 +102,14 @@ impl<W: Sink> WritingPerformer<W> for ShownWriter<W> {
 
     fn into_output(self) -> Output<W> {
         let mut scrolling = self.scrolling;
-        let count = used_rows(scrolling.screen());
+        let count = scrolling.screen().used_rows(LeftOut::Unprinted);
         scrolling.hand_on(count);
         let (_screen, rows) = scrolling.into_parts();
         rows.into_output()
     }
 
-    ghost adds = { adds-shown W.Sink };
+    ghost adds = { adds-shown W.Sink R.takes R.passes_on R.output_in R.standing_in R.row_text R.after_row R.writes_row R.writes_nothing };
 
-    ghost ends = { ends-shown W.Sink };
+    ghost ends = { λ old calls new shows _. ends-shown W.Sink R.takes R.passes_on R.output_in R.standing_in R.row_text R.after_row
+        R.writes_row R.writes_nothing R.closing old calls new shows };
 }

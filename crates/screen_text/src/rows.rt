@@ -1,53 +1,43 @@
-//! Rows as lines of text.
-ghost use Rattle.std.specs.Prelude.{◌≡◌, ◌≤◌, length};
+//! Rows as lines of text, and what writes rows.
+ghost use Rattle.std.specs.Prelude.{◌≡◌, ℕ, List};
+ghost use Rattle.anstyle_parse.specs.declared.io.output.Output.{Output as AnOutput};
 ghost use Rattle.anstyle_parse.specs.Io.Output.{Adds};
-ghost use Rattle.ansi_screen.specs.Text.{used, used_rows};
-ghost use Rattle.screen_text.specs.Lines.{is_unprinted, goes_on, row_text, closing};
+ghost use Rattle.ansi_screen.specs.declared.cell.Cell.{Cell as ACell};
+ghost use Rattle.screen_text.specs.Lines.{row_text, closing};
+ghost use Rattle.screen_text.specs.Rows.{WritesRow, WritesNothing};
 
-use ansi_screen::{Cell, Marks, Part, Screen, TakeRow, put_cells};
+use ansi_screen::{Cell, LeftOut, TakeRow, goes_on, put_cells, used};
 use anstyle_parse::io::{Output, Sink};
 
-/// Whether nothing was printed there, or what was is erased.
-#[tactic(auto, unfolding(crate::specs::Lines::is_unprinted))]
-fn is_unprinted(cell: Cell) -> bool
-    ensures { result ≡ is_unprinted cell }
-{
-    matches!(cell.part, Part::Empty) && matches!(cell.marks, Marks::Unmarked)
-}
+/// Takes rows, and writes each to an output as it comes.
+pub trait WriteRows<W: Sink>: TakeRow {
+    // The output that it writes to.
+    ghost output_in: { Self → AnOutput W };
+    // Where it stands between two rows,
+    ghost Standing: { Type 0 };
 
-/// How many cells come up to the last that was printed.
-fn used(cells: &[Cell]) -> usize
-    ensures used { result ≡ used is_unprinted cells.now }
-    ensures within { result ≤ length cells.now }
-{
-    let mut used = 0;
-    for (column, cell) in cells.iter().enumerate() {
-        if !is_unprinted(*cell) {
-            used = column + 1;
-        }
-    }
-    used
-}
+    ghost standing_in: { Self → Standing };
+    // what it writes of a row from there, where that leads, and what it writes at the end.
+    ghost row_text: { Standing → List ACell → List ℕ };
 
-/// How many rows of the screen come up to the last in which something was printed.
-pub(crate) fn used_rows(screen: &Screen) -> usize
-    ensures used { result ≡ used_rows is_unprinted screen.now.display.height screen.now.display }
-    ensures within { result ≤ screen.now.display.height }
-{
-    let mut end = 0;
-    for row in 0..screen.rows() {
-        if used(screen.row(row)) > 0 {
-            end = row + 1;
-        }
-    }
-    end
-}
+    ghost after_row: { Standing → List ACell → Standing };
 
-/// Whether the row and the next are one line.
-fn goes_on(row: &[Cell]) -> bool
-    ensures { result ≡ goes_on row.now }
-{
-    !row.is_empty() && row[row.len() - 1].goes_on
+    ghost closing: { Standing → List ℕ };
+
+    /// The output that it writes to.
+    fn output(&self) -> &Output<W>
+        ensures { result.now ≡ output_in self.now };
+
+    /// Ends what the last row left open, and hands the output back.
+    fn into_output(self) -> Output<W>
+        ensures { Adds W.Sink (closing (standing_in self)) (output_in self) result };
+
+    // By a row that it takes it writes this text; by handing on what it holds back, none.
+    ghost writes_row: { (old : Self) (row : List ACell) (new : Self) → Self.takes old row new
+        → WritesRow W.Sink output_in standing_in row_text after_row old row new };
+
+    ghost writes_nothing: { (old new : Self) → Self.passes_on old new
+        → WritesNothing W.Sink output_in standing_in old new };
 }
 
 /// Writes a row, without the cells at its end where nothing was printed; with a line feed, unless
@@ -55,59 +45,38 @@ fn goes_on(row: &[Cell]) -> bool
 fn put_row<W: Sink>(output: &mut Output<W>, row: &[Cell])
     ensures { Adds W.Sink (row_text row.now) output.old output.new }
 {
-    let end = used(row);
+    let end = used(row, LeftOut::Unprinted);
     put_cells(output, &row[..end]);
     if !goes_on(row) {
         output.put_byte(b'\n');
     }
 }
 
-/// Writes the rows that it takes.
+/// Writes rows as text: a row that goes on and the next one as one line.
 #[derive(Drop)]
-pub struct RowWriter<W> {
+pub struct TextRows<W> {
     output: Output<W>,
     /// The last row goes on.
     is_open: bool,
 }
 
-impl<W: Sink> RowWriter<W> {
+impl<W: Sink> TextRows<W> {
     ghost use Rattle.std.specs.Prelude.{false};
     ghost use Rattle.screen_text.specs.Lines.{output_of, is_open};
 
     /// One that writes to this output, and has taken no row.
-    pub(crate) fn new(output: Output<W>) -> RowWriter<W>
+    pub fn new(output: Output<W>) -> TextRows<W>
         ensures output { output_of result ≡ output }
         ensures closed { is_open result ≡ false }
     {
-        RowWriter {
+        TextRows {
             output,
             is_open: false,
         }
     }
-
-    /// The output that it writes to.
-    pub(crate) fn output(&self) -> &Output<W>
-        ensures { result.now ≡ output_of self.now }
-    {
-        &self.output
-    }
-
-    /// Ends the last line, where the last row goes on, and hands the output back.
-    pub(crate) fn into_output(self) -> Output<W>
-        ensures { Adds W.Sink (closing (is_open self)) (output_of self) result }
-    {
-        let RowWriter {
-            mut output,
-            is_open,
-        } = self;
-        if is_open {
-            output.put_byte(b'\n');
-        }
-        output
-    }
 }
 
-impl<W: Sink> TakeRow for RowWriter<W> {
+impl<W: Sink> TakeRow for TextRows<W> {
     ghost use Rattle.screen_text.specs.Lines.{TakesRow, PassesOn};
 
     ghost takes = { TakesRow W.Sink };
@@ -122,4 +91,41 @@ impl<W: Sink> TakeRow for RowWriter<W> {
     fn pass_on(&mut self) {
         self.output.pass_on();
     }
+}
+
+/// At the end it ends the last line, where the last row goes on.
+impl<W: Sink> WriteRows<W> for TextRows<W> {
+    ghost use Rattle.std.specs.Prelude.{Bool};
+    ghost use Rattle.screen_text.specs.Lines.{output_of, is_open, row_text_at, after_row};
+
+    ghost output_in = { output_of };
+
+    ghost Standing = { Bool };
+
+    ghost standing_in = { is_open };
+
+    ghost row_text = { row_text_at };
+
+    ghost after_row = { after_row };
+
+    ghost closing = { closing };
+
+    fn output(&self) -> &Output<W> {
+        &self.output
+    }
+
+    fn into_output(self) -> Output<W> {
+        let TextRows {
+            mut output,
+            is_open,
+        } = self;
+        if is_open {
+            output.put_byte(b'\n');
+        }
+        output
+    }
+
+    ghost writes_row = { λ old row new taken. taken };
+
+    ghost writes_nothing = { λ old new passed. passed };
 }

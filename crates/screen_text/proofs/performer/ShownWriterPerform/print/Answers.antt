@@ -3,4 +3,4 @@ use Rattle.screen_text.proofs.ShownLemmas.{scrolls-shows}
 use Rattle.screen_text.proofs.performer.ShownWriterPerform.print.Goals as goal
 
 pub returns : goal.returns
-returns g c = scrolls-shows g.W.Sink _ c.args.self.now (record { scrolling = c.print.new.self }) c.print.ensures
+returns g c = scrolls-shows g.R.TakeRow.takes g.R.TakeRow.passes_on _ c.args.self.now (record { scrolling = c.print.new.self }) c.print.ensures

@@ -1,0 +1,6 @@
+-- The screen has received it.
+use Rattle.screen_text.proofs.ShownLemmas.{scrolls-shows}
+use Rattle.screen_text.proofs.performer.ShownWriterPerform.osc_dispatch.Goals as goal
+
+pub returns : goal.returns
+returns g c = scrolls-shows g.R.TakeRow.takes g.R.TakeRow.passes_on _ c.args.self.now (record { scrolling = c.osc_dispatch.new.self }) c.osc_dispatch.ensures

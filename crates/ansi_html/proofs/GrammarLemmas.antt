@@ -55,12 +55,12 @@ IsText-escaped (b ∷ bytes) rest are more =
 
 -- what may follow inside an element of this end, which is empty where there is none: text, the end,
 -- and a fragment
-record IsInside (styling : Styling) (close : List ℕ) (all : List ℕ) : Type 0 where
-  inside : List ℕ
-  rest : List ℕ
-  whole : all ≡ inside ++ (close ++ rest)
-  is_text : IsText inside
-  fragment : IsFragment styling rest
+pub record IsInside (styling : Styling) (close : List ℕ) (all : List ℕ) : Type 0 where
+  pub inside : List ℕ
+  pub rest : List ℕ
+  pub whole : all ≡ inside ++ (close ++ rest)
+  pub is_text : IsText inside
+  pub fragment : IsFragment styling rest
 
 -- text, which before any text is text, goes on as what follows it does
 IsInside-prefix : (styling : Styling) (close bytes rest : List ℕ) → ((more : List ℕ) → IsText more → IsText (bytes ++ more))
@@ -77,7 +77,7 @@ IsInside-text : (styling : Styling) (close bytes rest : List ℕ) → AreTextual
 IsInside-text styling close bytes rest are more = IsInside-prefix styling close (escaped_text bytes) rest (λ after is. IsText-escaped bytes after are is) more
 
 -- outside an element that is a fragment
-IsFragment-plain : (styling : Styling) (all : List ℕ) → IsInside styling [] all → IsFragment styling all
+pub IsFragment-plain : (styling : Styling) (all : List ℕ) → IsInside styling [] all → IsFragment styling all
 IsFragment-plain styling all within = subst (IsFragment styling) (sym within.whole) (text within.inside within.rest within.is_text within.fragment)
 
 -- what the attribute of a style says
@@ -131,7 +131,7 @@ IsFragment-begin styling element all is more = by_case (is_none element.link) re
     by_case false e within = IsFragment-link styling element.link element.style all (linkable element.link e is) within
 
 -- the end of an element, and a fragment after it, goes on inside it
-IsInside-end : (styling : Styling) (close rest : List ℕ) → IsFragment styling rest → IsInside styling close (close ++ rest)
+pub IsInside-end : (styling : Styling) (close rest : List ℕ) → IsFragment styling rest → IsInside styling close (close ++ rest)
 IsInside-end styling close rest fragment = record { inside = []; rest = rest; whole = refl; is_text = nothing; fragment = fragment }
 
 IsInside-change : (styling : Styling) (shown next : Element) (all : List ℕ) → IsLink next.link → IsInside styling (element_end next) all
@@ -151,7 +151,7 @@ IsInside-break styling close returned is_line_feed all more = by_case (returned 
     by_case true = IsInside-prefix styling close (codes "<br>") all (λ rest is. broken rest is) more
     by_case false = more
 
-IsInside-text_html : (styling : Styling) (at : Standing) (is_line_feed : Bool) (bytes rest : List ℕ) → AreSound at → AreTextual bytes
+pub IsInside-text_html : (styling : Styling) (at : Standing) (is_line_feed : Bool) (bytes rest : List ℕ) → AreSound at → AreTextual bytes
     → IsInside styling (element_end (after_text at.shown at.selected bytes)) rest → IsInside styling (element_end at.shown) (text_html styling at is_line_feed bytes ++ rest)
 unfolding text_html
 IsInside-text_html styling at is_line_feed [] rest sound are more = more

@@ -21,4 +21,5 @@ pub mod LinkLemmas
 pub mod SoundLemmas
 pub mod ShownLemmas
 pub mod WholeLemmas
+pub mod StyledLemmas
 pub mod WriterLemmas

@@ -18,19 +18,19 @@ use Rattle.ansi_html.proofs.HtmlLemmas.{escaped-clear, not_return-clear, false-f
 use Rattle.ansi_html.proofs.DeclarationLemmas.{is_safe, AreSafe, not_return-safe}
 use Rattle.ansi_html.proofs.ClassLemmas.{AreSafe-value, AreSafe-element_value}
 
-is_other : ℕ → Bool
-is_other b = not (eqb b 0x0D)
+unfoldable pub is_not_return : ℕ → Bool
+is_not_return b = not (eqb b 0x0D)
 
 -- bytes without 0D
-abbrev HasNoReturn : List ℕ → Type 0
-HasNoReturn bytes = list_all is_other bytes ≡ true
+abbrev pub HasNoReturn : List ℕ → Type 0
+HasNoReturn bytes = list_all is_not_return bytes ≡ true
 
-HasNoReturn-append : (first second : List ℕ) → HasNoReturn first → HasNoReturn second → HasNoReturn (first ++ second)
-HasNoReturn-append first second a b = list_all-append is_other first second ∙ and_from (list_all is_other first) (list_all is_other second) a b
+pub HasNoReturn-append : (first second : List ℕ) → HasNoReturn first → HasNoReturn second → HasNoReturn (first ++ second)
+HasNoReturn-append first second a b = list_all-append is_not_return first second ∙ and_from (list_all is_not_return first) (list_all is_not_return second) a b
 
 -- Such bytes stay as they are.
-normalized-same : (bytes : List ℕ) → HasNoReturn bytes → normalized bytes ≡ bytes
-unfolding is_other
+pub normalized-same : (bytes : List ℕ) → HasNoReturn bytes → normalized bytes ≡ bytes
+unfolding is_not_return
 normalized-same [] none = refl
 normalized-same (b ∷ bytes) none =
     let parts = and_parts (not (eqb b 0x0D)) (list_all (λ x. not (eqb x 0x0D)) bytes) none in
@@ -38,14 +38,14 @@ normalized-same (b ∷ bytes) none =
     ∙ ap (λ l. b ∷ l) (normalized-same bytes parts.1)
 
 HasNoReturn-safe : (bytes : List ℕ) → AreSafe bytes → HasNoReturn bytes
-unfolding is_other
+unfolding is_not_return
 HasNoReturn-safe [] safe = refl
 HasNoReturn-safe (b ∷ bytes) safe =
     let parts = and_parts (is_safe b) (list_all is_safe bytes) safe in
     and_from (not (eqb b 0x0D)) (list_all (λ x. not (eqb x 0x0D)) bytes) (ap not (not_return-safe b parts.0)) (HasNoReturn-safe bytes parts.1)
 
 HasNoReturn-special : (b : ℕ) → is_special b ≡ true → HasNoReturn (escaped b)
-unfolding is_special is_other
+unfolding is_special is_not_return
 HasNoReturn-special b is =
     let P : ℕ → Type 0 = λ k. HasNoReturn (escaped k) in
     let at : (k : ℕ) → P k → eqb b k ≡ true → P b = λ k h e. subst P (sym (eqb-true b k e)) h in
@@ -53,7 +53,7 @@ HasNoReturn-special b is =
     (or_cases (eqb b 0x27) (eqb b 0x0D) h)) (or_cases (eqb b 0x22) _ h)) (or_cases (eqb b 0x3E) _ h)) (or_cases (eqb b 0x3C) _ h)) (or_cases (eqb b 0x26) _ is)
 
 HasNoReturn-clear : (b : ℕ) → is_special b ≡ false → HasNoReturn (escaped b)
-unfolding is_other
+unfolding is_not_return
 HasNoReturn-clear b clear =
     subst (λ l. list_all (λ x. not (eqb x 0x0D)) l ≡ true) (sym (escaped-clear b clear)) (ap (λ (t : Bool). not t && true) (not_return-clear b clear))
 
@@ -72,14 +72,14 @@ HasNoReturn-escaped (b ∷ bytes) = HasNoReturn-append (escaped b) (escaped_text
 pub normalized-escaped : (bytes : List ℕ) → normalized (escaped_text bytes) ≡ escaped_text bytes
 normalized-escaped bytes = normalized-same (escaped_text bytes) (HasNoReturn-escaped bytes)
 
-HasNoReturn-end : (shown : Element) → HasNoReturn (element_end shown)
-unfolding is_other
+pub HasNoReturn-end : (shown : Element) → HasNoReturn (element_end shown)
+unfolding is_not_return
 HasNoReturn-end shown =
     let Q : List ℕ → Type 0 = λ l. list_all (λ x. not (eqb x 0x0D)) l ≡ true in
     choose Q (is_none shown.link) (span_end shown.style) (codes "</a>") (choose Q (is_plain shown.style) [] (codes "</span>") refl refl) refl
 
 HasNoReturn-attribute : (styling : Styling) (value : List ℕ) → AreSafe value → HasNoReturn (attribute_text styling value)
-unfolding is_other
+unfolding is_not_return
 HasNoReturn-attribute (Inline scheme) value safe =
     HasNoReturn-append (codes " style=\"") (value ++ codes "\">") refl (HasNoReturn-append value (codes "\">") (HasNoReturn-safe value safe) refl)
 HasNoReturn-attribute Classes value safe =
@@ -87,14 +87,14 @@ HasNoReturn-attribute Classes value safe =
 
 module _ (styling : Styling) where
   HasNoReturn-span : (style : Style) → HasNoReturn (span_begin styling style)
-  unfolding is_other
+  unfolding is_not_return
   HasNoReturn-span style =
       let tag = attribute_text styling (value_of styling false style) in
       choose HasNoReturn (is_plain style) [] (codes "<span" ++ tag) refl
       (HasNoReturn-append (codes "<span") tag refl (HasNoReturn-attribute styling (value_of styling false style) (AreSafe-value styling false style)))
 
   HasNoReturn-link : (element : Element) → HasNoReturn (link_begin styling element.link (element_value styling element))
-  unfolding is_other
+  unfolding is_not_return
   HasNoReturn-link element =
       let tag = attribute_text styling (element_value styling element) in
       HasNoReturn-append (codes "<a rel=\"nofollow noreferrer\" href=\"") (escaped_text element.link ++ (codes "\"" ++ tag)) refl
@@ -112,12 +112,12 @@ module _ (styling : Styling) where
       (HasNoReturn-append (element_end shown) (element_begin styling next) (HasNoReturn-end shown) (HasNoReturn-begin next))
 
   HasNoReturn-beginning : (at : Standing) (is_line_feed : Bool) → HasNoReturn (beginning styling at is_line_feed)
-  unfolding is_other
+  unfolding is_not_return
   HasNoReturn-beginning at is_line_feed =
       HasNoReturn-append (change styling at.shown at.selected) (line_break at.returned is_line_feed) (HasNoReturn-change at.shown at.selected)
       (choose HasNoReturn (at.returned && not is_line_feed) (codes "<br>") [] refl refl)
 
-  HasNoReturn-text : (at : Standing) (is_line_feed : Bool) (bytes : List ℕ) → HasNoReturn (text_html styling at is_line_feed bytes)
+  pub HasNoReturn-text : (at : Standing) (is_line_feed : Bool) (bytes : List ℕ) → HasNoReturn (text_html styling at is_line_feed bytes)
   unfolding text_html
   HasNoReturn-text at is_line_feed [] = refl
   HasNoReturn-text at is_line_feed (b ∷ bytes) =

@@ -57,7 +57,7 @@ seen-escaped_text attribute (b ∷ bytes) rest =
     ∙ seen_byte attribute (escaped_text bytes ++ rest) b
     ∙ ap (λ l. text attribute b ∷ l) (seen-escaped_text attribute bytes rest)
 
-read-text : (attribute : Attributes) (bytes : List ℕ) → flat_map read_of (map (text attribute) bytes) ≡ map (under attribute) bytes
+pub read-text : (attribute : Attributes) (bytes : List ℕ) → flat_map read_of (map (text attribute) bytes) ≡ map (under attribute) bytes
 read-text attribute [] = refl
 read-text attribute (b ∷ bytes) = ap (λ l. under attribute b ∷ l) (read-text attribute bytes)
 
@@ -145,7 +145,7 @@ seen-link styling link value rest safe =
     ∙ seen-attribute styling link value rest safe
 
 -- plain text stands under nothing
-attributes-plain : (styling : Styling) → attributes_by styling (value_of styling false plain) [] ≡ no_attributes
+pub attributes-plain : (styling : Styling) → attributes_by styling (value_of styling false plain) [] ≡ no_attributes
 unfolding colors_css classes_of
 attributes-plain (Inline scheme) = refl
 attributes-plain Classes = refl
@@ -194,7 +194,7 @@ module _ (rest : List ℕ) where
       by_case true is = seen-span_begin styling element.style ∙ ap (λ a. seen_from (in_text a) rest) (sym (attributes-none styling element is))
       by_case false is = seen-link styling element.link (element_value styling element) rest (AreSafe-element_value styling element)
 
-  seen-element_end : (styling : Styling) (shown : Element)
+  pub seen-element_end : (styling : Styling) (shown : Element)
       → seen_from (in_text (attributes_of styling shown)) (element_end shown ++ rest) ≡ seen_from (in_text no_attributes) rest
   seen-element_end styling shown = by_case (is_none shown.link) refl
     where
@@ -238,7 +238,7 @@ seen-line_break attribute rest returned is_line_feed = by_case (returned && not 
 
 module _ (styling : Styling) where
   -- text of a style is seen with its declarations
-  seen-text : (at : Standing) (is_line_feed : Bool) (bytes rest : List ℕ)
+  pub seen-text : (at : Standing) (is_line_feed : Bool) (bytes rest : List ℕ)
       → seen_from (in_text (attributes_of styling at.shown)) (text_html styling at is_line_feed bytes ++ rest)
       ≡ seen_text styling at is_line_feed bytes ++ seen_from (in_text (attributes_of styling (after_text at.shown at.selected bytes))) rest
   unfolding text_html
@@ -289,11 +289,11 @@ module _ (styling : Styling) where
   pub read-html : (calls : List Call) → read (html styling calls) ≡ shown_from styling no_element calls
   read-html calls = ap (flat_map read_of) (seen-html calls) ∙ read-seen_calls at_start calls
 
-bytes-under : (attribute : Attributes) (bytes : List ℕ) → map byte_of (map (under attribute) bytes) ≡ bytes
+pub bytes-under : (attribute : Attributes) (bytes : List ℕ) → map byte_of (map (under attribute) bytes) ≡ bytes
 bytes-under attribute [] = refl
 bytes-under attribute (b ∷ bytes) = ap (λ l. b ∷ l) (bytes-under attribute bytes)
 
-map-append_bytes : (first second : List Shown) → map byte_of (first ++ second) ≡ map byte_of first ++ map byte_of second
+pub map-append_bytes : (first second : List Shown) → map byte_of (first ++ second) ≡ map byte_of first ++ map byte_of second
 map-append_bytes [] second = refl
 map-append_bytes (s ∷ first) second = ap (λ l. byte_of s ∷ l) (map-append_bytes first second)
 

@@ -54,7 +54,7 @@ pub record AreSound (at : Standing) : Type 0 where
 pub AreSound-start : AreSound at_start
 AreSound-start = record { shown = IsSound-none; selected = IsSound-none }
 
-either : (before after : Element) (bytes : List ℕ) → IsSound before.link → IsSound after.link → IsSound (after_text before after bytes).link
+pub either : (before after : Element) (bytes : List ℕ) → IsSound before.link → IsSound after.link → IsSound (after_text before after bytes).link
 either before after [] one other = one
 either before after (b ∷ bytes) one other = other
 

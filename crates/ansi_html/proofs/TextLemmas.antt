@@ -93,7 +93,7 @@ IsUtf8-link : (link : List ℕ) → IsLink link → IsUtf8 (escaped_text link)
 IsUtf8-link link (inl none) = subst (λ l. IsUtf8 (escaped_text l)) (sym none) IsUtf8-nil
 IsUtf8-link link (inr is) = IsUtf8-href (escaped_text link) (IsHref-escaped link is).bytes
 
-IsUtf8-end : (shown : Element) → IsUtf8 (element_end shown)
+pub IsUtf8-end : (shown : Element) → IsUtf8 (element_end shown)
 IsUtf8-end shown =
     choose IsUtf8 (is_none shown.link) (span_end shown.style) (codes "</a>")
     (choose IsUtf8 (is_plain shown.style) [] (codes "</span>") IsUtf8-nil (IsUtf8-ascii (codes "</span>") refl)) (IsUtf8-ascii (codes "</a>") refl)
@@ -130,7 +130,7 @@ IsUtf8-beginning styling at is_line_feed sound =
     IsUtf8-append (change styling at.shown at.selected) (line_break at.returned is_line_feed) (IsUtf8-change styling at.shown at.selected sound.selected.is_link)
     (choose IsUtf8 (at.returned && not is_line_feed) (codes "<br>") [] (IsUtf8-ascii (codes "<br>") refl) IsUtf8-nil)
 
-IsUtf8-text_html : (styling : Styling) (at : Standing) (is_line_feed : Bool) (bytes : List ℕ) → AreSound at → IsUtf8 (escaped_text bytes) → IsUtf8 (text_html styling at is_line_feed bytes)
+pub IsUtf8-text_html : (styling : Styling) (at : Standing) (is_line_feed : Bool) (bytes : List ℕ) → AreSound at → IsUtf8 (escaped_text bytes) → IsUtf8 (text_html styling at is_line_feed bytes)
 unfolding text_html
 IsUtf8-text_html styling at is_line_feed [] sound is = IsUtf8-nil
 IsUtf8-text_html styling at is_line_feed (b ∷ bytes) sound is = IsUtf8-append (beginning styling at is_line_feed) (escaped_text (b ∷ bytes)) (IsUtf8-beginning styling at is_line_feed sound) is

@@ -38,12 +38,14 @@ mod nearest;
 mod palette;
 mod performer;
 mod scheme;
+mod styled;
 mod stylesheet;
 
 use anstyle_parse::canon::{Fault, Output, Sink, Source, write_calls_by};
 pub use performer::HtmlWriter;
 use performer::put_escaped;
 pub use scheme::{Scheme, Styling};
+pub use styled::StyledWriter;
 use stylesheet::put_all;
 
 /// Writes the text of all bytes that the reader gives as HTML, in the styles that the stream

@@ -238,7 +238,7 @@ fn put_link_style<W: Sink>(output: &mut Output<W>, styling: Styling, style: Styl
 }
 
 /// Opens a span of the style, unless it is plain.
-fn put_span_begin<W: Sink>(output: &mut Output<W>, styling: Styling, style: Style)
+pub(crate) fn put_span_begin<W: Sink>(output: &mut Output<W>, styling: Styling, style: Style)
     ensures { Adds W.Sink (span_begin styling style) output.old output.new }
 {
     if style != Style::default() {
@@ -278,7 +278,7 @@ fn put_classes_between<W: Sink>(output: &mut Output<W>, before: &[u8], linked: b
 }
 
 /// Closes a span of the style, unless it is plain.
-fn put_span_end<W: Sink>(output: &mut Output<W>, style: Style)
+pub(crate) fn put_span_end<W: Sink>(output: &mut Output<W>, style: Style)
     ensures { Adds W.Sink (span_end style) output.old output.new }
 {
     if style != Style::default() {
@@ -365,7 +365,7 @@ fn put_in_parts<W: Sink>(output: &mut Output<W>, text: &[u8])
 /// Writes a character, of which none but those of ASCII has a meaning in HTML.
 #[inline]
 #[tactic(auto, using(crate::proofs::HtmlLemmas::escaped_ascii, crate::proofs::HtmlLemmas::escaped_high))]
-fn put_character<W: Sink>(output: &mut Output<W>, c: char)
+pub(crate) fn put_character<W: Sink>(output: &mut Output<W>, c: char)
     ensures { Adds W.Sink (escaped_text (encode_utf8 c)) output.old output.new }
 {
     if c.is_ascii() {

@@ -1,0 +1,144 @@
+-- The HTML of texts that have styles is read back, and stands in the grammar.
+use Rattle.std.proofs.Common.{◌≡◌, ℕ, Bool, false, eqb, List, [], ◌∷◌, ◌++◌, codes, map, refl, sym, ap, ap₂, ◌∙◌, subst, append_assoc, append-nil}
+use Rattle.std.specs.Prelude.{not, if◌then◌else◌}
+use Rattle.std.specs.List.{AllByRecursion, flat_map, list_all}
+use Rattle.std.specs.Str.{IsUtf8}
+use Rattle.std.proofs.lemmas.Bool.{and_parts}
+use Rattle.std.proofs.lemmas.Grind.{flat_map-append}
+use Rattle.std.proofs.lemmas.Str.{IsUtf8-append, IsUtf8-nil}
+use Rattle.ansi_style.specs.Style.{plain}
+use Rattle.ansi_style.proofs.EqualityLemmas.{are_equal-refl}
+use Rattle.ansi_html.specs.declared.scheme.Styling.{Styling}
+use Rattle.ansi_html.specs.Grammar.{IsFragment, end}
+use Rattle.ansi_html.specs.Html.{escaped_text, Element, no_element, text_html, element_end}
+use Rattle.ansi_html.specs.Reader.{Attributes, no_attributes, attributes_of, byte_of, in_text, Seen, text, seen_from, seen, read_of, read, drawn_of, drawn}
+use Rattle.ansi_html.specs.Styled.{Styled, element_of, before, behind, styled_html, shown_after, all_html, shown_of, all_shown, bytes_of, all_bytes}
+use Rattle.ansi_html.proofs.HtmlLemmas.{false-from_not}
+use Rattle.ansi_html.proofs.SoundLemmas.{IsSound, IsSound-none, AreSound, either}
+use Rattle.ansi_html.proofs.NewlineLemmas.{is_not_return, HasNoReturn, HasNoReturn-append, HasNoReturn-end, HasNoReturn-text, normalized-same}
+use Rattle.ansi_html.proofs.ReadLemmas.{read-text, seen_text, seen-element_end, seen-text, bytes-under, map-append_bytes, attributes-plain}
+use Rattle.ansi_html.proofs.LawfulText.{AreTextual}
+use Rattle.ansi_html.proofs.GrammarLemmas.{IsInside, IsFragment-plain, IsInside-end, IsInside-text_html}
+use Rattle.ansi_html.proofs.TextLemmas.{IsUtf8-end, IsUtf8-text_html}
+
+-- texts, one after another
+pub styled_html-append : (styling : Styling) (shown : Element) (texts more : List Styled)
+    → styled_html styling shown (texts ++ more) ≡ styled_html styling shown texts ++ styled_html styling (shown_after shown texts) more
+styled_html-append styling shown [] more = refl
+styled_html-append styling shown (it ∷ texts) more =
+    let here = text_html styling (before shown it) false it.text in
+    ap (λ l. here ++ l) (styled_html-append styling (behind shown it) texts more)
+    ∙ sym (append_assoc here (styled_html styling (behind shown it) texts) (styled_html styling (shown_after (behind shown it) texts) more))
+
+pub shown_after-append : (shown : Element) (texts more : List Styled) → shown_after shown (texts ++ more) ≡ shown_after (shown_after shown texts) more
+shown_after-append shown [] more = refl
+shown_after-append shown (it ∷ texts) more = shown_after-append (behind shown it) texts more
+
+-- what is seen of them
+abbrev seen_one : Styling → Styled → List Seen
+seen_one styling it = map (text (attributes_of styling (element_of it))) it.text
+
+abbrev seen_styled : Styling → List Styled → List Seen
+seen_styled styling texts = flat_map (seen_one styling) texts
+
+seen_text-styled : (styling : Styling) (shown : Element) (it : Styled) (bytes : List ℕ)
+    → seen_text styling (before shown it) false bytes ≡ map (text (attributes_of styling (element_of it))) bytes
+seen_text-styled styling shown it [] = refl
+seen_text-styled styling shown it (b ∷ bytes) = refl
+
+module _ (styling : Styling) where
+  HasNoReturn-styled : (shown : Element) (texts : List Styled) → HasNoReturn (styled_html styling shown texts)
+  HasNoReturn-styled shown [] = refl
+  HasNoReturn-styled shown (it ∷ texts) =
+      HasNoReturn-append (text_html styling (before shown it) false it.text) (styled_html styling (behind shown it) texts)
+      (HasNoReturn-text styling (before shown it) false it.text) (HasNoReturn-styled (behind shown it) texts)
+
+  seen-styled : (shown : Element) (texts : List Styled)
+      → seen_from (in_text (attributes_of styling shown)) (styled_html styling shown texts ++ element_end (shown_after shown texts)) ≡ seen_styled styling texts
+  seen-styled shown [] =
+      ap (seen_from (in_text (attributes_of styling shown))) (sym (append-nil (element_end shown))) ∙ seen-element_end [] styling shown
+  seen-styled shown (it ∷ texts) =
+      let here = text_html styling (before shown it) false it.text in
+      let close = element_end (shown_after (behind shown it) texts) in
+      ap (seen_from (in_text (attributes_of styling shown))) (append_assoc here (styled_html styling (behind shown it) texts) close)
+      ∙ seen-text styling (before shown it) false it.text (styled_html styling (behind shown it) texts ++ close)
+      ∙ ap₂ (λ a b. a ++ b) (seen_text-styled styling shown it it.text) (seen-styled (behind shown it) texts)
+
+  seen-all : (texts : List Styled) → seen (all_html styling texts) ≡ seen_styled styling texts
+  seen-all texts =
+      ap (seen_from (in_text no_attributes)) (normalized-same (all_html styling texts)
+      (HasNoReturn-append (styled_html styling no_element texts) (element_end (shown_after no_element texts))
+      (HasNoReturn-styled no_element texts) (HasNoReturn-end (shown_after no_element texts))))
+      ∙ ap (λ a. seen_from (in_text a) (all_html styling texts)) (sym (attributes-plain styling)) ∙ seen-styled no_element texts
+
+  read-seen_styled : (texts : List Styled) → flat_map read_of (seen_styled styling texts) ≡ all_shown styling texts
+  read-seen_styled [] = refl
+  read-seen_styled (it ∷ texts) =
+      flat_map-append read_of (seen_one styling it) (seen_styled styling texts)
+      ∙ ap₂ (λ a b. a ++ b) (read-text (attributes_of styling (element_of it)) it.text) (read-seen_styled texts)
+
+  -- Reading the HTML gives what the texts show,
+  pub read-styled : (texts : List Styled) → read (all_html styling texts) ≡ all_shown styling texts
+  read-styled texts = ap (flat_map read_of) (seen-all texts) ∙ read-seen_styled texts
+
+  bytes-all_shown : (texts : List Styled) → map byte_of (all_shown styling texts) ≡ all_bytes texts
+  bytes-all_shown [] = refl
+  bytes-all_shown (it ∷ texts) =
+      map-append_bytes (shown_of styling it) (all_shown styling texts)
+      ∙ ap₂ (λ a b. a ++ b) (bytes-under (attributes_of styling (element_of it)) it.text) (bytes-all_shown texts)
+
+  -- and so their bytes.
+  pub text-styled : (texts : List Styled) → map byte_of (read (all_html styling texts)) ≡ all_bytes texts
+  text-styled texts = ap (map byte_of) (read-styled texts) ∙ bytes-all_shown texts
+
+  -- bytes without 0D are drawn as they are
+  drawn-bytes : (attributes : Attributes) (bytes : List ℕ) → HasNoReturn bytes → flat_map drawn_of (map (text attributes) bytes) ≡ bytes
+  unfolding is_not_return
+  drawn-bytes attributes [] clear = refl
+  drawn-bytes attributes (b ∷ bytes) clear =
+      let parts = and_parts (not (eqb b 0x0D)) (list_all (λ x. not (eqb x 0x0D)) bytes) clear in
+      ap₂ (λ (is : Bool) l. (if is then [] else b ∷ []) ++ l) (false-from_not (eqb b 0x0D) parts.0) (drawn-bytes attributes bytes parts.1)
+
+  drawn-seen_styled : (texts : List Styled) → AllByRecursion (λ it. HasNoReturn (bytes_of it)) texts → flat_map drawn_of (seen_styled styling texts) ≡ all_bytes texts
+  drawn-seen_styled [] clear = refl
+  drawn-seen_styled (it ∷ texts) clear =
+      flat_map-append drawn_of (seen_one styling it) (seen_styled styling texts)
+      ∙ ap₂ (λ a b. a ++ b) (drawn-bytes (attributes_of styling (element_of it)) it.text clear.0) (drawn-seen_styled texts clear.1)
+
+  -- They are drawn as they are.
+  pub drawn-styled : (texts : List Styled) → AllByRecursion (λ it. HasNoReturn (bytes_of it)) texts → drawn (all_html styling texts) ≡ all_bytes texts
+  drawn-styled texts clear = ap (flat_map drawn_of) (seen-all texts) ∙ drawn-seen_styled texts clear
+
+  sound-before : (shown : Element) (it : Styled) → IsSound shown.link → AreSound (before shown it)
+  sound-before shown it sound = record { shown = sound; selected = IsSound-none }
+
+  IsInside-styled : (shown : Element) (texts : List Styled) → IsSound shown.link → AllByRecursion (λ it. AreTextual (bytes_of it)) texts
+      → IsInside styling (element_end shown) (styled_html styling shown texts ++ element_end (shown_after shown texts))
+  IsInside-styled shown [] sound are = subst (IsInside styling (element_end shown)) (append-nil (element_end shown)) (IsInside-end styling (element_end shown) [] end)
+  IsInside-styled shown (it ∷ texts) sound are =
+      let next = behind shown it in
+      let close = element_end (shown_after next texts) in
+      subst (IsInside styling (element_end shown)) (sym (append_assoc (text_html styling (before shown it) false it.text) (styled_html styling next texts) close))
+      (IsInside-text_html styling (before shown it) false it.text (styled_html styling next texts ++ close) (sound-before shown it sound) are.0
+      (IsInside-styled next texts (either shown (element_of it) it.text sound IsSound-none) are.1))
+
+  -- The HTML of text is a fragment,
+  pub IsFragment-styled : (texts : List Styled) → AllByRecursion (λ it. AreTextual (bytes_of it)) texts → IsFragment styling (all_html styling texts)
+  IsFragment-styled texts are =
+      let all = all_html styling texts in
+      IsFragment-plain styling all
+      (subst (λ (none : Bool). IsInside styling (if none then [] else codes "</span>") all) (are_equal-refl plain) (IsInside-styled no_element texts IsSound-none are))
+
+  IsUtf8-styled_html : (shown : Element) (texts : List Styled) → IsSound shown.link → AllByRecursion (λ it. IsUtf8 (escaped_text (bytes_of it))) texts
+      → IsUtf8 (styled_html styling shown texts)
+  IsUtf8-styled_html shown [] sound are = IsUtf8-nil
+  IsUtf8-styled_html shown (it ∷ texts) sound are =
+      IsUtf8-append (text_html styling (before shown it) false it.text) (styled_html styling (behind shown it) texts)
+      (IsUtf8-text_html styling (before shown it) false it.text (sound-before shown it sound) are.0)
+      (IsUtf8-styled_html (behind shown it) texts (either shown (element_of it) it.text sound IsSound-none) are.1)
+
+  -- and UTF-8 where the texts are.
+  pub IsUtf8-styled : (texts : List Styled) → AllByRecursion (λ it. IsUtf8 (escaped_text (bytes_of it))) texts → IsUtf8 (all_html styling texts)
+  IsUtf8-styled texts are =
+      let last = shown_after no_element texts in
+      IsUtf8-append (styled_html styling no_element texts) (element_end last) (IsUtf8-styled_html no_element texts IsSound-none are) (IsUtf8-end last)

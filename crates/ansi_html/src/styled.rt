@@ -1,0 +1,92 @@
+//! Texts that have styles, as HTML.
+ghost use Rattle.std.specs.Prelude.{◌≡◌, [], encode_utf8};
+ghost use Rattle.anstyle_parse.specs.Io.Output.{Adds};
+ghost use Rattle.ansi_html.specs.Html.{element, no_element, change, element_end, escaped_text};
+ghost use Rattle.ansi_html.specs.Styled.{output_of, styling_of, shown_in};
+
+use crate::performer::{put_character, put_span_begin, put_span_end};
+use crate::scheme::Styling;
+use ansi_style::Style;
+use anstyle_parse::canon::{Output, Sink};
+
+/// Writes texts that have styles, such as the cells of a screen, as HTML: text that is not plain stands in
+/// `<span style="…">…</span>`, one for each run of equal style; by classes the attribute is `class`.
+/// `& < > " '` and a carriage return are written as character references.
+///
+/// No memory is taken. A write that fails stops it: nothing more is written, and the fault is kept.
+#[derive(Drop)]
+pub struct StyledWriter<W> {
+    output: Output<W>,
+    /// How it says a style.
+    styling: Styling,
+    /// The style of the last text; plain where there was none.
+    shown: Style,
+}
+
+impl<W: Sink> StyledWriter<W> {
+    /// One that writes to this output, says styles in this way, and has written no text.
+    pub fn new(styling: Styling, output: Output<W>) -> StyledWriter<W>
+        ensures output { output_of result ≡ output }
+        ensures styling { styling_of result ≡ styling }
+        ensures shown { shown_in result ≡ no_element }
+    {
+        StyledWriter {
+            output,
+            styling,
+            shown: Style::default(),
+        }
+    }
+
+    /// Text of this style follows: where it is another one than that of the last text, the span of that one is
+    /// closed and one of this style opened.
+    pub fn select(&mut self, style: Style)
+        ensures styling { styling_of self.new ≡ styling_of self.old }
+        ensures shown { shown_in self.new ≡ element style [] }
+        ensures added { Adds W.Sink (change (styling_of self.old) (shown_in self.old) (element style []))
+            (output_of self.old) (output_of self.new) }
+    {
+        if self.shown != style {
+            put_span_end(&mut self.output, self.shown);
+            put_span_begin(&mut self.output, self.styling, style);
+            self.shown = style;
+        }
+    }
+
+    /// Writes a character of the style that is selected.
+    pub fn put_char(&mut self, c: char)
+        ensures styling { styling_of self.new ≡ styling_of self.old }
+        ensures shown { shown_in self.new ≡ shown_in self.old }
+        ensures added { Adds W.Sink (escaped_text (encode_utf8 c)) (output_of self.old) (output_of self.new) }
+    {
+        put_character(&mut self.output, c);
+    }
+
+    /// The output that it writes to.
+    pub fn output(&self) -> &Output<W>
+        ensures { result.now ≡ output_of self.now }
+    {
+        &self.output
+    }
+
+    /// Hands on what the writer of its output holds back.
+    pub fn pass_on(&mut self)
+        ensures styling { styling_of self.new ≡ styling_of self.old }
+        ensures shown { shown_in self.new ≡ shown_in self.old }
+        ensures added { Adds W.Sink [] (output_of self.old) (output_of self.new) }
+    {
+        self.output.pass_on();
+    }
+
+    /// Closes the last span, and hands the output back.
+    pub fn into_output(self) -> Output<W>
+        ensures { Adds W.Sink (element_end (shown_in self)) (output_of self) result }
+    {
+        let StyledWriter {
+            mut output,
+            shown,
+            ..
+        } = self;
+        put_span_end(&mut output, shown);
+        output
+    }
+}

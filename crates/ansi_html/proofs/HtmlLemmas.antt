@@ -27,7 +27,7 @@ true-from_not true h = refl
 true-from_not false h = cc
 
 -- text that is not empty
-text_html-some : (styling : Styling) (at : Standing) (is_line_feed : Bool) (bytes : List ℕ) → 0 < length bytes
+pub text_html-some : (styling : Styling) (at : Standing) (is_line_feed : Bool) (bytes : List ℕ) → 0 < length bytes
     → text_html styling at is_line_feed bytes ≡ beginning styling at is_line_feed ++ escaped_text bytes
 unfolding text_html
 text_html-some styling at is_line_feed [] some = absurd (omega arith)

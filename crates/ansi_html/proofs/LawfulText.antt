@@ -30,7 +30,7 @@ ArePrinted-high : (bytes : List ℕ) → AreHigh bytes → ArePrinted bytes
 ArePrinted-high [] high = tt
 ArePrinted-high (b ∷ bytes) high = (omega (arith, high.0), ArePrinted-high bytes high.1)
 
-AreTextual-printed : (bytes : List ℕ) → ArePrinted bytes → AreTextual bytes
+pub AreTextual-printed : (bytes : List ℕ) → ArePrinted bytes → AreTextual bytes
 AreTextual-printed [] printed = tt
 AreTextual-printed (b ∷ bytes) printed = (textual_above b printed.0, AreTextual-printed bytes printed.1)
 

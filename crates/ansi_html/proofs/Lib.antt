@@ -22,4 +22,5 @@ pub mod SoundLemmas
 pub mod ShownLemmas
 pub mod WholeLemmas
 pub mod StyledLemmas
+pub mod StyledWriterLemmas
 pub mod WriterLemmas

@@ -69,7 +69,7 @@ IsUtf8-executed : (b : ℕ) (layout : Bool) → is_layout b ≡ layout → IsUtf
 IsUtf8-executed b true is = subst (λ l. IsUtf8 (escaped_text l)) (encode_one b (layout_ascii b is)) (IsUtf8-ascii_character b (layout_ascii b is))
 IsUtf8-executed b false is = IsUtf8-nil
 
-IsUtf8-stripped : (call : Call) → IsShowable call → IsUtf8 (escaped_text (stripped_call call))
+pub IsUtf8-stripped : (call : Call) → IsShowable call → IsUtf8 (escaped_text (stripped_call call))
 IsUtf8-stripped (print c) is = IsUtf8-printed c (is_special c) refl is
 IsUtf8-stripped (execute b) is = IsUtf8-executed b (is_layout b) refl
 IsUtf8-stripped (hook gs is ig f) h = IsUtf8-nil

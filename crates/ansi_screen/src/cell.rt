@@ -75,7 +75,7 @@ impl Cell {
     }
 
     /// Whether it is the right half of a wide character.
-    pub(crate) fn is_right(self) -> bool
+    pub fn is_right(self) -> bool
         ensures { result ≡ is_right self.part }
     {
         matches!(self.part, Part::Right)

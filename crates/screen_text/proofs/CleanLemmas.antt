@@ -128,7 +128,7 @@ prints-append : (calls more : List Call) → AllByRecursion PrintsCharacter call
 prints-append [] more are others = others
 prints-append (call ∷ calls) more are others = (are.0, prints-append calls more are.1 others)
 
-all-print : (calls : List Call) → AreShowable calls → AllByRecursion PrintsCharacter (given_all calls)
+pub all-print : (calls : List Call) → AreShowable calls → AllByRecursion PrintsCharacter (given_all calls)
 all-print [] are = tt
 all-print (call ∷ calls) are = prints-append (given call) (given_all calls) (given-prints call are.0) (all-print calls are.1)
 

@@ -1,0 +1,84 @@
+-- What holds of the encoding of each character and of a line feed holds of all texts that a screen showed.
+use Rattle.std.proofs.Common.{◌≡◌, ℕ, Bool, true, false, List, [], ◌∷◌, ◌++◌, map, take}
+use Rattle.std.specs.Prelude.{encode_utf8, if◌then◌else◌}
+use Rattle.std.specs.List.{AllByRecursion}
+use Rattle.anstyle_parse.specs.Stream.Call.{Call}
+use Rattle.anstyle_parse.specs.Stream.Calls.{AreCalls}
+use Rattle.anstyle_parse.proofs.Lawful.Calls.{lawful}
+use Rattle.anstyle_parse.proofs.Lists.Parts.{AllByRecursion-take}
+use Rattle.ansi_strip.proofs.Showable.{AreShowable-lawful}
+use Rattle.ansi_html.specs.Styled.{Styled, bytes_of}
+use Rattle.ansi_screen.specs.declared.cell.Cell.{Cell}
+use Rattle.ansi_screen.specs.declared.cell.Marks.{Marks}
+use Rattle.ansi_screen.specs.declared.cell.Marks.TheVariants.{Unmarked, One, Two}
+use Rattle.ansi_screen.specs.Cells.{is_right}
+use Rattle.ansi_screen.specs.After.{State, new_state, after_all}
+use Rattle.ansi_screen.specs.Text.{marks_text, cell_text, used, used_rows}
+use Rattle.ansi_screen.specs.Leaving.{all_left}
+use Rattle.ansi_screen.proofs.CharacterLemmas.{PrintsCharacter, IsGood, AreGoodMarks, IsGoodCell, AreGood, IsGoodState, good-new, good-after_all, good-left, good-first_rows}
+use Rattle.screen_text.specs.Lines.{is_unprinted, goes_on, open_after, showing}
+use Rattle.screen_text.specs.Shown.{given_all}
+use Rattle.screen_text.proofs.CleanLemmas.{all-print}
+use Rattle.screen_html.specs.Shown.{cell_styled, line_feed, row_styled, rows_styled, closing_styled, shown_styled}
+
+module _ (Holds : List ℕ → Type 0) (none : Holds []) (both : (first second : List ℕ) → Holds first → Holds second → Holds (first ++ second))
+    (character : (c : ℕ) → IsGood c → Holds (encode_utf8 c)) (feed : Holds (0x0A ∷ [])) where
+  abbrev HoldsOfAll : List Styled → Type 0
+  HoldsOfAll texts = AllByRecursion (λ it. Holds (bytes_of it)) texts
+
+  all-append : (texts more : List Styled) → HoldsOfAll texts → HoldsOfAll more → HoldsOfAll (texts ++ more)
+  all-append [] more are others = others
+  all-append (it ∷ texts) more are others = (are.0, all-append texts more are.1 others)
+
+  of-if : (t : Bool) (first second : List ℕ) → Holds first → Holds second → Holds (if t then first else second)
+  of-if true first second one other = one
+  of-if false first second one other = other
+
+  of-marks : (marks : Marks) → AreGoodMarks marks → Holds (marks_text marks)
+  of-marks Unmarked are = none
+  of-marks (One first) are = character first are
+  of-marks (Two first second) are = both (encode_utf8 first) (encode_utf8 second) (character first are.0) (character second are.1)
+
+  of-cell : (cell : Cell) → IsGoodCell cell → Holds (cell_text cell)
+  unfolding cell_text
+  of-cell cell good =
+      of-if (is_right cell.part) [] (encode_utf8 cell.character ++ marks_text cell.marks) none
+      (both (encode_utf8 cell.character) (marks_text cell.marks) (character cell.character good.0) (of-marks cell.marks good.1))
+
+  of-cells : (cells : List Cell) → AreGood cells → HoldsOfAll (map cell_styled cells)
+  of-cells [] are = tt
+  of-cells (cell ∷ cells) are = (of-cell cell are.0, of-cells cells are.1)
+
+  of-line_end : (on : Bool) → HoldsOfAll (if on then [] else line_feed ∷ [])
+  of-line_end true = tt
+  of-line_end false = (feed, tt)
+
+  of-closing : (on : Bool) → HoldsOfAll (closing_styled on)
+  of-closing true = (feed, tt)
+  of-closing false = tt
+
+  of-row : (row : List Cell) → AreGood row → HoldsOfAll (row_styled row)
+  of-row row are =
+      let cells : List Cell = take (used is_unprinted row) row in
+      all-append (map cell_styled cells) (if goes_on row then [] else line_feed ∷ [])
+      (of-cells cells (AllByRecursion-take IsGoodCell (used is_unprinted row) row are)) (of-line_end (goes_on row))
+
+  of-rows : (rows : List (List Cell)) → AllByRecursion AreGood rows → HoldsOfAll (rows_styled rows)
+  of-rows [] are = tt
+  of-rows (row ∷ rows) are = all-append (row_styled row) (rows_styled rows) (of-row row are.0) (of-rows rows are.1)
+
+  pub of-shown : (columns rows : ℕ) (bytes : List ℕ) (calls : List Call) → AreCalls bytes calls
+      → AllByRecursion (λ it. Holds (bytes_of it)) (shown_styled (new_state columns rows) calls)
+  of-shown columns rows bytes calls are =
+      let s : State = new_state columns rows in
+      let prints : AllByRecursion PrintsCharacter (given_all calls) = all-print calls (AreShowable-lawful false calls (lawful bytes calls are)) in
+      let new : IsGoodState s = record { display = good-new columns rows; last = tt } in
+      let left : List (List Cell) = all_left (given_all calls) s in
+      let behind : State = after_all (given_all calls) s in
+      let last : List (List Cell) = showing behind.display in
+      let good : IsGoodState behind = good-after_all (given_all calls) s prints new in
+      all-append (rows_styled left) (rows_styled last ++ closing_styled (open_after (open_after false left) last))
+      (of-rows left (good-left (given_all calls) s prints new))
+      (all-append (rows_styled last) (closing_styled (open_after (open_after false left) last))
+      (of-rows last (good-first_rows (used_rows is_unprinted behind.display.height behind.display) behind.display good.display))
+      (of-closing (open_after (open_after false left) last)))

@@ -1,0 +1,4 @@
+pub mod RowLemmas
+pub mod ShownLemmas
+pub mod CellLemmas
+pub mod WholeLemmas

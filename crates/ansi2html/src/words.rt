@@ -5,6 +5,7 @@ ghost use Rattle.ansi2html.specs.Words.{asks_for_page, form_of, scheme_after, sc
 
 use crate::form::{Form, TITLE};
 use ansi_html::{Scheme, Styling};
+use screen_text::SHOWN;
 use standard_streams::value_of;
 
 /// The options: `page` is the word of earlier versions.
@@ -16,11 +17,14 @@ pub const OPTIONS: &[&str] = &[
     "--dark",
     "--classes",
     "--stylesheet",
+    SHOWN,
+    "--shown=",
 ];
 
 /// What `--help` says.
 pub const HELP: &str = "\
-usage: ansi2html [--page] [--title=TEXT] [--light | --dark] [--classes] < FILE
+usage: ansi2html [--page] [--title=TEXT] [--light | --dark] [--classes]
+                 [--shown | --shown=COLUMNSxROWS] < FILE
        ansi2html --stylesheet [--light | --dark]
 
 Writes the text of standard input to standard output as HTML, in its colours:
@@ -35,11 +39,16 @@ Input is UTF-8. No file is opened: one is given by <.
   --classes       attributes class in place of style, for sites that forbid
                   inline styles; colours are snapped to the 256
   --stylesheet    write the stylesheet of these classes, and read nothing
+  --shown         write what a terminal of 80x24 showed instead: the lines that
+                  scrolled off, and what stands there at the end, without links
+  --shown=COLUMNSxROWS
+                  the same of this size, from 2x1 to 1000x1000
   --help          say this
   --version       say which version it is
 
-Example, a listing as a page:
+Examples, a listing as a page, and a build with its progress bars as they ended:
   ls --color=always | ansi2html --page --title=Files > listing.html
+  ansi2html --page --shown < recording > build.html
 ";
 
 /// The form that the words ask for: a page by `--page`, `page` or a title, and else a fragment.

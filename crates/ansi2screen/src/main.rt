@@ -6,10 +6,10 @@ mod words;
 use ansi_screen::Screen;
 use anstyle_parse::io::{FromRead, Output, perform_to_end};
 use standard_streams::{
-    answered, asked_of, buffered, ended_with_reason, failed, given_words, misused, value_of,
+    answered, asked_of, buffered, ended_with_reason, failed, given_words, value_of, wrong_size,
 };
 use std::process::ExitCode;
-use words::{HELP, OPTIONS, SIZE, WRONG_SIZE, named_size};
+use words::{HELP, OPTIONS, SIZE, named_size};
 
 /// The name at the front of what the program says of failures.
 const PROGRAM: &str = "ansi2screen";
@@ -22,7 +22,7 @@ fn main(rt: HostRuntime) -> ExitCode {
         return answered(&rt, PROGRAM, HELP, request);
     }
     let Some(size) = named_size(value_of(words.as_slice(), SIZE)) else {
-        return misused(&rt, WRONG_SIZE);
+        return wrong_size(&rt, PROGRAM);
     };
     let Ok(mut screen) = Screen::new(rt.alloc(), size.columns, size.rows) else {
         return failed(&rt, PROGRAM, "out of memory");

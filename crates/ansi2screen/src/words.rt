@@ -25,10 +25,6 @@ Example, the last screen of a recording:
   ansi2screen --size=120x40 < recording
 ";
 
-/// What it says of a size that it doesn't know.
-pub const WRONG_SIZE: &str =
-    "ansi2screen: a size is COLUMNSxROWS, from 2x1 to 1000x1000 (see ansi2screen --help)";
-
 /// The size that this text says; with no text 80 columns and 24 rows. `None` for a text that says none.
 pub fn named_size(text: Option<&str>) -> Option<Size>
     ensures { IfSome result IsTaken }

@@ -6,12 +6,12 @@ mod words;
 use ansi_screen::Screen;
 use ansi_strip::strip;
 use anstyle_parse::io::FromRead;
-use screen_text::write_shown;
+use screen_text::{SHOWN, screen_size, write_shown};
 use standard_streams::{
-    answered, asked_of, buffered, ended_with_reason, failed, given_words, misused,
+    answered, asked_of, buffered, ended_with_reason, failed, given_words, value_of, wrong_size,
 };
 use std::process::ExitCode;
-use words::{Form, HELP, OPTIONS, WRONG_SIZE, named_form};
+use words::{HELP, OPTIONS};
 
 /// The name at the front of what the program says of failures.
 const PROGRAM: &str = "ansi2text";
@@ -23,14 +23,14 @@ fn main(rt: HostRuntime) -> ExitCode {
     if let Some(request) = asked_of(words.as_slice(), OPTIONS) {
         return answered(&rt, PROGRAM, HELP, request);
     }
-    let Some(form) = named_form(words.as_slice()) else {
-        return misused(&rt, WRONG_SIZE);
+    let Ok(size) = screen_size(value_of(words.as_slice(), SHOWN)) else {
+        return wrong_size(&rt, PROGRAM);
     };
     let mut reader = FromRead::new(rt.stdin());
     let output = buffered(rt.stdout());
-    let ran = match form {
-        Form::Stripped => strip(&mut reader, output),
-        Form::Shown(size) => {
+    let ran = match size {
+        None => strip(&mut reader, output),
+        Some(size) => {
             let Ok(screen) = Screen::new(rt.alloc(), size.columns, size.rows) else {
                 return failed(&rt, PROGRAM, "out of memory");
             };

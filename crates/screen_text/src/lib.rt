@@ -6,11 +6,13 @@ ghost use Rattle.anstyle_parse.specs.Io.Run.{RunsToEnding};
 ghost use Rattle.screen_text.specs.Shown.{left_text, ending_text};
 
 pub mod laws;
+mod option;
 mod performer;
 mod rows;
 
 use ansi_screen::Screen;
 use anstyle_parse::io::{Fault, Output, Sink, Source, write_calls_by};
+pub use option::{NoSize, SHOWN, screen_size};
 pub use performer::ShownWriter;
 pub use rows::{TextRows, WriteRows};
 

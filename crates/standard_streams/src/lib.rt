@@ -161,6 +161,17 @@ pub fn failed(rt: &impl Eprint, program: &str, what: &str) -> ExitCode
     ExitCode::from(FAILED)
 }
 
+/// Says on standard error what the size of a screen is, for an option that has another text, and answers
+/// status 2. Where that can't be written nothing is done about it.
+pub fn wrong_size(rt: &impl Eprint, program: &str) -> ExitCode
+    ensures { exit_status result ≡ 2 }
+{
+    let _ = eprintln!(rt;
+        "{program}: a size is COLUMNSxROWS, from 2x1 to 1000x1000 (see {program} --help)"
+    );
+    ExitCode::from(MISUSED)
+}
+
 /// Writes the usage line on standard error, and answers status 2. Where that can't be written
 /// nothing is done about it.
 pub fn misused(rt: &impl Eprint, usage: &str) -> ExitCode

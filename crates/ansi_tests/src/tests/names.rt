@@ -2,6 +2,7 @@
 //! type of theirs has of a trait of std: what is gone is missed here.
 use ansi_html::HtmlWriter;
 use ansi_html::Scheme;
+use ansi_html::StyledWriter;
 use ansi_html::Styling;
 use ansi_html::contrast::BLACK;
 use ansi_html::contrast::Rgb;
@@ -81,6 +82,7 @@ use standard_streams::given_words;
 use standard_streams::message;
 use standard_streams::misused;
 use standard_streams::value_of;
+use standard_streams::wrong_size;
 use std::alloc::Global;
 use std::fmt::Debug;
 use std::io;
@@ -350,7 +352,7 @@ pub fn names_of_standard_streams<W: Write + IsTerminal + Drop>(
     rt: &impl Eprint,
     output: W,
     [other, last]: [W; 2],
-) -> (Buffer<FromWrite<W>>, [ExitCode; 4]) {
+) -> (Buffer<FromWrite<W>>, [ExitCode; 5]) {
     let ran = (buffered(other), Err(Fault::Read));
     let reader = FromRead::new(b"".as_slice());
     (
@@ -360,6 +362,7 @@ pub fn names_of_standard_streams<W: Write + IsTerminal + Drop>(
             ended(rt, "", ran),
             ended_with_reason(rt, "", reader, (buffered(last), Ok(()))),
             misused(rt, ""),
+            wrong_size(rt, ""),
         ],
     )
 }

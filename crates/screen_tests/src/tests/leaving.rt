@@ -1,10 +1,12 @@
 //! Rows that leave a screen, and what it showed as text. Streams stand in tests/screen_twin.
 use ansi_screen::laws::scrolled_off;
-use ansi_screen::{Cell, Part, Screen, Scrolling, Size, TakeRow, put_cells};
+use ansi_screen::{
+    Cell, LeftOut, Part, Screen, Scrolling, Size, TakeRow, goes_on, put_cells, used,
+};
 use ansi_style::Style;
 use anstyle_parse::io::{FromRead, FromWrite, Output, write_calls_by};
 use screen_text::laws::{bound, clean, lines, plain_text, returned, rewritten};
-use screen_text::{ShownWriter, write_shown};
+use screen_text::{NoSize, SHOWN, ShownWriter, TextRows, screen_size, write_shown};
 use std::test::Fail;
 
 /// Counts the rows that it takes, and keeps whether the last one goes on.
@@ -47,6 +49,16 @@ fn rows_that_leave(rt: HostRuntime) -> Result<(), Fail> {
     assert!(rt; counter.count == 4 && !counter.goes_on);
     assert_eq!(rt; screen.columns(), 3);
     assert!(rt; matches!(screen.row(0)[1].part, Part::Empty));
+    let blanks = [Cell::blank(Style::default())];
+    assert_eq!(rt;
+        (
+            used(&blanks, LeftOut::Blanks),
+            used(&blanks, LeftOut::Unprinted)
+        ),
+        (0, 0)
+    );
+    assert!(rt; !goes_on(&blanks) && !blanks[0].is_right());
+    assert_eq!(rt; screen.used_rows(LeftOut::Unprinted), 1);
     Ok(())
 }
 
@@ -72,7 +84,7 @@ fn what_was_shown(rt: HostRuntime) -> Result<(), Fail> {
 fn a_writer_that_is_given(rt: HostRuntime) -> Result<(), Fail> {
     let mut output = Output::new(FromWrite::new(Vec::new(rt.alloc())));
     put_cells(&mut output, &[Cell::blank(Style::default())]);
-    let performer = ShownWriter::new(Screen::new(rt.alloc(), 2, 1)?, output);
+    let performer = ShownWriter::new(Screen::new(rt.alloc(), 2, 1)?, TextRows::new(output));
     let mut reader = FromRead::new("\u{6F22}\u{5B57}".as_bytes());
     let (writer, answer) = write_calls_by(performer, &mut reader, b".");
     assert_eq!(rt; answer, Ok(()));
@@ -91,5 +103,10 @@ fn sizes(rt: HostRuntime) -> Result<(), Fail> {
     assert_eq!(rt; Size::parse("120"), None);
     let usual = Size::of_a_terminal();
     assert_eq!(rt; (usual.columns, usual.rows), (80, 24));
+    assert_eq!(rt; SHOWN, "--shown");
+    assert_eq!(rt; screen_size(None), Ok(None));
+    assert_eq!(rt; screen_size(Some("")), Ok(Some(usual)));
+    assert_eq!(rt; screen_size(Some("=120x40")), Ok(Some(size)));
+    assert_eq!(rt; screen_size(Some("120x40")), Err(NoSize));
     Ok(())
 }

@@ -1,0 +1,41 @@
+//! What a screen showed, as HTML. Streams stand in tests/screen_twin.
+use ansi_html::{Scheme, Styling};
+use ansi_screen::Screen;
+use anstyle_parse::io::{FromRead, FromWrite, Output, write_calls_by};
+use screen_html::{HtmlRows, convert_shown};
+use screen_text::{ShownWriter, WriteRows};
+use std::test::Fail;
+
+type Memory = FromWrite<Vec<u8>>;
+
+#[test]
+fn a_page(rt: HostRuntime) -> Result<(), Fail> {
+    let mut reader = FromRead::new(b"10%\r\x1b[1mdone\n".as_slice());
+    let writer = FromWrite::new(Vec::new(rt.alloc()));
+    let screen = Screen::new(rt.alloc(), 80, 24)?;
+    let styling = Styling::Inline(Scheme::Both);
+    let (writer, answer) = convert_shown(screen, styling, b"<pre>", &mut reader, writer, b"</pre>");
+    assert_eq!(rt; answer, Ok(()));
+    let written = writer.into_inner();
+    let wanted = b"<pre><span style=\"font-weight:bold;\">done</span>\n</pre>";
+    assert_eq!(rt; written.as_slice(), wanted.as_slice());
+    Ok(())
+}
+
+fn writes_rows<T: WriteRows<Memory> + Drop>(_: &T) {}
+
+// A wide character that wraps, and a mark; no line feed between rows of a line.
+#[test]
+fn by_classes(rt: HostRuntime) -> Result<(), Fail> {
+    let output = Output::new(FromWrite::new(Vec::new(rt.alloc())));
+    let rows = HtmlRows::new(Styling::Classes, output);
+    writes_rows(&rows);
+    let performer = ShownWriter::new(Screen::new(rt.alloc(), 3, 1)?, rows);
+    let mut reader = FromRead::new("\x1b[3ma<\u{301}\u{6F22}\x1b[m!".as_bytes());
+    let (writer, answer) = write_calls_by(performer, &mut reader, b".");
+    assert_eq!(rt; answer, Ok(()));
+    let written = writer.into_inner();
+    let wanted = "<span class=\"ansi-italic\">a&lt;\u{301}\u{6F22}</span>!\n.";
+    assert_eq!(rt; written.as_slice(), wanted.as_bytes());
+    Ok(())
+}

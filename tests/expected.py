@@ -587,6 +587,27 @@ CLASS_ROWS = [
     ),
 ]
 
+# What a person sees, in colours: each line has spans of its own.
+RED_TEXT = themed(BOTH, b"color", b"#cf222e", b"#ff7b72")
+ON_RED = b"color:#ffffff;background-color:#cd0000;"
+SHOWN_HTML_ROWS = [
+    ("colours that scroll off", b"\x1b[31ma\x1b[m\nb\n" * 300 + b"c", (span(RED_TEXT, b"a") + b"\nb\n") * 300 + b"c\n"),
+    ("a style over lines", b"\x1b[1ma\n\nb\n", span(b"font-weight:bold;", b"a") + b"\n\n" + span(b"font-weight:bold;", b"b") + b"\n"),
+    ("progress", b"\x1b[31m10%\r\x1b[mabc\r\x1b[K\x1b[1m100%\x1b[m done\n", span(b"font-weight:bold;", b"100%") + b" done\n"),
+    ("a row written over in part", b"\x1b[31mabcd\r\x1b[mxy\n", b"xy" + span(RED_TEXT, b"cd") + b"\n"),
+    ("a line that wrapped", b"\x1b[31m" + b"a" * 99 + b"\x1b[m" + b"b" * 99 + b"\nc\n", span(RED_TEXT, b"a" * 99) + b"b" * 99 + b"\nc\n"),
+    ("markup", b"<b>&\"'</b>\n\x1b[31m<\x1b[m&lt;", b"&lt;b&gt;&amp;&quot;&#39;&lt;/b&gt;\n" + span(RED_TEXT, b"&lt;") + b"&amp;lt;\n"),
+    ("a background cut by EL", b"\x1b[41mabcd\x1b[m\b\b\x1b[K\n", span(ON_RED, b"ab") + b"\n"),
+    ("a background to the end of its row", b"\x1b[41mab\x1b[K\x1b[m\n", span(ON_RED, b"ab") + b"\n"),
+    ("a background behind what was passed over", b"\x1b[41m\x1b[2Ka\x1b[4Gb\n", span(ON_RED, b"a  b") + b"\n"),
+    ("a place passed over", b"\x1b[31ma\x1b[4Gb\n", span(RED_TEXT, b"a") + b"  " + span(RED_TEXT, b"b") + b"\n"),
+    ("a line drawn in colour", b"\x1b(0\x1b[31mqq\x1b(B\x1b[mq\n", span(RED_TEXT, "──".encode()) + b"q\n"),
+    ("marks", "\x1b[1me\u0301漢\u0301\x1b[mx\n".encode(), span(b"font-weight:bold;", "e\u0301漢\u0301".encode()) + b"x\n"),
+    ("a link, which no cell has", b"\x1b]8;;https://a/\x07\x1b[31mit\x1b]8;;\x07\n", span(RED_TEXT, b"it") + b"\n"),
+    ("a broken character", b"\x1b[1m\xc3(\n", span(b"font-weight:bold;", b"\xef\xbf\xbd(") + b"\n"),
+    ("styles of nothing", b"\x1b[31m\x1b[41m", b""),
+]
+
 # The second span is open where the stream ends.
 RED = span(themed(BOTH, b"color", b"#cf222e", b"#ff7b72"), b"h")
 BOLD_RED = span(themed(BOTH, b"color", b"#cf222e", b"#ff7b72") + b"font-weight:bold;", b"i")
@@ -646,7 +667,10 @@ def refused_by(name, *more):
     return [unknown(name, words) for words in [*rows, *more]] + shown
 
 
-WRONG_SIZE = b"ansi2text: a size is COLUMNSxROWS, from 2x1 to 1000x1000 (see ansi2text --help)"
+def wrong_size(name):
+    return b"%s: a size is COLUMNSxROWS, from 2x1 to 1000x1000 (see %s --help)" % (name, name)
+
+
 
 PROGRAMS = [
     Program(
@@ -675,8 +699,8 @@ PROGRAMS = [
     Program(
         "ansi2text",
         refused_by("ansi2text", ["--page"], ["text"], ["--Shown"], ["--shown80x24"], ["shown"])
-        + [([word], WRONG_SIZE) for word in ("--shown=", "--shown=1x1", "--shown=80", "--shown=80x1001", "--shown==80x24")]
-        + [(["--shown", "--shown=0x0"], WRONG_SIZE)],
+        + [([word], wrong_size(b"ansi2text")) for word in ("--shown=", "--shown=1x1", "--shown=80", "--shown=80x1001", "--shown==80x24")]
+        + [(["--shown", "--shown=0x0"], wrong_size(b"ansi2text"))],
         [
             Mode([], STRIP_ROWS, (b"\x1b[1mA\n", b"A\n"), STRIP_HOSTILE, stays=True, cut=STRIP_CUT),
             Mode(["--shown"], SHOWN_ROWS, (b"\x1b[1mA\n", b"A\n"), SHOWN_HOSTILE, stays=True, waits=True),
@@ -689,7 +713,9 @@ PROGRAMS = [
         refused_by(
             "ansi2html",
             *(["--title"], ["--titles=x"], ["--Page"], ["pages"], ["--page="], ["--light=1"], ["dark"], ["fragment"], ["--class"]),
-        ),
+        )
+        + [(["--page", word], wrong_size(b"ansi2html")) for word in ("--shown=", "--shown=1x1", "--shown=1001x24")]
+        + [(["--stylesheet", "--shown=0x0"], wrong_size(b"ansi2html"))],
         [
             Mode(words, html_rows(scheme) if scheme else CLASS_ROWS, (b"\x1b[mA\n", b"A\n"), hostile, head, tail, cut=cut)
             for words, scheme, hostile, head, tail, cut in (
@@ -703,8 +729,19 @@ PROGRAMS = [
                 (["--light", "--dark", "--title=" + TITLE], DARK, [], DARK_TITLED_HEAD, PAGE_TAIL, None),
                 (["--classes", "--dark"], None, HTML_HOSTILE, b"", b"", None),
             )
+        ]
+        + [
+            Mode(words, rows, (b"\x1b[mA<\n", b"A&lt;\n"), [], head, tail, waits=True)
+            for words, rows, head, tail in (
+                (["--shown"], SHOWN_HTML_ROWS, b"", b""),
+                (["--shown=9x9", "--page", "--shown=80x24"], SHOWN_HTML_ROWS, PAGE_HEAD, PAGE_TAIL),
+                (["--shown", "--classes"], [("a class", b"\x1b[1mx\n", classed(b"bold") + b"\n")], b"", b""),
+            )
         ],
-        options=["--page", "--title=TEXT", "--light", "--dark", "--classes", "--stylesheet"],
+        options=[
+            *("--page", "--title=TEXT", "--light", "--dark", "--classes", "--stylesheet"),
+            *("--shown", "--shown=COLUMNSxROWS"),
+        ],
         fragments=[[], ["--classes"]],
         page=["--page"],
         written=["--stylesheet"],

@@ -54,6 +54,7 @@ class Reader(html.parser.HTMLParser):
         self.declared, self.language, self.metas, self.style, self.title = [], [], [], "", ""
         self.lines = ""  # the text as its lines are drawn: 0A at each line break, and no 0D
         self.link, self.links = "", []  # what each character of the text leads to
+        self.style_of, self.styles = "", []  # the attribute style under which it stands
 
     def handle_starttag(self, tag, attributes):
         if tag == "br":
@@ -67,6 +68,7 @@ class Reader(html.parser.HTMLParser):
             if not is_of(tag, attributes):
                 self.faults.append("an element %s has the attributes %s" % (tag, attributes))
             self.link = dict(attributes).get("href", "")
+            self.style_of = dict(attributes).get("style", "")
         elif not self.is_page or tag not in OF_A_PAGE or "pre" in self.open:
             self.faults.append("an element %s" % tag)
         elif tag == "meta":
@@ -83,12 +85,13 @@ class Reader(html.parser.HTMLParser):
             self.faults.append("%s is ended, with %s open" % (tag, self.open))
         else:
             self.open.pop()
-            self.link = ""
+            self.link = self.style_of = ""
 
     def handle_data(self, data):
         if not self.is_page or "pre" in self.open:
             self.text += data
             self.links += [self.link] * len(data)
+            self.styles += [self.style_of] * len(data)
             self.lines += data.replace("\r", "")
         elif "style" in self.open:
             self.style += data

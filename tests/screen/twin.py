@@ -2,6 +2,7 @@
 
     show(bytes, width, height)      the text that ansi2screen must write
     showed(bytes, width, height)    the text that ansi2text --shown must write
+    styles(bytes, width, height)    the style of each of its characters, for ansi2html --shown
 
 It has a parser of its own, for streams that are well formed. Widths come from Unicode's data as
 Python has it, not from the repository's table.
@@ -28,19 +29,37 @@ def columns(c):
 DRAWN = dict(zip("_`abcdefghijklmnopqrstuvwxyz{|}~", " ◆▒␉␌␍␊°±␤␋┘┐┌└┼⎺⎻─⎼⎽├┤┴┬│≤≥π≠£·"))
 
 
+# A style: the codes of its text's colour and of its ground's, and of what else it has.
+PLAIN = (None, None, frozenset())
+
+
+def selected(style, codes):
+    """The style after SGR, of the codes that the streams of tests have."""
+    color, ground, others = style
+    for code in codes:
+        if code == 0:
+            color, ground, others = PLAIN
+        elif 30 <= code < 38:
+            color = code
+        elif 40 <= code < 48:
+            ground = code
+        elif code in (1, 4):
+            others = others | {code}
+    return color, ground, others
+
+
 class Place:
-    def __init__(self, row=0, column=0, is_relative=False, draws=(False, False), shift=0):
+    def __init__(self, row=0, column=0, is_relative=False, draws=(False, False), shift=0, style=PLAIN):
         self.row, self.column, self.is_relative = row, column, is_relative
-        self.draws, self.shift = draws, shift
+        self.draws, self.shift, self.style = draws, shift, style
 
     def copy(self):
-        return Place(self.row, self.column, self.is_relative, self.draws, self.shift)
+        return Place(self.row, self.column, self.is_relative, self.draws, self.shift, self.style)
 
 
 class Display:
-    """Cells are a character, a part, marks, and whether the row goes on behind it, row by row in one list."""
+    """Cells are a character, a part, marks, whether the row goes on behind it, and a style, row by row in one list."""
 
-    BLANK = (" ", EMPTY, "", False)
     MARKS = 2
 
     def __init__(self, width, height):
@@ -49,16 +68,19 @@ class Display:
         self.reset()
 
     def reset(self):
+        self.cursor, self.saved, self.hidden_saved = Place(), Place(), Place()
         self.cells = self.blanks()
         self.hidden = self.blanks()
-        self.cursor, self.saved, self.hidden_saved = Place(), Place(), Place()
         self.top, self.bottom = 0, self.height
         self.tabs = [column % 8 == 0 for column in range(self.width)]
         self.wraps, self.inserts, self.is_alternate = True, False, False
         self.last = None
 
+    def blank(self):
+        return " ", EMPTY, "", False, (None, self.cursor.style[1], frozenset())
+
     def blanks(self):
-        return [self.BLANK] * (self.width * self.height)
+        return [self.blank()] * (self.width * self.height)
 
     # -------------------------------------------------------------- places
 
@@ -115,7 +137,7 @@ class Display:
 
     def cut(self, at):
         if 0 < at < len(self.cells) and self.cells[at][1] == RIGHT:
-            self.cells[at - 1 : at + 1] = [self.BLANK] * 2
+            self.cells[at - 1 : at + 1] = [(" ", EMPTY, "", False, cell[4]) for cell in self.cells[at - 1 : at + 1]]
 
     def change(self, start, end, how):
         self.cut(end)
@@ -126,13 +148,13 @@ class Display:
         self.cells[start:end] = how(self.cells[start:end])
 
     def erased(self, run):
-        return [self.BLANK] * len(run)
+        return [self.blank()] * len(run)
 
     def moved_back(self, n):
-        return lambda run: run[n:] + [self.BLANK] * min(n, len(run))
+        return lambda run: run[n:] + [self.blank()] * min(n, len(run))
 
     def moved_on(self, n):
-        return lambda run: [self.BLANK] * min(n, len(run)) + run[: max(0, len(run) - n)]
+        return lambda run: [self.blank()] * min(n, len(run)) + run[: max(0, len(run) - n)]
 
     def erase(self, kind, start, end):
         if kind == 0:
@@ -144,7 +166,7 @@ class Display:
 
     def goes_on(self, on):
         end = self.row_end() - 1
-        self.cells[end] = (*self.cells[end][:3], on)
+        self.cells[end] = (*self.cells[end][:3], on, self.cells[end][4])
 
     def delete_characters(self, n):
         self.goes_on(False)
@@ -201,7 +223,9 @@ class Display:
         if self.cursor.column + n <= self.width:
             if self.inserts:
                 self.insert_characters(n)
-            glyph = [(c, LEFT, "", False), (" ", RIGHT, "", False)] if n == 2 else [(c, WHOLE, "", False)]
+            style = self.cursor.style
+            wide = [(c, LEFT, "", False, style), (" ", RIGHT, "", False, style)]
+            glyph = wide if n == 2 else [(c, WHOLE, "", False, style)]
             self.change(self.here(), self.here() + n, lambda run: glyph)
             self.cursor.column += n
 
@@ -210,8 +234,8 @@ class Display:
         if self.cursor.column:
             if self.cells[at][1] == RIGHT:
                 at -= 1
-            c, part, marks, on = self.cells[at]
-            self.cells[at] = (c, part, (marks + mark)[: self.MARKS], on)
+            c, part, marks, on, style = self.cells[at]
+            self.cells[at] = (c, part, (marks + mark)[: self.MARKS], on, style)
 
     def print_again(self, c):
         if self.cursor.column + columns(c) <= self.width:
@@ -257,7 +281,7 @@ class Display:
         self.cursor.is_relative, self.saved = False, Place()
         self.top, self.bottom = 0, self.height
         self.wraps, self.inserts = True, False
-        self.cursor.draws, self.cursor.shift = (False, False), 0
+        self.cursor.draws, self.cursor.shift, self.cursor.style = (False, False), 0, PLAIN
 
     # -------------------------------------------------------------- calls
 
@@ -317,6 +341,8 @@ class Display:
         elif final in self.EDITS:
             self.settle()
             self.EDITS[final](self, max(1, first), first)
+        elif final == "m":
+            self.cursor.style = selected(self.cursor.style, fields)
         elif final == "S":
             self.scroll(self.moved_back, max(1, first))
         elif final == "T":
@@ -366,16 +392,18 @@ class Display:
     def text(self):
         rows = []
         for row in range(self.height):
-            rows.append("".join(c + marks for c, part, marks, _ in self.row(row) if part != RIGHT).rstrip(" "))
+            rows.append("".join(c + marks for c, part, marks, _, _ in self.row(row) if part != RIGHT).rstrip(" "))
         while rows and not rows[-1]:
             rows.pop()
         return "".join("%s\n" % row for row in rows)
 
 
-def line_text(cells):
-    """The text of a row: cells at its end where nothing was printed leave nothing; whether it goes on."""
-    used = max((column + 1 for column, (c, part, marks, _) in enumerate(cells) if part != EMPTY or marks), default=0)
-    return "".join(c + marks for c, part, marks, _ in cells[:used] if part != RIGHT), cells[-1][3]
+def line(cells):
+    """The characters of a row with their styles: cells at its end where nothing was printed leave nothing; whether
+    it goes on."""
+    used = max((column + 1 for column, (c, part, marks, _, _) in enumerate(cells) if part != EMPTY or marks), default=0)
+    shown = [(it, style) for c, part, marks, _, style in cells[:used] if part != RIGHT for it in c + marks]
+    return shown, cells[-1][3]
 
 
 def feed(display, data):
@@ -423,12 +451,22 @@ def show(data, width, height):
     return display.text().encode()
 
 
-def showed(data, width, height):
-    """What scrolled off and what still shows, as lines; a line feed does a carriage return first."""
+def lines(data, width, height):
+    """What scrolled off and what still shows, as characters with styles; a line feed does a carriage return first."""
     display = Display(width, height)
     feed(display, data.replace(b"\n", b"\r\n"))
-    rows = [line_text(display.row(row)) for row in range(height)]
+    rows = [line(display.row(row)) for row in range(height)]
     while rows and not rows[-1][0]:
         rows.pop()
-    text = "".join(text + ("" if on else "\n") for text, on in [line_text(row) for row in display.left] + rows)
-    return (text if text.endswith("\n") or not text else text + "\n").encode()
+    found, on = [], False
+    for characters, on in [line(row) for row in display.left] + rows:
+        found += characters + ([] if on else [("\n", PLAIN)])
+    return found + ([("\n", PLAIN)] if on else [])
+
+
+def showed(data, width, height):
+    return "".join(c for c, _ in lines(data, width, height)).encode()
+
+
+def styles(data, width, height):
+    return [style for _, style in lines(data, width, height)]

@@ -31,20 +31,20 @@ Writes the text of standard input to standard output as HTML, in its colours:
 a fragment, to be put into a <pre> of a page in UTF-8, or a whole page.
 Input is UTF-8. No file is opened: one is given by <.
 
-  --page          write a whole page, light or dark as its reader has it;
-                  so does the word page
-  --title=TEXT    write a whole page with this title
-  --light         colours for light pages alone
-  --dark          colours for dark pages alone, no lighter than #1e1e1e
-  --classes       attributes class in place of style, for sites that forbid
-                  inline styles; colours are snapped to the 256
-  --stylesheet    write the stylesheet of these classes, and read nothing
-  --shown         write what a terminal of 80x24 showed instead: the lines that
-                  scrolled off, and what stands there at the end, without links
-  --shown=COLUMNSxROWS
-                  the same of this size, from 2x1 to 1000x1000
-  --help          say this
-  --version       say which version it is
+  --page                  write a whole page, light or dark as its reader has it;
+                          so does the word page
+  --title=TEXT            write a whole page with this title
+  --light                 colours for light pages alone
+  --dark                  colours for dark pages alone, no lighter than #1e1e1e
+  --classes               attributes class in place of style, for sites that
+                          forbid inline styles; colours are snapped to the 256
+  --stylesheet            write the stylesheet of these classes, and read nothing
+  --shown                 write what a terminal of 80x24 showed instead: the lines
+                          that scrolled off, and what stands there at the end;
+                          it has no links
+  --shown=COLUMNSxROWS    the same of this size, from 2x1 to 1000x1000
+  --help                  say this
+  --version               say which version it is
 
 Examples, a listing as a page, and a build with its progress bars as they ended:
   ls --color=always | ansi2html --page --title=Files > listing.html

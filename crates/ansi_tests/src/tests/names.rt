@@ -269,6 +269,13 @@ fn names_of_runs(rt: HostRuntime) {
     );
     is_writing(&writer);
     assert_well(&rt, write_calls_by(writer, &mut reader(), b">"));
+    let output = Output::new(memory(rt.alloc()));
+    let mut writer = StyledWriter::new(Styling::Classes, output);
+    writer.select(Style::default());
+    writer.put_char('a');
+    writer.pass_on();
+    assert!(rt; writer.output().fault().is_none());
+    assert_well(&rt, writer.into_output().finish());
     let mut style = Style::default();
     assert_eq!(rt; perform_to_end(&mut reader(), &mut style), Ok(()));
     assert!(rt; style != Style::default());

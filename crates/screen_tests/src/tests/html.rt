@@ -1,22 +1,28 @@
 //! What a screen showed, as HTML. Streams stand in tests/screen_twin.
 use ansi_html::{Scheme, Styling};
 use ansi_screen::Screen;
-use anstyle_parse::io::{FromRead, FromWrite, Output, write_calls_by};
+use anstyle_parse::io::{Fault, FromRead, FromWrite, Output, write_calls_by};
 use screen_html::{HtmlRows, convert_shown};
 use screen_text::{ShownWriter, WriteRows};
+use std::alloc::{AllocError, Global};
 use std::test::Fail;
 
 type Memory = FromWrite<Vec<u8>>;
 
-#[test]
-fn a_page(rt: HostRuntime) -> Result<(), Fail> {
-    let mut reader = FromRead::new(b"10%\r\x1b[1mdone\n".as_slice());
-    let writer = FromWrite::new(Vec::new(rt.alloc()));
-    let screen = Screen::new(rt.alloc(), 80, 24)?;
+/// A log in memory, as the page of the crate `screen_html` shows it.
+fn shown(alloc: Global, log: &[u8]) -> Result<(Vec<u8>, Result<(), Fault>), AllocError> {
+    let mut reader = FromRead::new(log);
+    let writer = FromWrite::new(Vec::new(alloc));
+    let screen = Screen::new(alloc, 80, 24)?;
     let styling = Styling::Inline(Scheme::Both);
     let (writer, answer) = convert_shown(screen, styling, b"<pre>", &mut reader, writer, b"</pre>");
+    Ok((writer.into_inner(), answer))
+}
+
+#[test]
+fn a_page(rt: HostRuntime) -> Result<(), Fail> {
+    let (written, answer) = shown(rt.alloc(), b"10%\r\x1b[1mdone\n")?;
     assert_eq!(rt; answer, Ok(()));
-    let written = writer.into_inner();
     let wanted = b"<pre><span style=\"font-weight:bold;\">done</span>\n</pre>";
     assert_eq!(rt; written.as_slice(), wanted.as_slice());
     Ok(())

@@ -6,8 +6,8 @@ Usage: tests/screen/record.py FOLDER [NAME]..
 Each program runs on a terminal of its own of 80 columns and 24 rows; what it wrote stands in
 FOLDER/NAME. pip and npm download a package of this script's own, from a server of its own on this
 machine that hands it out slowly, as curl does; git clones this repository; apt-get, run by root,
-installs less anew; cargo builds crates of its own; docker, the client, pulls an image that the same server says to have, as an engine
-would. Programs that are not installed are left out, and said.
+installs less anew; cargo builds crates of its own; docker, the client, pulls and builds an image that the
+same server says to have, as an engine would. Programs that are not installed are left out, and said.
 """
 
 import http.server
@@ -35,6 +35,7 @@ PIP = "python3 -m pip --isolated --disable-pip-version-check download --no-cache
 CRATES = "for it in alpha beta gamma delta epsilon; do cargo new -q --vcs=none --lib $it; done"
 WORKSPACE = "printf '[workspace]\\nmembers = [\"*\"]\\nexclude = [\"target\"]\\n' > Cargo.toml"
 CARGO = "cd INTO && %s && %s && CARGO_TERM_PROGRESS_WHEN=always CARGO_TERM_PROGRESS_WIDTH=60 cargo build -j1" % (CRATES, WORKSPACE)
+BUILD = "cd INTO && echo FROM slow > Dockerfile && DOCKER_BUILDKIT=0 DOCKER_CONFIG=INTO docker --host=tcp:AT build ."
 WHEEL = "slow-1.0-py3-none-any.whl"
 
 # What the engine says of a layer as it comes, in this order; the last two have a progress.
@@ -48,6 +49,7 @@ PROGRAMS = {
     "curl": ("curl -o /dev/null AT/slow.tgz", 20),
     "curl_bar": ("curl -# -o /dev/null AT/slow.tgz", 20),
     "docker": ("DOCKER_CONFIG=INTO docker --host=tcp:AT pull slow", 30),
+    "docker_build": (BUILD, 30),
     "git_clone": ("git clone --no-local --progress %s INTO/clone" % ROOT, 30),
     "npm": ("cd INTO && " + NPM, 30),
     "pip": (PIP, 30),
@@ -87,6 +89,15 @@ def said_of_pull():
     yield {"status": "Status: Downloaded newer image for slow:latest"}
 
 
+def said_of_build():
+    """What an engine says of a build: the image is pulled, and a command's output has colours."""
+    yield {"stream": "Step 1/2 : FROM slow\n"}
+    yield from said_of_pull()
+    yield {"stream": " ---> 1f3e46996e29\nStep 2/2 : RUN make\n"}
+    yield {"stream": "\x1b[1mmake.c:3:\x1b[m \x1b[35mwarning:\x1b[m unused variable \x1b[1mx\x1b[m\n"}
+    yield {"stream": " 50%\r100%\nSuccessfully built 1f3e46996e29\n"}
+
+
 class Server(http.server.BaseHTTPRequestHandler):
     """An index of pip, a registry of npm, the package of each, and the engine of docker."""
 
@@ -102,7 +113,7 @@ class Server(http.server.BaseHTTPRequestHandler):
         self.send_response(200)
         self.send_header("Content-Type", "application/json")
         self.end_headers()
-        for message in said_of_pull():
+        for message in said_of_build() if "/build" in self.path else said_of_pull():
             self.wfile.write(json.dumps(message).encode() + b"\r\n")
             time.sleep(PAUSE / 4)
 

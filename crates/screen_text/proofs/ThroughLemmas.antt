@@ -12,13 +12,13 @@ use Rattle.anstyle_parse.proofs.Canonical.Twice.{replay-only}
 use Rattle.ansi_strip.specs.Strip.{stripped_call, stripped}
 use Rattle.ansi_screen.specs.After.{State, new_state, after_all}
 use Rattle.ansi_screen.specs.Leaving.{all_left}
-use Rattle.ansi_screen.specs.Laws.{line_feed, printing}
+use Rattle.ansi_screen.specs.Laws.{carriage_return, line_feed, printing}
 use Rattle.ansi_screen.proofs.LawLemmas.{after_all-append}
 use Rattle.ansi_screen.proofs.PlainLemmas.{canon-line, executed-both}
 use Rattle.screen_text.specs.Shown.{given, given_all, shown_text}
-use Rattle.screen_text.specs.Laws.{IsPlain, ArePlain, LastIsNotEmpty, line_calls, lines_calls, line_bytes, lines_bytes, empty_lines}
+use Rattle.screen_text.specs.Laws.{IsPlain, ArePlain, LastIsNotEmpty, line_calls, lines_calls, line_bytes, lines_bytes, recorded_line, recorded_bytes, empty_lines}
 use Rattle.screen_text.specs.ShowingProof.{all_left-append}
-use Rattle.screen_text.proofs.RewrittenLemmas.{given-printing}
+use Rattle.screen_text.proofs.RewrittenLemmas.{given-printing, returned-shown}
 use Rattle.screen_text.proofs.TextLemmas.{Line, Ended, ended-same, line-same, print-lines, print-some, end-lines, feed-blanks, new-typed, shown-line, shown-ended}
 
 blank-bytes : (n : ℕ) → lines_bytes (empty_lines n) ≡ replicate n 0x0A
@@ -172,3 +172,49 @@ pub stripped-through : (width height : ℕ) (lines : List (List ℕ)) (calls : L
 stripped-through width height lines calls wide some are last made =
     bytes-through width height lines calls wide some are last made
     ∙ (sym (stripped-lines lines) ∙ ap stripped (sym (lines-only lines calls are made)))
+
+-- The same, as it is recorded on a terminal.
+abbrev recorded_line_calls : List ℕ → List Call
+recorded_line_calls line = printing line ++ carriage_return ∷ line_feed ∷ []
+
+abbrev recorded_calls : List (List ℕ) → List Call
+recorded_calls lines = flat_map recorded_line_calls lines
+
+canon-recorded : (lines : List (List ℕ)) → canon (recorded_calls lines) ≡ recorded_bytes lines
+canon-recorded [] = refl
+canon-recorded (line ∷ lines) =
+    flat_map-append call_text (recorded_line_calls line) (recorded_calls lines)
+    ∙ (ap (λ l. l ++ canon (recorded_calls lines))
+    (flat_map-append call_text (printing line) (carriage_return ∷ line_feed ∷ []) ∙ ap (λ l. l ++ 0x0D ∷ 0x0A ∷ []) (canon-line line))
+    ∙ ap (λ l. recorded_line line ++ l) (canon-recorded lines))
+
+lawful-recorded : (lines : List (List ℕ)) → ArePlain lines → AreLawful (recorded_calls lines)
+lawful-recorded [] are = tt
+lawful-recorded (line ∷ lines) are =
+    subst (λ l. AreLawful l) (sym (append_assoc (printing line) (carriage_return ∷ line_feed ∷ []) (recorded_calls lines)))
+    (lawful-line line (carriage_return ∷ line_feed ∷ recorded_calls lines) are.0 (executed-both.0, (executed-both.1, lawful-recorded lines are.1)))
+
+recorded-shown : (lines : List (List ℕ)) (earlier : List Call) (s : State)
+    → shown_text s (earlier ++ recorded_calls lines) ≡ shown_text s (earlier ++ lines_calls lines)
+recorded-shown [] earlier s = refl
+recorded-shown (line ∷ lines) earlier s =
+    let typed : List Call = earlier ++ printing line in
+    let rest : List Call = recorded_calls lines in
+    let more : List Call = lines_calls lines in
+    ap (shown_text s)
+    (ap (λ l. earlier ++ l) (append_assoc (printing line) (carriage_return ∷ line_feed ∷ []) rest)
+    ∙ sym (append_assoc earlier (printing line) (carriage_return ∷ line_feed ∷ rest)))
+    ∙ (returned-shown s typed rest
+    ∙ (ap (shown_text s) (sym (append_assoc typed (line_feed ∷ []) rest))
+    ∙ (recorded-shown lines (typed ++ line_feed ∷ []) s
+    ∙ ap (shown_text s)
+    (append_assoc typed (line_feed ∷ []) more
+    ∙ (append_assoc earlier (printing line) (line_feed ∷ more)
+    ∙ ap (λ l. earlier ++ l) (sym (append_assoc (printing line) (line_feed ∷ []) more)))))))
+
+pub recorded-through : (width height : ℕ) (lines : List (List ℕ)) (calls : List Call) → 2 ≤ width → 1 ≤ height → ArePlain lines
+    → LastIsNotEmpty lines → AreCalls (recorded_bytes lines) calls → shown_text (new_state width height) calls ≡ lines_bytes lines
+recorded-through width height lines calls wide some are last made =
+    ap (shown_text (new_state width height))
+    (only-calls (recorded_bytes lines) (recorded_calls lines) calls (canon-recorded lines) (lawful-recorded lines are) made)
+    ∙ (recorded-shown lines [] (new_state width height) ∙ through-ended width height lines wide some are last)

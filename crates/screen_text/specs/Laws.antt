@@ -40,10 +40,17 @@ line_bytes line = flat_map encode_utf8 line ++ 0x0A ∷ []
 abbrev pub lines_bytes : List (List ℕ) → List ℕ
 lines_bytes lines = flat_map line_bytes lines
 
--- EL as ESC [ 2 K makes it
-abbrev pub erase_line : Call
-erase_line = csi_dispatch ((2 ∷ []) ∷ []) [] false 0x4B
+-- the same behind a terminal's line, which puts a carriage return before each line feed
+abbrev pub recorded_line : List ℕ → List ℕ
+recorded_line line = flat_map encode_utf8 line ++ 0x0D ∷ 0x0A ∷ []
+
+abbrev pub recorded_bytes : List (List ℕ) → List ℕ
+recorded_bytes lines = flat_map recorded_line lines
 
 -- so many empty lines
 abbrev pub empty_lines : ℕ → List (List ℕ)
 empty_lines n = replicate n []
+
+-- EL as ESC [ 2 K makes it
+abbrev pub erase_line : Call
+erase_line = csi_dispatch ((2 ∷ []) ∷ []) [] false 0x4B

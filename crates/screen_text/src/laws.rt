@@ -9,7 +9,7 @@ ghost use Rattle.ansi_screen.specs.After.{State, new_state, after_all};
 ghost use Rattle.ansi_screen.specs.Reachable.{IsScreen};
 ghost use Rattle.ansi_screen.specs.Laws.{carriage_return, line_feed, erase_rest, printing, text_columns};
 ghost use Rattle.screen_text.specs.Shown.{given_all, shown_text};
-ghost use Rattle.screen_text.specs.Laws.{most_cell_bytes, erase_line, IsEnded, IsPlain, ArePlain, LastIsNotEmpty, lines_bytes, empty_lines};
+ghost use Rattle.screen_text.specs.Laws.{most_cell_bytes, erase_line, IsEnded, IsPlain, ArePlain, LastIsNotEmpty, lines_bytes, recorded_bytes, empty_lines};
 
 /// What a new screen showed of any bytes is clean text: UTF-8 with no C0 control but line feeds, and so
 /// without escapes; `ansi_strip` leaves it as it is (`ansi_strip::laws::clean_text`).
@@ -25,8 +25,9 @@ pub fn lines()
 
 /// Plain text comes through: lines of characters of one column or two, each with a line feed, however long
 /// and however many, are what a new screen of any size showed of their bytes in UTF-8, byte for byte; this is what
-/// `ansi_strip` leaves of them too. Of empty lines at the end those that still show are left out, one less than
-/// the screen has rows (`empty`); a last line without its line feed gets one (`unended`).
+/// `ansi_strip` leaves of them too. A recording of them, with CR LF, shows the same (`recorded`). Of empty
+/// lines at the end those that still show are left out, one less than the screen has rows (`empty`); a last
+/// line without its line feed gets one (`unended`).
 pub fn plain_text()
     ensures same { (columns rows : ℕ) (lines : List (List ℕ)) (calls : List Call) → 2 ≤ columns → 1 ≤ rows
         → ArePlain lines → LastIsNotEmpty lines → AreCalls (lines_bytes lines) calls
@@ -34,6 +35,9 @@ pub fn plain_text()
     ensures stripped { (columns rows : ℕ) (lines : List (List ℕ)) (calls : List Call) → 2 ≤ columns → 1 ≤ rows
         → ArePlain lines → LastIsNotEmpty lines → AreCalls (lines_bytes lines) calls
         → shown_text (new_state columns rows) calls ≡ stripped calls }
+    ensures recorded { (columns rows : ℕ) (lines : List (List ℕ)) (calls : List Call) → 2 ≤ columns → 1 ≤ rows
+        → ArePlain lines → LastIsNotEmpty lines → AreCalls (recorded_bytes lines) calls
+        → shown_text (new_state columns rows) calls ≡ lines_bytes lines }
     ensures empty { (columns rows : ℕ) (lines : List (List ℕ)) (n : ℕ) (calls : List Call) → 2 ≤ columns → 1 ≤ rows
         → ArePlain lines → LastIsNotEmpty lines → AreCalls (lines_bytes (lines ++ empty_lines n)) calls
         → shown_text (new_state columns rows) calls ≡ lines_bytes (lines ++ empty_lines (n - (rows - 1))) }

@@ -1,5 +1,5 @@
 -- Line by line; and by the one list of calls of the bytes.
-use Rattle.screen_text.proofs.ThroughLemmas.{bytes-through, stripped-through, blank-through, unended-through}
+use Rattle.screen_text.proofs.ThroughLemmas.{bytes-through, stripped-through, recorded-through, blank-through, unended-through}
 use Rattle.screen_text.proofs.laws.plain_text.Goals as goal
 
 pub returns-clause-same : goal.returns-clause-same
@@ -7,6 +7,9 @@ returns-clause-same c = λ columns rows lines calls wide some are last made. byt
 
 pub returns-clause-stripped : goal.returns-clause-stripped
 returns-clause-stripped c = λ columns rows lines calls wide some are last made. stripped-through columns rows lines calls wide some are last made
+
+pub returns-clause-recorded : goal.returns-clause-recorded
+returns-clause-recorded c = λ columns rows lines calls wide some are last made. recorded-through columns rows lines calls wide some are last made
 
 pub returns-clause-empty : goal.returns-clause-empty
 returns-clause-empty c = λ columns rows lines n calls wide some are last made. blank-through columns rows n lines calls wide some are last made

@@ -20,7 +20,7 @@ use Rattle.ansi_screen.proofs.KeptCalls.{columns-few}
 use Rattle.ansi_screen.proofs.WholeLemmas.{length-glyph}
 use Rattle.screen_text.specs.Lines.{is_unprinted, row_text, rows_text, open_after, closing, showing}
 use Rattle.screen_text.specs.Shown.{given, given_all, shown_text}
-use Rattle.screen_text.specs.Laws.{IsPlain, ArePlain, LastIsNotEmpty, line_calls, lines_calls, line_bytes, lines_bytes, empty_lines}
+use Rattle.screen_text.specs.Laws.{IsPlain, ArePlain, LastIsNotEmpty, line_bytes, lines_bytes, empty_lines}
 use Rattle.screen_text.specs.ShowingProof.{all_left-append}
 use Rattle.screen_text.proofs.EndLemmas.{shown-closed}
 use Rattle.screen_text.proofs.RewrittenLemmas.{given-printing}
@@ -28,6 +28,13 @@ use Rattle.screen_text.proofs.RowTextLemmas.{spaces, mark, used-printed, goes_on
 use Rattle.screen_text.proofs.TypedLemmas.{Typed}
 use Rattle.screen_text.proofs.TypingLemmas.{row-long, typed-put, put-left, typed-feed, typed-wrap}
 use Rattle.screen_text.proofs.KeptRowsLemmas.{blank_rows, HasEnd, typed-showing, ended-showing, blank-text, last-closed, ended-closed}
+
+-- lines, each with a line feed, as they are printed
+abbrev pub line_calls : List ℕ → List Call
+line_calls line = printing line ++ line_feed ∷ []
+
+abbrev pub lines_calls : List (List ℕ) → List Call
+lines_calls lines = flat_map line_calls lines
 
 -- CR and LF, which are given of a line feed
 abbrev new_line : List Call

@@ -16,10 +16,10 @@ use Rattle.ansi_screen.specs.Laws.{carriage_return, line_feed, printing}
 use Rattle.ansi_screen.proofs.LawLemmas.{after_all-append}
 use Rattle.ansi_screen.proofs.PlainLemmas.{canon-line, executed-both}
 use Rattle.screen_text.specs.Shown.{given, given_all, shown_text}
-use Rattle.screen_text.specs.Laws.{IsPlain, ArePlain, LastIsNotEmpty, line_calls, lines_calls, line_bytes, lines_bytes, recorded_line, recorded_bytes, empty_lines}
+use Rattle.screen_text.specs.Laws.{IsPlain, ArePlain, LastIsNotEmpty, line_bytes, lines_bytes, recorded_line, recorded_bytes, empty_lines}
 use Rattle.screen_text.specs.ShowingProof.{all_left-append}
 use Rattle.screen_text.proofs.RewrittenLemmas.{given-printing, returned-shown}
-use Rattle.screen_text.proofs.TextLemmas.{Line, Ended, ended-same, line-same, print-lines, print-some, end-lines, feed-blanks, new-typed, shown-line, shown-ended}
+use Rattle.screen_text.proofs.TextLemmas.{line_calls, lines_calls, Line, Ended, ended-same, line-same, print-lines, print-some, end-lines, feed-blanks, new-typed, shown-line, shown-ended}
 
 blank-bytes : (n : ℕ) → lines_bytes (empty_lines n) ≡ replicate n 0x0A
 blank-bytes zero = refl

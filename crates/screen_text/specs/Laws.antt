@@ -4,7 +4,6 @@ use Rattle.std.specs.List.{AllByRecursion, flat_map}
 use Rattle.anstyle_parse.specs.Stream.Call.{Call, csi_dispatch}
 use Rattle.anstyle_parse.specs.Laws.Lawful.{is_character}
 use Rattle.ansi_screen.specs.Widths.{is_shown, columns}
-use Rattle.ansi_screen.specs.Laws.{line_feed, printing}
 
 -- The most bytes of a cell: those of a character and of two marks, each of four bytes at most in UTF-8.
 abbrev pub most_cell_bytes : ℕ
@@ -27,13 +26,7 @@ LastIsNotEmpty [] = ⊤
 LastIsNotEmpty (line ∷ []) = line ≢ []
 LastIsNotEmpty (line ∷ next ∷ lines) = LastIsNotEmpty (next ∷ lines)
 
--- lines, each with a line feed: what is printed, and the bytes, in UTF-8
-abbrev pub line_calls : List ℕ → List Call
-line_calls line = printing line ++ line_feed ∷ []
-
-abbrev pub lines_calls : List (List ℕ) → List Call
-lines_calls lines = flat_map line_calls lines
-
+-- the bytes of lines: UTF-8, each with a line feed
 abbrev pub line_bytes : List ℕ → List ℕ
 line_bytes line = flat_map encode_utf8 line ++ 0x0A ∷ []
 

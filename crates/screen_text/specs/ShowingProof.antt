@@ -16,7 +16,7 @@ use Rattle.screen_text.specs.Rows.{rows_from, after_rows, last_rows_from, Writes
 use Rattle.screen_text.specs.Shown.{given, given_all}
 use Rattle.screen_text.specs.Writer.{rows_of, screen_of, text_from, ending_from, Shows}
 
-pub after_all-append : (first second : List Call) (s : State) → after_all (first ++ second) s ≡ after_all second (after_all first s)
+after_all-append : (first second : List Call) (s : State) → after_all (first ++ second) s ≡ after_all second (after_all first s)
 after_all-append [] second s = refl
 after_all-append (call ∷ calls) second s = after_all-append calls second (after call s)
 

@@ -26,8 +26,8 @@ pub fn lines()
 /// Plain text comes through: lines of characters of one column or two, each with a line feed, however long
 /// and however many, are what a new screen of any size showed of their bytes in UTF-8, byte for byte; this is what
 /// `ansi_strip` leaves of them too. A recording of them, with CR LF, shows the same (`recorded`). Of empty
-/// lines at the end those that still show are left out, one less than the screen has rows (`empty`); a last
-/// line without its line feed gets one (`unended`).
+/// lines at the end those that still show are left out, at most one less than the screen has rows (`empty`); a
+/// last line without its line feed gets one (`unended`).
 pub fn plain_text()
     ensures same { (columns rows : ℕ) (lines : List (List ℕ)) (calls : List Call) → 2 ≤ columns → 1 ≤ rows
         → ArePlain lines → LastIsNotEmpty lines → AreCalls (lines_bytes lines) calls

@@ -25,10 +25,10 @@ use Rattle.ansi_html.specs.Links.{is_none}
 use Rattle.ansi_html.proofs.SoundLemmas.{AreSound, AreSound-start, AreSound-after}
 
 -- a test that a text is at most so long
-AtMost : ℕ → List ℕ → Type 0
+unfoldable pub AtMost : ℕ → List ℕ → Type 0
 AtMost n bytes = length bytes ≤ n
 
-AtMost-append : (m n : ℕ) (first second : List ℕ) → AtMost m first → AtMost n second → AtMost (m + n) (first ++ second)
+pub AtMost-append : (m n : ℕ) (first second : List ℕ) → AtMost m first → AtMost n second → AtMost (m + n) (first ++ second)
 unfolding AtMost
 AtMost-append m n first second a b = omega (arith, length-append first second)
 
@@ -117,7 +117,7 @@ AtMost-css scheme style =
     (AtMost-append 29 18 (underline_css style.underline) (text_if style.hidden (codes "visibility:hidden;")) (AtMost-underline style.underline)
     (AtMost-if 18 style.hidden (codes "visibility:hidden;") (omega arith))))))
 
-AtMost-end : (shown : Element) → AtMost 7 (element_end shown)
+pub AtMost-end : (shown : Element) → AtMost 7 (element_end shown)
 unfolding AtMost
 AtMost-end shown =
     let P : List ℕ → Type 0 = λ l. length l ≤ 7 in
@@ -137,7 +137,7 @@ AtMost-attribute (Inline scheme) value few =
 AtMost-attribute Classes value few =
     AtMost-append 8 276 (codes " class=\"") (value ++ codes "\">") (omega arith) (AtMost-append 274 2 value (codes "\">") few (omega arith))
 
-AtMost-span_begin : (styling : Styling) → (style : Style) → AtMost 289 (span_begin styling style)
+pub AtMost-span_begin : (styling : Styling) → (style : Style) → AtMost 289 (span_begin styling style)
 unfolding AtMost
 AtMost-span_begin styling style =
     let tag = attribute_text styling (value_of styling false style) in
@@ -150,7 +150,7 @@ length-escaped b =
     choose P (eqb b 0x26) _ _ (omega arith) (choose P (eqb b 0x3C) _ _ (omega arith) (choose P (eqb b 0x3E) _ _ (omega arith)
     (choose P (eqb b 0x22) _ _ (omega arith) (choose P (eqb b 0x27) _ _ (omega arith) (choose P (eqb b 0x0D) _ _ (omega arith) (omega arith))))))
 
-length-escaped_text : (bytes : List ℕ) → length (escaped_text bytes) ≤ 6 * length bytes
+pub length-escaped_text : (bytes : List ℕ) → length (escaped_text bytes) ≤ 6 * length bytes
 length-escaped_text [] = omega arith
 length-escaped_text (b ∷ bytes) = omega (arith, length-append (escaped b) (escaped_text bytes), length-escaped b, length-escaped_text bytes)
 

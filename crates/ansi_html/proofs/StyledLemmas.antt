@@ -1,18 +1,20 @@
--- The HTML of texts that have styles is read back, and stands in the grammar.
-use Rattle.std.proofs.Common.{◌≡◌, ℕ, Bool, false, eqb, List, [], ◌∷◌, ◌++◌, codes, map, refl, sym, ap, ap₂, ◌∙◌, subst, append_assoc, append-nil}
+-- The HTML of texts that have styles is read back, stands in the grammar, and is bounded.
+use Rattle.std.proofs.Common.{◌≡◌, ◌≤◌, ℕ, ◌+◌, ◌*◌, Bool, false, eqb, List, [], ◌∷◌, ◌++◌, codes, length, map, arith, length-append, refl, sym, ap, ap₂, ◌∙◌, subst, append_assoc, append-nil}
 use Rattle.std.specs.Prelude.{not, if◌then◌else◌}
 use Rattle.std.specs.List.{AllByRecursion, flat_map, list_all}
 use Rattle.std.specs.Str.{IsUtf8}
 use Rattle.std.proofs.lemmas.Bool.{and_parts}
 use Rattle.std.proofs.lemmas.Grind.{flat_map-append}
 use Rattle.std.proofs.lemmas.Str.{IsUtf8-append, IsUtf8-nil}
+use Rattle.ansi_style.specs.declared.style.Style.{Style}
 use Rattle.ansi_style.specs.Style.{plain}
 use Rattle.ansi_style.proofs.EqualityLemmas.{are_equal-refl}
 use Rattle.ansi_html.specs.declared.scheme.Styling.{Styling}
 use Rattle.ansi_html.specs.Grammar.{IsFragment, end}
-use Rattle.ansi_html.specs.Html.{escaped_text, Element, no_element, text_html, element_end}
+use Rattle.ansi_html.specs.Html.{escaped_text, span_begin, Element, element, no_element, are_same, change, text_html, element_end}
 use Rattle.ansi_html.specs.Reader.{Attributes, no_attributes, attributes_of, byte_of, in_text, Seen, text, seen_from, seen, read_of, read, drawn_of, drawn}
 use Rattle.ansi_html.specs.Styled.{Styled, element_of, before, behind, styled_html, shown_after, all_html, shown_of, all_shown, bytes_of, all_bytes}
+use Rattle.ansi_html.proofs.ColorLemmas.{choose}
 use Rattle.ansi_html.proofs.HtmlLemmas.{false-from_not}
 use Rattle.ansi_html.proofs.SoundLemmas.{IsSound, IsSound-none, AreSound, either}
 use Rattle.ansi_html.proofs.NewlineLemmas.{is_not_return, HasNoReturn, HasNoReturn-append, HasNoReturn-end, HasNoReturn-text, normalized-same}
@@ -20,6 +22,7 @@ use Rattle.ansi_html.proofs.ReadLemmas.{read-text, seen_text, seen-element_end, 
 use Rattle.ansi_html.proofs.LawfulText.{AreTextual}
 use Rattle.ansi_html.proofs.GrammarLemmas.{IsInside, IsFragment-plain, IsInside-end, IsInside-text_html}
 use Rattle.ansi_html.proofs.TextLemmas.{IsUtf8-end, IsUtf8-text_html}
+use Rattle.ansi_html.proofs.LengthLemmas.{AtMost, AtMost-append, AtMost-end, AtMost-span_begin, length-escaped_text}
 
 -- texts, one after another
 pub styled_html-append : (styling : Styling) (shown : Element) (texts more : List Styled)
@@ -142,3 +145,46 @@ module _ (styling : Styling) where
   IsUtf8-styled texts are =
       let last = shown_after no_element texts in
       IsUtf8-append (styled_html styling no_element texts) (element_end last) (IsUtf8-styled_html no_element texts IsSound-none are) (IsUtf8-end last)
+
+  -- 7 for the end of a span and 289 for the beginning of one
+  length-change : (shown : Element) (style : Style) → length (change styling shown (element style [])) ≤ 296
+  unfolding AtMost
+  length-change shown style =
+      choose (λ l. length l ≤ 296) (are_same shown (element style [])) [] (element_end shown ++ span_begin styling style) (omega arith)
+      (AtMost-append 7 289 (element_end shown) (span_begin styling style) (AtMost-end shown) (AtMost-span_begin styling style))
+
+  -- and 6 for each byte
+  length-text : (shown : Element) (it : Styled) (bytes : List ℕ) → length (text_html styling (before shown it) false bytes) ≤ 302 * length bytes
+  unfolding text_html
+  length-text shown it [] = omega arith
+  length-text shown it (b ∷ bytes) =
+      let changed = change styling shown (element_of it) in
+      omega (
+        arith,
+        length-append (changed ++ []) (escaped_text (b ∷ bytes)),
+        length-append changed [],
+        length-change shown it.style,
+        length-escaped_text (b ∷ bytes),
+      )
+
+  length-styled_html : (shown : Element) (texts : List Styled) → length (styled_html styling shown texts) ≤ 302 * length (all_bytes texts)
+  length-styled_html shown [] = omega arith
+  length-styled_html shown (it ∷ texts) =
+      omega (
+        arith,
+        length-append (text_html styling (before shown it) false it.text) (styled_html styling (behind shown it) texts),
+        length-append it.text (all_bytes texts),
+        length-text shown it it.text,
+        length-styled_html (behind shown it) texts,
+      )
+
+  -- The HTML is bounded by its text.
+  pub length-styled : (texts : List Styled) → length (all_html styling texts) ≤ 302 * length (all_bytes texts) + 7
+  unfolding AtMost
+  length-styled texts =
+      omega (
+        arith,
+        length-append (styled_html styling no_element texts) (element_end (shown_after no_element texts)),
+        length-styled_html no_element texts,
+        AtMost-end (shown_after no_element texts),
+      )

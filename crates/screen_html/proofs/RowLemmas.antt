@@ -1,6 +1,6 @@
 -- Rows as HTML, cell by cell.
-use Rattle.std.proofs.Common.{◌≡◌, ◌<◌, ℕ, ◌+◌, Bool, true, false, List, [], ◌∷◌, ◌++◌, length, get_or, take, map, refl, sym, ap, ◌∙◌, subst, arith, length-append}
-use Rattle.std.specs.Prelude.{encode_utf8, if◌then◌else◌}
+use Rattle.std.proofs.Common.{◌≡◌, ◌<◌, ℕ, ◌+◌, Bool, true, false, List, [], ◌∷◌, ◌++◌, length, get_or, take, map, refl, sym, ap, subst, arith, length-append}
+use Rattle.std.specs.Prelude.{encode_utf8}
 use Rattle.std.proofs.lemmas.List.{map_more}
 use Rattle.anstyle_parse.specs.declared.io.devices.Sink.{Ghosts as SinkOf}
 use Rattle.anstyle_parse.specs.declared.io.output.Output.{Output}

@@ -1,5 +1,5 @@
 -- What is written of rows, one after another, is the HTML of their texts.
-use Rattle.std.proofs.Common.{◌≡◌, ℕ, Bool, true, false, List, [], ◌∷◌, ◌++◌, map, refl, sym, ap, ap₂, ◌∙◌, append_assoc, append-nil}
+use Rattle.std.proofs.Common.{◌≡◌, Bool, true, false, List, [], ◌∷◌, ◌++◌, map, refl, sym, ap, ap₂, ◌∙◌, append_assoc}
 use Rattle.std.specs.Prelude.{take, if◌then◌else◌}
 use Rattle.std.specs.List.{flat_map}
 use Rattle.std.proofs.lemmas.Grind.{flat_map-append}
@@ -9,7 +9,6 @@ use Rattle.ansi_html.specs.Html.{Element, no_element, element_end}
 use Rattle.ansi_html.specs.Styled.{Styled, styled_html, shown_after, all_html, bytes_of, all_bytes}
 use Rattle.ansi_html.proofs.StyledLemmas.{styled_html-append, shown_after-append}
 use Rattle.ansi_screen.specs.declared.cell.Cell.{Cell}
-use Rattle.ansi_screen.specs.Display.{Display}
 use Rattle.ansi_screen.specs.After.{State, after_all}
 use Rattle.ansi_screen.specs.Text.{cell_text, used}
 use Rattle.ansi_screen.specs.Leaving.{all_left}

@@ -1,5 +1,5 @@
--- The HTML of what a screen showed is read back, has the text's lines, stands in the grammar and is UTF-8.
-use Rattle.std.proofs.Common.{◌≡◌, ℕ, true, eqb, List, [], ◌∷◌, ◌++◌, map, refl, sym, ap, ◌∙◌, subst, arith}
+-- The HTML of what a screen showed is read back, has the text's lines, stands in the grammar, is UTF-8, and is bounded.
+use Rattle.std.proofs.Common.{◌≡◌, ◌≤◌, ℕ, ◌+◌, ◌*◌, length, true, eqb, List, [], ◌∷◌, ◌++◌, map, refl, sym, ap, ◌∙◌, subst, arith}
 use Rattle.std.specs.Prelude.{encode_utf8, not}
 use Rattle.std.specs.List.{list_all}
 use Rattle.std.specs.Str.{IsUtf8}
@@ -12,10 +12,10 @@ use Rattle.ansi_html.specs.declared.scheme.Styling.{Styling}
 use Rattle.ansi_html.specs.Grammar.{IsFragment}
 use Rattle.ansi_html.specs.Html.{escaped, escaped_text}
 use Rattle.ansi_html.specs.Reader.{byte_of, read, drawn}
-use Rattle.ansi_html.specs.Styled.{Styled, all_html, all_shown}
+use Rattle.ansi_html.specs.Styled.{all_shown}
 use Rattle.ansi_html.proofs.LawfulText.{is_textual, AreTextual, ArePrinted, ArePrinted-encode, AreTextual-printed}
 use Rattle.ansi_html.proofs.NewlineLemmas.{is_not_return, HasNoReturn, HasNoReturn-append}
-use Rattle.ansi_html.proofs.StyledLemmas.{read-styled, text-styled, drawn-styled, IsFragment-styled, IsUtf8-styled}
+use Rattle.ansi_html.proofs.StyledLemmas.{read-styled, text-styled, drawn-styled, IsFragment-styled, IsUtf8-styled, length-styled}
 use Rattle.ansi_html.proofs.TextLemmas.{IsUtf8-stripped}
 use Rattle.ansi_screen.specs.After.{State, new_state}
 use Rattle.screen_text.specs.Shown.{shown_text}
@@ -52,6 +52,10 @@ module _ (styling : Styling) where
   pub text-shown : (s : State) (calls : List Call) → map byte_of (read (shown_html styling s calls)) ≡ shown_text s calls
   text-shown s calls =
       ap (λ l. map byte_of (read l)) (shown_html-all styling s calls) ∙ text-styled styling (shown_styled s calls) ∙ bytes-shown s calls
+
+  pub length-shown : (s : State) (calls : List Call) → length (shown_html styling s calls) ≤ 302 * length (shown_text s calls) + 7
+  length-shown s calls =
+      omega (arith, ap length (shown_html-all styling s calls), length-styled styling (shown_styled s calls), ap length (bytes-shown s calls))
 
   module _ (columns rows : ℕ) (bytes : List ℕ) (calls : List Call) (are : AreCalls bytes calls) where
     abbrev new : State

@@ -11,7 +11,7 @@
 //! ```
 #![tactic(auto)]
 
-ghost use Rattle.std.specs.Prelude.{◌≡◌, ◌++◌, ℕ, false, List, OnOk, map};
+ghost use Rattle.std.specs.Prelude.{◌≡◌, ◌≤◌, ◌+◌, ◌*◌, ◌++◌, ℕ, false, List, OnOk, length, map};
 ghost use Rattle.std.specs.Str.{IsUtf8};
 ghost use Rattle.anstyle_parse.specs.Stream.Call.{Call};
 ghost use Rattle.anstyle_parse.specs.Stream.Calls.{AreCalls};
@@ -86,6 +86,10 @@ pub fn convert_shown<R: Source, W: Sink>(
     // It is UTF-8, whatever was read.
     ensures utf8 { (columns rows : ℕ) (bytes : List ℕ) (calls : List Call) → AreCalls bytes calls
         → IsUtf8 (shown_html styling (new_state columns rows) calls) }
+
+    // It has at most 302 bytes for each byte of the text, and 7 more: each can stand in a span of its own.
+    ensures bound { (calls : List Call)
+        → length (shown_html styling screen calls) ≤ 302 * length (shown_text screen calls) + 7 }
 {
     let mut output = Output::new(writer);
     output.put(head);

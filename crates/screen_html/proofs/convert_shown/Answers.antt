@@ -9,7 +9,7 @@ use Rattle.ansi_html.proofs.ColorLemmas.{AreReadable-css}
 use Rattle.screen_html.specs.Shown.{left_html, ending_html}
 use Rattle.screen_html.specs.Writer.{output_of, standing_of, row_html, after_row, closing_html}
 use Rattle.screen_html.proofs.ShownLemmas.{left-new, ending-new}
-use Rattle.screen_html.proofs.WholeLemmas.{read-shown, text-shown, drawn-shown, IsFragment-shown, IsUtf8-shown}
+use Rattle.screen_html.proofs.WholeLemmas.{read-shown, text-shown, drawn-shown, IsFragment-shown, IsUtf8-shown, length-shown}
 use Rattle.screen_html.proofs.convert_shown.Goals as goal
 
 pub returns-clause-runs : goal.returns-clause-runs
@@ -55,3 +55,6 @@ returns-clause-grammar g c = IsFragment-shown c.args.styling
 
 pub returns-clause-utf8 : goal.returns-clause-utf8
 returns-clause-utf8 g c = IsUtf8-shown c.args.styling
+
+pub returns-clause-bound : goal.returns-clause-bound
+returns-clause-bound g c = length-shown c.args.styling c.args.screen

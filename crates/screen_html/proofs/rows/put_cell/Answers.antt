@@ -1,5 +1,5 @@
 -- Its style is selected, and its character and marks are written.
-use Rattle.std.proofs.Common.{sym, ◌++◌, ◌∙◌, subst}
+use Rattle.std.proofs.Common.{sym, ◌∙◌, subst}
 use Rattle.std.specs.Prelude.{encode_utf8}
 use Rattle.std.proofs.lemmas.Grind.{flat_map-append}
 use Rattle.anstyle_parse.specs.Io.Output.{Adds}
@@ -7,7 +7,7 @@ use Rattle.anstyle_parse.proofs.Written.Output.{Adds-append}
 use Rattle.ansi_html.specs.Html.{escaped, escaped_text}
 use Rattle.ansi_html.specs.Styled.{output_of}
 use Rattle.ansi_html.proofs.StyledWriterLemmas.{WritesStyled-text, WritesStyled-empty}
-use Rattle.ansi_screen.specs.Text.{marks_text, cell_text}
+use Rattle.ansi_screen.specs.Text.{marks_text}
 use Rattle.screen_html.specs.Shown.{cell_styled}
 use Rattle.screen_html.proofs.RowLemmas.{cell_text-right, cell_text-other, cell_text-some}
 use Rattle.screen_html.proofs.rows.put_cell.Goals as goal

@@ -1,5 +1,5 @@
 -- The plain style is selected, and a line feed written.
-use Rattle.std.proofs.Common.{[], ◌≡◌, ◌∙◌, ap, subst, arith}
+use Rattle.std.proofs.Common.{[], ◌∙◌, ap, subst, arith}
 use Rattle.anstyle_parse.specs.Io.Output.{Adds}
 use Rattle.anstyle_parse.proofs.Characters.Encoding.{encode_one}
 use Rattle.ansi_html.specs.Html.{element, change, escaped_text}

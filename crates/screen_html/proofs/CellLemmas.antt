@@ -13,10 +13,10 @@ use Rattle.ansi_screen.specs.declared.cell.Marks.{Marks}
 use Rattle.ansi_screen.specs.declared.cell.Marks.TheVariants.{Unmarked, One, Two}
 use Rattle.ansi_screen.specs.Cells.{is_right}
 use Rattle.ansi_screen.specs.After.{State, new_state, after_all}
-use Rattle.ansi_screen.specs.Text.{marks_text, cell_text, used, used_rows}
+use Rattle.ansi_screen.specs.Text.{marks_text, cell_text, used, used_rows, is_unprinted, goes_on}
 use Rattle.ansi_screen.specs.Leaving.{all_left}
 use Rattle.ansi_screen.proofs.CharacterLemmas.{PrintsCharacter, IsGood, AreGoodMarks, IsGoodCell, AreGood, IsGoodState, good-new, good-after_all, good-left, good-first_rows}
-use Rattle.screen_text.specs.Lines.{is_unprinted, goes_on, open_after, showing}
+use Rattle.screen_text.specs.Lines.{open_after, showing}
 use Rattle.screen_text.specs.Shown.{given_all}
 use Rattle.screen_text.proofs.CleanLemmas.{all-print}
 use Rattle.screen_html.specs.Shown.{cell_styled, line_feed, row_styled, rows_styled, closing_styled, shown_styled}

@@ -13,8 +13,7 @@ use Rattle.ansi_html.specs.Styled.{styled_html, shown_after, output_of, styling_
 use Rattle.ansi_html.proofs.StyledWriterLemmas.{WritesStyled-none, WritesStyled-append}
 use Rattle.ansi_screen.specs.declared.cell.Cell.{Cell}
 use Rattle.ansi_screen.specs.Cells.{is_right}
-use Rattle.ansi_screen.specs.Text.{marks_text, cell_text, used}
-use Rattle.screen_text.specs.Lines.{is_unprinted, goes_on}
+use Rattle.ansi_screen.specs.Text.{marks_text, cell_text, used, is_unprinted, goes_on}
 use Rattle.screen_html.specs.Shown.{cell_styled, line_feed, row_styled, closing_styled}
 
 -- the text of a cell: none of a right half, and else some

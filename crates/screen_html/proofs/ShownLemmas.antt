@@ -10,10 +10,10 @@ use Rattle.ansi_html.specs.Styled.{Styled, styled_html, shown_after, all_html, b
 use Rattle.ansi_html.proofs.StyledLemmas.{styled_html-append, shown_after-append}
 use Rattle.ansi_screen.specs.declared.cell.Cell.{Cell}
 use Rattle.ansi_screen.specs.After.{State, after_all}
-use Rattle.ansi_screen.specs.Text.{cell_text, used}
+use Rattle.ansi_screen.specs.Text.{cell_text, used, is_unprinted, goes_on}
 use Rattle.ansi_screen.specs.Leaving.{all_left}
 use Rattle.screen_text.specs.declared.performer.ShownWriter.{ShownWriter}
-use Rattle.screen_text.specs.Lines.{is_unprinted, goes_on, row_text, rows_text, open_after, closing, showing}
+use Rattle.screen_text.specs.Lines.{row_text, rows_text, open_after, closing, showing}
 use Rattle.screen_text.specs.Rows.{rows_from, after_rows, last_rows_from}
 use Rattle.screen_text.specs.Shown.{given_all, shown_text}
 use Rattle.screen_text.specs.Writer.{rows_of, screen_of, text_from, ending_from}

@@ -10,9 +10,9 @@ use Rattle.ansi_html.specs.Styled.{Styled, styled, styled_html, shown_after}
 use Rattle.ansi_screen.specs.declared.cell.Cell.{Cell}
 use Rattle.ansi_screen.specs.Display.{Display}
 use Rattle.ansi_screen.specs.After.{State, after_all}
-use Rattle.ansi_screen.specs.Text.{cell_text, used}
+use Rattle.ansi_screen.specs.Text.{cell_text, used, is_unprinted, goes_on}
 use Rattle.ansi_screen.specs.Leaving.{all_left}
-use Rattle.screen_text.specs.Lines.{is_unprinted, goes_on, open_after, showing}
+use Rattle.screen_text.specs.Lines.{open_after, showing}
 use Rattle.screen_text.specs.Shown.{given_all}
 
 -- A cell's characters, in its style; and a line feed, which is plain, so that the spans of a line end with it.

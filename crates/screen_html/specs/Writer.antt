@@ -6,7 +6,7 @@ use Rattle.ansi_html.specs.declared.scheme.Styling.{Styling}
 use Rattle.ansi_html.specs.Html.{Element, element_end}
 use Rattle.ansi_html.specs.Styled.{styled_html, shown_after, output_of as styled_output, styling_of, shown_in}
 use Rattle.ansi_screen.specs.declared.cell.Cell.{Cell}
-use Rattle.screen_text.specs.Lines.{goes_on}
+use Rattle.ansi_screen.specs.Text.{goes_on}
 use Rattle.screen_text.specs.Rows.{WritesRow, WritesNothing}
 use Rattle.screen_html.specs.declared.rows.HtmlRows.{HtmlRows}
 use Rattle.screen_html.specs.Shown.{row_styled, closing_styled}

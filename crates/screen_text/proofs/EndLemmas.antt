@@ -7,12 +7,15 @@ use Rattle.std.proofs.lemmas.Grind.{flat_map-append}
 use Rattle.anstyle_parse.specs.Stream.Call.{Call}
 use Rattle.ansi_screen.specs.declared.cell.Cell.{Cell}
 use Rattle.ansi_screen.specs.After.{State, after_all}
-use Rattle.ansi_screen.specs.Text.{cell_text, used}
+use Rattle.ansi_screen.specs.Text.{cell_text, used, is_unprinted, goes_on}
 use Rattle.ansi_screen.specs.Leaving.{all_left}
-use Rattle.screen_text.specs.Lines.{is_unprinted, goes_on, row_text, rows_text, open_after, closing, showing}
+use Rattle.screen_text.specs.Lines.{row_text, rows_text, open_after, closing, showing}
 use Rattle.screen_text.specs.Shown.{given_all, shown_text}
-use Rattle.screen_text.specs.ShowingProof.{open_after-append}
 use Rattle.screen_text.specs.Laws.{IsEnded}
+
+pub open_after-append : (on : Bool) (rows more : List (List Cell)) → open_after on (rows ++ more) ≡ open_after (open_after on rows) more
+open_after-append on [] more = refl
+open_after-append on (row ∷ rows) more = open_after-append (goes_on row) rows more
 
 -- The text of rows, and the end of the line that is open behind them.
 abbrev pub closed_text : Bool → List (List Cell) → List ℕ

@@ -8,8 +8,8 @@ use Rattle.ansi_screen.proofs.PlainLemmas.{plain}
 use Rattle.ansi_screen.specs.declared.cell.Cell.{Cell}
 use Rattle.ansi_screen.specs.Cells.{blank, cell_at}
 use Rattle.ansi_screen.specs.Print.{glyph}
-use Rattle.ansi_screen.specs.Text.{cell_text, used}
-use Rattle.screen_text.specs.Lines.{is_unprinted, goes_on, row_text}
+use Rattle.ansi_screen.specs.Text.{cell_text, used, is_unprinted, goes_on}
+use Rattle.screen_text.specs.Lines.{row_text}
 
 -- so many blank cells, and cells with blanks behind them
 abbrev pub spaces : ℕ → List Cell

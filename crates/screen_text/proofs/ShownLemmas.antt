@@ -11,10 +11,10 @@ use Rattle.anstyle_parse.specs.Io.AddingProof.{Adds-append}
 use Rattle.ansi_screen.specs.declared.cell.Cell.{Cell}
 use Rattle.ansi_screen.specs.Display.{Display}
 use Rattle.ansi_screen.specs.After.{State, after_all}
-use Rattle.ansi_screen.specs.Text.{cell_text, used, used_rows}
+use Rattle.ansi_screen.specs.Text.{cell_text, used, used_rows, is_unprinted, goes_on}
 use Rattle.ansi_screen.specs.Leaving.{all_left, first_rows, rows_left, TakesRows, Scrolls}
 use Rattle.screen_text.specs.declared.performer.ShownWriter.{ShownWriter}
-use Rattle.screen_text.specs.Lines.{is_unprinted, goes_on, row_text, rows_text, open_after, closing, showing, row_text_at, after_row as after_line}
+use Rattle.screen_text.specs.Lines.{row_text, rows_text, open_after, closing, showing, row_text_at, after_row as after_line}
 use Rattle.screen_text.specs.Rows.{rows_from, after_rows, last_rows_from, WritesRow, WritesNothing, Took, none, row, passed}
 use Rattle.screen_text.specs.Shown.{given, given_all, left_text, still_text, ending_text}
 use Rattle.screen_text.specs.Writer.{rows_of, screen_of, text_from, ending_from, Shows}

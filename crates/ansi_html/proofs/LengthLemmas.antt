@@ -17,7 +17,7 @@ use Rattle.ansi_html.specs.Contrast.{black, white}
 use Rattle.ansi_html.specs.Palette.{hex}
 use Rattle.ansi_html.specs.Css.{declared, light_dark, themed, colors_css, text_if, is_underlined, lines_css, underline_css, css}
 use Rattle.ansi_html.specs.Grammar.{AreReadable, of_page, on_page, on_reversed, on_color, AreColors, readable, chosen}
-use Rattle.ansi_html.specs.Html.{escaped, escaped_text, is_plain, span_begin, span_end, Element, are_same, value_of, element_value, attribute_text, link_begin, element_begin, element_end, change, Standing, at_start, line_break, is_executed, text_html, call_html, standing_after, html_from, standing_at_end, html}
+use Rattle.ansi_html.specs.Html.{escaped, escaped_text, is_plain, span_begin, span_end, Element, are_same, value_of, element_value, attribute_text, link_begin, element_begin, element_end, change, Standing, at_start, line_break, beginning, is_executed, text_html, call_html, standing_after, html_from, standing_at_end, html}
 use Rattle.ansi_html.proofs.HtmlLemmas.{escaped_one, escaped_ascii, escaped_high}
 use Rattle.ansi_html.proofs.ColorLemmas.{choose, AreColors-css}
 use Rattle.ansi_html.proofs.ClassLemmas.{length-class_names}
@@ -184,6 +184,14 @@ AtMost-line_break : (returned is_line_feed : Bool) → AtMost 4 (line_break retu
 unfolding AtMost
 AtMost-line_break returned is_line_feed = choose (λ l. length l ≤ 4) (returned && not is_line_feed) (codes "<br>") [] (omega arith) (omega arith)
 
+-- what begins a text
+pub length-beginning : (styling : Styling) (at : Standing) (is_line_feed : Bool) → length at.selected.link ≤ 1035 → length (beginning styling at is_line_feed) ≤ 6541
+unfolding AtMost
+length-beginning styling at is_line_feed short =
+    let changed = change styling at.shown at.selected in
+    let broken = line_break at.returned is_line_feed in
+    omega (arith, length-append changed broken, AtMost-change styling at.shown at.selected short, AtMost-line_break at.returned is_line_feed)
+
 -- what is left of a call, escaped: a reference, or the bytes of a character
 length-encoded : (c : ℕ) → length (escaped_text (encode_utf8 c)) ≤ 6
 length-encoded c =
@@ -192,7 +200,7 @@ length-encoded c =
     (λ (k : 0x80 ≤ c). omega (arith, ap length (escaped_high c k), length-encode c, (len_utf8_bounds c).1))
     (cases_lt c 0x80)
 
-length-stripped : (call : Call) → length (escaped_text (stripped_call call)) ≤ 6
+pub length-stripped : (call : Call) → length (escaped_text (stripped_call call)) ≤ 6
 length-stripped (print c) = length-encoded c
 length-stripped (execute b) =
     choose (λ l. length (escaped_text l) ≤ 6) (is_layout b) (b ∷ []) [] (omega (arith, ap length (escaped_one b), length-escaped b)) (omega arith)
@@ -204,7 +212,7 @@ length-stripped (csi_dispatch gs is ig f) = omega arith
 length-stripped (esc_dispatch is ig f) = omega arith
 
 -- 6537 for a change of elements, 4 for a line break and 6 for the text
-length-text_html : (styling : Styling) (at : Standing) (is_line_feed : Bool) (bytes : List ℕ) → AreSound at → length (escaped_text bytes) ≤ 6 → length (text_html styling at is_line_feed bytes) ≤ 6547
+pub length-text_html : (styling : Styling) (at : Standing) (is_line_feed : Bool) (bytes : List ℕ) → AreSound at → length (escaped_text bytes) ≤ 6 → length (text_html styling at is_line_feed bytes) ≤ 6547
 unfolding text_html AtMost
 length-text_html styling at is_line_feed [] sound few = omega arith
 length-text_html styling at is_line_feed (b ∷ bytes) sound few =

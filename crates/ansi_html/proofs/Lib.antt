@@ -24,3 +24,4 @@ pub mod WholeLemmas
 pub mod StyledLemmas
 pub mod StyledWriterLemmas
 pub mod WriterLemmas
+pub mod PieceLemmas

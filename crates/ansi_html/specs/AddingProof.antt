@@ -11,7 +11,7 @@ use Rattle.ansi_html.specs.Html.{Standing, call_html, standing_after, html_from,
 use Rattle.ansi_html.specs.Writer.{output_of, styling_of, standing_of, text_from, ending_from, Takes, TakesAll}
 
 -- the HTML of two lists of calls, one after another, and where it stands at the end
-html_from-append : (styling : Styling) (calls more : List Call) (at : Standing)
+pub html_from-append : (styling : Styling) (calls more : List Call) (at : Standing)
     → html_from styling at (calls ++ more) ≡ html_from styling at calls ++ html_from styling (standing_at_end at calls) more
 html_from-append styling [] more at = refl
 html_from-append styling (call ∷ calls) more at =
@@ -20,7 +20,7 @@ html_from-append styling (call ∷ calls) more at =
     ap (λ t. text ++ t) (html_from-append styling calls more after)
     ∙ sym (append_assoc text (html_from styling after calls) (html_from styling (standing_at_end after calls) more))
 
-standing_at_end-append : (calls more : List Call) (at : Standing) → standing_at_end at (calls ++ more) ≡ standing_at_end (standing_at_end at calls) more
+pub standing_at_end-append : (calls more : List Call) (at : Standing) → standing_at_end at (calls ++ more) ≡ standing_at_end (standing_at_end at calls) more
 standing_at_end-append [] more at = refl
 standing_at_end-append (call ∷ calls) more at = standing_at_end-append calls more (standing_after call at)
 

@@ -60,3 +60,12 @@ pub record SaysLink (text link : List ℕ) : Type 0 where
 abbrev pub link_after : Call → List ℕ → List ℕ
 link_after (osc_dispatch parts bell_terminated) link = if is_link_command parts then link_of parts else link
 link_after call link = link
+
+-- The bytes of a link at most: of 1,023 that the parser stores the `8` is none, and twelve separators stand
+-- between thirteen parts.
+abbrev pub max_link : ℕ
+max_link = 1035
+
+-- A link that was written down; none where no link may have these bytes.
+abbrev pub kept_link : List ℕ → List ℕ
+kept_link link = if nat_le (length link) max_link && is_linkable link then link else []

@@ -7,6 +7,9 @@ use Rattle.anstyle_parse.specs.Io.Output.{Adds}
 use Rattle.ansi_style.specs.declared.style.Style.{Style}
 use Rattle.ansi_html.specs.declared.scheme.Styling.{Styling}
 use Rattle.ansi_html.specs.declared.performer.HtmlWriter.{HtmlWriter}
+use Rattle.ansi_html.specs.declared.standing.Element.{Element as ElementSeen}
+use Rattle.ansi_html.specs.declared.standing.Standing.{Standing as StandingSeen}
+use Rattle.ansi_html.specs.Links.{kept_link}
 use Rattle.ansi_html.specs.Html.{Element, element, Standing, at_start, escaped, beginning, call_html, standing_after, html_from, standing_at_end, element_end}
 use Rattle.ansi_html.specs.declared.link.Links.{Links}
 use Rattle.ansi_html.specs.ShownLinks.{shown_link, selected_link}
@@ -37,6 +40,25 @@ standing_of performer = record {
   shown = element performer.shown (shown_link performer.links);
   selected = selected_of (next_of performer) performer.shown performer.links;
   returned = performer.returned;
+}
+
+-- the same as a value that its caller sees
+abbrev pub element_in : ElementSeen → Element
+element_in seen = element seen.style seen.link.now
+
+abbrev pub standing_in : StandingSeen → Standing
+standing_in seen = record {
+  shown = element_in seen.shown;
+  selected = element_in seen.selected;
+  returned = seen.returned;
+}
+
+-- where a writer stands that goes on there: a link that none may have is left out
+abbrev pub kept : Standing → Standing
+kept at = record {
+  shown = element at.shown.style (kept_link at.shown.link);
+  selected = element at.selected.style (kept_link at.selected.link);
+  returned = at.returned;
 }
 
 -- in the midst of text of an element

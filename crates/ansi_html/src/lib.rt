@@ -38,6 +38,7 @@ mod nearest;
 mod palette;
 mod performer;
 mod scheme;
+mod standing;
 mod styled;
 mod stylesheet;
 
@@ -45,6 +46,7 @@ use anstyle_parse::canon::{Fault, Output, Sink, Source, write_calls_by};
 pub use performer::HtmlWriter;
 use performer::put_escaped;
 pub use scheme::{Scheme, Styling};
+pub use standing::{Element, Standing};
 pub use styled::StyledWriter;
 use stylesheet::put_all;
 

@@ -3,7 +3,7 @@ ghost use Rattle.std.specs.Prelude.{◌≡◌, true, false, not, nat_lt, [], len
 ghost use Rattle.std.specs.List.{concat, list_all};
 ghost use Rattle.std.specs.Str.{bytes_eq};
 ghost use Rattle.anstyle_parse.specs.Stream.Arguments.{max_osc_bytes};
-ghost use Rattle.ansi_html.specs.Links.{has_scheme, is_visible, is_linkable, is_link_command, is_whole, uri_of, link_of};
+ghost use Rattle.ansi_html.specs.Links.{has_scheme, is_visible, is_linkable, is_link_command, is_whole, uri_of, link_of, kept_link};
 
 use arrayvec::ArrayVec;
 
@@ -36,6 +36,18 @@ impl Links {
             shown: ArrayVec::new(),
             next: ArrayVec::new(),
             has_next: false,
+        }
+    }
+
+    /// The link of the last text and the one for what comes, as they were written down.
+    pub(crate) fn resume(shown: &[u8], selected: &[u8]) -> Links
+        ensures shown { shown_link result ≡ kept_link shown.now }
+        ensures selected { selected_link result ≡ kept_link selected.now }
+    {
+        Links {
+            shown: kept(shown),
+            next: kept(selected),
+            has_next: true,
         }
     }
 
@@ -114,6 +126,17 @@ impl Links {
             }
         }
     }
+}
+
+/// The link of a URI that was written down; none where no link has it.
+fn kept(uri: &[u8]) -> ArrayVec<u8, MAX_LINK>
+    ensures { result.items ≡ kept_link uri.now }
+{
+    let mut link = ArrayVec::new();
+    if uri.len() <= MAX_LINK && is_linkable(uri) {
+        let _ = link.try_extend_from_slice(uri);
+    }
+    link
 }
 
 /// Whether a command is OSC 8.

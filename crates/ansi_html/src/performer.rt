@@ -12,6 +12,7 @@ use crate::class::put_classes;
 use crate::css::put_css;
 use crate::link::{Links, is_link_command};
 use crate::scheme::{Scheme, Styling};
+use crate::standing::{Element, Standing};
 use ansi_strip::is_layout;
 use ansi_style::Style;
 use anstyle_parse::canon::{Output, Sink, WritingPerformer};
@@ -45,7 +46,7 @@ pub struct HtmlWriter<W> {
 
 impl<W: Sink> HtmlWriter<W> {
     ghost use Rattle.std.specs.Prelude.{None, Some};
-    ghost use Rattle.ansi_html.specs.Writer.{output_of, styling_of, standing_of, in_element, next_of, links_of, IsNew, TakesBytes};
+    ghost use Rattle.ansi_html.specs.Writer.{output_of, styling_of, standing_of, standing_in, kept, in_element, next_of, links_of, IsNew, TakesBytes};
 
     /// One that writes to this output, says styles in this way, and has received no call.
     /// Nothing is written.
@@ -61,6 +62,52 @@ impl<W: Sink> HtmlWriter<W> {
             links: Links::none(),
             returned: false,
         }
+    }
+
+    /// One that writes to this output and goes on where the HTML of a stream stands. A link that is
+    /// longer than any, or whose URI is not one that a link may have, counts for none.
+    pub fn resume(styling: Styling, standing: Standing<'_>, output: Output<W>) -> HtmlWriter<W>
+        ensures output { output_of result ≡ output }
+        ensures styling { styling_of result ≡ styling }
+        ensures standing { standing_of result ≡ kept (standing_in standing.entry) }
+    {
+        HtmlWriter {
+            output,
+            styling,
+            shown: standing.shown.style,
+            next: Some(standing.selected.style),
+            links: Links::resume(standing.shown.link, standing.selected.link),
+            returned: standing.returned,
+        }
+    }
+
+    /// Where the HTML stands.
+    pub fn standing(&self) -> Standing<'_>
+        ensures { standing_in result ≡ standing_of self.now }
+    {
+        let shown = Element {
+            style: self.shown,
+            link: self.links.shown(),
+        };
+        let selected = match self.next {
+            Some(style) => Element {
+                style,
+                link: self.links.selected(),
+            },
+            None => shown,
+        };
+        Standing {
+            shown,
+            selected,
+            returned: self.returned,
+        }
+    }
+
+    /// Hands the output back. The element that is open stays open: the HTML goes on.
+    pub fn suspend(self) -> Output<W>
+        ensures { result ≡ output_of self }
+    {
+        self.output
     }
 
     /// Text of the selected style and link may follow. Behind 0D it begins with a line break, unless it is 0A.

@@ -98,7 +98,7 @@ ground-left delete_byte b m class = printed-left b delete_byte class refl
 ground-left c b m class = lit≤ tt
 
 -- the states inside a sequence
-is_inside : State → Bool
+unfoldable pub is_inside : State → Bool
 is_inside Ground = false
 is_inside Utf8 = false
 is_inside state = true
@@ -126,7 +126,7 @@ unfolding is_inside
 device-inside at_entry m = refl
 device-inside phase m = refl
 
-body-inside : (body : Body) → is_inside (body_value body).state ≡ true
+pub body-inside : (body : Body) → is_inside (body_value body).state ≡ true
 unfolding is_inside
 body-inside (escape bytes) = escape-inside (list_any is_intermediate bytes)
 body-inside (csi between header) = control-inside (phase_of (significant header)) (registers (significant header))

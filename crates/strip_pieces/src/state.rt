@@ -34,7 +34,7 @@ impl StreamState {
     }
 
     /// A parser that stands where the stream stands.
-    pub(crate) fn resume(&self) -> Parser
+    pub fn resume(&self) -> Parser
         ensures { (before : List ℕ) → StandsFor self.now before → IsAfter front_of result before }
     {
         let mut parser = Parser::<Utf8Parser>::new();
@@ -44,7 +44,7 @@ impl StreamState {
     }
 
     /// Stands where the parser stands.
-    pub(crate) fn save(&mut self, parser: &Parser)
+    pub fn save(&mut self, parser: &Parser)
         requires { (before : List ℕ) × IsAfter front_of parser.now before }
         ensures { (before : List ℕ) → IsAfter front_of parser.now before
             → StandsFor self.new before }

@@ -1,0 +1,3 @@
+pub mod Styles
+pub mod Room
+pub mod State

@@ -1,0 +1,44 @@
+-- What a state of a stream and its HTML stands for.
+use Rattle.std.specs.Prelude.{◌≡◌, ℕ, List, [], take, ◌==◌, if◌then◌else◌}
+use Rattle.anstyle_parse.specs.Stream.Call.{Call}
+use Rattle.anstyle_parse.specs.Stream.Calls.{AreCalls}
+use Rattle.strip_pieces.specs.State.{StandsFor as StreamStandsFor}
+use Rattle.ansi_html.specs.declared.scheme.Scheme.TheVariants.{Light, Dark, Both}
+use Rattle.ansi_html.specs.declared.scheme.Styling.{Styling}
+use Rattle.ansi_html.specs.declared.scheme.Styling.TheVariants.{Inline, Classes}
+use Rattle.ansi_html.specs.Html.{Element, element, Standing, at_start, standing_at_end}
+use Rattle.ansi_html.specs.Writer.{kept}
+use Rattle.html_pieces.specs.declared.state.ElementBytes.{ElementBytes}
+use Rattle.html_pieces.specs.declared.state.HtmlState.{HtmlState}
+use Rattle.html_pieces.specs.Styles.{is_set, style_of}
+
+-- any other number is for both
+abbrev pub styling_numbered : ℕ → Styling
+styling_numbered number =
+    if number == 1 then Inline Light
+    else if number == 2 then Inline Dark
+    else if number == 3 then Classes
+    else Inline Both
+
+abbrev pub styling_in : HtmlState → Styling
+styling_in state = styling_numbered state.styling
+
+-- the style and the link that are held: any number in `length` counts for as many bytes as there are
+abbrev pub held_element : ElementBytes → Element
+held_element bytes = element (style_of bytes.style) (take bytes.length bytes.link)
+
+abbrev pub held_standing : HtmlState → Standing
+held_standing state = record {
+  shown = held_element state.shown;
+  selected = held_element state.selected;
+  returned = is_set state.returned;
+}
+
+-- Where the HTML stands: as it is held, but for a link that none may have.
+abbrev pub standing_of : HtmlState → Standing
+standing_of state = kept (held_standing state)
+
+-- The state stands for the bytes before: its stream does, and its HTML stands where it does after their calls.
+pub record StandsFor (state : HtmlState) (before : List ℕ) : Type 0 where
+  pub stream : StreamStandsFor state.stream before
+  pub standing : (calls : List Call) → AreCalls before calls → standing_of state ≡ standing_at_end at_start calls

@@ -184,6 +184,11 @@ AtMost-line_break : (returned is_line_feed : Bool) → AtMost 4 (line_break retu
 unfolding AtMost
 AtMost-line_break returned is_line_feed = choose (λ l. length l ≤ 4) (returned && not is_line_feed) (codes "<br>") [] (omega arith) (omega arith)
 
+-- what ends an element
+pub length-end : (shown : Element) → length (element_end shown) ≤ 7
+unfolding AtMost
+length-end shown = AtMost-end shown
+
 -- what begins a text
 pub length-beginning : (styling : Styling) (at : Standing) (is_line_feed : Bool) → length at.selected.link ≤ 1035 → length (beginning styling at is_line_feed) ≤ 6541
 unfolding AtMost

@@ -135,7 +135,7 @@ unfolding text_html
 IsUtf8-text_html styling at is_line_feed [] sound is = IsUtf8-nil
 IsUtf8-text_html styling at is_line_feed (b ∷ bytes) sound is = IsUtf8-append (beginning styling at is_line_feed) (escaped_text (b ∷ bytes)) (IsUtf8-beginning styling at is_line_feed sound) is
 
-IsUtf8-html_from : (styling : Styling) (at : Standing) (calls : List Call) → AreSound at → AreShowable calls → IsUtf8 (html_from styling at calls)
+pub IsUtf8-html_from : (styling : Styling) (at : Standing) (calls : List Call) → AreSound at → AreShowable calls → IsUtf8 (html_from styling at calls)
 IsUtf8-html_from styling at [] sound are = IsUtf8-nil
 IsUtf8-html_from styling at (call ∷ calls) sound are =
     IsUtf8-append (call_html styling at call) (html_from styling (standing_after call at) calls)

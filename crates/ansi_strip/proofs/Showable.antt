@@ -93,8 +93,10 @@ AreShowable-after (call ∷ first) calls are = AreShowable-after first calls are
 pub IsUtf8-calls : (bytes : List ℕ) (calls : List Call) → AreCalls bytes calls → IsUtf8 (stripped calls)
 IsUtf8-calls bytes calls are = IsUtf8-stripped calls (AreShowable-lawful false calls (lawful bytes calls are))
 
-pub IsUtf8-continued : (before bytes : List ℕ) (calls : List Call) → Continues before bytes calls → IsUtf8 (stripped calls)
-IsUtf8-continued before bytes calls continues =
+pub AreShowable-continued : (before bytes : List ℕ) (calls : List Call) → Continues before bytes calls → AreShowable calls
+AreShowable-continued before bytes calls continues =
     let first = machine_calls decoded before (new_machine []) in
-    IsUtf8-stripped calls
-    (AreShowable-after first calls (AreShowable-lawful false (first ++ calls) (lawful (before ++ bytes) (first ++ calls) (continues first (AreCalls-machine before)))))
+    AreShowable-after first calls (AreShowable-lawful false (first ++ calls) (lawful (before ++ bytes) (first ++ calls) (continues first (AreCalls-machine before))))
+
+pub IsUtf8-continued : (before bytes : List ℕ) (calls : List Call) → Continues before bytes calls → IsUtf8 (stripped calls)
+IsUtf8-continued before bytes calls continues = IsUtf8-stripped calls (AreShowable-continued before bytes calls continues)

@@ -1,1 +1,3 @@
 pub mod StateLemmas
+pub mod BufferLemmas
+pub mod FeedLemmas

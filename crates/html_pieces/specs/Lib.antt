@@ -1,3 +1,5 @@
+pub mod Sizes
 pub mod Styles
-pub mod Room
+pub mod Buffer
 pub mod State
+pub mod Feed

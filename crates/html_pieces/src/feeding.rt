@@ -1,3 +1,100 @@
-//! A piece of a stream.
+//! A piece of a stream, and its end.
+ghost use Rattle.std.specs.Prelude.{◌≡◌, ◌<◌, ◌≤◌, ◌++◌, length, drop, min, IfSome, IfNone};
+ghost use Rattle.html_pieces.specs.Sizes.{most_html, capacity};
+ghost use Rattle.html_pieces.specs.Feed.{Takes, Feeds, Refuses, Ends, RefusesEnd};
+
+use crate::buffer::{CAPACITY, HtmlBuffer};
+use crate::state::HtmlState;
+use ansi_html::HtmlWriter;
+use anstyle_parse::canon::{Output, WritingPerformer};
+use strip_pieces::Fed;
+
+/// The bytes of room with which a stream always goes on: what one byte may lead to, where it opens a link
+/// of 1,035 bytes.
 pub const LEAST_ROOM: usize = 6550;
+
+/// The bytes of room that the end of a stream needs.
 pub const END_ROOM: usize = 7;
+
+/// The bytes of HTML for each byte of a piece with which it is tried: few lead to so many.
+const HTML_OF_A_BYTE: usize = 8;
+
+/// How much less is tried where that did not suffice.
+const SHARE: usize = 4;
+
+impl HtmlState {
+    /// Takes bytes from the front of the piece, and writes their HTML to the front of the room.
+    ///
+    /// With `Some` all of their HTML is written, and the state stands after all bytes so far. Of some bytes
+    /// at least one is taken; mostly as many as the eighth part of the room, and at most 4,096. The HTML is
+    /// UTF-8 by itself. Past it the room is as it was.
+    ///
+    /// With `None` the piece is not empty and the room is below [`LEAST_ROOM`]: then nothing
+    /// was done.
+    pub fn feed(&mut self, piece: &[u8], room: &mut [u8]) -> Option<Fed>
+        ensures fed { IfSome result (λ fed. Feeds self.old self.new piece.now room.old room.new fed.taken fed.written) }
+        ensures refused { IfNone result (Refuses self.old self.new piece.now room.old room.new) }
+    {
+        if room.len() < LEAST_ROOM && !piece.is_empty() {
+            return None;
+        }
+        let size = room.len().min(CAPACITY);
+        let sure = size / LEAST_ROOM;
+        let mut taken = piece.len().min(sure.max(size / HTML_OF_A_BYTE));
+        loop {
+            if let Some(written) = self.take(&piece[..taken], room) {
+                return Some(Fed { taken, written });
+            }
+            taken = sure.max(taken / SHARE);
+        }
+    }
+
+    /// Ends the stream: writes what closes the element that is open, if one is, to the front of the room, and
+    /// answers how many bytes that are. The state then begins a stream in the same styling. Past it the room
+    /// is as it was.
+    ///
+    /// With `None` the room is below [`END_ROOM`]: then nothing was done.
+    pub fn end(&mut self, room: &mut [u8]) -> Option<usize>
+        ensures ended { IfSome result (λ written. Ends self.old self.new room.old room.new written) }
+        ensures refused { IfNone result (RefusesEnd self.old self.new room.old room.new) }
+    {
+        if room.len() < END_ROOM {
+            return None;
+        }
+        let output = Output::new(HtmlBuffer::new(room.len()));
+        let writer = HtmlWriter::resume(self.styling(), self.standing(), output);
+        let (buffer, _) = writer.into_output().finish();
+        *self = HtmlState::new(self.styling());
+        Some(put_front(room, buffer.html()))
+    }
+
+    /// Takes all bytes of the piece, if there is room for their HTML.
+    fn take(&mut self, piece: &[u8], room: &mut [u8]) -> Option<usize>
+        ensures taken { IfSome result (λ written. Takes self.old self.new piece.now room.old room.new written) }
+        ensures same_state { IfNone result (self.new ≡ self.old) }
+        ensures same_room { IfNone result (room.new ≡ room.old) }
+        ensures little_room { IfNone result (min (length room.old) capacity < most_html (length piece.now)) }
+    {
+        let mut parser = self.stream.resume();
+        let output = Output::new(HtmlBuffer::new(room.len()));
+        let mut writer = HtmlWriter::resume(self.styling(), self.standing(), output);
+        parser.advance_texts(&mut writer, piece);
+        if writer.output().fault().is_some() {
+            return None;
+        }
+        self.stream.save(&parser);
+        self.save(writer.standing());
+        let (buffer, _) = writer.suspend().finish();
+        Some(put_front(room, buffer.html()))
+    }
+}
+
+/// Writes HTML to the front of the room, and answers how long it is.
+fn put_front(room: &mut [u8], html: &[u8]) -> usize
+    requires { length html.now ≤ length room.old }
+    ensures length { result ≡ length html.now }
+    ensures written { room.new ≡ html.now ++ drop (length html.now) room.old }
+{
+    room[..html.len()].copy_from_slice(html);
+    html.len()
+}

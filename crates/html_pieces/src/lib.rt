@@ -14,9 +14,9 @@
 //! ```
 #![tactic(auto)]
 
+mod buffer;
 mod feeding;
 pub mod laws;
-mod room;
 mod state;
 mod style;
 

@@ -5,7 +5,7 @@ ghost use Rattle.ansi_html.specs.Html.{no_element};
 ghost use Rattle.ansi_html.specs.Writer.{element_in, standing_in, kept};
 ghost use Rattle.html_pieces.specs.State.{held_element, held_standing, styling_in, styling_numbered, StandsFor};
 
-use crate::style::StyleBytes;
+use crate::style::{StyleBytes, flag};
 use ansi_html::{Element, Scheme, Standing, Styling};
 use ansi_style::Style;
 use strip_pieces::StreamState;
@@ -53,18 +53,15 @@ impl ElementBytes {
         }
     }
 
-    pub(crate) fn of(element: Element<'_>) -> ElementBytes
+    /// Holds this one.
+    pub(crate) fn hold(&mut self, element: Element<'_>)
         requires { length element.link.now ≤ max_link }
-        ensures { held_element result ≡ element_in element.entry }
+        ensures { held_element self.new ≡ element_in element.entry }
     {
-        let mut link = [0; MAX_LINK];
         let length = element.link.len();
-        link[..length].copy_from_slice(element.link);
-        ElementBytes {
-            length,
-            link,
-            style: StyleBytes::of(element.style),
-        }
+        self.link[..length].copy_from_slice(element.link);
+        self.length = length;
+        self.style = StyleBytes::of(element.style);
     }
 
     pub(crate) fn element(&self) -> Element<'_>
@@ -121,6 +118,19 @@ impl HtmlState {
         ensures { result ≡ styling_in self.now }
     {
         styling_at(self.styling)
+    }
+
+    /// The HTML stands there.
+    pub(crate) fn save(&mut self, standing: Standing<'_>)
+        requires shown { length standing.shown.link.now ≤ max_link }
+        requires selected { length standing.selected.link.now ≤ max_link }
+        ensures standing { held_standing self.new ≡ standing_in standing.entry }
+        ensures styling { styling_in self.new ≡ styling_in self.old }
+        ensures stream { self.new.stream ≡ self.old.stream }
+    {
+        self.shown.hold(standing.shown);
+        self.selected.hold(standing.selected);
+        self.returned = flag(standing.returned);
     }
 
     /// Where the HTML stands.

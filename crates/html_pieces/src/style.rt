@@ -91,7 +91,7 @@ fn underline_number(underline: Underline) -> u8
 }
 
 /// The number of an attribute.
-fn flag(is: bool) -> u8
+pub(crate) fn flag(is: bool) -> u8
     ensures { is_set result ≡ is }
 {
     u8::from(is)

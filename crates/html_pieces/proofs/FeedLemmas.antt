@@ -1,0 +1,69 @@
+-- A state is fed where a piece was taken.
+use Rattle.std.proofs.Common.{◌≡◌, ◌<◌, ◌≤◌, ◌*◌, ℕ, List, [], ◌++◌, length, take, refl, sym, ap, ◌∙◌, subst, arith, length-take}
+use Rattle.std.specs.Prelude.{IsUtf8}
+use Rattle.anstyle_parse.specs.Stream.Call.{Call}
+use Rattle.anstyle_parse.specs.Machine.Decoder.{decoded}
+use Rattle.anstyle_parse.specs.Machine.Step.{new_machine, machine_calls}
+use Rattle.anstyle_parse.proofs.Division.Only.{AreCalls-only}
+use Rattle.anstyle_parse.proofs.Agreement.Whole.{AreCalls-machine}
+use Rattle.ansi_strip.proofs.Showable.{AreShowable-continued}
+use Rattle.strip_pieces.specs.State.{pending_of}
+use Rattle.ansi_html.specs.Html.{Standing, at_start, html_from, standing_at_end}
+use Rattle.ansi_html.specs.AddingProof.{standing_at_end-append}
+use Rattle.ansi_html.proofs.TextLemmas.{IsUtf8-html_from}
+use Rattle.ansi_html.proofs.PieceLemmas.{length-html_continued}
+use Rattle.html_pieces.specs.declared.state.HtmlState.{HtmlState}
+use Rattle.html_pieces.specs.Sizes.{least_room}
+use Rattle.html_pieces.specs.State.{styling_in, standing_of, StandsFor}
+use Rattle.html_pieces.specs.Feed.{Takes, Feeds}
+use Rattle.html_pieces.proofs.StateLemmas.{AreSound-kept}
+
+module _ (old new : HtmlState) (piece room room_after : List ℕ) (written : ℕ) (takes : Takes old new piece room room_after written) where
+  -- where the HTML stands after these bytes too
+  StandsFor-taken : (before : List ℕ) → StandsFor old before → StandsFor new (before ++ piece)
+  StandsFor-taken before is =
+      let own = machine_calls decoded before (new_machine []) in
+      let are = AreCalls-machine before in
+      record {
+        stream = takes.stream before is.stream;
+        standing = λ calls these.
+            takes.standing ∙ ap (λ (at : Standing). standing_at_end at takes.calls) (is.standing own are)
+            ∙ sym (standing_at_end-append own takes.calls at_start)
+            ∙ ap (λ l. standing_at_end at_start l) (AreCalls-only (before ++ piece) (own ++ takes.calls) calls (takes.continues before is.stream own are) these);
+      }
+
+  abbrev held : List ℕ
+  held = pending_of old.stream
+
+  utf8-taken : IsUtf8 (take written room_after)
+  utf8-taken =
+      subst IsUtf8 (sym takes.html)
+      (IsUtf8-html_from (styling_in old) (standing_of old) takes.calls (AreSound-kept _) (AreShowable-continued held piece takes.calls (takes.continues held refl)))
+
+  bounded-taken : written ≤ 6550 * length piece
+  bounded-taken =
+      omega (
+        arith,
+        length-take written room_after,
+        takes.same_length,
+        takes.written_fits,
+        ap length takes.html,
+        length-html_continued (styling_in old) held piece takes.calls (standing_of old) (AreSound-kept _) (takes.continues held refl),
+      )
+
+pub Feeds-taken : (old new : HtmlState) (piece room room_after : List ℕ) (taken written : ℕ)
+    → (0 < length piece → least_room ≤ length room) → taken ≤ length piece → (0 < length piece → 0 < taken)
+    → Takes old new (take taken piece) room room_after written → Feeds old new piece room room_after taken written
+Feeds-taken old new piece room room_after taken written enough fits some takes =
+    let bytes = take taken piece in
+    record {
+      enough_room = enough;
+      taken_fits = fits;
+      written_fits = takes.written_fits;
+      takes = takes;
+      stands = StandsFor-taken old new bytes room room_after written takes;
+      html = λ before is. (takes.calls, takes.continues before is.stream, λ own are. takes.html ∙ ap (λ at. html_from (styling_in old) at takes.calls) (is.standing own are));
+      utf8 = utf8-taken old new bytes room room_after written takes;
+      some_taken = some;
+      bounded = omega (arith, bounded-taken old new bytes room room_after written takes, length-take taken piece);
+    }

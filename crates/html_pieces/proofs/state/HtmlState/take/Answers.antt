@@ -1,0 +1,97 @@
+-- The HTML goes on from where the state says that it stands.
+use Rattle.std.proofs.Common.{rules, ◌≡◌, ◌<◌, ◌≤◌, ℕ, ◌*◌, Bool, true, false, List, [], ◌++◌, length, take, drop, refl, sym, ap, ap₂, ◌∙◌, subst, arith, length-append, length-drop}
+use Rattle.anstyle_parse.specs.Views.Accumulator.{front_of, parser_after}
+use Rattle.anstyle_parse.specs.Stream.Call.{Call}
+use Rattle.anstyle_parse.specs.Machine.Step.{machine_calls}
+use Rattle.anstyle_parse.specs.Views.Parser.{machine_of}
+use Rattle.std.proofs.Math.Seq.{take-append_seam, drop-append_seam}
+use Rattle.std.specs.Option.{is_some}
+use Rattle.anstyle_parse.specs.Io.Output.{writer_in, fault_in, Finishes}
+use Rattle.strip_pieces.specs.declared.state.StreamState.{StreamState}
+use Rattle.strip_pieces.specs.State.{pending_of, StandsFor as StreamStandsFor}
+use Rattle.ansi_html.specs.Html.{Standing, html_from, standing_at_end}
+use Rattle.ansi_html.specs.Writer.{output_of, styling_of, standing_of as writer_standing, kept}
+use Rattle.ansi_html.proofs.SoundLemmas.{AreSound}
+use Rattle.ansi_html.proofs.PieceLemmas.{length-html_continued, AreSound-at_end}
+use Rattle.html_pieces.specs.contracts.buffer.HtmlBufferSink.TheImpl.{ghosts}
+use Rattle.html_pieces.specs.State.{styling_in, standing_of}
+use Rattle.html_pieces.specs.Sizes.{most_html}
+use Rattle.html_pieces.specs.Feed.{Takes}
+use Rattle.html_pieces.proofs.StateLemmas.{AreSound-kept, kept-sound}
+use Rattle.html_pieces.specs.Styles.{first_of, behind}
+use Rattle.html_pieces.proofs.BufferLemmas.{held-all, longer, no_fault-of, some_fault-of}
+use Rattle.html_pieces.proofs.state.HtmlState.take.Goals as goal
+
+pub returns-then-is_some-clause-little_room : goal.returns-then-is_some-clause-little_room
+returns-then-is_some-clause-little_room c =
+    let state = c.args.self.now in
+    let piece = c.args.piece.now in
+    let writer = c.resume-writer.result in
+    let taken = c.advance_texts.ensures.calls in
+    let held = pending_of state.stream in
+    let calls = machine_calls parser_after piece (machine_of c.resume-parser.result) in
+    let continues = c.advance_texts.ensures.stream held (c.resume-parser.ensures held refl) in
+    let at : writer_standing writer ≡ standing_of state = c.resume-writer.ensures.standing ∙ ap kept c.standing.ensures in
+    let short = length-html_continued (styling_of writer) held piece calls (writer_standing writer)
+    (subst AreSound (sym at) (AreSound-kept _)) continues in
+    let is_fault = c.fault.ensures ∙ ap fault_in c.output.ensures in
+    let fault = some_fault-of (fault_in (output_of c.advance_texts.new.performer)) (ap is_some (sym is_fault) ∙ sym c.is_some.ensures ∙ c.if-is_some.true) in
+    let more = longer (html_from (styling_of writer) (writer_standing writer) calls) c.new.result (output_of writer) (output_of c.advance_texts.new.performer)
+    (ap writer_in c.resume-writer.ensures.output ∙ c.new-output.ensures.writer) c.new.ensures.nothing
+    (ap fault_in c.resume-writer.ensures.output ∙ c.new-output.ensures.no_fault) taken.added fault.0 fault.1 in
+    omega (arith, short, more, c.new.ensures.limit)
+
+pub save-requires : goal.save-requires
+save-requires c =
+    let held = pending_of c.args.self.now.stream in
+    (held ++ c.args.piece.now, c.advance_texts.ensures.stands held (c.resume-parser.ensures held refl))
+
+module _ (c : goal.After-standing-2) where
+  sound : AreSound (writer_standing c.advance_texts.new.performer)
+  sound =
+      let calls = machine_calls parser_after c.args.piece.now (machine_of c.resume-parser.result) in
+      subst AreSound (sym c.advance_texts.ensures.calls.standing) (AreSound-at_end calls (writer_standing c.resume-writer.result) (subst AreSound (sym c.resume-writer.ensures.standing) (AreSound-kept _)))
+
+pub save-requires-2-clause-shown : goal.save-requires-2-clause-shown
+save-requires-2-clause-shown c = omega (arith, ap (λ (at : Standing). length at.shown.link) c.standing-2.ensures, (sound c).shown.short)
+
+pub save-requires-2-clause-selected : goal.save-requires-2-clause-selected
+save-requires-2-clause-selected c = omega (arith, ap (λ (at : Standing). length at.selected.link) c.standing-2.ensures, (sound c).selected.short)
+
+pub returns-clause-taken : goal.returns-clause-taken
+returns-clause-taken c =
+    let state = c.args.self.now in
+    let piece = c.args.piece.now in
+    let writer = c.resume-writer.result in
+    let after = c.advance_texts.new.performer in
+    let taken = c.advance_texts.ensures.calls in
+    let calls = machine_calls parser_after piece (machine_of c.resume-parser.result) in
+    let buffer = c.finish-buffer.result.0 in
+    let at : writer_standing writer ≡ standing_of state = c.resume-writer.ensures.standing ∙ ap kept c.standing.ensures in
+    let styling : styling_of writer ≡ styling_in state = c.resume-writer.ensures.styling ∙ c.styling.ensures in
+    let no_fault = no_fault-of (fault_in (output_of after)) (ap is_some (sym (c.fault.ensures ∙ ap fault_in c.output.ensures)) ∙ sym c.is_some.ensures ∙ c.if-is_some.false) in
+    let text = html_from (styling_of writer) (writer_standing writer) calls in
+    let whole = held-all text c.new.result (output_of writer) (output_of after)
+    (ap writer_in c.resume-writer.ensures.output ∙ c.new-output.ensures.writer) c.new.ensures.nothing
+    (ap fault_in c.resume-writer.ensures.output ∙ c.new-output.ensures.no_fault) taken.added buffer c.finish-buffer.result.1 no_fault
+    (subst (λ output. Finishes ghosts output buffer c.finish-buffer.result.1) c.suspend.ensures c.finish-buffer.ensures.finishes) in
+    let html = c.html.ensures ∙ ap behind whole in
+    let stands = taken.standing ∙ ap (λ (s : Standing). standing_at_end s calls) at in
+    let is_sound : AreSound (standing_at_end (standing_of state) calls) = AreSound-at_end calls (standing_of state) (AreSound-kept _) in
+    let rest = drop (length c.html.result.now) c.args.room.now in
+    let fits : length c.html.result.now ≤ length c.args.room.now = omega (arith, ap length c.html.ensures, buffer.within, ap first_of whole, c.new.ensures.limit) in
+    record {
+      calls = calls;
+      same_length = omega (arith, fits, ap length c.put_front.ensures.written, length-append c.html.result.now rest, length-drop (length c.html.result.now) c.args.room.now);
+      continues = λ before is. c.advance_texts.ensures.stream before (c.resume-parser.ensures before is);
+      stream = λ before is.
+          subst (λ (stream : StreamState). StreamStandsFor stream (before ++ piece)) (sym c.save-2.ensures.stream)
+          (c.save.ensures (before ++ piece) (c.advance_texts.ensures.stands before (c.resume-parser.ensures before is)));
+      styling = c.save-2.ensures.styling;
+      standing = ap kept (c.save-2.ensures.standing ∙ c.standing-2.ensures ∙ stands) ∙ kept-sound _ is_sound;
+      written_fits = omega (arith, c.put_front.ensures.length, fits);
+      html = ap₂ (λ n (l : List ℕ). take n l) c.put_front.ensures.length c.put_front.ensures.written ∙ take-append_seam c.html.result.now rest ∙ html ∙ ap₂ (λ it s. html_from it s calls) styling at;
+      untouched = ap₂ (λ n (l : List ℕ). drop n l) c.put_front.ensures.length c.put_front.ensures.written
+          ∙ drop-append_seam c.html.result.now rest
+          ∙ ap (λ n. drop n c.args.room.now) (sym c.put_front.ensures.length);
+    }

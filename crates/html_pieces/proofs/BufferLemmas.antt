@@ -4,6 +4,7 @@ use Rattle.std.specs.Prelude.{Option, None, Some, Result, Err, MatchOption, ◌�
 use Rattle.std.specs.Io.KnownBytes.{Keeps}
 use Rattle.std.specs.Option.{is_some}
 use Rattle.anstyle_parse.specs.declared.io.Fault.{Fault}
+use Rattle.anstyle_parse.specs.declared.io.Fault.TheVariants.{Write}
 use Rattle.anstyle_parse.specs.declared.io.output.Output.{Output}
 use Rattle.anstyle_parse.specs.Io.Output.{writer_in, fault_in, Adds, AddsAll, AddsPrefix, Flushes, Finishes}
 use Rattle.html_pieces.specs.declared.buffer.HtmlBuffer.{HtmlBuffer}
@@ -58,4 +59,12 @@ module _ (text : List ℕ) (start : HtmlBuffer) (old new : Output HtmlBuffer) (w
             part.was_a_write,
             some-of part.rest part.proper,
           ))
+      added
+
+  -- a text within its limit fits
+  pub no_fault-within : length text ≤ limit_of start → fault_in new ≡ None
+  no_fault-within fits =
+      ⊎_elim
+      (λ (all : AddsAll ghosts text old new). all.no_fault)
+      (λ (part : AddsPrefix ghosts text old new). absurd (omega (arith, longer Write part.fault)))
       added

@@ -1,5 +1,5 @@
 -- What a state of a stream and its HTML stands for.
-use Rattle.std.specs.Prelude.{◌≡◌, ℕ, List, [], take, ◌==◌, if◌then◌else◌}
+use Rattle.std.specs.Prelude.{◌≡◌, ℕ, List, [], ◌∷◌, take, ◌==◌, if◌then◌else◌}
 use Rattle.anstyle_parse.specs.Stream.Call.{Call}
 use Rattle.anstyle_parse.specs.Stream.Calls.{AreCalls}
 use Rattle.strip_pieces.specs.State.{StandsFor as StreamStandsFor}
@@ -10,6 +10,8 @@ use Rattle.ansi_html.specs.Html.{Element, element, Standing, at_start, standing_
 use Rattle.ansi_html.specs.Writer.{kept}
 use Rattle.html_pieces.specs.declared.state.ElementBytes.{ElementBytes}
 use Rattle.html_pieces.specs.declared.state.HtmlState.{HtmlState}
+use Rattle.html_pieces.specs.declared.style.ColorBytes.{ColorBytes}
+use Rattle.html_pieces.specs.declared.style.StyleBytes.{StyleBytes}
 use Rattle.html_pieces.specs.Styles.{is_set, style_of}
 
 -- any other number is for both
@@ -42,3 +44,32 @@ standing_of state = kept (held_standing state)
 pub record StandsFor (state : HtmlState) (before : List ℕ) : Type 0 where
   pub stream : StreamStandsFor state.stream before
   pub standing : (calls : List Call) → AreCalls before calls → standing_of state ≡ standing_at_end at_start calls
+
+-- the style whose bytes are zero
+abbrev pub zero_color : ColorBytes
+zero_color = record { kind = 0; values = 0 ∷ 0 ∷ 0 ∷ [] }
+
+abbrev pub zero_style : StyleBytes
+zero_style = record {
+  foreground = zero_color;
+  background = zero_color;
+  underline = 0;
+  bold = 0;
+  dim = 0;
+  italic = 0;
+  blink = 0;
+  reverse = 0;
+  hidden = 0;
+  struck_out = 0;
+  overlined = 0;
+}
+
+-- the numbers of a state are zero (the bytes behind a length of 0 may be any)
+pub record IsZero (state : HtmlState) : Type 0 where
+  pub stream : state.stream.length ≡ 0
+  pub shown_style : state.shown.style ≡ zero_style
+  pub shown_link : state.shown.length ≡ 0
+  pub selected_style : state.selected.style ≡ zero_style
+  pub selected_link : state.selected.length ≡ 0
+  pub returned : state.returned ≡ 0
+  pub styling : state.styling ≡ 0

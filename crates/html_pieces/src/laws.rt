@@ -1,20 +1,20 @@
 //! Laws of states and of the HTML of pieces. Each is the contract of a function that does nothing.
-ghost use Rattle.std.specs.Prelude.{◌≡◌, ◌≤◌, ◌*◌, ◌++◌, [], ℕ, List, length};
+ghost use Rattle.std.specs.Prelude.{◌≡◌, ◌++◌, [], ℕ, List};
 ghost use Rattle.anstyle_parse.specs.Stream.Call.{Call};
-ghost use Rattle.anstyle_parse.specs.Stream.Calls.{AreCalls, Continues};
+ghost use Rattle.anstyle_parse.specs.Stream.Calls.{AreCalls};
+ghost use Rattle.ansi_html.specs.declared.scheme.Scheme.TheVariants.{Both};
 ghost use Rattle.ansi_html.specs.declared.scheme.Styling.{Styling};
-ghost use Rattle.ansi_html.specs.Html.{at_start, html_from, html};
-ghost use Rattle.strip_pieces.specs.State.{pending_of};
-ghost use Rattle.html_pieces.specs.Sizes.{most_html};
-ghost use Rattle.html_pieces.specs.State.{standing_of, StandsFor};
+ghost use Rattle.ansi_html.specs.declared.scheme.Styling.TheVariants.{Inline};
+ghost use Rattle.ansi_html.specs.Html.{html};
+ghost use Rattle.html_pieces.specs.State.{IsZero, styling_in, StandsFor};
 ghost use Rattle.html_pieces.specs.Feed.{IsHtmlOf, IsEndOf};
 
 use crate::state::HtmlState;
 
-/// Any bytes are a state: their stream part stands for some stream, and their HTML for where it stands
-/// ([`HtmlState::feed`] goes on from there). One that holds zero bytes begins a stream.
+/// A state of zero bytes begins a stream, for light and dark pages.
 pub fn states()
-    ensures zero { (state : HtmlState) → pending_of state.stream ≡ [] → standing_of state ≡ at_start → StandsFor state [] }
+    ensures begins { (state : HtmlState) → IsZero state → StandsFor state [] }
+    ensures styling { (state : HtmlState) → IsZero state → styling_in state ≡ Inline Both }
 {}
 
 /// The HTML of pieces, one after another, and then what ends it, is the HTML of the whole stream, however it

@@ -49,16 +49,16 @@ module _ (text : List ℕ) (start : HtmlBuffer) (old new : Output HtmlBuffer) (w
       ⊎_elim
       (λ (all : AddsAll ghosts text old new). absurd (let differ = sym some ∙ all.no_fault in cc))
       (λ (part : AddsPrefix ghosts text old new).
-          let whole = grown part.prefix part.written in
-          omega (
-            arith,
-            ap length part.joined,
-            length-append part.prefix part.rest,
-            ap length whole,
-            ap first_of whole,
-            part.was_a_write,
-            some-of part.rest part.proper,
-          ))
+      let whole = grown part.prefix part.written in
+      omega (
+        arith,
+        ap length part.joined,
+        length-append part.prefix part.rest,
+        ap length whole,
+        ap first_of whole,
+        part.was_a_write,
+        some-of part.rest part.proper,
+      ))
       added
 
   -- a text within its limit fits

@@ -1,10 +1,10 @@
 -- Links that are kept.
-use Rattle.std.proofs.Common.{◌≡◌, ◌≤◌, ℕ, Bool, true, false, ◌&&◌, List, [], length, take, refl, sym, ap, ap₂, ◌∙◌, ⊎_elim, inl, inr, arith}
+use Rattle.std.proofs.Common.{◌≡◌, ℕ, Bool, true, false, ◌&&◌, List, [], length, refl, sym, ap, ap₂, ◌∙◌, ⊎_elim, inr}
 use Rattle.std.specs.Prelude.{nat_le, if◌then◌else◌}
 use Rattle.std.proofs.lemmas.Bool.{leb-true, le-leb}
-use Rattle.ansi_html.specs.Links.{max_link, kept_link, is_linkable, IsLink}
+use Rattle.ansi_html.specs.Links.{max_link, kept_link, is_linkable}
 use Rattle.ansi_style.specs.Style.{plain}
-use Rattle.ansi_html.specs.Html.{Element, element, Standing, at_start}
+use Rattle.ansi_html.specs.Html.{element, Standing, at_start}
 use Rattle.ansi_html.specs.Writer.{kept}
 use Rattle.ansi_html.proofs.ColorLemmas.{choose}
 use Rattle.ansi_html.proofs.SoundLemmas.{IsSound, IsSound-none, AreSound}

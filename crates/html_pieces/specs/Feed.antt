@@ -2,9 +2,9 @@
 use Rattle.std.specs.Prelude.{◌≡◌, ◌<◌, ◌≤◌, ℕ, List, [], ◌++◌, length, take, drop, IsUtf8}
 use Rattle.anstyle_parse.specs.Stream.Call.{Call}
 use Rattle.anstyle_parse.specs.Stream.Calls.{AreCalls, Continues}
-use Rattle.strip_pieces.specs.State.{pending_of, StandsFor as StreamStandsFor}
+use Rattle.strip_pieces.specs.State.{StandsFor as StreamStandsFor}
 use Rattle.ansi_html.specs.declared.scheme.Styling.{Styling}
-use Rattle.ansi_html.specs.Html.{Standing, at_start, html_from, standing_at_end, element_end, html_ending}
+use Rattle.ansi_html.specs.Html.{at_start, html_from, standing_at_end, element_end, html_ending}
 use Rattle.html_pieces.specs.declared.state.HtmlState.{HtmlState}
 use Rattle.html_pieces.specs.Sizes.{most_html, least_room, end_room}
 use Rattle.html_pieces.specs.State.{styling_in, standing_of, StandsFor}

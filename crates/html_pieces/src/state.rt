@@ -113,6 +113,14 @@ impl HtmlState {
         }
     }
 
+    /// The same, with the number of a styling.
+    pub fn of(styling: u8) -> HtmlState
+        ensures styling { styling_in result ≡ styling_numbered styling }
+        ensures begins { StandsFor result [] }
+    {
+        HtmlState::new(styling_at(styling))
+    }
+
     /// How it says a style.
     pub(crate) fn styling(&self) -> Styling
         ensures { result ≡ styling_in self.now }

@@ -5,7 +5,7 @@ use Rattle.anstyle_parse.proofs.Division.Only.{AreCalls-only}
 use Rattle.anstyle_parse.specs.Machine.Decoder.{decoded}
 use Rattle.anstyle_parse.specs.Machine.Step.{new_machine, machine_after}
 use Rattle.anstyle_parse.specs.Machine.Stands.{StandsAfter}
-use Rattle.ansi_html.specs.Html.{Element, element, Standing, at_start, standing_at_end, no_element}
+use Rattle.ansi_html.specs.Html.{Element, element, at_start, standing_at_end, no_element}
 use Rattle.ansi_html.specs.Writer.{kept}
 use Rattle.html_pieces.specs.declared.state.ElementBytes.{ElementBytes}
 use Rattle.html_pieces.specs.declared.style.StyleBytes.{StyleBytes}

@@ -1,13 +1,12 @@
 -- What closes the element fits, and is written.
-use Rattle.std.proofs.Common.{◌≡◌, ◌≤◌, ℕ, List, [], ◌++◌, length, take, drop, refl, sym, ap, ap₂, ◌∙◌, subst, arith}
+use Rattle.std.proofs.Common.{◌≡◌, ℕ, List, length, take, drop, sym, ap, ap₂, ◌∙◌, arith}
 use Rattle.std.proofs.Math.Seq.{take-append_seam, drop-append_seam}
-use Rattle.anstyle_parse.specs.Io.Output.{writer_in, fault_in, Finishes}
+use Rattle.anstyle_parse.specs.Io.Output.{writer_in, fault_in}
 use Rattle.ansi_html.specs.Html.{Standing, element_end}
 use Rattle.ansi_html.specs.Writer.{output_of, standing_of as writer_standing, kept}
 use Rattle.ansi_html.proofs.LengthLemmas.{length-end}
-use Rattle.html_pieces.specs.contracts.buffer.HtmlBufferSink.TheImpl.{ghosts}
 use Rattle.html_pieces.specs.State.{standing_of}
-use Rattle.html_pieces.specs.Styles.{first_of, behind}
+use Rattle.html_pieces.specs.Styles.{behind}
 use Rattle.html_pieces.proofs.BufferLemmas.{held-all, no_fault-within}
 use Rattle.html_pieces.proofs.state.HtmlState.end.Goals as goal
 

@@ -1,6 +1,5 @@
 -- Nothing was done so far, and what surely fits is tried at last.
-use Rattle.std.proofs.Common.{◌≡◌, ◌<◌, ◌≤◌, length, ℕ}
-use Rattle.html_pieces.specs.Sizes.{least_room}
+use Rattle.std.proofs.Common.{◌≡◌, ◌<◌, ◌≤◌, length}
 use Rattle.html_pieces.proofs.state.HtmlState.feed.Given as goal
 
 abbrev pub invariant-loop-written : goal.invariant-loop-written

@@ -1,10 +1,9 @@
 -- No calls were made, and nothing is held.
-use Rattle.std.proofs.Common.{◌≡◌, false, List, [], refl, sym, ap, ap₂, ◌∙◌, subst}
+use Rattle.std.proofs.Common.{false, [], ap, ap₂, ◌∙◌}
 use Rattle.anstyle_parse.proofs.Canonical.Items.{AreCalls-nil}
 use Rattle.anstyle_parse.proofs.Division.Only.{AreCalls-only}
-use Rattle.ansi_html.specs.Html.{Element, Standing, at_start, standing_at_end}
+use Rattle.ansi_html.specs.Html.{Element, at_start, standing_at_end}
 use Rattle.ansi_html.specs.Writer.{kept}
-use Rattle.html_pieces.specs.State.{held_standing}
 use Rattle.html_pieces.proofs.StateLemmas.{kept-start}
 use Rattle.html_pieces.proofs.state.HtmlState.new.Goals as goal
 

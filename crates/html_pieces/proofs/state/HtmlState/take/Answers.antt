@@ -1,7 +1,6 @@
 -- The HTML goes on from where the state says that it stands.
-use Rattle.std.proofs.Common.{rules, ◌≡◌, ◌<◌, ◌≤◌, ℕ, ◌*◌, Bool, true, false, List, [], ◌++◌, length, take, drop, refl, sym, ap, ap₂, ◌∙◌, subst, arith, length-append, length-drop}
-use Rattle.anstyle_parse.specs.Views.Accumulator.{front_of, parser_after}
-use Rattle.anstyle_parse.specs.Stream.Call.{Call}
+use Rattle.std.proofs.Common.{◌≡◌, ◌≤◌, ℕ, List, ◌++◌, length, take, drop, refl, sym, ap, ap₂, ◌∙◌, subst, arith, length-append, length-drop}
+use Rattle.anstyle_parse.specs.Views.Accumulator.{parser_after}
 use Rattle.anstyle_parse.specs.Machine.Step.{machine_calls}
 use Rattle.anstyle_parse.specs.Views.Parser.{machine_of}
 use Rattle.std.proofs.Math.Seq.{take-append_seam, drop-append_seam}
@@ -15,8 +14,6 @@ use Rattle.ansi_html.proofs.SoundLemmas.{AreSound}
 use Rattle.ansi_html.proofs.PieceLemmas.{length-html_continued, AreSound-at_end}
 use Rattle.html_pieces.specs.contracts.buffer.HtmlBufferSink.TheImpl.{ghosts}
 use Rattle.html_pieces.specs.State.{styling_in, standing_of}
-use Rattle.html_pieces.specs.Sizes.{most_html}
-use Rattle.html_pieces.specs.Feed.{Takes}
 use Rattle.html_pieces.proofs.StateLemmas.{AreSound-kept, kept-sound}
 use Rattle.html_pieces.specs.Styles.{first_of, behind}
 use Rattle.html_pieces.proofs.BufferLemmas.{held-all, longer, no_fault-of, some_fault-of}

@@ -1,6 +1,5 @@
 -- Each field is what its bytes say.
-use Rattle.std.proofs.Common.{◌≡◌, refl}
-use Rattle.html_pieces.specs.Styles.{style_of}
+use Rattle.std.proofs.Common.{refl}
 use Rattle.html_pieces.proofs.style.StyleBytes.of.Goals as goal
 
 pub returns : goal.returns

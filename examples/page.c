@@ -14,7 +14,7 @@
 
 #define MOST 4096
 
-static unsigned char bytes[MOST], room[8 * MOST];
+static unsigned char bytes[MOST], room[4 * MOST];
 
 /* The number that the word is, in decimal, or 0 where it is none from 1 to MOST. */
 static size_t most_of(const char *word)

@@ -13,11 +13,11 @@
  *
  * A stream comes in pieces of any size, cut anywhere: its HTML, and what ends it, is the same. There is
  * nothing to allocate or to free, no input is refused, and no call fails but for a room that is too small.
- * A call takes about 40 KiB of the stack. The library has no data of its own: threads may call it at the
+ * A call takes about 50 KiB of the stack. The library has no data of its own: threads may call it at the
  * same time, each with a state of its own.
  *
  *     ansi_html state = {0};
- *     unsigned char room[32768];
+ *     unsigned char room[16384];
  *     size_t taken, written;
  *
  *     while (count > 0) {
@@ -82,8 +82,8 @@ void ansi_html_init(ansi_html *state, unsigned char styling);
  *
  * Answers true where bytes were taken, or where there were none. Then all of their HTML is
  * written, which is UTF-8 by itself, and what follows `written` bytes of room is as it was. At least one
- * byte was taken; mostly as many as an eighth of the room, and at most 4,096, with a room of 32,768 bytes,
- * of which no more is used. Hand on what is written, and call again with the bytes from `taken` on.
+ * byte was taken; mostly as many as a quarter of the room, and at most 4,096: of a room no more than
+ * 16,384 bytes are used. Hand on what is written, and call again with the bytes from `taken` on.
  *
  * Answers false where `count` is not 0 and `size` is below ANSI_HTML_LEAST_ROOM. Then nothing
  * is taken or written, `taken` and `written` become 0, and the state and the room are as

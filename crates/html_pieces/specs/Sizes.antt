@@ -17,4 +17,4 @@ end_room = 7
 
 -- the bytes that one call writes at most
 abbrev pub capacity : ℕ
-capacity = 32768
+capacity = 16384

@@ -6,7 +6,7 @@ use anstyle_parse::canon::Sink;
 use arrayvec::ArrayVec;
 
 /// The bytes of HTML that are held at most.
-pub(crate) const CAPACITY: usize = 32768;
+pub(crate) const CAPACITY: usize = 16384;
 
 /// Takes HTML up to a limit, and then fails.
 #[derive(Drop)]
@@ -21,7 +21,7 @@ pub(crate) struct HtmlBuffer {
 impl HtmlBuffer {
     ghost use Rattle.html_pieces.specs.Buffer.{limit_of, held_in, has_overflowed};
 
-    /// One that holds nothing, and takes at most so many bytes, and 32,768.
+    /// One that holds nothing, and takes at most so many bytes, and 16,384.
     pub(crate) fn new(limit: usize) -> HtmlBuffer
         ensures limit { limit_of result ≡ min limit capacity }
         ensures nothing { held_in result ≡ [] }

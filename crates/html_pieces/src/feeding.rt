@@ -17,7 +17,7 @@ pub const LEAST_ROOM: usize = 6550;
 pub const END_ROOM: usize = 7;
 
 /// The bytes of HTML for each byte of a piece with which it is tried: few lead to so many.
-const HTML_OF_A_BYTE: usize = 8;
+const HTML_OF_A_BYTE: usize = 4;
 
 /// How much less is tried where that did not suffice.
 const SHARE: usize = 4;
@@ -26,7 +26,7 @@ impl HtmlState {
     /// Takes bytes from the front of the piece, and writes their HTML to the front of the room.
     ///
     /// With `Some` all of their HTML is written, and the state stands after all bytes so far. Of some bytes
-    /// at least one is taken; mostly as many as the eighth part of the room, and at most 4,096. The HTML is
+    /// at least one is taken; mostly as many as a quarter of the room, and at most 4,096. The HTML is
     /// UTF-8 by itself. Past it the room is as it was.
     ///
     /// With `None` the piece is not empty and the room is below [`LEAST_ROOM`]: then nothing

@@ -58,18 +58,20 @@ install: all
 	done
 	$(INSTALL) -m 644 man/ansi_strip.3 $(MAN)/man3/ansi_strip.3
 	$(INSTALL) -m 644 include/ansi_strip.h $(HEADERS)/ansi_strip.h
+	$(INSTALL) -m 644 include/ansi_html.h $(HEADERS)/ansi_html.h
 	$(INSTALL) -m 644 $(ARCHIVE) $(LIB)/libansi_strip.a
 	$(INSTALL) $(SHARED) $(LIB)/libansi_strip.so.$(VERSION)
 	ln -sf libansi_strip.so.$(VERSION) $(LIB)/libansi_strip.so.$(MAJOR)
 	ln -sf libansi_strip.so.$(MAJOR) $(LIB)/libansi_strip.so
 	sed 's|@PREFIX@|$(PREFIX)|; s|@VERSION@|$(VERSION)|' include/ansi_strip.pc.in > $(LIB)/pkgconfig/ansi_strip.pc
 	sed 's|^_here = .*|_here = "$(PREFIX)/lib/libansi_strip.so"|' examples/ansi_strip.py > $(MODULES)/ansi_strip.py
+	$(INSTALL) -m 644 examples/ansi.py $(MODULES)/ansi.py
 	chmod 644 $(MODULES)/ansi_strip.py $(LIB)/pkgconfig/ansi_strip.pc
 
 uninstall:
 	for name in $(PROGRAMS); do rm -f $(BIN)/$$name $(MAN)/man1/$$name.1; done
-	rm -f $(MAN)/man3/ansi_strip.3 $(HEADERS)/ansi_strip.h $(LIB)/libansi_strip.a
+	rm -f $(MAN)/man3/ansi_strip.3 $(HEADERS)/ansi_strip.h $(HEADERS)/ansi_html.h $(LIB)/libansi_strip.a
 	rm -f $(LIB)/libansi_strip.so $(LIB)/libansi_strip.so.$(MAJOR) $(LIB)/libansi_strip.so.$(VERSION)
-	rm -f $(LIB)/pkgconfig/ansi_strip.pc $(MODULES)/ansi_strip.py
+	rm -f $(LIB)/pkgconfig/ansi_strip.pc $(MODULES)/ansi_strip.py $(MODULES)/ansi.py
 
 .PHONY: all programs library check install uninstall

@@ -1,0 +1,179 @@
+/* What include/ansi_html.h declares, and what a caller rests on: sizes, numbers, types, false answers, any
+ * bytes in a state, the end. tests/library compiles it as C and as C++, and with the sanitizers. Says what
+ * is wrong on standard error and ends with status 1. */
+#include "ansi_html.h"
+#include "ansi_html.h" /* (a second time: it guards itself) */
+
+#include <assert.h>
+#include <stdio.h>
+#include <stdlib.h>
+#include <string.h>
+
+static_assert(sizeof(ansi_html) == 3192, "a state has 3,192 bytes");
+static_assert(offsetof(ansi_html, others) == sizeof(size_t), "nothing stands between");
+static_assert(ANSI_HTML_LEAST_ROOM == 6550 && ANSI_HTML_END_ROOM == 7, "what one byte and an end may need");
+
+/* The types: with another one this is a warning, and warnings are errors. */
+static void (*const init)(ansi_html *, unsigned char) = ansi_html_init;
+static bool (*const feed)(ansi_html *, const unsigned char *, size_t, unsigned char *, size_t,
+                          size_t *, size_t *) = ansi_html_feed;
+static bool (*const end)(ansi_html *, unsigned char *, size_t, size_t *) = ansi_html_end;
+
+enum { AFTER = 64, SIZE = 16384, STYLING = 3185 };
+
+static unsigned char room[SIZE + AFTER];
+static int failures;
+
+static void expect(bool holds, const char *what)
+{
+    if (!holds) {
+        fprintf(stderr, "html.c: it does not hold that %s\n", what);
+        failures++;
+    }
+}
+
+static bool are(const unsigned char *bytes, size_t count, unsigned char byte)
+{
+    size_t at;
+
+    for (at = 0; at < count; at++)
+        if (bytes[at] != byte)
+            return false;
+    return true;
+}
+
+/* A state, and bytes after it that no call may touch. */
+struct guarded {
+    ansi_html state;
+    unsigned char after[AFTER];
+};
+
+static struct guarded it;
+static size_t taken, written;
+
+/* The stream goes on with this text, in all of the room. */
+static bool goes_on(const char *text, size_t size)
+{
+    memset(room, 0x7E, sizeof room);
+    taken = written = 7;
+    return feed(&it.state, (const unsigned char *)text, strlen(text), room, size, &taken, &written);
+}
+
+static bool is_written(const char *html)
+{
+    return written == strlen(html) && memcmp(room, html, written) == 0 && are(room + written, AFTER, 0x7E);
+}
+
+static bool ends(size_t size)
+{
+    memset(room, 0x7E, sizeof room);
+    written = 7;
+    return end(&it.state, room, size, &written);
+}
+
+/* The styling is the last byte that is used of a state. */
+static void init_begins_a_stream(void)
+{
+    unsigned char styling;
+
+    for (styling = 0; styling < 6; styling++) {
+        memset(&it, 0xA5, sizeof it);
+        init(&it.state, styling);
+        expect(((unsigned char *)&it.state)[STYLING] == (styling < 4 ? styling : 0), "a styling stands there");
+        expect(are(it.after, AFTER, 0xA5), "what follows the state is as it was");
+        expect(goes_on("a<", SIZE) && taken == 2 && is_written("a&lt;"), "a stream begins");
+    }
+}
+
+static void stylings_are_told_apart(void)
+{
+    static const char *const begins[] = {
+        "<span style=\"color:#cf222e;color:light-dark(#cf222e,#ff7b72);\">x",
+        "<span style=\"color:#cf222e;\">x",
+        "<span style=\"color:#ff7b72;\">x",
+        "<span class=\"ansi-f1\">x",
+    };
+    unsigned char styling;
+
+    for (styling = 0; styling < 4; styling++) {
+        init(&it.state, styling);
+        expect(goes_on("\033[31mx", SIZE) && taken == 6 && is_written(begins[styling]), "a span is opened");
+        expect(goes_on("y", SIZE) && is_written("y"), "it is open in the next piece");
+        expect(ends(ANSI_HTML_END_ROOM) && is_written("</span>"), "it is closed at the end");
+        expect(goes_on("z", SIZE) && is_written("z"), "then a stream begins");
+    }
+}
+
+static void little_room_is_refused(void)
+{
+    ansi_html before;
+    size_t size;
+
+    init(&it.state, ANSI_HTML_BOTH);
+    goes_on("\033]8;;https://a/\007link\r\033[1m", SIZE);
+    before = it.state;
+    for (size = 0; size < ANSI_HTML_LEAST_ROOM; size += size < 16 ? 1 : 726) {
+        expect(!goes_on("x", size) && taken == 0 && written == 0, "little room is refused");
+        expect(memcmp(&it.state, &before, sizeof before) == 0, "the state is as it was");
+        expect(are(room, sizeof room, 0x7E), "the room is as it was");
+    }
+    expect(!goes_on("x", ANSI_HTML_LEAST_ROOM - 1), "one byte less than the least room is refused");
+    for (size = 0; size < ANSI_HTML_END_ROOM; size++) {
+        expect(!ends(size) && written == 0 && are(room, sizeof room, 0x7E), "little room for an end is refused");
+        expect(memcmp(&it.state, &before, sizeof before) == 0, "the state is as it was");
+    }
+    expect(goes_on("", 0) && taken == 0 && written == 0, "no bytes need no room");
+    expect(goes_on("x", ANSI_HTML_LEAST_ROOM) && taken == 1, "the least room suffices");
+    expect(written > 7 && memcmp(room, "</a><a ", 7) == 0, "one link is closed, and another opened");
+    expect(ends(SIZE) && is_written("</a>"), "a link is closed");
+}
+
+/* The longest link, of which each byte becomes a reference. */
+static void long_link_stays_in_the_state(void)
+{
+    char text[1100] = "\033]8;;https://";
+
+    memset(&it, 0xA5, sizeof it);
+    init(&it.state, ANSI_HTML_CLASSES);
+    memset(text + 13, '"', 1014);
+    expect(goes_on(text, SIZE) && written == 0, "a command is taken");
+    expect(goes_on("\007", SIZE) && written == 0, "it leaves nothing");
+    expect(goes_on("x", ANSI_HTML_LEAST_ROOM) && taken == 1, "one byte is taken");
+    expect(written > 6 * 1014 && written <= ANSI_HTML_LEAST_ROOM, "it opens a long link");
+    expect(are(it.after, AFTER, 0xA5), "what follows the state is as it was");
+    expect(ends(SIZE) && is_written("</a>"), "a link is closed");
+}
+
+/* Whatever a state holds, text is text and a link is no script. */
+static void any_bytes_are_a_state(void)
+{
+    unsigned char *bytes = (unsigned char *)&it.state;
+    unsigned seed = 1, turn;
+    size_t at;
+
+    for (turn = 0; turn < 400; turn++) {
+        for (at = 0; at < sizeof it.state; at++)
+            bytes[at] = turn < 256 ? (unsigned char)turn : (unsigned char)((seed = seed * 1103515245 + 12345) >> 16);
+        memset(it.after, 0xA5, AFTER);
+        expect(goes_on("\030<x", SIZE) && taken == 3, "any bytes are a state");
+        expect(written >= 5 && memcmp(room + written - 5, "&lt;x", 5) == 0, "its text is written");
+        expect(are(it.after, AFTER, 0xA5), "what follows the state is as it was");
+        expect(ends(SIZE), "it has an end");
+    }
+    init(&it.state, ANSI_HTML_LIGHT);
+    goes_on("\033]8;;https://a/\007x", SIZE);
+    for (at = 0; at + 8 <= sizeof it.state; at++)
+        if (memcmp(bytes + at, "https://", 8) == 0)
+            memcpy(bytes + at, "script:/", 8);
+    expect(goes_on("y", SIZE) && is_written("y"), "a link that is no link is none");
+}
+
+int main(void)
+{
+    init_begins_a_stream();
+    stylings_are_told_apart();
+    little_room_is_refused();
+    long_link_stays_in_the_state();
+    any_bytes_are_a_state();
+    return failures != 0;
+}

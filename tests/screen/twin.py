@@ -2,13 +2,15 @@
 
     show(bytes, width, height)      the text that ansi2screen must write
     showed(bytes, width, height)    the text that ansi2text --shown must write
-    styles(bytes, width, height)    the style of each of its characters, for ansi2html --shown
+    showed_styles(bytes, width, height)    the style of each of its characters, for ansi2html --shown
 
 It has a parser of its own, for streams that are well formed. Widths come from Unicode's data as
-Python has it, not from the repository's table.
+Python has it, not from the repository's table; styles from tests/screen/styles.py.
 """
 
 import unicodedata
+
+import styles
 
 WHOLE, LEFT, RIGHT, EMPTY = range(4)
 
@@ -29,27 +31,8 @@ def columns(c):
 DRAWN = dict(zip("_`abcdefghijklmnopqrstuvwxyz{|}~", " ◆▒␉␌␍␊°±␤␋┘┐┌└┼⎺⎻─⎼⎽├┤┴┬│≤≥π≠£·"))
 
 
-# A style: the codes of its text's colour and of its ground's, and of what else it has.
-PLAIN = (None, None, frozenset())
-
-
-def selected(style, codes):
-    """The style after SGR, of the codes that the streams of tests have."""
-    color, ground, others = style
-    for code in codes:
-        if code == 0:
-            color, ground, others = PLAIN
-        elif 30 <= code < 38:
-            color = code
-        elif 40 <= code < 48:
-            ground = code
-        elif code in (1, 4):
-            others = others | {code}
-    return color, ground, others
-
-
 class Place:
-    def __init__(self, row=0, column=0, is_relative=False, draws=(False, False), shift=0, style=PLAIN):
+    def __init__(self, row=0, column=0, is_relative=False, draws=(False, False), shift=0, style=styles.PLAIN):
         self.row, self.column, self.is_relative = row, column, is_relative
         self.draws, self.shift, self.style = draws, shift, style
 
@@ -58,7 +41,8 @@ class Place:
 
 
 class Display:
-    """Cells are a character, a part, marks, whether the row goes on behind it, and a style, row by row in one list."""
+    """Cells are a character, a part, marks, whether the row goes on behind it, and the style, row by row in one
+    list."""
 
     MARKS = 2
 
@@ -68,19 +52,21 @@ class Display:
         self.reset()
 
     def reset(self):
-        self.cursor, self.saved, self.hidden_saved = Place(), Place(), Place()
         self.cells = self.blanks()
         self.hidden = self.blanks()
+        self.cursor, self.saved, self.hidden_saved = Place(), Place(), Place()
         self.top, self.bottom = 0, self.height
         self.tabs = [column % 8 == 0 for column in range(self.width)]
-        self.wraps, self.inserts, self.is_alternate = True, False, False
+        self.wraps, self.inserts, self.is_visible, self.is_alternate = True, False, True, False
         self.last = None
 
-    def blank(self):
-        return " ", EMPTY, "", False, (None, self.cursor.style[1], frozenset())
+    def blanks(self, style=styles.PLAIN):
+        return self.spaces(self.width * self.height, style)
 
-    def blanks(self):
-        return [self.blank()] * (self.width * self.height)
+    def spaces(self, count, style=None):
+        """What is erased: blanks in the background of a style, else of the cursor's."""
+        style = styles.PLAIN._replace(background=(style or self.cursor.style).background)
+        return [(" ", EMPTY, "", False, style)] * count
 
     # -------------------------------------------------------------- places
 
@@ -137,7 +123,7 @@ class Display:
 
     def cut(self, at):
         if 0 < at < len(self.cells) and self.cells[at][1] == RIGHT:
-            self.cells[at - 1 : at + 1] = [(" ", EMPTY, "", False, cell[4]) for cell in self.cells[at - 1 : at + 1]]
+            self.cells[at - 1 : at + 1] = [(" ", EMPTY, "", False, half[4]) for half in self.cells[at - 1 : at + 1]]
 
     def change(self, start, end, how):
         self.cut(end)
@@ -148,13 +134,13 @@ class Display:
         self.cells[start:end] = how(self.cells[start:end])
 
     def erased(self, run):
-        return [self.blank()] * len(run)
+        return self.spaces(len(run))
 
     def moved_back(self, n):
-        return lambda run: run[n:] + [self.blank()] * min(n, len(run))
+        return lambda run: run[n:] + self.spaces(min(n, len(run)))
 
     def moved_on(self, n):
-        return lambda run: [self.blank()] * min(n, len(run)) + run[: max(0, len(run) - n)]
+        return lambda run: self.spaces(min(n, len(run))) + run[: max(0, len(run) - n)]
 
     def erase(self, kind, start, end):
         if kind == 0:
@@ -223,9 +209,8 @@ class Display:
         if self.cursor.column + n <= self.width:
             if self.inserts:
                 self.insert_characters(n)
-            style = self.cursor.style
-            wide = [(c, LEFT, "", False, style), (" ", RIGHT, "", False, style)]
-            glyph = wide if n == 2 else [(c, WHOLE, "", False, style)]
+            parts = [(c, LEFT), (" ", RIGHT)] if n == 2 else [(c, WHOLE)]
+            glyph = [(*part, "", False, self.cursor.style) for part in parts]
             self.change(self.here(), self.here() + n, lambda run: glyph)
             self.cursor.column += n
 
@@ -234,8 +219,8 @@ class Display:
         if self.cursor.column:
             if self.cells[at][1] == RIGHT:
                 at -= 1
-            c, part, marks, on, style = self.cells[at]
-            self.cells[at] = (c, part, (marks + mark)[: self.MARKS], on, style)
+            c, part, marks, *others = self.cells[at]
+            self.cells[at] = (c, part, (marks + mark)[: self.MARKS], *others)
 
     def print_again(self, c):
         if self.cursor.column + columns(c) <= self.width:
@@ -256,7 +241,7 @@ class Display:
 
     def alternate(self, on):
         if on and not self.is_alternate:
-            self.hidden, self.cells = self.cells, self.blanks()
+            self.hidden, self.cells = self.cells, self.blanks(self.cursor.style)
             self.hidden_saved, self.saved = self.cursor.copy(), Place()
             self.is_alternate = True
         if not on:
@@ -274,14 +259,16 @@ class Display:
             self.to_position(0, 0)
         elif mode == "?7":
             self.wraps = on
+        elif mode == "?25":
+            self.is_visible = on
         elif mode == "?1049":
             self.alternate(on)
 
     def soft_reset(self):
         self.cursor.is_relative, self.saved = False, Place()
         self.top, self.bottom = 0, self.height
-        self.wraps, self.inserts = True, False
-        self.cursor.draws, self.cursor.shift, self.cursor.style = (False, False), 0, PLAIN
+        self.wraps, self.inserts, self.is_visible = True, False, True
+        self.cursor.draws, self.cursor.shift, self.cursor.style = (False, False), 0, styles.PLAIN
 
     # -------------------------------------------------------------- calls
 
@@ -324,7 +311,8 @@ class Display:
         "X": lambda s, n, p: s.change(s.here(), min(s.row_end(), s.here() + n), s.erased),
     }
 
-    def control(self, marker, fields, final):
+    def control(self, marker, groups, final):
+        fields = [group[0] for group in groups]
         first, second = (fields + [0, 0])[:2]
         if final in "hl" and marker in ("", "?"):
             for field in fields:
@@ -333,6 +321,8 @@ class Display:
             self.soft_reset()
         elif marker:
             pass
+        elif final == "m":
+            self.cursor.style = styles.selected(groups, self.cursor.style)
         elif final in self.MOVES:
             self.settle()
             self.MOVES[final](self, max(1, first), max(1, second))
@@ -341,8 +331,6 @@ class Display:
         elif final in self.EDITS:
             self.settle()
             self.EDITS[final](self, max(1, first), first)
-        elif final == "m":
-            self.cursor.style = selected(self.cursor.style, fields)
         elif final == "S":
             self.scroll(self.moved_back, max(1, first))
         elif final == "T":
@@ -392,7 +380,7 @@ class Display:
     def text(self):
         rows = []
         for row in range(self.height):
-            rows.append("".join(c + marks for c, part, marks, _, _ in self.row(row) if part != RIGHT).rstrip(" "))
+            rows.append("".join(c + marks for c, part, marks, *_ in self.row(row) if part != RIGHT).rstrip(" "))
         while rows and not rows[-1]:
             rows.pop()
         return "".join("%s\n" % row for row in rows)
@@ -401,7 +389,7 @@ class Display:
 def line(cells):
     """The characters of a row with their styles: cells at its end where nothing was printed leave nothing; whether
     it goes on."""
-    used = max((column + 1 for column, (c, part, marks, _, _) in enumerate(cells) if part != EMPTY or marks), default=0)
+    used = max((column + 1 for column, (c, part, marks, *_) in enumerate(cells) if part != EMPTY or marks), default=0)
     shown = [(it, style) for c, part, marks, _, style in cells[:used] if part != RIGHT for it in c + marks]
     return shown, cells[-1][3]
 
@@ -422,8 +410,8 @@ def feed(display, data):
             marker = body[:1] if body[:1] in ("<", "=", ">", "?") else ""
             body = body[len(marker) :]
             marker += "".join(b for b in body if " " <= b <= "/")
-            fields = "".join(b for b in body if b >= "0").split(";")
-            display.control(marker, [int(f.split(":")[0] or 0) for f in fields], final)
+            groups = "".join(b for b in body if b >= "0").split(";")
+            display.control(marker, [[int(field or 0) for field in group.split(":")] for group in groups], final)
         elif c == "\x1b" and text[at] == "]":
             at = text.index("\x07", at) + 1
         elif c == "\x1b" and text[at] == "P":
@@ -460,13 +448,13 @@ def lines(data, width, height):
         rows.pop()
     found, on = [], False
     for characters, on in [line(row) for row in display.left] + rows:
-        found += characters + ([] if on else [("\n", PLAIN)])
-    return found + ([("\n", PLAIN)] if on else [])
+        found += characters + ([] if on else [("\n", styles.PLAIN)])
+    return found + ([("\n", styles.PLAIN)] if on else [])
 
 
 def showed(data, width, height):
     return "".join(c for c, _ in lines(data, width, height)).encode()
 
 
-def styles(data, width, height):
+def showed_styles(data, width, height):
     return [style for _, style in lines(data, width, height)]

@@ -5,6 +5,7 @@ mod edits;
 mod leaving;
 mod modes;
 mod moves;
+mod parts;
 mod performer;
 mod print;
 

@@ -9,7 +9,7 @@ use ranges::{NO_COLUMN, TWO_COLUMNS};
 
 /// Whether a printed character shows anything.
 #[tactic(auto, unfolding(crate::specs::Widths::is_shown, anstyle_parse::specs::Stream::Bytes::is_within))]
-pub(crate) fn is_shown(c: char) -> bool
+pub fn is_shown(c: char) -> bool
     ensures { result ≡ is_shown c }
 {
     !matches!(u32::from(c), 0..=0x1F | 0x7F..=0x9F)

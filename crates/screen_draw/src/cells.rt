@@ -1,0 +1,189 @@
+//! The cells of a screen.
+ghost use Rattle.std.specs.Prelude.{◌≡◌, ◌<◌, ◌≤◌, ◌*◌, ◌/◌, ◌∷◌, ◌++◌, [], length};
+ghost use Rattle.anstyle_parse.specs.Stream.Call.{print};
+ghost use Rattle.ansi_style.specs.Style.{are_equal};
+ghost use Rattle.ansi_screen.specs.Display.{most_columns, most_rows};
+ghost use Rattle.screen_draw.specs.Draw.{drawn_character, marks_calls, character_calls, is_erased, is_fresh, first_pen, pen_behind, style_calls, there_calls, shown_calls, cell_calls, cells_calls};
+ghost use Rattle.screen_draw.specs.Drawing.{Draws};
+
+use crate::calls::{put_number, put_position, put_style};
+use ansi_screen::{Cell, Marks, Part, is_shown};
+use ansi_style::Style;
+use anstyle_parse::io::{Output, Sink};
+
+/// What was drawn so far leaves this to the next cell.
+#[derive(Clone, Copy)]
+pub(crate) struct Pen {
+    /// The cursor stands where the next cell is drawn.
+    pub(crate) is_there: bool,
+    /// The style that is selected.
+    pub(crate) style: Style,
+}
+
+impl Pen {
+    /// A plain one that stands elsewhere.
+    fn new() -> Pen
+        ensures { result ≡ first_pen }
+    {
+        Pen {
+            is_there: false,
+            style: Style::default(),
+        }
+    }
+
+    /// The pen behind a cell.
+    #[tactic(auto, unfolding(crate::specs::Draw::pen_behind))]
+    fn behind(self, cell: Cell) -> Pen
+        ensures { result ≡ pen_behind cell self }
+    {
+        if is_fresh(cell) {
+            Pen {
+                is_there: false,
+                ..self
+            }
+        } else if cell.is_right() {
+            self
+        } else {
+            Pen {
+                is_there: !is_erased(cell),
+                style: cell.style,
+            }
+        }
+    }
+}
+
+/// Whether the styles are the same.
+#[tactic(auto, unfolding(ansi_style::specs::Style::are_equal))]
+fn is_same(a: Style, b: Style) -> bool
+    ensures { result ≡ are_equal a b }
+{
+    a == b
+}
+
+/// Whether the cell is as erasing leaves it.
+#[tactic(auto, unfolding(crate::specs::Draw::is_erased))]
+fn is_erased(cell: Cell) -> bool
+    ensures { result ≡ is_erased cell }
+{
+    matches!(cell.part, Part::Empty)
+        && matches!(cell.marks, Marks::Unmarked)
+        && is_same(cell.style, Cell::blank(cell.style).style)
+}
+
+/// Whether the cell is as on a new screen.
+#[tactic(auto, unfolding(crate::specs::Draw::is_fresh))]
+fn is_fresh(cell: Cell) -> bool
+    ensures { result ≡ is_fresh cell }
+{
+    is_erased(cell) && is_same(cell.style, Style::default())
+}
+
+/// The character; a space for one that shows nothing.
+#[tactic(auto, unfolding(crate::specs::Draw::drawn_character))]
+fn drawn_character(c: char) -> char
+    ensures { result ≡ drawn_character c }
+{
+    if is_shown(c) { c } else { ' ' }
+}
+
+/// Prints a character.
+fn put_character<W: Sink>(output: &mut Output<W>, c: char)
+    ensures { Draws W.Sink (print (drawn_character c) ∷ []) output.old output.new }
+{
+    output.put_char(drawn_character(c));
+}
+
+/// Prints marks.
+fn put_marks<W: Sink>(output: &mut Output<W>, marks: Marks)
+    ensures { Draws W.Sink (marks_calls marks) output.old output.new }
+{
+    match marks {
+        Marks::Unmarked => {}
+        Marks::One(first) => put_character(output, first),
+        Marks::Two(first, second) => {
+            put_character(output, first);
+            put_character(output, second);
+        }
+    }
+}
+
+/// Prints the cell's character, and its marks.
+pub(crate) fn put_marked<W: Sink>(output: &mut Output<W>, cell: Cell)
+    ensures { Draws W.Sink (character_calls cell) output.old output.new }
+{
+    put_character(output, cell.character);
+    put_marks(output, cell.marks);
+}
+
+/// Selects the style, where it is another.
+fn put_style_change<W: Sink>(output: &mut Output<W>, selected: Style, wanted: Style)
+    ensures { Draws W.Sink (style_calls selected wanted) output.old output.new }
+{
+    if !is_same(selected, wanted) {
+        put_style(output, wanted);
+    }
+}
+
+/// Goes to the place, where the cursor stands elsewhere.
+fn put_there<W: Sink>(output: &mut Output<W>, width: usize, place: usize, pen: Pen)
+    requires some { 0 < width }
+    requires columns { width ≤ most_columns }
+    requires rows { place / width < most_rows }
+    ensures { Draws W.Sink (there_calls width place pen) output.old output.new }
+{
+    if !pen.is_there || place % width == 0 {
+        put_position(output, place / width, place % width);
+    }
+}
+
+/// Erases one cell, or prints it.
+fn put_shown<W: Sink>(output: &mut Output<W>, cell: Cell)
+    ensures { Draws W.Sink (shown_calls cell) output.old output.new }
+{
+    if is_erased(cell) {
+        put_number(output, 1, b'X');
+    } else {
+        put_marked(output, cell);
+    }
+}
+
+/// Goes to a place, selects the style and shows the cell.
+fn put_drawn<W: Sink>(output: &mut Output<W>, width: usize, place: usize, pen: Pen, cell: Cell)
+    requires some { 0 < width }
+    requires columns { width ≤ most_columns }
+    requires rows { place / width < most_rows }
+    ensures { Draws W.Sink (there_calls width place pen ++ (style_calls pen.style cell.style ++ shown_calls cell)) output.old output.new }
+{
+    put_there(output, width, place, pen);
+    put_style_change(output, pen.style, cell.style);
+    put_shown(output, cell);
+}
+
+/// Draws the cell at a place.
+#[tactic(auto, unfolding(crate::specs::Draw::cell_calls))]
+fn put_cell<W: Sink>(output: &mut Output<W>, width: usize, place: usize, pen: Pen, cell: Cell)
+    requires some { 0 < width }
+    requires columns { width ≤ most_columns }
+    requires rows { place / width < most_rows }
+    ensures { Draws W.Sink (cell_calls width place pen cell) output.old output.new }
+{
+    if is_fresh(cell) {
+    } else if cell.is_right() {
+    } else {
+        put_drawn(output, width, place, pen, cell);
+    }
+}
+
+/// Draws the cells of a screen that is blank.
+pub(crate) fn put_cells<W: Sink>(output: &mut Output<W>, width: usize, cells: &[Cell])
+    requires some { 0 < width }
+    requires columns { width ≤ most_columns }
+    requires rows { length cells.now ≤ most_rows * width }
+    ensures { Draws W.Sink (cells_calls width 0 first_pen cells.now) output.old output.new }
+{
+    let mut pen = Pen::new();
+    for (place, cell) in cells.iter().enumerate() {
+        put_cell(output, width, place, pen, *cell);
+        pen = pen.behind(*cell);
+    }
+}

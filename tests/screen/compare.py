@@ -3,7 +3,7 @@
 generated streams, or of recordings.
 
 Usage: tests/screen/compare.py [--count N] [--seed N] [--program PROGRAM] [--xterm | --libvterm]
-                               [--shown] [--size COLUMNSxROWS RECORDING ..]
+                               [--shown | --drawn] [--size COLUMNSxROWS RECORDING ..]
 
     --count N          so many generated streams (default: 500)
     --seed N           the seed of the first (default: 1)
@@ -13,6 +13,8 @@ Usage: tests/screen/compare.py [--count N] [--seed N] [--program PROGRAM] [--xte
                        cc makes a program of
     --shown            of recordings, ansi2text --shown beside tmux's history and screen, lines joined
                        where they wrapped (capture-pane -J), blanks at their ends left out
+    --drawn            the terminal is given what ansi2screen --draw writes of a stream, in place of the stream,
+                       behind another one
     --size .. RECORDING ..  files with the bytes of a stream, and the screen that they were made for, as
                        those of bench/record.py for 120x40
 
@@ -187,7 +189,7 @@ def inputs(options, pane, width, height):
         with open(path, "rb") as recording:
             yield path, recording.read(), True
     if not options.recordings:
-        for words, smallest, *_ in pane.differences:
+        for words, smallest, *_ in [] if options.drawn else pane.differences:
             yield "%s, %r" % (words, smallest), smallest.encode(), False
         for seed in range(options.seed, options.seed + options.count):
             data = pane.stream(random.Random(seed), width, height).encode()
@@ -202,20 +204,25 @@ def main():
     reader.add_argument("--xterm", dest="kind", action="store_const", const=Xterm, default=Pane)
     reader.add_argument("--libvterm", dest="kind", action="store_const", const=Libvterm)
     reader.add_argument("--shown", action="store_true")
+    reader.add_argument("--drawn", action="store_true")
     reader.add_argument("--size", default="80x24")
     reader.add_argument("recordings", nargs="*")
     options = reader.parse_args()
     name = "ansi2text" if options.shown else "ansi2screen"
     program = options.program or os.path.join(ROOT, "crates", name, "out", name)
     width, height = map(int, options.size.split("x")) if options.recordings else (20, 6)
-    agree = differ = 0
+    agree, differ, before = 0, 0, b""
     with tempfile.TemporaryDirectory() as folder:
         pane = options.kind(folder, width, height)
         if options.shown:
             pane.captured = ["-J", "-S", "-"]
         for name, data, must_agree in inputs(options, pane, width, height):
-            theirs = text_of(pane.shown(data), pane.letters)
             word = "--%s=%dx%d" % ("shown" if options.shown else "size", width, height)
+            given = data
+            if options.drawn:
+                drawn = subprocess.run([program, word, "--draw"], input=data, capture_output=True, check=True)
+                given, before = before + drawn.stdout, data
+            theirs = text_of(pane.shown(given), pane.letters)
             run = subprocess.run([program, word], input=data, capture_output=True)
             ours = text_of(run.stdout.decode(), pane.letters)
             fits = must_agree == (ours == theirs)

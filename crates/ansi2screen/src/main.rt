@@ -1,15 +1,17 @@
-//! Writes what a terminal's screen shows at the end of standard input, as text.
+//! Writes what a terminal's screen shows at the end of standard input, as text
+//! or as the bytes that draw it.
 #![tactic(auto)]
 
 mod words;
 
 use ansi_screen::Screen;
 use anstyle_parse::io::{FromRead, Output, perform_to_end};
+use screen_draw::draw;
 use standard_streams::{
     answered, asked_of, buffered, ended_with_reason, failed, given_words, value_of, wrong_size,
 };
 use std::process::ExitCode;
-use words::{HELP, OPTIONS, SIZE, named_size};
+use words::{HELP, OPTIONS, SIZE, asks_to_draw, named_size};
 
 /// The name at the front of what the program says of failures.
 const PROGRAM: &str = "ansi2screen";
@@ -30,7 +32,11 @@ fn main(rt: HostRuntime) -> ExitCode {
     let mut reader = FromRead::new(rt.stdin());
     let read = perform_to_end(&mut reader, &mut screen);
     let mut output = Output::new(buffered(rt.stdout()));
-    screen.write_text(&mut output);
+    if asks_to_draw(words.as_slice()) {
+        draw(&screen, &mut output);
+    } else {
+        screen.write_text(&mut output);
+    }
     let (writer, answer) = output.finish();
     ended_with_reason(&rt, PROGRAM, reader, (writer, read.and(answer)))
 }

@@ -1,29 +1,42 @@
 //! The words of the program: the size that its options name, and what it says of itself.
-ghost use Rattle.std.specs.Prelude.{IfSome};
+ghost use Rattle.std.specs.Prelude.{◌≡◌, IfSome, map, string_bytes};
+ghost use Rattle.ansi2screen.specs.Words.{asks_to_draw};
 ghost use Rattle.ansi_screen.specs.Size.{IsTaken};
 
 use ansi_screen::Size;
+use standard_streams::value_of;
 
 /// The options.
-pub const OPTIONS: &[&str] = &[SIZE];
+pub const OPTIONS: &[&str] = &[SIZE, DRAW];
 
 /// What stands before a size.
 pub const SIZE: &str = "--size=";
 
+/// What asks for the bytes that draw the screen.
+const DRAW: &str = "--draw";
+
 /// What `--help` says.
 pub const HELP: &str = "\
-usage: ansi2screen [--size=COLUMNSxROWS] < FILE
+usage: ansi2screen [--size=COLUMNSxROWS] [--draw] < FILE
 
 Writes what a terminal's screen shows at the end of standard input, as text.
 Input is UTF-8. No file is opened: one is given by <.
 
   --size=COLUMNSxROWS    the screen's size, from 2x1 to 1000x1000 (80x24)
+  --draw                 write the sequences that make a terminal show it instead
   --help                 say this
   --version              say which version it is
 
 Example, the last screen of a recording:
   ansi2screen --size=120x40 < recording
 ";
+
+/// Whether the words ask for the bytes that draw the screen.
+pub fn asks_to_draw(words: &[String]) -> bool
+    ensures { result ≡ asks_to_draw (map string_bytes words.now) }
+{
+    value_of(words, DRAW).is_some()
+}
 
 /// The size that this text says; with no text 80 columns and 24 rows. `None` for a text that says none.
 pub fn named_size(text: Option<&str>) -> Option<Size>

@@ -3,6 +3,7 @@
 
 mod calls;
 mod cells;
+pub mod laws;
 mod places;
 mod rest;
 mod whole;

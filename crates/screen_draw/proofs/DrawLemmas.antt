@@ -1,5 +1,5 @@
 -- Drawing: calls, one after another, and their texts.
-use Rattle.std.proofs.Common.{◌≡◌, ℕ, suc, ◌+◌, ◌*◌, ◌/◌, ◌<◌, ◌≤◌, Bool, true, false, List, [], ◌∷◌, ◌++◌, length, take, get_or, refl, ap, sym, inl, inr, ⊎_elim, ◌∙◌, subst, arith, append_assoc, append-nil, add-one}
+use Rattle.std.proofs.Common.{◌≡◌, ℕ, suc, ◌+◌, ◌<◌, ◌≤◌, Bool, true, false, List, [], ◌∷◌, ◌++◌, length, take, get_or, refl, ap, sym, inl, inr, ⊎_elim, ◌∙◌, subst, arith, append_assoc, append-nil}
 use Rattle.std.specs.Prelude.{decimal, not, IsTrue, ◌⊎◌, ◌||◌, nat_lt, encode_utf8, if◌then◌else◌}
 use Rattle.std.specs.List.{AllByRecursion}
 use Rattle.std.proofs.lemmas.Bool.{false≢true, or_cases, or_left, or_right, ne_eqb}
@@ -40,7 +40,7 @@ module _ {W : Type 0} (sink : SinkOf W) where
   pub draws-append : (first second : List Call) (a b c : Output W) → Draws sink first a b → Draws sink second b c → Draws sink (first ++ second) a c
   draws-append first second a b c one other = record {
     added = subst (λ t. Adds sink t a c) (sym (flat_map-append call_text first second))
-      (Adds-append sink (canon first) (canon second) a b c one.added other.added);
+        (Adds-append sink (canon first) (canon second) a b c one.added other.added);
     drawing = both-drawing first second one.drawing other.drawing;
   }
 

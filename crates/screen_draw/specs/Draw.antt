@@ -15,7 +15,7 @@ use Rattle.ansi_screen.specs.declared.cell.Part.TheVariants.{Empty}
 use Rattle.ansi_screen.specs.declared.place.Charsets.{Charsets}
 use Rattle.ansi_screen.specs.declared.place.Place.{Place}
 use Rattle.ansi_screen.specs.Cells.{blank, is_right, cell_at}
-use Rattle.ansi_screen.specs.Display.{Display, home, letters, row_end}
+use Rattle.ansi_screen.specs.Display.{Display, letters, row_end}
 use Rattle.ansi_screen.specs.Text.{is_unmarked}
 use Rattle.ansi_screen.specs.Widths.{is_shown}
 use Rattle.screen_draw.specs.declared.cells.Pen.{Pen}

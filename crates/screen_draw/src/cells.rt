@@ -167,9 +167,7 @@ fn put_cell<W: Sink>(output: &mut Output<W>, width: usize, place: usize, pen: Pe
     requires rows { place / width < most_rows }
     ensures { Draws W.Sink (cell_calls width place pen cell) output.old output.new }
 {
-    if is_fresh(cell) {
-    } else if cell.is_right() {
-    } else {
+    if !is_fresh(cell) && !cell.is_right() {
         put_drawn(output, width, place, pen, cell);
     }
 }

@@ -4,7 +4,9 @@ ghost use Rattle.ansi_screen.specs.Display.{most_columns, most_rows};
 ghost use Rattle.screen_draw.specs.Draw.{wrap_calls, place_calls, space_if, saved_calls, screen_calls};
 ghost use Rattle.screen_draw.specs.Drawing.{Draws};
 
-use crate::calls::{put_charsets, put_escape, put_number, put_origin, put_plain, put_position, put_style};
+use crate::calls::{
+    put_charsets, put_escape, put_number, put_origin, put_plain, put_position, put_style,
+};
 use crate::cells::{put_cells, put_marked};
 use ansi_screen::{Cell, Place};
 use ansi_style::Style;
@@ -28,7 +30,13 @@ fn rows_above(place: Place, top: usize) -> usize
 }
 
 /// Goes to a place, whose row is counted from `top` in origin mode; `last` is printed from the column on.
-pub(crate) fn put_place<W: Sink>(output: &mut Output<W>, top: usize, column: usize, last: Option<Cell>, place: Place)
+pub(crate) fn put_place<W: Sink>(
+    output: &mut Output<W>,
+    top: usize,
+    column: usize,
+    last: Option<Cell>,
+    place: Place,
+)
     requires row { place.row < most_rows }
     requires column { column < most_columns }
     ensures { Draws W.Sink (place_calls top column last place) output.old output.new }
@@ -66,7 +74,12 @@ fn put_saved<W: Sink>(output: &mut Output<W>, width: usize, saved: Place)
 }
 
 /// Draws what is saved, and the cells.
-pub(crate) fn put_screen<W: Sink>(output: &mut Output<W>, width: usize, saved: Place, cells: &[Cell])
+pub(crate) fn put_screen<W: Sink>(
+    output: &mut Output<W>,
+    width: usize,
+    saved: Place,
+    cells: &[Cell],
+)
     requires some { 0 < width }
     requires columns { width ≤ most_columns }
     requires row { saved.row < most_rows }

@@ -4,7 +4,9 @@ ghost use Rattle.ansi_screen.specs.Display.{most_columns, most_rows};
 ghost use Rattle.screen_draw.specs.Draw.{sequence, escape, stop_calls, stops_calls, is_last_wide, last_cell, last_column, cursor_calls, modes_calls, rest_calls};
 ghost use Rattle.screen_draw.specs.Drawing.{Draws};
 
-use crate::calls::{put_escape, put_number, put_numbers, put_plain, put_private_mode, set_or_reset};
+use crate::calls::{
+    put_escape, put_number, put_numbers, put_plain, put_private_mode, set_or_reset,
+};
 use crate::places::put_place;
 use ansi_screen::{Cell, Screen};
 use anstyle_parse::io::{Output, Sink};

@@ -16,7 +16,12 @@ fn put_covered<W: Sink>(output: &mut Output<W>, screen: &Screen)
     ensures { Draws W.Sink (covered_calls screen.now.display) output.old output.new }
 {
     if screen.is_alternate() {
-        put_screen(output, screen.columns(), screen.hidden_saved(), screen.hidden_cells());
+        put_screen(
+            output,
+            screen.columns(),
+            screen.hidden_saved(),
+            screen.hidden_cells(),
+        );
         put_escape(output, b'8');
         put_private_mode(output, ALTERNATE, true);
     }

@@ -1,4 +1,5 @@
 //! Rows that were worked by hand, by the library that they are of, and the names of the screen.
+mod draw;
 mod html;
 mod leaving;
 mod screen;

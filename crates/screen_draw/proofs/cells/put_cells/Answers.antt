@@ -6,7 +6,8 @@ use Rattle.screen_draw.proofs.cells.put_cells.Goals as goal
 pub loop-place-preserved : goal.loop-place-preserved
 loop-place-preserved g c =
     let inside = c.loop-place-test.true in
-    let before = c.loop-place.invariant in
-    (draws-cell g.W.Sink c.args.width first_pen c.loop-place.pen c.args.cells.now c.loop-place.place _
-    c.args.output.now c.loop-place.output c.put_cell.new.output inside before.1 before.0 c.put_cell.ensures,
-    pen-more first_pen c.loop-place.pen c.behind-pen.result c.args.cells.now c.loop-place.place _ inside before.1 c.behind-pen.ensures)
+    let before = c.loop-place.invariant in (
+      draws-cell g.W.Sink c.args.width first_pen c.loop-place.pen c.args.cells.now c.loop-place.place _
+          c.args.output.now c.loop-place.output c.put_cell.new.output inside before.1 before.0 c.put_cell.ensures,
+      pen-more first_pen c.loop-place.pen c.behind-pen.result c.args.cells.now c.loop-place.place _ inside before.1 c.behind-pen.ensures,
+    )

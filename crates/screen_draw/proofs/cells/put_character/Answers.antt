@@ -1,5 +1,5 @@
 -- A character that is shown.
-use Rattle.std.proofs.Common.{sym, subst}
+use Rattle.std.proofs.Common.{subst}
 use Rattle.std.specs.Prelude.{encode_utf8}
 use Rattle.anstyle_parse.specs.Io.Output.{Adds}
 use Rattle.screen_draw.proofs.DrawLemmas.{draws-character, drawn-character}

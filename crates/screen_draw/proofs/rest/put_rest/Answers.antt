@@ -26,9 +26,9 @@ returns g c =
     let last = cursor_calls d ++ modes_calls d in
     let stops = subst (λ tabs. Draws g.W.Sink (stops_calls 0 tabs) c.put_plain.new.output c.put_stops.new.output) c.stops.ensures.stops c.put_stops.ensures in
     let scrolls =
-      subst (λ top. Draws g.W.Sink (sequence ((top + 1) ∷ d.bottom ∷ []) 0x72 ∷ []) c.put_stops.new.output c.put_margins.new.output) c.margins-top.ensures.top
-      (subst (λ bottom. Draws g.W.Sink (sequence ((c.margins-top.result.0 + 1) ∷ bottom ∷ []) 0x72 ∷ []) c.put_stops.new.output c.put_margins.new.output)
-      c.margins-top.ensures.bottom c.put_margins.ensures) in
+    subst (λ top. Draws g.W.Sink (sequence ((top + 1) ∷ d.bottom ∷ []) 0x72 ∷ []) c.put_stops.new.output c.put_margins.new.output) c.margins-top.ensures.top
+    (subst (λ bottom. Draws g.W.Sink (sequence ((c.margins-top.result.0 + 1) ∷ bottom ∷ []) 0x72 ∷ []) c.put_stops.new.output c.put_margins.new.output)
+    c.margins-top.ensures.bottom c.put_margins.ensures) in
     draws-append g.W.Sink plain_calls (stops_calls 0 d.tabs ++ (margins ++ last)) _ _ _ c.put_plain.ensures
     (draws-append g.W.Sink (stops_calls 0 d.tabs) (margins ++ last) _ _ _ stops
     (draws-append g.W.Sink margins last _ _ _ scrolls

@@ -1,0 +1,64 @@
+//! All parts of a screen, and the bytes that draw it.
+use ansi_screen::{Place, Screen, is_shown};
+use anstyle_parse::io::{FromWrite, Output};
+use anstyle_parse::{Parser, Utf8Parser};
+use screen_draw::draw;
+use screen_draw::laws::forgets;
+use std::alloc::{AllocError, Global};
+use std::test::Fail;
+
+/// A screen of 9 columns and 3 rows after the bytes.
+fn shown(alloc: Global, bytes: &[u8]) -> Result<Screen, AllocError> {
+    let mut screen = Screen::new(alloc, 9, 3)?;
+    let mut parser = Parser::<Utf8Parser>::new();
+    parser.advance_all(&mut screen, bytes);
+    Ok(screen)
+}
+
+fn place(row: usize, column: usize) -> Place {
+    Place {
+        row,
+        column,
+        ..Place::home()
+    }
+}
+
+/// What leads to other than new parts: x on the main screen, an alternate one with margins, a saved place,
+/// one stop, no autowrap, insert mode.
+const PARTS: &[u8] = b"x\x1b[?1049h\x1b[2;3r\x1b[2;4H\x1b7\x1b[?7l\x1b[4h\x1b[3g\x1bH\x1b[3;1Hy";
+
+#[test]
+fn parts(rt: HostRuntime) -> Result<(), Fail> {
+    let screen = shown(rt.alloc(), PARTS)?;
+    assert_eq!(rt; screen.margins(), (1, 3));
+    let stops = [false, false, false, true, false, false, false, false, false];
+    assert_eq!(rt; screen.stops(), stops.as_slice());
+    assert_eq!(rt; screen.saved(), place(1, 3));
+    assert_eq!(rt; screen.hidden_saved(), place(0, 1));
+    assert!(rt; screen.is_alternate() && screen.inserts() && !screen.wraps());
+    assert_eq!(rt; screen.hidden_cells()[0].character, 'x');
+    assert_eq!(rt; screen.cells()[18].character, 'y');
+    assert_eq!(rt; screen.row_end(), 27);
+    assert!(rt; is_shown('\u{ad}') && !is_shown('\u{85}') && !screen.cells()[18].is_right());
+    Ok(())
+}
+
+#[test]
+fn a_drawing(rt: HostRuntime) -> Result<(), Fail> {
+    let screen = shown(rt.alloc(), PARTS)?;
+    let mut output = Output::new(FromWrite::new(Vec::new(rt.alloc())));
+    draw(&screen, &mut output);
+    forgets();
+    let (sink, answer) = output.finish();
+    assert!(rt; answer.is_ok());
+    let again = shown(rt.alloc(), sink.into_inner().as_slice())?;
+    assert_eq!(rt; again.cells(), screen.cells());
+    assert_eq!(rt; again.hidden_cells(), screen.hidden_cells());
+    assert_eq!(rt; again.stops(), screen.stops());
+    assert_eq!(rt; (again.cursor(), again.saved()), (place(2, 1), place(1, 3)));
+    assert_eq!(rt;
+        (again.margins(), again.wraps(), again.inserts()),
+        ((1, 3), false, true)
+    );
+    Ok(())
+}

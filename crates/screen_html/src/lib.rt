@@ -68,7 +68,8 @@ pub fn convert_shown<R: Source, W: Sink>(
         → read (shown_html styling screen calls) ≡ all_shown styling (shown_styled screen calls) }
 
     // so that its bytes are exactly those of the text that the screen showed.
-    ensures text { (calls : List Call) → map byte_of (read (shown_html styling screen calls)) ≡ shown_text screen calls }
+    ensures text { (calls : List Call)
+        → map byte_of (read (shown_html styling screen calls)) ≡ shown_text screen calls }
 
     // Its lines are those of that text.
     ensures lines { (columns rows : ℕ) (bytes : List ℕ) (calls : List Call) → AreCalls bytes calls

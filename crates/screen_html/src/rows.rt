@@ -16,7 +16,8 @@ use screen_text::WriteRows;
 fn put_marks<W: Sink>(writer: &mut StyledWriter<W>, marks: Marks)
     ensures styling { styling_of writer.new ≡ styling_of writer.old }
     ensures shown { shown_in writer.new ≡ shown_in writer.old }
-    ensures added { Adds W.Sink (escaped_text (marks_text marks)) (styled_output writer.old) (styled_output writer.new) }
+    ensures added { Adds W.Sink (escaped_text (marks_text marks))
+        (styled_output writer.old) (styled_output writer.new) }
 {
     match marks {
         Marks::Unmarked => {}

@@ -25,7 +25,8 @@ last_rows_from row_text after_row closing at rows =
 
 -- By a row a writer adds its text; by handing on what its output holds back it adds nothing.
 pub record WritesRow {R W S : Type 0} (sink : SinkOf W) (output_in : R → Output W) (standing_in : R → S)
-    (row_text : S → List Cell → List ℕ) (after_row : S → List Cell → S) (old : R) (row : List Cell) (new : R) : Type 0 where
+    (row_text : S → List Cell → List ℕ) (after_row : S → List Cell → S)
+    (old : R) (row : List Cell) (new : R) : Type 0 where
   pub added : Adds sink (row_text (standing_in old) row) (output_in old) (output_in new)
   pub standing : standing_in new ≡ after_row (standing_in old) row
 

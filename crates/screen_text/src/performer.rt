@@ -108,8 +108,10 @@ impl<W: Sink, R: WriteRows<W>> WritingPerformer<W> for ShownWriter<R> {
         rows.into_output()
     }
 
-    ghost adds = { adds-shown W.Sink R.takes R.passes_on R.output_in R.standing_in R.row_text R.after_row R.writes_row R.writes_nothing };
+    ghost adds = { adds-shown W.Sink R.takes R.passes_on R.output_in R.standing_in R.row_text R.after_row
+        R.writes_row R.writes_nothing };
 
-    ghost ends = { λ old calls new shows _. ends-shown W.Sink R.takes R.passes_on R.output_in R.standing_in R.row_text R.after_row
+    ghost ends = { λ old calls new shows _.
+        ends-shown W.Sink R.takes R.passes_on R.output_in R.standing_in R.row_text R.after_row
         R.writes_row R.writes_nothing R.closing old calls new shows };
 }

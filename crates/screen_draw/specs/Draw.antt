@@ -100,12 +100,17 @@ there_calls width place pen =
 abbrev pub shown_calls : Cell → List Call
 shown_calls cell = if is_erased cell then sequence (1 ∷ []) 0x58 ∷ [] else character_calls cell
 
+-- there, in its style, the cell
+abbrev pub place_cell_calls : ℕ → ℕ → Pen → Cell → List Call
+place_cell_calls width place pen cell =
+    there_calls width place pen ++ (style_calls pen.style cell.style ++ shown_calls cell)
+
 -- A cell at a place of a new screen: a right half comes with its left one.
 unfoldable pub cell_calls : ℕ → ℕ → Pen → Cell → List Call
 cell_calls width place pen cell =
     if is_fresh cell then []
     else if is_right cell.part then []
-    else there_calls width place pen ++ (style_calls pen.style cell.style ++ shown_calls cell)
+    else place_cell_calls width place pen cell
 
 -- cells, from a place on
 abbrev pub cells_calls : ℕ → ℕ → Pen → List Cell → List Call
@@ -155,7 +160,8 @@ covered_calls d =
 -- Tabs where they differ from a new screen's, which stop in each eighth column: CHA, and HTS or TBC.
 abbrev pub stop_calls : ℕ → Bool → List Call
 stop_calls column true = if column % 8 == 0 then [] else sequence ((column + 1) ∷ []) 0x47 ∷ escape 0x48 ∷ []
-stop_calls column false = if column % 8 == 0 then sequence ((column + 1) ∷ []) 0x47 ∷ sequence (0 ∷ []) 0x67 ∷ [] else []
+stop_calls column false =
+    if column % 8 == 0 then sequence ((column + 1) ∷ []) 0x47 ∷ sequence (0 ∷ []) 0x67 ∷ [] else []
 
 abbrev pub stops_calls : ℕ → List Bool → List Call
 stops_calls column [] = []

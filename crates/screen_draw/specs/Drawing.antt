@@ -13,7 +13,8 @@ use Rattle.ansi_screen.specs.Widths.{is_shown}
 abbrev pub IsDrawing : Call → Type 0
 IsDrawing (print c) = IsTrue (is_character c) × IsTrue (is_shown c)
 IsDrawing (execute byte) = (byte ≡ 0x0E) ⊎ (byte ≡ 0x0F)
-IsDrawing (csi_dispatch groups intermediates ignore final) = IsHeaderCall groups intermediates ignore final × (ignore ≡ false)
+IsDrawing (csi_dispatch groups intermediates ignore final) =
+    IsHeaderCall groups intermediates ignore final × (ignore ≡ false)
 IsDrawing (esc_dispatch intermediates ignore final) = IsEscapeCall intermediates ignore final × (ignore ≡ false)
 IsDrawing call = ⊥
 

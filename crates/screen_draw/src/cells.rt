@@ -3,7 +3,7 @@ ghost use Rattle.std.specs.Prelude.{◌≡◌, ◌<◌, ◌≤◌, ◌*◌, ◌/
 ghost use Rattle.anstyle_parse.specs.Stream.Call.{print};
 ghost use Rattle.ansi_style.specs.Style.{are_equal};
 ghost use Rattle.ansi_screen.specs.Display.{most_columns, most_rows};
-ghost use Rattle.screen_draw.specs.Draw.{drawn_character, marks_calls, character_calls, is_erased, is_fresh, first_pen, pen_behind, style_calls, there_calls, shown_calls, cell_calls, cells_calls};
+ghost use Rattle.screen_draw.specs.Draw.{drawn_character, marks_calls, character_calls, is_erased, is_fresh, first_pen, pen_behind, style_calls, there_calls, shown_calls, place_cell_calls, cell_calls, cells_calls};
 ghost use Rattle.screen_draw.specs.Drawing.{Draws};
 
 use crate::calls::{put_number, put_position, put_style};
@@ -152,7 +152,7 @@ fn put_drawn<W: Sink>(output: &mut Output<W>, width: usize, place: usize, pen: P
     requires some { 0 < width }
     requires columns { width ≤ most_columns }
     requires rows { place / width < most_rows }
-    ensures { Draws W.Sink (there_calls width place pen ++ (style_calls pen.style cell.style ++ shown_calls cell)) output.old output.new }
+    ensures { Draws W.Sink (place_cell_calls width place pen cell) output.old output.new }
 {
     put_there(output, width, place, pen);
     put_style_change(output, pen.style, cell.style);

@@ -1,7 +1,9 @@
 //! Every public item of every library but the screen, by its name, and every implementation that a
 //! type of theirs has of a trait of std: what is gone is missed here.
+use ansi_html::Element;
 use ansi_html::HtmlWriter;
 use ansi_html::Scheme;
+use ansi_html::Standing;
 use ansi_html::StyledWriter;
 use ansi_html::Styling;
 use ansi_html::contrast::BLACK;
@@ -84,6 +86,11 @@ use standard_streams::misused;
 use standard_streams::value_of;
 use standard_streams::wrong_size;
 use std::alloc::Global;
+use html_pieces::ColorBytes;
+use html_pieces::END_ROOM;
+use html_pieces::ElementBytes;
+use html_pieces::HtmlState;
+use html_pieces::StyleBytes;
 use std::fmt::Debug;
 use std::io;
 use std::io::ErrorKind;
@@ -199,6 +206,34 @@ fn names_of_the_laws(rt: HostRuntime) {
     strip_pieces::laws::states();
     strip_pieces::laws::texts_joined();
     strip_pieces::laws::equality();
+}
+
+#[test]
+fn names_of_html_in_pieces(rt: HostRuntime) {
+    let mut state = HtmlState::new(Styling::Classes);
+    let held: ElementBytes = state.shown;
+    let style: StyleBytes = held.style;
+    let color: ColorBytes = style.foreground;
+    assert_eq!(rt; color.kind, 0);
+    let mut room = [0; html_pieces::LEAST_ROOM];
+    // <span class="ansi-f1">x, and </span>
+    let fed = state.feed(b"\x1B[31mx", &mut room);
+    assert!(rt; fed == Some(Fed { taken: 6, written: 23 }));
+    assert!(rt; state.end(&mut room) == Some(END_ROOM));
+    let plain = Element {
+        style: Style::default(),
+        link: b"",
+    };
+    let standing = Standing {
+        shown: plain,
+        selected: plain,
+        returned: true,
+    };
+    let writer = HtmlWriter::resume(Styling::Classes, standing, Output::new(memory(rt.alloc())));
+    assert!(rt; writer.standing().returned);
+    assert_well(&rt, writer.suspend().finish());
+    html_pieces::laws::states();
+    html_pieces::laws::html_joined();
 }
 
 #[test]

@@ -1,13 +1,13 @@
 #!/usr/bin/env python3
 """Counts what the programs cost for each input byte, on five kinds of streams or on recordings.
 
-Usage: bench/measure.py [--peer COMMAND].. [--mode log|canon|strip|html|pieces] [--bytes N]
-                        [--recordings FOLDER] [--wall BYTES] [PROGRAM]
+Usage: bench/measure.py [--peer COMMAND].. [--mode log|canon|strip|html|pieces|html-pieces]
+                        [--bytes N] [--recordings FOLDER] [--wall BYTES] [PROGRAM]
 
 PROGRAM is the built program (default: crates/parselog/out/parselog in modes log and canon,
 crates/ansi2text/out/ansi2text in strip, crates/ansi2html/out/ansi2html in html; in pieces
-examples/filter.c over the C library, which hands pieces of 4096 bytes to it: `rt lib` in
-crates/ansi_c must have built that). Instructions are those of `valgrind --tool=callgrind`, less
+examples/filter.c over the C library, which hands pieces of 4096 bytes to it, and in html-pieces
+examples/page.c: `rt lib` in crates/ansi_c must have built that). Instructions are those of `valgrind --tool=callgrind`, less
 those of an empty input. The wall time is the least of five runs without valgrind, beside that of
 `cat`, and the machine's load is said with it; with --wall the stream is repeated to that many bytes
 for it. Peers are measured in the same run, and the ratio is printed. In log and canon a peer, such
@@ -71,7 +71,7 @@ def strings(pick):
 
 CORPORA = [text, colours, dense, characters, strings]
 # the modes, and the words that the program is called with
-WORDS = {"log": ["log"], "canon": ["canon"], "strip": [], "html": [], "pieces": []}
+WORDS = {"log": ["log"], "canon": ["canon"], "strip": [], "html": [], "pieces": [], "html-pieces": []}
 
 
 def corpus(make_line, size):
@@ -140,18 +140,18 @@ def row_of(ours, peers, path, empty, options):
     return row
 
 
-def filter_of_the_library(folder):
-    """examples/filter.c over the C library."""
+def built_with_the_library(name, folder):
+    """A program of examples/ over the C library."""
     root = os.path.dirname(HERE)
-    program = os.path.join(folder, "filter")
-    sources = [root + "/examples/filter.c", root + "/crates/ansi_c/out/libansi_c.a"]
+    program = os.path.join(folder, name)
+    sources = [root + "/examples/%s.c" % name, root + "/crates/ansi_c/out/libansi_c.a"]
     subprocess.run(["cc", "-O2", "-I%s/include" % root, "-o", program] + sources, check=True)
     return program
 
 
 def program_of(mode, folder):
-    if mode == "pieces":
-        return filter_of_the_library(folder)
+    if mode.endswith("pieces"):
+        return built_with_the_library("page" if mode == "html-pieces" else "filter", folder)
     name = {"strip": "ansi2text", "html": "ansi2html"}.get(mode, "parselog")
     return os.path.join(HERE, "../crates/%s/out/%s" % (name, name))
 

@@ -6,7 +6,6 @@ ghost use Rattle.std.specs.Prelude.{◌≡◌, []};
 ghost use Rattle.std.specs.Bool.{OnTrue, OnFalse};
 ghost use Rattle.strip_pieces.specs.Feed.{Feeds, Refuses};
 ghost use Rattle.strip_pieces.specs.State.{StandsFor};
-
 ghost use Rattle.html_pieces.specs.State.{styling_in, styling_numbered, StandsFor as HtmlStandsFor};
 ghost use Rattle.html_pieces.specs.Feed.{Feeds as FeedsHtml, Refuses as RefusesHtml, Ends, RefusesEnd};
 

@@ -72,6 +72,11 @@ use anstyle_parse::state::State;
 use anstyle_parse::state::state_change;
 use examples::plain;
 use examples::write_last_style;
+use html_pieces::ColorBytes;
+use html_pieces::END_ROOM;
+use html_pieces::ElementBytes;
+use html_pieces::HtmlState;
+use html_pieces::StyleBytes;
 use standard_streams::Request;
 use standard_streams::VERSION;
 use standard_streams::answered;
@@ -86,11 +91,6 @@ use standard_streams::misused;
 use standard_streams::value_of;
 use standard_streams::wrong_size;
 use std::alloc::Global;
-use html_pieces::ColorBytes;
-use html_pieces::END_ROOM;
-use html_pieces::ElementBytes;
-use html_pieces::HtmlState;
-use html_pieces::StyleBytes;
 use std::fmt::Debug;
 use std::io;
 use std::io::ErrorKind;
@@ -218,7 +218,12 @@ fn names_of_html_in_pieces(rt: HostRuntime) {
     let mut room = [0; html_pieces::LEAST_ROOM];
     // <span class="ansi-f1">x, and </span>
     let fed = state.feed(b"\x1B[31mx", &mut room);
-    assert!(rt; fed == Some(Fed { taken: 6, written: 23 }));
+    assert!(rt;
+        fed == Some(Fed {
+            taken: 6,
+            written: 23
+        })
+    );
     assert!(rt; state.end(&mut room) == Some(END_ROOM));
     let plain = Element {
         style: Style::default(),

@@ -7,8 +7,8 @@ Usage: bench/measure.py [--peer COMMAND].. [--mode log|canon|strip|html|pieces|h
 PROGRAM is the built program (default: crates/parselog/out/parselog in modes log and canon,
 crates/ansi2text/out/ansi2text in strip, crates/ansi2html/out/ansi2html in html; in pieces
 examples/filter.c over the C library, which hands pieces of 4096 bytes to it, and in html-pieces
-examples/page.c: `rt lib` in crates/ansi_c must have built that). Instructions are those of `valgrind --tool=callgrind`, less
-those of an empty input. The wall time is the least of five runs without valgrind, beside that of
+examples/page.c: `rt lib` in crates/ansi_c must have built that). Instructions are those of
+`valgrind --tool=callgrind`, less those of an empty input. The wall time is the least of five runs without valgrind, beside that of
 `cat`, and the machine's load is said with it; with --wall the stream is repeated to that many bytes
 for it. Peers are measured in the same run, and the ratio is printed. In log and canon a peer, such
 as a build of the Rust crate, is called with that word, and must write the same bytes. In the other

@@ -1,13 +1,13 @@
 -- How much HTML the bytes of a piece lead to: at most 6,550 bytes each.
-use Rattle.std.proofs.Common.{◌≡◌, ◌≤◌, ◌+◌, ◌*◌, ℕ, suc, Bool, true, false, List, [], ◌∷◌, ◌++◌, length, refl, sym, ap, ap₂, ◌∙◌, subst, arith, lit≤, length-append, IsTrue}
+use Rattle.std.proofs.Common.{◌≡◌, ◌≤◌, ◌*◌, ℕ, suc, Bool, true, false, List, [], ◌∷◌, ◌++◌, length, refl, sym, ap, ap₂, ◌∙◌, arith, lit≤, length-append, IsTrue}
 use Rattle.std.specs.Prelude.{encode_utf8, if◌then◌else◌, ⊤}
-use Rattle.std.proofs.lemmas.Bool.{ltb-true, false≢true}
+use Rattle.std.proofs.lemmas.Bool.{false≢true}
 use Rattle.std.proofs.lemmas.List.{append_cancel_left}
 use Rattle.anstyle_parse.specs.declared.accumulator.Taken.{Taken}
 use Rattle.anstyle_parse.specs.declared.accumulator.Taken.TheVariants.{More, Char, Broken}
 use Rattle.anstyle_parse.specs.declared.state.definitions.State.{State}
 use Rattle.anstyle_parse.specs.declared.state.definitions.State.TheVariants.{Ground, Utf8}
-use Rattle.anstyle_parse.specs.Stream.Call.{Call, print, execute, hook, put, unhook, osc_dispatch, csi_dispatch, esc_dispatch}
+use Rattle.anstyle_parse.specs.Stream.Call.{Call, print, execute}
 use Rattle.anstyle_parse.specs.Stream.Calls.{Continues}
 use Rattle.anstyle_parse.specs.Stream.Characters.{is_well_formed, is_proper_front, character_of, replacement}
 use Rattle.anstyle_parse.specs.Machine.Decoder.{decoded}
@@ -26,7 +26,6 @@ use Rattle.ansi_strip.proofs.PieceLength.{is_inside, body-inside}
 use Rattle.ansi_html.specs.declared.scheme.Styling.{Styling}
 use Rattle.ansi_html.specs.AddingProof.{html_from-append}
 use Rattle.ansi_html.specs.Html.{escaped_text, Standing, is_executed, text_html, call_html, standing_after, html_from, standing_at_end, line_break, beginning, change}
-use Rattle.ansi_html.specs.Writer.{in_element}
 use Rattle.ansi_html.proofs.HtmlLemmas.{call_html-print, standing_after-print, change-same, escaped_high}
 use Rattle.ansi_html.proofs.LengthLemmas.{length-beginning, length-text_html, length-stripped}
 use Rattle.ansi_html.proofs.SoundLemmas.{AreSound, AreSound-after}

@@ -1,10 +1,10 @@
 -- The calls of bytes print characters, so what is left of them is UTF-8.
-use Rattle.std.proofs.Common.{◌≡◌, ◌<◌, ℕ, Bool, true, false, ◌||◌, eqb, ltb, leb, le-leb, List, [], ◌∷◌, ◌++◌, refl, subst, ⊎_elim, arith}
+use Rattle.std.proofs.Common.{◌≡◌, ◌<◌, ℕ, Bool, true, false, ltb, leb, le-leb, List, [], ◌∷◌, ◌++◌, refl, ⊎_elim, arith}
 use Rattle.std.specs.Prelude.{if◌then◌else◌}
 use Rattle.std.specs.Char.{IsScalar}
 use Rattle.std.specs.List.{AllByRecursion}
 use Rattle.std.specs.Str.{IsUtf8}
-use Rattle.std.proofs.lemmas.Bool.{or_cases, eqb-true, lt-ltb, le-ltb}
+use Rattle.std.proofs.lemmas.Bool.{or_cases, lt-ltb, le-ltb}
 use Rattle.std.proofs.lemmas.Str.{IsUtf8-append, IsUtf8-nil, IsUtf8-encode}
 use Rattle.anstyle_parse.specs.Stream.Bytes.{is_within}
 use Rattle.anstyle_parse.specs.Stream.Call.{Call, print, execute, hook, put, unhook, osc_dispatch, csi_dispatch, esc_dispatch}

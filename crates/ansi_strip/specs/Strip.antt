@@ -1,6 +1,6 @@
 -- Stripped text: what is left of the calls of a stream.
 use Rattle.std.specs.List.{AllByRecursion, flat_map}
-use Rattle.std.specs.Prelude.{ℕ, Bool, true, false, ◌||◌, nat_le, ◌==◌, List, [], ◌∷◌, IsTrue, IsUtf8, encode_utf8, if◌then◌else◌}
+use Rattle.std.specs.Prelude.{ℕ, Bool, true, false, ◌||◌, nat_le, List, [], ◌∷◌, IsTrue, IsUtf8, encode_utf8, if◌then◌else◌}
 use Rattle.anstyle_parse.specs.Stream.Call.{Call, print, execute}
 -- the controls that are left: tab, line feed and carriage return
 pub use Rattle.anstyle_parse.specs.Stream.Texts.{is_layout}

@@ -4,6 +4,9 @@
 #include "ansi_strip.h"
 #include "ansi_strip.h" /* (a second time: it guards itself) */
 
+#define CALLER "header.c"
+#include "expect.h"
+
 #include <assert.h>
 #include <stdio.h>
 #include <stdlib.h>
@@ -28,26 +31,6 @@ static bool (*const feed)(ansi_strip *, const unsigned char *, size_t, unsigned 
                           size_t *, size_t *) = ansi_strip_feed;
 
 enum { COUNT = 4096, AFTER = 64 };
-
-static int failures;
-
-static void expect(bool holds, const char *what)
-{
-    if (!holds) {
-        fprintf(stderr, "header.c: it does not hold that %s\n", what);
-        failures++;
-    }
-}
-
-static bool are(const unsigned char *bytes, size_t count, unsigned char byte)
-{
-    size_t at;
-
-    for (at = 0; at < count; at++)
-        if (bytes[at] != byte)
-            return false;
-    return true;
-}
 
 /* A state, and bytes after it that no call may touch. */
 struct guarded {

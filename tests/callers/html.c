@@ -4,6 +4,9 @@
 #include "ansi_html.h"
 #include "ansi_html.h" /* (a second time: it guards itself) */
 
+#define CALLER "html.c"
+#include "expect.h"
+
 #include <assert.h>
 #include <stdio.h>
 #include <stdlib.h>
@@ -11,6 +14,8 @@
 
 static_assert(sizeof(ansi_html) == 3192, "a state has 3,192 bytes");
 static_assert(offsetof(ansi_html, others) == sizeof(size_t), "nothing stands between");
+static_assert(ANSI_HTML_BOTH == 0 && ANSI_HTML_LIGHT == 1, "stylings have the numbers that are told apart below");
+static_assert(ANSI_HTML_DARK == 2 && ANSI_HTML_CLASSES == 3, "stylings have the numbers that are told apart below");
 static_assert(ANSI_HTML_LEAST_ROOM == 6550 && ANSI_HTML_END_ROOM == 7, "what one byte and an end may need");
 
 /* The types: with another one this is a warning, and warnings are errors. */
@@ -22,25 +27,6 @@ static bool (*const end)(ansi_html *, unsigned char *, size_t, size_t *) = ansi_
 enum { AFTER = 64, SIZE = 16384, STYLING = 3185 };
 
 static unsigned char room[SIZE + AFTER];
-static int failures;
-
-static void expect(bool holds, const char *what)
-{
-    if (!holds) {
-        fprintf(stderr, "html.c: it does not hold that %s\n", what);
-        failures++;
-    }
-}
-
-static bool are(const unsigned char *bytes, size_t count, unsigned char byte)
-{
-    size_t at;
-
-    for (at = 0; at < count; at++)
-        if (bytes[at] != byte)
-            return false;
-    return true;
-}
 
 /* A state, and bytes after it that no call may touch. */
 struct guarded {

@@ -736,6 +736,9 @@ PROGRAMS = [
                 (["--shown"], SHOWN_HTML_ROWS, b"", b""),
                 (["--shown=9x9", "--page", "--shown=80x24"], SHOWN_HTML_ROWS, PAGE_HEAD, PAGE_TAIL),
                 (["--shown", "--classes"], [("a class", b"\x1b[1mx\n", classed(b"bold") + b"\n")], b"", b""),
+                (["--shown", "--title=" + TITLE], SHOWN_HTML_ROWS[:1], TITLED_HEAD, PAGE_TAIL),
+                (["--light", "--shown", "--dark"], [("red", b"\x1b[31mx\n", span(b"color:#ff7b72;", b"x") + b"\n")], b"", b""),
+                (["--page", "--light", "--shown"], [("red", b"\x1b[31mx\n", span(b"color:#cf222e;", b"x") + b"\n")], LIGHT_HEAD, PAGE_TAIL),
             )
         ],
         options=[

@@ -1,6 +1,7 @@
 -- The words of the program.
 use Rattle.std.specs.Prelude.{ℕ, Bool, ◌||◌, nat_eq, List, [], ◌∷◌, codes, bytes_eq, if◌then◌else◌}
 use Rattle.std.specs.List.{list_any, starts_with}
+use Rattle.standard_streams.specs.Options.{has_word}
 use Rattle.ansi_html.specs.declared.scheme.Scheme.{Scheme}
 use Rattle.ansi_html.specs.declared.scheme.Scheme.TheVariants.{Light, Dark, Both}
 use Rattle.ansi_html.specs.declared.scheme.Styling.{Styling}
@@ -28,10 +29,6 @@ scheme_from scheme (word ∷ words) = scheme_from (scheme_after scheme word) wor
 
 abbrev pub scheme_of : (words : List (List ℕ)) → Scheme
 scheme_of words = scheme_from Both words
-
--- a word stands among the words
-abbrev pub has_word : (wanted : List ℕ) → (words : List (List ℕ)) → Bool
-has_word wanted words = list_any (λ word. bytes_eq word wanted) words
 
 -- classes where some word is --classes, and else declarations
 abbrev pub styling_of : Scheme → (words : List (List ℕ)) → Styling

@@ -1,12 +1,12 @@
 //! The words of the program: what its options say.
 ghost use Rattle.std.specs.Prelude.{◌≡◌, codes, map, string_bytes, unwrap_or};
 ghost use Rattle.standard_streams.specs.Options.{last_value};
-ghost use Rattle.ansi2html.specs.Words.{asks_for_page, form_of, scheme_after, scheme_of, has_word, styling_of, asks_for_stylesheet, default_title};
+ghost use Rattle.ansi2html.specs.Words.{asks_for_page, form_of, scheme_after, scheme_of, styling_of, asks_for_stylesheet, default_title};
 
 use crate::form::{Form, TITLE};
 use ansi_html::{Scheme, Styling};
 use screen_text::SHOWN;
-use standard_streams::value_of;
+use standard_streams::{has_word, value_of};
 
 /// The options: `page` is the word of earlier versions.
 pub const OPTIONS: &[&str] = &[
@@ -109,13 +109,6 @@ pub fn asks_for_stylesheet(words: &[String]) -> bool
     ensures { result ≡ asks_for_stylesheet (map string_bytes words.now) }
 {
     has_word(words, "--stylesheet")
-}
-
-/// Whether one of the words is this one.
-fn has_word(words: &[String], wanted: &str) -> bool
-    ensures { result ≡ has_word wanted.now (map string_bytes words.now) }
-{
-    words.iter().any(|word| word.as_str() == wanted)
 }
 
 /// The title of the page: the last that the words say.

@@ -1,10 +1,10 @@
 //! The words of the program: the size that its options name, and what it says of itself.
-ghost use Rattle.std.specs.Prelude.{◌≡◌, IfSome, map, string_bytes};
+ghost use Rattle.std.specs.Prelude.{◌≡◌, IfSome, map, option_copied, string_bytes};
 ghost use Rattle.ansi2screen.specs.Words.{asks_to_draw};
-ghost use Rattle.ansi_screen.specs.Size.{IsTaken};
+ghost use Rattle.ansi_screen.specs.Size.{IsNamed, IsTaken};
 
 use ansi_screen::Size;
-use standard_streams::value_of;
+use standard_streams::has_word;
 
 /// The options.
 pub const OPTIONS: &[&str] = &[SIZE, DRAW];
@@ -35,12 +35,13 @@ Example, the last screen of a recording:
 pub fn asks_to_draw(words: &[String]) -> bool
     ensures { result ≡ asks_to_draw (map string_bytes words.now) }
 {
-    value_of(words, DRAW).is_some()
+    has_word(words, DRAW)
 }
 
 /// The size that this text says; with no text 80 columns and 24 rows. `None` for a text that says none.
 pub fn named_size(text: Option<&str>) -> Option<Size>
-    ensures { IfSome result IsTaken }
+    ensures named { IsNamed (option_copied text.entry) result }
+    ensures taken { IfSome result IsTaken }
 {
     match text {
         None => Some(Size::of_a_terminal()),

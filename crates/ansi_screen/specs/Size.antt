@@ -1,5 +1,5 @@
 -- The size of a screen, and the texts that say one.
-use Rattle.std.specs.Prelude.{◌≡◌, ℕ, ◌≤◌, ◌==◌, List}
+use Rattle.std.specs.Prelude.{◌≡◌, ℕ, ◌≤◌, ◌==◌, List, Option, None, Some, MatchOption}
 use Rattle.std.specs.List.{before_first, after_first}
 use Rattle.std.specs.Str.Parse.{IsNumeral, digits_value}
 use Rattle.ansi_screen.specs.declared.size.Size.{Size}
@@ -10,6 +10,10 @@ abbrev pub IsTaken : Size → Type 0
 IsTaken size =
     (2 ≤ size.columns) × (size.columns ≤ most_columns) × (1 ≤ size.rows) × (size.rows ≤ most_rows)
 
+-- 80 columns and 24 rows: those of the VT100, and of terminals that are told nothing else
+abbrev pub a_terminal : Size
+a_terminal = record { columns = 80; rows = 24 }
+
 -- a number in decimal: digits alone
 abbrev pub IsNumber : List ℕ → ℕ → Type 0
 IsNumber text n = IsNumeral 10 text × (n ≡ digits_value 10 text)
@@ -18,3 +22,13 @@ IsNumber text n = IsNumeral 10 text × (n ≡ digits_value 10 text)
 abbrev pub Says : List ℕ → Size → Type 0
 Says text size =
     IsNumber (before_first (λ b. b == 0x78) text) size.columns × IsNumber (after_first (λ b. b == 0x78) text) size.rows
+
+-- what is made of a text: the size that it says, where a screen can have it, and else nothing
+abbrev pub IsSaid : List ℕ → Option Size → Type 0
+IsSaid text said =
+    MatchOption said ((size : Size) → Says text size → ¬ (IsTaken size)) (λ size. Says text size × IsTaken size)
+
+-- the size of a screen where a text may name it: with no text a terminal's
+abbrev pub IsNamed : Option (List ℕ) → Option Size → Type 0
+IsNamed None named = named ≡ Some a_terminal
+IsNamed (Some text) named = IsSaid text named

@@ -1,7 +1,6 @@
 //! The size of a screen, and how a text says it.
-ghost use Rattle.std.specs.Prelude.{ℕ, ◌^◌, ◌<◌, MatchOption};
-ghost use Rattle.ansi_screen.specs.declared.size.Size.{Size as ASize};
-ghost use Rattle.ansi_screen.specs.Size.{IsTaken, IsNumber, Says};
+ghost use Rattle.std.specs.Prelude.{◌≡◌, ℕ, ◌^◌, ◌<◌, MatchOption};
+ghost use Rattle.ansi_screen.specs.Size.{a_terminal, IsNumber, IsSaid};
 
 use crate::screen::{MAX_COLUMNS, MAX_ROWS, MIN_COLUMNS, MIN_ROWS};
 
@@ -15,7 +14,7 @@ pub struct Size {
 impl Size {
     /// 80 columns and 24 rows, as of the VT100 and of terminals that are told nothing else.
     pub fn of_a_terminal() -> Size
-        ensures { IsTaken result }
+        ensures { result ≡ a_terminal }
     {
         Size {
             columns: 80,
@@ -26,8 +25,7 @@ impl Size {
     /// The size that a text says, COLUMNSxROWS, of 2 to 1,000 columns and 1 to 1,000 rows, in decimal.
     /// `None` for a text that says none.
     pub fn parse(text: &str) -> Option<Size>
-        ensures { MatchOption result ((size : ASize) → Says text.now size → ¬ (IsTaken size))
-            (λ size. Says text.now size × IsTaken size) }
+        ensures { IsSaid text.now result }
     {
         let (columns, rows) = text.split_once('x')?;
         let size = Size {

@@ -3,4 +3,5 @@ pub mod Lines
 pub mod Shown
 pub mod Writer
 pub mod Laws
+pub mod Options
 pub mod ShowingProof

@@ -1,6 +1,7 @@
 //! The option by which a program writes what a screen showed.
-ghost use Rattle.std.specs.Prelude.{IfOk, IfSome};
+ghost use Rattle.std.specs.Prelude.{IfOk, IfSome, option_copied};
 ghost use Rattle.ansi_screen.specs.Size.{IsTaken};
+ghost use Rattle.screen_text.specs.Options.{IsAsked};
 
 use ansi_screen::Size;
 
@@ -14,14 +15,18 @@ pub struct NoSize;
 /// The size of the screen that is asked for, by the text behind the option: with none no screen is, and with an
 /// empty one it is of 80 columns and 24 rows.
 pub fn screen_size(behind: Option<&str>) -> Result<Option<Size>, NoSize>
-    ensures { IfOk result (λ size. IfSome size IsTaken) }
+    ensures asked { IsAsked (option_copied behind.entry) result }
+    ensures taken { IfOk result (λ size. IfSome size IsTaken) }
 {
     match behind {
         None => Ok(None),
         Some("") => Ok(Some(Size::of_a_terminal())),
-        Some(text) => match text.strip_prefix("=").and_then(Size::parse) {
+        Some(text) => match text.strip_prefix("=") {
             None => Err(NoSize),
-            size => Ok(size),
+            Some(text) => match Size::parse(text) {
+                None => Err(NoSize),
+                size => Ok(size),
+            },
         },
     }
 }

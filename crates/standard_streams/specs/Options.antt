@@ -24,6 +24,10 @@ is_option option word =
 abbrev pub is_one_of : (options : List (List ℕ)) → (word : List ℕ) → Bool
 is_one_of options word = list_any (λ option. is_option option word) options
 
+-- a word stands among the words
+abbrev pub has_word : (wanted : List ℕ) → (words : List (List ℕ)) → Bool
+has_word wanted words = list_any (λ word. bytes_eq word wanted) words
+
 -- What a word asks for that is no option of the program's own.
 abbrev pub Means : List ℕ → Request → Type 0
 Means word Help = word ≡ codes "--help"

@@ -10,7 +10,7 @@ ghost use Rattle.standard_streams.specs.Words.{message_of, is_broken_pipe, answe
 mod options;
 
 use anstyle_parse::io::{Buffer, Fault, FromRead, FromWrite, Sink};
-pub use options::{Request, VERSION, answered, asked_of, given_words, value_of};
+pub use options::{Request, VERSION, answered, asked_of, given_words, has_word, value_of};
 use std::io;
 use std::io::{ErrorKind, IsTerminal, Read, Write};
 use std::process::ExitCode;

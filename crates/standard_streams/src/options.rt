@@ -1,7 +1,7 @@
 //! The words that a program is given: its own options, and those that every program has.
 ghost use Rattle.std.specs.Prelude.{◌≡◌, map, string_bytes, option_copied};
 ghost use Rattle.std.specs.Process.{exit_status};
-ghost use Rattle.standard_streams.specs.Options.{texts, is_option, is_one_of, Asks, Means, AnswersWith, after_option, last_value};
+ghost use Rattle.standard_streams.specs.Options.{texts, is_option, is_one_of, has_word, Asks, Means, AnswersWith, after_option, last_value};
 
 use crate::{MISUSED, message, output_failed};
 use anstyle_parse::io::Fault;
@@ -69,6 +69,13 @@ fn is_option(word: &str, option: &str) -> bool
     } else {
         word == option
     }
+}
+
+/// Whether one of the words is this one.
+pub fn has_word(words: &[String], wanted: &str) -> bool
+    ensures { result ≡ has_word wanted.now (map string_bytes words.now) }
+{
+    words.iter().any(|word| word.as_str() == wanted)
 }
 
 /// What follows `option` in the last of the words that begin with it, where one does.

@@ -86,6 +86,7 @@ use standard_streams::ended;
 use standard_streams::ended_with_reason;
 use standard_streams::failed;
 use standard_streams::given_words;
+use standard_streams::has_word;
 use standard_streams::message;
 use standard_streams::misused;
 use standard_streams::value_of;
@@ -417,7 +418,12 @@ pub fn names_of_standard_streams<W: Write + IsTerminal + Drop>(
 /// The words that programs share, which no test is given.
 pub fn names_of_options(rt: &(impl Env + AllocGlobal + Print + Eprint)) -> io::Result<ExitCode> {
     let words = given_words(rt)?;
-    let value = value_of(words.as_slice(), "--title=").unwrap_or(VERSION);
+    let title = if has_word(words.as_slice(), "--title=") {
+        ""
+    } else {
+        VERSION
+    };
+    let value = value_of(words.as_slice(), "--title=").unwrap_or(title);
     let request = asked_of(words.as_slice(), &["--title="]).unwrap_or(Request::Unknown(value));
     Ok(answered(rt, "", "", request))
 }

@@ -4,7 +4,7 @@ use Rattle.std.specs.Prelude.{bytes_eq}
 use Rattle.std.proofs.lemmas.Iterator.{YieldsList-from_slice}
 use Rattle.std.proofs.lemmas.Iterator.Search.{any_from_yields_List}
 use Rattle.standard_streams.proofs.WordLemmas.{list_any-map}
-use Rattle.ansi2html.proofs.words.has_word.Goals as goal
+use Rattle.standard_streams.proofs.options.has_word.Goals as goal
 
 pub returns : goal.returns
 returns c =

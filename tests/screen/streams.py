@@ -1,5 +1,8 @@
-"""Generated streams, for each of the terminals that tests/screen/compare.py asks.
+"""Generated streams: for tests/screen_twin, and for each of the terminals that tests/screen/compare.py and
+redrawn.py ask.
 
+    mixed(draw)                     text, controls and sequences of each kind
+    varied(draw, codes)             the same with more styles, of these codes, margins and saved places
     tmux(draw, width, height)       operations on which tmux agrees, of those of tests/screen/twin.py
     xterm(draw, width, height)      the same for xterm, in whatever state they come to
     libvterm(draw, width, height)   every operation, but where vterm_differences.py has a row for libvterm
@@ -10,6 +13,9 @@
 from string import ascii_lowercase
 
 from vterm_differences import agreed
+
+# What selects styles, as it stands before the m.
+STYLES = ["0", "1", "31", "44", "38;5;200", "48:2::1:2:3", "4:3", "7;105", "21;53", "3;9", "2;5;8", ""]
 
 
 def tmux_piece(draw, width, height):
@@ -101,3 +107,42 @@ def libvterm(draw, width, height):
     text = "".join(every_piece(draw, width, height) for _ in range(draw.randint(1, 12)))
     last = draw.choice(["", "\x1b[4l\x1b[?7h"]) + "+-"
     return agreed(some_screen(draw, width, height) + text + last, width, height)
+
+
+def number(draw):
+    return draw.choice(["", str(draw.randint(0, 12)), str(draw.randint(0, 12)), "65535"])
+
+
+def mixed_piece(draw):
+    """A piece of a stream: text, a control, or a sequence."""
+    kind = draw.random()
+    if kind < 0.35:
+        words = ["a", "b", "xyz", "l_q", "\u0301\u0302\u0303", "e\u0301", "漢", "字", " ", "\u0301", "\xad", "한", "\u200d", "ﾊ", "😀"]
+        return "".join(draw.choice(words) for _ in range(draw.randint(1, 6)))
+    if kind < 0.5:
+        return draw.choice(["\r", "\n", "\b", "\t", "\r\n", "\x0b", "\x0c", "\x07", "\x0e", "\x0f"])
+    if kind < 0.78:
+        fields = number(draw) + draw.choice(["", ";" + number(draw)])
+        return "\x1b[%s%s" % (fields, draw.choice("@ABCDEFGHIJKLMPSTXZ`abbdfgrHHHrn"))
+    if kind < 0.86:
+        modes = ["?6", "?7", "?25", "?1049", "4", "?6;7", "4;5", "?4", "7"]
+        return "\x1b[%s%s" % (draw.choice(modes), draw.choice("hl"))
+    if kind < 0.94:
+        return "\x1b" + draw.choice([*"778DEHM78DEHMc=", "(0", "(B", ")0", ")B", "(0", "*0", "(A"])
+    return draw.choice(["\x1b[31m", "\x1b[0;44m", "\x1b[1m", "\x1b[4;31m", "\x1b[m", "\x1b]0;t\x07", "\x1b[3;4:2H", "\x1b[?5J", "\x1b[2$X", "\x1b[!p", "\x7f"])
+
+
+def mixed(draw):
+    return "".join(mixed_piece(draw) for _ in range(draw.randint(3, 40)))
+
+
+def varied(draw, codes=STYLES):
+    """A stream with more styles, margins and places that are saved, on either screen."""
+    places = ["\x1b7", "\x1b[2J\x1b8", "\x1b7\x1b[K\x1b8", "\x1b7\x1b[?6h", "漢\x1b7\b\x1b[X\x1b8\u0301"]
+    pieces = []
+    for _ in range(draw.randint(1, 25)):
+        margins = "\x1b[%d;%dr" % (draw.randint(1, 4), draw.randint(2, 8))
+        full = draw.choice("x漢") * draw.randint(1, 20)
+        style = "\x1b[%sm" % draw.choice(codes)
+        pieces += [mixed_piece(draw), draw.choice([style, style, margins, full + draw.choice(places), "\x1b[?1049h", ""])]
+    return "".join(pieces)

@@ -252,12 +252,12 @@ good-shown c d good s =
     (good-put (columns c) c (wrapped (columns c) d) good (good-wrapped (columns c) d s))
 
 -- the line drawing set has such characters
-at-good : (characters : List ℕ) (i : ℕ) → AllByRecursion IsGood characters → i < length characters → IsGood (slice_index characters i)
+pub at-good : (characters : List ℕ) (i : ℕ) → AllByRecursion IsGood characters → i < length characters → IsGood (slice_index characters i)
 at-good [] i are inside = absurd (omega arith)
 at-good (c ∷ characters) zero are inside = are.0
 at-good (c ∷ characters) (suc i) are inside = at-good characters i are.1 (omega arith)
 
-drawing-good : AllByRecursion IsGood line_drawing
+pub drawing-good : AllByRecursion IsGood line_drawing
 unfolding is_character is_shown is_within
 drawing-good = ((refl, refl), ((refl, refl), ((refl, refl), ((refl, refl), ((refl, refl), ((refl, refl), ((refl, refl), ((refl, refl), ((refl, refl), ((refl, refl), ((refl, refl), ((refl, refl), ((refl, refl), ((refl, refl), ((refl, refl), ((refl, refl), ((refl, refl), ((refl, refl), ((refl, refl), ((refl, refl), ((refl, refl), ((refl, refl), ((refl, refl), ((refl, refl), ((refl, refl), ((refl, refl), ((refl, refl), ((refl, refl), ((refl, refl), ((refl, refl), ((refl, refl), ((refl, refl), tt))))))))))))))))))))))))))))))))
 

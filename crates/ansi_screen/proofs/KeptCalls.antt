@@ -88,7 +88,7 @@ kept-printed c d s =
     let character : ℕ = if draws d.cursor.charsets then drawn c else c in
     kept-if (is_shown c) (shown character d) d (λ is. kept-shown character d s) (λ none. s)
 
-kept-again : (c : ℕ) (d : Display) → IsScreen d → IsScreen (printed_again c d)
+pub kept-again : (c : ℕ) (d : Display) → IsScreen d → IsScreen (printed_again c d)
 unfolding printed_again
 kept-again c d s = kept-if (nat_le (d.cursor.column + columns c) d.width) (printed c d) d (λ fits. kept-printed c d s) (λ full. s)
 

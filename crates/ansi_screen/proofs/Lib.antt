@@ -15,3 +15,6 @@ pub mod PlainLemmas
 pub mod RowLemmas
 pub mod CharacterLemmas
 pub mod SizeLemmas
+pub mod ColorLemmas
+pub mod ContentLemmas
+pub mod ContentCalls

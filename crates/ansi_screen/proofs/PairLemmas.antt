@@ -1,6 +1,6 @@
 -- Halves of wide characters stand in pairs, whatever is done to cells.
 use Rattle.std.proofs.Common.{◌≡◌, ℕ, zero, suc, ◌+◌, ◌-◌, ◌*◌, ◌<◌, ◌≤◌, Bool, true, false, ◌&&◌, List, [], ◌∷◌, ◌++◌, length, get_or, take, drop, set, refl, ap, sym, ◌∙◌, subst, arith}
-use Rattle.std.specs.Prelude.{min, replicate, nat_lt}
+use Rattle.std.specs.Prelude.{min, replicate, nat_lt, Option, None, Some}
 use Rattle.std.proofs.lemmas.List.{get_or-drop, length-set, length-take-le, length-replicate, length-drop, length-append, get_or_append_left, get_or-append_right, get_or-take}
 use Rattle.std.proofs.lemmas.Bool.{and_parts}
 use Rattle.std.proofs.Math.Nat.{mul-le-mul_right, suc-mul}
@@ -10,10 +10,11 @@ use Rattle.ansi_screen.specs.declared.cell.Cell.{Cell}
 use Rattle.ansi_screen.specs.declared.cell.Part.{Part}
 use Rattle.ansi_screen.specs.declared.cell.Part.TheVariants.{Empty, Whole, Left, Right}
 use Rattle.ansi_screen.specs.Cells.{blank, emptied, is_right, cell_at, cut, within, change, erased, moved_back, moved_on}
-use Rattle.ansi_screen.specs.Reachable.{is_left, ArePaired, IsWhole}
+use Rattle.ansi_style.specs.declared.style.Style.{Style}
+use Rattle.ansi_screen.specs.Reachable.{is_left, left_style, right_style, ArePaired, IsWhole}
 
 -- a part is not both
-right-not-left : (part : Part) → is_right part ≡ true → is_left part ≡ false
+pub right-not-left : (part : Part) → is_right part ≡ true → is_left part ≡ false
 right-not-left Empty is = cc is
 right-not-left Whole is = cc is
 right-not-left Left is = cc is
@@ -25,32 +26,47 @@ left-not-right Whole is = cc is
 left-not-right Left is = refl
 left-not-right Right is = cc is
 
+-- the styles of halves
+pub right-none : (x : Cell) → is_right x.part ≡ false → right_style x ≡ None
+right-none x free = rw free refl
+
+pub left-none : (x : Cell) → is_left x.part ≡ false → left_style x ≡ None
+left-none x free = rw free refl
+
+none-right_at : (x : Cell) (t : Bool) → is_right x.part ≡ t → right_style x ≡ None → is_right x.part ≡ false
+none-right_at x true is none = let some : right_style x ≡ Some x.style = rw is refl in cc
+none-right_at x false is none = is
+
+pub none-right : (x : Cell) → right_style x ≡ None → is_right x.part ≡ false
+none-right x none = none-right_at x _ refl none
+
 -- lists of cells, put together and taken apart between characters
-pub paired-append : (behind : Bool) (xs ys : List Cell) → ArePaired behind xs → ArePaired false ys → ArePaired behind (xs ++ ys)
+pub paired-append : (behind : Option Style) (xs ys : List Cell) → ArePaired behind xs → ArePaired None ys → ArePaired behind (xs ++ ys)
 paired-append behind [] ys are others = subst (λ b. ArePaired b ys) (sym are) others
-paired-append behind (x ∷ xs) ys are others = (are.0, paired-append (is_left x.part) xs ys are.1 others)
+paired-append behind (x ∷ xs) ys are others = (are.0, paired-append (left_style x) xs ys are.1 others)
 
-pub paired-take : (behind : Bool) (k : ℕ) (xs : List Cell) → ArePaired behind xs → is_right (cell_at k xs).part ≡ false → ArePaired behind (take k xs)
+pub paired-take : (behind : Option Style) (k : ℕ) (xs : List Cell) → ArePaired behind xs → is_right (cell_at k xs).part ≡ false → ArePaired behind (take k xs)
 paired-take behind zero [] are free = are
-paired-take behind zero (x ∷ xs) are free = sym are.0 ∙ free
+paired-take behind zero (x ∷ xs) are free = sym are.0 ∙ right-none x free
 paired-take behind (suc k) [] are free = are
-paired-take behind (suc k) (x ∷ xs) are free = (are.0, paired-take (is_left x.part) k xs are.1 free)
+paired-take behind (suc k) (x ∷ xs) are free = (are.0, paired-take (left_style x) k xs are.1 free)
 
-pub paired-drop : (behind : Bool) (k : ℕ) (xs : List Cell) → ArePaired behind xs → is_right (cell_at k xs).part ≡ false → ArePaired false (drop k xs)
+pub paired-drop : (behind : Option Style) (k : ℕ) (xs : List Cell) → ArePaired behind xs → is_right (cell_at k xs).part ≡ false → ArePaired None (drop k xs)
 paired-drop behind zero [] are free = refl
-paired-drop behind zero (x ∷ xs) are free = (free, are.1)
+paired-drop behind zero (x ∷ xs) are free = (right-none x free, are.1)
 paired-drop behind (suc k) [] are free = refl
-paired-drop behind (suc k) (x ∷ xs) are free = paired-drop (is_left x.part) k xs are.1 free
+paired-drop behind (suc k) (x ∷ xs) are free = paired-drop (left_style x) k xs are.1 free
 
 -- cells that are whole
-pub paired-replicate : (n : ℕ) (x : Cell) → is_right x.part ≡ false → is_left x.part ≡ false → ArePaired false (replicate n x)
+pub paired-replicate : (n : ℕ) (x : Cell) → is_right x.part ≡ false → is_left x.part ≡ false → ArePaired None (replicate n x)
 paired-replicate zero x right left = refl
-paired-replicate (suc n) x right left = (right, subst (λ b. ArePaired b (replicate n x)) (sym left) (paired-replicate n x right left))
+paired-replicate (suc n) x right left =
+    (right-none x right, subst (λ b. ArePaired b (replicate n x)) (sym (left-none x left)) (paired-replicate n x right left))
 
 -- the first of paired cells is no right half
-pub paired-first : (xs : List Cell) → ArePaired false xs → is_right (cell_at 0 xs).part ≡ false
+pub paired-first : (xs : List Cell) → ArePaired None xs → is_right (cell_at 0 xs).part ≡ false
 paired-first [] are = refl
-paired-first (x ∷ xs) are = are.0
+paired-first (x ∷ xs) are = none-right x are.0
 
 -- a cell that is set to no right half
 pub right-set : (xs : List Cell) (i j : ℕ) (x : Cell) → is_right x.part ≡ false → is_right (cell_at j xs).part ≡ false → is_right (cell_at j (set xs i x)).part ≡ false
@@ -65,18 +81,26 @@ right-set_same [] i x whole = refl
 right-set_same (y ∷ xs) zero x whole = whole
 right-set_same (y ∷ xs) (suc i) x whole = right-set_same xs i x whole
 
+-- a right half stands behind a left one
+behind-left_at : (x : Cell) (style : Style) (t : Bool) → is_left x.part ≡ t → left_style x ≡ Some style → is_left x.part ≡ true
+behind-left_at x style true is some = is
+behind-left_at x style false is some = let none : left_style x ≡ None = rw is refl in cc
+
+some-right : (x : Cell) → is_right x.part ≡ true → right_style x ≡ Some x.style
+some-right x is = rw is refl
+
 -- a pair that becomes two whole cells
-paired-set : (behind : Bool) (xs : List Cell) (i : ℕ) (x y : Cell) → is_right x.part ≡ false → is_left x.part ≡ false
+paired-set : (behind : Option Style) (xs : List Cell) (i : ℕ) (x y : Cell) → is_right x.part ≡ false → is_left x.part ≡ false
     → is_right y.part ≡ false → is_left y.part ≡ false → ArePaired behind xs → is_right (cell_at (suc i) xs).part ≡ true
     → ArePaired behind (set (set xs i x) (suc i) y)
 paired-set behind [] i x y rx lx ry ly are half = cc half
 paired-set behind (a ∷ []) zero x y rx lx ry ly are half = cc half
 paired-set behind (a ∷ b ∷ xs) zero x y rx lx ry ly are half =
-    let is : is_left a.part ≡ true = sym are.1.0 ∙ half in
-    let first : false ≡ behind = sym (left-not-right a.part is) ∙ are.0 in
-    let rest : is_left b.part ≡ is_left y.part = right-not-left b.part half ∙ sym ly in
-    (rx ∙ first, (ry ∙ sym lx, subst (λ t. ArePaired t xs) rest are.1.1))
-paired-set behind (a ∷ xs) (suc i) x y rx lx ry ly are half = (are.0, paired-set (is_left a.part) xs i x y rx lx ry ly are.1 half)
+    let is : is_left a.part ≡ true = behind-left_at a b.style _ refl (sym are.1.0 ∙ some-right b half) in
+    let first : None ≡ behind = sym (right-none a (left-not-right a.part is)) ∙ are.0 in
+    let rest : left_style b ≡ left_style y = left-none b (right-not-left b.part half) ∙ sym (left-none y ly) in
+    (right-none x rx ∙ first, (right-none y ry ∙ sym (left-none x lx), subst (λ t. ArePaired t xs) rest are.1.1))
+paired-set behind (a ∷ xs) (suc i) x y rx lx ry ly are half = (are.0, paired-set (left_style a) xs i x y rx lx ry ly are.1 half)
 
 -- cutting leaves pairs, and no right half where it cuts
 cut-whole : (width place : ℕ) (cells : List Cell) (t : Bool) → (nat_lt 0 place && is_right (cell_at place cells).part) ≡ t
@@ -90,10 +114,10 @@ cut-whole width place cells true is whole =
     let half : is_right (cell_at (suc (place - 1)) cells).part ≡ true = rw next parts.1 in
     let left : Cell = emptied (cell_at (place - 1) cells) in
     let right : Cell = emptied (cell_at place cells) in
-    let pairs : ArePaired false (set (set cells (place - 1) left) (suc (place - 1)) right) =
-    paired-set false cells (place - 1) left right refl refl refl refl whole.paired half in
+    let pairs : ArePaired None (set (set cells (place - 1) left) (suc (place - 1)) right) =
+    paired-set None cells (place - 1) left right refl refl refl refl whole.paired half in
     rw is (record {
-      paired = subst (λ k. ArePaired false (set (set cells (place - 1) left) k right)) next pairs;
+      paired = subst (λ k. ArePaired None (set (set cells (place - 1) left) k right)) next pairs;
       rows_begin = λ row. right-set (set cells (place - 1) left) place (row * width) right refl
           (right-set cells (place - 1) (row * width) left refl (whole.rows_begin row));
     })
@@ -102,7 +126,7 @@ pub whole-cut : (width place : ℕ) (cells : List Cell) → IsWhole width cells 
 whole-cut width place cells whole = cut-whole width place cells _ refl whole
 
 cut-clear : (place : ℕ) (cells : List Cell) (t u : Bool) → nat_lt 0 place ≡ t → is_right (cell_at place cells).part ≡ u
-    → ArePaired false cells → is_right (cell_at place (cut place cells)).part ≡ false
+    → ArePaired None cells → is_right (cell_at place (cut place cells)).part ≡ false
 unfolding cut
 cut-clear place cells true true some half are =
     rw (some, half) (right-set_same (set cells (place - 1) (emptied (cell_at (place - 1) cells))) place (emptied (cell_at place cells)) refl)
@@ -111,7 +135,7 @@ cut-clear place cells false u none half are =
     let first : place ≡ 0 = omega (arith, ltb-false 0 place none) in
     rw none (subst (λ k. is_right (cell_at k cells).part ≡ false) (sym first) (paired-first cells are))
 
-pub clear-cut : (place : ℕ) (cells : List Cell) → ArePaired false cells → is_right (cell_at place (cut place cells)).part ≡ false
+pub clear-cut : (place : ℕ) (cells : List Cell) → ArePaired None cells → is_right (cell_at place (cut place cells)).part ≡ false
 clear-cut place cells are = cut-clear place cells _ _ refl refl are
 
 -- what is no right half stays so, wherever is cut
@@ -138,25 +162,25 @@ pub length-cut : (place : ℕ) (cells : List Cell) → length (cut place cells) 
 length-cut place cells = cut-length place cells _ refl
 
 -- the run between two places, neither of which is in a pair
-pub paired-run : (start end : ℕ) (cells : List Cell) → start ≤ end → ArePaired false cells
+pub paired-run : (start end : ℕ) (cells : List Cell) → start ≤ end → ArePaired None cells
     → is_right (cell_at start cells).part ≡ false → is_right (cell_at end cells).part ≡ false
-    → ArePaired false (take (end - start) (drop start cells))
+    → ArePaired None (take (end - start) (drop start cells))
 paired-run start end cells order are free free_end =
     let there : start + (end - start) ≡ end = omega arith in
-    paired-take false (end - start) (drop start cells) (paired-drop false start cells are free)
+    paired-take None (end - start) (drop start cells) (paired-drop None start cells are free)
     (ap (λ (x : Cell). is_right x.part) (get_or-drop start cells (end - start) (blank plain)) ∙ rw there free_end)
 
 -- a change between two such places that leaves its run in pairs leaves all of them
-pub paired-within : (start end : ℕ) (how : List Cell → List Cell) (cells : List Cell) → start ≤ end → ArePaired false cells
+pub paired-within : (start end : ℕ) (how : List Cell → List Cell) (cells : List Cell) → start ≤ end → ArePaired None cells
     → is_right (cell_at start cells).part ≡ false → is_right (cell_at end cells).part ≡ false
-    → ArePaired false (how (take (end - start) (drop start cells))) → ArePaired false (within start end how cells)
+    → ArePaired None (how (take (end - start) (drop start cells))) → ArePaired None (within start end how cells)
 paired-within start end how cells order are free free_end run =
     let there : start + (end - start) ≡ end = omega arith in
-    let behind : ArePaired false (drop (end - start) (drop start cells)) =
-    paired-drop false (end - start) (drop start cells) (paired-drop false start cells are free)
+    let behind : ArePaired None (drop (end - start) (drop start cells)) =
+    paired-drop None (end - start) (drop start cells) (paired-drop None start cells are free)
     (ap (λ (x : Cell). is_right x.part) (get_or-drop start cells (end - start) (blank plain)) ∙ rw there free_end) in
-    paired-append false (take start cells) _ (paired-take false start cells are free)
-    (paired-append false (how (take (end - start) (drop start cells))) _ run behind)
+    paired-append None (take start cells) _ (paired-take None start cells are free)
+    (paired-append None (how (take (end - start) (drop start cells))) _ run behind)
 
 -- a place of the changed cells: before the run, in it, or behind it
 within-place_at : (start end j : ℕ) (run : List Cell) (cells : List Cell) (t u : Bool) → nat_lt j start ≡ t → nat_lt j end ≡ u
@@ -233,7 +257,7 @@ in-row width row start end j from to reached less = in-row_at width row start en
 -- The cells of one row, from start up to end, are changed, after a cut at both.
 pub whole-change : (width row start end : ℕ) (how : List Cell → List Cell) (cells : List Cell) → row * width ≤ start → start ≤ end
     → end ≤ row * width + width → end ≤ length cells → IsWhole width cells
-    → ArePaired false (how (take (end - start) (drop start (cut start (cut end cells)))))
+    → ArePaired None (how (take (end - start) (drop start (cut start (cut end cells)))))
     → length (how (take (end - start) (drop start (cut start (cut end cells))))) ≡ end - start
     → IsWhole width (within start end how (cut start (cut end cells)))
 whole-change width row start end how cells from order to inside whole run long =
@@ -285,17 +309,17 @@ whole-erased width start end space cells order inside right left whole =
     }
 
 -- What moves in a run stays in pairs, where the run is cut between characters.
-pub paired-back : (count : ℕ) (space : Cell) (run : List Cell) → is_right space.part ≡ false → is_left space.part ≡ false → ArePaired false run
-    → is_right (cell_at (min count (length run)) run).part ≡ false → ArePaired false (moved_back count space run)
+pub paired-back : (count : ℕ) (space : Cell) (run : List Cell) → is_right space.part ≡ false → is_left space.part ≡ false → ArePaired None run
+    → is_right (cell_at (min count (length run)) run).part ≡ false → ArePaired None (moved_back count space run)
 paired-back count space run right left are free =
-    paired-append false (drop (min count (length run)) run) (replicate (min count (length run)) space)
-    (paired-drop false (min count (length run)) run are free) (paired-replicate (min count (length run)) space right left)
+    paired-append None (drop (min count (length run)) run) (replicate (min count (length run)) space)
+    (paired-drop None (min count (length run)) run are free) (paired-replicate (min count (length run)) space right left)
 
-pub paired-on : (count : ℕ) (space : Cell) (run : List Cell) → is_right space.part ≡ false → is_left space.part ≡ false → ArePaired false run
-    → is_right (cell_at (length run - min count (length run)) run).part ≡ false → ArePaired false (moved_on count space run)
+pub paired-on : (count : ℕ) (space : Cell) (run : List Cell) → is_right space.part ≡ false → is_left space.part ≡ false → ArePaired None run
+    → is_right (cell_at (length run - min count (length run)) run).part ≡ false → ArePaired None (moved_on count space run)
 paired-on count space run right left are free =
-    paired-append false (replicate (min count (length run)) space) (take (length run - min count (length run)) run)
-    (paired-replicate (min count (length run)) space right left) (paired-take false (length run - min count (length run)) run are free)
+    paired-append None (replicate (min count (length run)) space) (take (length run - min count (length run)) run)
+    (paired-replicate (min count (length run)) space right left) (paired-take None (length run - min count (length run)) run are free)
 
 pub length-back : (count : ℕ) (space : Cell) (run : List Cell) → length (moved_back count space run) ≡ length run
 length-back count space run =

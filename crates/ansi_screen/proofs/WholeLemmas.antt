@@ -1,6 +1,6 @@
 -- Edits leave the halves of wide characters in pairs, each pair in one row.
 use Rattle.std.proofs.Common.{◌≡◌, ℕ, zero, suc, ◌+◌, ◌-◌, ◌*◌, ◌<◌, ◌≤◌, Bool, true, false, List, [], ◌∷◌, length, take, drop, set, refl, ap, sym, ◌∙◌, subst, arith}
-use Rattle.std.specs.Prelude.{min, nat_lt, nat_eq, if◌then◌else◌}
+use Rattle.std.specs.Prelude.{min, nat_lt, nat_eq, Option, None, if◌then◌else◌}
 use Rattle.std.proofs.lemmas.List.{get_or-drop, get_or_past, length-set, length-replicate}
 use Rattle.std.proofs.Math.Nat.{add-mul, le_of_mul-le-mul_right}
 use borrow.Author.Tests.{ltb-true, ltb-false, eqb-true, eqb-false}
@@ -9,7 +9,7 @@ use Rattle.ansi_style.specs.declared.style.Style.{Style}
 use Rattle.ansi_screen.specs.declared.cell.Cell.{Cell}
 use Rattle.ansi_screen.specs.Cells.{blank, is_right, cell_at, cut, within, change, erased, moved_back, moved_on, deleted, inserted, with_mark, marked_before, going_on}
 use Rattle.ansi_screen.specs.Print.{glyph}
-use Rattle.ansi_screen.specs.Reachable.{is_left, ArePaired, IsWhole}
+use Rattle.ansi_screen.specs.Reachable.{is_left, left_style, right_style, ArePaired, IsWhole}
 use Rattle.ansi_screen.proofs.PairLemmas.{paired-run, paired-within, within-place, length-run, length-within, length-cut, length-change, length-back, length-on, paired-back, paired-on, right-back, right-on, clear-cut, clear-cut_other, whole-cut, whole-change}
 
 right-take : (k i : ℕ) (xs : List Cell) → is_right (cell_at i xs).part ≡ false → is_right (cell_at i (take k xs)).part ≡ false
@@ -53,7 +53,7 @@ module _ (width row start end count : ℕ) (space : Cell) (cells : List Cell)
       let both_whole : IsWhole width both = whole-cut width start (cut end first) second_whole in
       let free : is_right (cell_at place both).part ≡ false =
       clear-cut_other start place (cut end first) (clear-cut_other end place first (clear-cut place cells whole.paired)) in
-      let run_paired : ArePaired false run =
+      let run_paired : ArePaired None run =
       paired-run start end both order both_whole.paired (clear-cut start (cut end first) second_whole.paired)
       (clear-cut_other start end (cut end first) (clear-cut end first first_whole.paired)) in
       let free_run : is_right (cell_at (min count (length run)) run).part ≡ false = rw long (right-run start end (min count (end - start)) both free) in
@@ -86,7 +86,7 @@ module _ (width row start end count : ℕ) (space : Cell) (cells : List Cell)
       let both_whole : IsWhole width both = whole-cut width start (cut end first) second_whole in
       let free : is_right (cell_at place both).part ≡ false =
       clear-cut_other start place (cut end first) (clear-cut_other end place first (clear-cut place cells whole.paired)) in
-      let run_paired : ArePaired false run =
+      let run_paired : ArePaired None run =
       paired-run start end both order both_whole.paired (clear-cut start (cut end first) second_whole.paired)
       (clear-cut_other start end (cut end first) (clear-cut end first first_whole.paired)) in
       let there : start + (end - start - min count (end - start)) ≡ place = omega arith in
@@ -118,7 +118,7 @@ module _ (width first last count : ℕ) (space : Cell) (cells : List Cell)
       let run : List Cell = take (end - start) (drop start cells) in
       let long : length run ≡ end - start = length-run start end cells inside in
       let there : (first + count) * width ≡ start + count * width = add-mul first count width in
-      let run_paired : ArePaired false run = paired-run start end cells order whole.paired (whole.rows_begin first) (whole.rows_begin last) in
+      let run_paired : ArePaired None run = paired-run start end cells order whole.paired (whole.rows_begin first) (whole.rows_begin last) in
       let free : is_right (cell_at (min (count * width) (length run)) run).part ≡ false =
       right-min (count * width) run _ refl (right-run start end (count * width) cells (rw (← there) (whole.rows_begin (first + count)))) in
       record {
@@ -176,7 +176,7 @@ module _ (width first last count : ℕ) (space : Cell) (cells : List Cell)
       let end : ℕ = last * width in
       let run : List Cell = take (end - start) (drop start cells) in
       let long : length run ≡ end - start = length-run start end cells inside in
-      let run_paired : ArePaired false run = paired-run start end cells order whole.paired (whole.rows_begin first) (whole.rows_begin last) in
+      let run_paired : ArePaired None run = paired-run start end cells order whole.paired (whole.rows_begin first) (whole.rows_begin last) in
       let free : is_right (cell_at (length run - min (count * width) (length run)) run).part ≡ false = rw long (on-free whole _ refl) in
       record {
         paired = paired-within start end (moved_on (count * width) space) cells order whole.paired (whole.rows_begin first) (whole.rows_begin last)
@@ -193,7 +193,7 @@ module _ (width first last count : ℕ) (space : Cell) (cells : List Cell)
       }
 
 -- a character that is put
-paired-glyph : (n c : ℕ) (style : Style) (t : Bool) → nat_eq n 2 ≡ t → ArePaired false (glyph n c style)
+paired-glyph : (n c : ℕ) (style : Style) (t : Bool) → nat_eq n 2 ≡ t → ArePaired None (glyph n c style)
 paired-glyph n c style true is = rw is (refl, (refl, refl))
 paired-glyph n c style false is = rw is (refl, refl)
 
@@ -218,12 +218,12 @@ length-put start n c style cells some few inside =
     let long : start + n - start ≡ n = omega arith in
     length-change start (start + n) (λ run. glyph n c style) cells (omega arith) inside (length-glyph n c style _ refl some few ∙ sym long)
 
--- a cell that gets a mark stays the part that it was
-paired-same : (behind : Bool) (xs : List Cell) (i : ℕ) (x : Cell) → x.part ≡ (cell_at i xs).part → ArePaired behind xs → ArePaired behind (set xs i x)
-paired-same behind [] i x same are = are
-paired-same behind (y ∷ xs) zero x same are =
-    (ap is_right same ∙ are.0, subst (λ t. ArePaired t xs) (sym (ap is_left same)) are.1)
-paired-same behind (y ∷ xs) (suc i) x same are = (are.0, paired-same (is_left y.part) xs i x same are.1)
+-- a cell that gets a mark stays the half that it was, in its style
+paired-same : (behind : Option Style) (xs : List Cell) (i : ℕ) (x : Cell) → right_style x ≡ right_style (cell_at i xs) → left_style x ≡ left_style (cell_at i xs)
+    → ArePaired behind xs → ArePaired behind (set xs i x)
+paired-same behind [] i x right left are = are
+paired-same behind (y ∷ xs) zero x right left are = (right ∙ are.0, subst (λ t. ArePaired t xs) (sym left) are.1)
+paired-same behind (y ∷ xs) (suc i) x right left are = (are.0, paired-same (left_style y) xs i x right left are.1)
 
 pub right-same : (xs : List Cell) (i j : ℕ) (x : Cell) → x.part ≡ (cell_at i xs).part → is_right (cell_at j xs).part ≡ false → is_right (cell_at j (set xs i x)).part ≡ false
 right-same [] i j x same free = free
@@ -238,7 +238,7 @@ whole-marked width mark place cells whole =
     let at : ℕ = if is_right (cell_at (place - 1) cells).part then place - 2 else place - 1 in
     let x : Cell = with_mark mark (cell_at at cells) in
     record {
-      paired = paired-same false cells at x refl whole.paired;
+      paired = paired-same None cells at x refl refl whole.paired;
       rows_begin = λ row. right-same cells at (row * width) x refl (whole.rows_begin row);
     }
 
@@ -254,7 +254,7 @@ unfolding going_on
 whole-going_on width on end cells whole =
     let x : Cell = record (cell_at (end - 1) cells) { goes_on = on } in
     record {
-      paired = paired-same false cells (end - 1) x refl whole.paired;
+      paired = paired-same None cells (end - 1) x refl refl whole.paired;
       rows_begin = λ row. right-same cells (end - 1) (row * width) x refl (whole.rows_begin row);
     }
 

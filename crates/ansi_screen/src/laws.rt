@@ -3,7 +3,7 @@ ghost use Rattle.std.specs.Prelude.{◌≡◌, ◌≤◌, ◌+◌, ℕ, false, L
 ghost use Rattle.std.specs.List.{flat_map, AllByRecursion};
 ghost use Rattle.anstyle_parse.specs.Stream.Call.{Call};
 ghost use Rattle.ansi_screen.specs.Display.{most_columns, most_rows};
-ghost use Rattle.ansi_screen.specs.Reachable.{IsScreen};
+ghost use Rattle.ansi_screen.specs.Reachable.{IsScreen, HasContents};
 ghost use Rattle.ansi_screen.specs.After.{State, new_state, after, after_all, Shows};
 ghost use Rattle.ansi_screen.specs.Leaving.{ScrollsBy, leaving, before_scroll};
 ghost use Rattle.ansi_screen.specs.Edits.{rows_up};
@@ -21,8 +21,8 @@ pub fn show(screen: &mut Screen, pieces: &[&[u8]])
 }
 
 /// Each screen that a stream leads to from a new one, and each that a call leads to from such a
-/// screen, is within its sizes, has the halves of wide characters in pairs, each pair in one row,
-/// and in origin mode the cursor within the margins.
+/// screen, is within its sizes, has the halves of wide characters in pairs, each pair in one row and one
+/// style, and in origin mode the cursor within the margins.
 pub fn reachable()
     ensures new { (columns rows : ℕ)
         → 2 ≤ columns → columns ≤ most_columns → 1 ≤ rows → rows ≤ most_rows
@@ -30,6 +30,17 @@ pub fn reachable()
     ensures kept { (screen : State) (call : Call) → IsScreen screen.display → IsScreen (after call screen).display }
     ensures shown { (old new : State) (bytes : List ℕ)
         → IsScreen old.display → Shows old bytes new → IsScreen new.display }
+{}
+
+/// On each screen that a stream leads to from a new one, and each that a call leads to from such a screen, cells
+/// are such as printing and erasing leave them, colours and margins such as a sequence selects, and the screen
+/// that is hidden behind the main one is blank.
+pub fn contents()
+    ensures new { (columns rows : ℕ) → HasContents (new_state columns rows).display }
+    ensures kept { (screen : State) (call : Call) → IsScreen screen.display → HasContents screen.display
+        → HasContents (after call screen).display }
+    ensures shown { (old new : State) (bytes : List ℕ) → IsScreen old.display → HasContents old.display
+        → Shows old bytes new → HasContents new.display }
 {}
 
 /// What it shows is determined: from equal screens equal bytes lead to equal screens.

@@ -1,7 +1,7 @@
 //! What the text of a screen does not say: styles, halves, the cursor. Rows of text stand in
 //! tests/screen_twin.
 use ansi_screen::laws::{
-    determined, enclosed, plain_text, reachable, reset, rewritten, rows_leave, show,
+    contents, determined, enclosed, plain_text, reachable, reset, rewritten, rows_leave, show,
 };
 use ansi_screen::{
     Cell, Charsets, MAX_COLUMNS, MAX_ROWS, MIN_COLUMNS, MIN_ROWS, Marks, Part, Place, Screen,
@@ -131,6 +131,7 @@ fn a_screen_shows_a_stream(rt: HostRuntime) -> Result<(), Fail> {
     );
     determined();
     reachable();
+    contents();
     enclosed();
     plain_text();
     rewritten();

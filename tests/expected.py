@@ -590,6 +590,34 @@ CLASS_ROWS = [
 # What a person sees, in colours: each line has spans of its own.
 RED_TEXT = themed(BOTH, b"color", b"#cf222e", b"#ff7b72")
 ON_RED = b"color:#ffffff;background-color:#cd0000;"
+def osc8(uri):
+    return b"\x1b]8;;" + uri + b"\x07"
+
+
+def in_link(href, text, style=b""):
+    return link(href, style, text)
+
+
+HTTP_A = osc8(b"http://a")
+MANY_LINKS = b"".join(osc8(b"http://%d" % n) + b"\r%d\x1b[K" % (n % 10) + osc8(b"") for n in range(1023))
+SHOWN_LINK_ROWS = [
+    ("a link over text", osc8(b"https://a/") + b"\x1b[31mit" + osc8(b"") + b"!\n", in_link(b"https://a/", b"it", RED_TEXT) + span(RED_TEXT, b"!") + b"\n"),
+    ("two links on a row", HTTP_A + b"a" + osc8(b"mailto:b") + b"b" + osc8(b"") + b"\n", in_link(b"http://a", b"a") + in_link(b"mailto:b", b"b") + b"\n"),
+    ("a link over a line that wrapped", HTTP_A + b"a" * 99 + b"\n", in_link(b"http://a", b"a" * 99) + b"\n"),
+    ("a link that is written over in part", HTTP_A + b"abc" + osc8(b"") + b"\rx\n", b"x" + in_link(b"http://a", b"bc") + b"\n"),
+    ("a link that is erased", HTTP_A + b"abc\x1b[2D\x1b[K" + osc8(b"") + b"z\n", in_link(b"http://a", b"a") + b"z\n"),
+    ("a place passed over in a link", HTTP_A + b"a\x1b[4Gb\n", in_link(b"http://a", b"a") + b"  " + in_link(b"http://a", b"b") + b"\n"),
+    ("a link that scrolls off", HTTP_A + b"a" + osc8(b"") + b"\n" * 30 + b"z", in_link(b"http://a", b"a") + b"\n" * 30 + b"z\n"),
+    ("a link to a script", osc8(b"javascript:a") + b"a" + osc8(b"") + b"\n", b"a\n"),
+    ("a quote in a link", osc8(b"http://a\"'<") + b"a\n", in_link(b"http://a&quot;&#39;&lt;", b"a") + b"\n"),
+    ("a link behind others", HTTP_A + osc8(b"http://b") + b"b\n" + osc8(b"") + b"c\n", in_link(b"http://b", b"b") + b"\nc\n"),
+    ("a wide character and a mark in a link", HTTP_A + "漢".encode() + osc8(b"") + "\u0301".encode() + b"\n", in_link(b"http://a", "漢\u0301".encode()) + b"\n"),
+    ("a link that SGR, DECSC, DECRC and DECSTR leave", HTTP_A + b"\x1b7\x1b[m\x1b8\x1b[!pa\n", in_link(b"http://a", b"a") + b"\n"),
+    ("a link that RIS ends", HTTP_A + b"a\x1bcb\n", b"b\n"),
+    ("a link behind 1023 more", HTTP_A + b"a\n" + MANY_LINKS + b"\n", in_link(b"http://a", b"a") + b"\n" + in_link(b"http://1022", b"2") + b"\n"),
+    ("a link behind 1024 more", HTTP_A + b"a\n" + MANY_LINKS + HTTP_A + b"\n", b"a\n" + in_link(b"http://1022", b"2") + b"\n"),
+]
+
 SHOWN_HTML_ROWS = [
     ("colours that scroll off", b"\x1b[31ma\x1b[m\nb\n" * 300 + b"c", (span(RED_TEXT, b"a") + b"\nb\n") * 300 + b"c\n"),
     ("a style over lines", b"\x1b[1ma\n\nb\n", span(b"font-weight:bold;", b"a") + b"\n\n" + span(b"font-weight:bold;", b"b") + b"\n"),
@@ -603,7 +631,7 @@ SHOWN_HTML_ROWS = [
     ("a place passed over", b"\x1b[31ma\x1b[4Gb\n", span(RED_TEXT, b"a") + b"  " + span(RED_TEXT, b"b") + b"\n"),
     ("a line drawn in colour", b"\x1b(0\x1b[31mqq\x1b(B\x1b[mq\n", span(RED_TEXT, "──".encode()) + b"q\n"),
     ("marks", "\x1b[1me\u0301漢\u0301\x1b[mx\n".encode(), span(b"font-weight:bold;", "e\u0301漢\u0301".encode()) + b"x\n"),
-    ("a link, which no cell has", b"\x1b]8;;https://a/\x07\x1b[31mit\x1b]8;;\x07\n", span(RED_TEXT, b"it") + b"\n"),
+    *SHOWN_LINK_ROWS,
     ("a broken character", b"\x1b[1m\xc3(\n", span(b"font-weight:bold;", b"\xef\xbf\xbd(") + b"\n"),
     ("styles of nothing", b"\x1b[31m\x1b[41m", b""),
 ]

@@ -41,7 +41,7 @@ Input is UTF-8. No file is opened: one is given by <.
   --stylesheet            write the stylesheet of these classes, and read nothing
   --shown                 write what a terminal of 80x24 showed instead: the lines
                           that scrolled off, and what stands there at the end;
-                          it has no links
+                          of its links the last 1,024 that began are kept
   --shown=COLUMNSxROWS    the same of this size, from 2x1 to 1000x1000
   --help                  say this
   --version               say which version it is

@@ -174,7 +174,7 @@ AtMost-begin styling element short =
     (AtMost-append 6210 285 (escaped_text element.link) _ (AtMost-link element.link short)
     (AtMost-append 1 284 (codes "\"") (attribute_text styling value) (omega arith) (AtMost-attribute styling value (AtMost-element_value styling element)))))
 
-AtMost-change : (styling : Styling) (shown next : Element) → length next.link ≤ 1035 → AtMost 6537 (change styling shown next)
+pub AtMost-change : (styling : Styling) (shown next : Element) → length next.link ≤ 1035 → AtMost 6537 (change styling shown next)
 unfolding AtMost
 AtMost-change styling shown next short =
     choose (λ l. length l ≤ 6537) (are_same shown next) [] (element_end shown ++ element_begin styling next) (omega arith)

@@ -11,20 +11,20 @@ use Rattle.ansi_html.specs.Reader.{Shown, Attributes, href_of, under, attributes
 use Rattle.ansi_html.proofs.ReadLemmas.{read-html}
 use Rattle.ansi_html.proofs.SoundLemmas.{IsSound, IsSound-none, IsSound-after}
 
-AreLinks : List Shown → Type 0
+unfoldable pub AreLinks : List Shown → Type 0
 AreLinks shown = AllByRecursion IsLink (map href_of shown)
 
-AreLinks-append : (first second : List Shown) → AreLinks first → AreLinks second → AreLinks (first ++ second)
+pub AreLinks-append : (first second : List Shown) → AreLinks first → AreLinks second → AreLinks (first ++ second)
 unfolding AreLinks
 AreLinks-append [] second one other = other
 AreLinks-append (it ∷ first) second one other = (one.0, AreLinks-append first second one.1 other)
 
-AreLinks-under : (attributes : Attributes) (bytes : List ℕ) → IsLink attributes.href → AreLinks (map (under attributes) bytes)
+pub AreLinks-under : (attributes : Attributes) (bytes : List ℕ) → IsLink attributes.href → AreLinks (map (under attributes) bytes)
 unfolding AreLinks
 AreLinks-under attributes [] is = tt
 AreLinks-under attributes (b ∷ bytes) is = (is, AreLinks-under attributes bytes is)
 
-href-by : (styling : Styling) (value link : List ℕ) → link ≡ (attributes_by styling value link).href
+pub href-by : (styling : Styling) (value link : List ℕ) → link ≡ (attributes_by styling value link).href
 href-by (Inline scheme) value link = refl
 href-by Classes value link = refl
 

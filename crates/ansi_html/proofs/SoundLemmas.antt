@@ -22,7 +22,7 @@ pub record IsSound (link : List ℕ) : Type 0 where
 pub IsSound-none : IsSound []
 IsSound-none = record { is_link = inl refl; short = omega arith }
 
-IsSound-of : (parts : List (List ℕ)) → IsSound (link_of parts)
+pub IsSound-of : (parts : List (List ℕ)) → IsSound (link_of parts)
 unfolding link_of
 IsSound-of parts = by_case (is_whole parts) (is_linkable (uri_of parts)) refl refl
   where

@@ -11,18 +11,20 @@ use Rattle.ansi_style.specs.Style.{plain}
 use Rattle.ansi_style.proofs.EqualityLemmas.{are_equal-refl}
 use Rattle.ansi_html.specs.declared.scheme.Styling.{Styling}
 use Rattle.ansi_html.specs.Grammar.{IsFragment, end}
-use Rattle.ansi_html.specs.Html.{escaped_text, span_begin, Element, element, no_element, are_same, change, text_html, element_end}
-use Rattle.ansi_html.specs.Reader.{Attributes, no_attributes, attributes_of, byte_of, in_text, Seen, text, seen_from, seen, read_of, read, drawn_of, drawn}
+use Rattle.ansi_html.specs.Html.{escaped_text, Element, no_element, element_value, change, text_html, element_end}
+use Rattle.ansi_html.specs.Reader.{Attributes, href_of, no_attributes, attributes_of, byte_of, in_text, Seen, text, seen_from, seen, read_of, read, drawn_of, drawn}
 use Rattle.ansi_html.specs.Styled.{Styled, element_of, before, behind, styled_html, shown_after, all_html, shown_of, all_shown, bytes_of, all_bytes}
 use Rattle.ansi_html.proofs.ColorLemmas.{choose}
 use Rattle.ansi_html.proofs.HtmlLemmas.{false-from_not}
+use Rattle.ansi_html.proofs.ShownLemmas.{AreLinks, AreLinks-append, AreLinks-under, href-by}
 use Rattle.ansi_html.proofs.SoundLemmas.{IsSound, IsSound-none, AreSound, either}
 use Rattle.ansi_html.proofs.NewlineLemmas.{is_not_return, HasNoReturn, HasNoReturn-append, HasNoReturn-end, HasNoReturn-text, normalized-same}
 use Rattle.ansi_html.proofs.ReadLemmas.{read-text, seen_text, seen-element_end, seen-text, bytes-under, map-append_bytes, attributes-plain}
 use Rattle.ansi_html.proofs.LawfulText.{AreTextual}
 use Rattle.ansi_html.proofs.GrammarLemmas.{IsInside, IsFragment-plain, IsInside-end, IsInside-text_html}
 use Rattle.ansi_html.proofs.TextLemmas.{IsUtf8-end, IsUtf8-text_html}
-use Rattle.ansi_html.proofs.LengthLemmas.{AtMost, AtMost-append, AtMost-end, AtMost-span_begin, length-escaped_text}
+use Rattle.ansi_html.specs.Links.{IsLink}
+use Rattle.ansi_html.proofs.LengthLemmas.{AtMost, AtMost-end, AtMost-change, length-escaped_text}
 
 -- texts, one after another
 pub styled_html-append : (styling : Styling) (shown : Element) (texts more : List Styled)
@@ -48,6 +50,10 @@ seen_text-styled : (styling : Styling) (shown : Element) (it : Styled) (bytes : 
     → seen_text styling (before shown it) false bytes ≡ map (text (attributes_of styling (element_of it))) bytes
 seen_text-styled styling shown it [] = refl
 seen_text-styled styling shown it (b ∷ bytes) = refl
+
+-- texts whose links may stand in the HTML
+abbrev pub HaveLinks : List Styled → Type 0
+HaveLinks texts = AllByRecursion (λ (it : Styled). IsSound it.link) texts
 
 module _ (styling : Styling) where
   HasNoReturn-styled : (shown : Element) (texts : List Styled) → HasNoReturn (styled_html styling shown texts)
@@ -112,79 +118,84 @@ module _ (styling : Styling) where
   pub drawn-styled : (texts : List Styled) → AllByRecursion (λ it. HasNoReturn (bytes_of it)) texts → drawn (all_html styling texts) ≡ all_bytes texts
   drawn-styled texts clear = ap (flat_map drawn_of) (seen-all texts) ∙ drawn-seen_styled texts clear
 
-  sound-before : (shown : Element) (it : Styled) → IsSound shown.link → AreSound (before shown it)
-  sound-before shown it sound = record { shown = sound; selected = IsSound-none }
+  sound-before : (shown : Element) (it : Styled) → IsSound shown.link → IsSound it.link → AreSound (before shown it)
+  sound-before shown it sound its = record { shown = sound; selected = its }
 
-  IsInside-styled : (shown : Element) (texts : List Styled) → IsSound shown.link → AllByRecursion (λ it. AreTextual (bytes_of it)) texts
+  IsInside-styled : (shown : Element) (texts : List Styled) → IsSound shown.link → HaveLinks texts → AllByRecursion (λ it. AreTextual (bytes_of it)) texts
       → IsInside styling (element_end shown) (styled_html styling shown texts ++ element_end (shown_after shown texts))
-  IsInside-styled shown [] sound are = subst (IsInside styling (element_end shown)) (append-nil (element_end shown)) (IsInside-end styling (element_end shown) [] end)
-  IsInside-styled shown (it ∷ texts) sound are =
+  IsInside-styled shown [] sound links are = subst (IsInside styling (element_end shown)) (append-nil (element_end shown)) (IsInside-end styling (element_end shown) [] end)
+  IsInside-styled shown (it ∷ texts) sound links are =
       let next = behind shown it in
       let close = element_end (shown_after next texts) in
       subst (IsInside styling (element_end shown)) (sym (append_assoc (text_html styling (before shown it) false it.text) (styled_html styling next texts) close))
-      (IsInside-text_html styling (before shown it) false it.text (styled_html styling next texts ++ close) (sound-before shown it sound) are.0
-      (IsInside-styled next texts (either shown (element_of it) it.text sound IsSound-none) are.1))
+      (IsInside-text_html styling (before shown it) false it.text (styled_html styling next texts ++ close) (sound-before shown it sound links.0) are.0
+      (IsInside-styled next texts (either shown (element_of it) it.text sound links.0) links.1 are.1))
 
   -- The HTML of text is a fragment,
-  pub IsFragment-styled : (texts : List Styled) → AllByRecursion (λ it. AreTextual (bytes_of it)) texts → IsFragment styling (all_html styling texts)
-  IsFragment-styled texts are =
+  pub IsFragment-styled : (texts : List Styled) → HaveLinks texts → AllByRecursion (λ it. AreTextual (bytes_of it)) texts → IsFragment styling (all_html styling texts)
+  IsFragment-styled texts links are =
       let all = all_html styling texts in
       IsFragment-plain styling all
-      (subst (λ (none : Bool). IsInside styling (if none then [] else codes "</span>") all) (are_equal-refl plain) (IsInside-styled no_element texts IsSound-none are))
+      (subst (λ (none : Bool). IsInside styling (if none then [] else codes "</span>") all) (are_equal-refl plain) (IsInside-styled no_element texts IsSound-none links are))
 
-  IsUtf8-styled_html : (shown : Element) (texts : List Styled) → IsSound shown.link → AllByRecursion (λ it. IsUtf8 (escaped_text (bytes_of it))) texts
+  IsUtf8-styled_html : (shown : Element) (texts : List Styled) → IsSound shown.link → HaveLinks texts → AllByRecursion (λ it. IsUtf8 (escaped_text (bytes_of it))) texts
       → IsUtf8 (styled_html styling shown texts)
-  IsUtf8-styled_html shown [] sound are = IsUtf8-nil
-  IsUtf8-styled_html shown (it ∷ texts) sound are =
+  IsUtf8-styled_html shown [] sound links are = IsUtf8-nil
+  IsUtf8-styled_html shown (it ∷ texts) sound links are =
       IsUtf8-append (text_html styling (before shown it) false it.text) (styled_html styling (behind shown it) texts)
-      (IsUtf8-text_html styling (before shown it) false it.text (sound-before shown it sound) are.0)
-      (IsUtf8-styled_html (behind shown it) texts (either shown (element_of it) it.text sound IsSound-none) are.1)
+      (IsUtf8-text_html styling (before shown it) false it.text (sound-before shown it sound links.0) are.0)
+      (IsUtf8-styled_html (behind shown it) texts (either shown (element_of it) it.text sound links.0) links.1 are.1)
 
   -- and UTF-8 where the texts are.
-  pub IsUtf8-styled : (texts : List Styled) → AllByRecursion (λ it. IsUtf8 (escaped_text (bytes_of it))) texts → IsUtf8 (all_html styling texts)
-  IsUtf8-styled texts are =
+  pub IsUtf8-styled : (texts : List Styled) → HaveLinks texts → AllByRecursion (λ it. IsUtf8 (escaped_text (bytes_of it))) texts → IsUtf8 (all_html styling texts)
+  IsUtf8-styled texts links are =
       let last = shown_after no_element texts in
-      IsUtf8-append (styled_html styling no_element texts) (element_end last) (IsUtf8-styled_html no_element texts IsSound-none are) (IsUtf8-end last)
+      IsUtf8-append (styled_html styling no_element texts) (element_end last) (IsUtf8-styled_html no_element texts IsSound-none links are) (IsUtf8-end last)
 
-  -- 7 for the end of a span and 289 for the beginning of one
-  length-change : (shown : Element) (style : Style) → length (change styling shown (element style [])) ≤ 296
-  unfolding AtMost
-  length-change shown style =
-      choose (λ l. length l ≤ 296) (are_same shown (element style [])) [] (element_end shown ++ span_begin styling style) (omega arith)
-      (AtMost-append 7 289 (element_end shown) (span_begin styling style) (AtMost-end shown) (AtMost-span_begin styling style))
-
-  -- and 6 for each byte
-  length-text : (shown : Element) (it : Styled) (bytes : List ℕ) → length (text_html styling (before shown it) false bytes) ≤ 302 * length bytes
-  unfolding text_html
-  length-text shown it [] = omega arith
-  length-text shown it (b ∷ bytes) =
+  -- 6537 for the change, and 6 for each byte
+  length-text : (shown : Element) (it : Styled) (bytes : List ℕ) → IsSound it.link → length (text_html styling (before shown it) false bytes) ≤ 6543 * length bytes
+  unfolding text_html AtMost
+  length-text shown it [] sound = omega arith
+  length-text shown it (b ∷ bytes) sound =
       let changed = change styling shown (element_of it) in
       omega (
         arith,
         length-append (changed ++ []) (escaped_text (b ∷ bytes)),
         length-append changed [],
-        length-change shown it.style,
+        AtMost-change styling shown (element_of it) sound.short,
         length-escaped_text (b ∷ bytes),
       )
 
-  length-styled_html : (shown : Element) (texts : List Styled) → length (styled_html styling shown texts) ≤ 302 * length (all_bytes texts)
-  length-styled_html shown [] = omega arith
-  length-styled_html shown (it ∷ texts) =
+  length-styled_html : (shown : Element) (texts : List Styled) → HaveLinks texts → length (styled_html styling shown texts) ≤ 6543 * length (all_bytes texts)
+  length-styled_html shown [] links = omega arith
+  length-styled_html shown (it ∷ texts) links =
       omega (
         arith,
         length-append (text_html styling (before shown it) false it.text) (styled_html styling (behind shown it) texts),
         length-append it.text (all_bytes texts),
-        length-text shown it it.text,
-        length-styled_html (behind shown it) texts,
+        length-text shown it it.text links.0,
+        length-styled_html (behind shown it) texts links.1,
       )
 
   -- The HTML is bounded by its text.
-  pub length-styled : (texts : List Styled) → length (all_html styling texts) ≤ 302 * length (all_bytes texts) + 7
+  pub length-styled : (texts : List Styled) → HaveLinks texts → length (all_html styling texts) ≤ 6543 * length (all_bytes texts) + 7
   unfolding AtMost
-  length-styled texts =
+  length-styled texts links =
       omega (
         arith,
         length-append (styled_html styling no_element texts) (element_end (shown_after no_element texts)),
-        length-styled_html no_element texts,
+        length-styled_html no_element texts links,
         AtMost-end (shown_after no_element texts),
       )
+
+  -- Each byte has the link of its text.
+  hrefs-shown : (texts : List Styled) → HaveLinks texts → AreLinks (all_shown styling texts)
+  unfolding AreLinks
+  hrefs-shown [] links = tt
+  hrefs-shown (it ∷ texts) links =
+      AreLinks-append (shown_of styling it) (all_shown styling texts)
+      (AreLinks-under (attributes_of styling (element_of it)) it.text (subst IsLink (href-by styling (element_value styling (element_of it)) it.link) links.0.is_link)) (hrefs-shown texts links.1)
+
+  pub links-styled : (texts : List Styled) → HaveLinks texts → AllByRecursion IsLink (map href_of (read (all_html styling texts)))
+  unfolding AreLinks
+  links-styled texts links = subst (λ l. AllByRecursion IsLink (map href_of l)) (sym (read-styled texts)) (hrefs-shown texts links)

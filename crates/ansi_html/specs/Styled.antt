@@ -1,4 +1,4 @@
--- The HTML of texts that have styles and no links, as the cells of a screen do: each in its element,
+-- The HTML of texts that have styles and links, as the cells of a screen do: each in its element,
 -- escaped. The texts have no 0D, so that no line break is wanted before one.
 use Rattle.std.specs.Prelude.{◌≡◌, ℕ, false, List, [], ◌∷◌, ◌++◌, map}
 use Rattle.std.specs.List.{flat_map}
@@ -9,19 +9,21 @@ use Rattle.ansi_style.specs.declared.style.Style.{Style}
 use Rattle.ansi_html.specs.declared.scheme.Styling.{Styling}
 use Rattle.ansi_html.specs.declared.styled.StyledWriter.{StyledWriter}
 use Rattle.ansi_html.specs.Html.{Element, element, no_element, element_end, Standing, after_text, text_html}
+use Rattle.ansi_html.specs.ShownLinks.{link_in}
 use Rattle.ansi_html.specs.Reader.{Shown, under, attributes_of}
 
--- a text, and its style
+-- a text, its style, and its link; the empty list is none
 pub record Styled : Type 0 where
   pub style : Style
+  pub link : List ℕ
   pub text : List ℕ
 
-abbrev pub styled : Style → (text : List ℕ) → Styled
-styled style text = record { style = style; text = text }
+abbrev pub styled : Style → (link text : List ℕ) → Styled
+styled style link text = record { style = style; link = link; text = text }
 
 -- the element that it stands in
 abbrev pub element_of : Styled → Element
-element_of it = element it.style []
+element_of it = element it.style it.link
 
 -- before it, behind text of an element; and the element of the last text behind it
 abbrev pub before : Element → Styled → Standing
@@ -44,7 +46,7 @@ shown_after shown (it ∷ texts) = shown_after (behind shown it) texts
 abbrev pub all_html : Styling → List Styled → List ℕ
 all_html styling texts = styled_html styling no_element texts ++ element_end (shown_after no_element texts)
 
--- what they show: each byte with what is said of its style; and the bytes alone
+-- what they show: each byte with what is said of its style, and with its link; and the bytes alone
 abbrev pub shown_of : Styling → Styled → List Shown
 shown_of styling it = map (under (attributes_of styling (element_of it))) it.text
 
@@ -65,7 +67,7 @@ abbrev pub styling_of : {W : Type 0} → StyledWriter W → Styling
 styling_of writer = writer.styling
 
 abbrev pub shown_in : {W : Type 0} → StyledWriter W → Element
-shown_in writer = element writer.shown []
+shown_in writer = element writer.shown (link_in writer.link)
 
 -- The texts are written.
 pub record WritesStyled {W : Type 0} (sink : SinkOf W)

@@ -43,6 +43,7 @@ mod styled;
 mod stylesheet;
 
 use anstyle_parse::canon::{Fault, Output, Sink, Source, write_calls_by};
+pub use link::{Link, is_link_command};
 pub use performer::HtmlWriter;
 use performer::put_escaped;
 pub use scheme::{Scheme, Styling};

@@ -118,12 +118,61 @@ impl Links {
         ensures selected { selected_link self.new ≡ link_of (map (λ part. part.now) parts.now) }
     {
         self.has_next = true;
-        self.next.clear();
-        if is_whole(parts) {
-            put_uri(&mut self.next, parts);
-            if !is_linkable(self.next.as_slice()) {
-                self.next.clear();
-            }
+        put_link(&mut self.next, parts);
+    }
+}
+
+/// A link of a stream: its URI, or none.
+#[derive(Drop)]
+pub struct Link {
+    uri: ArrayVec<u8, MAX_LINK>,
+}
+
+impl Link {
+    ghost use Rattle.ansi_html.specs.ShownLinks.{link_in};
+
+    /// No link.
+    pub fn none() -> Link
+        ensures { link_in result ≡ [] }
+    {
+        Link {
+            uri: ArrayVec::new(),
+        }
+    }
+
+    /// Its URI; empty for none.
+    pub fn uri(&self) -> &[u8]
+        ensures { result.now ≡ link_in self.now }
+    {
+        self.uri.as_slice()
+    }
+
+    /// Becomes the link that a command selects which is OSC 8: none where its URI begins with none of `https://`,
+    /// `http://` and `mailto:`, has other bytes than 21 to 7E, or was cut.
+    pub fn select(&mut self, parts: &[&[u8]])
+        ensures { link_in self.new ≡ link_of (map (λ part. part.now) parts.now) }
+    {
+        put_link(&mut self.uri, parts);
+    }
+
+    /// Becomes the same as another.
+    pub(crate) fn assign(&mut self, other: &Link)
+        ensures { link_in self.new ≡ link_in other.now }
+    {
+        self.uri.clear();
+        let _ = self.uri.try_extend_from_slice(other.uri.as_slice());
+    }
+}
+
+/// Makes a URI the one that a command selects which is OSC 8.
+fn put_link(uri: &mut ArrayVec<u8, MAX_LINK>, parts: &[&[u8]])
+    ensures { uri.new.items ≡ link_of (map (λ part. part.now) parts.now) }
+{
+    uri.clear();
+    if is_whole(parts) {
+        put_uri(uri, parts);
+        if !is_linkable(uri.as_slice()) {
+            uri.clear();
         }
     }
 }
@@ -140,7 +189,7 @@ fn kept(uri: &[u8]) -> ArrayVec<u8, MAX_LINK>
 }
 
 /// Whether a command is OSC 8.
-pub(crate) fn is_link_command(parts: &[&[u8]]) -> bool
+pub fn is_link_command(parts: &[&[u8]]) -> bool
     ensures { result ≡ is_link_command (map (λ part. part.now) parts.now) }
 {
     match parts.split_first() {

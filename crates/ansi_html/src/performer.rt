@@ -240,7 +240,12 @@ fn is_other(shown: Style, style: Style, links: &Links) -> bool
 
 /// Opens an element of the style and the link, where there is either.
 #[inline]
-fn put_begin<W: Sink>(output: &mut Output<W>, styling: Styling, style: Style, link: &[u8])
+pub(crate) fn put_begin<W: Sink>(
+    output: &mut Output<W>,
+    styling: Styling,
+    style: Style,
+    link: &[u8],
+)
     ensures { Adds W.Sink (element_begin styling (element style link.now)) output.old output.new }
 {
     if link.is_empty() {
@@ -252,7 +257,7 @@ fn put_begin<W: Sink>(output: &mut Output<W>, styling: Styling, style: Style, li
 
 /// Closes it.
 #[inline(always)]
-fn put_end<W: Sink>(output: &mut Output<W>, style: Style, link: &[u8])
+pub(crate) fn put_end<W: Sink>(output: &mut Output<W>, style: Style, link: &[u8])
     ensures { Adds W.Sink (element_end (element style link.now)) output.old output.new }
 {
     if link.is_empty() {

@@ -1,16 +1,19 @@
-//! Texts that have styles, as HTML.
-ghost use Rattle.std.specs.Prelude.{◌≡◌, [], encode_utf8};
+//! Texts that have styles and links, as HTML.
+ghost use Rattle.std.specs.Prelude.{◌≡◌, ◌++◌, [], not, encode_utf8};
 ghost use Rattle.anstyle_parse.specs.Io.Output.{Adds};
-ghost use Rattle.ansi_html.specs.Html.{element, no_element, change, element_end, escaped_text};
+ghost use Rattle.ansi_html.specs.Html.{element, no_element, are_same, change, element_begin, element_end, escaped_text};
+ghost use Rattle.ansi_html.specs.ShownLinks.{link_in};
 ghost use Rattle.ansi_html.specs.Styled.{output_of, styling_of, shown_in};
 
-use crate::performer::{put_character, put_span_begin, put_span_end};
+use crate::link::Link;
+use crate::performer::{put_begin, put_character, put_end};
 use crate::scheme::Styling;
 use ansi_style::Style;
 use anstyle_parse::canon::{Output, Sink};
 
-/// Writes texts that have styles, such as the cells of a screen, as HTML: text that is not plain stands in
-/// `<span style="…">…</span>`, one for each run of equal style; by classes the attribute is `class`.
+/// Writes texts that have styles and links, such as the cells of a screen, as HTML: text that is not plain stands
+/// in `<span style="…">…</span>`, and text of a link in `<a href="…" style="…">…</a>`, one for each run of equal
+/// style and link; by classes the attribute is `class`.
 /// `& < > " '` and a carriage return are written as character references.
 ///
 /// No memory is taken. A write that fails stops it: nothing more is written, and the fault is kept.
@@ -21,6 +24,8 @@ pub struct StyledWriter<W> {
     styling: Styling,
     /// The style of the last text; plain where there was none.
     shown: Style,
+    /// Its link.
+    link: Link,
 }
 
 impl<W: Sink> StyledWriter<W> {
@@ -34,25 +39,46 @@ impl<W: Sink> StyledWriter<W> {
             output,
             styling,
             shown: Style::default(),
+            link: Link::none(),
         }
     }
 
-    /// Text of this style follows: where it is another one than that of the last text, the span of that one is
-    /// closed and one of this style opened.
-    pub fn select(&mut self, style: Style)
+    /// Text of this style and this link follows: where it is another one than those of the last text, the element
+    /// of that one is closed and one of these opened.
+    pub fn select(&mut self, style: Style, link: &Link)
         ensures styling { styling_of self.new ≡ styling_of self.old }
-        ensures shown { shown_in self.new ≡ element style [] }
-        ensures added { Adds W.Sink (change (styling_of self.old) (shown_in self.old) (element style []))
+        ensures shown { shown_in self.new ≡ element style (link_in link.now) }
+        ensures added { Adds W.Sink (change (styling_of self.old) (shown_in self.old) (element style (link_in link.now)))
             (output_of self.old) (output_of self.new) }
     {
-        if self.shown != style {
-            put_span_end(&mut self.output, self.shown);
-            put_span_begin(&mut self.output, self.styling, style);
-            self.shown = style;
+        if self.is_other(style, link) {
+            self.change_to(style, link);
         }
     }
 
-    /// Writes a character of the style that is selected.
+    /// Whether these are others than those of the last text.
+    #[inline(always)]
+    fn is_other(&self, style: Style, link: &Link) -> bool
+        ensures { result ≡ not (are_same (shown_in self.now) (element style (link_in link.now))) }
+    {
+        self.shown != style || self.link.uri() != link.uri()
+    }
+
+    /// Closes the element of the last text, and opens one of this style and this link.
+    fn change_to(&mut self, style: Style, link: &Link)
+        ensures styling { styling_of self.new ≡ styling_of self.old }
+        ensures shown { shown_in self.new ≡ element style (link_in link.now) }
+        ensures added { Adds W.Sink
+            (element_end (shown_in self.old) ++ element_begin (styling_of self.old) (element style (link_in link.now)))
+            (output_of self.old) (output_of self.new) }
+    {
+        put_end(&mut self.output, self.shown, self.link.uri());
+        put_begin(&mut self.output, self.styling, style, link.uri());
+        self.shown = style;
+        self.link.assign(link);
+    }
+
+    /// Writes a character of the style and the link that are selected.
     pub fn put_char(&mut self, c: char)
         ensures styling { styling_of self.new ≡ styling_of self.old }
         ensures shown { shown_in self.new ≡ shown_in self.old }
@@ -77,16 +103,17 @@ impl<W: Sink> StyledWriter<W> {
         self.output.pass_on();
     }
 
-    /// Closes the last span, and hands the output back.
+    /// Closes the last element, and hands the output back.
     pub fn into_output(self) -> Output<W>
         ensures { Adds W.Sink (element_end (shown_in self)) (output_of self) result }
     {
         let StyledWriter {
             mut output,
             shown,
+            link,
             ..
         } = self;
-        put_span_end(&mut output, shown);
+        put_end(&mut output, shown, link.uri());
         output
     }
 }

@@ -139,9 +139,9 @@ good-on : (n : ℕ) (gap : Cell) → IsGoodCell gap → (run : List Cell) → Ar
 good-on n gap is run are =
     good-append (replicate (min n (length run)) gap) (take (length run - min n (length run)) run) (good-replicate (min n (length run)) gap is) (good-take (length run - min n (length run)) run are)
 
-good-glyph : (n c : ℕ) (style : Style) (t : Bool) → nat_eq n 2 ≡ t → IsGood c → AreGood (glyph n c style)
-good-glyph n c style true is good = rw is ((good, tt), ((good-space, tt), tt))
-good-glyph n c style false is good = rw is ((good, tt), tt)
+good-glyph : (n c : ℕ) (style : Style) (link : ℕ) (t : Bool) → nat_eq n 2 ≡ t → IsGood c → AreGood (glyph n c style link)
+good-glyph n c style link true is good = rw is ((good, tt), ((good-space, tt), tt))
+good-glyph n c style link false is good = rw is ((good, tt), tt)
 
 all-append : (xs ys : List (List Cell)) → AllByRecursion AreGood xs → AllByRecursion AreGood ys → AllByRecursion AreGood (xs ++ ys)
 all-append [] ys are others = others
@@ -233,7 +233,7 @@ good-room n d s = good-if d.inserts (inserted_characters n d) d (good-inserted n
 good-with_glyph : (n c : ℕ) (d : Display) → IsGood c → HasGood d → HasGood (with_glyph n c d)
 unfolding with_glyph
 good-with_glyph n c d good s =
-    (good-change (here d) (here d + n) (λ run. glyph n c d.cursor.style) d.cells (λ run are. good-glyph n c d.cursor.style _ refl good) s.0, s.1)
+    (good-change (here d) (here d + n) (λ run. glyph n c d.cursor.style d.link) d.cells (λ run are. good-glyph n c d.cursor.style d.link _ refl good) s.0, s.1)
 
 good-put : (n c : ℕ) (d : Display) → IsGood c → HasGood d → HasGood (put n c d)
 unfolding put

@@ -168,14 +168,14 @@ cells-on : (n : ℕ) (gap : Cell) → IsCell gap → (run : List Cell) → AreCe
 cells-on n gap is run are =
     cells-append (replicate (min n (length run)) gap) (take (length run - min n (length run)) run) (cells-replicate (min n (length run)) gap is) (cells-take (length run - min n (length run)) run are)
 
-cells-glyph : (n c : ℕ) (style : Style) (t : Bool) → nat_eq n 2 ≡ t → is_shown c ≡ true → columns c ≡ n → 1 ≤ n → n ≤ 2 → HasColors style → AreCells (glyph n c style)
-cells-glyph n c style true is good wide some few colored =
+cells-glyph : (n c : ℕ) (style : Style) (link : ℕ) (t : Bool) → nat_eq n 2 ≡ t → is_shown c ≡ true → columns c ≡ n → 1 ≤ n → n ≤ 2 → HasColors style → AreCells (glyph n c style link)
+cells-glyph n c style link true is good wide some few colored =
     let two : columns c ≡ 2 = wide ∙ eqb-true n 2 is in
     rw is (
       record { shown = good; fits = two; marked = tt; colored = colored },
       (record { shown = space-shown; fits = (refl, refl); marked = tt; colored = colored }, tt),
     )
-cells-glyph n c style false is good wide some few colored =
+cells-glyph n c style link false is good wide some few colored =
     let other : n ≡ 2 → ⊥ = eqb-false n 2 is in
     let one : n ≡ 1 = omega arith in
     rw is (record { shown = good; fits = wide ∙ one; marked = tt; colored = colored }, tt)
@@ -269,7 +269,7 @@ holds-room n d s = holds-if d.inserts (inserted_characters n d) d (holds-inserte
 holds-glyph : (n c : ℕ) (d : Display) → is_shown c ≡ true → columns c ≡ n → 1 ≤ n → n ≤ 2 → Holds d → Holds (with_glyph n c d)
 unfolding with_glyph
 holds-glyph n c d good wide some few s = (
-  cells-change (here d) (here d + n) (λ run. glyph n c d.cursor.style) d.cells (λ run are. cells-glyph n c d.cursor.style _ refl good wide some few s.2) s.0,
+  cells-change (here d) (here d + n) (λ run. glyph n c d.cursor.style d.link) d.cells (λ run are. cells-glyph n c d.cursor.style d.link _ refl good wide some few s.2) s.0,
   s.1,
   s.2,
   s.3,

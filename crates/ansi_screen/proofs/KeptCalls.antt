@@ -19,6 +19,7 @@ use Rattle.ansi_screen.specs.declared.function.Function.{Function}
 use Rattle.ansi_screen.specs.declared.function.Function.TheVariants.{Edits, Moves, Sets, Nothing}
 use Rattle.ansi_screen.specs.Cells.{blank, is_right, marked_before}
 use Rattle.ansi_screen.specs.Display.{Display, here, row_end, stops, blanks, fresh, most_columns, most_rows}
+use Rattle.ansi_screen.specs.Links.{commanded}
 use Rattle.ansi_screen.specs.Moves.{to_row, to_column, settled, up, down, to_position, tabbed, tabbed_back, with_stop}
 use Rattle.ansi_screen.specs.Edits.{space, with_cells, row_going_on, inserted_characters, index, reverse_index}
 use Rattle.ansi_screen.specs.Widths.{is_shown, columns, is_among}
@@ -46,8 +47,8 @@ unfolding with_glyph
 kept-glyph n c d s some few fits =
     let end : row_end d ≤ length d.cells = row_end-inside d s in
     let put_cells : IsScreen (with_cells _ d) =
-    kept-cells _ d s (length-put (here d) n c d.cursor.style d.cells some few (omega arith))
-    (whole-glyph d.width d.cursor.row (here d) n c d.cursor.style d.cells some few (omega arith) (omega arith) (omega arith) s.whole) in
+    kept-cells _ d s (length-put (here d) n c d.cursor.style d.link d.cells some few (omega arith))
+    (whole-glyph d.width d.cursor.row (here d) n c d.cursor.style d.link d.cells some few (omega arith) (omega arith) (omega arith) s.whole) in
     kept-place (record d.cursor { column = d.cursor.column + n }) _ put_cells s.sized.cursor_row fits s.in_margins
 
 room-glyph : (n c : ℕ) (d : Display) (t : Bool) → d.inserts ≡ t → IsScreen d → 1 ≤ n → n ≤ 2 → d.cursor.column + n ≤ d.width
@@ -339,6 +340,10 @@ kept-designated [] final d s = kept-escaped final d s
 kept-designated (mark ∷ []) final d s = kept-charset mark final d s
 kept-designated (mark ∷ other ∷ others) final d s = s
 
+-- a command changes nothing but what is said of links
+kept-commanded : (parts : List (List ℕ)) (d : Display) → IsScreen d → IsScreen (commanded parts d)
+kept-commanded parts d s = record { sized = record { two_columns = s.sized.two_columns; columns_limit = s.sized.columns_limit; a_row = s.sized.a_row; rows_limit = s.sized.rows_limit; cells_fill = s.sized.cells_fill; hidden_fill = s.sized.hidden_fill; tabs_fill = s.sized.tabs_fill; cursor_row = s.sized.cursor_row; cursor_column = s.sized.cursor_column; saved_row = s.sized.saved_row; saved_column = s.sized.saved_column; hidden_row = s.sized.hidden_row; hidden_column = s.sized.hidden_column; margins = s.sized.margins; margins_within = s.sized.margins_within }; whole = s.whole; hidden_whole = s.hidden_whole; in_margins = s.in_margins }
+
 -- each call, and all of them
 pub kept-after : (call : Call) (s : State) → IsScreen s.display → IsScreen (after call s).display
 kept-after (print c) s is = kept-printed c s.display is
@@ -355,7 +360,7 @@ kept-after (esc_dispatch intermediates ignore final) s is =
 kept-after (hook groups intermediates ignore final) s is = is
 kept-after (put_byte byte) s is = is
 kept-after unhook s is = is
-kept-after (osc_dispatch parts bell_terminated) s is = is
+kept-after (osc_dispatch parts bell_terminated) s is = kept-commanded parts s.display is
 
 pub kept-after_all : (calls : List Call) (s : State) → IsScreen s.display → IsScreen (after_all calls s).display
 kept-after_all [] s is = is

@@ -277,7 +277,7 @@ room_by inserts n d cells =
     if inserts then inserted n (here d) (row_end d) (space d) (going_on false (row_end d) cells) else cells
 
 abbrev put_by : Bool → ℕ → ℕ → Display → List Cell → List Cell
-put_by inserts n c d cells = change (here d) (here d + n) (λ run. glyph n c d.cursor.style) (room_by inserts n d cells)
+put_by inserts n c d cells = change (here d) (here d + n) (λ run. glyph n c d.cursor.style d.link) (room_by inserts n d cells)
 
 marked-by : (c : ℕ) (d : Display) (cells : List Cell) (t : Bool) → (d.cursor.column == 0) ≡ t
     → marked c (with_cells cells d) ≡ with_cells (with_mark_by t c d cells) d
@@ -343,8 +343,8 @@ module _ (n c : ℕ) (d : Display) (cells : List Cell) (screen : IsScreen (with_
       (going_on-free (row_end d) (here d) cells free)
   room-free false free = free
 
-  glyph-long : length (glyph n c d.cursor.style) ≡ here d + n - here d
-  glyph-long = length-glyph n c d.cursor.style _ refl some few ∙ omega arith
+  glyph-long : length (glyph n c d.cursor.style d.link) ≡ here d + n - here d
+  glyph-long = length-glyph n c d.cursor.style d.link _ refl some few ∙ omega arith
 
   put-same : (start : ℕ) (t : Bool) → start ≤ here d → IsFree start cells → IsFree start (room_by t n d cells)
       → Same start (row_end d) (put_by t n c d cells) cells
@@ -352,12 +352,12 @@ module _ (n c : ℕ) (d : Display) (cells : List Cell) (screen : IsScreen (with_
       let there : List Cell = room_by t n d cells in
       let s : IsScreen (with_cells there d) = room-screen t in
       same-trans start (row_end d) (put_by t n c d cells) there cells
-      (same-change start (row_end d) (here d) (here d + n) (λ run. glyph n c d.cursor.style) there from (omega arith) (omega arith)
+      (same-change start (row_end d) (here d) (here d + n) (λ run. glyph n c d.cursor.style d.link) there from (omega arith) (omega arith)
       (row_end-inside (with_cells there d) s) free_then (row_end-free (with_cells there d) s) glyph-long)
       (room-same start t from free)
 
   put-front : (t : Bool) → IsFree (here d) cells
-      → take (here d + n) (put_by t n c d cells) ≡ take (here d) cells ++ glyph n c d.cursor.style
+      → take (here d + n) (put_by t n c d cells) ≡ take (here d) cells ++ glyph n c d.cursor.style d.link
   put-front t free =
       let there : List Cell = room_by t n d cells in
       let s : IsScreen (with_cells there d) = room-screen t in
@@ -366,7 +366,7 @@ module _ (n c : ℕ) (d : Display) (cells : List Cell) (screen : IsScreen (with_
       same-cuts (here d) (row_end d) (here d) (here d + n) there (omega arith) (omega arith) (omega arith) (room-free t free)
       (row_end-free (with_cells there d) s) in
       let inside : row_end d ≤ length there = row_end-inside (with_cells there d) s in
-      let run : List Cell = glyph n c d.cursor.style in
+      let run : List Cell = glyph n c d.cursor.style d.link in
       let rest : List Cell = drop (here d + n - here d) (drop (here d) both) in
       let front_long : length (take (here d) both) ≡ here d = length-take-le (here d) both (omega (arith, same.long)) in
       let long : length (take (here d) both ++ run) ≡ here d + n = omega (arith, length-append (take (here d) both) run, glyph-long) in
@@ -380,7 +380,7 @@ module _ (n c : ℕ) (d : Display) (cells : List Cell) (screen : IsScreen (with_
       let s : IsScreen (with_cells there d) = room-screen t in
       let inside : row_end d ≤ length there = row_end-inside (with_cells there d) s in
       let both : List Cell = cut (here d) (cut (here d + n) there) in
-      within-place (here d) (here d + n) (here d + n) (λ run. glyph n c d.cursor.style) both (omega arith)
+      within-place (here d) (here d + n) (here d + n) (λ run. glyph n c d.cursor.style d.link) both (omega arith)
       (omega (arith, length-cut (here d) (cut (here d + n) there), length-cut (here d + n) there)) glyph-long
       (clear-cut_other (here d) (here d + n) (cut (here d + n) there) (clear-cut (here d + n) there s.whole.paired))
       (λ reached less. absurd (omega arith))
@@ -522,7 +522,7 @@ module _ (d : Display) (xs ys : List Cell) (screen_xs : IsScreen (with_cells xs 
         is_second = put-by n c d ys t refl fits;
         same = subst (λ k. Same k (row_end d) (put_by t n c d xs) (put_by t n c d ys)) there (record {
           front = put-front n c d xs screen_xs some few fits t free_xs
-              ∙ (ap (λ l. l ++ glyph n c d.cursor.style) same.front ∙ sym (put-front n c d ys screen_ys some few fits t free_ys));
+              ∙ (ap (λ l. l ++ glyph n c d.cursor.style d.link) same.front ∙ sym (put-front n c d ys screen_ys some few fits t free_ys));
           behind = in_xs.behind ∙ (same.behind ∙ sym in_ys.behind);
           long = in_xs.long ∙ (same.long ∙ sym in_ys.long);
         });

@@ -193,30 +193,30 @@ module _ (width first last count : ℕ) (space : Cell) (cells : List Cell)
       }
 
 -- a character that is put
-paired-glyph : (n c : ℕ) (style : Style) (t : Bool) → nat_eq n 2 ≡ t → ArePaired None (glyph n c style)
-paired-glyph n c style true is = rw is (refl, (refl, refl))
-paired-glyph n c style false is = rw is (refl, refl)
+paired-glyph : (n c : ℕ) (style : Style) (link : ℕ) (t : Bool) → nat_eq n 2 ≡ t → ArePaired None (glyph n c style link)
+paired-glyph n c style link true is = rw is (refl, (refl, refl))
+paired-glyph n c style link false is = rw is (refl, refl)
 
-pub length-glyph : (n c : ℕ) (style : Style) (t : Bool) → nat_eq n 2 ≡ t → 1 ≤ n → n ≤ 2 → length (glyph n c style) ≡ n
-length-glyph n c style true is some few = rw is (sym (eqb-true n 2 is))
-length-glyph n c style false is some few =
+pub length-glyph : (n c : ℕ) (style : Style) (link : ℕ) (t : Bool) → nat_eq n 2 ≡ t → 1 ≤ n → n ≤ 2 → length (glyph n c style link) ≡ n
+length-glyph n c style link true is some few = rw is (sym (eqb-true n 2 is))
+length-glyph n c style link false is some few =
     let other : n ≡ 2 → ⊥ = eqb-false n 2 is in
     let one : 1 ≡ n = omega arith in
     rw is one
 
-pub whole-glyph : (width row start n c : ℕ) (style : Style) (cells : List Cell) → 1 ≤ n → n ≤ 2 → row * width ≤ start
+pub whole-glyph : (width row start n c : ℕ) (style : Style) (link : ℕ) (cells : List Cell) → 1 ≤ n → n ≤ 2 → row * width ≤ start
     → start + n ≤ row * width + width → start + n ≤ length cells → IsWhole width cells
-    → IsWhole width (change start (start + n) (λ run. glyph n c style) cells)
-whole-glyph width row start n c style cells some few from to inside whole =
+    → IsWhole width (change start (start + n) (λ run. glyph n c style link) cells)
+whole-glyph width row start n c style link cells some few from to inside whole =
     let long : start + n - start ≡ n = omega arith in
-    whole-change width row start (start + n) (λ run. glyph n c style) cells from (omega arith) to inside whole
-    (paired-glyph n c style _ refl) (length-glyph n c style _ refl some few ∙ sym long)
+    whole-change width row start (start + n) (λ run. glyph n c style link) cells from (omega arith) to inside whole
+    (paired-glyph n c style link _ refl) (length-glyph n c style link _ refl some few ∙ sym long)
 
-pub length-put : (start n c : ℕ) (style : Style) (cells : List Cell) → 1 ≤ n → n ≤ 2 → start + n ≤ length cells
-    → length (change start (start + n) (λ run. glyph n c style) cells) ≡ length cells
-length-put start n c style cells some few inside =
+pub length-put : (start n c : ℕ) (style : Style) (link : ℕ) (cells : List Cell) → 1 ≤ n → n ≤ 2 → start + n ≤ length cells
+    → length (change start (start + n) (λ run. glyph n c style link) cells) ≡ length cells
+length-put start n c style link cells some few inside =
     let long : start + n - start ≡ n = omega arith in
-    length-change start (start + n) (λ run. glyph n c style) cells (omega arith) inside (length-glyph n c style _ refl some few ∙ sym long)
+    length-change start (start + n) (λ run. glyph n c style link) cells (omega arith) inside (length-glyph n c style link _ refl some few ∙ sym long)
 
 -- a cell that gets a mark stays the half that it was, in its style
 paired-same : (behind : Option Style) (xs : List Cell) (i : ℕ) (x : Cell) → right_style x ≡ right_style (cell_at i xs) → left_style x ≡ left_style (cell_at i xs)

@@ -6,7 +6,7 @@ use Rattle.std.specs.Prelude.{◌≡◌, ℕ, ◌+◌, ◌-◌, min, max, Option
 use Rattle.std.specs.Fn.{iterate}
 use Rattle.std.specs.Map.{lookup}
 use Rattle.std.specs.Option.{unwrap_or}
-use Rattle.anstyle_parse.specs.Stream.Call.{Call, print, execute, csi_dispatch, esc_dispatch}
+use Rattle.anstyle_parse.specs.Stream.Call.{Call, print, execute, osc_dispatch, csi_dispatch, esc_dispatch}
 use Rattle.anstyle_parse.specs.Stream.Calls.{AreCalls}
 use Rattle.ansi_screen.specs.declared.function.Edit.{Edit}
 use Rattle.ansi_screen.specs.declared.function.Edit.TheVariants.{InsertCharacters, EraseInDisplay, EraseInLine, InsertLines, DeleteLines, DeleteCharacters, EraseCharacters}
@@ -17,6 +17,7 @@ use Rattle.ansi_screen.specs.declared.function.Setting.TheVariants.{Rendition, S
 use Rattle.ansi_screen.specs.declared.function.Function.{Function}
 use Rattle.ansi_screen.specs.declared.function.Function.TheVariants.{Edits, Moves, Sets, Nothing}
 use Rattle.ansi_screen.specs.Display.{Display, fresh}
+use Rattle.ansi_screen.specs.Links.{commanded}
 use Rattle.ansi_screen.specs.Moves.{to_column, settled, up, down, to_line, to_position, tabbed, tabbed_back, with_stop, cleared_stops}
 use Rattle.ansi_screen.specs.Edits.{erased_display, erased_line, erased_characters, deleted_characters, inserted_characters, inserted_lines, deleted_lines, scrolled_up, scrolled_down, index, reverse_index}
 use Rattle.ansi_screen.specs.Print.{printed, printed_again}
@@ -164,6 +165,7 @@ repeated n (Some c) d = iterate (printed_again c) (min n d.width) d
 abbrev pub displayed : Call → State → Display
 displayed (print c) s = printed c s.display
 displayed (execute byte) s = executed byte s.display
+displayed (osc_dispatch parts bell_terminated) s = commanded parts s.display
 displayed (csi_dispatch groups intermediates ignore final) s =
     if ignore then s.display
     else if is_repeat intermediates final then repeated (count (first_of groups)) s.last s.display

@@ -11,15 +11,26 @@ use Rattle.ansi_screen.specs.declared.cell.Marks.TheVariants.{Unmarked, One, Two
 use Rattle.ansi_screen.specs.declared.cell.Part.{Part}
 use Rattle.ansi_screen.specs.declared.cell.Part.TheVariants.{Empty, Right}
 
--- a character without marks
+-- a character without marks and link
 abbrev pub plain_cell : ℕ → Style → Part → Cell
-plain_cell c style part = record { character = c; marks = Unmarked; style = style; part = part; goes_on = false }
+plain_cell c style part = record {
+  character = c;
+  marks = Unmarked;
+  style = style;
+  part = part;
+  link = 0;
+  goes_on = false;
+}
 
--- What is erased shows the background that is selected, and nothing else of the style.
+-- the same in a link, by its number (`Links`); 0 is none
+abbrev pub printed_cell : ℕ → Style → ℕ → Part → Cell
+printed_cell c style link part = record (plain_cell c style part) { link = link }
+
+-- What is erased shows the background that is selected, nothing else of the style, and has no link.
 abbrev pub blank : Style → Cell
 blank style = plain_cell 0x20 (record plain { background = style.background }) Empty
 
--- a half of a wide character that has lost the other: a space in its own style
+-- a half of a wide character that has lost the other: a space in its own style, without link
 abbrev pub emptied : Cell → Cell
 emptied cell = plain_cell 0x20 cell.style Empty
 

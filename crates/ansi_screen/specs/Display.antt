@@ -27,6 +27,9 @@ pub record Display : Type 0 where
   pub wraps : Bool
   pub inserts : Bool
   pub is_visible : Bool
+  -- how many links have begun (`Links`), and the number of the one in force; 0, where none is
+  pub links : ℕ
+  pub link : ℕ
   -- whether the alternate screen shows; then the main one's cells, and what it has saved
   pub is_alternate : Bool
   pub hidden : List Cell
@@ -70,6 +73,8 @@ fresh width height = record {
   wraps = true;
   inserts = false;
   is_visible = true;
+  links = 0;
+  link = 0;
   is_alternate = false;
   hidden = blanks width height;
   hidden_saved = home;

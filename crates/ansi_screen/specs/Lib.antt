@@ -2,6 +2,7 @@ pub mod Cells
 pub mod Display
 pub mod Moves
 pub mod Edits
+pub mod Links
 pub mod Ranges
 pub mod Widths
 pub mod Print

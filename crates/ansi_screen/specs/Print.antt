@@ -8,17 +8,17 @@ use Rattle.ansi_style.specs.declared.style.Style.{Style}
 use Rattle.ansi_screen.specs.declared.cell.Cell.{Cell}
 use Rattle.ansi_screen.specs.declared.cell.Part.TheVariants.{Whole, Left, Right}
 use Rattle.ansi_screen.specs.declared.place.Charsets.{Charsets}
-use Rattle.ansi_screen.specs.Cells.{plain_cell, change, marked_before}
+use Rattle.ansi_screen.specs.Cells.{printed_cell, change, marked_before}
 use Rattle.ansi_screen.specs.Display.{Display, here}
 use Rattle.ansi_screen.specs.Moves.{to_column, settled}
 use Rattle.ansi_screen.specs.Edits.{with_cells, row_going_on, index, inserted_characters}
 use Rattle.ansi_screen.specs.Widths.{is_shown, columns}
 
--- the cells of a character of one column, or of two
-abbrev pub glyph : ℕ → ℕ → Style → List Cell
-glyph n c style =
-    if n == 2 then plain_cell c style Left ∷ plain_cell 0x20 style Right ∷ []
-    else plain_cell c style Whole ∷ []
+-- the cells of a character of one column, or of two, in a link or in none
+abbrev pub glyph : ℕ → ℕ → Style → ℕ → List Cell
+glyph n c style link =
+    if n == 2 then printed_cell c style link Left ∷ printed_cell 0x20 style link Right ∷ []
+    else printed_cell c style link Whole ∷ []
 
 -- Where the row has no room for so many columns: with autowrap the cursor goes to the start of
 -- the next row, in which this row goes on, and else to the last column.
@@ -31,10 +31,10 @@ wrapped n d =
 unfoldable pub with_room : ℕ → Display → Display
 with_room n d = if d.inserts then inserted_characters n d else d
 
--- the character stands at the cursor, which goes past it
+-- the character stands at the cursor, in its style and in the link in force; the cursor goes past it
 unfoldable pub with_glyph : ℕ → ℕ → Display → Display
 with_glyph n c d = record d {
-  cells = change (here d) (here d + n) (λ run. glyph n c d.cursor.style) d.cells;
+  cells = change (here d) (here d + n) (λ run. glyph n c d.cursor.style d.link) d.cells;
   cursor = record d.cursor { column = d.cursor.column + n };
 }
 

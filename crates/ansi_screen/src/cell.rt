@@ -38,40 +38,51 @@ impl Marks {
     }
 }
 
-/// A place of the screen: a character with its marks, and its style.
+/// A place of the screen: a character with its marks, its style and its link.
 #[derive(Debug, Clone, Copy, PartialEq, Eq)]
 pub struct Cell {
     pub character: char,
     pub marks: Marks,
     pub style: Style,
     pub part: Part,
+    /// The number of the link (OSC 8) in which it was printed; 0 for none.
+    pub link: u32,
     /// In the last cell of a row: autowrap went on from it to the next row, so that both are one line.
     pub goes_on: bool,
 }
 
 impl Cell {
-    ghost use Rattle.ansi_screen.specs.Cells.{plain_cell, blank, emptied, is_right, with_mark};
+    ghost use Rattle.ansi_screen.specs.declared.cell.Part.TheVariants.{Empty};
+    ghost use Rattle.ansi_screen.specs.Cells.{plain_cell, printed_cell, blank, emptied, is_right, with_mark};
 
-    /// A character alone.
-    pub(crate) fn unmarked(character: char, style: Style, part: Part) -> Cell
-        ensures { result ≡ plain_cell character style part }
+    /// A character alone, in a link or in none.
+    pub(crate) fn printed(character: char, style: Style, link: u32, part: Part) -> Cell
+        ensures { result ≡ printed_cell character style link part }
     {
         Cell {
             character,
             marks: Marks::Unmarked,
             style,
             part,
+            link,
             goes_on: false,
         }
     }
 
-    /// A space in the background of the style, and in nothing else of it.
+    /// A space where nothing was printed.
+    fn unprinted(style: Style) -> Cell
+        ensures { result ≡ plain_cell 0x20 style Empty }
+    {
+        Cell::printed(' ', style, 0, Part::Empty)
+    }
+
+    /// A space in the background of the style, in nothing else of it and in no link.
     pub fn blank(style: Style) -> Cell
         ensures { result ≡ blank style }
     {
         let mut plain = Style::default();
         plain.background = style.background;
-        Cell::unmarked(' ', plain, Part::Empty)
+        Cell::unprinted(plain)
     }
 
     /// Whether it is the right half of a wide character.
@@ -81,11 +92,11 @@ impl Cell {
         matches!(self.part, Part::Right)
     }
 
-    /// What is left of a half: a space in its own style.
+    /// What is left of a half: a space in its own style, in no link.
     pub(crate) fn emptied(self) -> Cell
         ensures { result ≡ emptied self }
     {
-        Cell::unmarked(' ', self.style, Part::Empty)
+        Cell::unprinted(self.style)
     }
 
     /// With one mark more, where there is room.

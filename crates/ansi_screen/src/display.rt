@@ -3,6 +3,7 @@ ghost use Rattle.std.specs.Prelude.{◌≡◌, ◌+◌, ◌*◌, ◌<◌, ◌≤
 
 mod edits;
 mod leaving;
+mod links;
 mod modes;
 mod moves;
 mod parts;
@@ -37,6 +38,9 @@ pub(crate) struct Display {
     wraps: bool,
     inserts: bool,
     is_visible: bool,
+    /// How many links have begun, and the number of the one in force; 0, where none is.
+    links: u32,
+    link: u32,
     /// While the alternate screen shows: the main one's cells, and what it has saved.
     is_alternate: bool,
     hidden: Grid,
@@ -60,6 +64,8 @@ impl Model for Display {
       wraps = s.wraps;
       inserts = s.inserts;
       is_visible = s.is_visible;
+      links = s.links;
+      link = s.link;
       is_alternate = s.is_alternate;
       hidden = s.hidden;
       hidden_saved = s.hidden_saved;
@@ -77,6 +83,8 @@ impl Model for Display {
       wraps = s.wraps;
       inserts = s.inserts;
       is_visible = s.is_visible;
+      links = s.links;
+      link = s.link;
       is_alternate = s.is_alternate;
       hidden = s.hidden;
       hidden_saved = s.hidden_saved;
@@ -112,6 +120,8 @@ impl Display {
             wraps: true,
             inserts: false,
             is_visible: true,
+            links: 0,
+            link: 0,
             is_alternate: false,
             hidden,
             hidden_saved: Place::home(),

@@ -102,16 +102,16 @@ impl Grid {
         runs::insert(shown, start, end, count, blank);
     }
 
-    /// A character of so many columns.
-    pub(crate) fn put(&mut self, place: usize, columns: u16, c: char, style: Style)
+    /// A character of so many columns, in a link or in none.
+    pub(crate) fn put(&mut self, place: usize, columns: u16, c: char, style: Style, link: u32)
         requires some { 1 ≤ columns }
         requires few { columns ≤ 2 }
         requires within { place + columns ≤ length self.old }
-        ensures cells { self.new ≡ change place (place + columns) (λ run. glyph columns c style) self.old }
+        ensures cells { self.new ≡ change place (place + columns) (λ run. glyph columns c style link) self.old }
         ensures length { length self.new ≡ length self.old }
     {
         let shown = &mut self.memory.as_mut_slice()[self.start..self.start + self.size];
-        runs::put(shown, place, columns, c, style);
+        runs::put(shown, place, columns, c, style, link);
     }
 
     /// A mark of the character that stands before `place`.

@@ -1,5 +1,5 @@
 //! A screen of which no row is lost: what scrolls off at its top is handed on.
-ghost use Rattle.std.specs.Prelude.{◌≡◌, ◌≤◌, List, ◌∷◌};
+ghost use Rattle.std.specs.Prelude.{◌≡◌, ◌≤◌, ℕ, List, ◌∷◌, map};
 ghost use Rattle.ansi_screen.specs.declared.cell.Cell.{Cell as ACell};
 ghost use Rattle.ansi_screen.specs.Leaving.{TakesRows, first_rows};
 
@@ -23,6 +23,16 @@ pub trait TakeRow {
     /// Hands on what it holds back, as a writer may of rows that it has taken.
     fn pass_on(&mut self)
         ensures { passes_on self.old self.new };
+}
+
+/// Takes rows, and is told of operating system commands, as of those that begin links.
+pub trait TakeCommand: TakeRow {
+    // What a command does to it, by the number of the link that is in force behind it and by its parts.
+    ghost takes_command: { Self → ℕ → List (List ℕ) → Self → Type 0 };
+
+    /// Takes the parts of a command, and the number of the link in force behind it; 0, where none is.
+    fn take_command(&mut self, link: u32, parts: &[&[u8]])
+        ensures { takes_command self.old link (map (λ part. part.now) parts.now) self.new };
 }
 
 /// A screen, and a taker to which each row of the main screen that scrolls off at the top is handed,
@@ -96,6 +106,20 @@ impl<R: TakeRow> Scrolling<R> {
         ensures taken { TakesRows R.takes (taker_of self.old) (first_rows count (screen_of self.old).display) (taker_of self.new) }
     {
         hand_on(self.screen.display(), count, &mut self.taker);
+    }
+}
+
+impl<R: TakeCommand> Scrolling<R> {
+    ghost use Rattle.ansi_screen.specs.Leaving.{screen_of, taker_of};
+
+    /// What takes the rows is told of a command that the screen has received; the screen stays.
+    pub fn tell(&mut self, parts: &[&[u8]])
+        ensures screen { screen_of self.new ≡ screen_of self.old }
+        ensures taker { R.takes_command (taker_of self.old) (screen_of self.old).display.link
+            (map (λ part. part.now) parts.now) (taker_of self.new) }
+    {
+        let link = self.screen.link();
+        self.taker.take_command(link, parts);
     }
 }
 

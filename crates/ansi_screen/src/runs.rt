@@ -101,37 +101,37 @@ pub(crate) fn set_goes_on(cells: &mut [Cell], end: usize, on: bool)
     cells[end - 1].goes_on = on;
 }
 
-/// A character of so many columns.
-pub(crate) fn put(cells: &mut [Cell], place: usize, columns: u16, c: char, style: Style)
+/// A character of so many columns, in a link or in none.
+pub(crate) fn put(cells: &mut [Cell], place: usize, columns: u16, c: char, style: Style, link: u32)
     requires some { 1 ≤ columns }
     requires few { columns ≤ 2 }
     requires within { place + columns ≤ length cells.old }
-    ensures { cells.new ≡ change place (place + columns) (λ run. glyph columns c style) cells.old }
+    ensures { cells.new ≡ change place (place + columns) (λ run. glyph columns c style link) cells.old }
 {
     if columns == 2 {
-        put_wide(cells, place, c, style);
+        put_wide(cells, place, c, style, link);
     } else {
-        put_narrow(cells, place, c, style);
+        put_narrow(cells, place, c, style, link);
     }
 }
 
 /// A character of one column.
-fn put_narrow(cells: &mut [Cell], place: usize, c: char, style: Style)
+fn put_narrow(cells: &mut [Cell], place: usize, c: char, style: Style, link: u32)
     requires { place < length cells.old }
-    ensures { cells.new ≡ change place (place + 1) (λ run. glyph 1 c style) cells.old }
+    ensures { cells.new ≡ change place (place + 1) (λ run. glyph 1 c style link) cells.old }
 {
     cut(cells, place + 1);
     cut(cells, place);
-    cells[place] = Cell::unmarked(c, style, Part::Whole);
+    cells[place] = Cell::printed(c, style, link, Part::Whole);
 }
 
 /// A character of two columns.
-fn put_wide(cells: &mut [Cell], place: usize, c: char, style: Style)
+fn put_wide(cells: &mut [Cell], place: usize, c: char, style: Style, link: u32)
     requires { place + 1 < length cells.old }
-    ensures { cells.new ≡ change place (place + 2) (λ run. glyph 2 c style) cells.old }
+    ensures { cells.new ≡ change place (place + 2) (λ run. glyph 2 c style link) cells.old }
 {
     cut(cells, place + 2);
     cut(cells, place);
-    cells[place] = Cell::unmarked(c, style, Part::Left);
-    cells[place + 1] = Cell::unmarked(' ', style, Part::Right);
+    cells[place] = Cell::printed(c, style, link, Part::Left);
+    cells[place + 1] = Cell::printed(' ', style, link, Part::Right);
 }

@@ -122,6 +122,13 @@ impl Screen {
         self.display.is_visible()
     }
 
+    /// The number of the link (OSC 8) in force, in which what comes next is printed; 0, where none is.
+    pub fn link(&self) -> u32
+        ensures { result ≡ self.now.display.link }
+    {
+        self.display.link()
+    }
+
     /// What a character does before anything scrolls: where autowrap comes before it, the cursor's row
     /// goes on in the next. The answer is how many rows leave by it.
     pub(crate) fn begin_print(&mut self, c: char) -> usize
@@ -168,7 +175,8 @@ impl Perform for Screen {
         self.last = None;
     }
 
-    fn osc_dispatch(&mut self, _params: &[&[u8]], _bell_terminated: bool) {
+    fn osc_dispatch(&mut self, params: &[&[u8]], _bell_terminated: bool) {
+        self.display.command(params);
         self.last = None;
     }
 

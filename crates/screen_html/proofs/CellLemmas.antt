@@ -1,5 +1,5 @@
 -- What holds of the encoding of each character and of a line feed holds of all texts that a screen showed.
-use Rattle.std.proofs.Common.{ℕ, Bool, true, false, List, [], ◌∷◌, ◌++◌, map, take}
+use Rattle.std.proofs.Common.{ℕ, Bool, true, false, List, [], ◌∷◌, ◌++◌, map, take, sym, subst}
 use Rattle.std.specs.Prelude.{encode_utf8, if◌then◌else◌}
 use Rattle.std.specs.List.{AllByRecursion}
 use Rattle.anstyle_parse.specs.Stream.Call.{Call}
@@ -19,7 +19,10 @@ use Rattle.ansi_screen.proofs.CharacterLemmas.{PrintsCharacter, IsGood, AreGoodM
 use Rattle.screen_text.specs.Lines.{open_after, showing}
 use Rattle.screen_text.specs.Shown.{given_all}
 use Rattle.screen_text.proofs.CleanLemmas.{all-print}
-use Rattle.screen_html.specs.Shown.{cell_styled, line_feed, row_styled, rows_styled, closing_styled, shown_styled}
+use Rattle.screen_text.specs.Rows.{Handed, leaving, command, all_handed}
+use Rattle.screen_html.specs.Links.{Kept, no_links, links_after}
+use Rattle.screen_html.proofs.HandedLemmas.{rows_in, rows_in-handed}
+use Rattle.screen_html.specs.Shown.{cell_styled, line_feed, row_styled, rows_styled, handed_styled, links_behind, closing_styled, shown_styled}
 
 module _ (Holds : List ℕ → Type 0) (none : Holds []) (both : (first second : List ℕ) → Holds first → Holds second → Holds (first ++ second))
     (character : (c : ℕ) → IsGood c → Holds (encode_utf8 c)) (feed : Holds (0x0A ∷ [])) where
@@ -45,9 +48,9 @@ module _ (Holds : List ℕ → Type 0) (none : Holds []) (both : (first second :
       of-if (is_right cell.part) [] (encode_utf8 cell.character ++ marks_text cell.marks) none
       (both (encode_utf8 cell.character) (marks_text cell.marks) (character cell.character good.0) (of-marks cell.marks good.1))
 
-  of-cells : (cells : List Cell) → AreGood cells → HoldsOfAll (map cell_styled cells)
-  of-cells [] are = tt
-  of-cells (cell ∷ cells) are = (of-cell cell are.0, of-cells cells are.1)
+  of-cells : (links : List Kept) (cells : List Cell) → AreGood cells → HoldsOfAll (map (cell_styled links) cells)
+  of-cells links [] are = tt
+  of-cells links (cell ∷ cells) are = (of-cell cell are.0, of-cells links cells are.1)
 
   of-line_end : (on : Bool) → HoldsOfAll (if on then [] else line_feed ∷ [])
   of-line_end true = tt
@@ -57,15 +60,20 @@ module _ (Holds : List ℕ → Type 0) (none : Holds []) (both : (first second :
   of-closing true = (feed, tt)
   of-closing false = tt
 
-  of-row : (row : List Cell) → AreGood row → HoldsOfAll (row_styled row)
-  of-row row are =
+  of-row : (links : List Kept) (row : List Cell) → AreGood row → HoldsOfAll (row_styled links row)
+  of-row links row are =
       let cells : List Cell = take (used is_unprinted row) row in
-      all-append (map cell_styled cells) (if goes_on row then [] else line_feed ∷ [])
-      (of-cells cells (AllByRecursion-take IsGoodCell (used is_unprinted row) row are)) (of-line_end (goes_on row))
+      all-append (map (cell_styled links) cells) (if goes_on row then [] else line_feed ∷ [])
+      (of-cells links cells (AllByRecursion-take IsGoodCell (used is_unprinted row) row are)) (of-line_end (goes_on row))
 
-  of-rows : (rows : List (List Cell)) → AllByRecursion AreGood rows → HoldsOfAll (rows_styled rows)
-  of-rows [] are = tt
-  of-rows (row ∷ rows) are = all-append (row_styled row) (rows_styled rows) (of-row row are.0) (of-rows rows are.1)
+  of-rows : (links : List Kept) (rows : List (List Cell)) → AllByRecursion AreGood rows → HoldsOfAll (rows_styled links rows)
+  of-rows links [] are = tt
+  of-rows links (row ∷ rows) are = all-append (row_styled links row) (rows_styled links rows) (of-row links row are.0) (of-rows links rows are.1)
+
+  of-handed : (links : List Kept) (all : List Handed) → AllByRecursion AreGood (rows_in all) → HoldsOfAll (handed_styled links all)
+  of-handed links [] are = tt
+  of-handed links (leaving row ∷ others) are = all-append (row_styled links row) (handed_styled links others) (of-row links row are.0) (of-handed links others are.1)
+  of-handed links (command number parts ∷ others) are = of-handed (links_after number parts links) others are
 
   pub of-shown : (columns rows : ℕ) (bytes : List ℕ) (calls : List Call) → AreCalls bytes calls
       → AllByRecursion (λ it. Holds (bytes_of it)) (shown_styled (new_state columns rows) calls)
@@ -77,8 +85,10 @@ module _ (Holds : List ℕ → Type 0) (none : Holds []) (both : (first second :
       let behind : State = after_all (given_all calls) s in
       let last : List (List Cell) = showing behind.display in
       let good : IsGoodState behind = good-after_all (given_all calls) s prints new in
-      all-append (rows_styled left) (rows_styled last ++ closing_styled (open_after (open_after false left) last))
-      (of-rows left (good-left (given_all calls) s prints new))
-      (all-append (rows_styled last) (closing_styled (open_after (open_after false left) last))
-      (of-rows last (good-first_rows (used_rows is_unprinted behind.display.height behind.display) behind.display good.display))
+      let all : List Handed = all_handed (given_all calls) s in
+      let links : List Kept = links_behind no_links all in
+      all-append (handed_styled no_links all) (rows_styled links last ++ closing_styled (open_after (open_after false left) last))
+      (of-handed no_links all (subst (AllByRecursion AreGood) (sym (rows_in-handed (given_all calls) s)) (good-left (given_all calls) s prints new)))
+      (all-append (rows_styled links last) (closing_styled (open_after (open_after false left) last))
+      (of-rows links last (good-first_rows (used_rows is_unprinted behind.display.height behind.display) behind.display good.display))
       (of-closing (open_after (open_after false left) last)))

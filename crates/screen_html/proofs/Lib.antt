@@ -1,4 +1,5 @@
 pub mod RowLemmas
 pub mod ShownLemmas
+pub mod HandedLemmas
 pub mod CellLemmas
 pub mod WholeLemmas

@@ -14,6 +14,7 @@ use Rattle.ansi_html.proofs.StyledWriterLemmas.{WritesStyled-none, WritesStyled-
 use Rattle.ansi_screen.specs.declared.cell.Cell.{Cell}
 use Rattle.ansi_screen.specs.Cells.{is_right}
 use Rattle.ansi_screen.specs.Text.{marks_text, cell_text, used, is_unprinted, goes_on}
+use Rattle.screen_html.specs.Links.{Kept}
 use Rattle.screen_html.specs.Shown.{cell_styled, line_feed, row_styled, closing_styled}
 
 -- the text of a cell: none of a right half, and else some
@@ -31,20 +32,20 @@ cell_text-some cell other =
 
 module _ {W : Type 0} (sink : SinkOf W) where
   -- one cell more
-  pub writes-more : (cells : List Cell) (i : ℕ) (d : Cell) (a b c : StyledWriter W) → i < length cells
-      → WritesStyled sink a (map cell_styled (take i cells)) b → WritesStyled sink b (cell_styled (get_or cells i d) ∷ []) c
-      → WritesStyled sink a (map cell_styled (take (i + 1) cells)) c
-  writes-more cells i d a b c inside first second =
-      subst (λ l. WritesStyled sink a l c) (sym (map_more cell_styled cells i d inside))
-      (WritesStyled-append sink a b c (map cell_styled (take i cells)) (cell_styled (get_or cells i d) ∷ []) first second)
+  pub writes-more : (links : List Kept) (cells : List Cell) (i : ℕ) (d : Cell) (a b c : StyledWriter W) → i < length cells
+      → WritesStyled sink a (map (cell_styled links) (take i cells)) b → WritesStyled sink b (cell_styled links (get_or cells i d) ∷ []) c
+      → WritesStyled sink a (map (cell_styled links) (take (i + 1) cells)) c
+  writes-more links cells i d a b c inside first second =
+      subst (λ l. WritesStyled sink a l c) (sym (map_more (cell_styled links) cells i d inside))
+      (WritesStyled-append sink a b c (map (cell_styled links) (take i cells)) (cell_styled links (get_or cells i d) ∷ []) first second)
 
   -- a row's cells, and a line feed
-  pub writes-row : (row : List Cell) (count : ℕ) (a b c : StyledWriter W) → count ≡ used is_unprinted row → goes_on row ≡ false
-      → WritesStyled sink a (map cell_styled (take count row)) b → WritesStyled sink b (line_feed ∷ []) c → WritesStyled sink a (row_styled row) c
-  writes-row row count a b c same ends first second =
-      let cells : WritesStyled sink a (map cell_styled (take (used is_unprinted row) row)) b =
-      subst (λ k. WritesStyled sink a (map cell_styled (take k row)) b) same first in
-      rw ends (WritesStyled-append sink a b c (map cell_styled (take (used is_unprinted row) row)) (line_feed ∷ []) cells second)
+  pub writes-row : (links : List Kept) (row : List Cell) (count : ℕ) (a b c : StyledWriter W) → count ≡ used is_unprinted row → goes_on row ≡ false
+      → WritesStyled sink a (map (cell_styled links) (take count row)) b → WritesStyled sink b (line_feed ∷ []) c → WritesStyled sink a (row_styled links row) c
+  writes-row links row count a b c same ends first second =
+      let cells : WritesStyled sink a (map (cell_styled links) (take (used is_unprinted row) row)) b =
+      subst (λ k. WritesStyled sink a (map (cell_styled links) (take k row)) b) same first in
+      rw ends (WritesStyled-append sink a b c (map (cell_styled links) (take (used is_unprinted row) row)) (line_feed ∷ []) cells second)
 
   -- an open line is ended, and the last span closed
   pub closing-open : (on : Bool) (a b c : StyledWriter W) → on ≡ true → c ≡ b → WritesStyled sink a (line_feed ∷ []) b → WritesStyled sink a (closing_styled on) c

@@ -1,7 +1,7 @@
 -- The HTML of what a screen showed is read back, has the text's lines, stands in the grammar, is UTF-8, and is bounded.
 use Rattle.std.proofs.Common.{◌≡◌, ◌≤◌, ℕ, ◌+◌, ◌*◌, length, true, eqb, List, [], ◌∷◌, ◌++◌, map, refl, sym, ap, ◌∙◌, subst, arith}
 use Rattle.std.specs.Prelude.{encode_utf8, not}
-use Rattle.std.specs.List.{list_all}
+use Rattle.std.specs.List.{list_all, AllByRecursion}
 use Rattle.std.specs.Str.{IsUtf8}
 use Rattle.std.proofs.lemmas.Bool.{and_from, ne_eqb}
 use Rattle.std.proofs.lemmas.Grind.{flat_map-append}
@@ -9,17 +9,19 @@ use Rattle.std.proofs.lemmas.Str.{IsUtf8-append, IsUtf8-nil}
 use Rattle.anstyle_parse.specs.Stream.Call.{Call, print, execute}
 use Rattle.anstyle_parse.specs.Stream.Calls.{AreCalls}
 use Rattle.ansi_html.specs.declared.scheme.Styling.{Styling}
+use Rattle.ansi_html.specs.Links.{IsLink}
 use Rattle.ansi_html.specs.Grammar.{IsFragment}
 use Rattle.ansi_html.specs.Html.{escaped, escaped_text}
-use Rattle.ansi_html.specs.Reader.{byte_of, read, drawn}
+use Rattle.ansi_html.specs.Reader.{byte_of, href_of, read, drawn}
 use Rattle.ansi_html.specs.Styled.{all_shown}
 use Rattle.ansi_html.proofs.LawfulText.{is_textual, AreTextual, ArePrinted, ArePrinted-encode, AreTextual-printed}
 use Rattle.ansi_html.proofs.NewlineLemmas.{is_not_return, HasNoReturn, HasNoReturn-append}
-use Rattle.ansi_html.proofs.StyledLemmas.{read-styled, text-styled, drawn-styled, IsFragment-styled, IsUtf8-styled, length-styled}
+use Rattle.ansi_html.proofs.StyledLemmas.{links-styled, read-styled, text-styled, drawn-styled, IsFragment-styled, IsUtf8-styled, length-styled}
 use Rattle.ansi_html.proofs.TextLemmas.{IsUtf8-stripped}
 use Rattle.ansi_screen.specs.After.{State, new_state}
 use Rattle.screen_text.specs.Shown.{shown_text}
 use Rattle.screen_html.specs.Shown.{shown_styled, shown_html}
+use Rattle.screen_html.proofs.HandedLemmas.{links-shown}
 use Rattle.screen_html.proofs.CellLemmas.{of-shown}
 use Rattle.screen_html.proofs.ShownLemmas.{shown_html-all, bytes-shown}
 
@@ -53,9 +55,13 @@ module _ (styling : Styling) where
   text-shown s calls =
       ap (λ l. map byte_of (read l)) (shown_html-all styling s calls) ∙ text-styled styling (shown_styled s calls) ∙ bytes-shown s calls
 
-  pub length-shown : (s : State) (calls : List Call) → length (shown_html styling s calls) ≤ 302 * length (shown_text s calls) + 7
+  pub links-shown-html : (s : State) (calls : List Call) → AllByRecursion IsLink (map href_of (read (shown_html styling s calls)))
+  links-shown-html s calls =
+      subst (λ l. AllByRecursion IsLink (map href_of (read l))) (sym (shown_html-all styling s calls)) (links-styled styling (shown_styled s calls) (links-shown s calls))
+
+  pub length-shown : (s : State) (calls : List Call) → length (shown_html styling s calls) ≤ 6543 * length (shown_text s calls) + 7
   length-shown s calls =
-      omega (arith, ap length (shown_html-all styling s calls), length-styled styling (shown_styled s calls), ap length (bytes-shown s calls))
+      omega (arith, ap length (shown_html-all styling s calls), length-styled styling (shown_styled s calls) (links-shown s calls), ap length (bytes-shown s calls))
 
   module _ (columns rows : ℕ) (bytes : List ℕ) (calls : List Call) (are : AreCalls bytes calls) where
     abbrev new : State
@@ -71,11 +77,11 @@ module _ (styling : Styling) where
     pub IsFragment-shown : IsFragment styling (shown_html styling new calls)
     IsFragment-shown =
         subst (IsFragment styling) (sym (shown_html-all styling new calls))
-        (IsFragment-styled styling (shown_styled new calls)
+        (IsFragment-styled styling (shown_styled new calls) (links-shown new calls)
         (of-shown AreTextual tt AreTextual-append (λ c good. AreTextual-printed (encode_utf8 c) (ArePrinted-encode c good.0)) (textual_feed, tt) columns rows bytes calls are))
 
     pub IsUtf8-shown : IsUtf8 (shown_html styling new calls)
     IsUtf8-shown =
         subst IsUtf8 (sym (shown_html-all styling new calls))
-        (IsUtf8-styled styling (shown_styled new calls)
+        (IsUtf8-styled styling (shown_styled new calls) (links-shown new calls)
         (of-shown (λ text. IsUtf8 (escaped_text text)) IsUtf8-nil IsUtf8-escaped (λ c good. IsUtf8-stripped (print c) good.0) (IsUtf8-stripped (execute 0x0A) tt) columns rows bytes calls are))

@@ -1,2 +1,4 @@
+pub mod Links
+pub mod Places
 pub mod Shown
 pub mod Writer

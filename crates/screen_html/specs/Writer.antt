@@ -7,25 +7,32 @@ use Rattle.ansi_html.specs.Html.{Element, element_end}
 use Rattle.ansi_html.specs.Styled.{styled_html, shown_after, output_of as styled_output, styling_of, shown_in}
 use Rattle.ansi_screen.specs.declared.cell.Cell.{Cell}
 use Rattle.ansi_screen.specs.Text.{goes_on}
-use Rattle.screen_text.specs.Rows.{WritesRow, WritesNothing}
+use Rattle.screen_text.specs.Rows.{WritesRow, WritesCommand, WritesNothing}
 use Rattle.screen_html.specs.declared.rows.HtmlRows.{HtmlRows}
+use Rattle.screen_html.specs.Links.{Kept, links_after}
 use Rattle.screen_html.specs.Shown.{row_styled, closing_styled}
 
--- Where it stands between two rows: how it says a style, the element of the last text, and whether a line is open.
+-- Where it stands between two rows: how it says a style, the element of the last text, the links that are kept,
+-- and whether a line is open.
 pub record Between : Type 0 where
   pub styling : Styling
   pub shown : Element
+  pub links : List Kept
   pub is_open : Bool
 
 abbrev pub row_html : Between → List Cell → List ℕ
-row_html at row = styled_html at.styling at.shown (row_styled row)
+row_html at row = styled_html at.styling at.shown (row_styled at.links row)
 
 abbrev pub after_row : Between → List Cell → Between
 after_row at row = record {
   styling = at.styling;
-  shown = shown_after at.shown (row_styled row);
+  shown = shown_after at.shown (row_styled at.links row);
+  links = at.links;
   is_open = goes_on row;
 }
+
+abbrev pub after_command : Between → ℕ → List (List ℕ) → Between
+after_command at number parts = record at { links = links_after number parts at.links }
 
 abbrev pub closing_html : Between → List ℕ
 closing_html at =
@@ -40,12 +47,16 @@ abbrev pub standing_of : {W : Type 0} → HtmlRows W → Between
 standing_of rows = record {
   styling = styling_of rows.writer;
   shown = shown_in rows.writer;
+  links = rows.links;
   is_open = rows.is_open;
 }
 
--- what a row does to it, and handing on what its output holds back
+-- what a row does to it, a command, and handing on what its output holds back
 abbrev pub TakesRow : {W : Type 0} → SinkOf W → HtmlRows W → List Cell → HtmlRows W → Type 0
 TakesRow sink old row new = WritesRow sink output_of standing_of row_html after_row old row new
+
+abbrev pub TakesCommand : {W : Type 0} → SinkOf W → HtmlRows W → ℕ → List (List ℕ) → HtmlRows W → Type 0
+TakesCommand sink old number parts new = WritesCommand sink output_of standing_of after_command old number parts new
 
 abbrev pub PassesOn : {W : Type 0} → SinkOf W → HtmlRows W → HtmlRows W → Type 0
 PassesOn sink old new = WritesNothing sink output_of standing_of old new

@@ -5,55 +5,67 @@
 //! let mut reader = FromRead::new(log);
 //! let writer = FromWrite::new(Vec::new(alloc));
 //! let screen = Screen::new(alloc, 80, 24)?;
+//! let links = LinkTable::new(alloc)?;
 //! let styling = Styling::Inline(Scheme::Both);
-//! let (writer, answer) = convert_shown(screen, styling, b"<pre>", &mut reader, writer, b"</pre>");
+//! let (writer, answer) = convert_shown(screen, links, styling, b"<pre>", &mut reader, writer, b"</pre>");
 //! // of 1 0 % CR ESC [ 1 m d o n e LF: <pre><span style="font-weight:bold;">done</span>, a line feed, </pre>
 //! ```
 #![tactic(auto)]
 
-ghost use Rattle.std.specs.Prelude.{◌≡◌, ◌≤◌, ◌+◌, ◌*◌, ◌++◌, ℕ, false, List, OnOk, length, map};
+ghost use Rattle.std.specs.Prelude.{◌≡◌, ◌≢◌, ◌≤◌, ◌+◌, ◌*◌, ◌++◌, [], ℕ, false, List, OnOk, IsTrue, length, map};
+ghost use Rattle.std.specs.List.{AllByRecursion};
 ghost use Rattle.std.specs.Str.{IsUtf8};
+ghost use Rattle.anstyle_parse.specs.Stream.Arguments.{parts_of};
 ghost use Rattle.anstyle_parse.specs.Stream.Call.{Call};
 ghost use Rattle.anstyle_parse.specs.Stream.Calls.{AreCalls};
 ghost use Rattle.anstyle_parse.specs.Io.Run.{RunsToEnding};
 ghost use Rattle.ansi_style.specs.declared.style.Style.{Style};
 ghost use Rattle.ansi_html.specs.declared.scheme.Scheme.{Scheme};
 ghost use Rattle.ansi_html.specs.Css.{selects_both, colors_css};
+ghost use Rattle.ansi_html.specs.Links.{IsLink, is_link_command, link_of, SaysLink};
 ghost use Rattle.ansi_html.specs.Styled.{all_shown};
-ghost use Rattle.ansi_html.specs.Reader.{byte_of, read, drawn};
+ghost use Rattle.ansi_html.specs.Reader.{byte_of, href_of, read, drawn};
 ghost use Rattle.ansi_html.specs.Grammar.{AreReadable, IsFragment};
 ghost use Rattle.ansi_screen.specs.After.{new_state};
 ghost use Rattle.screen_text.specs.Shown.{shown_text};
+ghost use Rattle.screen_html.specs.Links.{no_links};
 ghost use Rattle.screen_html.specs.Shown.{shown_styled, left_html, ending_html, shown_html};
 
 mod rows;
+mod table;
 
 use ansi_html::Styling;
 use ansi_screen::Screen;
 use anstyle_parse::io::{Fault, Output, Sink, Source, write_calls_by};
 pub use rows::HtmlRows;
 use screen_text::ShownWriter;
+pub use table::LinkTable;
 
 /// Writes what a screen showed of all bytes that the reader gives as HTML: the lines of
 /// [`screen_text::write_shown`], each character in the style of its cell, said as `styling` has it. `head` is
 /// written before it and `tail` after it, as they are.
 ///
-/// Text that is not plain stands in a span, one for each run of equal style in a line; a space that was passed over
-/// has the background of its cell. `& < > " '` are written as character references. Nothing else is written,
-/// so no input brings in markup. The fragment wants of its page what that of [`ansi_html::convert`] wants. A cell
-/// of a screen has no link, so there are none; and the cursor is not shown.
+/// Text that is not plain stands in a span, and text of a link (OSC 8) in one, one for each run of equal style and
+/// link in a line; a space that was passed over has the background of its cell. `& < > " '` are written as character
+/// references. Nothing else is written, so no input brings in markup. The fragment wants of its page what that of
+/// [`ansi_html::convert`] wants. A cell has the link that was in force as it was printed, where it is one that is
+/// shown there: until OSC 8 ends it or begins another, or RIS. Of a stream the last 1,024 links that began are kept:
+/// a row that leaves later, or still shows, has the others no more. The cursor is not shown.
 ///
 /// The bytes are read in pieces of at most 4096 and go to a new parser; no memory is taken. The writer is
 /// always handed back. The answer is that of [`write_calls_by`], and where a write of the head failed,
 /// `Err(Fault::Write)`: then nothing is read.
 pub fn convert_shown<R: Source, W: Sink>(
     screen: Screen,
+    links: LinkTable,
     styling: Styling,
     head: &[u8],
     reader: &mut R,
     writer: W,
     tail: &[u8],
 ) -> (W, Result<(), Fault>)
+    requires new { links ≡ no_links }
+
     // What is written is the head, the HTML of what the screen showed, and the tail.
     ensures runs { RunsToEnding R.Source W.Sink
         (λ calls. head.now ++ left_html styling screen calls)
@@ -63,7 +75,7 @@ pub fn convert_shown<R: Source, W: Sink>(
     // With Ok nothing of it is held back.
     ensures handed_on { OnOk result.1 (W.holds_nothing result.0) }
 
-    // Reading the HTML gives each cell's characters with the declarations of its style or its classes, and no link,
+    // Reading the HTML gives each cell's characters with the declarations of its style or its classes, and its link,
     ensures read_back { (calls : List Call)
         → read (shown_html styling screen calls) ≡ all_shown styling (shown_styled screen calls) }
 
@@ -79,8 +91,15 @@ pub fn convert_shown<R: Source, W: Sink>(
     ensures contrast { (scheme : Scheme) (style : Style) → selects_both style ≡ false
         → AreReadable scheme (colors_css scheme style) }
 
-    // No markup comes in: it is text, and spans that do not nest, with declarations or classes from a fixed
-    // vocabulary.
+    // A link's URI begins with https://, http:// or mailto:, and is visible ASCII.
+    ensures links { (calls : List Call) → AllByRecursion IsLink (map href_of (read (shown_html styling screen calls))) }
+
+    // It is the whole URI that a command says, none that was cut.
+    ensures whole_links { (text : List ℕ) → IsTrue (is_link_command (parts_of text)) → link_of (parts_of text) ≢ []
+        → SaysLink text (link_of (parts_of text)) }
+
+    // No markup comes in: it is text, and spans and links that do not nest, with declarations or classes from a
+    // fixed vocabulary.
     ensures grammar { (columns rows : ℕ) (bytes : List ℕ) (calls : List Call) → AreCalls bytes calls
         → IsFragment styling (shown_html styling (new_state columns rows) calls) }
 
@@ -88,12 +107,12 @@ pub fn convert_shown<R: Source, W: Sink>(
     ensures utf8 { (columns rows : ℕ) (bytes : List ℕ) (calls : List Call) → AreCalls bytes calls
         → IsUtf8 (shown_html styling (new_state columns rows) calls) }
 
-    // It has at most 302 bytes for each byte of the text, and 7 more: each can stand in a span of its own.
+    // It has at most 6543 bytes for each byte of the text, and 7 more: each can stand in a link of its own.
     ensures bound { (calls : List Call)
-        → length (shown_html styling screen calls) ≤ 302 * length (shown_text screen calls) + 7 }
+        → length (shown_html styling screen calls) ≤ 6543 * length (shown_text screen calls) + 7 }
 {
     let mut output = Output::new(writer);
     output.put(head);
-    let rows = HtmlRows::new(styling, output);
+    let rows = HtmlRows::new(styling, links, output);
     write_calls_by(ShownWriter::new(screen, rows), reader, tail)
 }

@@ -6,8 +6,9 @@ ghost use Rattle.ansi_html.specs.Html.{escaped_text};
 ghost use Rattle.ansi_html.specs.Styled.{output_of as styled_output, styling_of, shown_in, WritesStyled};
 ghost use Rattle.screen_html.specs.Shown.{cell_styled, line_feed, row_styled};
 
+use crate::table::LinkTable;
 use ansi_html::{StyledWriter, Styling};
-use ansi_screen::{Cell, LeftOut, Marks, TakeRow, goes_on, used};
+use ansi_screen::{Cell, LeftOut, Marks, TakeCommand, TakeRow, goes_on, used};
 use ansi_style::Style;
 use anstyle_parse::io::{Output, Sink};
 use screen_text::WriteRows;
@@ -29,51 +30,52 @@ fn put_marks<W: Sink>(writer: &mut StyledWriter<W>, marks: Marks)
     }
 }
 
-/// Writes the character of a cell, unless it is a right half, and its marks, in its style.
-fn put_cell<W: Sink>(writer: &mut StyledWriter<W>, cell: Cell)
-    ensures { WritesStyled W.Sink writer.old (cell_styled cell ∷ []) writer.new }
+/// Writes the character of a cell, unless it is a right half, and its marks, in its style and its link.
+fn put_cell<W: Sink>(writer: &mut StyledWriter<W>, links: &LinkTable, cell: Cell)
+    ensures { WritesStyled W.Sink writer.old (cell_styled links.now cell ∷ []) writer.new }
 {
     if !cell.is_right() {
-        writer.select(cell.style);
+        writer.select(cell.style, links.link(cell.link));
         writer.put_char(cell.character);
         put_marks(writer, cell.marks);
     }
 }
 
 /// The same of cells, one after another.
-fn put_cells<W: Sink>(writer: &mut StyledWriter<W>, cells: &[Cell])
-    ensures { WritesStyled W.Sink writer.old (map cell_styled cells.now) writer.new }
+fn put_cells<W: Sink>(writer: &mut StyledWriter<W>, links: &LinkTable, cells: &[Cell])
+    ensures { WritesStyled W.Sink writer.old (map (cell_styled links.now) cells.now) writer.new }
 {
     for cell in cells {
-        put_cell(writer, *cell);
+        put_cell(writer, links, *cell);
     }
 }
 
-/// Ends a line, and the span that is open.
-fn put_line_feed<W: Sink>(writer: &mut StyledWriter<W>)
+/// Ends a line, and the element that is open.
+fn put_line_feed<W: Sink>(writer: &mut StyledWriter<W>, links: &LinkTable)
     ensures { WritesStyled W.Sink writer.old (line_feed ∷ []) writer.new }
 {
-    writer.select(Style::default());
+    writer.select(Style::default(), links.none());
     writer.put_char('\n');
 }
 
 /// Writes a row, without the cells at its end where nothing was printed; with a line feed, unless
 /// it goes on.
-fn put_row<W: Sink>(writer: &mut StyledWriter<W>, row: &[Cell])
-    ensures { WritesStyled W.Sink writer.old (row_styled row.now) writer.new }
+fn put_row<W: Sink>(writer: &mut StyledWriter<W>, links: &LinkTable, row: &[Cell])
+    ensures { WritesStyled W.Sink writer.old (row_styled links.now row.now) writer.new }
 {
     let end = used(row, LeftOut::Unprinted);
-    put_cells(writer, &row[..end]);
+    put_cells(writer, links, &row[..end]);
     if !goes_on(row) {
-        put_line_feed(writer);
+        put_line_feed(writer, links);
     }
 }
 
-/// Writes rows as HTML: each run of equal style in a span, and a row that goes on and the next one as one
-/// line. No span goes over a line's end.
+/// Writes rows as HTML: each run of equal style and link in a span or a link, and a row that goes on and the next
+/// one as one line. No span and no link goes over a line's end.
 #[derive(Drop)]
 pub struct HtmlRows<W> {
     writer: StyledWriter<W>,
+    links: LinkTable,
     /// The last row goes on.
     is_open: bool,
 }
@@ -83,13 +85,19 @@ impl<W: Sink> HtmlRows<W> {
     ghost use Rattle.ansi_html.specs.Html.{no_element};
     ghost use Rattle.screen_html.specs.Writer.{output_of, standing_of};
 
-    /// One that writes to this output, says styles in this way, and has taken no row.
-    pub fn new(styling: Styling, output: Output<W>) -> HtmlRows<W>
+    /// One that writes to this output, says styles in this way, has these links, and has taken no row.
+    pub fn new(styling: Styling, links: LinkTable, output: Output<W>) -> HtmlRows<W>
         ensures output { output_of result ≡ output }
-        ensures new { standing_of result ≡ record { styling = styling; shown = no_element; is_open = false } }
+        ensures new { standing_of result ≡ record {
+          styling = styling;
+          shown = no_element;
+          links = links;
+          is_open = false;
+        } }
     {
         HtmlRows {
             writer: StyledWriter::new(styling, output),
+            links,
             is_open: false,
         }
     }
@@ -103,7 +111,7 @@ impl<W: Sink> TakeRow for HtmlRows<W> {
     ghost passes_on = { PassesOn W.Sink };
 
     fn take_row(&mut self, row: &[Cell]) {
-        put_row(&mut self.writer, row);
+        put_row(&mut self.writer, &self.links, row);
         self.is_open = goes_on(row);
     }
 
@@ -112,9 +120,20 @@ impl<W: Sink> TakeRow for HtmlRows<W> {
     }
 }
 
+/// A link that begins is kept by its number.
+impl<W: Sink> TakeCommand for HtmlRows<W> {
+    ghost use Rattle.screen_html.specs.Writer.{TakesCommand};
+
+    ghost takes_command = { TakesCommand W.Sink };
+
+    fn take_command(&mut self, link: u32, parts: &[&[u8]]) {
+        self.links.take_command(link, parts);
+    }
+}
+
 /// At the end it ends the last line, where the last row goes on.
 impl<W: Sink> WriteRows<W> for HtmlRows<W> {
-    ghost use Rattle.screen_html.specs.Writer.{Between, output_of, standing_of, row_html, after_row, closing_html};
+    ghost use Rattle.screen_html.specs.Writer.{Between, output_of, standing_of, row_html, after_row, after_command, closing_html};
 
     ghost output_in = { output_of };
 
@@ -128,6 +147,8 @@ impl<W: Sink> WriteRows<W> for HtmlRows<W> {
 
     ghost closing = { closing_html };
 
+    ghost after_command = { after_command };
+
     fn output(&self) -> &Output<W> {
         self.writer.output()
     }
@@ -135,15 +156,18 @@ impl<W: Sink> WriteRows<W> for HtmlRows<W> {
     fn into_output(self) -> Output<W> {
         let HtmlRows {
             mut writer,
+            links,
             is_open,
         } = self;
         if is_open {
-            put_line_feed(&mut writer);
+            put_line_feed(&mut writer, &links);
         }
         writer.into_output()
     }
 
     ghost writes_row = { λ old row new taken. taken };
+
+    ghost writes_command = { λ old link parts new taken. taken };
 
     ghost writes_nothing = { λ old new passed. passed };
 }

@@ -99,14 +99,14 @@ text-marked cells n width are long some =
     ∙ (text-mark (used is_unprinted row) (width - 1) row ∙ characters cells n are)))
 
 -- a character's cells
-glyph-at : (n c : ℕ) (t : Bool) → nat_eq n 2 ≡ t → ArePrinted (glyph n c plain) × (flat_map cell_text (glyph n c plain) ≡ encode_utf8 c)
+glyph-at : (n c : ℕ) (t : Bool) → nat_eq n 2 ≡ t → ArePrinted (glyph n c plain 0) × (flat_map cell_text (glyph n c plain 0) ≡ encode_utf8 c)
 unfolding is_unprinted cell_text
 glyph-at n c true is =
     rw is (((refl, refl), ((refl, refl), tt)), append-nil (encode_utf8 c ++ []) ∙ append-nil (encode_utf8 c))
 glyph-at n c false is = rw is (((refl, refl), tt), append-nil (encode_utf8 c ++ []) ∙ append-nil (encode_utf8 c))
 
-pub printed-glyph : (n c : ℕ) → ArePrinted (glyph n c plain)
+pub printed-glyph : (n c : ℕ) → ArePrinted (glyph n c plain 0)
 printed-glyph n c = (glyph-at n c _ refl).0
 
-pub text-glyph : (n c : ℕ) → flat_map cell_text (glyph n c plain) ≡ encode_utf8 c
+pub text-glyph : (n c : ℕ) → flat_map cell_text (glyph n c plain 0) ≡ encode_utf8 c
 text-glyph n c = (glyph-at n c _ refl).1

@@ -66,7 +66,7 @@ module _ (width height : ℕ) (wide : 2 ≤ width) where
       let some : 1 ≤ columns c = let other : columns c ≡ 0 → ⊥ = is.2 in omega arith in
       let room : length line.current + columns c ≤ width = ltb-false width (length line.current + columns c) test in
       let few : columns c ≤ 2 = columns-few c _ _ refl refl in
-      let run : List Cell = glyph (columns c) c plain in
+      let run : List Cell = glyph (columns c) c plain 0 in
       let next : Typed width height left line.all (line.current ++ run) (printed c d) =
       typed-put width height left line.all line.current d line.typed c is.1 some few room in
       let none : rows_left (print c) d ≡ [] = put-left width height left line.all line.current d line.typed c room in
@@ -76,13 +76,13 @@ module _ (width height : ℕ) (wide : 2 ≤ width) where
         typed = subst (λ l. Typed width height l line.all (line.current ++ run) (printed c d)) (sym (ap (λ l. left ++ l) none ∙ append-nil left)) next;
         shows = ap (λ l. rows_text line.all ++ l) (flat_map-append cell_text line.current run ∙ ap (λ l. flat_map cell_text line.current ++ l) (text-glyph (columns c) c))
             ∙ (sym (append_assoc (rows_text line.all) (flat_map cell_text line.current) (encode_utf8 c)) ∙ ap (λ l. l ++ encode_utf8 c) line.shows);
-        some = omega (arith, length-append line.current run, length-glyph (columns c) c plain _ refl some few);
+        some = omega (arith, length-append line.current run, length-glyph (columns c) c plain 0 _ refl some few);
       }
   print-line_at c least left text d true line test is =
       let some : 1 ≤ columns c = let other : columns c ≡ 0 → ⊥ = is.2 in omega arith in
       let full : width < length line.current + columns c = ltb-true width (length line.current + columns c) test in
       let few : columns c ≤ 2 = columns-few c _ _ refl refl in
-      let run : List Cell = glyph (columns c) c plain in
+      let run : List Cell = glyph (columns c) c plain 0 in
       let blank : ℕ = width - length line.current in
       let row : List Cell = mark (width - 1) (line.current ++ spaces blank) in
       let marked : row_text row ≡ flat_map cell_text line.current =
@@ -93,7 +93,7 @@ module _ (width height : ℕ) (wide : 2 ≤ width) where
         typed = typed-wrap width height c left line.all line.current d line.typed wide is.1 some few full;
         shows = ap (λ l. l ++ flat_map cell_text run) (rows-push line.all row ∙ (ap (λ l. rows_text line.all ++ l) marked ∙ line.shows))
             ∙ ap (λ l. text ++ l) (text-glyph (columns c) c);
-        some = omega (arith, length-glyph (columns c) c plain _ refl some few);
+        some = omega (arith, length-glyph (columns c) c plain 0 _ refl some few);
       }
 
   -- the characters of a line

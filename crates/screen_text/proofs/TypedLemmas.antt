@@ -58,13 +58,13 @@ put-glyph front run n m place long =
 -- a character that has room
 pub put-room : (width height row column n m c : ℕ) (front : List Cell) → is_shown c ≡ true → columns c ≡ n → 1 ≤ n
     → length front ≡ row * width + column → column + n ≤ width
-    → printed c (at width height (front ++ spaces (n + m)) row column) ≡ at width height (front ++ (glyph n c plain ++ spaces m)) row (column + n)
+    → printed c (at width height (front ++ spaces (n + m)) row column) ≡ at width height (front ++ (glyph n c plain 0 ++ spaces m)) row (column + n)
 unfolding printed shown put wrapped with_room with_glyph
 put-room width height row column n m c front is one some long room =
     let fits : nat_lt width (column + n) ≡ false = le-ltb width (column + n) room in
     let other : (n == 0) ≡ false = ne_eqb n 0 (λ e. omega arith) in
     rw (is, one, other, fits, fits)
-    (ap (λ cells. at width height cells row (column + n)) (put-glyph front (glyph n c plain) n m (row * width + column) long))
+    (ap (λ cells. at width height cells row (column + n)) (put-glyph front (glyph n c plain 0) n m (row * width + column) long))
 
 -- a character that has none is printed as on the next row
 pub put-wrapped : (width height row column row_then n c : ℕ) (cells cells_then : List Cell) → is_shown c ≡ true → columns c ≡ n → 1 ≤ n

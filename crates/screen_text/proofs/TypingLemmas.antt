@@ -58,17 +58,17 @@ module _ (width height : ℕ) (left all : List (List Cell)) (current : List Cell
 
   -- a character that has room
   pub typed-put : (c : ℕ) → is_shown c ≡ true → 1 ≤ columns c → columns c ≤ 2 → length current + columns c ≤ width
-      → Typed width height left all (current ++ glyph (columns c) c plain) (printed c d)
+      → Typed width height left all (current ++ glyph (columns c) c plain 0) (printed c d)
   typed-put c is some few room =
       let n : ℕ = columns c in
-      let run : List Cell = glyph n c plain in
+      let run : List Cell = glyph n c plain 0 in
       let enough_rest : width ≤ length current + typed.rest = enough in
       let rest : ℕ = typed.rest - n in
       let together : typed.rest ≡ n + rest = omega arith in
       let front : List Cell = joined typed.full ++ current in
       let front_long : length front ≡ length typed.full * width + length current =
       omega (arith, length-append (joined typed.full) current, length-joined width typed.full typed.long) in
-      let run_long : length run ≡ n = length-glyph n c plain _ refl some few in
+      let run_long : length run ≡ n = length-glyph n c plain 0 _ refl some few in
       let count : length current + n ≡ length (current ++ run) = omega (arith, length-append current run) in
       let fill : length typed.full * width + (length current + typed.rest) ≡ height * width = typed.fill in
       record {
@@ -185,7 +185,7 @@ wrap-left width height row column c cells is some full =
 pub typed-wrap : (width height c : ℕ) (left all : List (List Cell)) (current : List Cell) (d : Display) → Typed width height left all current d
     → 2 ≤ width → is_shown c ≡ true → 1 ≤ columns c → columns c ≤ 2 → width < length current + columns c
     → Typed width height (left ++ rows_left (print c) d) (all ++ mark (width - 1) (current ++ spaces (width - length current)) ∷ [])
-    (glyph (columns c) c plain) (printed c d)
+    (glyph (columns c) c plain 0) (printed c d)
 typed-wrap width height c left all current d typed wide is some few full =
     let line : List Cell = current ++ spaces (width - length current) in
     let row : List Cell = mark (width - 1) line in
@@ -212,6 +212,6 @@ typed-wrap width height c left all current d typed wide is some few full =
     ∙ (put-wrapped width height row_there (length current) (length next.typed.full) (columns c) c cells (joined next.typed.full ++ spaces next.typed.rest)
     is refl some full (omega arith) indexed
     ∙ ap (printed c) (sym next.typed.is)) in
-    subst (λ l. Typed width height (left ++ l) (all ++ row ∷ []) (glyph (columns c) c plain) (printed c d)) (sym out)
-    (subst (λ e. Typed width height (left ++ next.out) (all ++ row ∷ []) (glyph (columns c) c plain) e) (sym then_printed)
+    subst (λ l. Typed width height (left ++ l) (all ++ row ∷ []) (glyph (columns c) c plain 0) (printed c d)) (sym out)
+    (subst (λ e. Typed width height (left ++ next.out) (all ++ row ∷ []) (glyph (columns c) c plain 0) e) (sym then_printed)
     (typed-put width height (left ++ next.out) (all ++ row ∷ []) [] (index first) next.typed c is some few (omega arith)))

@@ -11,7 +11,7 @@ use Rattle.ansi_screen.specs.Display.{Display}
 use Rattle.ansi_screen.specs.Text.{cell_text, is_unprinted, goes_on, used, used_rows}
 use Rattle.ansi_screen.specs.Leaving.{first_rows}
 use Rattle.screen_text.specs.declared.rows.TextRows.{TextRows}
-use Rattle.screen_text.specs.Rows.{WritesRow, WritesNothing}
+use Rattle.screen_text.specs.Rows.{WritesRow, WritesCommand, WritesNothing}
 
 -- a row's characters, without the cells at its end where nothing was printed; with a line feed, unless it goes on
 abbrev pub row_text : List Cell → List ℕ
@@ -40,7 +40,7 @@ output_of rows = rows.output
 abbrev pub is_open : {W : Type 0} → TextRows W → Bool
 is_open rows = rows.is_open
 
--- What a row does to it, and handing on what its writer holds back: the text of a row is the same wherever
+-- What a row does to it, a command, and handing on what its writer holds back: the text of a row is the same wherever
 -- it stands, which is whether a line is open.
 abbrev pub row_text_at : (on : Bool) → List Cell → List ℕ
 row_text_at on row = row_text row
@@ -48,8 +48,14 @@ row_text_at on row = row_text row
 abbrev pub after_row : (on : Bool) → List Cell → Bool
 after_row on row = goes_on row
 
+abbrev pub after_command : (on : Bool) → (link : ℕ) → (parts : List (List ℕ)) → Bool
+after_command on link parts = on
+
 abbrev pub TakesRow : {W : Type 0} → SinkOf W → TextRows W → List Cell → TextRows W → Type 0
 TakesRow sink old row new = WritesRow sink output_of is_open row_text_at after_row old row new
+
+abbrev pub TakesCommand : {W : Type 0} → SinkOf W → TextRows W → ℕ → List (List ℕ) → TextRows W → Type 0
+TakesCommand sink old link parts new = WritesCommand sink output_of is_open after_command old link parts new
 
 abbrev pub PassesOn : {W : Type 0} → SinkOf W → TextRows W → TextRows W → Type 0
 PassesOn sink old new = WritesNothing sink output_of is_open old new

@@ -4,7 +4,7 @@ ghost use Rattle.screen_text.specs.Shown.{given, given_all};
 ghost use Rattle.screen_text.specs.Writer.{rows_of, screen_of, text_from, ending_from, Shows};
 
 use crate::rows::WriteRows;
-use ansi_screen::{LeftOut, Screen, Scrolling, TakeRow};
+use ansi_screen::{LeftOut, Screen, Scrolling, TakeCommand};
 use anstyle_parse::io::{Output, Sink, WritingPerformer};
 use anstyle_parse::{Params, Perform, PerformText};
 
@@ -17,7 +17,7 @@ pub struct ShownWriter<R> {
     scrolling: Scrolling<R>,
 }
 
-impl<R: TakeRow> ShownWriter<R> {
+impl<R: TakeCommand> ShownWriter<R> {
     /// One with this screen, of which no row has left, and this writer of rows. Nothing is written.
     pub fn new(screen: Screen, rows: R) -> ShownWriter<R>
         ensures rows { rows_of result ≡ rows }
@@ -30,8 +30,8 @@ impl<R: TakeRow> ShownWriter<R> {
 }
 
 /// A call does to the screen what it does; a line feed does a carriage return first.
-impl<R: TakeRow> Perform for ShownWriter<R> {
-    ghost means = { λ old call new. Shows R.takes R.passes_on old (given call) new };
+impl<R: TakeCommand> Perform for ShownWriter<R> {
+    ghost means = { λ old call new. Shows R.takes R.takes_command R.passes_on old (given call) new };
 
     fn print(&mut self, c: char) {
         self.scrolling.print(c);
@@ -58,6 +58,7 @@ impl<R: TakeRow> Perform for ShownWriter<R> {
 
     fn osc_dispatch(&mut self, params: &[&[u8]], bell_terminated: bool) {
         self.scrolling.osc_dispatch(params, bell_terminated);
+        self.scrolling.tell(params);
     }
 
     fn csi_dispatch(&mut self, params: &Params, intermediates: &[u8], ignore: bool, action: u8) {
@@ -70,16 +71,16 @@ impl<R: TakeRow> Perform for ShownWriter<R> {
     }
 }
 
-impl<R: TakeRow> PerformText for ShownWriter<R> {
+impl<R: TakeCommand> PerformText for ShownWriter<R> {
     ghost use Rattle.screen_text.specs.ShowingProof.{receives-none, receives-one, receives-more};
 
-    ghost receives = { λ old calls new. Shows R.takes R.passes_on old (given_all calls) new };
+    ghost receives = { λ old calls new. Shows R.takes R.takes_command R.passes_on old (given_all calls) new };
 
-    ghost receives_none = { receives-none R.takes R.passes_on };
+    ghost receives_none = { receives-none R.takes R.takes_command R.passes_on };
 
-    ghost receives_one = { receives-one R.takes R.passes_on };
+    ghost receives_one = { receives-one R.takes R.takes_command R.passes_on };
 
-    ghost receives_more = { receives-more R.takes R.passes_on };
+    ghost receives_more = { receives-more R.takes R.takes_command R.passes_on };
 }
 
 /// At the end it writes the rows that still show.
@@ -88,9 +89,9 @@ impl<W: Sink, R: WriteRows<W>> WritingPerformer<W> for ShownWriter<R> {
 
     ghost output_in = { λ performer. R.output_in (rows_of performer) };
 
-    ghost text_from = { text_from R.standing_in R.row_text R.after_row };
+    ghost text_from = { text_from R.standing_in R.row_text R.after_row R.after_command };
 
-    ghost ending_from = { ending_from R.standing_in R.row_text R.after_row R.closing };
+    ghost ending_from = { ending_from R.standing_in R.row_text R.after_row R.after_command R.closing };
 
     fn output(&self) -> &Output<W> {
         self.scrolling.taker().output()
@@ -108,10 +109,10 @@ impl<W: Sink, R: WriteRows<W>> WritingPerformer<W> for ShownWriter<R> {
         rows.into_output()
     }
 
-    ghost adds = { adds-shown W.Sink R.takes R.passes_on R.output_in R.standing_in R.row_text R.after_row
-        R.writes_row R.writes_nothing };
+    ghost adds = { adds-shown W.Sink R.takes R.takes_command R.passes_on R.output_in R.standing_in R.row_text R.after_row
+        R.after_command R.writes_row R.writes_command R.writes_nothing };
 
     ghost ends = { λ old calls new shows _.
-        ends-shown W.Sink R.takes R.passes_on R.output_in R.standing_in R.row_text R.after_row
-        R.writes_row R.writes_nothing R.closing old calls new shows };
+        ends-shown W.Sink R.takes R.takes_command R.passes_on R.output_in R.standing_in R.row_text R.after_row
+        R.after_command R.writes_row R.writes_command R.writes_nothing R.closing old calls new shows };
 }

@@ -4,13 +4,13 @@ ghost use Rattle.anstyle_parse.specs.declared.io.output.Output.{Output as AnOutp
 ghost use Rattle.anstyle_parse.specs.Io.Output.{Adds};
 ghost use Rattle.ansi_screen.specs.declared.cell.Cell.{Cell as ACell};
 ghost use Rattle.screen_text.specs.Lines.{row_text, closing};
-ghost use Rattle.screen_text.specs.Rows.{WritesRow, WritesNothing};
+ghost use Rattle.screen_text.specs.Rows.{WritesRow, WritesCommand, WritesNothing};
 
-use ansi_screen::{Cell, LeftOut, TakeRow, goes_on, put_cells, used};
+use ansi_screen::{Cell, LeftOut, TakeCommand, TakeRow, goes_on, put_cells, used};
 use anstyle_parse::io::{Output, Sink};
 
 /// Takes rows, and writes each to an output as it comes.
-pub trait WriteRows<W: Sink>: TakeRow {
+pub trait WriteRows<W: Sink>: TakeCommand {
     // The output that it writes to.
     ghost output_in: { Self → AnOutput W };
     // Where it stands between two rows,
@@ -24,6 +24,9 @@ pub trait WriteRows<W: Sink>: TakeRow {
 
     ghost closing: { Standing → List ℕ };
 
+    // An operating system command leads on without a text.
+    ghost after_command: { Standing → ℕ → List (List ℕ) → Standing };
+
     /// The output that it writes to.
     fn output(&self) -> &Output<W>
         ensures { result.now ≡ output_in self.now };
@@ -32,9 +35,13 @@ pub trait WriteRows<W: Sink>: TakeRow {
     fn into_output(self) -> Output<W>
         ensures { Adds W.Sink (closing (standing_in self)) (output_in self) result };
 
-    // By a row that it takes it writes this text; by handing on what it holds back, none.
+    // By a row that it takes it writes this text; by a command, or by handing on what it holds back, none.
     ghost writes_row: { (old : Self) (row : List ACell) (new : Self) → Self.takes old row new
         → WritesRow W.Sink output_in standing_in row_text after_row old row new };
+
+    ghost writes_command: { (old : Self) (link : ℕ) (parts : List (List ℕ)) (new : Self)
+        → Self.takes_command old link parts new
+        → WritesCommand W.Sink output_in standing_in after_command old link parts new };
 
     ghost writes_nothing: { (old new : Self) → Self.passes_on old new
         → WritesNothing W.Sink output_in standing_in old new };
@@ -93,10 +100,19 @@ impl<W: Sink> TakeRow for TextRows<W> {
     }
 }
 
+/// A command changes nothing.
+impl<W: Sink> TakeCommand for TextRows<W> {
+    ghost use Rattle.screen_text.specs.Lines.{TakesCommand};
+
+    ghost takes_command = { TakesCommand W.Sink };
+
+    fn take_command(&mut self, _link: u32, _parts: &[&[u8]]) {}
+}
+
 /// At the end it ends the last line, where the last row goes on.
 impl<W: Sink> WriteRows<W> for TextRows<W> {
     ghost use Rattle.std.specs.Prelude.{Bool};
-    ghost use Rattle.screen_text.specs.Lines.{output_of, is_open, row_text_at, after_row};
+    ghost use Rattle.screen_text.specs.Lines.{output_of, is_open, row_text_at, after_row, after_command};
 
     ghost output_in = { output_of };
 
@@ -109,6 +125,8 @@ impl<W: Sink> WriteRows<W> for TextRows<W> {
     ghost after_row = { after_row };
 
     ghost closing = { closing };
+
+    ghost after_command = { after_command };
 
     fn output(&self) -> &Output<W> {
         &self.output
@@ -126,6 +144,8 @@ impl<W: Sink> WriteRows<W> for TextRows<W> {
     }
 
     ghost writes_row = { λ old row new taken. taken };
+
+    ghost writes_command = { λ old link parts new taken. taken };
 
     ghost writes_nothing = { λ old new passed. passed };
 }

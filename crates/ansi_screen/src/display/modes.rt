@@ -212,6 +212,8 @@ impl Display {
         self.wraps = true;
         self.inserts = false;
         self.is_visible = true;
+        self.links = 0;
+        self.link = 0;
         self.is_alternate = false;
     }
 }

@@ -144,7 +144,7 @@ impl Display {
     {
         let here = self.here();
         let style = self.cursor.style;
-        self.cells.put(here, columns, c, style);
+        self.cells.put(here, columns, c, style, self.link);
         self.cursor.column += usize::from(columns);
     }
 }

@@ -1,15 +1,18 @@
 -- What a new writer writes, and the theorems.
-use Rattle.std.proofs.Common.{◌++◌, ℕ, List, sym, subst, ap, ◌∙◌}
+use Rattle.std.proofs.Common.{◌++◌, false, ℕ, List, sym, subst, ap, ◌∙◌}
 use Rattle.anstyle_parse.specs.Stream.Call.{Call}
 use Rattle.anstyle_parse.specs.Io.Output.{Adds}
 use Rattle.anstyle_parse.specs.Io.Run.{RunsToEnding}
 use Rattle.anstyle_parse.proofs.Written.Run.{Runs-same}
 use Rattle.screen_text.specs.Writer.{text_from, ending_from}
+use Rattle.ansi_html.proofs.WholeLemmas.{says_link}
 use Rattle.ansi_html.proofs.ColorLemmas.{AreReadable-css}
+use Rattle.ansi_html.specs.Html.{no_element}
+use Rattle.screen_html.specs.Links.{Kept}
 use Rattle.screen_html.specs.Shown.{left_html, ending_html}
-use Rattle.screen_html.specs.Writer.{output_of, standing_of, row_html, after_row, closing_html}
+use Rattle.screen_html.specs.Writer.{output_of, standing_of, row_html, after_row, after_command, closing_html}
 use Rattle.screen_html.proofs.ShownLemmas.{left-new, ending-new}
-use Rattle.screen_html.proofs.WholeLemmas.{read-shown, text-shown, drawn-shown, IsFragment-shown, IsUtf8-shown, length-shown}
+use Rattle.screen_html.proofs.WholeLemmas.{links-shown-html, read-shown, text-shown, drawn-shown, IsFragment-shown, IsUtf8-shown, length-shown}
 use Rattle.screen_html.proofs.convert_shown.Goals as goal
 
 pub returns-clause-runs : goal.returns-clause-runs
@@ -24,9 +27,9 @@ returns-clause-runs g c =
     let tail = c.args.tail.now in
     let text : List Call → List ℕ = λ calls. head ++ left_html styling screen calls in
     let ending : List Call → List ℕ = λ calls. ending_html styling screen calls ++ tail in
-    let its_text : List Call → List ℕ = λ calls. head ++ text_from standing_of row_html after_row performer calls in
-    let its_ending : List Call → List ℕ = λ calls. ending_from standing_of row_html after_row closing_html performer calls ++ tail in
-    let new = ap standing_of c.new.ensures.rows ∙ c.new-rows.ensures.new in
+    let its_text : List Call → List ℕ = λ calls. head ++ text_from standing_of row_html after_row after_command performer calls in
+    let its_ending : List Call → List ℕ = λ calls. ending_from standing_of row_html after_row after_command closing_html performer calls ++ tail in
+    let new = ap standing_of c.new.ensures.rows ∙ c.new-rows.ensures.new ∙ ap (λ (links : List Kept). record { styling = styling; shown = no_element; links = links; is_open = false }) c.requires.new in
     let output_is = ap output_of c.new.ensures.rows ∙ c.new-rows.ensures.output in
     let Ran : W → Type 0 = λ w. RunsToEnding {R = R} {W = W} {T = Unit {0}} g.R.Source g.W.Sink text ending
     c.args.reader.now c.write_calls_by.new.reader w c.write_calls_by.result.0 c.write_calls_by.result.1 in
@@ -49,6 +52,12 @@ returns-clause-lines g c = drawn-shown c.args.styling
 
 pub returns-clause-contrast : goal.returns-clause-contrast
 returns-clause-contrast g c = AreReadable-css
+
+pub returns-clause-links : goal.returns-clause-links
+returns-clause-links g c = links-shown-html c.args.styling c.args.screen
+
+pub returns-clause-whole_links : goal.returns-clause-whole_links
+returns-clause-whole_links g c = says_link
 
 pub returns-clause-grammar : goal.returns-clause-grammar
 returns-clause-grammar g c = IsFragment-shown c.args.styling

@@ -2,7 +2,7 @@
 use ansi_html::{Scheme, Styling};
 use ansi_screen::Screen;
 use anstyle_parse::io::{Fault, FromRead, FromWrite, Output, write_calls_by};
-use screen_html::{HtmlRows, convert_shown};
+use screen_html::{HtmlRows, LinkTable, convert_shown};
 use screen_text::{ShownWriter, WriteRows};
 use std::alloc::{AllocError, Global};
 use std::test::Fail;
@@ -14,8 +14,17 @@ fn shown(alloc: Global, log: &[u8]) -> Result<(Vec<u8>, Result<(), Fault>), Allo
     let mut reader = FromRead::new(log);
     let writer = FromWrite::new(Vec::new(alloc));
     let screen = Screen::new(alloc, 80, 24)?;
+    let links = LinkTable::new(alloc)?;
     let styling = Styling::Inline(Scheme::Both);
-    let (writer, answer) = convert_shown(screen, styling, b"<pre>", &mut reader, writer, b"</pre>");
+    let (writer, answer) = convert_shown(
+        screen,
+        links,
+        styling,
+        b"<pre>",
+        &mut reader,
+        writer,
+        b"</pre>",
+    );
     Ok((writer.into_inner(), answer))
 }
 
@@ -28,13 +37,28 @@ fn a_page(rt: HostRuntime) -> Result<(), Fail> {
     Ok(())
 }
 
+// A link over text, printed over in part, and erased; one to a script; a quote in a URI.
+#[test]
+fn links(rt: HostRuntime) -> Result<(), Fail> {
+    let log =
+        b"\x1b]8;;http://a\x07abc\x1b]8;;\x07\rX\n\x1b]8;;http://b\x07de\x1b[1D\x1b[K\n\x1b]8;;javascript:f\x07g\x1b]8;;mailto:'\x07h\n";
+    let (written, answer) = shown(rt.alloc(), log)?;
+    assert_eq!(rt; answer, Ok(()));
+    let wanted =
+        "<pre>X<a rel=\"nofollow noreferrer\" href=\"http://a\" style=\"color:inherit;\">bc</a>\n\
+        <a rel=\"nofollow noreferrer\" href=\"http://b\" style=\"color:inherit;\">d</a>\n\
+        g<a rel=\"nofollow noreferrer\" href=\"mailto:&#39;\" style=\"color:inherit;\">h</a>\n</pre>";
+    assert_eq!(rt; written.as_slice(), wanted.as_bytes());
+    Ok(())
+}
+
 fn writes_rows<T: WriteRows<Memory> + Drop>(_: &T) {}
 
 // A wide character that wraps, and a mark; no line feed between rows of a line.
 #[test]
 fn by_classes(rt: HostRuntime) -> Result<(), Fail> {
     let output = Output::new(FromWrite::new(Vec::new(rt.alloc())));
-    let rows = HtmlRows::new(Styling::Classes, output);
+    let rows = HtmlRows::new(Styling::Classes, LinkTable::new(rt.alloc())?, output);
     writes_rows(&rows);
     let performer = ShownWriter::new(Screen::new(rt.alloc(), 3, 1)?, rows);
     let mut reader = FromRead::new("\x1b[3ma<\u{301}\u{6F22}\x1b[m!".as_bytes());

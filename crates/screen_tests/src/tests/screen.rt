@@ -46,6 +46,7 @@ fn cell(character: char, style: Style, part: Part) -> Cell {
         marks: Marks::Unmarked,
         style,
         part,
+        link: 0,
         goes_on: false,
     }
 }
@@ -146,6 +147,7 @@ fn a_screen_shows_a_stream(rt: HostRuntime) -> Result<(), Fail> {
         marks: Marks::One('\u{301}'),
         style,
         part: Part::Whole,
+        link: 0,
         goes_on: false,
     };
     assert_eq!(rt; screen.row(0)[1], cell);

@@ -5,7 +5,7 @@ use Rattle.anstyle_parse.specs.Io.Output.{Adds}
 use Rattle.anstyle_parse.specs.Io.Run.{RunsToEnding}
 use Rattle.anstyle_parse.specs.Io.AddingProof.{Adds-nil}
 use Rattle.anstyle_parse.proofs.Written.Run.{Runs-same}
-use Rattle.screen_text.specs.Lines.{output_of, is_open, row_text_at, after_row, closing}
+use Rattle.screen_text.specs.Lines.{output_of, is_open, row_text_at, after_row, after_command, closing}
 use Rattle.screen_text.specs.Shown.{left_text, ending_text}
 use Rattle.screen_text.specs.Writer.{text_from, ending_from}
 use Rattle.screen_text.proofs.ShownLemmas.{text_from-new, ending_from-new}
@@ -18,8 +18,8 @@ returns-clause-runs g c =
     let start = c.new.result in
     let performer = c.new-2.result in
     let screen = c.args.screen in
-    let its_text : List Call → List ℕ = λ calls. [] ++ text_from is_open row_text_at after_row performer calls in
-    let its_ending : List Call → List ℕ = λ calls. ending_from is_open row_text_at after_row closing performer calls ++ [] in
+    let its_text : List Call → List ℕ = λ calls. [] ++ text_from is_open row_text_at after_row after_command performer calls in
+    let its_ending : List Call → List ℕ = λ calls. ending_from is_open row_text_at after_row after_command closing performer calls ++ [] in
     let closed = ap is_open c.new-2.ensures.rows ∙ c.new-rows.ensures.closed in
     let output_is = ap output_of c.new-2.ensures.rows ∙ c.new-rows.ensures.output in
     let Ran : W → Type 0 = λ w. RunsToEnding {R = R} {W = W} {T = Unit {0}} g.R.Source g.W.Sink (left_text screen) (ending_text screen)

@@ -5,4 +5,4 @@ use Rattle.ansi_screen.proofs.runs.put_narrow.Goals as goal
 
 pub returns : goal.returns
 returns c =
-    rw c.unmarked.ensures (cut-set-one c.args.cells.now c.cut.new.cells c.cut-2.new.cells c.args.place _ c.cut.ensures c.cut-2.ensures (omega arith))
+    rw c.printed.ensures (cut-set-one c.args.cells.now c.cut.new.cells c.cut-2.new.cells c.args.place _ c.cut.ensures c.cut-2.ensures (omega arith))

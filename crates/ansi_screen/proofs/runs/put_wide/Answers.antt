@@ -5,4 +5,4 @@ use Rattle.ansi_screen.proofs.runs.put_wide.Goals as goal
 
 pub returns : goal.returns
 returns c =
-    rw (c.unmarked.ensures, c.unmarked-2.ensures) (cut-set-two c.args.cells.now c.cut.new.cells c.cut-2.new.cells c.args.place _ _ c.cut.ensures c.cut-2.ensures (omega arith))
+    rw (c.printed.ensures, c.printed-2.ensures) (cut-set-two c.args.cells.now c.cut.new.cells c.cut-2.new.cells c.args.place _ _ c.cut.ensures c.cut-2.ensures (omega arith))

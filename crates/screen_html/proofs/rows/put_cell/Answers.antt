@@ -1,11 +1,11 @@
--- Its style is selected, and its character and marks are written.
-use Rattle.std.proofs.Common.{sym, ◌∙◌, subst}
+-- Its style and its link are selected, and its character and marks are written.
+use Rattle.std.proofs.Common.{sym, ap, ◌∙◌, subst}
 use Rattle.std.specs.Prelude.{encode_utf8}
 use Rattle.std.proofs.lemmas.Grind.{flat_map-append}
 use Rattle.anstyle_parse.specs.Io.Output.{Adds}
 use Rattle.anstyle_parse.proofs.Written.Output.{Adds-append}
-use Rattle.ansi_html.specs.Html.{escaped, escaped_text}
-use Rattle.ansi_html.specs.Styled.{output_of}
+use Rattle.ansi_html.specs.Html.{element, change, escaped, escaped_text}
+use Rattle.ansi_html.specs.Styled.{output_of, styling_of, shown_in}
 use Rattle.ansi_html.proofs.StyledWriterLemmas.{WritesStyled-text, WritesStyled-empty}
 use Rattle.ansi_screen.specs.Text.{marks_text}
 use Rattle.screen_html.specs.Shown.{cell_styled}
@@ -16,12 +16,14 @@ pub returns-then-not-is_right : goal.returns-then-not-is_right
 returns-then-not-is_right g c =
     let cell = c.args.cell in
     let other = sym c.is_right.ensures ∙ c.if-not-is_right.true in
+    let old = c.args.writer.now in
     let character = encode_utf8 cell.character in
     let marks = marks_text cell.marks in
     let selected = output_of c.select.new.self in
     let new = output_of c.put_marks.new.writer in
-    WritesStyled-text g.W.Sink c.args.writer.now c.select.new.self c.put_marks.new.writer (cell_styled cell) (cell_text-some cell other)
-    c.select.ensures.styling c.select.ensures.shown c.select.ensures.added
+    WritesStyled-text g.W.Sink c.args.writer.now c.select.new.self c.put_marks.new.writer (cell_styled c.args.links.now cell) (cell_text-some cell other)
+    c.select.ensures.styling (c.select.ensures.shown ∙ ap (element cell.style) c.link.ensures)
+    (subst (λ link. Adds g.W.Sink (change (styling_of old) (shown_in old) (element cell.style link)) (output_of old) selected) c.link.ensures c.select.ensures.added)
     (c.put_marks.ensures.styling ∙ c.put_char.ensures.styling) (c.put_marks.ensures.shown ∙ c.put_char.ensures.shown)
     (subst (λ t. Adds g.W.Sink (escaped_text t) selected new) (sym (cell_text-other cell other))
     (subst (λ t. Adds g.W.Sink t selected new) (sym (flat_map-append escaped character marks))
@@ -31,4 +33,4 @@ returns-then-not-is_right g c =
 pub returns-else-not-is_right : goal.returns-else-not-is_right
 returns-else-not-is_right g c =
     let right = sym c.is_right.ensures ∙ c.if-not-is_right.false in
-    WritesStyled-empty g.W.Sink c.args.writer.now (cell_styled c.args.cell) (cell_text-right c.args.cell right)
+    WritesStyled-empty g.W.Sink c.args.writer.now (cell_styled c.args.links.now c.args.cell) (cell_text-right c.args.cell right)

@@ -1,6 +1,7 @@
 -- The screen has received it.
+use Rattle.std.proofs.Common.{refl}
 use Rattle.screen_text.proofs.ShownLemmas.{scrolls-shows}
 use Rattle.screen_text.proofs.performer.ShownWriterPerform.csi_dispatch.Goals as goal
 
 pub returns : goal.returns
-returns g c = scrolls-shows g.R.TakeRow.takes g.R.TakeRow.passes_on _ c.args.self.now (record { scrolling = c.csi_dispatch.new.self }) c.csi_dispatch.ensures
+returns g c = scrolls-shows g.R.TakeRow.takes g.R.TakeCommand.takes_command g.R.TakeRow.passes_on _ c.args.self.now (record { scrolling = c.csi_dispatch.new.self }) refl c.csi_dispatch.ensures

@@ -13,8 +13,8 @@ returns g c =
     let Received : ShownWriter g.row.R.Denot → Type 0 = λ before. Scrolls g.R.TakeRow.takes before.scrolling (execute c.args.byte) new.scrolling in
     elim c.if-byte-eq10.branch [
       | then-byte-eq10 w ↦
-          shows-feed g.R.TakeRow.takes g.R.TakeRow.passes_on c.args.byte c.args.self.now (record { scrolling = w.execute.new.self }) new
+          shows-feed g.R.TakeRow.takes g.R.TakeCommand.takes_command g.R.TakeRow.passes_on c.args.byte c.args.self.now (record { scrolling = w.execute.new.self }) new
           w.if-byte-eq10.true w.execute.ensures (subst Received w.self-is c.execute-2.ensures)
       | else-byte-eq10 w ↦
-          shows-control g.R.TakeRow.takes g.R.TakeRow.passes_on c.args.byte c.args.self.now new w.if-byte-eq10.false (subst Received w.self-is c.execute-2.ensures)
+          shows-control g.R.TakeRow.takes g.R.TakeCommand.takes_command g.R.TakeRow.passes_on c.args.byte c.args.self.now new w.if-byte-eq10.false (subst Received w.self-is c.execute-2.ensures)
     ]

@@ -4,5 +4,5 @@ use Rattle.screen_text.proofs.performer.ShownWriterWritingPerformer.pass_on.Goal
 
 pub returns : goal.returns
 returns g c =
-    shows-passed g.R.TakeRow.takes g.R.TakeRow.passes_on c.args.self.now (record { scrolling = c.pass_on.new.self })
+    shows-passed g.R.TakeRow.takes g.R.TakeCommand.takes_command g.R.TakeRow.passes_on c.args.self.now (record { scrolling = c.pass_on.new.self })
     c.pass_on.ensures.screen c.pass_on.ensures.taker

@@ -1,0 +1,92 @@
+//! The links of a stream by their numbers.
+ghost use Rattle.std.specs.Prelude.{◌≡◌, ◌<◌, ◌%◌, ℕ, [], length, map, IfOk};
+ghost use Rattle.ansi_html.specs.ShownLinks.{link_in};
+
+use ansi_html::{Link, is_link_command};
+use std::alloc::{AllocError, Global};
+use std::marker::Model;
+
+/// How many links are kept.
+const MOST_KEPT: usize = 1024;
+
+/// A number, and its link.
+#[derive(Drop)]
+pub(crate) struct Place {
+    number: u32,
+    link: Link,
+}
+
+/// The links of a stream by the numbers that a screen gives them, in memory that is taken once: the last 1,024 that
+/// began.
+#[derive(Drop)]
+pub struct LinkTable {
+    /// A link's place is its number modulo their number.
+    places: Vec<Place>,
+    none: Link,
+}
+
+impl Model for LinkTable {
+    ghost use Rattle.std.specs.Prelude.{◌≡◌, [], List, length, map};
+    ghost use Rattle.ansi_html.specs.ShownLinks.{link_in};
+    ghost use Rattle.screen_html.specs.Links.{Kept};
+    ghost use Rattle.screen_html.specs.Places.{kept_in};
+
+    ghost Value = { List Kept };
+
+    ghost view = { λ table. map kept_in table.places.items };
+
+    ghost invariant = { λ table. (length table.places.items ≡ 1024) × (link_in table.none ≡ []) };
+}
+
+impl LinkTable {
+    ghost use Rattle.screen_html.specs.Links.{no_links, link_at, links_after};
+
+    /// One that has no link yet. `Err` means that memory is wanting.
+    pub fn new(alloc: Global) -> Result<LinkTable, AllocError>
+        ensures { IfOk result (λ table. table ≡ no_links) }
+    {
+        let mut places = Vec::with_capacity(alloc, MOST_KEPT)?;
+        for _place in 0..MOST_KEPT {
+            places.push(Place {
+                number: 0,
+                link: Link::none(),
+            })?;
+        }
+        Ok(LinkTable {
+            places,
+            none: Link::none(),
+        })
+    }
+
+    /// No link.
+    pub(crate) fn none(&self) -> &Link
+        ensures { link_in result.now ≡ [] }
+    {
+        &self.none
+    }
+
+    /// The link of a number; none where it is no more kept.
+    #[tactic(auto, unfolding(crate::specs::Links::link_at))]
+    pub(crate) fn link(&self, number: u32) -> &Link
+        ensures { link_in result.now ≡ link_at number self.now }
+    {
+        let place = &self.places.as_slice()[number as usize % MOST_KEPT];
+        if place.number == number {
+            &place.link
+        } else {
+            &self.none
+        }
+    }
+
+    /// Keeps the link of a command, behind which the one of this number is in force.
+    #[tactic(auto, unfolding(crate::specs::Links::links_after))]
+    pub(crate) fn take_command(&mut self, number: u32, parts: &[&[u8]])
+        ensures { self.new ≡ links_after number (map (λ part. part.now) parts.now) self.old }
+    {
+        if is_link_command(parts) && number != 0 {
+            let place = &mut self.places.as_mut_slice()[number as usize % MOST_KEPT];
+            place.number = number;
+            place.link.select(parts);
+        }
+    }
+}

@@ -1,8 +1,9 @@
-"""Drawing a screen, executable: crates/screen_draw/specs/Draw.antt over tests/screen/twin.py.
+"""Drawing a screen, executable: crates/screen_draw/specs/Draw.antt and Redrawn.antt over tests/screen/twin.py.
 
-    drawn(display)      the bytes that ansi2screen --draw must write
-    alike(display)      what of a screen these bytes must lead to: all but what REP repeats, whether a row goes
-                        on, and whether a space was printed or nothing stands there
+    drawn(display)          the bytes that ansi2screen --draw must write
+    drawn_state(display)    the screen that these bytes must lead to: all of it but what REP repeats, whether a row
+                            goes on, and in few places whether a space was printed or nothing stands there
+    state(display)          a screen, to be compared with it
 """
 
 import styles
@@ -87,12 +88,26 @@ def drawn(display):
     return text.encode()
 
 
-def alike(display):
-    part = lambda it: WHOLE if it == EMPTY else it
+def as_printed(cell):
+    c, part, marks, _, style = cell
+    return c, WHOLE if part == EMPTY else part, marks, False, style
+
+
+def as_drawn(cell):
+    return (*cell[:3], False, cell[4]) if is_erased(cell) else as_printed(cell)
+
+
+def drawn_state(display):
+    cells, last = [as_drawn(cell) for cell in display.cells], display.row_end() - 1
+    if display.cursor.column == display.width:
+        cells[last] = as_printed(display.cells[last])
+    return (cells, [as_drawn(cell) for cell in display.hidden], *state(display)[2:])
+
+
+def state(display):
     places = display.cursor, display.saved, display.hidden_saved
-    shown = [[(c, part(it), marks, style) for c, it, marks, _, style in cells] for cells in (display.cells, display.hidden)]
-    return (*shown, *map(place_of, places), display.top, display.bottom, display.tabs, display.wraps, display.inserts,
-            display.is_visible, display.is_alternate)
+    return (list(display.cells), list(display.hidden), *map(place_of, places), display.top, display.bottom, display.tabs,
+            display.wraps, display.inserts, display.is_visible, display.is_alternate)
 
 
 def place_of(place):

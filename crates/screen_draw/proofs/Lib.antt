@@ -1,2 +1,11 @@
 pub mod DrawLemmas
 pub mod SelectedLemmas
+pub mod CanvasLemmas
+pub mod PaintLemmas
+pub mod CellsLemmas
+pub mod ScreenLemmas
+pub mod SavedLemmas
+pub mod BehindLemmas
+pub mod RestLemmas
+pub mod CursorLemmas
+pub mod RedrawnLemmas

@@ -17,22 +17,22 @@ use Rattle.screen_draw.specs.Draw.{escape, sequence, private_mode, set_or_reset,
 use Rattle.screen_draw.specs.Laws.{HasModes}
 
 -- a private mode; IRM; a style
-after-private : (mode : ℕ) (on : Bool) (s : State) → (after (private_mode mode on) s).display ≡ with_private_mode on mode s.display
+pub after-private : (mode : ℕ) (on : Bool) (s : State) → (after (private_mode mode on) s).display ≡ with_private_mode on mode s.display
 unfolding sequenced is_repeat
 after-private mode true s = refl
 after-private mode false s = refl
 
-after-insert : (on : Bool) (s : State) → (after (sequence (4 ∷ []) (set_or_reset on)) s).display ≡ record s.display { inserts = on }
+pub after-insert : (on : Bool) (s : State) → (after (sequence (4 ∷ []) (set_or_reset on)) s).display ≡ record s.display { inserts = on }
 unfolding sequenced is_repeat function_of controlled set_by with_mode
 after-insert true s = refl
 after-insert false s = refl
 
-after-select : (style : Style) (s : State) → (after (select style) s).display ≡ with_style (codes_of style) s.display
+pub after-select : (style : Style) (s : State) → (after (select style) s).display ≡ with_style (codes_of style) s.display
 unfolding sequenced is_repeat function_of controlled set_by
 after-select style s = refl
 
 -- the three modes
-after-modes : (drawn : Display) (s : State)
+pub after-modes : (drawn : Display) (s : State)
     → (after_all (modes_calls drawn) s).display ≡ record s.display { wraps = drawn.wraps; inserts = drawn.inserts; is_visible = drawn.is_visible }
 unfolding with_private_mode
 after-modes drawn s =
@@ -43,7 +43,7 @@ after-modes drawn s =
     (after-insert drawn.inserts first ∙ ap (λ (d : Display). record d { inserts = drawn.inserts }) (after-private 7 drawn.wraps s))
 
 -- the sets, whatever they were
-after-sets : (g0 g1 uses : Bool) (s : State)
+pub after-sets : (g0 g1 uses : Bool) (s : State)
     → (after_all (charsets_calls (record { g0_draws = g0; g1_draws = g1; uses_g1 = uses })) s).display
     ≡ with_charsets (record { g0_draws = g0; g1_draws = g1; uses_g1 = uses }) s.display
 unfolding designated executed with_charset
@@ -85,12 +85,12 @@ cursor-selects drawn s =
     (place-selects drawn.top (last_column drawn) (Some (last_cell drawn)) drawn.cursor s) (place-selects drawn.top drawn.cursor.column None drawn.cursor s)
 
 -- The cursor and the modes come last.
-before_cursor : Display → State → State
+unfoldable pub before_cursor : Display → State → State
 before_cursor drawn s =
     after_all (sequence ((drawn.top + 1) ∷ drawn.bottom ∷ []) 0x72 ∷ []) (after_all (stops_calls 0 drawn.tabs) (after_all plain_calls
     (after_all (screen_calls drawn.width drawn.saved drawn.cells) (after_all (covered_calls drawn) (after (escape 0x63) s)))))
 
-last-calls : (drawn : Display) (s : State)
+pub last-calls : (drawn : Display) (s : State)
     → after_all (drawn_calls drawn) s ≡ after_all (modes_calls drawn) (after_all (cursor_calls drawn) (before_cursor drawn s))
 unfolding before_cursor
 last-calls drawn s =

@@ -1,3 +1,4 @@
 pub mod Draw
 pub mod Drawing
 pub mod Laws
+pub mod Redrawn

@@ -2,9 +2,11 @@
 ghost use Rattle.std.specs.Prelude.{◌≡◌};
 ghost use Rattle.ansi_screen.specs.After.{State, after_all};
 ghost use Rattle.ansi_screen.specs.Display.{Display};
+ghost use Rattle.ansi_screen.specs.Reachable.{IsScreen, HasContents};
 ghost use Rattle.ansi_style.specs.Style.{HasBytes};
 ghost use Rattle.screen_draw.specs.Draw.{drawn_calls};
 ghost use Rattle.screen_draw.specs.Laws.{HasModes};
+ghost use Rattle.screen_draw.specs.Redrawn.{drawn_state};
 
 /// Whatever stood there, nothing of it counts: the calls that draw a screen lead any two screens of one
 /// size to the same one.
@@ -23,4 +25,12 @@ pub fn selected()
         → (after_all (drawn_calls drawn) old).display.cursor.style ≡ drawn.cursor.style }
     ensures sets { (drawn : Display) (old : State)
         → (after_all (drawn_calls drawn) old).display.cursor.charsets ≡ drawn.cursor.charsets }
+{}
+
+/// The same screen shows: the calls that draw a screen lead every screen of its size to it, all of it but what REP
+/// repeats, whether a row goes on, and whether a space was printed or nothing stands there.
+pub fn redrawn()
+    ensures { (drawn : Display) (old : State) → IsScreen drawn → HasContents drawn
+        → old.display.width ≡ drawn.width → old.display.height ≡ drawn.height
+        → after_all (drawn_calls drawn) old ≡ drawn_state drawn }
 {}

@@ -14,6 +14,10 @@ ghost use Rattle.anstyle_parse.specs.Stream.Calls.{AreCalls};
 ghost use Rattle.anstyle_parse.specs.Stream.Canon.{canon};
 ghost use Rattle.screen_draw.specs.Draw.{drawn_calls};
 ghost use Rattle.screen_draw.specs.Drawing.{IsDrawing};
+ghost use Rattle.screen_draw.specs.Redrawn.{drawn_state};
+ghost use Rattle.ansi_screen.specs.After.{State, Shows};
+ghost use Rattle.ansi_screen.specs.Reachable.{IsScreen, HasContents};
+ghost use Rattle.std.specs.Prelude.{◌≡◌};
 ghost use Rattle.std.specs.List.{AllByRecursion};
 
 use ansi_screen::Screen;
@@ -35,6 +39,12 @@ pub fn draw<W: Sink>(screen: &Screen, output: &mut Output<W>)
     // A parser makes these calls of it, and no others.
     ensures made { AreCalls (canon (drawn_calls screen.now.display)) (drawn_calls screen.now.display) }
     ensures lawful { AreLawful (drawn_calls screen.now.display) }
+
+    // A terminal of that size that takes this text shows the screen, whatever it showed before: each screen that a
+    // stream leads to has these premises (`ansi_screen::laws::reachable`, `contents`).
+    ensures redrawn { (old new : State) → IsScreen screen.now.display → HasContents screen.now.display
+        → old.display.width ≡ screen.now.display.width → old.display.height ≡ screen.now.display.height
+        → Shows old (canon (drawn_calls screen.now.display)) new → new ≡ drawn_state screen.now.display }
 
     // They print what is shown, and have no controls but SO and SI, and no strings.
     ensures only { AllByRecursion IsDrawing (drawn_calls screen.now.display) }

@@ -1,6 +1,11 @@
 -- They are lawful, and so replayed.
 use Rattle.anstyle_parse.proofs.Canonical.Replay.{replay}
+use Rattle.std.proofs.Common.{sym}
+use Rattle.anstyle_parse.specs.Stream.Canon.{canon}
+use Rattle.ansi_screen.proofs.LawLemmas.{Shows-only}
 use Rattle.screen_draw.specs.Draw.{drawn_calls}
+use Rattle.screen_draw.specs.Redrawn.{drawn_state}
+use Rattle.screen_draw.proofs.RedrawnLemmas.{redrawn-is}
 use Rattle.screen_draw.proofs.DrawLemmas.{drawing-lawful}
 use Rattle.screen_draw.proofs.draw.Goals as goal
 
@@ -9,3 +14,9 @@ returns-clause-made g c = replay (drawn_calls c.args.screen.now.display) (drawin
 
 pub returns-clause-lawful : goal.returns-clause-lawful
 returns-clause-lawful g c = drawing-lawful (drawn_calls c.args.screen.now.display) c.put_all.ensures.drawing
+
+pub returns-clause-redrawn : goal.returns-clause-redrawn
+returns-clause-redrawn g c = λ old new is holds width height shows.
+    let d = c.args.screen.now.display in
+    Shows-only (canon (drawn_calls d)) old new (drawn_state d) shows
+    (drawn_calls d, replay (drawn_calls d) (drawing-lawful (drawn_calls d) c.put_all.ensures.drawing), sym (redrawn-is d old is holds width height))

@@ -3,7 +3,7 @@ use ansi_screen::{Place, Screen, is_shown};
 use anstyle_parse::io::{FromWrite, Output};
 use anstyle_parse::{Parser, Utf8Parser};
 use screen_draw::draw;
-use screen_draw::laws::{forgets, selected};
+use screen_draw::laws::{forgets, redrawn, selected};
 use std::alloc::{AllocError, Global};
 use std::test::Fail;
 
@@ -51,6 +51,7 @@ fn a_drawing(rt: HostRuntime) -> Result<(), Fail> {
     draw(&screen, &mut output);
     forgets();
     selected();
+    redrawn();
     let (sink, answer) = output.finish();
     assert!(rt; answer.is_ok());
     let again = shown(rt.alloc(), sink.into_inner().as_slice())?;

@@ -9,7 +9,7 @@ use ansi_html::convert;
 use ansi_screen::Screen;
 use anstyle_parse::canon::FromRead;
 use form::write_stylesheet;
-use screen_html::{LinkTable, convert_shown};
+use screen_html::{LinkMemory, convert_shown};
 use screen_text::{SHOWN, screen_size};
 use standard_streams::{
     answered, asked_of, buffered, ended_with_reason, failed, given_words, value_of, wrong_size,
@@ -48,10 +48,10 @@ fn main(rt: HostRuntime) -> ExitCode {
             let Ok(screen) = Screen::new(rt.alloc(), size.columns, size.rows) else {
                 return failed(&rt, PROGRAM, "out of memory");
             };
-            let Ok(links) = LinkTable::new(rt.alloc()) else {
+            let Ok(memory) = LinkMemory::new(rt.alloc()) else {
                 return failed(&rt, PROGRAM, "out of memory");
             };
-            convert_shown(screen, links, styling, head, &mut reader, output, tail)
+            convert_shown(screen, memory, styling, head, &mut reader, output, tail)
         }
     };
     ended_with_reason(&rt, PROGRAM, reader, ran)

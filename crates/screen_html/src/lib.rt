@@ -5,9 +5,9 @@
 //! let mut reader = FromRead::new(log);
 //! let writer = FromWrite::new(Vec::new(alloc));
 //! let screen = Screen::new(alloc, 80, 24)?;
-//! let links = LinkTable::new(alloc)?;
+//! let memory = LinkMemory::new(alloc)?;
 //! let styling = Styling::Inline(Scheme::Both);
-//! let (writer, answer) = convert_shown(screen, links, styling, b"<pre>", &mut reader, writer, b"</pre>");
+//! let (writer, answer) = convert_shown(screen, memory, styling, b"<pre>", &mut reader, writer, b"</pre>");
 //! // of 1 0 % CR ESC [ 1 m d o n e LF: <pre><span style="font-weight:bold;">done</span>, a line feed, </pre>
 //! ```
 #![tactic(auto)]
@@ -28,7 +28,6 @@ ghost use Rattle.ansi_html.specs.Reader.{byte_of, href_of, read, drawn};
 ghost use Rattle.ansi_html.specs.Grammar.{AreReadable, IsFragment};
 ghost use Rattle.ansi_screen.specs.After.{new_state};
 ghost use Rattle.screen_text.specs.Shown.{shown_text};
-ghost use Rattle.screen_html.specs.Links.{no_links};
 ghost use Rattle.screen_html.specs.Shown.{shown_styled, left_html, ending_html, shown_html};
 
 mod rows;
@@ -39,7 +38,7 @@ use ansi_screen::Screen;
 use anstyle_parse::io::{Fault, Output, Sink, Source, write_calls_by};
 pub use rows::HtmlRows;
 use screen_text::ShownWriter;
-pub use table::LinkTable;
+pub use table::LinkMemory;
 
 /// Writes what a screen showed of all bytes that the reader gives as HTML: the lines of
 /// [`screen_text::write_shown`], each character in the style of its cell, said as `styling` has it. `head` is
@@ -57,15 +56,13 @@ pub use table::LinkTable;
 /// `Err(Fault::Write)`: then nothing is read.
 pub fn convert_shown<R: Source, W: Sink>(
     screen: Screen,
-    links: LinkTable,
+    memory: LinkMemory,
     styling: Styling,
     head: &[u8],
     reader: &mut R,
     writer: W,
     tail: &[u8],
 ) -> (W, Result<(), Fault>)
-    requires new { links ≡ no_links }
-
     // What is written is the head, the HTML of what the screen showed, and the tail.
     ensures runs { RunsToEnding R.Source W.Sink
         (λ calls. head.now ++ left_html styling screen calls)
@@ -113,6 +110,6 @@ pub fn convert_shown<R: Source, W: Sink>(
 {
     let mut output = Output::new(writer);
     output.put(head);
-    let rows = HtmlRows::new(styling, links, output);
+    let rows = HtmlRows::new(styling, memory, output);
     write_calls_by(ShownWriter::new(screen, rows), reader, tail)
 }

@@ -6,7 +6,7 @@ ghost use Rattle.ansi_html.specs.Html.{escaped_text};
 ghost use Rattle.ansi_html.specs.Styled.{output_of as styled_output, styling_of, shown_in, WritesStyled};
 ghost use Rattle.screen_html.specs.Shown.{cell_styled, line_feed, row_styled};
 
-use crate::table::LinkTable;
+use crate::table::{LinkMemory, LinkTable};
 use ansi_html::{StyledWriter, Styling};
 use ansi_screen::{Cell, LeftOut, Marks, TakeCommand, TakeRow, goes_on, used};
 use ansi_style::Style;
@@ -83,21 +83,22 @@ pub struct HtmlRows<W> {
 impl<W: Sink> HtmlRows<W> {
     ghost use Rattle.std.specs.Prelude.{false};
     ghost use Rattle.ansi_html.specs.Html.{no_element};
+    ghost use Rattle.screen_html.specs.Links.{no_links};
     ghost use Rattle.screen_html.specs.Writer.{output_of, standing_of};
 
-    /// One that writes to this output, says styles in this way, has these links, and has taken no row.
-    pub fn new(styling: Styling, links: LinkTable, output: Output<W>) -> HtmlRows<W>
+    /// One that writes to this output, says styles in this way, keeps links in this memory, and has taken no row.
+    pub fn new(styling: Styling, memory: LinkMemory, output: Output<W>) -> HtmlRows<W>
         ensures output { output_of result ≡ output }
         ensures new { standing_of result ≡ record {
           styling = styling;
           shown = no_element;
-          links = links;
+          links = no_links;
           is_open = false;
         } }
     {
         HtmlRows {
             writer: StyledWriter::new(styling, output),
-            links,
+            links: memory.into_table(),
             is_open: false,
         }
     }

@@ -16,10 +16,44 @@ pub(crate) struct Place {
     link: Link,
 }
 
-/// The links of a stream by the numbers that a screen gives them, in memory that is taken once: the last 1,024 that
-/// began.
+/// Memory for the last 1,024 links that begin in a stream, of about 1 MiB. It has none yet.
 #[derive(Drop)]
-pub struct LinkTable {
+pub struct LinkMemory {
+    table: LinkTable,
+}
+
+impl Model for LinkMemory {
+    ghost use Rattle.std.specs.Prelude.{◌≡◌, List};
+    ghost use Rattle.screen_html.specs.Links.{Kept, no_links};
+
+    ghost Value = { List Kept };
+
+    ghost view = { λ memory. memory.table };
+
+    ghost invariant = { λ memory. memory.table ≡ no_links };
+}
+
+impl LinkMemory {
+    ghost use Rattle.screen_html.specs.Links.{no_links};
+
+    /// Takes it. `Err` means that memory is wanting.
+    pub fn new(alloc: Global) -> Result<LinkMemory, AllocError> {
+        Ok(LinkMemory {
+            table: LinkTable::new(alloc)?,
+        })
+    }
+
+    /// A table that has no link.
+    pub(crate) fn into_table(self) -> LinkTable
+        ensures { result ≡ no_links }
+    {
+        self.table
+    }
+}
+
+/// The links of a stream by the numbers that a screen gives them: the last 1,024 that began.
+#[derive(Drop)]
+pub(crate) struct LinkTable {
     /// A link's place is its number modulo their number.
     places: Vec<Place>,
     none: Link,
@@ -42,7 +76,7 @@ impl LinkTable {
     ghost use Rattle.screen_html.specs.Links.{no_links, link_at, links_after};
 
     /// One that has no link yet. `Err` means that memory is wanting.
-    pub fn new(alloc: Global) -> Result<LinkTable, AllocError>
+    fn new(alloc: Global) -> Result<LinkTable, AllocError>
         ensures { IfOk result (λ table. table ≡ no_links) }
     {
         let mut places = Vec::with_capacity(alloc, MOST_KEPT)?;

@@ -2,6 +2,7 @@
 //! type of theirs has of a trait of std: what is gone is missed here.
 use ansi_html::Element;
 use ansi_html::HtmlWriter;
+use ansi_html::Link;
 use ansi_html::Scheme;
 use ansi_html::Standing;
 use ansi_html::StyledWriter;
@@ -11,6 +12,7 @@ use ansi_html::contrast::Rgb;
 use ansi_html::contrast::WHITE;
 use ansi_html::contrast::linear;
 use ansi_html::convert;
+use ansi_html::is_link_command;
 use ansi_html::put_stylesheet;
 use ansi_html::put_text;
 use ansi_strip::Stripper;
@@ -312,7 +314,12 @@ fn names_of_runs(rt: HostRuntime) {
     assert_well(&rt, write_calls_by(writer, &mut reader(), b">"));
     let output = Output::new(memory(rt.alloc()));
     let mut writer = StyledWriter::new(Styling::Classes, output);
-    writer.select(Style::default());
+    let parts: [&[u8]; 3] = [b"8", b"", b"http://a"];
+    assert!(rt; is_link_command(&parts));
+    let mut link = Link::none();
+    link.select(&parts);
+    assert_eq!(rt; link.uri(), b"http://a".as_slice());
+    writer.select(Style::default(), &link);
     writer.put_char('a');
     writer.pass_on();
     assert!(rt; writer.output().fault().is_none());

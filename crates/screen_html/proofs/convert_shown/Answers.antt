@@ -7,8 +7,6 @@ use Rattle.anstyle_parse.proofs.Written.Run.{Runs-same}
 use Rattle.screen_text.specs.Writer.{text_from, ending_from}
 use Rattle.ansi_html.proofs.WholeLemmas.{says_link}
 use Rattle.ansi_html.proofs.ColorLemmas.{AreReadable-css}
-use Rattle.ansi_html.specs.Html.{no_element}
-use Rattle.screen_html.specs.Links.{Kept}
 use Rattle.screen_html.specs.Shown.{left_html, ending_html}
 use Rattle.screen_html.specs.Writer.{output_of, standing_of, row_html, after_row, after_command, closing_html}
 use Rattle.screen_html.proofs.ShownLemmas.{left-new, ending-new}
@@ -29,7 +27,7 @@ returns-clause-runs g c =
     let ending : List Call → List ℕ = λ calls. ending_html styling screen calls ++ tail in
     let its_text : List Call → List ℕ = λ calls. head ++ text_from standing_of row_html after_row after_command performer calls in
     let its_ending : List Call → List ℕ = λ calls. ending_from standing_of row_html after_row after_command closing_html performer calls ++ tail in
-    let new = ap standing_of c.new.ensures.rows ∙ c.new-rows.ensures.new ∙ ap (λ (links : List Kept). record { styling = styling; shown = no_element; links = links; is_open = false }) c.requires.new in
+    let new = ap standing_of c.new.ensures.rows ∙ c.new-rows.ensures.new in
     let output_is = ap output_of c.new.ensures.rows ∙ c.new-rows.ensures.output in
     let Ran : W → Type 0 = λ w. RunsToEnding {R = R} {W = W} {T = Unit {0}} g.R.Source g.W.Sink text ending
     c.args.reader.now c.write_calls_by.new.reader w c.write_calls_by.result.0 c.write_calls_by.result.1 in

@@ -2,7 +2,7 @@
 use ansi_html::{Scheme, Styling};
 use ansi_screen::Screen;
 use anstyle_parse::io::{Fault, FromRead, FromWrite, Output, write_calls_by};
-use screen_html::{HtmlRows, LinkTable, convert_shown};
+use screen_html::{HtmlRows, LinkMemory, convert_shown};
 use screen_text::{ShownWriter, WriteRows};
 use std::alloc::{AllocError, Global};
 use std::test::Fail;
@@ -14,11 +14,11 @@ fn shown(alloc: Global, log: &[u8]) -> Result<(Vec<u8>, Result<(), Fault>), Allo
     let mut reader = FromRead::new(log);
     let writer = FromWrite::new(Vec::new(alloc));
     let screen = Screen::new(alloc, 80, 24)?;
-    let links = LinkTable::new(alloc)?;
+    let memory = LinkMemory::new(alloc)?;
     let styling = Styling::Inline(Scheme::Both);
     let (writer, answer) = convert_shown(
         screen,
-        links,
+        memory,
         styling,
         b"<pre>",
         &mut reader,
@@ -58,7 +58,7 @@ fn writes_rows<T: WriteRows<Memory> + Drop>(_: &T) {}
 #[test]
 fn by_classes(rt: HostRuntime) -> Result<(), Fail> {
     let output = Output::new(FromWrite::new(Vec::new(rt.alloc())));
-    let rows = HtmlRows::new(Styling::Classes, LinkTable::new(rt.alloc())?, output);
+    let rows = HtmlRows::new(Styling::Classes, LinkMemory::new(rt.alloc())?, output);
     writes_rows(&rows);
     let performer = ShownWriter::new(Screen::new(rt.alloc(), 3, 1)?, rows);
     let mut reader = FromRead::new("\x1b[3ma<\u{301}\u{6F22}\x1b[m!".as_bytes());

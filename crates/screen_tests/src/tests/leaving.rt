@@ -1,7 +1,7 @@
 //! Rows that leave a screen, and what it showed as text. Streams stand in tests/screen_twin.
 use ansi_screen::laws::scrolled_off;
 use ansi_screen::{
-    Cell, LeftOut, Part, Screen, Scrolling, Size, TakeRow, goes_on, put_cells, used,
+    Cell, LeftOut, Part, Screen, Scrolling, Size, TakeCommand, TakeRow, goes_on, put_cells, used,
 };
 use ansi_style::Style;
 use anstyle_parse::io::{FromRead, FromWrite, Output, write_calls_by};
@@ -14,6 +14,7 @@ use std::test::Fail;
 struct Counter {
     count: usize,
     goes_on: bool,
+    link: u32,
 }
 
 impl TakeRow for Counter {
@@ -31,16 +32,31 @@ impl TakeRow for Counter {
     fn pass_on(&mut self) {}
 }
 
+impl TakeCommand for Counter {
+    ghost use Rattle.std.specs.Prelude.{⊤};
+
+    ghost takes_command = { λ _ _ _ _. ⊤ };
+
+    fn take_command(&mut self, link: u32, _parts: &[&[u8]]) {
+        self.link = link;
+    }
+}
+
 // A screen of one row too: the row that a character wraps from goes on.
 #[test]
 fn rows_that_leave(rt: HostRuntime) -> Result<(), Fail> {
     let counter = Counter {
         count: 0,
         goes_on: false,
+        link: 0,
     };
     let mut scrolling = Scrolling::new(Screen::new(rt.alloc(), 3, 1)?, counter);
     scrolled_off(&mut scrolling, &[b"ab\r\n\x1b[S", b"abc", b"d"]);
     scrolling.pass_on();
+    scrolled_off(&mut scrolling, &[b"\x1b]8;;a:b\x07"]);
+    assert_eq!(rt; scrolling.screen().link(), 1);
+    scrolling.tell(&[b"8"]);
+    assert_eq!(rt; scrolling.taker().link, 1);
     assert_eq!(rt; scrolling.taker().count, 3);
     assert!(rt; scrolling.taker().goes_on);
     assert_eq!(rt; scrolling.screen().rows(), 1);

@@ -1,5 +1,5 @@
 -- What a buffer of HTML holds.
-use Rattle.std.specs.Prelude.{◌≤◌, ℕ, Bool, List, ◌∷◌, length}
+use Rattle.std.specs.Prelude.{◌≤◌, ℕ, Bool, List, ◌∷◌, length, take}
 use Rattle.html_pieces.specs.declared.buffer.HtmlBuffer.{HtmlBuffer}
 
 -- the bytes that it takes at most, and those that it holds
@@ -7,7 +7,7 @@ abbrev pub limit_of : HtmlBuffer → ℕ
 limit_of buffer = buffer.limit
 
 abbrev pub held_in : HtmlBuffer → List ℕ
-held_in buffer = buffer.held.items
+held_in buffer = take buffer.written buffer.into.now
 
 -- Its contents as a writer. The limit stands before them, so that whoever is handed the buffer and says what
 -- it has added says that the limit is the same.

@@ -22,6 +22,11 @@ const HTML_OF_A_BYTE: usize = 4;
 /// How much less is tried where that did not suffice.
 const SHARE: usize = 4;
 
+/// A piece of so many bytes is short, and its HTML is tried in so many: fewer are cleared.
+const SHORT_PIECE: usize = 256;
+
+const SHORT_CAPACITY: usize = 4096;
+
 impl HtmlState {
     /// Takes bytes from the front of the piece, and writes their HTML to the front of the room.
     ///
@@ -61,7 +66,8 @@ impl HtmlState {
         if room.len() < END_ROOM {
             return None;
         }
-        let output = Output::new(HtmlBuffer::new(room.len()));
+        let mut held = [0; END_ROOM];
+        let output = Output::new(HtmlBuffer::new(room.len(), &mut held));
         let writer = HtmlWriter::resume(self.styling(), self.standing(), output);
         let (buffer, _) = writer.into_output().finish();
         *self = HtmlState::new(self.styling());
@@ -75,8 +81,35 @@ impl HtmlState {
         ensures same_room { IfNone result (room.new ≡ room.old) }
         ensures little_room { IfNone result (min (length room.old) capacity < most_html (length piece.now)) }
     {
+        if piece.len() <= SHORT_PIECE {
+            if let Some(written) = self.take_short(piece, room) {
+                return Some(written);
+            }
+        }
+        self.take_through(&mut [0; CAPACITY], piece, room)
+    }
+
+    /// The same, if there are few bytes of HTML. Apart, since a call clears its own arrays, used or not.
+    #[inline(never)]
+    fn take_short(&mut self, piece: &[u8], room: &mut [u8]) -> Option<usize>
+        ensures taken { IfSome result (λ written. Takes self.old self.new piece.now room.old room.new written) }
+        ensures same_state { IfNone result (self.new ≡ self.old) }
+        ensures same_room { IfNone result (room.new ≡ room.old) }
+    {
+        self.take_through(&mut [0; SHORT_CAPACITY], piece, room)
+    }
+
+    /// The same with lent bytes, where the HTML stands before it goes to the room.
+    #[inline(never)]
+    fn take_through(&mut self, lent: &mut [u8], piece: &[u8], room: &mut [u8]) -> Option<usize>
+        ensures taken { IfSome result (λ written. Takes self.old self.new piece.now room.old room.new written) }
+        ensures same_state { IfNone result (self.new ≡ self.old) }
+        ensures same_room { IfNone result (room.new ≡ room.old) }
+        ensures little_room { IfNone result
+            (min (length room.old) (length lent.old) < most_html (length piece.now)) }
+    {
         let mut parser = self.stream.resume();
-        let output = Output::new(HtmlBuffer::new(room.len()));
+        let output = Output::new(HtmlBuffer::new(room.len(), lent));
         let mut writer = HtmlWriter::resume(self.styling(), self.standing(), output);
         parser.advance_texts(&mut writer, piece);
         if writer.output().fault().is_some() {

@@ -1,5 +1,5 @@
 -- The HTML goes on from where the state says that it stands.
-use Rattle.std.proofs.Common.{◌≡◌, ◌≤◌, ℕ, List, ◌++◌, length, take, drop, refl, sym, ap, ap₂, ◌∙◌, subst, arith, length-append, length-drop}
+use Rattle.std.proofs.Common.{◌≡◌, ◌≤◌, ℕ, List, ◌++◌, length, take, drop, refl, sym, ap, ap₂, ◌∙◌, subst, arith, length-append, length-drop, length-take}
 use Rattle.anstyle_parse.specs.Views.Accumulator.{parser_after}
 use Rattle.anstyle_parse.specs.Machine.Step.{machine_calls}
 use Rattle.anstyle_parse.specs.Views.Parser.{machine_of}
@@ -17,7 +17,7 @@ use Rattle.html_pieces.specs.State.{styling_in, standing_of}
 use Rattle.html_pieces.proofs.StateLemmas.{AreSound-kept, kept-sound}
 use Rattle.html_pieces.specs.Styles.{first_of, behind}
 use Rattle.html_pieces.proofs.BufferLemmas.{held-all, longer, no_fault-of, some_fault-of}
-use Rattle.html_pieces.proofs.state.HtmlState.take.Goals as goal
+use Rattle.html_pieces.proofs.state.HtmlState.take_through.Goals as goal
 
 pub returns-then-is_some-clause-little_room : goal.returns-then-is_some-clause-little_room
 returns-then-is_some-clause-little_room c =
@@ -76,7 +76,7 @@ returns-clause-taken c =
     let stands = taken.standing ∙ ap (λ (s : Standing). standing_at_end s calls) at in
     let is_sound : AreSound (standing_at_end (standing_of state) calls) = AreSound-at_end calls (standing_of state) (AreSound-kept _) in
     let rest = drop (length c.html.result.now) c.args.room.now in
-    let fits : length c.html.result.now ≤ length c.args.room.now = omega (arith, ap length c.html.ensures, buffer.within, ap first_of whole, c.new.ensures.limit) in
+    let fits : length c.html.result.now ≤ length c.args.room.now = omega (arith, ap length c.html.ensures, length-take buffer.written buffer.into.now, buffer.within, ap first_of whole, c.new.ensures.limit) in
     record {
       calls = calls;
       same_length = omega (arith, fits, ap length c.put_front.ensures.written, length-append c.html.result.now rest, length-drop (length c.html.result.now) c.args.room.now);

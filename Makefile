@@ -57,6 +57,7 @@ install: all
 	    $(INSTALL) -m 644 man/$$name.1 $(MAN)/man1/$$name.1 || exit 1; \
 	done
 	$(INSTALL) -m 644 man/ansi_strip.3 $(MAN)/man3/ansi_strip.3
+	$(INSTALL) -m 644 man/ansi_html.3 $(MAN)/man3/ansi_html.3
 	$(INSTALL) -m 644 include/ansi_strip.h $(HEADERS)/ansi_strip.h
 	$(INSTALL) -m 644 include/ansi_html.h $(HEADERS)/ansi_html.h
 	$(INSTALL) -m 644 $(ARCHIVE) $(LIB)/libansi_strip.a
@@ -70,7 +71,8 @@ install: all
 
 uninstall:
 	for name in $(PROGRAMS); do rm -f $(BIN)/$$name $(MAN)/man1/$$name.1; done
-	rm -f $(MAN)/man3/ansi_strip.3 $(HEADERS)/ansi_strip.h $(HEADERS)/ansi_html.h $(LIB)/libansi_strip.a
+	rm -f $(MAN)/man3/ansi_strip.3 $(MAN)/man3/ansi_html.3
+	rm -f $(HEADERS)/ansi_strip.h $(HEADERS)/ansi_html.h $(LIB)/libansi_strip.a
 	rm -f $(LIB)/libansi_strip.so $(LIB)/libansi_strip.so.$(MAJOR) $(LIB)/libansi_strip.so.$(VERSION)
 	rm -f $(LIB)/pkgconfig/ansi_strip.pc $(MODULES)/ansi_strip.py $(MODULES)/ansi.py
 

@@ -8,11 +8,14 @@ PROGRAM is the built program (default: crates/parselog/out/parselog in modes log
 crates/ansi2text/out/ansi2text in strip, crates/ansi2html/out/ansi2html in html; in pieces
 examples/filter.c over the C library, which hands pieces of 4096 bytes to it, and in html-pieces
 examples/page.c: `rt lib` in crates/ansi_c must have built that). Instructions are those of
-`valgrind --tool=callgrind`, less those of an empty input. The wall time is the least of five runs without valgrind, beside that of
-`cat`, and the machine's load is said with it; with --wall the stream is repeated to that many bytes
-for it. Peers are measured in the same run, and the ratio is printed. In log and canon a peer, such
-as a build of the Rust crate, is called with that word, and must write the same bytes. In the other
-modes it is called as it stands, and `differs` is printed where it writes other bytes.
+`valgrind --tool=callgrind`, less those of an empty input. Program and peers are counted in one
+environment, in which the C library clears and copies large blocks by vectors (COUNTED below): by `rep stosb`
+and `rep movsb`, its other way, callgrind counts one instruction for each byte. The wall time is the least of
+five runs without valgrind and without these settings, beside that of `cat`, and the machine's load is said
+with it; with --wall the stream is repeated to that many bytes for it. Peers are measured in the same run, and
+the ratio is printed. In log and canon a peer, such as a build of the Rust crate, is called with that word, and
+must write the same bytes. In the other modes it is called as it stands, and `differs` is printed where it
+writes other bytes.
 
 With --recordings the streams are the files FOLDER/*.bin, which bench/record.py makes.
 """
@@ -74,6 +77,10 @@ CORPORA = [text, colours, dense, characters, strings]
 WORDS = {"log": ["log"], "canon": ["canon"], "strip": [], "html": [], "pieces": [], "html-pieces": []}
 
 
+# how programs are counted: glibc goes by vectors for blocks below this size (`ld.so --list-tunables`)
+COUNTED = "glibc.cpu.x86_rep_stosb_threshold=1000000:glibc.cpu.x86_rep_movsb_threshold=1000000"
+
+
 def corpus(make_line, size):
     pick = random.Random(7)
     block = "".join(make_line(pick) for _ in range(1000)).encode()
@@ -83,7 +90,10 @@ def corpus(make_line, size):
 def instructions(command, path):
     with open(path, "rb") as data, tempfile.TemporaryDirectory() as folder:
         tool = ["valgrind", "--tool=callgrind", "--callgrind-out-file=" + os.path.join(folder, "out")]
-        done = subprocess.run(tool + command, stdin=data, stdout=subprocess.DEVNULL, stderr=subprocess.PIPE)
+        environment = dict(os.environ, GLIBC_TUNABLES=COUNTED)
+        done = subprocess.run(
+            tool + command, stdin=data, stdout=subprocess.DEVNULL, stderr=subprocess.PIPE, env=environment
+        )
     found = re.search(rb"Collected : (\d+)", done.stderr)
     if done.returncode != 0 or found is None:
         sys.exit("measure.py: %s failed under valgrind" % command[0])

@@ -2,12 +2,14 @@
 //! their colours.
 //!
 //! ```
-//! let mut reader = FromRead::new(log);
+//! let mut log = FromRead::new(log);
 //! let writer = FromWrite::new(Vec::new(alloc));
 //! let screen = Screen::new(alloc, 80, 24)?;
-//! let memory = LinkMemory::new(alloc)?;
+//! let links = LinkMemory::new(alloc)?;
 //! let styling = Styling::Inline(Scheme::Both);
-//! let (writer, answer) = convert_shown(screen, memory, styling, b"<pre>", &mut reader, writer, b"</pre>");
+//! let (page, ran) = convert_shown(
+//!     screen, links, styling, b"<pre>", &mut log, writer, b"</pre>",
+//! );
 //! // of 1 0 % CR ESC [ 1 m d o n e LF: <pre><span style="font-weight:bold;">done</span>, a line feed, </pre>
 //! ```
 #![tactic(auto)]

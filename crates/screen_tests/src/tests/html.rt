@@ -11,21 +11,15 @@ type Memory = FromWrite<Vec<u8>>;
 
 /// A log in memory, as the page of the crate `screen_html` shows it.
 fn shown(alloc: Global, log: &[u8]) -> Result<(Vec<u8>, Result<(), Fault>), AllocError> {
-    let mut reader = FromRead::new(log);
+    let mut log = FromRead::new(log);
     let writer = FromWrite::new(Vec::new(alloc));
     let screen = Screen::new(alloc, 80, 24)?;
-    let memory = LinkMemory::new(alloc)?;
+    let links = LinkMemory::new(alloc)?;
     let styling = Styling::Inline(Scheme::Both);
-    let (writer, answer) = convert_shown(
-        screen,
-        memory,
-        styling,
-        b"<pre>",
-        &mut reader,
-        writer,
-        b"</pre>",
+    let (page, ran) = convert_shown(
+        screen, links, styling, b"<pre>", &mut log, writer, b"</pre>",
     );
-    Ok((writer.into_inner(), answer))
+    Ok((page.into_inner(), ran))
 }
 
 #[test]

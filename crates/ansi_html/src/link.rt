@@ -28,6 +28,7 @@ impl Links {
     ghost use Rattle.ansi_html.specs.ShownLinks.{shown_link, selected_link, has_next};
 
     /// No link.
+    #[inline(always)]
     pub(crate) fn none() -> Links
         ensures shown { shown_link result ≡ [] }
         ensures selected { selected_link result ≡ [] }
@@ -39,16 +40,14 @@ impl Links {
         }
     }
 
-    /// The link of the last text and the one for what comes, as they were written down.
-    pub(crate) fn resume(shown: &[u8], selected: &[u8]) -> Links
-        ensures shown { shown_link result ≡ kept_link shown.now }
-        ensures selected { selected_link result ≡ kept_link selected.now }
+    /// Becomes the link of the last text and the one for what comes, as they were written down.
+    pub(crate) fn resume(&mut self, shown: &[u8], selected: &[u8])
+        ensures shown { shown_link self.new ≡ kept_link shown.now }
+        ensures selected { selected_link self.new ≡ kept_link selected.now }
     {
-        Links {
-            shown: kept(shown),
-            next: kept(selected),
-            has_next: true,
-        }
+        keep(&mut self.shown, shown);
+        keep(&mut self.next, selected);
+        self.has_next = true;
     }
 
     /// The link of the last text.
@@ -177,15 +176,14 @@ fn put_link(uri: &mut ArrayVec<u8, MAX_LINK>, parts: &[&[u8]])
     }
 }
 
-/// The link of a URI that was written down; none where no link has it.
-fn kept(uri: &[u8]) -> ArrayVec<u8, MAX_LINK>
-    ensures { result.items ≡ kept_link uri.now }
+/// Keeps the link of a URI that was written down; none where no link has it.
+fn keep(link: &mut ArrayVec<u8, MAX_LINK>, uri: &[u8])
+    ensures { link.new.items ≡ kept_link uri.now }
 {
-    let mut link = ArrayVec::new();
+    link.clear();
     if uri.len() <= MAX_LINK && is_linkable(uri) {
         let _ = link.try_extend_from_slice(uri);
     }
-    link
 }
 
 /// Whether a command is OSC 8.

@@ -50,6 +50,7 @@ impl<W: Sink> HtmlWriter<W> {
 
     /// One that writes to this output, says styles in this way, and has received no call.
     /// Nothing is written.
+    #[inline(always)]
     pub fn new(styling: Styling, output: Output<W>) -> HtmlWriter<W>
         ensures output { output_of result ≡ output }
         ensures new { IsNew styling result }
@@ -66,19 +67,20 @@ impl<W: Sink> HtmlWriter<W> {
 
     /// One that writes to this output and goes on where the HTML of a stream stands. A link that is
     /// longer than any, or whose URI is not one that a link may have, counts for none.
+    #[inline(always)]
     pub fn resume(styling: Styling, standing: Standing<'_>, output: Output<W>) -> HtmlWriter<W>
         ensures output { output_of result ≡ output }
         ensures styling { styling_of result ≡ styling }
         ensures standing { standing_of result ≡ kept (standing_in standing.entry) }
     {
-        HtmlWriter {
-            output,
-            styling,
-            shown: standing.shown.style,
-            next: Some(standing.selected.style),
-            links: Links::resume(standing.shown.link, standing.selected.link),
-            returned: standing.returned,
-        }
+        let mut writer = HtmlWriter::new(styling, output);
+        writer.shown = standing.shown.style;
+        writer.next = Some(standing.selected.style);
+        writer
+            .links
+            .resume(standing.shown.link, standing.selected.link);
+        writer.returned = standing.returned;
+        writer
     }
 
     /// Where the HTML stands.

@@ -48,7 +48,8 @@ impl<W: Sink> StyledWriter<W> {
     pub fn select(&mut self, style: Style, link: &Link)
         ensures styling { styling_of self.new ≡ styling_of self.old }
         ensures shown { shown_in self.new ≡ element style (link_in link.now) }
-        ensures added { Adds W.Sink (change (styling_of self.old) (shown_in self.old) (element style (link_in link.now)))
+        ensures added { Adds W.Sink
+            (change (styling_of self.old) (shown_in self.old) (element style (link_in link.now)))
             (output_of self.old) (output_of self.new) }
     {
         if self.is_other(style, link) {

@@ -15,10 +15,10 @@ use Rattle.ansi_screen.specs.declared.cell.Part.TheVariants.{Empty, Right}
 abbrev pub plain_cell : ℕ → Style → Part → Cell
 plain_cell c style part = record {
   character = c;
+  link = 0;
   marks = Unmarked;
   style = style;
   part = part;
-  link = 0;
   goes_on = false;
 }
 

@@ -42,11 +42,11 @@ impl Marks {
 #[derive(Debug, Clone, Copy, PartialEq, Eq)]
 pub struct Cell {
     pub character: char,
+    /// The number of the link (OSC 8) in which it was printed; 0 for none.
+    pub link: u32,
     pub marks: Marks,
     pub style: Style,
     pub part: Part,
-    /// The number of the link (OSC 8) in which it was printed; 0 for none.
-    pub link: u32,
     /// In the last cell of a row: autowrap went on from it to the next row, so that both are one line.
     pub goes_on: bool,
 }
@@ -61,10 +61,10 @@ impl Cell {
     {
         Cell {
             character,
+            link,
             marks: Marks::Unmarked,
             style,
             part,
-            link,
             goes_on: false,
         }
     }

@@ -19,17 +19,23 @@ pub(crate) struct Grid {
     start: usize,
     /// How many are shown.
     size: usize,
+    /// One of these may be something else than a plain blank.
+    is_written: bool,
 }
 
 impl Model for Grid {
-    ghost use Rattle.std.specs.Prelude.{◌+◌, ◌≤◌, List, length, take, drop};
+    ghost use Rattle.std.specs.Prelude.{◌≡◌, ◌+◌, ◌≤◌, List, length, take, drop, replicate};
+    ghost use Rattle.std.specs.Bool.{OnFalse};
+    ghost use Rattle.ansi_style.specs.Style.{plain};
+    ghost use Rattle.ansi_screen.specs.Cells.{blank};
     ghost use Rattle.ansi_screen.specs.declared.cell.Cell.{Cell};
 
     ghost Value = { List Cell };
 
     ghost view = { λ grid. take grid.size (drop grid.start grid.memory.items) };
 
-    ghost invariant = { λ grid. grid.start + grid.size ≤ length grid.memory.items };
+    ghost invariant = { λ grid. (grid.start + grid.size ≤ length grid.memory.items)
+        × OnFalse grid.is_written (take grid.size (drop grid.start grid.memory.items) ≡ replicate grid.size (blank plain)) };
 }
 
 impl Grid {
@@ -44,6 +50,7 @@ impl Grid {
             memory,
             start: 0,
             size,
+            is_written: false,
         })
     }
 
@@ -66,7 +73,24 @@ impl Grid {
         ensures cells { self.new ≡ replicate (length self.old) cell }
         ensures length { length self.new ≡ length self.old }
     {
-        self.memory.as_mut_slice()[self.start..self.start + self.size].fill(cell);
+        if cell == Cell::blank(Style::default()) {
+            self.fill_with_blanks();
+        } else {
+            self.is_written = true;
+            self.memory.as_mut_slice()[self.start..self.start + self.size].fill(cell);
+        }
+    }
+
+    /// All of them are plain blanks. Those that no call has written since they were are left.
+    fn fill_with_blanks(&mut self)
+        ensures cells { self.new ≡ replicate (length self.old) (blank plain) }
+        ensures length { length self.new ≡ length self.old }
+    {
+        if self.is_written {
+            let blank = Cell::blank(Style::default());
+            self.memory.as_mut_slice()[self.start..self.start + self.size].fill(blank);
+            self.is_written = false;
+        }
     }
 
     /// Blanks from `start` up to `end`.
@@ -76,6 +100,7 @@ impl Grid {
         ensures cells { self.new ≡ change start end (erased blank) self.old }
         ensures length { length self.new ≡ length self.old }
     {
+        self.is_written = true;
         let shown = &mut self.memory.as_mut_slice()[self.start..self.start + self.size];
         runs::erase(shown, start, end, blank);
     }
@@ -87,6 +112,7 @@ impl Grid {
         ensures cells { self.new ≡ deleted count start end blank self.old }
         ensures length { length self.new ≡ length self.old }
     {
+        self.is_written = true;
         let shown = &mut self.memory.as_mut_slice()[self.start..self.start + self.size];
         runs::delete(shown, start, end, count, blank);
     }
@@ -98,6 +124,7 @@ impl Grid {
         ensures cells { self.new ≡ inserted count start end blank self.old }
         ensures length { length self.new ≡ length self.old }
     {
+        self.is_written = true;
         let shown = &mut self.memory.as_mut_slice()[self.start..self.start + self.size];
         runs::insert(shown, start, end, count, blank);
     }
@@ -110,6 +137,7 @@ impl Grid {
         ensures cells { self.new ≡ change place (place + columns) (λ run. glyph columns c style link) self.old }
         ensures length { length self.new ≡ length self.old }
     {
+        self.is_written = true;
         let shown = &mut self.memory.as_mut_slice()[self.start..self.start + self.size];
         runs::put(shown, place, columns, c, style, link);
     }
@@ -121,6 +149,7 @@ impl Grid {
         ensures cells { self.new ≡ marked_before mark place self.old }
         ensures length { length self.new ≡ length self.old }
     {
+        self.is_written = true;
         let shown = &mut self.memory.as_mut_slice()[self.start..self.start + self.size];
         runs::mark_before(shown, place, mark);
     }
@@ -132,6 +161,7 @@ impl Grid {
         ensures cells { self.new ≡ going_on on end self.old }
         ensures length { length self.new ≡ length self.old }
     {
+        self.is_written = true;
         let shown = &mut self.memory.as_mut_slice()[self.start..self.start + self.size];
         runs::set_goes_on(shown, end, on);
     }
@@ -143,6 +173,7 @@ impl Grid {
         ensures cells { self.new ≡ within first last (moved_on count blank) self.old }
         ensures length { length self.new ≡ length self.old }
     {
+        self.is_written = true;
         let shown = &mut self.memory.as_mut_slice()[self.start..self.start + self.size];
         runs::move_on(&mut shown[first..last], count, blank);
     }
@@ -154,6 +185,7 @@ impl Grid {
         ensures cells { self.new ≡ within first last (moved_back count blank) self.old }
         ensures length { length self.new ≡ length self.old }
     {
+        self.is_written = true;
         if last - first == self.size {
             let (start, size) = (self.start, self.size);
             self.start = go_on(self.memory.as_mut_slice(), start, size, count, blank);

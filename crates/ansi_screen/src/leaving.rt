@@ -103,7 +103,8 @@ impl<R: TakeRow> Scrolling<R> {
     pub fn hand_on(&mut self, count: usize)
         requires { count ≤ (screen_of self.old).display.height }
         ensures screen { screen_of self.new ≡ screen_of self.old }
-        ensures taken { TakesRows R.takes (taker_of self.old) (first_rows count (screen_of self.old).display) (taker_of self.new) }
+        ensures taken { TakesRows R.takes (taker_of self.old) (first_rows count (screen_of self.old).display)
+            (taker_of self.new) }
     {
         hand_on(self.screen.display(), count, &mut self.taker);
     }

@@ -34,6 +34,7 @@ impl StreamState {
     }
 
     /// A parser that stands where the stream stands.
+    #[inline(always)]
     pub fn resume(&self) -> Parser
         ensures { (before : List ℕ) → StandsFor self.now before → IsAfter front_of result before }
     {

@@ -22,7 +22,7 @@ use Rattle.screen_draw.proofs.PaintLemmas.{drawn-same, space-one, space-shown}
 use Rattle.screen_draw.proofs.ScreenLemmas.{Painted, paint}
 use Rattle.screen_draw.proofs.SavedLemmas.{after-place_calls, clear-all}
 
-after-save : (s : State) → (after (escape 0x37) s).display ≡ record s.display { saved = s.display.cursor }
+pub after-save : (s : State) → (after (escape 0x37) s).display ≡ record s.display { saved = s.display.cursor }
 unfolding designated escaped
 after-save s = refl
 

@@ -1,5 +1,5 @@
 -- Single calls of a drawing: what each does to a display.
-use Rattle.std.proofs.Common.{◌≡◌, ℕ, ◌+◌, ◌-◌, ◌<◌, ◌≤◌, Bool, true, false, List, [], ◌∷◌, ◌++◌, length, take, drop, set, refl, ap, sym, ◌∙◌, arith}
+use Rattle.std.proofs.Common.{◌≡◌, ℕ, suc, ◌+◌, ◌-◌, ◌<◌, ◌≤◌, Bool, true, false, List, [], ◌∷◌, ◌++◌, length, take, drop, set, refl, ap, sym, ◌∙◌, arith}
 use Rattle.std.specs.Prelude.{min, max, nat_lt, nat_eq, if◌then◌else◌}
 use Rattle.std.proofs.lemmas.Bool.{and_right, le-ltb, ne_eqb}
 use Rattle.std.proofs.lemmas.List.{get_or-append_right}
@@ -149,6 +149,16 @@ after-erase s inside =
     let column : min s.display.cursor.column (s.display.width - 1) ≡ s.display.cursor.column = omega arith in
     let end : min (row_end s.display) (here s.display + 1) ≡ here s.display + 1 = omega arith in
     rw (column, end) refl
+
+-- ECH of several
+pub after-erase_run : (n : ℕ) (s : State) → s.display.cursor.column + suc n ≤ s.display.width
+    → (after (sequence (suc n ∷ []) 0x58) s).display ≡ erased_cells (here s.display) (here s.display + suc n) s.display
+unfolding sequenced is_repeat function_of controlled is_known edited erased_characters
+after-erase_run n s inside =
+    let column : min s.display.cursor.column (s.display.width - 1) ≡ s.display.cursor.column = omega arith in
+    let count : max 1 (suc n) ≡ suc n = omega arith in
+    let end : min (row_end s.display) (here s.display + suc n) ≡ here s.display + suc n = omega arith in
+    rw (column, count, end) refl
 
 -- ED of all, in the first column
 pub after-clear : (s : State) → s.display.cursor.column < s.display.width

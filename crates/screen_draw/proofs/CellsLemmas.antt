@@ -19,7 +19,7 @@ use Rattle.screen_draw.specs.declared.cells.Pen.{Pen}
 use Rattle.screen_draw.specs.Draw.{position, select, style_calls, there_calls}
 use Rattle.screen_draw.proofs.CanvasLemmas.{on, after-position, after-style}
 
-not-true : (t : Bool) → not t ≡ true → t ≡ false
+pub not-true : (t : Bool) → not t ≡ true → t ≡ false
 not-true true is = cc is
 not-true false is = refl
 

@@ -37,11 +37,11 @@ split-two n (x ∷ []) inside = absurd (omega arith)
 split-two zero (x ∷ y ∷ xs) inside = refl
 split-two (suc n) (x ∷ y ∷ xs) inside = ap (λ l. x ∷ l) (split-two n (y ∷ xs) (omega arith))
 
-drawn-append : (xs ys : List Cell) → map as_drawn (xs ++ ys) ≡ map as_drawn xs ++ map as_drawn ys
+pub drawn-append : (xs ys : List Cell) → map as_drawn (xs ++ ys) ≡ map as_drawn xs ++ map as_drawn ys
 drawn-append [] ys = refl
 drawn-append (x ∷ xs) ys = ap (λ l. as_drawn x ∷ l) (drawn-append xs ys)
 
-drawn-length : (xs : List Cell) → length (map as_drawn xs) ≡ length xs
+pub drawn-length : (xs : List Cell) → length (map as_drawn xs) ≡ length xs
 drawn-length [] = refl
 drawn-length (x ∷ xs) = ap suc (drawn-length xs)
 
@@ -52,16 +52,16 @@ printed-right Whole = refl
 printed-right Left = refl
 printed-right Right = refl
 
-drawn-right : (x : Cell) (t : Bool) → is_erased x ≡ t → is_right (as_drawn x).part ≡ is_right x.part
+pub drawn-right : (x : Cell) (t : Bool) → is_erased x ≡ t → is_right (as_drawn x).part ≡ is_right x.part
 unfolding as_drawn
 drawn-right x true is = rw is refl
 drawn-right x false is = rw is (printed-right x.part)
 
-first-drawn : (xs : List Cell) → is_right (cell_at 0 xs).part ≡ false → is_right (cell_at 0 (map as_drawn xs)).part ≡ false
+pub first-drawn : (xs : List Cell) → is_right (cell_at 0 xs).part ≡ false → is_right (cell_at 0 (map as_drawn xs)).part ≡ false
 first-drawn [] free = refl
 first-drawn (x ∷ xs) free = drawn-right x _ refl ∙ free
 
-left-erased : (cell : Cell) → cell.part ≡ Left → is_erased cell ≡ false
+pub left-erased : (cell : Cell) → cell.part ≡ Left → is_erased cell ≡ false
 unfolding is_erased
 left-erased cell part = rw part refl
 
@@ -117,7 +117,11 @@ right-is Right is = refl
 abbrev pub full : Display → Display
 full d = record (over d) { saved = d.saved; tabs = d.tabs; top = d.top; bottom = d.bottom }
 
-module _ (d : Display) (screen : IsScreen d) (contents : HasContents d) where
+-- the same with DECAWM and DECTCEM
+abbrev pub full_by : Bool → Bool → Display → Display
+full_by wraps is_visible d = record (full d) { wraps = wraps; is_visible = is_visible }
+
+module _ (wraps is_visible : Bool) (d : Display) (screen : IsScreen d) (contents : HasContents d) where
   row-inside : d.cursor.row * d.width + d.width ≤ length d.cells
   row-inside =
       let below : d.cursor.row < d.height = screen.sized.cursor_row in
@@ -137,12 +141,12 @@ module _ (d : Display) (screen : IsScreen d) (contents : HasContents d) where
       first-drawn (drop place d.cells)
       (ap (λ (x : Cell). is_right x.part) (get_or-drop place d.cells 0 (blank plain)) ∙ (ap (λ k. is_right (cell_at k d.cells).part) same ∙ row-next place is))
 
-  abbrev Went : Place → ℕ → State → Type 0
-  Went p column s = s.display ≡ on (full d) (map as_drawn d.cells) (record p { row = d.cursor.row; column = column; is_relative = d.cursor.is_relative })
+  abbrev pub Went : Place → ℕ → State → Type 0
+  Went p column s = s.display ≡ on (full_by wraps is_visible d) (map as_drawn d.cells) (record p { row = d.cursor.row; column = column; is_relative = d.cursor.is_relative })
 
-  abbrev Wrapped : Place → State → Type 0
+  abbrev pub Wrapped : Place → State → Type 0
   Wrapped p s =
-      (style : Style) × (s.display ≡ on (full d) (set (map as_drawn d.cells) (row_end d - 1) (as_printed (cell_at (row_end d - 1) d.cells)))
+      (style : Style) × (s.display ≡ on (full_by wraps is_visible d) (set (map as_drawn d.cells) (row_end d - 1) (as_printed (cell_at (row_end d - 1) d.cells)))
       (record p { row = d.cursor.row; column = d.cursor.column; is_relative = d.cursor.is_relative; style = style }))
 
   wrapped-narrow : (p : Place) (middle : State) → is_right (cell_at (row_end d - 1) d.cells).part ≡ false → d.cursor.column ≡ d.width → draws p.charsets ≡ false
@@ -162,17 +166,17 @@ module _ (d : Display) (screen : IsScreen d) (contents : HasContents d) where
       let left : is_left x.part ≡ false = not-left _ n d.cells refl screen.whole.paired (row-next (suc n) next) in
       let q : Place = record p { row = d.cursor.row; column = d.width - 1; is_relative = d.cursor.is_relative; style = x.style } in
       let styled : State = after (select x.style) middle in
-      let at : styled.display ≡ on (full d) (front ++ (as_drawn x ∷ back)) q =
+      let at : styled.display ≡ on (full_by wraps is_visible d) (front ++ (as_drawn x ∷ back)) q =
       after-style x.style middle holds.colored
-      ∙ (ap (λ (e : Display). record e { cursor = record e.cursor { style = x.style } }) is ∙ ap (λ l. on (full d) l q) cells) in
+      ∙ (ap (λ (e : Display). record e { cursor = record e.cursor { style = x.style } }) is ∙ ap (λ l. on (full_by wraps is_visible d) l q) cells) in
       let end : d.width - 1 + 1 ≡ d.cursor.column = omega arith in
       let there : d.cursor.row * d.width + (d.width - 1) ≡ length front = omega arith in
       let set_is : set (map as_drawn d.cells) n (as_printed x) ≡ front ++ (as_printed x ∷ back) =
       ap (λ l. set l n (as_printed x)) cells ∙ (ap (λ k. set (front ++ (as_drawn x ∷ back)) k (as_printed x)) (sym long) ∙ set-front front back (as_drawn x) (as_printed x)) in (
         x.style,
-        character-narrow (full d) front back q letter refl refl there (behind-free (suc n) next) x (as_drawn x) styled at holds left right refl (omega arith) (drawn-right x _ refl ∙ right)
-            ∙ (ap (λ k. on (full d) (front ++ (as_printed x ∷ back)) (record q { column = k })) end
-            ∙ ap (λ l. on (full d) l (record q { column = d.cursor.column })) (sym set_is)),
+        character-narrow (full_by wraps is_visible d) front back q letter refl refl there (behind-free (suc n) next) x (as_drawn x) styled at holds left right refl (omega arith) (drawn-right x _ refl ∙ right)
+            ∙ (ap (λ k. on (full_by wraps is_visible d) (front ++ (as_printed x ∷ back)) (record q { column = k })) end
+            ∙ ap (λ l. on (full_by wraps is_visible d) l (record q { column = d.cursor.column })) (sym set_is)),
       )
 
   wrapped-wide : (p : Place) (middle : State) → is_right (cell_at (row_end d - 1) d.cells).part ≡ true → d.cursor.column ≡ d.width → draws p.charsets ≡ false
@@ -197,9 +201,9 @@ module _ (d : Display) (screen : IsScreen d) (contents : HasContents d) where
       let free : is_right x.part ≡ false = ap is_right pair.0 in
       let q : Place = record p { row = d.cursor.row; column = d.width - 2; is_relative = d.cursor.is_relative; style = x.style } in
       let styled : State = after (select x.style) middle in
-      let at : styled.display ≡ on (full d) (front ++ (as_drawn x ∷ (as_drawn r ∷ back))) q =
+      let at : styled.display ≡ on (full_by wraps is_visible d) (front ++ (as_drawn x ∷ (as_drawn r ∷ back))) q =
       after-style x.style middle holds.colored
-      ∙ (ap (λ (e : Display). record e { cursor = record e.cursor { style = x.style } }) is ∙ ap (λ l. on (full d) l q) cells) in
+      ∙ (ap (λ (e : Display). record e { cursor = record e.cursor { style = x.style } }) is ∙ ap (λ l. on (full_by wraps is_visible d) l q) cells) in
       let end : d.width - 2 + 2 ≡ d.cursor.column = omega arith in
       let there : d.cursor.row * d.width + (d.width - 2) ≡ length front = omega arith in
       let before : List Cell = front ++ as_drawn x ∷ [] in
@@ -214,35 +218,35 @@ module _ (d : Display) (screen : IsScreen d) (contents : HasContents d) where
       ∙ (append_assoc front (as_drawn x ∷ []) (as_printed r ∷ back)
       ∙ (ap (λ y. front ++ (y ∷ (as_printed r ∷ back))) left_is ∙ ap (λ y. front ++ (as_printed x ∷ (y ∷ back))) right_is))))) in (
         x.style,
-        character-wide (full d) front back q letter refl refl there (behind-free (suc (suc n)) next) x (as_drawn x) (as_drawn r) styled at holds pair.0 refl (omega arith) (drawn-right x _ refl ∙ free)
-            ∙ (ap (λ k. on (full d) (front ++ (as_printed x ∷ (plain_cell 0x20 x.style Right ∷ back))) (record q { column = k })) end
-            ∙ ap (λ l. on (full d) l (record q { column = d.cursor.column })) (sym set_is)),
+        character-wide (full_by wraps is_visible d) front back q letter refl refl there (behind-free (suc (suc n)) next) x (as_drawn x) (as_drawn r) styled at holds pair.0 refl (omega arith) (drawn-right x _ refl ∙ free)
+            ∙ (ap (λ k. on (full_by wraps is_visible d) (front ++ (as_printed x ∷ (plain_cell 0x20 x.style Right ∷ back))) (record q { column = k })) end
+            ∙ ap (λ l. on (full_by wraps is_visible d) l (record q { column = d.cursor.column })) (sym set_is)),
       )
 
-  last_at : (p : Place) (middle : State) (u : Bool) → is_right (cell_at (row_end d - 1) d.cells).part ≡ u → d.cursor.column ≡ d.width → draws p.charsets ≡ false
+  pub last_at : (p : Place) (middle : State) (u : Bool) → is_right (cell_at (row_end d - 1) d.cells).part ≡ u → d.cursor.column ≡ d.width → draws p.charsets ≡ false
       → Went p (if u then d.width - 2 else d.width - 1) middle
       → Wrapped p (after_all (wrap_calls (Some (if u then cell_at (row_end d - 2) d.cells else cell_at (row_end d - 1) d.cells))) middle)
   last_at p middle true half pending letter is = wrapped-wide p middle half pending letter is
   last_at p middle false right pending letter is = wrapped-narrow p middle right pending letter is
 
-  column-inside : (u : Bool) → (if u then d.width - 2 else d.width - 1) < d.width
+  pub column-inside : (u : Bool) → (if u then d.width - 2 else d.width - 1) < d.width
   column-inside true = let wide : 2 ≤ d.width = screen.sized.two_columns in omega arith
   column-inside false = let wide : 2 ≤ d.width = screen.sized.two_columns in omega arith
 
-  cursor_at : (p : Place) (s : State) (t : Bool) → nat_eq d.cursor.column d.width ≡ t → s.display ≡ on (full d) (map as_drawn d.cells) p → draws p.charsets ≡ false
+  cursor_at : (p : Place) (s : State) (t : Bool) → nat_eq d.cursor.column d.width ≡ t → s.display ≡ on (full_by wraps is_visible d) (map as_drawn d.cells) p → draws p.charsets ≡ false
       → (after_all (if t then place_calls d.top (last_column d) (Some (last_cell d)) d.cursor else place_calls d.top d.cursor.column None d.cursor) s).display
-      ≡ on (full d) (if t then set (map as_drawn d.cells) (row_end d - 1) (as_printed (cell_at (row_end d - 1) d.cells)) else map as_drawn d.cells) d.cursor
+      ≡ on (full_by wraps is_visible d) (if t then set (map as_drawn d.cells) (row_end d - 1) (as_printed (cell_at (row_end d - 1) d.cells)) else map as_drawn d.cells) d.cursor
   cursor_at p s true pending is letter =
-      after-place_calls (full d) (map as_drawn d.cells) p d.cursor (last_column d) (Some (last_cell d)) s is screen.in_margins screen.sized.cursor_row
+      after-place_calls (full_by wraps is_visible d) (map as_drawn d.cells) p d.cursor (last_column d) (Some (last_cell d)) s is screen.in_margins screen.sized.cursor_row
       (column-inside (is_right (cell_at (row_end d - 1) d.cells).part)) contents.cursor_colored
       (set (map as_drawn d.cells) (row_end d - 1) (as_printed (cell_at (row_end d - 1) d.cells)))
       (λ middle at. last_at p middle _ refl (eqb-true d.cursor.column d.width pending) letter at)
   cursor_at p s false other is letter =
       let no : d.cursor.column ≡ d.width → ⊥ = eqb-false d.cursor.column d.width other in
       let most : d.cursor.column ≤ d.width = screen.sized.cursor_column in
-      after-place_calls (full d) (map as_drawn d.cells) p d.cursor d.cursor.column None s is screen.in_margins screen.sized.cursor_row (omega arith) contents.cursor_colored
+      after-place_calls (full_by wraps is_visible d) (map as_drawn d.cells) p d.cursor d.cursor.column None s is screen.in_margins screen.sized.cursor_row (omega arith) contents.cursor_colored
       (map as_drawn d.cells) (λ middle at. (p.style, at))
 
-  pub after-cursor : (p : Place) (s : State) → s.display ≡ on (full d) (map as_drawn d.cells) p → p.charsets ≡ letters
-      → (after_all (cursor_calls d) s).display ≡ on (full d) (drawn_cells d) d.cursor
+  pub after-cursor : (p : Place) (s : State) → s.display ≡ on (full_by wraps is_visible d) (map as_drawn d.cells) p → p.charsets ≡ letters
+      → (after_all (cursor_calls d) s).display ≡ on (full_by wraps is_visible d) (drawn_cells d) d.cursor
   after-cursor p s is letter = cursor_at p s _ refl is (ap draws letter)

@@ -1,6 +1,9 @@
 pub mod DrawLemmas
+pub mod AlikeLemmas
+pub mod StepLemmas
 pub mod SelectedLemmas
 pub mod CanvasLemmas
+pub mod BrokenLemmas
 pub mod PaintLemmas
 pub mod CellsLemmas
 pub mod ScreenLemmas
@@ -9,3 +12,10 @@ pub mod BehindLemmas
 pub mod RestLemmas
 pub mod CursorLemmas
 pub mod RedrawnLemmas
+pub mod RowLemmas
+pub mod NoResetLemmas
+pub mod UnchangedLemmas
+pub mod UpdatedLemmas
+pub mod ClearedLemmas
+pub mod FrameLemmas
+pub mod ChangesLemmas

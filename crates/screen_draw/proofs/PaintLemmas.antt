@@ -1,6 +1,6 @@
 -- Cells that are drawn one after another: the screen shows those so far, and blanks behind.
-use Rattle.std.proofs.Common.{◌≡◌, ℕ, ◌+◌, ◌-◌, ◌*◌, ◌<◌, ◌≤◌, true, false, List, [], ◌∷◌, ◌++◌, length, refl, ap, sym, ◌∙◌, arith}
-use Rattle.std.specs.Prelude.{◌&&◌, if◌then◌else◌}
+use Rattle.std.proofs.Common.{◌≡◌, ℕ, suc, ◌+◌, ◌-◌, ◌*◌, ◌<◌, ◌≤◌, true, false, List, [], ◌∷◌, ◌++◌, length, refl, ap, sym, ◌∙◌, arith}
+use Rattle.std.specs.Prelude.{◌&&◌, replicate, if◌then◌else◌}
 use Rattle.std.proofs.lemmas.Bool.{and_parts}
 use Rattle.anstyle_parse.specs.Stream.Call.{print}
 use Rattle.anstyle_parse.specs.Stream.Bytes.{is_within}
@@ -23,7 +23,8 @@ use Rattle.ansi_screen.specs.After.{State, after, after_all}
 use Rattle.ansi_screen.specs.Reachable.{is_left, FitsPart, IsMark, AreMarks, IsCell}
 use Rattle.screen_draw.specs.Draw.{is_empty, is_erased, is_fresh, drawn_character, marks_calls, character_calls, sequence}
 use Rattle.screen_draw.specs.Redrawn.{printed_part, as_printed, as_drawn}
-use Rattle.screen_draw.proofs.CanvasLemmas.{on, at-front, set-front, change-front, after-print, after-mark, after-erase}
+use Rattle.screen_draw.proofs.BrokenLemmas.{broken, broken-free, change-broken}
+use Rattle.screen_draw.proofs.CanvasLemmas.{on, at-front, set-front, change-front, after-print, after-mark, after-erase, after-erase_run}
 
 -- what is shown is drawn as it is
 pub drawn-same : (c : ℕ) → is_shown c ≡ true → drawn_character c ≡ c
@@ -88,10 +89,10 @@ module _ (base : Display) (front back : List Cell) (p : Place) (letter : draws p
 
 -- a character on blanks, or over what it was
 module _ (base : Display) (front back : List Cell) (p : Place) (letter : draws p.charsets ≡ false) (replaces : base.inserts ≡ false) (unlinked : base.link ≡ 0)
-    (there : p.row * base.width + p.column ≡ length front) (free_end : is_right (cell_at 0 back).part ≡ false) where
+    (there : p.row * base.width + p.column ≡ length front) where
   after-narrow : (c : ℕ) (old : Cell) (s : State) → s.display ≡ on base (front ++ (old ∷ back)) p → is_shown c ≡ true → columns c ≡ 1
       → p.column + 1 ≤ base.width → is_right old.part ≡ false
-      → (after (print (drawn_character c)) s).display ≡ on base (front ++ (plain_cell c p.style Whole ∷ back)) (record p { column = p.column + 1 })
+      → (after (print (drawn_character c)) s).display ≡ on base (front ++ (plain_cell c p.style Whole ∷ broken back)) (record p { column = p.column + 1 })
   unfolding with_glyph
   after-narrow c old s is shows wide room free =
       let letters_there : draws s.display.cursor.charsets ≡ false = ap (λ (d : Display). draws d.cursor.charsets) is ∙ letter in
@@ -103,13 +104,13 @@ module _ (base : Display) (front back : List Cell) (p : Place) (letter : draws p
       ∙ (after-print c 1 s shows letters_there wide (omega arith) (rw (column, width) room) inserts
       ∙ (ap (with_glyph 1 c) is
       ∙ (rw there (ap (λ cells. on base cells (record p { column = p.column + 1 }))
-      (change-front front (old ∷ []) back (λ run. glyph 1 c p.style base.link) free free_end))
-      ∙ ap (λ link. on base (front ++ (glyph 1 c p.style link ++ back)) (record p { column = p.column + 1 })) unlinked)))
+      (change-broken front old [] back (λ run. glyph 1 c p.style base.link) (glyph 1 c p.style base.link) free (λ mid long. refl)))
+      ∙ ap (λ link. on base (front ++ (glyph 1 c p.style link ++ broken back)) (record p { column = p.column + 1 })) unlinked)))
 
   after-wide : (c : ℕ) (a b : Cell) (s : State) → s.display ≡ on base (front ++ (a ∷ (b ∷ back))) p → is_shown c ≡ true → columns c ≡ 2
       → p.column + 2 ≤ base.width → is_right a.part ≡ false
       → (after (print (drawn_character c)) s).display
-      ≡ on base (front ++ (plain_cell c p.style Left ∷ (plain_cell 0x20 p.style Right ∷ back))) (record p { column = p.column + 2 })
+      ≡ on base (front ++ (plain_cell c p.style Left ∷ (plain_cell 0x20 p.style Right ∷ broken back))) (record p { column = p.column + 2 })
   unfolding with_glyph
   after-wide c a b s is shows wide room free =
       let letters_there : draws s.display.cursor.charsets ≡ false = ap (λ (d : Display). draws d.cursor.charsets) is ∙ letter in
@@ -120,36 +121,36 @@ module _ (base : Display) (front back : List Cell) (p : Place) (letter : draws p
       ∙ (after-print c 2 s shows letters_there wide (omega arith) (rw (column, width) room) inserts
       ∙ (ap (with_glyph 2 c) is
       ∙ (rw there (ap (λ cells. on base cells (record p { column = p.column + 2 }))
-      (change-front front (a ∷ (b ∷ [])) back (λ run. glyph 2 c p.style base.link) free free_end))
-      ∙ ap (λ link. on base (front ++ (glyph 2 c p.style link ++ back)) (record p { column = p.column + 2 })) unlinked)))
+      (change-broken front a (b ∷ []) back (λ run. glyph 2 c p.style base.link) (glyph 2 c p.style base.link) free (λ mid long. refl)))
+      ∙ ap (λ link. on base (front ++ (glyph 2 c p.style link ++ broken back)) (record p { column = p.column + 2 })) unlinked)))
 
   -- a cell's character with its marks
-  pub character-narrow : (cell old : Cell) (s : State) → s.display ≡ on base (front ++ (old ∷ back)) p → IsCell cell
+  pub over-narrow : (cell old : Cell) (s : State) → s.display ≡ on base (front ++ (old ∷ back)) p → IsCell cell
       → is_left cell.part ≡ false → is_right cell.part ≡ false → p.style ≡ cell.style → p.column + 1 ≤ base.width → is_right old.part ≡ false
-      → (after_all (character_calls cell) s).display ≡ on base (front ++ (as_printed cell ∷ back)) (record p { column = p.column + 1 })
-  character-narrow cell old s is holds left right style room free =
+      → (after_all (character_calls cell) s).display ≡ on base (front ++ (as_printed cell ∷ broken back)) (record p { column = p.column + 1 })
+  over-narrow cell old s is holds left right style room free =
       let next : Place = record p { column = p.column + 1 } in
-      let printed : (after (print (drawn_character cell.character)) s).display ≡ on base (front ++ (plain_cell cell.character p.style Whole ∷ back)) next =
+      let printed : (after (print (drawn_character cell.character)) s).display ≡ on base (front ++ (plain_cell cell.character p.style Whole ∷ broken back)) next =
       after-narrow cell.character old s is holds.shown (fits-one cell.part cell.character cell.marks left right holds.fits) room free in
       let before : p.row * base.width + (p.column + 1) - 1 ≡ length front = omega arith in
-      after-marks base front back next letter (omega arith) cell.marks (plain_cell cell.character p.style Whole) (after (print (drawn_character cell.character)) s)
+      after-marks base front (broken back) next letter (omega arith) cell.marks (plain_cell cell.character p.style Whole) (after (print (drawn_character cell.character)) s)
       printed refl holds.marked
       (λ y same.
-      let here_is : cell_at (p.row * base.width + (p.column + 1) - 1) (front ++ (y ∷ back)) ≡ y = at-front front (y ∷ back) 0 _ (omega arith) in
+      let here_is : cell_at (p.row * base.width + (p.column + 1) - 1) (front ++ (y ∷ broken back)) ≡ y = at-front front (y ∷ broken back) 0 _ (omega arith) in
       let whole : is_right y.part ≡ false = ap is_right same in
       rw (here_is, whole) before)
-      ∙ (ap (λ (t : Style). on base (front ++ (record (plain_cell cell.character t Whole) { marks = cell.marks } ∷ back)) next) style
-      ∙ ap (λ (k : Part). on base (front ++ (record (plain_cell cell.character cell.style k) { marks = cell.marks } ∷ back)) next)
+      ∙ (ap (λ (t : Style). on base (front ++ (record (plain_cell cell.character t Whole) { marks = cell.marks } ∷ broken back)) next) style
+      ∙ ap (λ (k : Part). on base (front ++ (record (plain_cell cell.character cell.style k) { marks = cell.marks } ∷ broken back)) next)
       (sym (printed-whole cell.part left right)))
 
-  pub character-wide : (cell a b : Cell) (s : State) → s.display ≡ on base (front ++ (a ∷ (b ∷ back))) p → IsCell cell
+  pub over-wide : (cell a b : Cell) (s : State) → s.display ≡ on base (front ++ (a ∷ (b ∷ back))) p → IsCell cell
       → cell.part ≡ Left → p.style ≡ cell.style → p.column + 2 ≤ base.width → is_right a.part ≡ false
       → (after_all (character_calls cell) s).display
-      ≡ on base (front ++ (as_printed cell ∷ (plain_cell 0x20 cell.style Right ∷ back))) (record p { column = p.column + 2 })
-  character-wide cell a b s is holds left style room free =
+      ≡ on base (front ++ (as_printed cell ∷ (plain_cell 0x20 cell.style Right ∷ broken back))) (record p { column = p.column + 2 })
+  over-wide cell a b s is holds left style room free =
       let next : Place = record p { column = p.column + 2 } in
       let two : columns cell.character ≡ 2 = rw left at holds.fits in
-      let behind : List Cell = plain_cell 0x20 p.style Right ∷ back in
+      let behind : List Cell = plain_cell 0x20 p.style Right ∷ broken back in
       let printed : (after (print (drawn_character cell.character)) s).display ≡ on base (front ++ (plain_cell cell.character p.style Left ∷ behind)) next =
       after-wide cell.character a b s is holds.shown two room free in
       let before : p.row * base.width + (p.column + 2) - 2 ≡ length front = omega arith in
@@ -159,9 +160,27 @@ module _ (base : Display) (front back : List Cell) (p : Place) (letter : draws p
       let here_is : cell_at (p.row * base.width + (p.column + 2) - 1) (front ++ (y ∷ behind)) ≡ plain_cell 0x20 p.style Right =
       at-front front (y ∷ behind) 1 _ (omega arith) in
       rw here_is before)
-      ∙ (ap (λ (t : Style). on base (front ++ (record (plain_cell cell.character t Left) { marks = cell.marks } ∷ (plain_cell 0x20 t Right ∷ back))) next) style
-      ∙ ap (λ (k : Part). on base (front ++ (record (plain_cell cell.character cell.style k) { marks = cell.marks } ∷ (plain_cell 0x20 cell.style Right ∷ back))) next)
+      ∙ (ap (λ (t : Style). on base (front ++ (record (plain_cell cell.character t Left) { marks = cell.marks } ∷ (plain_cell 0x20 t Right ∷ broken back))) next) style
+      ∙ ap (λ (k : Part). on base (front ++ (record (plain_cell cell.character cell.style k) { marks = cell.marks } ∷ (plain_cell 0x20 cell.style Right ∷ broken back))) next)
       (sym (ap printed_part left)))
+
+-- the same, where no right half stands behind
+module _ (base : Display) (front back : List Cell) (p : Place) (letter : draws p.charsets ≡ false) (replaces : base.inserts ≡ false) (unlinked : base.link ≡ 0)
+    (there : p.row * base.width + p.column ≡ length front) (free_end : is_right (cell_at 0 back).part ≡ false) where
+  pub character-narrow : (cell old : Cell) (s : State) → s.display ≡ on base (front ++ (old ∷ back)) p → IsCell cell
+      → is_left cell.part ≡ false → is_right cell.part ≡ false → p.style ≡ cell.style → p.column + 1 ≤ base.width → is_right old.part ≡ false
+      → (after_all (character_calls cell) s).display ≡ on base (front ++ (as_printed cell ∷ back)) (record p { column = p.column + 1 })
+  character-narrow cell old s is holds left right style room free =
+      over-narrow base front back p letter replaces unlinked there cell old s is holds left right style room free
+      ∙ ap (λ l. on base (front ++ (as_printed cell ∷ l)) (record p { column = p.column + 1 })) (broken-free back free_end)
+
+  pub character-wide : (cell a b : Cell) (s : State) → s.display ≡ on base (front ++ (a ∷ (b ∷ back))) p → IsCell cell
+      → cell.part ≡ Left → p.style ≡ cell.style → p.column + 2 ≤ base.width → is_right a.part ≡ false
+      → (after_all (character_calls cell) s).display
+      ≡ on base (front ++ (as_printed cell ∷ (plain_cell 0x20 cell.style Right ∷ back))) (record p { column = p.column + 2 })
+  character-wide cell a b s is holds left style room free =
+      over-wide base front back p letter replaces unlinked there cell a b s is holds left style room free
+      ∙ ap (λ l. on base (front ++ (as_printed cell ∷ (plain_cell 0x20 cell.style Right ∷ l))) (record p { column = p.column + 2 })) (broken-free back free_end)
 
 -- erased cells, as erasing leaves them
 empty-is : (part : Part) → is_empty part ≡ true → part ≡ Empty
@@ -220,3 +239,15 @@ erase-one base front back p old s is there inside free free_end =
     after-erase s (rw (column, width) inside)
     ∙ (ap (λ (d : Display). erased_cells (here d) (here d + 1) d) is
     ∙ rw there (ap (λ cells. on base cells p) (change-front front (old ∷ []) back (erased (blank p.style)) free free_end)))
+
+-- ECH of several, the first of which is no right half
+pub erase-run : (base : Display) (front : List Cell) (x : Cell) (xs back : List Cell) (p : Place) (s : State) → s.display ≡ on base (front ++ ((x ∷ xs) ++ back)) p
+    → p.row * base.width + p.column ≡ length front → p.column + suc (length xs) ≤ base.width → is_right x.part ≡ false
+    → (after (sequence (suc (length xs) ∷ []) 0x58) s).display ≡ on base (front ++ (replicate (suc (length xs)) (blank p.style) ++ broken back)) p
+erase-run base front x xs back p s is there inside free =
+    let column : s.display.cursor.column ≡ p.column = ap (λ (d : Display). d.cursor.column) is in
+    let width : s.display.width ≡ base.width = ap (λ (d : Display). d.width) is in
+    after-erase_run (length xs) s (rw (column, width) inside)
+    ∙ (ap (λ (d : Display). erased_cells (here d) (here d + suc (length xs)) d) is
+    ∙ rw there (ap (λ cells. on base cells p)
+    (change-broken front x xs back (erased (blank p.style)) (replicate (suc (length xs)) (blank p.style)) free (λ mid long. ap (λ n. replicate n (blank p.style)) long))))

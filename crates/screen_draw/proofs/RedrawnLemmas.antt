@@ -1,5 +1,5 @@
 -- The whole drawing leads to the screen that is drawn.
-use Rattle.std.proofs.Common.{◌≡◌, ℕ, ◌+◌, Bool, List, [], length, refl, ap, sym, ◌∙◌, arith}
+use Rattle.std.proofs.Common.{◌≡◌, ℕ, ◌+◌, Bool, true, List, [], length, refl, ap, sym, ◌∙◌, arith}
 use Rattle.std.specs.Prelude.{map, None}
 use Rattle.ansi_screen.specs.declared.cell.Cell.{Cell}
 use Rattle.ansi_screen.specs.declared.place.Place.{Place}
@@ -7,7 +7,7 @@ use Rattle.ansi_screen.specs.Display.{Display, home, fresh, stops, letters}
 use Rattle.ansi_screen.specs.After.{State, after, after_all}
 use Rattle.ansi_screen.specs.Reachable.{IsScreen, HasContents}
 use Rattle.ansi_screen.proofs.LawLemmas.{after-reset}
-use Rattle.screen_draw.specs.Draw.{escape, plain_calls, covered_calls, screen_calls, stops_calls, cursor_calls, drawn_calls}
+use Rattle.screen_draw.specs.Draw.{escape, plain_calls, covered_calls, screen_calls, stops_calls, cursor_calls, shown_screen_calls, drawn_calls}
 use Rattle.screen_draw.specs.Redrawn.{as_drawn, drawn_cells, drawn_state}
 use Rattle.screen_draw.proofs.SelectedLemmas.{after-modes, last-calls, before_cursor}
 use Rattle.screen_draw.proofs.CanvasLemmas.{on, after-plain}
@@ -18,12 +18,7 @@ use Rattle.screen_draw.proofs.CursorLemmas.{full, after-cursor}
 first-column : (n width : ℕ) → n ≡ width → length {A = Bool} [] + n ≡ width
 first-column n width is = omega arith
 
-module _ (d : Display) (old : State) (screen : IsScreen d) (contents : HasContents d) (width : old.display.width ≡ d.width) (height : old.display.height ≡ d.height) where
-  new-is : (after (escape 0x63) old).display ≡ fresh d.width d.height
-  new-is =
-      ap (λ (s : State). s.display) (after-reset old)
-      ∙ (ap (λ n. fresh n old.display.height) width ∙ ap (λ n. fresh d.width n) height)
-
+module _ (d : Display) (new : State) (screen : IsScreen d) (contents : HasContents d) (new-is : new.display ≡ fresh d.width d.height) where
   opened : IsOpen (over d)
   opened = record { top = refl; bottom = refl; replaces = refl; unlinked = refl; wide = screen.sized.two_columns }
 
@@ -31,11 +26,11 @@ module _ (d : Display) (old : State) (screen : IsScreen d) (contents : HasConten
   abbrev Before : State → Type 0
   Before s = (p : Place) × (s.display ≡ on (full d) (map as_drawn d.cells) p) × (p.charsets ≡ letters)
 
-  before-is : Before (before_cursor d old)
+  before-is : Before (before_cursor d new)
   unfolding before_cursor
   before-is =
-      let first : State = after_all (covered_calls d) (after (escape 0x63) old) in
-      let (cells, fill, there) = after-covered d (after (escape 0x63) old) screen contents new-is in
+      let first : State = after_all (covered_calls d) new in
+      let (cells, fill, there) = after-covered d new screen contents new-is in
       let second : State = after_all (screen_calls d.width d.saved d.cells) first in
       let (q, drawn) = after-screen (over d) opened cells fill d.saved screen.sized.saved_row screen.sized.saved_column contents.saved_colored
       d.cells there.0 first screen.whole contents.cells screen.sized.cells_fill there.1 in
@@ -50,12 +45,18 @@ module _ (d : Display) (old : State) (screen : IsScreen d) (contents : HasConten
       let (k, stopped) = after-stops base all d.tabs [] third (first-column (length d.tabs) d.width screen.sized.tabs_fill) (none, tabs) in
       after-margins (record base { tabs = d.tabs }) all k d (after_all (stops_calls 0 d.tabs) third) stopped contents.margins screen.sized.margins screen.sized.margins_within refl refl refl
 
-  pub redrawn-is : after_all (drawn_calls d) old ≡ drawn_state d
-  redrawn-is =
-      let before : State = before_cursor d old in
+  pub shown-is : after_all (shown_screen_calls d) new ≡ drawn_state d
+  shown-is =
+      let before : State = before_cursor d new in
       let (p, at, letter) = before-is in
       let placed : State = after_all (cursor_calls d) before in
-      let there : placed.display ≡ on (full d) (drawn_cells d) d.cursor = after-cursor d screen contents p before at letter in
-      last-calls d old
+      let there : placed.display ≡ on (full d) (drawn_cells d) d.cursor = after-cursor true true d screen contents p before at letter in
+      last-calls d new
       ∙ ap (λ (e : Display). record { display = e; last = None })
       (after-modes d placed ∙ ap (λ (e : Display). record e { wraps = d.wraps; inserts = d.inserts; is_visible = d.is_visible }) there)
+
+pub redrawn-is : (d : Display) (old : State) → IsScreen d → HasContents d → old.display.width ≡ d.width → old.display.height ≡ d.height
+    → after_all (drawn_calls d) old ≡ drawn_state d
+redrawn-is d old screen contents width height =
+    shown-is d (after (escape 0x63) old) screen contents
+    (ap (λ (s : State). s.display) (after-reset old) ∙ (ap (λ n. fresh n old.display.height) width ∙ ap (λ n. fresh d.width n) height))

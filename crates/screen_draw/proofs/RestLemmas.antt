@@ -27,11 +27,11 @@ blank-erased : is_erased (blank plain) ≡ true
 unfolding is_erased
 blank-erased = are_equal-refl plain
 
-drawn-blank : as_drawn (blank plain) ≡ blank plain
+pub drawn-blank : as_drawn (blank plain) ≡ blank plain
 unfolding as_drawn
 drawn-blank = rw blank-erased refl
 
-drawn-blanks : (n : ℕ) → map as_drawn (replicate n (blank plain)) ≡ replicate n (blank plain)
+pub drawn-blanks : (n : ℕ) → map as_drawn (replicate n (blank plain)) ≡ replicate n (blank plain)
 drawn-blanks zero = refl
 drawn-blanks (suc n) = ap (λ x. x ∷ map as_drawn (replicate n (blank plain))) drawn-blank ∙ ap (λ l. blank plain ∷ l) (drawn-blanks n)
 
@@ -117,12 +117,12 @@ stops-are (suc n) =
     let same : n ≡ 0 + n = omega arith in
     ap (λ l. l ++ (n % 8 == 0) ∷ []) (stops-are n) ∙ (ap (λ k. stops_from 0 n ++ (k % 8 == 0) ∷ []) same ∙ sym (stops_from-push 0 n))
 
-set-stop : (front back : List Bool) (x y : Bool) → set (front ++ (x ∷ back)) (length front) y ≡ front ++ (y ∷ back)
+pub set-stop : (front back : List Bool) (x y : Bool) → set (front ++ (x ∷ back)) (length front) y ≡ front ++ (y ∷ back)
 set-stop [] back x y = refl
 set-stop (z ∷ front) back x y = ap (λ l. z ∷ l) (set-stop front back x y)
 
 -- CHA
-after-column : (column : ℕ) (base : Display) (cells : List Cell) (p : Place) (s : State) → s.display ≡ on base cells p → column < base.width
+pub after-column : (column : ℕ) (base : Display) (cells : List Cell) (p : Place) (s : State) → s.display ≡ on base cells p → column < base.width
     → (after (sequence ((column + 1) ∷ []) 0x47) s).display ≡ on base cells (record p { column = column })
 unfolding sequenced is_repeat function_of controlled moved
 after-column column base cells p s is inside =
@@ -131,26 +131,26 @@ after-column column base cells p s is inside =
     let there : min column (s.display.width - 1) ≡ column = omega arith in
     rw (count, there) (ap (λ (d : Display). record d { cursor = record d.cursor { column = column } }) is)
 
-after-set : (s : State) → (after (escape 0x48) s).display ≡ with_stop true s.display
+pub after-set : (s : State) → (after (escape 0x48) s).display ≡ with_stop true s.display
 unfolding designated escaped
 after-set s = refl
 
-after-unset : (s : State) → (after (sequence (0 ∷ []) 0x67) s).display ≡ with_stop false s.display
+pub after-unset : (s : State) → (after (sequence (0 ∷ []) 0x67) s).display ≡ with_stop false s.display
 unfolding sequenced is_repeat function_of controlled set_by
 after-unset s = refl
 
-abbrev tabbed : Display → List Bool → Display
+abbrev pub tabbed : Display → List Bool → Display
 tabbed base tabs = record base { tabs = tabs }
 
 module _ (base : Display) (cells : List Cell) where
-  stop-made : (front back : List Bool) (old stops : Bool) (k : ℕ) (s : State) → s.display ≡ on (tabbed base (front ++ (old ∷ back))) cells (record home { column = length front })
+  pub stop-made : (front back : List Bool) (old stops : Bool) (k : ℕ) (s : State) → s.display ≡ on (tabbed base (front ++ (old ∷ back))) cells (record home { column = length front })
       → length front < base.width → with_stop stops s.display ≡ on (tabbed base (front ++ (stops ∷ back))) cells (record home { column = length front })
   stop-made front back old stops k s is inside =
       let there : min (length front) (base.width - 1) ≡ length front = omega arith in
       ap (with_stop stops) is
       ∙ rw there (ap (λ l. on (tabbed base l) cells (record home { column = length front })) (set-stop front back old stops))
 
-  abbrev Tabbed : List Bool → State → Type 0
+  abbrev pub Tabbed : List Bool → State → Type 0
   Tabbed tabs s = (k : ℕ) × (s.display ≡ on (tabbed base tabs) cells (record home { column = k }))
 
   stop-step : (stops t : Bool) (front back : List Bool) (s : State) → (length front % 8 == 0) ≡ t → length front < base.width
@@ -197,7 +197,7 @@ bottom-is bottom height false is some inside =
     let past : height ≤ bottom = ltb-false bottom height is in
     rw (positive, is) (omega arith)
 
-all-rows : (d : Display) → HasMargins d → d.bottom ≤ max 1 (d.top + 1) → (d.top ≡ 0) × (d.bottom ≡ d.height)
+pub all-rows : (d : Display) → HasMargins d → d.bottom ≤ max 1 (d.top + 1) → (d.top ≡ 0) × (d.bottom ≡ d.height)
 all-rows d (inl two) none = absurd (omega arith)
 all-rows d (inr all) none = all
 

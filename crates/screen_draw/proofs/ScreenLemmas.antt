@@ -30,7 +30,7 @@ Painted base front behind n pen s =
     (q : Place) × (s.display ≡ on base (front ++ waiting behind n) q) × Stands base (length front + skipped behind) pen q
 
 -- the parts of a cell that is erased, and of one that is fresh
-left-of : (part : Part) → is_left part ≡ true → part ≡ Left
+pub left-of : (part : Part) → is_left part ≡ true → part ≡ Left
 left-of Empty is = cc is
 left-of Whole is = cc is
 left-of Left is = refl
@@ -51,7 +51,7 @@ two-columns row column width place false less some inside is other =
     let past : width ≤ column + 1 = ltb-false (column + 1) width less in
     absurd (other (row-ends row (column + 1) width (place + 1) some (omega arith) (omega arith)))
 
-right-erased : (cell : Cell) → cell.part ≡ Right → is_erased cell ≡ false
+pub right-erased : (cell : Cell) → cell.part ≡ Right → is_erased cell ≡ false
 unfolding is_erased
 right-erased cell part = rw part refl
 
@@ -212,7 +212,7 @@ right-of Whole is = cc is
 right-of Left is = cc is
 right-of Right is = refl
 
-half-of_at : (cell : Cell) (style : Style) (t : Bool) → is_right cell.part ≡ t → right_style cell ≡ Some style → (cell.part ≡ Right) × (cell.style ≡ style)
+pub half-of_at : (cell : Cell) (style : Style) (t : Bool) → is_right cell.part ≡ t → right_style cell ≡ Some style → (cell.part ≡ Right) × (cell.style ≡ style)
 half-of_at cell style true is half =
     let some : right_style cell ≡ Some cell.style = rw is refl in
     let same : Some cell.style ≡ Some style = sym some ∙ half in
@@ -224,7 +224,7 @@ half-of_at cell style false is half =
 shifted-place : (n i next : ℕ) → next ≡ suc n → n + suc i ≡ next + i
 shifted-place n i next is = omega arith
 
-left-some : (cell : Cell) → is_left cell.part ≡ true → left_style cell ≡ Some cell.style
+pub left-some : (cell : Cell) → is_left cell.part ≡ true → left_style cell ≡ Some cell.style
 left-some cell is = rw is refl
 
 module _ (base : Display) (some : 0 < base.width) (replaces : base.inserts ≡ false) (unlinked : base.link ≡ 0) where

@@ -13,7 +13,7 @@ use Rattle.ansi_screen.specs.Display.{Display}
 use Rattle.ansi_screen.specs.Modes.{with_private_mode, with_mode, with_style, with_charsets, with_charset}
 use Rattle.ansi_screen.specs.After.{State, after, after_all, function_of, controlled, sequenced, executed, designated, is_repeat, set as set_by}
 use Rattle.ansi_screen.proofs.LawLemmas.{after_all-append}
-use Rattle.screen_draw.specs.Draw.{escape, sequence, private_mode, set_or_reset, select, charsets_calls, plain_calls, place_calls, covered_calls, screen_calls, stops_calls, cursor_calls, modes_calls, drawn_calls, position, wrap_calls, last_column, last_cell}
+use Rattle.screen_draw.specs.Draw.{escape, sequence, private_mode, set_or_reset, select, charsets_calls, plain_calls, place_calls, covered_calls, screen_calls, stops_calls, cursor_calls, modes_calls, shown_screen_calls, drawn_calls, position, wrap_calls, last_column, last_cell}
 use Rattle.screen_draw.specs.Laws.{HasModes}
 
 -- a private mode; IRM; a style
@@ -88,16 +88,16 @@ cursor-selects drawn s =
 unfoldable pub before_cursor : Display → State → State
 before_cursor drawn s =
     after_all (sequence ((drawn.top + 1) ∷ drawn.bottom ∷ []) 0x72 ∷ []) (after_all (stops_calls 0 drawn.tabs) (after_all plain_calls
-    (after_all (screen_calls drawn.width drawn.saved drawn.cells) (after_all (covered_calls drawn) (after (escape 0x63) s)))))
+    (after_all (screen_calls drawn.width drawn.saved drawn.cells) (after_all (covered_calls drawn) s))))
 
 pub last-calls : (drawn : Display) (s : State)
-    → after_all (drawn_calls drawn) s ≡ after_all (modes_calls drawn) (after_all (cursor_calls drawn) (before_cursor drawn s))
+    → after_all (shown_screen_calls drawn) s ≡ after_all (modes_calls drawn) (after_all (cursor_calls drawn) (before_cursor drawn s))
 unfolding before_cursor
 last-calls drawn s =
     let margins : List Call = sequence ((drawn.top + 1) ∷ drawn.bottom ∷ []) 0x72 ∷ [] in
     let screen : List Call = screen_calls drawn.width drawn.saved drawn.cells in
     let last : List Call = cursor_calls drawn ++ modes_calls drawn in
-    let a : State = after (escape 0x63) s in
+    let a : State = s in
     let b : State = after_all (covered_calls drawn) a in
     let c : State = after_all screen b in
     let d : State = after_all plain_calls c in
@@ -110,9 +110,9 @@ last-calls drawn s =
 
 last-display : (drawn : Display) (s : State)
     → (after_all (drawn_calls drawn) s).display
-    ≡ record (after_all (cursor_calls drawn) (before_cursor drawn s)).display { wraps = drawn.wraps; inserts = drawn.inserts; is_visible = drawn.is_visible }
+    ≡ record (after_all (cursor_calls drawn) (before_cursor drawn (after (escape 0x63) s))).display { wraps = drawn.wraps; inserts = drawn.inserts; is_visible = drawn.is_visible }
 last-display drawn s =
-    ap (λ (e : State). e.display) (last-calls drawn s) ∙ after-modes drawn (after_all (cursor_calls drawn) (before_cursor drawn s))
+    ap (λ (e : State). e.display) (last-calls drawn (after (escape 0x63) s)) ∙ after-modes drawn (after_all (cursor_calls drawn) (before_cursor drawn (after (escape 0x63) s)))
 
 pub drawn-modes : (drawn : Display) (s : State) → HasModes drawn (after_all (drawn_calls drawn) s).display
 drawn-modes drawn s = (
@@ -122,10 +122,10 @@ drawn-modes drawn s = (
 )
 
 pub drawn-sets : (drawn : Display) (s : State) → (after_all (drawn_calls drawn) s).display.cursor.charsets ≡ drawn.cursor.charsets
-drawn-sets drawn s = ap (λ (d : Display). d.cursor.charsets) (last-display drawn s) ∙ (cursor-selects drawn (before_cursor drawn s)).0
+drawn-sets drawn s = ap (λ (d : Display). d.cursor.charsets) (last-display drawn s) ∙ (cursor-selects drawn (before_cursor drawn (after (escape 0x63) s))).0
 
 pub drawn-style : (drawn : Display) (s : State) → HasBytes drawn.cursor.style.foreground → HasBytes drawn.cursor.style.background
     → (after_all (drawn_calls drawn) s).display.cursor.style ≡ drawn.cursor.style
 drawn-style drawn s foreground background =
-    let (old, is) = (cursor-selects drawn (before_cursor drawn s)).1 in
+    let (old, is) = (cursor-selects drawn (before_cursor drawn (after (escape 0x63) s))).1 in
     ap (λ (d : Display). d.cursor.style) (last-display drawn s) ∙ (is ∙ selected-codes_of drawn.cursor.style old foreground background)

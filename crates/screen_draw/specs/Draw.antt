@@ -194,8 +194,10 @@ rest_calls d =
     plain_calls
     ++ (stops_calls 0 d.tabs ++ (sequence ((d.top + 1) ∷ d.bottom ∷ []) 0x72 ∷ [] ++ (cursor_calls d ++ modes_calls d)))
 
+-- all of it, on a new screen
+abbrev pub shown_screen_calls : Display → List Call
+shown_screen_calls d = covered_calls d ++ (screen_calls d.width d.saved d.cells ++ rest_calls d)
+
 -- RIS, and all of it
 abbrev pub drawn_calls : Display → List Call
-drawn_calls d =
-    escape 0x63 ∷ []
-    ++ (covered_calls d ++ (screen_calls d.width d.saved d.cells ++ rest_calls d))
+drawn_calls d = escape 0x63 ∷ shown_screen_calls d

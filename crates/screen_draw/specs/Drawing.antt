@@ -1,5 +1,5 @@
 -- What drawing adds to an output.
-use Rattle.std.specs.Prelude.{◌≡◌, ◌⊎◌, false, List, IsTrue}
+use Rattle.std.specs.Prelude.{◌≡◌, ◌⊎◌, Bool, false, ◌&&◌, ◌==◌, List, [], ◌∷◌, IsTrue}
 use Rattle.std.specs.List.{AllByRecursion}
 use Rattle.anstyle_parse.specs.declared.io.devices.Sink.{Ghosts as SinkOf}
 use Rattle.anstyle_parse.specs.declared.io.output.Output.{Output}
@@ -17,6 +17,15 @@ IsDrawing (csi_dispatch groups intermediates ignore final) =
     IsHeaderCall groups intermediates ignore final × (ignore ≡ false)
 IsDrawing (esc_dispatch intermediates ignore final) = IsEscapeCall intermediates ignore final × (ignore ≡ false)
 IsDrawing call = ⊥
+
+-- RIS and DECSTR
+abbrev pub is_reset : Call → Bool
+is_reset (esc_dispatch [] ignore final) = final == 0x63
+is_reset (csi_dispatch groups (mark ∷ []) ignore final) = mark == 0x21 && final == 0x70
+is_reset call = false
+
+abbrev pub HaveNoReset : List Call → Type 0
+HaveNoReset calls = AllByRecursion (λ call. is_reset call ≡ false) calls
 
 -- The canonical text of calls is added, and they are such calls alone.
 pub record Draws {W : Type 0} (sink : SinkOf W) (calls : List Call) (old new : Output W) : Type 0 where

@@ -1,4 +1,6 @@
+pub mod Alike
 pub mod Draw
 pub mod Drawing
 pub mod Laws
 pub mod Redrawn
+pub mod Update

@@ -72,7 +72,7 @@ pub(crate) fn put_private_mode<W: Sink>(output: &mut Output<W>, mode: u16, on: b
 /// CUP.
 pub(crate) fn put_position<W: Sink>(output: &mut Output<W>, row: usize, column: usize)
     requires row { row < most_rows }
-    requires column { column < most_columns }
+    requires column { column ≤ most_columns }
     ensures { Draws W.Sink (position row column ∷ []) output.old output.new }
 {
     put_numbers(output, row as u16 + 1, column as u16 + 1, b'H');

@@ -54,7 +54,7 @@ impl Pen {
 
 /// Whether the styles are the same.
 #[tactic(auto, unfolding(ansi_style::specs::Style::are_equal))]
-fn is_same(a: Style, b: Style) -> bool
+pub(crate) fn is_same(a: Style, b: Style) -> bool
     ensures { result ≡ are_equal a b }
 {
     a == b
@@ -62,7 +62,7 @@ fn is_same(a: Style, b: Style) -> bool
 
 /// Whether the cell is as erasing leaves it.
 #[tactic(auto, unfolding(crate::specs::Draw::is_erased))]
-fn is_erased(cell: Cell) -> bool
+pub(crate) fn is_erased(cell: Cell) -> bool
     ensures { result ≡ is_erased cell }
 {
     matches!(cell.part, Part::Empty)
@@ -116,7 +116,7 @@ pub(crate) fn put_marked<W: Sink>(output: &mut Output<W>, cell: Cell)
 }
 
 /// Selects the style, where it is another.
-fn put_style_change<W: Sink>(output: &mut Output<W>, selected: Style, wanted: Style)
+pub(crate) fn put_style_change<W: Sink>(output: &mut Output<W>, selected: Style, wanted: Style)
     ensures { Draws W.Sink (style_calls selected wanted) output.old output.new }
 {
     if !is_same(selected, wanted) {

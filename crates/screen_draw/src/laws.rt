@@ -1,12 +1,16 @@
 //! Laws of drawing. Each is the contract of a function that does nothing.
-ghost use Rattle.std.specs.Prelude.{◌≡◌};
+ghost use Rattle.std.specs.Prelude.{◌≡◌, ◌<◌, ℕ, true, List, []};
 ghost use Rattle.ansi_screen.specs.After.{State, after_all};
 ghost use Rattle.ansi_screen.specs.Display.{Display};
 ghost use Rattle.ansi_screen.specs.Reachable.{IsScreen, HasContents};
 ghost use Rattle.ansi_style.specs.Style.{HasBytes};
 ghost use Rattle.screen_draw.specs.Draw.{drawn_calls};
 ghost use Rattle.screen_draw.specs.Laws.{HasModes};
-ghost use Rattle.screen_draw.specs.Redrawn.{drawn_state};
+ghost use Rattle.screen_draw.specs.Redrawn.{as_shown, drawn_state};
+ghost use Rattle.screen_draw.specs.Alike.{are_alike, is_steady};
+ghost use Rattle.screen_draw.specs.Update.{move_calls, change_calls, update_calls};
+ghost use Rattle.screen_draw.specs.declared.changes.Brush.{Brush};
+ghost use Rattle.ansi_screen.specs.declared.cell.Cell.{Cell};
 
 /// Whatever stood there, nothing of it counts: the calls that draw a screen lead any two screens of one
 /// size to the same one.
@@ -33,4 +37,24 @@ pub fn redrawn()
     ensures { (drawn : Display) (old : State) → IsScreen drawn → HasContents drawn
         → old.display.width ≡ drawn.width → old.display.height ≡ drawn.height
         → after_all (drawn_calls drawn) old ≡ drawn_state drawn }
+{}
+
+/// The other screen shows: the calls of an update lead a terminal that shows the one, as a drawing or an update
+/// leaves it, to what a drawing of the other leads to.
+pub fn updated()
+    ensures { (shown wanted : Display) (old : State) → IsScreen shown → HasContents shown
+        → IsScreen wanted → HasContents wanted → shown.width ≡ wanted.width → shown.height ≡ wanted.height
+        → old.display ≡ as_shown shown → (after_all (update_calls shown wanted) old).display ≡ as_shown wanted }
+{}
+
+/// What is the same is not drawn: nothing of a screen that shows, and no cell that is like the one that stands there.
+pub fn unchanged()
+    ensures screen { (shown : Display) → update_calls shown shown ≡ [] }
+    ensures cell { (row column : ℕ) (brush : Brush) (old new : Cell) (behind : List Cell) → are_alike old new ≡ true
+        → change_calls row column brush old new behind ≡ [] }
+    ensures cursor { (shown : Display) (row column : ℕ)
+        → is_steady (record shown { cursor = record shown.cursor { row = row; column = column } }) shown ≡ true
+        → shown.cursor.column < shown.width
+        → update_calls (record shown { cursor = record shown.cursor { row = row; column = column } }) shown
+        ≡ move_calls (record shown.cursor { row = row; column = column }) shown.cursor.row shown.cursor.column }
 {}

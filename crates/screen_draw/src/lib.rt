@@ -1,8 +1,11 @@
 //! Draws a screen: bytes after which a terminal shows it, whatever it showed before.
 #![tactic(auto)]
 
+mod alike;
 mod calls;
 mod cells;
+mod changes;
+mod cleared;
 pub mod laws;
 mod places;
 mod rest;
@@ -13,8 +16,9 @@ ghost use Rattle.anstyle_parse.specs.Laws.Lawful.{AreLawful};
 ghost use Rattle.anstyle_parse.specs.Stream.Calls.{AreCalls};
 ghost use Rattle.anstyle_parse.specs.Stream.Canon.{canon};
 ghost use Rattle.screen_draw.specs.Draw.{drawn_calls};
-ghost use Rattle.screen_draw.specs.Drawing.{IsDrawing};
-ghost use Rattle.screen_draw.specs.Redrawn.{drawn_state};
+ghost use Rattle.screen_draw.specs.Drawing.{IsDrawing, HaveNoReset};
+ghost use Rattle.screen_draw.specs.Redrawn.{as_shown, drawn_state};
+ghost use Rattle.screen_draw.specs.Update.{update_calls};
 ghost use Rattle.ansi_screen.specs.After.{State, Shows};
 ghost use Rattle.ansi_screen.specs.Reachable.{IsScreen, HasContents};
 ghost use Rattle.std.specs.Prelude.{◌≡◌};
@@ -22,7 +26,7 @@ ghost use Rattle.std.specs.List.{AllByRecursion};
 
 use ansi_screen::Screen;
 use anstyle_parse::io::{Output, Sink};
-use whole::put_all;
+use whole::{put_all, put_update};
 
 /// Writes the bytes that make a terminal of the screen's size show it.
 ///
@@ -50,4 +54,35 @@ pub fn draw<W: Sink>(screen: &Screen, output: &mut Output<W>)
     ensures only { AllByRecursion IsDrawing (drawn_calls screen.now.display) }
 {
     put_all(output, screen);
+}
+
+/// Writes the bytes that make a terminal which shows one screen show another, of the same size.
+///
+/// Of cells only those are drawn that differ. Where more differs than cells, the cursor with its style, DECAWM and
+/// DECTCEM, as where the alternate screen comes, all is drawn, without a reset. No memory is taken.
+///
+/// Not drawn is what [`draw`] doesn't draw.
+pub fn update<W: Sink>(shown: &Screen, wanted: &Screen, output: &mut Output<W>)
+    requires columns { shown.now.display.width ≡ wanted.now.display.width }
+    requires rows { shown.now.display.height ≡ wanted.now.display.height }
+
+    // It adds the canonical text of these calls.
+    ensures text { Adds W.Sink (canon (update_calls shown.now.display wanted.now.display)) output.old output.new }
+
+    // A parser makes these calls of it, and no others.
+    ensures made { AreCalls (canon (update_calls shown.now.display wanted.now.display))
+        (update_calls shown.now.display wanted.now.display) }
+    ensures lawful { AreLawful (update_calls shown.now.display wanted.now.display) }
+
+    // A terminal that shows the one, as a drawing or an update leaves it, shows by this text the other.
+    ensures updated { (old new : State) → IsScreen shown.now.display → HasContents shown.now.display
+        → IsScreen wanted.now.display → HasContents wanted.now.display → old.display ≡ as_shown shown.now.display
+        → Shows old (canon (update_calls shown.now.display wanted.now.display)) new
+        → new.display ≡ as_shown wanted.now.display }
+
+    // They print what is shown, and have no controls but SO and SI, and no strings; there is neither RIS nor DECSTR.
+    ensures only { AllByRecursion IsDrawing (update_calls shown.now.display wanted.now.display) }
+    ensures no_reset { HaveNoReset (update_calls shown.now.display wanted.now.display) }
+{
+    put_update(output, shown, wanted);
 }

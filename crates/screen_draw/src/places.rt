@@ -13,7 +13,7 @@ use ansi_style::Style;
 use anstyle_parse::io::{Output, Sink};
 
 /// Prints the cell that leaves a wrap pending.
-fn put_wrap<W: Sink>(output: &mut Output<W>, last: Option<Cell>)
+pub(crate) fn put_wrap<W: Sink>(output: &mut Output<W>, last: Option<Cell>)
     ensures { Draws W.Sink (wrap_calls last) output.old output.new }
 {
     if let Some(cell) = last {

@@ -1,6 +1,6 @@
 //! What is drawn behind the cells: tabs, margins, the cursor, modes.
 ghost use Rattle.std.specs.Prelude.{◌≡◌, ◌+◌, ◌<◌, ◌≤◌, ◌∷◌, [], length};
-ghost use Rattle.ansi_screen.specs.Display.{most_columns, most_rows};
+ghost use Rattle.ansi_screen.specs.Display.{most_columns, most_rows, IsSized};
 ghost use Rattle.screen_draw.specs.Draw.{sequence, escape, stop_calls, stops_calls, is_last_wide, last_cell, last_column, cursor_calls, modes_calls, rest_calls};
 ghost use Rattle.screen_draw.specs.Drawing.{Draws};
 
@@ -12,10 +12,10 @@ use ansi_screen::{Cell, Screen};
 use anstyle_parse::io::{Output, Sink};
 
 /// How far the stops of a new screen are from each other.
-const STOPS_EACH: usize = 8;
+pub(crate) const STOPS_EACH: usize = 8;
 
 /// Sets a stop at a column.
-fn put_set_stop<W: Sink>(output: &mut Output<W>, column: usize)
+pub(crate) fn put_set_stop<W: Sink>(output: &mut Output<W>, column: usize)
     requires { column < most_columns }
     ensures { Draws W.Sink (sequence ((column + 1) ∷ []) 0x47 ∷ escape 0x48 ∷ []) output.old output.new }
 {
@@ -24,7 +24,7 @@ fn put_set_stop<W: Sink>(output: &mut Output<W>, column: usize)
 }
 
 /// Clears the stop at a column.
-fn put_clear_stop<W: Sink>(output: &mut Output<W>, column: usize)
+pub(crate) fn put_clear_stop<W: Sink>(output: &mut Output<W>, column: usize)
     requires { column < most_columns }
     ensures { Draws W.Sink (sequence ((column + 1) ∷ []) 0x47 ∷ sequence (0 ∷ []) 0x67 ∷ []) output.old output.new }
 {
@@ -55,9 +55,10 @@ fn put_stops<W: Sink>(output: &mut Output<W>, stops: &[bool])
 }
 
 /// The cell with the last character of the cursor's row, and its column.
-fn last_of_row(screen: &Screen) -> (Cell, usize)
+pub(crate) fn last_of_row(screen: &Screen) -> (Cell, usize)
     ensures cell { result.0 ≡ last_cell screen.now.display }
     ensures column { result.1 ≡ last_column screen.now.display }
+    ensures sized { IsSized screen.now.display }
 {
     let cells = screen.cells();
     let (end, columns) = (screen.row_end(), screen.columns());

@@ -1,15 +1,20 @@
 //! A whole screen, and the one that it covers.
-ghost use Rattle.screen_draw.specs.Draw.{covered_calls, drawn_calls};
+ghost use Rattle.screen_draw.specs.Draw.{covered_calls, shown_screen_calls, drawn_calls};
 ghost use Rattle.screen_draw.specs.Drawing.{Draws};
+ghost use Rattle.screen_draw.specs.Update.{update_calls};
+ghost use Rattle.std.specs.Prelude.{◌≡◌};
 
+use crate::alike::{is_steady, looks_same};
 use crate::calls::{put_escape, put_private_mode};
+use crate::changes::put_changes;
+use crate::cleared::put_cleared;
 use crate::places::put_screen;
 use crate::rest::put_rest;
 use ansi_screen::Screen;
 use anstyle_parse::io::{Output, Sink};
 
 /// The mode of the alternate screen.
-const ALTERNATE: u16 = 1049;
+pub(crate) const ALTERNATE: u16 = 1049;
 
 /// Draws what the alternate screen covers.
 fn put_covered<W: Sink>(output: &mut Output<W>, screen: &Screen)
@@ -27,12 +32,33 @@ fn put_covered<W: Sink>(output: &mut Output<W>, screen: &Screen)
     }
 }
 
+/// Draws all, on a new screen.
+pub(crate) fn put_shown_screen<W: Sink>(output: &mut Output<W>, screen: &Screen)
+    ensures { Draws W.Sink (shown_screen_calls screen.now.display) output.old output.new }
+{
+    put_covered(output, screen);
+    put_screen(output, screen.columns(), screen.saved(), screen.cells());
+    put_rest(output, screen);
+}
+
 /// Resets the terminal and draws all.
 pub(crate) fn put_all<W: Sink>(output: &mut Output<W>, screen: &Screen)
     ensures { Draws W.Sink (drawn_calls screen.now.display) output.old output.new }
 {
     put_escape(output, b'c');
-    put_covered(output, screen);
-    put_screen(output, screen.columns(), screen.saved(), screen.cells());
-    put_rest(output, screen);
+    put_shown_screen(output, screen);
+}
+
+/// Draws what differs; all, where more differs than cells, the cursor, DECAWM and DECTCEM.
+pub(crate) fn put_update<W: Sink>(output: &mut Output<W>, shown: &Screen, wanted: &Screen)
+    requires columns { shown.now.display.width ≡ wanted.now.display.width }
+    requires rows { shown.now.display.height ≡ wanted.now.display.height }
+    ensures { Draws W.Sink (update_calls shown.now.display wanted.now.display) output.old output.new }
+{
+    if is_steady(shown, wanted) {
+        put_changes(output, shown, wanted);
+    } else if !looks_same(shown, wanted) {
+        put_cleared(output, shown);
+        put_shown_screen(output, wanted);
+    }
 }

@@ -2,8 +2,8 @@
 use ansi_screen::{Place, Screen, is_shown};
 use anstyle_parse::io::{FromWrite, Output};
 use anstyle_parse::{Parser, Utf8Parser};
-use screen_draw::draw;
-use screen_draw::laws::{forgets, redrawn, selected};
+use screen_draw::laws::{forgets, redrawn, selected, unchanged, updated};
+use screen_draw::{draw, update};
 use std::alloc::{AllocError, Global};
 use std::test::Fail;
 
@@ -63,5 +63,36 @@ fn a_drawing(rt: HostRuntime) -> Result<(), Fail> {
         (again.margins(), again.wraps(), again.inserts()),
         ((1, 3), false, true)
     );
+    Ok(())
+}
+
+#[test]
+fn an_update_of_a_cell(rt: HostRuntime) -> Result<(), Fail> {
+    let (first, second) = (shown(rt.alloc(), b"abc")?, shown(rt.alloc(), b"abX")?);
+    assert!(rt; first.columns() == second.columns() && first.rows() == second.rows());
+    let mut output = Output::new(FromWrite::new(Vec::new(rt.alloc())));
+    update(&first, &second, &mut output);
+    updated();
+    unchanged();
+    let (sink, answer) = output.finish();
+    assert!(rt; answer.is_ok());
+    assert_eq!(rt; sink.into_inner().as_slice(), b"\x1b[3GX".as_slice());
+    Ok(())
+}
+
+#[test]
+fn an_update_of_all(rt: HostRuntime) -> Result<(), Fail> {
+    let (mut first, second) = (shown(rt.alloc(), b"abc")?, shown(rt.alloc(), PARTS)?);
+    assert!(rt; first.columns() == second.columns() && first.rows() == second.rows());
+    let mut output = Output::new(FromWrite::new(Vec::new(rt.alloc())));
+    update(&first, &second, &mut output);
+    let (sink, answer) = output.finish();
+    assert!(rt; answer.is_ok());
+    let mut parser = Parser::<Utf8Parser>::new();
+    parser.advance_all(&mut first, sink.into_inner().as_slice());
+    assert_eq!(rt; first.cells(), second.cells());
+    assert_eq!(rt; first.hidden_cells(), second.hidden_cells());
+    assert_eq!(rt; first.stops(), second.stops());
+    assert_eq!(rt; (first.cursor(), first.saved()), (place(2, 1), place(1, 3)));
     Ok(())
 }

@@ -1,0 +1,194 @@
+-- What is the same is not drawn.
+use Rattle.std.proofs.Common.{◌≡◌, ℕ, zero, suc, ◌<◌, Bool, true, false, List, [], ◌∷◌, ◌++◌, refl, ap, ◌∙◌, arith, append-nil}
+use Rattle.std.specs.Prelude.{◌&&◌, ◌||◌, not, ◌==◌, nat_lt, if◌then◌else◌}
+use Rattle.std.specs.Bool.{beq}
+use Rattle.std.proofs.lemmas.Bool.{eq-eqb, ne_eqb}
+use Rattle.ansi_style.proofs.EqualityLemmas.{are_equal-refl}
+use Rattle.ansi_screen.specs.declared.cell.Cell.{Cell}
+use Rattle.ansi_screen.specs.declared.cell.Marks.{Marks}
+use Rattle.ansi_screen.specs.declared.cell.Marks.TheVariants.{Unmarked, One, Two}
+use Rattle.ansi_screen.specs.declared.cell.Part.{Part}
+use Rattle.ansi_screen.specs.declared.cell.Part.TheVariants.{Empty, Whole, Left, Right}
+use Rattle.ansi_screen.specs.declared.place.Place.{Place}
+use Rattle.ansi_screen.specs.Cells.{is_right}
+use Rattle.ansi_screen.specs.Display.{Display, row_cells}
+use Rattle.screen_draw.specs.declared.changes.Brush.{Brush}
+use Rattle.screen_draw.specs.Draw.{style_calls}
+use Rattle.screen_draw.specs.Alike.{are_same_marks, are_same_parts, are_alike, all_two, are_same_places, has_same_frame, looks_same, lacks_print, is_steady}
+use Rattle.screen_draw.specs.Update.{move_calls, is_done, change_calls, brush_behind, row_calls, brush_after, begun_at, place_behind, rows_calls, wants_wrap, cursor_changes, mode_changes, changes_calls, cleared_calls, update_calls}
+use Rattle.screen_draw.specs.Draw.{shown_screen_calls}
+use Rattle.screen_draw.proofs.AlikeLemmas.{flag-refl}
+use Rattle.screen_draw.proofs.FrameLemmas.{Steady, steady-is}
+
+number-refl : (n : ℕ) → (n == n) ≡ true
+number-refl n = eq-eqb n n refl
+
+marks-refl : (a : Marks) → are_same_marks a a ≡ true
+marks-refl Unmarked = refl
+marks-refl (One a) = number-refl a
+marks-refl (Two a b) = let first : (a == a) ≡ true = number-refl a in rw first (number-refl b)
+
+parts-refl : (a : Part) → are_same_parts a a ≡ true
+parts-refl Empty = refl
+parts-refl Whole = refl
+parts-refl Left = refl
+parts-refl Right = refl
+
+alike-refl : (a : Cell) → are_alike a a ≡ true
+unfolding are_alike
+alike-refl a =
+    let c : (a.character == a.character) ≡ true = number-refl a.character in
+    let p : are_same_parts a.part a.part ≡ true = parts-refl a.part in
+    let m : are_same_marks a.marks a.marks ≡ true = marks-refl a.marks in
+    rw (c, p, m) (are_equal-refl a.style)
+
+all-refl : {A : Type 0} (test : A → A → Bool) → ((x : A) → test x x ≡ true) → (xs : List A) → all_two test xs xs ≡ true
+all-refl test same [] = refl
+all-refl test same (x ∷ xs) = let first : test x x ≡ true = same x in rw first (all-refl test same xs)
+
+places-refl : (a : Place) → are_same_places a a ≡ true
+unfolding are_same_places
+places-refl a =
+    let r : (a.row == a.row) ≡ true = number-refl a.row in
+    let k : (a.column == a.column) ≡ true = number-refl a.column in
+    let t = are_equal-refl a.style in
+    let o : beq a.is_relative a.is_relative ≡ true = flag-refl a.is_relative in
+    let g0 : beq a.charsets.g0_draws a.charsets.g0_draws ≡ true = flag-refl a.charsets.g0_draws in
+    let g1 : beq a.charsets.g1_draws a.charsets.g1_draws ≡ true = flag-refl a.charsets.g1_draws in
+    rw (r, k, t, o, g0, g1) (flag-refl a.charsets.uses_g1)
+
+or-true : (t : Bool) → (t || true) ≡ true
+or-true true = refl
+or-true false = refl
+
+frame-refl : (a : Display) → has_same_frame a a ≡ true
+unfolding has_same_frame
+frame-refl a =
+    let alternate : beq a.is_alternate a.is_alternate ≡ true = flag-refl a.is_alternate in
+    let hidden : all_two are_alike a.hidden a.hidden ≡ true = all-refl are_alike alike-refl a.hidden in
+    let either : (not a.is_alternate || true) ≡ true = or-true (not a.is_alternate) in
+    let saved : are_same_places a.saved a.saved ≡ true = places-refl a.saved in
+    let hidden_saved : are_same_places a.hidden_saved a.hidden_saved ≡ true = places-refl a.hidden_saved in
+    let top : (a.top == a.top) ≡ true = number-refl a.top in
+    let bottom : (a.bottom == a.bottom) ≡ true = number-refl a.bottom in
+    rw (alternate, hidden, either, saved, hidden_saved, top, bottom) (all-refl beq flag-refl a.tabs)
+
+looks-refl : (a : Display) → looks_same a a ≡ true
+unfolding looks_same
+looks-refl a =
+    let frame : has_same_frame a a ≡ true = frame-refl a in
+    let wraps : beq a.wraps a.wraps ≡ true = flag-refl a.wraps in
+    let inserts : beq a.inserts a.inserts ≡ true = flag-refl a.inserts in
+    let visible : beq a.is_visible a.is_visible ≡ true = flag-refl a.is_visible in
+    let cursor : are_same_places a.cursor a.cursor ≡ true = places-refl a.cursor in
+    rw (frame, wraps, inserts, visible, cursor) (all-refl are_alike alike-refl a.cells)
+
+-- a cell
+done-alike : (brush : Brush) (old new : Cell) → are_alike old new ≡ true → is_done brush old new ≡ true
+unfolding is_done
+done-alike brush old new alike =
+    let right : (is_right new.part || true) ≡ true = or-true (is_right new.part) in
+    rw (alike, right) (or-true (nat_lt 0 brush.erased))
+
+pub alike-nothing : (row column : ℕ) (brush : Brush) (old new : Cell) (behind : List Cell) → are_alike old new ≡ true → change_calls row column brush old new behind ≡ []
+unfolding change_calls
+alike-nothing row column brush old new behind alike = let done : is_done brush old new ≡ true = done-alike brush old new alike in rw done refl
+
+-- rows
+stays : (row column : ℕ) (place : Place) (old new : Cell) (news : List Cell) → are_alike old new ≡ true → brush_behind row column (begun_at place) old new news ≡ begun_at place
+unfolding brush_behind
+stays row column place old new news alike = let done : is_done (begun_at place) old new ≡ true = done-alike (begun_at place) old new alike in rw done refl
+
+row-nothing : (row column : ℕ) (place : Place) (xs : List Cell) → (row_calls row column (begun_at place) xs xs ≡ []) × (brush_after row column (begun_at place) xs xs ≡ begun_at place)
+row-nothing row column place [] = (refl, refl)
+row-nothing row column place (x ∷ xs) =
+    let alike : are_alike x x ≡ true = alike-refl x in
+    let none : change_calls row column (begun_at place) x x xs ≡ [] = alike-nothing row column (begun_at place) x x xs alike in
+    let same : brush_behind row column (begun_at place) x x xs ≡ begun_at place = stays row column place x x xs alike in
+    let (calls, brush) = row-nothing row (suc column) place xs in (
+      ap (λ l. l ++ row_calls row (suc column) (brush_behind row column (begun_at place) x x xs) xs xs) none
+          ∙ (ap (λ b. row_calls row (suc column) b xs xs) same ∙ calls),
+      ap (λ b. brush_after row (suc column) b xs xs) same ∙ brush,
+    )
+
+-- of the same cells, wherever the cursor stood
+module _ (d : Display) (place : Place) where
+  abbrev before : Display
+  before = record d { cursor = place }
+
+  rows-nothing : (n : ℕ) → (rows_calls n before d ≡ []) × (place_behind n before d ≡ place)
+  rows-nothing zero = (refl, refl)
+  rows-nothing (suc n) =
+      let (calls, stands) = rows-nothing n in
+      let cells : List Cell = row_cells n d in
+      let (none, same) = row-nothing n 0 place cells in (
+        ap (λ l. l ++ row_calls n 0 (begun_at (place_behind n before d)) cells cells) calls
+            ∙ (ap (λ p. row_calls n 0 (begun_at p) cells cells) stands ∙ none),
+        ap (λ p. (brush_after n 0 (begun_at p) cells cells).place) stands ∙ ap (λ (b : Brush). b.place) same,
+      )
+
+  modes-nothing : (mode : ℕ) (t : Bool) → mode_changes mode t t ≡ []
+  modes-nothing mode t = let same : beq t t ≡ true = flag-refl t in rw same refl
+
+  changes-cursor : changes_calls before d ≡ cursor_changes place d
+  changes-cursor =
+      let (none, stands) = rows-nothing d.height in
+      let wraps : mode_changes 7 d.wraps d.wraps ≡ [] = modes-nothing 7 d.wraps in
+      let visible : mode_changes 25 d.is_visible d.is_visible ≡ [] = modes-nothing 25 d.is_visible in
+      ap (λ l. l ++ (cursor_changes (place_behind d.height before d) d ++ (mode_changes 7 d.wraps d.wraps ++ mode_changes 25 d.is_visible d.is_visible))) none
+      ∙ (ap (λ p. cursor_changes p d ++ (mode_changes 7 d.wraps d.wraps ++ mode_changes 25 d.is_visible d.is_visible)) stands
+      ∙ (ap (λ l. cursor_changes place d ++ (l ++ mode_changes 25 d.is_visible d.is_visible)) wraps
+      ∙ (ap (λ l. cursor_changes place d ++ l) visible ∙ append-nil (cursor_changes place d))))
+
+-- a move alone
+no-style : (p : Place) → style_calls p.style p.style ≡ []
+no-style p = let same = are_equal-refl p.style in rw same refl
+
+not-wanted : (place : Place) (d : Display) → (d.cursor.column == d.width) ≡ false → wants_wrap place d ≡ false
+unfolding wants_wrap
+not-wanted place d other = rw other refl
+
+pub cursor-alone : (shown : Display) (row column : ℕ) → is_steady (record shown { cursor = record shown.cursor { row = row; column = column } }) shown ≡ true
+    → shown.cursor.column < shown.width
+    → update_calls (record shown { cursor = record shown.cursor { row = row; column = column } }) shown
+    ≡ move_calls (record shown.cursor { row = row; column = column }) shown.cursor.row shown.cursor.column
+cursor-alone shown row column steady inside =
+    let place : Place = record shown.cursor { row = row; column = column } in
+    let other : (shown.cursor.column == shown.width) ≡ false = ne_eqb shown.cursor.column shown.width (λ e. omega arith) in
+    let wants : wants_wrap place shown ≡ false = not-wanted place shown other in
+    let styled : style_calls place.style shown.cursor.style ≡ [] = no-style shown.cursor in
+    let before : Display = record shown { cursor = place } in
+    ap (λ (t : Bool). if t then changes_calls before shown else if looks_same before shown then [] else cleared_calls before ++ shown_screen_calls shown) steady
+    ∙ (changes-cursor shown place
+    ∙ (rw wants (ap (λ l. move_calls place shown.cursor.row shown.cursor.column ++ l) styled ∙ append-nil (move_calls place shown.cursor.row shown.cursor.column))))
+
+-- nothing
+none-of : (t : Bool) → (t && false) ≡ false
+none-of true = refl
+none-of false = refl
+
+still : (d : Display) → lacks_print d ≡ false → wants_wrap d.cursor d ≡ false
+unfolding wants_wrap
+still d prints =
+    let row : (d.cursor.row == d.cursor.row) ≡ true = number-refl d.cursor.row in
+    let column : (d.cursor.column == d.cursor.column) ≡ true = number-refl d.cursor.column in
+    rw (row, column, prints) (none-of (d.cursor.column == d.width))
+
+no-move : (p : Place) → move_calls p p.row p.column ≡ []
+unfolding move_calls
+no-move p =
+    let row : (p.row == p.row) ≡ true = number-refl p.row in
+    let column : (p.column == p.column) ≡ true = number-refl p.column in
+    rw (row, column) refl
+
+nothing_at : (d : Display) (t : Bool) → is_steady d d ≡ t
+    → (if t then changes_calls d d else if looks_same d d then [] else cleared_calls d ++ shown_screen_calls d) ≡ []
+nothing_at d true steady =
+    let is : Steady d d = steady-is d d steady in
+    let wants : wants_wrap d.cursor d ≡ false = still d is.prints in
+    let moved : move_calls d.cursor d.cursor.row d.cursor.column ≡ [] = no-move d.cursor in
+    changes-cursor d d.cursor ∙ rw (wants, moved) (no-style d.cursor)
+nothing_at d false steady = let same : looks_same d d ≡ true = looks-refl d in rw same refl
+
+pub same-nothing : (shown : Display) → update_calls shown shown ≡ []
+same-nothing shown = nothing_at shown _ refl

@@ -1,0 +1,31 @@
+-- They are lawful, and so replayed.
+use Rattle.std.proofs.Common.{refl, ap, ◌∙◌}
+use Rattle.anstyle_parse.proofs.Canonical.Replay.{replay}
+use Rattle.anstyle_parse.specs.Stream.Canon.{canon}
+use Rattle.ansi_screen.specs.After.{after_all}
+use Rattle.ansi_screen.proofs.LawLemmas.{Shows-only}
+use Rattle.screen_draw.specs.Update.{update_calls}
+use Rattle.screen_draw.proofs.DrawLemmas.{drawing-lawful}
+use Rattle.screen_draw.proofs.NoResetLemmas.{no-reset}
+use Rattle.screen_draw.proofs.UpdatedLemmas.{updated-is}
+use Rattle.screen_draw.proofs.update.Goals as goal
+
+pub returns-clause-made : goal.returns-clause-made
+returns-clause-made g c =
+    let calls = update_calls c.args.shown.now.display c.args.wanted.now.display in
+    replay calls (drawing-lawful calls c.put_update.ensures.drawing)
+
+pub returns-clause-lawful : goal.returns-clause-lawful
+returns-clause-lawful g c = drawing-lawful (update_calls c.args.shown.now.display c.args.wanted.now.display) c.put_update.ensures.drawing
+
+pub returns-clause-no_reset : goal.returns-clause-no_reset
+returns-clause-no_reset g c = no-reset c.args.shown.now.display c.args.wanted.now.display
+
+pub returns-clause-updated : goal.returns-clause-updated
+returns-clause-updated g c = λ old new from has to gets is shows.
+    let a = c.args.shown.now.display in
+    let b = c.args.wanted.now.display in
+    let calls = update_calls a b in
+    ap (λ s. s.display)
+    (Shows-only (canon calls) old new (after_all calls old) shows (calls, replay calls (drawing-lawful calls c.put_update.ensures.drawing), refl))
+    ∙ updated-is a b old from has to gets c.requires.columns c.requires.rows is

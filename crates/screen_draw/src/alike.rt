@@ -1,0 +1,166 @@
+//! Comparing screens: what bytes can tell of them.
+ghost use Rattle.std.specs.Prelude.{◌≡◌};
+ghost use Rattle.std.specs.Bool.{beq};
+ghost use Rattle.ansi_screen.specs.Print.{draws};
+ghost use Rattle.screen_draw.specs.Alike.{are_same_marks, are_same_parts, are_alike, all_two, are_same_sets, are_same_places, has_same_frame, has_same_modes, looks_same, is_plain, lacks_print, is_steady};
+
+use crate::cells::{is_erased, is_same};
+use ansi_screen::{Cell, Charsets, Marks, Part, Place, Screen};
+
+/// Whether the marks are the same.
+fn are_same_marks(a: Marks, b: Marks) -> bool
+    ensures { result ≡ are_same_marks a b }
+{
+    match (a, b) {
+        (Marks::Unmarked, Marks::Unmarked) => true,
+        (Marks::One(first), Marks::One(other)) => first == other,
+        (Marks::Two(first, second), Marks::Two(other, last)) => first == other && second == last,
+        _ => false,
+    }
+}
+
+/// Whether the parts are the same.
+fn are_same_parts(a: Part, b: Part) -> bool
+    ensures { result ≡ are_same_parts a b }
+{
+    match (a, b) {
+        (Part::Empty, Part::Empty)
+        | (Part::Whole, Part::Whole)
+        | (Part::Left, Part::Left)
+        | (Part::Right, Part::Right) => true,
+        _ => false,
+    }
+}
+
+/// Whether the cells have the same character, marks, style and part.
+#[tactic(auto, unfolding(crate::specs::Alike::are_alike))]
+pub(crate) fn are_alike(a: Cell, b: Cell) -> bool
+    ensures { result ≡ are_alike a b }
+{
+    a.character == b.character
+        && are_same_parts(a.part, b.part)
+        && are_same_marks(a.marks, b.marks)
+        && is_same(a.style, b.style)
+}
+
+/// Whether all cells are alike, each to the one of its place.
+fn are_all_alike(a: &[Cell], b: &[Cell]) -> bool
+    ensures { result ≡ all_two are_alike a.now b.now }
+{
+    if a.len() != b.len() {
+        return false;
+    }
+    for place in 0..a.len() {
+        if !are_alike(a[place], b[place]) {
+            return false;
+        }
+    }
+    true
+}
+
+/// Whether tabs stop in the same columns.
+fn are_same_stops(a: &[bool], b: &[bool]) -> bool
+    ensures { result ≡ all_two beq a.now b.now }
+{
+    if a.len() != b.len() {
+        return false;
+    }
+    for column in 0..a.len() {
+        if a[column] != b[column] {
+            return false;
+        }
+    }
+    true
+}
+
+/// Whether the character sets are the same.
+fn are_same_sets(a: Charsets, b: Charsets) -> bool
+    ensures { result ≡ are_same_sets a b }
+{
+    a.g0_draws == b.g0_draws && a.g1_draws == b.g1_draws && a.uses_g1 == b.uses_g1
+}
+
+/// Whether the places are the same, with their styles, origin modes and sets.
+#[tactic(auto, unfolding(crate::specs::Alike::are_same_places))]
+fn are_same_places(a: Place, b: Place) -> bool
+    ensures { result ≡ are_same_places a b }
+{
+    a.row == b.row
+        && a.column == b.column
+        && is_same(a.style, b.style)
+        && a.is_relative == b.is_relative
+        && are_same_sets(a.charsets, b.charsets)
+}
+
+/// Whether both have the same screen below an alternate one, saved places, margins and tabs.
+#[tactic(auto, unfolding(crate::specs::Alike::has_same_frame))]
+fn has_same_frame(a: &Screen, b: &Screen) -> bool
+    ensures { result ≡ has_same_frame a.now.display b.now.display }
+{
+    a.is_alternate() == b.is_alternate()
+        && (!a.is_alternate() || are_all_alike(a.hidden_cells(), b.hidden_cells()))
+        && are_same_places(a.saved(), b.saved())
+        && are_same_places(a.hidden_saved(), b.hidden_saved())
+        && a.margins().0 == b.margins().0
+        && a.margins().1 == b.margins().1
+        && are_same_stops(a.stops(), b.stops())
+}
+
+/// Whether DECAWM, IRM and DECTCEM are the same.
+fn has_same_modes(a: &Screen, b: &Screen) -> bool
+    ensures { result ≡ has_same_modes a.now.display b.now.display }
+{
+    a.wraps() == b.wraps()
+        && a.inserts() == b.inserts()
+        && a.is_cursor_visible() == b.is_cursor_visible()
+}
+
+/// Whether all is the same.
+#[tactic(auto, unfolding(crate::specs::Alike::looks_same))]
+pub(crate) fn looks_same(a: &Screen, b: &Screen) -> bool
+    ensures { result ≡ looks_same a.now.display b.now.display }
+{
+    has_same_frame(a, b)
+        && has_same_modes(a, b)
+        && are_same_places(a.cursor(), b.cursor())
+        && are_all_alike(a.cells(), b.cells())
+}
+
+/// Whether the set that is used is the line drawing set.
+fn draws(sets: Charsets) -> bool
+    ensures { result ≡ draws sets }
+{
+    if sets.uses_g1 {
+        sets.g1_draws
+    } else {
+        sets.g0_draws
+    }
+}
+
+/// Whether characters are printed as they are, in their places.
+#[tactic(auto, unfolding(crate::specs::Alike::is_plain))]
+fn is_plain(screen: &Screen) -> bool
+    ensures { result ≡ is_plain screen.now.display }
+{
+    !screen.cursor().is_relative && !screen.inserts() && !draws(screen.cursor().charsets)
+}
+
+/// Whether a wrap is pending behind a cell where nothing is printed.
+#[tactic(auto, unfolding(crate::specs::Alike::lacks_print))]
+pub(crate) fn lacks_print(screen: &Screen) -> bool
+    ensures { result ≡ lacks_print screen.now.display }
+{
+    screen.cursor().column == screen.columns() && is_erased(screen.cells()[screen.row_end() - 1])
+}
+
+/// Whether only cells, the cursor with its style, DECAWM and DECTCEM can differ.
+#[tactic(auto, unfolding(crate::specs::Alike::is_steady))]
+pub(crate) fn is_steady(a: &Screen, b: &Screen) -> bool
+    ensures { result ≡ is_steady a.now.display b.now.display }
+{
+    is_plain(a)
+        && is_plain(b)
+        && !lacks_print(a)
+        && are_same_sets(a.cursor().charsets, b.cursor().charsets)
+        && has_same_frame(a, b)
+}

@@ -1,0 +1,254 @@
+//! What differs between two screens in cells, cursor and modes.
+ghost use Rattle.std.specs.Prelude.{◌≡◌, ◌<◌, ◌≤◌, ◌∷◌, ◌++◌, [], Some, length};
+ghost use Rattle.ansi_screen.specs.Cells.{cell_at};
+ghost use Rattle.ansi_screen.specs.Display.{most_columns, most_rows, IsSized};
+ghost use Rattle.screen_draw.specs.Draw.{position, select, wrap_calls, last_cell, last_column};
+ghost use Rattle.screen_draw.specs.Drawing.{Draws};
+ghost use Rattle.screen_draw.specs.Update.{move_calls, erased_run, painted_calls, is_done, change_calls, half_columns, brush_behind, row_calls, brush_after, begun_at, place_behind, rows_calls, wants_wrap, cursor_changes, mode_changes, changes_calls};
+
+use crate::alike::{are_alike, lacks_print};
+use crate::calls::{put_number, put_position, put_private_mode, put_style};
+use crate::cells::{is_erased, is_same, put_marked, put_style_change};
+use crate::places::put_wrap;
+use crate::rest::last_of_row;
+use ansi_screen::{Cell, Part, Place, Screen};
+use ansi_style::Style;
+use anstyle_parse::io::{Output, Sink};
+
+/// What was drawn so far leaves this to the next cell.
+#[derive(Clone, Copy)]
+pub(crate) struct Brush {
+    /// Where the cursor stands, with the style that is selected.
+    pub(crate) place: Place,
+    /// How many cells from here on are erased already.
+    pub(crate) erased: usize,
+}
+
+/// Goes to a place, where the cursor stands elsewhere.
+#[tactic(auto, unfolding(crate::specs::Update::move_calls))]
+fn put_move<W: Sink>(output: &mut Output<W>, place: Place, row: usize, column: usize)
+    requires row { row < most_rows }
+    requires column { column ≤ most_columns }
+    ensures { Draws W.Sink (move_calls place row column) output.old output.new }
+{
+    if place.row != row {
+        put_position(output, row, column);
+    } else if place.column != column {
+        put_number(output, column as u16 + 1, b'G');
+    }
+}
+
+/// How many cells, from the first on, are erased ones of this style.
+fn erased_run(style: Style, cells: &[Cell]) -> usize
+    ensures run { result ≡ erased_run style cells.now }
+    ensures within { result ≤ length cells.now }
+{
+    for (count, cell) in cells.iter().enumerate() {
+        if !is_erased(*cell) || !is_same(cell.style, style) {
+            return count;
+        }
+    }
+    cells.len()
+}
+
+/// Erases this cell and all like it that follow at once, or prints it.
+fn put_painted<W: Sink>(output: &mut Output<W>, cell: Cell, cells: &[Cell])
+    requires { length cells.now < most_columns }
+    ensures { Draws W.Sink (painted_calls cell cells.now) output.old output.new }
+{
+    if is_erased(cell) {
+        put_number(output, erased_run(cell.style, cells) as u16 + 1, b'X');
+    } else {
+        put_marked(output, cell);
+    }
+}
+
+/// How many columns a character of this part takes.
+fn half_columns(part: Part) -> usize
+    ensures columns { result ≡ half_columns part }
+    ensures few { result ≤ 2 }
+{
+    match part {
+        Part::Left => 2,
+        Part::Empty | Part::Whole | Part::Right => 1,
+    }
+}
+
+impl Brush {
+    /// The brush with which a row begins.
+    fn begun_at(place: Place) -> Brush
+        ensures { result ≡ begun_at place }
+    {
+        Brush { place, erased: 0 }
+    }
+
+    /// Whether nothing is to be drawn for a cell.
+    #[tactic(auto, unfolding(crate::specs::Update::is_done))]
+    fn is_done(self, old: Cell, new: Cell) -> bool
+        ensures { result ≡ is_done self old new }
+    {
+        self.erased > 0 || new.is_right() || are_alike(old, new)
+    }
+
+    /// The brush behind a cell, before others.
+    #[tactic(auto, unfolding(crate::specs::Update::brush_behind))]
+    fn behind(self, row: usize, column: usize, old: Cell, new: Cell, cells: &[Cell]) -> Brush
+        requires { column < most_columns }
+        ensures { result ≡ brush_behind row column self old new cells.now }
+    {
+        if self.is_done(old, new) {
+            return Brush {
+                erased: self.erased.saturating_sub(1),
+                ..self
+            };
+        }
+        let (columns, erased) = if is_erased(new) {
+            (0, erased_run(new.style, cells))
+        } else {
+            (half_columns(new.part), 0)
+        };
+        Brush {
+            place: Place {
+                row,
+                column: column + columns,
+                style: new.style,
+                ..self.place
+            },
+            erased,
+        }
+    }
+}
+
+/// Draws a cell, where it differs.
+#[tactic(auto, unfolding(crate::specs::Update::change_calls))]
+fn put_change<W: Sink>(
+    output: &mut Output<W>,
+    row: usize,
+    column: usize,
+    brush: Brush,
+    old: Cell,
+    new: Cell,
+    cells: &[Cell],
+)
+    requires row { row < most_rows }
+    requires column { column < most_columns }
+    requires cells { length cells.now < most_columns }
+    ensures { Draws W.Sink (change_calls row column brush old new cells.now) output.old output.new }
+{
+    if !brush.is_done(old, new) {
+        put_move(output, brush.place, row, column);
+        put_style_change(output, brush.place.style, new.style);
+        put_painted(output, new, cells);
+    }
+}
+
+/// The cell of a column.
+fn cell_in(cells: &[Cell], column: usize) -> Cell
+    requires { column < length cells.now }
+    ensures { result ≡ cell_at column cells.now }
+{
+    cells[column]
+}
+
+/// Draws the cells of a row that differ. The answer is where the cursor stands then.
+fn put_row<W: Sink>(
+    output: &mut Output<W>,
+    row: usize,
+    place: Place,
+    olds: &[Cell],
+    news: &[Cell],
+) -> Place
+    requires row { row < most_rows }
+    requires columns { length news.now ≤ most_columns }
+    requires same { length olds.now ≡ length news.now }
+    ensures calls { Draws W.Sink (row_calls row 0 (begun_at place) olds.now news.now) output.old output.new }
+    ensures place { result ≡ (brush_after row 0 (begun_at place) olds.now news.now).place }
+{
+    let mut brush = Brush::begun_at(place);
+    for column in 0..news.len() {
+        let old = cell_in(olds, column);
+        let new = cell_in(news, column);
+        let cells = &news[column + 1..];
+        put_change(output, row, column, brush, old, new, cells);
+        brush = brush.behind(row, column, old, new, cells);
+    }
+    brush.place
+}
+
+/// Draws the cells that differ. The answer is where the cursor stands then.
+fn put_rows<W: Sink>(output: &mut Output<W>, shown: &Screen, wanted: &Screen) -> Place
+    requires columns { shown.now.display.width ≡ wanted.now.display.width }
+    requires rows { shown.now.display.height ≡ wanted.now.display.height }
+    ensures calls { Draws W.Sink (rows_calls wanted.now.display.height shown.now.display wanted.now.display)
+        output.old output.new }
+    ensures place { result ≡ place_behind wanted.now.display.height shown.now.display wanted.now.display }
+{
+    let mut place = shown.cursor();
+    for row in 0..wanted.rows() {
+        place = put_row(output, row, place, shown.row(row), wanted.row(row));
+    }
+    place
+}
+
+/// Whether a wrap is to be pending and is not.
+#[tactic(auto, unfolding(crate::specs::Update::wants_wrap))]
+fn wants_wrap(place: Place, wanted: &Screen) -> bool
+    ensures wants { result ≡ wants_wrap place wanted.now.display }
+    ensures sized { IsSized wanted.now.display }
+{
+    let cursor = wanted.cursor();
+    cursor.column == wanted.columns()
+        && !(place.row == cursor.row && place.column == cursor.column && !lacks_print(wanted))
+}
+
+/// Prints the last character of the cursor's row once more, so that a wrap is pending.
+fn put_pending<W: Sink>(output: &mut Output<W>, wanted: &Screen)
+    ensures { Draws W.Sink (position wanted.now.display.cursor.row (last_column wanted.now.display)
+        ∷ (wrap_calls (Some (last_cell wanted.now.display)) ++ select wanted.now.display.cursor.style ∷ []))
+        output.old output.new }
+{
+    let cursor = wanted.cursor();
+    let (last, column) = last_of_row(wanted);
+    put_position(output, cursor.row, column);
+    put_wrap(output, Some(last));
+    put_style(output, cursor.style);
+}
+
+/// Goes where the cursor is wanted, in its style.
+fn put_cursor_changes<W: Sink>(output: &mut Output<W>, place: Place, wanted: &Screen)
+    ensures { Draws W.Sink (cursor_changes place wanted.now.display) output.old output.new }
+{
+    let cursor = wanted.cursor();
+    if wants_wrap(place, wanted) {
+        put_pending(output, wanted);
+    } else {
+        put_move(output, place, cursor.row, cursor.column);
+        put_style_change(output, place.style, cursor.style);
+    }
+}
+
+/// Sets a private mode or resets it, where it is not as wanted.
+fn put_mode_change<W: Sink>(output: &mut Output<W>, mode: u16, old: bool, new: bool)
+    ensures { Draws W.Sink (mode_changes mode old new) output.old output.new }
+{
+    if old != new {
+        put_private_mode(output, mode, new);
+    }
+}
+
+/// Draws what differs in cells, cursor, DECAWM and DECTCEM.
+pub(crate) fn put_changes<W: Sink>(output: &mut Output<W>, shown: &Screen, wanted: &Screen)
+    requires columns { shown.now.display.width ≡ wanted.now.display.width }
+    requires rows { shown.now.display.height ≡ wanted.now.display.height }
+    ensures { Draws W.Sink (changes_calls shown.now.display wanted.now.display) output.old output.new }
+{
+    let place = put_rows(output, shown, wanted);
+    put_cursor_changes(output, place, wanted);
+    put_mode_change(output, 7, shown.wraps(), wanted.wraps());
+    put_mode_change(
+        output,
+        25,
+        shown.is_cursor_visible(),
+        wanted.is_cursor_visible(),
+    );
+}

@@ -12,11 +12,14 @@ PYTHON = python3
 INSTALL = install
 
 PROGRAMS = ansi2text ansi2html ansi2screen parselog
+# what the library does: each has a header and a manual page of its own
+INTERFACES = ansi_events ansi_html ansi_strip
 VERSION := $(shell sed -n 's/^pub const VERSION: &str = "\(.*\)";$$/\1/p' crates/standard_streams/src/options.rt)
 MAJOR := $(firstword $(subst ., ,$(VERSION)))
 
-ARCHIVE = crates/ansi_c/out/libansi_c.a
-SHARED = crates/ansi_c/out/libansi_strip.so.$(VERSION)
+ARCHIVE = crates/ansi/out/libansi.a
+SHARED = crates/ansi/out/libansi.so
+PACKAGE = $(notdir $(wildcard examples/ansi/*.py))
 
 BIN = $(DESTDIR)$(PREFIX)/bin
 LIB = $(DESTDIR)$(PREFIX)/lib
@@ -40,40 +43,45 @@ $(BUILT): $(SOURCES)
 	touch $@
 
 $(ARCHIVE): $(SOURCES)
-	cd crates/ansi_c && rt lib
+	cd crates/ansi && rt lib
 	touch $@
 
+# (rt writes to no folder with links, so here the name has no version; the Python package finds it so.)
 $(SHARED): $(ARCHIVE)
-	$(CC) -shared -Wl,-soname,libansi_strip.so.$(MAJOR) -o $@ \
+	$(CC) -shared -Wl,-soname,libansi.so.$(MAJOR) -o $@ \
 	    -Wl,--whole-archive $(ARCHIVE) -Wl,--no-whole-archive
 
 check:
 	sh .ci/run
 
 install: all
-	$(INSTALL) -d $(BIN) $(LIB)/pkgconfig $(HEADERS) $(MAN)/man1 $(MAN)/man3 $(MODULES)
+	$(INSTALL) -d $(BIN) $(LIB)/pkgconfig $(HEADERS) $(MAN)/man1 $(MAN)/man3 $(MODULES)/ansi
 	for name in $(PROGRAMS); do \
 	    $(INSTALL) crates/$$name/out/$$name $(BIN)/$$name && \
 	    $(INSTALL) -m 644 man/$$name.1 $(MAN)/man1/$$name.1 || exit 1; \
 	done
-	$(INSTALL) -m 644 man/ansi_strip.3 $(MAN)/man3/ansi_strip.3
-	$(INSTALL) -m 644 man/ansi_html.3 $(MAN)/man3/ansi_html.3
-	$(INSTALL) -m 644 include/ansi_strip.h $(HEADERS)/ansi_strip.h
-	$(INSTALL) -m 644 include/ansi_html.h $(HEADERS)/ansi_html.h
-	$(INSTALL) -m 644 $(ARCHIVE) $(LIB)/libansi_strip.a
-	$(INSTALL) $(SHARED) $(LIB)/libansi_strip.so.$(VERSION)
-	ln -sf libansi_strip.so.$(VERSION) $(LIB)/libansi_strip.so.$(MAJOR)
-	ln -sf libansi_strip.so.$(MAJOR) $(LIB)/libansi_strip.so
-	sed 's|@PREFIX@|$(PREFIX)|; s|@VERSION@|$(VERSION)|' include/ansi_strip.pc.in > $(LIB)/pkgconfig/ansi_strip.pc
-	sed 's|^_here = .*|_here = "$(PREFIX)/lib/libansi_strip.so"|' examples/ansi_strip.py > $(MODULES)/ansi_strip.py
-	$(INSTALL) -m 644 examples/ansi.py $(MODULES)/ansi.py
-	chmod 644 $(MODULES)/ansi_strip.py $(LIB)/pkgconfig/ansi_strip.pc
+	for name in $(INTERFACES); do \
+	    $(INSTALL) -m 644 include/$$name.h $(HEADERS)/$$name.h && \
+	    $(INSTALL) -m 644 man/$$name.3 $(MAN)/man3/$$name.3 || exit 1; \
+	done
+	$(INSTALL) -m 644 $(ARCHIVE) $(LIB)/libansi.a
+	$(INSTALL) $(SHARED) $(LIB)/libansi.so.$(VERSION)
+	ln -sf libansi.so.$(VERSION) $(LIB)/libansi.so.$(MAJOR)
+	ln -sf libansi.so.$(MAJOR) $(LIB)/libansi.so
+	sed 's|@PREFIX@|$(PREFIX)|; s|@VERSION@|$(VERSION)|' include/ansi.pc.in > $(LIB)/pkgconfig/ansi.pc
+	for name in $(PACKAGE); do \
+	    sed 's|^PLACES = .*|PLACES = ["$(PREFIX)/lib/libansi.so.$(MAJOR)"]|' examples/ansi/$$name \
+	        > $(MODULES)/ansi/$$name && chmod 644 $(MODULES)/ansi/$$name || exit 1; \
+	done
+	chmod 644 $(LIB)/pkgconfig/ansi.pc
 
 uninstall:
 	for name in $(PROGRAMS); do rm -f $(BIN)/$$name $(MAN)/man1/$$name.1; done
-	rm -f $(MAN)/man3/ansi_strip.3 $(MAN)/man3/ansi_html.3
-	rm -f $(HEADERS)/ansi_strip.h $(HEADERS)/ansi_html.h $(LIB)/libansi_strip.a
-	rm -f $(LIB)/libansi_strip.so $(LIB)/libansi_strip.so.$(MAJOR) $(LIB)/libansi_strip.so.$(VERSION)
-	rm -f $(LIB)/pkgconfig/ansi_strip.pc $(MODULES)/ansi_strip.py $(MODULES)/ansi.py
+	for name in $(INTERFACES); do rm -f $(HEADERS)/$$name.h $(MAN)/man3/$$name.3; done
+	rm -f $(LIB)/libansi.a $(LIB)/pkgconfig/ansi.pc
+	rm -f $(LIB)/libansi.so $(LIB)/libansi.so.$(MAJOR) $(LIB)/libansi.so.$(VERSION)
+	for name in $(PACKAGE); do rm -f $(MODULES)/ansi/$$name; done
+	rm -rf $(MODULES)/ansi/__pycache__
+	if [ -d $(MODULES)/ansi ]; then rmdir --ignore-fail-on-non-empty $(MODULES)/ansi; fi
 
 .PHONY: all programs library check install uninstall

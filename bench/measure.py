@@ -7,7 +7,7 @@ Usage: bench/measure.py [--peer COMMAND].. [--mode log|canon|strip|html|pieces|h
 PROGRAM is the built program (default: crates/parselog/out/parselog in modes log and canon,
 crates/ansi2text/out/ansi2text in strip, crates/ansi2html/out/ansi2html in html; in pieces
 examples/filter.c over the C library, which hands pieces of 4096 bytes to it, and in html-pieces
-examples/page.c: `rt lib` in crates/ansi_c must have built that). Instructions are those of
+examples/page.c: `rt lib` in crates/ansi must have built that). Instructions are those of
 `valgrind --tool=callgrind`, less those of an empty input. Program and peers are counted in one
 environment, in which the C library clears and copies large blocks by vectors (COUNTED below): by `rep stosb`
 and `rep movsb`, its other way, callgrind counts one instruction for each byte. The wall time is the least of
@@ -154,7 +154,7 @@ def built_with_the_library(name, folder):
     """A program of examples/ over the C library."""
     root = os.path.dirname(HERE)
     program = os.path.join(folder, name)
-    sources = [root + "/examples/%s.c" % name, root + "/crates/ansi_c/out/libansi_c.a"]
+    sources = [root + "/examples/%s.c" % name, root + "/crates/ansi/out/libansi.a"]
     subprocess.run(["cc", "-O2", "-I%s/include" % root, "-o", program] + sources, check=True)
     return program
 

@@ -5,9 +5,9 @@
 //! What comes is handed on before more is waited for, so a line is seen when it is written. Ends
 //! with status 1 where reading or writing fails, with 2 for other words, and says so.
 
-mod ansi_strip;
+mod ansi;
 
-use ansi_strip::Stripper;
+use ansi::Stripper;
 use std::env;
 use std::io::{self, ErrorKind, Read, Write};
 use std::process::ExitCode;

@@ -1,9 +1,9 @@
-//! Streams in eight threads at once, each by `Stripper` of examples/ansi_strip.rs: each has its own
+//! Streams in eight threads at once, each by `Stripper` of examples/ansi.rs: each has its own
 //! text, and the program takes no more memory for more calls.
-#[path = "../../examples/ansi_strip.rs"]
-mod ansi_strip;
+#[path = "../../examples/ansi.rs"]
+mod ansi;
 
-use ansi_strip::Stripper;
+use ansi::Stripper;
 use std::convert::Infallible;
 use std::thread;
 

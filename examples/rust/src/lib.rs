@@ -1,6 +1,6 @@
-//! Strips terminal escapes from bytes that come in pieces, by the proved library.
+//! Strips terminal output of its escapes, or shows it as HTML, by the proved library.
 
-#[path = "../../ansi_strip.rs"]
-mod ansi_strip;
+#[path = "../../ansi.rs"]
+mod ansi;
 
-pub use ansi_strip::Stripper;
+pub use ansi::{Converter, Stripper, Styling, strip, to_html};

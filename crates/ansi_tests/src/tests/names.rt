@@ -72,6 +72,7 @@ use anstyle_parse::laws::state_as_number;
 use anstyle_parse::state::Action;
 use anstyle_parse::state::State;
 use anstyle_parse::state::state_change;
+use event_pieces::Event;
 use examples::plain;
 use examples::write_last_style;
 use html_pieces::ColorBytes;
@@ -242,6 +243,42 @@ fn names_of_html_in_pieces(rt: HostRuntime) {
     assert_well(&rt, writer.suspend().finish());
     html_pieces::laws::states();
     html_pieces::laws::html_joined();
+}
+
+#[test]
+fn names_of_events(rt: HostRuntime) {
+    let mut state = StreamState::new();
+    let none = Event {
+        start: 0,
+        length: 0,
+        kind: event_pieces::UNHOOK,
+        byte: 0,
+        flag: 0,
+        intermediate_count: 0,
+        intermediates: [0; 2],
+    };
+    let mut events = [none; 4 * event_pieces::LEAST_EVENTS];
+    let mut room = [0; 2 * event_pieces::LEAST_ROOM];
+    let fed = event_pieces::feed(&mut state, b"\x1B[31mx\x07", &mut events, &mut room);
+    assert!(rt;
+        fed == Some(event_pieces::Fed {
+            taken: 7,
+            written: 3,
+            used: 4
+        })
+    );
+    assert_eq!(rt; events[0].kind, event_pieces::CSI);
+    assert_eq!(rt; events[1].kind, event_pieces::TEXT);
+    assert_eq!(rt; events[2].kind, event_pieces::EXECUTE);
+    let others = [
+        event_pieces::HOOK,
+        event_pieces::PUT,
+        event_pieces::OSC,
+        event_pieces::ESC,
+    ];
+    assert_eq!(rt; others.len(), 4);
+    event_pieces::laws::events_joined();
+    event_pieces::laws::equality();
 }
 
 #[test]

@@ -1,0 +1,18 @@
+-- Calls that continue one another.
+use Rattle.std.proofs.Common.{List, [], ◌++◌, sym, subst}
+use Rattle.anstyle_parse.specs.Stream.Call.{Call}
+use Rattle.anstyle_parse.specs.Stream.Calls.{AreCalls, Continues}
+use Rattle.anstyle_parse.proofs.Canonical.Items.{AreCalls-nil}
+use Rattle.strip_pieces.proofs.FeedLemmas.{Continues-append}
+use Rattle.event_pieces.specs.Event.{read_events}
+use Rattle.event_pieces.proofs.laws.events_joined.Goals as goal
+
+pub returns-clause-pieces : goal.returns-clause-pieces
+returns-clause-pieces c = λ before bytes more room more_room events others (calls, continues, says) (next, then, also).
+    Continues-append before bytes more (read_events room events) (read_events more_room others)
+    (subst (λ (l : List Call). Continues before bytes l) (sym says.same) continues)
+    (subst (λ (l : List Call). Continues (before ++ bytes) more l) (sym also.same) then)
+
+pub returns-clause-whole : goal.returns-clause-whole
+returns-clause-whole c = λ bytes room events (calls, continues, says).
+    subst (λ (l : List Call). AreCalls bytes l) (sym says.same) (continues [] AreCalls-nil)

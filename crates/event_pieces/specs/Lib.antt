@@ -1,0 +1,4 @@
+pub mod Event
+pub mod Writer
+pub mod AddingProof
+pub mod Feed

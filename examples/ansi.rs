@@ -1,0 +1,352 @@
+//! Strips terminal output of its escapes, shows it as HTML, or reads it as events, by the proved library.
+//!
+//! [`strip`] and [`to_html`] take the whole, [`Stripper`] and [`Converter`] a stream that comes in pieces;
+//! [`events`] takes pieces, and is an iterator.
+//! What is not called is not linked.
+#![allow(dead_code)] // (a program may use one of them alone)
+
+use std::convert::Infallible;
+
+#[repr(C)]
+struct StripState {
+    length: usize,
+    pending: [u8; 1042],
+}
+
+#[repr(C)]
+struct HtmlState {
+    length: usize,
+    others: [u8; 3184],
+}
+
+/// An event as the library writes it: `ansi_event` of `include/ansi_events.h`.
+#[repr(C)]
+#[derive(Clone, Copy)]
+struct Record {
+    start: usize,
+    length: usize,
+    kind: u8,
+    byte: u8,
+    flag: u8,
+    intermediate_count: u8,
+    intermediates: [u8; 2],
+}
+
+#[link(name = "ansi", kind = "static")]
+unsafe extern "C" {
+    fn ansi_strip_feed(
+        state: *mut StripState,
+        piece: *const u8,
+        count: usize,
+        room: *mut u8,
+        size: usize,
+        taken: *mut usize,
+        written: *mut usize,
+    ) -> bool;
+
+    fn ansi_html_init(state: *mut HtmlState, styling: u8);
+
+    fn ansi_html_feed(
+        state: *mut HtmlState,
+        piece: *const u8,
+        count: usize,
+        room: *mut u8,
+        size: usize,
+        taken: *mut usize,
+        written: *mut usize,
+    ) -> bool;
+
+    fn ansi_html_end(
+        state: *mut HtmlState,
+        room: *mut u8,
+        size: usize,
+        written: *mut usize,
+    ) -> bool;
+
+    fn ansi_events_feed(
+        state: *mut StripState,
+        piece: *const u8,
+        count: usize,
+        events: *mut Record,
+        most: usize,
+        room: *mut u8,
+        size: usize,
+        taken: *mut usize,
+        written: *mut usize,
+        used: *mut usize,
+    ) -> bool;
+}
+
+const STRIP_ROOM: usize = 4096;
+const HTML_ROOM: usize = 16384;
+const END_ROOM: usize = 7;
+const EVENTS: usize = 1024;
+const EVENTS_ROOM: usize = 16384;
+
+/// A stream that is stripped, which goes on with each piece.
+pub struct Stripper(StripState);
+
+impl Stripper {
+    /// The beginning of a stream.
+    pub fn new() -> Stripper {
+        Stripper(StripState {
+            length: 0,
+            pending: [0; 1042],
+        })
+    }
+
+    /// Hands on the text of the piece, in one part or several, each UTF-8 by itself. Where that
+    /// fails, what was not handed on is lost, and the stream goes on after it.
+    pub fn strip<E>(
+        &mut self,
+        mut piece: &[u8],
+        mut write: impl FnMut(&[u8]) -> Result<(), E>,
+    ) -> Result<(), E> {
+        let mut room = [0; STRIP_ROOM];
+        while !piece.is_empty() {
+            let (mut taken, mut written) = (0, 0);
+            // The references are to memory of their own, and none of them is kept.
+            let is_fed = unsafe {
+                ansi_strip_feed(
+                    &mut self.0,
+                    piece.as_ptr(),
+                    piece.len(),
+                    room.as_mut_ptr(),
+                    room.len(),
+                    &mut taken,
+                    &mut written,
+                )
+            };
+            assert!(is_fed, "the room is too small for any byte");
+            piece = &piece[taken..];
+            write(&room[..written])?;
+        }
+        Ok(())
+    }
+}
+
+/// How styles are written: by colours for light and dark pages as the reader has it, for one of
+/// them, or by classes, as `include/ansi_html.h` says.
+#[derive(Clone, Copy, Debug, PartialEq, Eq)]
+pub enum Styling {
+    Both = 0,
+    Light = 1,
+    Dark = 2,
+    Classes = 3,
+}
+
+/// A stream that becomes HTML, which goes on with each piece.
+pub struct Converter(HtmlState);
+
+impl Converter {
+    /// The beginning of a stream.
+    pub fn new(styling: Styling) -> Converter {
+        let mut state = HtmlState {
+            length: 0,
+            others: [0; 3184],
+        };
+        // The reference is not kept.
+        unsafe { ansi_html_init(&mut state, styling as u8) };
+        Converter(state)
+    }
+
+    /// Hands on the HTML of the piece, in one part or several, each UTF-8 by itself. Where that
+    /// fails, what was not handed on is lost, and the stream goes on after it.
+    pub fn convert<E>(
+        &mut self,
+        mut piece: &[u8],
+        mut write: impl FnMut(&[u8]) -> Result<(), E>,
+    ) -> Result<(), E> {
+        let mut room = [0; HTML_ROOM];
+        while !piece.is_empty() {
+            let (mut taken, mut written) = (0, 0);
+            // The references are to memory of their own, and none of them is kept.
+            let is_fed = unsafe {
+                ansi_html_feed(
+                    &mut self.0,
+                    piece.as_ptr(),
+                    piece.len(),
+                    room.as_mut_ptr(),
+                    room.len(),
+                    &mut taken,
+                    &mut written,
+                )
+            };
+            assert!(is_fed, "the room is too small for any byte");
+            piece = &piece[taken..];
+            write(&room[..written])?;
+        }
+        Ok(())
+    }
+
+    /// Hands on what closes the HTML. Then a stream begins, in the same styling.
+    pub fn end<E>(&mut self, write: impl FnOnce(&[u8]) -> Result<(), E>) -> Result<(), E> {
+        let mut room = [0; END_ROOM];
+        let mut written = 0;
+        // The references are to memory of their own, and none of them is kept.
+        let is_ended =
+            unsafe { ansi_html_end(&mut self.0, room.as_mut_ptr(), room.len(), &mut written) };
+        assert!(is_ended, "the room is too small for any end");
+        write(&room[..written])
+    }
+}
+
+/// All that is handed on, which is UTF-8.
+fn joined(
+    hand_on: impl FnOnce(&mut dyn FnMut(&[u8]) -> Result<(), Infallible>) -> Result<(), Infallible>,
+) -> String {
+    let mut all = Vec::new();
+    let done = hand_on(&mut |part| {
+        all.extend_from_slice(part);
+        Ok(())
+    });
+    match done {
+        Ok(()) => String::from_utf8(all).expect("each part is UTF-8, which is proved"),
+        Err(never) => match never {},
+    }
+}
+
+/// The text of terminal output.
+pub fn strip(stream: impl AsRef<[u8]>) -> String {
+    joined(|write| Stripper::new().strip(stream.as_ref(), write))
+}
+
+/// The HTML of terminal output: a fragment for a `<pre>`, right after a newline there.
+pub fn to_html(stream: impl AsRef<[u8]>, styling: Styling) -> String {
+    joined(|write| {
+        let mut converter = Converter::new(styling);
+        converter.convert(stream.as_ref(), &mut *write)?;
+        converter.end(write)
+    })
+}
+
+/// A call of the parser, by the names of its crate; characters that are printed one after another are one
+/// text.
+#[derive(Clone, Debug, PartialEq, Eq)]
+pub enum Event {
+    Text(String),
+    Execute(u8),
+    Hook(Sequence),
+    Put(u8),
+    Unhook,
+    /// An operating system command: its parts, and whether BEL ended it.
+    Osc(Vec<Vec<u8>>, bool),
+    Csi(Sequence),
+    /// An escape sequence, which has no parameters.
+    Esc(Sequence),
+}
+
+/// What an escape or a control sequence says.
+#[derive(Clone, Debug, PartialEq, Eq)]
+pub struct Sequence {
+    /// Groups of fields: `[[38, 2, 9], [1]]` of `38:2:9;1`.
+    pub parameters: Vec<Vec<u16>>,
+    pub intermediates: Vec<u8>,
+    /// More came than is told.
+    pub ignored: bool,
+    /// The byte that ends it.
+    pub action: u8,
+}
+
+/// The events of a stream in pieces.
+pub struct Events<I> {
+    pieces: I,
+    state: StripState,
+    ready: std::vec::IntoIter<Event>,
+}
+
+/// The events of a stream in pieces. Those of a piece come before the next piece is asked for, and are the same
+/// however the stream is cut, but for a text, which is cut where its piece ends.
+pub fn events<I: IntoIterator<Item = impl AsRef<[u8]>>>(pieces: I) -> Events<I::IntoIter> {
+    Events {
+        pieces: pieces.into_iter(),
+        state: StripState {
+            length: 0,
+            pending: [0; 1042],
+        },
+        ready: Vec::new().into_iter(),
+    }
+}
+
+impl<I: Iterator<Item = impl AsRef<[u8]>>> Iterator for Events<I> {
+    type Item = Event;
+
+    fn next(&mut self) -> Option<Event> {
+        loop {
+            if let Some(event) = self.ready.next() {
+                return Some(event);
+            }
+            let piece = self.pieces.next()?;
+            self.ready = taken(&mut self.state, piece.as_ref()).into_iter();
+        }
+    }
+}
+
+/// The events of all bytes of a piece.
+fn taken(state: &mut StripState, mut piece: &[u8]) -> Vec<Event> {
+    let none = Record {
+        start: 0,
+        length: 0,
+        kind: 0,
+        byte: 0,
+        flag: 0,
+        intermediate_count: 0,
+        intermediates: [0; 2],
+    };
+    let (mut records, mut room, mut all) = ([none; EVENTS], [0; EVENTS_ROOM], Vec::new());
+    while !piece.is_empty() {
+        let (mut taken, mut written, mut used) = (0, 0, 0);
+        // The references are to memory of their own, and none of them is kept.
+        let is_fed = unsafe {
+            ansi_events_feed(
+                state,
+                piece.as_ptr(),
+                piece.len(),
+                records.as_mut_ptr(),
+                records.len(),
+                room.as_mut_ptr(),
+                room.len(),
+                &mut taken,
+                &mut written,
+                &mut used,
+            )
+        };
+        assert!(is_fed, "the room is too small for any byte");
+        piece = &piece[taken..];
+        all.extend(records[..written].iter().map(|it| event(it, &room)));
+    }
+    all
+}
+
+/// The event of a record, with the bytes of the room that it stands for.
+fn event(record: &Record, room: &[u8]) -> Event {
+    let bytes = &room[record.start..][..record.length];
+    let sequence = |parameters| Sequence {
+        parameters,
+        intermediates: record.intermediates[..record.intermediate_count.into()].to_vec(),
+        ignored: record.flag != 0,
+        action: record.byte,
+    };
+    match record.kind {
+        0 => Event::Text(String::from_utf8(bytes.to_vec()).expect("a text is UTF-8, which is proved")),
+        1 => Event::Execute(record.byte),
+        2 => Event::Hook(sequence(groups(bytes))),
+        3 => Event::Put(record.byte),
+        4 => Event::Unhook,
+        5 => Event::Osc(bytes.split(|byte| *byte == b';').map(<[u8]>::to_vec).collect(), record.flag != 0),
+        6 => Event::Csi(sequence(groups(bytes))),
+        _ => Event::Esc(sequence(Vec::new())),
+    }
+}
+
+/// The groups of fields of three bytes: a value, low byte first, and whether the group goes on.
+fn groups(bytes: &[u8]) -> Vec<Vec<u16>> {
+    let (mut groups, mut group) = (Vec::new(), Vec::new());
+    for field in bytes.chunks_exact(3) {
+        group.push(u16::from_le_bytes([field[0], field[1]]));
+        if field[2] == 0 {
+            groups.push(std::mem::take(&mut group));
+        }
+    }
+    groups
+}

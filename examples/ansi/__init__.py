@@ -1,0 +1,39 @@
+r"""Strips terminal output of its escapes, shows it as HTML, or reads it as events, by the proved library.
+
+    import ansi
+
+    text = ansi.strip("\x1b[31mred\x1b[0m <b>")
+    page = "<pre>\n" + ansi.to_html("\x1b[31mred\x1b[0m <b>") + "</pre>"
+
+    with open("log", "rb") as log:
+        for part in ansi.text_of(log):
+            sys.stdout.buffer.write(part)
+
+    for event in ansi.events(b"\x1b]0;title\x07\x1b[1;31mred\n"):
+        match event:
+            case ansi.Text(text):
+                ..
+            case ansi.Osc((b"0" | b"2", title, *_)):
+                ..
+            case ansi.Csi(parameters, "", False, "m"):  # ((1,), (31,))
+                ..
+
+`strip` and `to_html` take the whole: a str, and give a str; or bytes, a bytearray or a memoryview, and give
+bytes. `text_of` and `html_of` take a stream that comes in pieces of bytes, such as a list or a file, and give
+bytes, those of a piece before the next piece is asked for. `events` takes a whole or such a stream. Anything else
+is a TypeError in words.
+
+HTML has a styling: "both", "light", "dark" or "classes" (include/ansi_html.h says what they are); another one
+is a ValueError. What the text is, include/ansi_strip.h says, and what events there are, include/ansi_events.h.
+
+The shared library is looked for where it was installed; in the repository beside this package and where
+`make library` leaves it; or where the variable ANSI_LIBRARY says. Where none is there, the import is an
+ImportError that says so.
+"""
+
+from .event import Csi, Esc, Execute, Hook, Osc, Put, Text, Unhook, events
+from .html import STYLINGS, html_of, to_html
+from .text import strip, text_of
+
+__all__ = ["STYLINGS", "html_of", "strip", "text_of", "to_html"]
+__all__ += ["events", "Csi", "Esc", "Execute", "Hook", "Osc", "Put", "Text", "Unhook"]

@@ -1,0 +1,87 @@
+"""Terminal output as HTML: ansi_html.h, for Python."""
+
+import ctypes
+
+from .library import Counts, Room, address_of, function, joined, pieces_of, whole_of
+
+MOST = 4096  # bytes that one call takes at most
+CALL_ROOM = 16384  # bytes of HTML that one call writes at most
+ROOM = 64 << 10  # bytes of HTML that are handed on at once, at most
+STYLINGS = {"both": 0, "light": 1, "dark": 2, "classes": 3}
+
+
+class State(ctypes.Structure):
+    """Where a stream and its HTML stand between two pieces. A new one begins a stream, of the styling "both"."""
+
+    _fields_ = [("length", ctypes.c_size_t), ("others", ctypes.c_ubyte * 3184)]
+
+
+_init = function("ansi_html_init", None, ctypes.c_void_p, ctypes.c_ubyte)
+_feed = function(
+    "ansi_html_feed", ctypes.c_bool,
+    ctypes.c_void_p, ctypes.c_void_p, ctypes.c_size_t,
+    ctypes.c_void_p, ctypes.c_size_t, ctypes.c_void_p, ctypes.c_void_p,
+)  # fmt: skip
+_end = function(
+    "ansi_html_end", ctypes.c_bool, ctypes.c_void_p, ctypes.c_void_p, ctypes.c_size_t, ctypes.c_void_p
+)
+
+
+class Converter:
+    """A stream, which goes on with each piece, in the styling of this name."""
+
+    def __init__(self, styling):
+        if not isinstance(styling, str):
+            raise TypeError("a styling is a name, and not " + type(styling).__name__)
+        if styling not in STYLINGS:
+            raise ValueError("a styling is one of %s, and not %r" % (", ".join(STYLINGS), styling))
+        self._state, self._counts, self._room = State(), Counts(), Room(CALL_ROOM)
+        _init(ctypes.addressof(self._state), STYLINGS[styling])
+
+    def htmls(self, piece, made=bytes):
+        """The HTML of the bytes that come next, in parts that are made of memory, each UTF-8 by itself."""
+        if len(piece) > MOST and self._room.size < ROOM:
+            self._room = Room(ROOM)
+        state, room, counts = ctypes.addressof(self._state), self._room, self._counts
+        taken, written = counts.places()
+        at, filled, most = address_of(piece), 0, room.size - CALL_ROOM
+        end = at + len(piece)
+        while at < end:
+            if not _feed(state, at, min(MOST, end - at), room.address + filled, CALL_ROOM, taken, written):
+                raise RuntimeError("the library asks for more room than ansi_html.h of this version")
+            at += counts.taken
+            filled += counts.written
+            if filled > most:
+                yield made(room.view[:filled])
+                filled = 0
+        if filled:
+            yield made(room.view[:filled])
+
+    def ends(self, made=bytes):
+        """What closes the HTML, in no part or one."""
+        room, (_, written) = self._room, self._counts.places()
+        _end(ctypes.addressof(self._state), room.address, room.size, written)
+        if self._counts.written:
+            yield made(room.view[: self._counts.written])
+
+
+def _parts_of(converter, pieces, made=bytes):
+    for piece in pieces:
+        yield from converter.htmls(piece, made)
+    yield from converter.ends(made)
+
+
+def html_of(stream, styling="both"):
+    """Gives the HTML of a stream that comes in pieces, each bytes, a bytearray or a memoryview.
+
+    The HTML of a piece is given before the next piece is asked for. Each part is UTF-8 by itself.
+    """
+    return _parts_of(Converter(styling), pieces_of(stream))
+
+
+def to_html(text, styling="both"):
+    """The HTML of terminal output: a fragment for a `<pre>`, right after a newline there.
+
+    Of a str it is a str, of bytes, a bytearray or a memoryview bytes."""
+    piece, is_str = whole_of(text)
+    return joined(lambda made: _parts_of(Converter(styling), [piece], made), is_str)

@@ -1,0 +1,96 @@
+"""The shared library: where it is, how its functions are called, and what may be given to them."""
+
+import ctypes
+import os
+
+VARIABLE = "ANSI_LIBRARY"  # names the library, in place of PLACES
+_here = os.path.dirname(os.path.abspath(__file__))
+# `make install` puts the place where it installs the library here.
+PLACES = [os.path.join(_here, "libansi.so"), os.path.normpath(_here + "/../../crates/ansi/out/libansi.so")]
+
+
+def load():
+    """The library, or an ImportError in words."""
+    named = os.environ.get(VARIABLE)
+    place = named or next(filter(os.path.exists, PLACES), None)
+    if place is None:
+        words = " and ".join(PLACES), VARIABLE
+        raise ImportError("libansi.so is not at %s: `make library` builds it, or %s names it" % words)
+    try:
+        return ctypes.CDLL(place)
+    except OSError as error:
+        which = "the library that %s names" % VARIABLE if named else "the library"
+        raise ImportError("%s cannot be loaded: %s" % (which, error)) from error
+
+
+LIBRARY = load()
+
+
+def function(name, answer, *kinds):
+    """A function of the library, with the types of its answer and of what it takes."""
+    found = getattr(LIBRARY, name, None)
+    if found is None:
+        raise ImportError("the library %s has no %s: it is an older one" % (LIBRARY._name, name))
+    found.restype, found.argtypes = answer, kinds
+    return found
+
+
+class Counts(ctypes.Structure):
+    """How many bytes a call has taken, and how many it has written."""
+
+    _fields_ = [("taken", ctypes.c_size_t), ("written", ctypes.c_size_t)]
+
+    def places(self):
+        """Where the two numbers stand."""
+        at = ctypes.addressof(self)
+        return at, at + WRITTEN
+
+
+WRITTEN = Counts.written.offset
+
+
+def bytes_of(piece):
+    """The bytes of a piece, however it holds them."""
+    if not isinstance(piece, (bytes, bytearray, memoryview)):
+        raise TypeError("a piece is bytes, bytearray or memoryview, and not " + type(piece).__name__)
+    return bytes(piece)
+
+
+def address_of(piece):
+    """Where the bytes of an object of bytes stand, for as long as it lives."""
+    return ctypes.c_void_p.from_buffer(ctypes.c_char_p(piece)).value
+
+
+def pieces_of(stream):
+    """The bytes of each piece of a stream."""
+    if isinstance(stream, (bytes, bytearray, memoryview, str)):
+        raise TypeError("the pieces are a list or a file, and not one " + type(stream).__name__)
+    return map(bytes_of, iter(stream))
+
+
+def whole_of(text):
+    """The bytes of a whole text, and whether it is a str."""
+    if isinstance(text, str):
+        return text.encode("utf-8", "surrogatepass"), True
+    if not isinstance(text, (bytes, bytearray, memoryview)):
+        raise TypeError("a text is str, bytes, bytearray or memoryview, and not " + type(text).__name__)
+    return bytes(text), False
+
+
+class Room:
+    """Memory that calls write to."""
+
+    def __init__(self, size):
+        self._bytes = ctypes.create_string_buffer(size)
+        self.size, self.address = size, ctypes.addressof(self._bytes)
+        self.view = memoryview(self._bytes).cast("B")
+
+
+def decoded(view):
+    """The str of memory whose bytes are UTF-8."""
+    return str(view, "utf-8")
+
+
+def joined(parts_by, is_str):
+    """All parts as a str or as bytes: they are made by one of two functions, and each is UTF-8 by itself."""
+    return "".join(list(parts_by(decoded))) if is_str else b"".join(parts_by(bytes))

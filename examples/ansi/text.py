@@ -1,0 +1,75 @@
+"""What is left of terminal output that is stripped of its escapes: ansi_strip.h, for Python."""
+
+import ctypes
+import re
+
+from .library import Counts, Room, address_of, function, joined, pieces_of, whole_of
+
+MOST = 64 << 10  # bytes that one call is given at most
+CLEAN = re.compile("[\t\n\r\x20-\ud7ff\ue000-\U0010ffff]*")  # characters, and controls that are left
+
+
+class State(ctypes.Structure):
+    """Where a stream stands between two pieces. A new one begins a stream."""
+
+    _fields_ = [("length", ctypes.c_size_t), ("pending", ctypes.c_ubyte * 1042)]
+
+
+_feed = function(
+    "ansi_strip_feed", ctypes.c_bool,
+    ctypes.c_void_p, ctypes.c_void_p, ctypes.c_size_t,
+    ctypes.c_void_p, ctypes.c_size_t, ctypes.c_void_p, ctypes.c_void_p,
+)  # fmt: skip
+
+
+def room_of(count):
+    """The bytes of room in which so many are taken at once: ANSI_STRIP_ROOM."""
+    return 3 * count + 1
+
+
+class Stripper:
+    """A stream, which goes on with each piece."""
+
+    def __init__(self):
+        self._state, self._counts, self._room = State(), Counts(), None
+
+    def texts(self, piece, made=bytes):
+        """The text of the bytes that come next, in parts that are made of memory, each UTF-8 by itself."""
+        size = room_of(min(len(piece), MOST))
+        if self._room is None or self._room.size < size:
+            self._room = Room(size)
+        state, room, counts = ctypes.addressof(self._state), self._room, self._counts
+        taken, written = counts.places()
+        count = len(piece)
+        start = address_of(piece) if count > MOST else piece  # (a short one is given as it is, which is sooner)
+        for at in range(0, count, MOST):
+            most = min(MOST, count - at)
+            _feed(state, start + at if at else start, most, room.address, room.size, taken, written)
+            if counts.taken != most:
+                raise RuntimeError("the library asks for more room than ansi_strip.h of this version")
+            if counts.written:
+                yield made(room.view[: counts.written])
+
+
+def text_of(stream):
+    """Gives the text of a stream that comes in pieces, each bytes, a bytearray or a memoryview.
+
+    The text of a piece is given before the next piece is asked for. Each part is UTF-8 by itself.
+    """
+    pieces, stripper = pieces_of(stream), Stripper()
+    return (text for piece in pieces for text in stripper.texts(piece))
+
+
+def is_clean(text):
+    """Whether a str is told to be clean sooner than it is stripped: where little of it is ASCII, so that to encode
+    and to decode it takes long, and all of it is left."""
+    begin = text[:4096].encode("utf-8", "surrogatepass")
+    return 2 * len(begin) > 3 * min(len(text), 4096) and CLEAN.match(text).end() == len(text)
+
+
+def strip(text):
+    """The text of terminal output: of a str a str, of bytes, a bytearray or a memoryview bytes."""
+    if isinstance(text, str) and not text.isascii() and is_clean(text):
+        return text  # (clean text is left as it is: laws::clean_text of ansi_strip)
+    piece, is_str = whole_of(text)
+    return joined(lambda made: Stripper().texts(piece, made), is_str)

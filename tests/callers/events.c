@@ -1,0 +1,252 @@
+/* What include/ansi_events.h declares, and what a caller rests on: sizes, numbers, types, false answers, any
+ * bytes in a state. tests/library compiles it as C and as C++, and with the sanitizers. Says what is wrong on
+ * standard error and ends with status 1.
+ *
+ * Usage: events                       tries that
+ *        events PIECE EVENTS ROOM     writes standard input's events as parselog writes its calls, in pieces of
+ *                                     so many bytes, with so many events and so much room
+ *        events quiet PIECE EVENTS ROOM   writes how many events there are, alone */
+#include "ansi_events.h"
+#include "ansi_events.h" /* (a second time: it guards itself) */
+
+#define CALLER "events.c"
+#include "expect.h"
+
+#include <assert.h>
+#include <stdio.h>
+#include <stdlib.h>
+#include <string.h>
+
+static_assert(sizeof(ansi_events) == 1056, "a state has 1,056 bytes");
+static_assert(offsetof(ansi_events, pending) == 8, "pending stands after length");
+static_assert(sizeof(ansi_event) == 24, "an event has 24 bytes");
+static_assert(offsetof(ansi_event, length) == 8 && offsetof(ansi_event, kind) == 16, "fields stand in order");
+static_assert(offsetof(ansi_event, byte) == 17 && offsetof(ansi_event, flag) == 18, "and so do these");
+static_assert(offsetof(ansi_event, intermediate_count) == 19, "and so does the count");
+static_assert(offsetof(ansi_event, intermediates) == 20, "and so do the intermediates");
+static_assert(ANSI_EVENTS_LEAST_EVENTS == 2 && ANSI_EVENTS_LEAST_ROOM == 6258, "what one byte may need");
+static_assert(ANSI_EVENTS_EVENTS(1) == ANSI_EVENTS_LEAST_EVENTS, "so many for one");
+static_assert(ANSI_EVENTS_ROOM(1) == ANSI_EVENTS_LEAST_ROOM, "so much for one");
+static_assert(ANSI_EVENTS_ROOM(1 + 1) == 6264 && ANSI_EVENTS_EVENTS(1 + 1) == 4, "the count stands in brackets");
+
+/* The types: with another one this is a warning, and warnings are errors. */
+static void (*const init)(ansi_events *) = ansi_events_init;
+static bool (*const feed)(ansi_events *, const unsigned char *, size_t, ansi_event *, size_t, unsigned char *,
+                          size_t, size_t *, size_t *, size_t *) = ansi_events_feed;
+
+enum { AFTER = 64, MOST = 4096, SIZE = 65536, LONGEST = 1 << 20 };
+
+static ansi_event events[MOST + 1];
+static unsigned char room[SIZE + AFTER], bytes[LONGEST];
+static size_t taken, written, used;
+
+/* ------------------------------------------------------------------ what a caller rests on */
+
+/* A state, and bytes after it that no call may touch. */
+struct guarded {
+    ansi_events state;
+    unsigned char after[AFTER];
+};
+
+static struct guarded it;
+
+static bool goes_on(const char *text, size_t most, size_t size)
+{
+    memset(events, 0x7E, sizeof events);
+    memset(room, 0x7E, sizeof room);
+    taken = written = used = 7;
+    return feed(&it.state, (const unsigned char *)text, strlen(text), events, most, room, size, &taken, &written, &used);
+}
+
+static bool is(const ansi_event *event, int kind, int byte, int flag, size_t length)
+{
+    return event->kind == kind && event->byte == byte && event->flag == flag && event->length == length
+           && event->start + event->length <= used;
+}
+
+static void events_have_their_fields(void)
+{
+    memset(&it, 0xA5, sizeof it);
+    init(&it.state);
+    expect(goes_on("ab\007\033[?4:3;256mc\033]2;t;u\007\033(B", MOST, SIZE), "there is room");
+    expect(taken == 26 && written == 6 && used == 17, "all is taken, in six events");
+    expect(is(&events[0], ANSI_EVENTS_TEXT, 0, 0, 2) && memcmp(room + events[0].start, "ab", 2) == 0, "a text comes first");
+    expect(is(&events[1], ANSI_EVENTS_EXECUTE, 7, 0, 0), "BEL is executed");
+    expect(is(&events[2], ANSI_EVENTS_CSI, 'm', 0, 9), "a control sequence has three fields");
+    expect(memcmp(room + events[2].start, "\4\0\1\3\0\0\0\1\0", 9) == 0, "of which two are one group");
+    expect(events[2].intermediate_count == 1 && memcmp(events[2].intermediates, "?", 2) == 0, "and a marker");
+    expect(is(&events[3], ANSI_EVENTS_TEXT, 0, 0, 1), "and a text follows");
+    expect(is(&events[4], ANSI_EVENTS_OSC, 0, 1, 5) && memcmp(room + events[4].start, "2;t;u", 5) == 0, "a command has parts");
+    expect(is(&events[5], ANSI_EVENTS_ESC, 'B', 0, 0) && events[5].intermediates[0] == '(', "an escape sequence ends it");
+    expect(are((unsigned char *)&events[6], sizeof events[6], 0x7E), "what follows the events is as it was");
+    expect(are(room + used, AFTER, 0x7E), "what follows the bytes is as it was");
+    expect(are(it.after, AFTER, 0xA5), "what follows the state is as it was");
+}
+
+static void little_is_refused(void)
+{
+    ansi_events before;
+
+    memset(&it, 0, sizeof it);
+    goes_on("\033[3", MOST, SIZE);
+    expect(taken == 3 && written == 0 && used == 0, "what is begun has no event");
+    before = it.state;
+    expect(!goes_on("1m", ANSI_EVENTS_LEAST_EVENTS - 1, SIZE), "one event is refused");
+    expect(taken == 0 && written == 0 && used == 0, "nothing is taken or written");
+    expect(!goes_on("1m", MOST, ANSI_EVENTS_LEAST_ROOM - 1), "little room is refused");
+    expect(taken == 0 && written == 0 && used == 0, "nothing is taken or written");
+    expect(memcmp(&it.state, &before, sizeof before) == 0, "the state is as it was");
+    expect(are(room, sizeof room, 0x7E) && are((unsigned char *)events, sizeof events, 0x7E), "so is all else");
+    expect(goes_on("", 0, 0) && taken == 0 && written == 0 && used == 0, "no bytes need no room");
+    expect(goes_on("1m", ANSI_EVENTS_LEAST_EVENTS, ANSI_EVENTS_LEAST_ROOM), "the least suffices");
+    expect(taken == 2 && written == 1 && is(&events[0], ANSI_EVENTS_CSI, 'm', 0, 3), "a sequence ends");
+    expect(room[events[0].start] == 31, "its field goes on from the piece before");
+}
+
+static void any_bytes_are_a_state(void)
+{
+    int byte;
+
+    for (byte = 0; byte < 256; byte++) {
+        memset(&it, byte, sizeof it);
+        expect(goes_on("\030A", MOST, SIZE) && taken == 2, "all is taken");
+        expect(written > 0 && events[written - 1].kind == ANSI_EVENTS_TEXT, "and a text ends it");
+    }
+}
+
+/* A command of 1,024 bytes in 16 parts, which one byte ends. */
+static void longest_command_has_room(void)
+{
+    size_t at;
+
+    memset(&it, 0, sizeof it);
+    memcpy(bytes, "\033]", 2);
+    for (at = 2; at < 2 + 15; at++)
+        bytes[at] = ';';
+    memset(bytes + 17, 'x', 2000);
+    expect(feed(&it.state, bytes, 2017, events, MOST, room, SIZE, &taken, &written, &used) && taken == 2017, "it is begun");
+    expect(goes_on("\007", ANSI_EVENTS_LEAST_EVENTS, ANSI_EVENTS_LEAST_ROOM) && taken == 1, "one byte ends it");
+    expect(written == 1 && is(&events[0], ANSI_EVENTS_OSC, 0, 1, 1039), "its parts have 1,039 bytes with what joins them");
+}
+
+static int try_all(void)
+{
+    events_have_their_fields();
+    little_is_refused();
+    any_bytes_are_a_state();
+    longest_command_has_room();
+    return failures != 0;
+}
+
+/* ------------------------------------------------------------------ the lines of calls */
+
+/* The character at the front of UTF-8, and how many bytes it has. */
+static unsigned long character(const unsigned char *at, size_t *count)
+{
+    unsigned long c = at[0];
+    size_t next;
+
+    *count = c < 0x80 ? 1 : c < 0xE0 ? 2 : c < 0xF0 ? 3 : 4;
+    c = *count == 1 ? c : c & (0xFFu >> (*count + 1));
+    for (next = 1; next < *count; next++)
+        c = c << 6 | (at[next] & 0x3Fu);
+    return c;
+}
+
+static void print_text(const unsigned char *at, size_t length)
+{
+    size_t count;
+
+    for (; length > 0; at += count, length -= count)
+        printf("print U+%04lX\n", character(at, &count));
+}
+
+static void print_intermediates(const ansi_event *event)
+{
+    size_t at;
+
+    putchar(' ');
+    for (at = 0; at < event->intermediate_count; at++)
+        printf("%02X", event->intermediates[at]);
+    if (event->intermediate_count == 0)
+        putchar('-');
+    printf(" %s %02X\n", event->flag ? "true" : "false", event->byte);
+}
+
+static void print_header(const char *name, const ansi_event *event)
+{
+    const unsigned char *field = room + event->start, *end = field + event->length;
+
+    printf("%s [", name);
+    for (; field < end; field += ANSI_EVENTS_FIELD)
+        printf("%d%s", field[0] | field[1] << 8, field + ANSI_EVENTS_FIELD == end ? "" : field[2] ? ":" : ";");
+    putchar(']');
+    print_intermediates(event);
+}
+
+/* The parts, each after a space; an empty one is `-`. */
+static void print_command(const ansi_event *event)
+{
+    const unsigned char *at = room + event->start, *end = at + event->length;
+    bool empty = true;
+
+    printf("osc_dispatch %s ", event->flag ? "true" : "false");
+    for (; at < end; at++) {
+        if (*at == ';')
+            fputs(empty ? "- " : " ", stdout);
+        else
+            printf("%02X", *at);
+        empty = *at == ';';
+    }
+    puts(empty ? "-" : "");
+}
+
+static void print_event(const ansi_event *event)
+{
+    switch (event->kind) {
+    case ANSI_EVENTS_TEXT: print_text(room + event->start, event->length); break;
+    case ANSI_EVENTS_EXECUTE: printf("execute %02X\n", event->byte); break;
+    case ANSI_EVENTS_HOOK: print_header("hook", event); break;
+    case ANSI_EVENTS_PUT: printf("put %02X\n", event->byte); break;
+    case ANSI_EVENTS_UNHOOK: puts("unhook"); break;
+    case ANSI_EVENTS_OSC: print_command(event); break;
+    case ANSI_EVENTS_CSI: print_header("csi_dispatch", event); break;
+    case ANSI_EVENTS_ESC: fputs("esc_dispatch", stdout); print_intermediates(event); break;
+    }
+}
+
+static int print_all(size_t piece, size_t most, size_t size, bool quiet)
+{
+    ansi_events state;
+    size_t count, at, event, all = 0;
+
+    init(&state);
+    while ((count = fread(bytes, 1, piece, stdin)) > 0)
+        for (at = 0; at < count; at += taken) {
+            if (!feed(&state, bytes + at, count - at, events, most, room, size, &taken, &written, &used))
+                return 1;
+            all += written;
+            for (event = 0; event < written && !quiet; event++)
+                print_event(&events[event]);
+        }
+    if (quiet)
+        printf("%lu\n", (unsigned long)all);
+    return 0;
+}
+
+int main(int count, char **words)
+{
+    bool quiet = count == 5 && strcmp(words[1], "quiet") == 0;
+    size_t piece, most, size;
+
+    if (count == 1)
+        return try_all();
+    if (count != 4 && !quiet)
+        return 2;
+    piece = (size_t)atol(words[quiet + 1]);
+    most = (size_t)atol(words[quiet + 2]);
+    size = (size_t)atol(words[quiet + 3]);
+    if (piece == 0 || piece > LONGEST || most > MOST || size > SIZE)
+        return 2;
+    return print_all(piece, most, size, quiet);
+}

@@ -1,0 +1,108 @@
+"""What the tests of the library share: streams and their text, compilers, and how a command failed."""
+
+import os
+import random
+import re
+import shutil
+import subprocess
+import sys
+
+ROOT = os.path.dirname(os.path.dirname(os.path.realpath(__file__)))
+ARCHIVE = "%s/crates/ansi/out/libansi.a" % ROOT
+EXAMPLES = "%s/examples" % ROOT
+INCLUDE = "-I%s/include" % ROOT
+WARNINGS = ["-Wall", "-Wextra", "-Werror", INCLUDE]
+STRICT = ["-O", "-D", "warnings", "--edition", "2021"]
+SANITIZERS = ["-g", "-fsanitize=address,undefined", "-fno-sanitize-recover=all"]
+PATIENCE = 60  # seconds that a program has
+
+
+for folder in ("bench", "examples"):
+    sys.path.insert(0, "%s/%s" % (ROOT, folder))
+import measure
+
+
+def compiler(name, *others):
+    """The first of these compilers that is there."""
+    return next((it for it in (name, *others) if shutil.which(it)), None)
+
+
+def run(command, given=b"", patience=PATIENCE, **options):
+    streams = {"stdout": subprocess.PIPE, "stderr": subprocess.PIPE}
+    try:
+        return subprocess.run(command, input=given, timeout=patience, **{**streams, **options})
+    except subprocess.TimeoutExpired:
+        return subprocess.CompletedProcess(command, 124, b"", b"it does not end")
+
+
+def read(path):
+    with open(os.path.join(ROOT, path), encoding="utf-8") as file:
+        return file.read()
+
+
+def left_out(name):
+    """A case for a compiler that is not there."""
+    in_ci = os.environ.get("CI") == "true"
+    return "%s: left out, its compiler is not there" % name, "it must be there" if in_ci else None
+
+
+def failure(done):
+    """Says how a command failed, or answers None."""
+    return None if done.returncode == 0 else "status %d, %r" % (done.returncode, (done.stderr or done.stdout)[-300:])
+
+
+# ------------------------------------------------------------------ streams and their text
+
+
+def streams():
+    """Short ones of every kind, one for each corpus of bench/measure.py, and random bytes."""
+    yield "no bytes", b""
+    rows = [
+        b"\x1b[31mhi\x07\x1b[0m\n",
+        b"\x1b]0;title\x07a\r\n\x1b]8;;http://a/\x1b\\link\x1b]8;;\x1b\\!",
+        b"\x1bPq\n\t\rA\x9cB\x1b_a\x9c\x1b^b\x9c\x1bXc\x9cd\x1b(B\x1b7\x1bM.",
+        b"\xe2\x82\xac\xf0\x9f\x98\x80 \xe2\x82A \xf0\x9f\x98 \xc2\xc2\xc2A \xff\xc0b\x7f\x80\x9c\xc2\x80",
+        b"\x1b[" + b"1:2;" * 40 + b"m\x1b]" + b"0;" * 20 + b"x" * 2000 + b"\x07 text \x1b[3",
+    ]
+    yield "sequences of every kind", b"".join(rows) * 3
+    for corpus in measure.CORPORA:
+        yield corpus.__name__, measure.corpus(corpus, 40_000)
+    pick = random.Random(18)
+    yield "random bytes", pick.randbytes(20_000)
+    often = b"\x1b[]P\\;:m\x07\x18A0\n\xc2\xe2\x82\xac\xf0\x9f"
+    yield "random bytes of sequences", bytes(pick.choice(often) for _ in range(20_000))
+    often = b'\x1b]8;;https://e.org/%d&"\x1b\\\x1b[3%dml%d"\r\x1b[1m<x\r\n\x1b]8;;\x07 t'
+    yield "links", b"".join(often % (at, at % 8, at) for at in range(400))
+    often = b"\x1b]8;;https://e.org/" + b"&" * 1000 + b"\x07\x1b[%dma\"\xe2\x82\xf0\x9f\"\r<"
+    yield "long links, much HTML of few bytes", b"".join(often % (30 + at % 8) for at in range(60))
+    yield "characters that are broken, the longest text", b"\xf0" * 4096 + b"a" + b"\xf0\x9f\x98" * 2000
+
+
+def text_of(stream):
+    """What ansi2text writes."""
+    done = run(["%s/crates/ansi2text/out/ansi2text" % ROOT], stream)
+    done.check_returncode()
+    return done.stdout
+
+
+def html_of(stream):
+    """What ansi2html writes."""
+    done = run(["%s/crates/ansi2html/out/ansi2html" % ROOT], stream)
+    done.check_returncode()
+    return done.stdout
+
+
+def printed_of(stream):
+    """What ansi2text writes, without the controls that lay it out: the characters that are printed."""
+    return re.sub(rb"[\t\n\r]", b"", text_of(stream))
+
+
+def pieces(stream, size):
+    return [stream[at : at + size] for at in range(0, len(stream), size)]
+
+
+def first_difference(found, wanted):
+    if found == wanted:
+        return None
+    at = next((at for at, (a, b) in enumerate(zip(found, wanted)) if a != b), min(len(found), len(wanted)))
+    return "%d bytes, and not %d; byte %d is the first that differs" % (len(found), len(wanted), at)

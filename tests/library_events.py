@@ -2,6 +2,7 @@
 
 import importlib.machinery
 import re
+import resource
 import shutil
 
 from library_shared import *
@@ -24,7 +25,7 @@ def event_cases(room):
         why = wrong and "%s: %s" % (wrong, "other events")
         yield "events with pieces, events and room of %s: the calls that the Rust crate makes" % (sizes,), why
     for kind, stream in streams():
-        wanted = run(["%s/crates/parselog/out/parselog" % ROOT], stream).stdout
+        wanted = log_of(stream)
         for sizes in EVENT_SIZES:
             yield "events %s: %s, as parselog" % (sizes, kind), events_differ(path, sizes, stream, wanted)
     stream = b"\x1b[31mhi\x07\x1b[0m\n" * 1_000_000
@@ -37,6 +38,11 @@ def event_cases(room):
         command = ["valgrind", "-q", "--error-exitcode=9", path, "3", "5", "6300"]
         for kind, stream in list(streams())[:2]:
             yield "events under valgrind: %s" % kind, failure(run(command, stream[:3000]))
+
+
+def log_of(stream):
+    """The calls of a stream as parselog writes them."""
+    return run(["%s/crates/parselog/out/parselog" % ROOT], stream).stdout
 
 
 def title_cases(room, cc):
@@ -61,6 +67,8 @@ def rust_cases(room):
     for size in ("1", "4096"):
         wrong = next((name for name, given, wanted in rows if events_differ(path, [size], given, wanted)), None)
         yield "Rust: events in pieces of %s: the calls that the Rust crate makes" % size, wrong and "%s: other events" % wrong
+    for kind, stream in streams():
+        yield "Rust: events of %s in one piece, as parselog" % kind, events_differ(path, ["99999"], stream, log_of(stream))
 
 
 def lines_of_events(found):
@@ -82,6 +90,12 @@ def lines_of_events(found):
             yield "%s%s %s %s %02X" % (call, fields, collected, str(event.ignored).lower(), ord(event.final))
 
 
+def different_sequences(pieces):
+    """Pieces of a thousand control sequences, of which no two are the same."""
+    for piece in range(pieces):
+        yield b"".join(b"\x1b[%d;%dm" % (piece, at) for at in range(1000))
+
+
 def python_event_cases():
     import ansi
 
@@ -92,12 +106,28 @@ def python_event_cases():
             found = "".join("%s\n" % it for it in lines_of_events(ansi.events(cut(given)))).encode()
             wrong = wrong or (None if found == wanted else "%s: %r" % (row, found))
         yield "Python: events of streams that are %s: the calls that the Rust crate makes" % name, wrong
+    for kind, stream in streams():
+        found = "".join("%s\n" % it for it in lines_of_events(ansi.events(stream))).encode()
+        yield "Python: events of %s in one piece, as parselog" % kind, first_difference(found, log_of(stream))
+    before = resource.getrusage(resource.RUSAGE_SELF).ru_maxrss
+    count = sum(1 for _ in ansi.events(different_sequences(300)))
+    grown = resource.getrusage(resource.RUSAGE_SELF).ru_maxrss - before
+    well = count == 300_000 and grown < 20_000
+    yield "Python: 300,000 different events take less than 20 MB", None if well else "%d take %d kB" % (count, grown)
     for given in (5, None, [5], ["a", 5], [None]):
         try:
             answer = list(ansi.events(given))
         except TypeError:
             answer = None
         yield "Python: events of %r are a TypeError" % (given,), None if answer is None else "it gave %r" % answer
+    given = "\u20ac\ud800\U0001f600\x1b[1m"
+    found = "".join("%s\n" % it for it in lines_of_events(ansi.events(given))).encode()
+    wanted = log_of(given.encode("utf-8", "surrogatepass"))
+    yield "Python: events of a str are those of its UTF-8, surrogates too", first_difference(found, wanted)
+    asked = []
+    first = next(ansi.events(asked.append(it) or it for it in (b"one", b"two")))
+    why = None if first == ("one",) and len(asked) == 1 else "%r came after %d pieces" % (first, len(asked))
+    yield "Python: the events of a piece come before the next piece is asked for", why
     match = list(ansi.events("\x1b[1;38:2:9mA")) == [(((1,), (38, 2, 9)), "", False, "m"), ("A",)]
     yield "Python: an event is a tuple", None if match else "it is another"
 

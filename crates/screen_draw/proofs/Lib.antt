@@ -14,6 +14,7 @@ pub mod CursorLemmas
 pub mod RedrawnLemmas
 pub mod RowLemmas
 pub mod NoResetLemmas
+pub mod BoundLemmas
 pub mod UnchangedLemmas
 pub mod UpdatedLemmas
 pub mod ClearedLemmas

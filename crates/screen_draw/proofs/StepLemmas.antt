@@ -30,6 +30,9 @@ reset-push column (first ∷ stops) last =
     ∙ ap (λ c. (reset_stop_calls column first ++ reset_stops_calls (suc column) stops) ++ reset_stop_calls c last) next)
 
 module _ {W : Type 0} (sink : SinkOf W) where
+  pub draws-none : (b : Output W) → Draws sink [] b b
+  draws-none b = record { added = Adds-nil sink b; drawing = tt }
+
   pub draws-reset_stop : (stops : List Bool) (i : ℕ) (d : Bool) (a b c : Output W) → i < length stops
       → Draws sink (reset_stops_calls 0 (take i stops)) a b → Draws sink (reset_stop_calls i (get_or stops i d)) b c
       → Draws sink (reset_stops_calls 0 (take (i + 1) stops)) a c
@@ -105,16 +108,13 @@ module _ {W : Type 0} (sink : SinkOf W) (row : ℕ) (first : Brush) (olds news :
         brush_is = sym same ∙ so_far.brush_is;
       }
 
-  draws-none : (b : Output W) → Draws sink [] b b
-  draws-none b = record { added = Adds-nil sink b; drawing = tt }
-
   pub row-ended : (column : ℕ) (brush : Brush) (a b : Output W) → length olds ≤ column → length news ≤ column → RowDraws column brush a b
       → Draws sink (row_calls row 0 first olds news) a b × (brush ≡ brush_after row 0 first olds news)
   row-ended column brush a b long same so_far =
       let none : drop column olds ≡ [] = drop_all column olds long in
       let done : row_calls row column brush (drop column olds) (drop column news) ≡ [] = rw none refl in
       let stays : brush ≡ brush_after row column brush (drop column olds) (drop column news) = rw none refl in
-      (so_far.calls b (subst (λ l. Draws sink l b b) (sym done) (draws-none b)), stays ∙ so_far.brush_is)
+      (so_far.calls b (subst (λ l. Draws sink l b b) (sym done) (draws-none sink b)), stays ∙ so_far.brush_is)
 
 -- rows
 module _ {W : Type 0} (sink : SinkOf W) (shown wanted : Display) where

@@ -2,7 +2,7 @@
 use Rattle.std.proofs.Common.{◌≡◌, ℕ, zero, suc, ◌<◌, Bool, true, false, List, [], ◌∷◌, ◌++◌, refl, ap, ◌∙◌, arith, append-nil}
 use Rattle.std.specs.Prelude.{◌&&◌, ◌||◌, not, ◌==◌, nat_lt, if◌then◌else◌}
 use Rattle.std.specs.Bool.{beq}
-use Rattle.std.proofs.lemmas.Bool.{eq-eqb, ne_eqb}
+use Rattle.std.proofs.lemmas.Bool.{and_parts, eq-eqb, ne_eqb}
 use Rattle.ansi_style.proofs.EqualityLemmas.{are_equal-refl}
 use Rattle.ansi_screen.specs.declared.cell.Cell.{Cell}
 use Rattle.ansi_screen.specs.declared.cell.Marks.{Marks}
@@ -99,17 +99,22 @@ stays : (row column : ℕ) (place : Place) (old new : Cell) (news : List Cell) �
 unfolding brush_behind
 stays row column place old new news alike = let done : is_done (begun_at place) old new ≡ true = done-alike (begun_at place) old new alike in rw done refl
 
-row-nothing : (row column : ℕ) (place : Place) (xs : List Cell) → (row_calls row column (begun_at place) xs xs ≡ []) × (brush_after row column (begun_at place) xs xs ≡ begun_at place)
-row-nothing row column place [] = (refl, refl)
-row-nothing row column place (x ∷ xs) =
-    let alike : are_alike x x ≡ true = alike-refl x in
-    let none : change_calls row column (begun_at place) x x xs ≡ [] = alike-nothing row column (begun_at place) x x xs alike in
-    let same : brush_behind row column (begun_at place) x x xs ≡ begun_at place = stays row column place x x xs alike in
-    let (calls, brush) = row-nothing row (suc column) place xs in (
-      ap (λ l. l ++ row_calls row (suc column) (brush_behind row column (begun_at place) x x xs) xs xs) none
-          ∙ (ap (λ b. row_calls row (suc column) b xs xs) same ∙ calls),
-      ap (λ b. brush_after row (suc column) b xs xs) same ∙ brush,
+pub row-alike : (row column : ℕ) (place : Place) (olds news : List Cell) → all_two are_alike olds news ≡ true
+    → (row_calls row column (begun_at place) olds news ≡ []) × (brush_after row column (begun_at place) olds news ≡ begun_at place)
+row-alike row column place [] news all = (refl, refl)
+row-alike row column place (x ∷ xs) [] all = (refl, refl)
+row-alike row column place (x ∷ xs) (y ∷ ys) all =
+    let parts = and_parts (are_alike x y) (all_two are_alike xs ys) all in
+    let none : change_calls row column (begun_at place) x y ys ≡ [] = alike-nothing row column (begun_at place) x y ys parts.0 in
+    let same : brush_behind row column (begun_at place) x y ys ≡ begun_at place = stays row column place x y ys parts.0 in
+    let (calls, brush) = row-alike row (suc column) place xs ys parts.1 in (
+      ap (λ l. l ++ row_calls row (suc column) (brush_behind row column (begun_at place) x y ys) xs ys) none
+          ∙ (ap (λ b. row_calls row (suc column) b xs ys) same ∙ calls),
+      ap (λ b. brush_after row (suc column) b xs ys) same ∙ brush,
     )
+
+row-nothing : (row column : ℕ) (place : Place) (xs : List Cell) → (row_calls row column (begun_at place) xs xs ≡ []) × (brush_after row column (begun_at place) xs xs ≡ begun_at place)
+row-nothing row column place xs = row-alike row column place xs xs (all-refl are_alike alike-refl xs)
 
 -- of the same cells, wherever the cursor stood
 module _ (d : Display) (place : Place) where

@@ -1,4 +1,5 @@
 pub mod Alike
+pub mod Bound
 pub mod Draw
 pub mod Drawing
 pub mod Laws

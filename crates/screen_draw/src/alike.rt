@@ -44,7 +44,7 @@ pub(crate) fn are_alike(a: Cell, b: Cell) -> bool
 }
 
 /// Whether all cells are alike, each to the one of its place.
-fn are_all_alike(a: &[Cell], b: &[Cell]) -> bool
+pub(crate) fn are_all_alike(a: &[Cell], b: &[Cell]) -> bool
     ensures { result ≡ all_two are_alike a.now b.now }
 {
     if a.len() != b.len() {

@@ -6,7 +6,7 @@ ghost use Rattle.screen_draw.specs.Draw.{position, select, wrap_calls, last_cell
 ghost use Rattle.screen_draw.specs.Drawing.{Draws};
 ghost use Rattle.screen_draw.specs.Update.{move_calls, erased_run, painted_calls, is_done, change_calls, half_columns, brush_behind, row_calls, brush_after, begun_at, place_behind, rows_calls, wants_wrap, cursor_changes, mode_changes, changes_calls};
 
-use crate::alike::{are_alike, lacks_print};
+use crate::alike::{are_alike, are_all_alike, lacks_print};
 use crate::calls::{put_number, put_position, put_private_mode, put_style};
 use crate::cells::{is_erased, is_same, put_marked, put_style_change};
 use crate::places::put_wrap;
@@ -151,7 +151,7 @@ fn cell_in(cells: &[Cell], column: usize) -> Cell
 }
 
 /// Draws the cells of a row that differ. The answer is where the cursor stands then.
-fn put_row<W: Sink>(
+fn put_changed_row<W: Sink>(
     output: &mut Output<W>,
     row: usize,
     place: Place,
@@ -173,6 +173,27 @@ fn put_row<W: Sink>(
         brush = brush.behind(row, column, old, new, cells);
     }
     brush.place
+}
+
+/// The same. Most rows are as they were: then their cells are compared, and no more is done.
+fn put_row<W: Sink>(
+    output: &mut Output<W>,
+    row: usize,
+    place: Place,
+    olds: &[Cell],
+    news: &[Cell],
+) -> Place
+    requires row { row < most_rows }
+    requires columns { length news.now ≤ most_columns }
+    requires same { length olds.now ≡ length news.now }
+    ensures calls { Draws W.Sink (row_calls row 0 (begun_at place) olds.now news.now) output.old output.new }
+    ensures place { result ≡ (brush_after row 0 (begun_at place) olds.now news.now).place }
+{
+    if are_all_alike(olds, news) {
+        place
+    } else {
+        put_changed_row(output, row, place, olds, news)
+    }
 }
 
 /// Draws the cells that differ. The answer is where the cursor stands then.

@@ -15,13 +15,15 @@ ghost use Rattle.anstyle_parse.specs.Io.Output.{Adds};
 ghost use Rattle.anstyle_parse.specs.Laws.Lawful.{AreLawful};
 ghost use Rattle.anstyle_parse.specs.Stream.Calls.{AreCalls};
 ghost use Rattle.anstyle_parse.specs.Stream.Canon.{canon};
+ghost use Rattle.screen_draw.specs.Bound.{draw_bound, update_bound};
 ghost use Rattle.screen_draw.specs.Draw.{drawn_calls};
 ghost use Rattle.screen_draw.specs.Drawing.{IsDrawing, HaveNoReset};
 ghost use Rattle.screen_draw.specs.Redrawn.{as_shown, drawn_state};
 ghost use Rattle.screen_draw.specs.Update.{update_calls};
 ghost use Rattle.ansi_screen.specs.After.{State, Shows};
+ghost use Rattle.ansi_screen.specs.Display.{IsSized};
 ghost use Rattle.ansi_screen.specs.Reachable.{IsScreen, HasContents};
-ghost use Rattle.std.specs.Prelude.{◌≡◌};
+ghost use Rattle.std.specs.Prelude.{◌≡◌, ◌≤◌, length};
 ghost use Rattle.std.specs.List.{AllByRecursion};
 
 use ansi_screen::Screen;
@@ -52,6 +54,9 @@ pub fn draw<W: Sink>(screen: &Screen, output: &mut Output<W>)
 
     // They print what is shown, and have no controls but SO and SI, and no strings.
     ensures only { AllByRecursion IsDrawing (drawn_calls screen.now.display) }
+
+    // So many bytes for each cell and each column, and for the rest.
+    ensures bound { length (canon (drawn_calls screen.now.display)) ≤ draw_bound screen.now.display }
 {
     put_all(output, screen);
 }
@@ -83,6 +88,10 @@ pub fn update<W: Sink>(shown: &Screen, wanted: &Screen, output: &mut Output<W>)
     // They print what is shown, and have no controls but SO and SI, and no strings; there is neither RIS nor DECSTR.
     ensures only { AllByRecursion IsDrawing (update_calls shown.now.display wanted.now.display) }
     ensures no_reset { HaveNoReset (update_calls shown.now.display wanted.now.display) }
+
+    // As many as a drawing, where all is drawn, and so many to clear what is shown.
+    ensures bound { IsSized wanted.now.display → length (canon (update_calls shown.now.display wanted.now.display))
+        ≤ update_bound shown.now.display wanted.now.display }
 {
     put_update(output, shown, wanted);
 }

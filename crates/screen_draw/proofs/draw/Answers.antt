@@ -6,6 +6,7 @@ use Rattle.ansi_screen.proofs.LawLemmas.{Shows-only}
 use Rattle.screen_draw.specs.Draw.{drawn_calls}
 use Rattle.screen_draw.specs.Redrawn.{drawn_state}
 use Rattle.screen_draw.proofs.RedrawnLemmas.{redrawn-is}
+use Rattle.screen_draw.proofs.BoundLemmas.{drawn-bound}
 use Rattle.screen_draw.proofs.DrawLemmas.{drawing-lawful}
 use Rattle.screen_draw.proofs.draw.Goals as goal
 
@@ -20,3 +21,6 @@ returns-clause-redrawn g c = λ old new is holds width height shows.
     let d = c.args.screen.now.display in
     Shows-only (canon (drawn_calls d)) old new (drawn_state d) shows
     (drawn_calls d, replay (drawn_calls d) (drawing-lawful (drawn_calls d) c.put_all.ensures.drawing), sym (redrawn-is d old is holds width height))
+
+pub returns-clause-bound : goal.returns-clause-bound
+returns-clause-bound g c = drawn-bound c.args.screen.now.display c.put_all.ensures.drawing

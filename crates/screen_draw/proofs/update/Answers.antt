@@ -5,6 +5,7 @@ use Rattle.anstyle_parse.specs.Stream.Canon.{canon}
 use Rattle.ansi_screen.specs.After.{after_all}
 use Rattle.ansi_screen.proofs.LawLemmas.{Shows-only}
 use Rattle.screen_draw.specs.Update.{update_calls}
+use Rattle.screen_draw.proofs.BoundLemmas.{update-bound}
 use Rattle.screen_draw.proofs.DrawLemmas.{drawing-lawful}
 use Rattle.screen_draw.proofs.NoResetLemmas.{no-reset}
 use Rattle.screen_draw.proofs.UpdatedLemmas.{updated-is}
@@ -29,3 +30,6 @@ returns-clause-updated g c = λ old new from has to gets is shows.
     ap (λ s. s.display)
     (Shows-only (canon calls) old new (after_all calls old) shows (calls, replay calls (drawing-lawful calls c.put_update.ensures.drawing), refl))
     ∙ updated-is a b old from has to gets c.requires.columns c.requires.rows is
+
+pub returns-clause-bound : goal.returns-clause-bound
+returns-clause-bound g c = λ sized. update-bound c.args.shown.now.display c.args.wanted.now.display sized c.put_update.ensures.drawing

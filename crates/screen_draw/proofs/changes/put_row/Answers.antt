@@ -1,17 +1,18 @@
--- One cell more.
-use Rattle.std.proofs.Common.{◌+◌, arith}
-use Rattle.std.proofs.lemmas.List.{take_rest}
-use Rattle.screen_draw.specs.Update.{begun_at}
-use Rattle.screen_draw.proofs.StepLemmas.{row-more, row-ended}
+-- No cell differs.
+use Rattle.std.proofs.Common.{sym, ap, subst, ◌∙◌}
+use Rattle.screen_draw.specs.Drawing.{Draws}
+use Rattle.screen_draw.proofs.StepLemmas.{draws-none}
+use Rattle.screen_draw.proofs.UnchangedLemmas.{row-alike}
 use Rattle.screen_draw.proofs.changes.put_row.Goals as goal
 
-pub loop-column-preserved : goal.loop-column-preserved
-loop-column-preserved g c =
-    row-more g.W.Sink c.args.row (begun_at c.args.place) c.args.olds.now c.args.news.now c.loop-column.column c.loop-column.brush _ _ _ _ _ _ _
-    (omega (arith, c.requires.same)) (omega arith) c.cell_in-old.ensures c.cell_in-new.ensures (take_rest c.args.news.now (c.loop-column.column + 1)) c.behind-brush.ensures
-    c.loop-column.invariant c.put_change.ensures
+pub returns-then-are_all_alike-clause-calls : goal.returns-then-are_all_alike-clause-calls
+returns-then-are_all_alike-clause-calls g c =
+    let alike = sym c.are_all_alike.ensures ∙ c.if-are_all_alike.true in
+    subst (λ l. Draws g.W.Sink l c.args.output.now c.args.output.now)
+    (sym (row-alike c.args.row 0 c.args.place c.args.olds.now c.args.news.now alike).0)
+    (draws-none g.W.Sink c.args.output.now)
 
-pub returns-clause-calls : goal.returns-clause-calls
-returns-clause-calls g c =
-    (row-ended g.W.Sink c.args.row (begun_at c.args.place) c.args.olds.now c.args.news.now c.loop-column.column c.loop-column.brush _ _
-    (omega (arith, c.requires.same)) (omega arith) c.loop-column.invariant).0
+pub returns-then-are_all_alike-clause-place : goal.returns-then-are_all_alike-clause-place
+returns-then-are_all_alike-clause-place g c =
+    let alike = sym c.are_all_alike.ensures ∙ c.if-are_all_alike.true in
+    sym (ap (λ b. b.place) (row-alike c.args.row 0 c.args.place c.args.olds.now c.args.news.now alike).1)

@@ -1,17 +1,18 @@
 //! Writes what a terminal's screen shows at the end of standard input, as text
-//! or as the bytes that draw it.
+//! or as the bytes that draw it; or as input comes, what updates it.
 #![tactic(auto)]
 
 mod words;
 
 use ansi_screen::Screen;
 use anstyle_parse::io::{FromRead, Output, perform_to_end};
-use screen_draw::draw;
+use screen_draw::{draw, update_to_end};
 use standard_streams::{
-    answered, asked_of, buffered, ended_with_reason, failed, given_words, value_of, wrong_size,
+    answered, asked_of, buffered, ended_with_reason, failed, given_words, misused, value_of,
+    wrong_size,
 };
 use std::process::ExitCode;
-use words::{HELP, OPTIONS, SIZE, asks_to_draw, named_size};
+use words::{BOTH, HELP, OPTIONS, SIZE, asks_for_updates, asks_to_draw, named_size};
 
 /// The name at the front of what the program says of failures.
 const PROGRAM: &str = "ansi2screen";
@@ -26,15 +27,27 @@ fn main(rt: HostRuntime) -> ExitCode {
     let Some(size) = named_size(value_of(words.as_slice(), SIZE)) else {
         return wrong_size(&rt, PROGRAM);
     };
+    let draws = asks_to_draw(words.as_slice());
+    let updates = asks_for_updates(words.as_slice());
+    if draws && updates {
+        return misused(&rt, BOTH);
+    }
     let Ok(mut screen) = Screen::new(rt.alloc(), size.columns, size.rows) else {
         return failed(&rt, PROGRAM, "out of memory");
     };
     let mut reader = FromRead::new(rt.stdin());
-    let read = perform_to_end(&mut reader, &mut screen);
     let mut output = Output::new(buffered(rt.stdout()));
-    if asks_to_draw(words.as_slice()) {
-        draw(&screen, &mut output);
+    let read = if updates {
+        let Ok(mut shown) = Screen::new(rt.alloc(), size.columns, size.rows) else {
+            return failed(&rt, PROGRAM, "out of memory");
+        };
+        update_to_end(&mut reader, &mut shown, &mut screen, &mut output)
     } else {
+        perform_to_end(&mut reader, &mut screen)
+    };
+    if draws {
+        draw(&screen, &mut output);
+    } else if !updates {
         screen.write_text(&mut output);
     }
     let (writer, answer) = output.finish();

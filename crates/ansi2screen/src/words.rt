@@ -1,13 +1,13 @@
 //! The words of the program: the size that its options name, and what it says of itself.
 ghost use Rattle.std.specs.Prelude.{◌≡◌, IfSome, map, option_copied, string_bytes};
-ghost use Rattle.ansi2screen.specs.Words.{asks_to_draw};
+ghost use Rattle.ansi2screen.specs.Words.{asks_to_draw, asks_for_updates};
 ghost use Rattle.ansi_screen.specs.Size.{IsNamed, IsTaken};
 
 use ansi_screen::Size;
 use standard_streams::has_word;
 
 /// The options.
-pub const OPTIONS: &[&str] = &[SIZE, DRAW];
+pub const OPTIONS: &[&str] = &[SIZE, DRAW, UPDATES];
 
 /// What stands before a size.
 pub const SIZE: &str = "--size=";
@@ -15,15 +15,23 @@ pub const SIZE: &str = "--size=";
 /// What asks for the bytes that draw the screen.
 const DRAW: &str = "--draw";
 
+/// What asks for a drawing and the updates behind it.
+const UPDATES: &str = "--updates";
+
+/// What is said where both are asked for.
+pub const BOTH: &str =
+    "ansi2screen: --draw and --updates are not taken together (see ansi2screen --help)";
+
 /// What `--help` says.
 pub const HELP: &str = "\
-usage: ansi2screen [--size=COLUMNSxROWS] [--draw] < FILE
+usage: ansi2screen [--size=COLUMNSxROWS] [--draw | --updates] < FILE
 
 Writes what a terminal's screen shows at the end of standard input, as text.
 Input is UTF-8. No file is opened: one is given by <.
 
   --size=COLUMNSxROWS    the screen's size, from 2x1 to 1000x1000 (80x24)
   --draw                 write the sequences that make a terminal show it instead
+  --updates              write these as input comes, of what differs alone
   --help                 say this
   --version              say which version it is
 
@@ -36,6 +44,13 @@ pub fn asks_to_draw(words: &[String]) -> bool
     ensures { result ≡ asks_to_draw (map string_bytes words.now) }
 {
     has_word(words, DRAW)
+}
+
+/// Whether the words ask for a drawing and the updates behind it.
+pub fn asks_for_updates(words: &[String]) -> bool
+    ensures { result ≡ asks_for_updates (map string_bytes words.now) }
+{
+    has_word(words, UPDATES)
 }
 
 /// The size that this text says; with no text 80 columns and 24 rows. `None` for a text that says none.

@@ -32,7 +32,7 @@ use Rattle.screen_draw.specs.Draw.{escape, sequence, private_mode, set_or_reset,
 use Rattle.screen_draw.specs.Drawing.{IsDrawing, Draws}
 
 -- calls, one after another
-both-drawing : (first second : List Call) → AllByRecursion IsDrawing first → AllByRecursion IsDrawing second → AllByRecursion IsDrawing (first ++ second)
+pub both-drawing : (first second : List Call) → AllByRecursion IsDrawing first → AllByRecursion IsDrawing second → AllByRecursion IsDrawing (first ++ second)
 both-drawing [] second are others = others
 both-drawing (call ∷ first) second are others = (are.0, both-drawing first second are.1 others)
 

@@ -20,3 +20,4 @@ pub mod UpdatedLemmas
 pub mod ClearedLemmas
 pub mod FrameLemmas
 pub mod ChangesLemmas
+pub mod UpdatesLemmas

@@ -5,3 +5,4 @@ pub mod Drawing
 pub mod Laws
 pub mod Redrawn
 pub mod Update
+pub mod Updates

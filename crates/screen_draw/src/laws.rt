@@ -1,6 +1,6 @@
 //! Laws of drawing. Each is the contract of a function that does nothing.
 ghost use Rattle.std.specs.Prelude.{◌≡◌, ◌<◌, ℕ, true, List, []};
-ghost use Rattle.ansi_screen.specs.After.{State, after_all};
+ghost use Rattle.ansi_screen.specs.After.{State, after_all, Shows};
 ghost use Rattle.ansi_screen.specs.Display.{Display};
 ghost use Rattle.ansi_screen.specs.Reachable.{IsScreen, HasContents};
 ghost use Rattle.ansi_style.specs.Style.{HasBytes};
@@ -9,6 +9,7 @@ ghost use Rattle.screen_draw.specs.Laws.{HasModes};
 ghost use Rattle.screen_draw.specs.Redrawn.{as_shown, drawn_state};
 ghost use Rattle.screen_draw.specs.Alike.{are_alike, is_steady};
 ghost use Rattle.screen_draw.specs.Update.{move_calls, change_calls, update_calls};
+ghost use Rattle.screen_draw.specs.Updates.{AreScreens, followed_calls, last_of, joined};
 ghost use Rattle.screen_draw.specs.declared.changes.Brush.{Brush};
 ghost use Rattle.ansi_screen.specs.declared.cell.Cell.{Cell};
 
@@ -45,6 +46,18 @@ pub fn updated()
     ensures { (shown wanted : Display) (old : State) → IsScreen shown → HasContents shown
         → IsScreen wanted → HasContents wanted → shown.width ≡ wanted.width → shown.height ≡ wanted.height
         → old.display ≡ as_shown shown → (after_all (update_calls shown wanted) old).display ≡ as_shown wanted }
+{}
+
+/// A terminal follows a stream: the calls of a drawing, and of an update behind each piece, lead every screen of the
+/// size to the one that all pieces lead to; and so behind each of the pieces, since these may be any.
+pub fn followed()
+    ensures shown { (first old : State) (pieces : List (List ℕ)) (screens : List State)
+        → IsScreen first.display → HasContents first.display
+        → old.display.width ≡ first.display.width → old.display.height ≡ first.display.height
+        → AreScreens first [] pieces screens
+        → (after_all (followed_calls first screens) old).display ≡ as_shown (last_of first screens).display }
+    ensures whole { (first : State) (pieces : List (List ℕ)) (screens : List State)
+        → AreScreens first [] pieces screens → Shows first (joined pieces) (last_of first screens) }
 {}
 
 /// What is the same is not drawn: nothing of a screen that shows, and no cell that is like the one that stands there.

@@ -9,6 +9,7 @@ mod cleared;
 pub mod laws;
 mod places;
 mod rest;
+mod updates;
 mod whole;
 
 ghost use Rattle.anstyle_parse.specs.Io.Output.{Adds};
@@ -28,6 +29,7 @@ ghost use Rattle.std.specs.List.{AllByRecursion};
 
 use ansi_screen::Screen;
 use anstyle_parse::io::{Output, Sink};
+pub use updates::update_to_end;
 use whole::{put_all, put_update};
 
 /// Writes the bytes that make a terminal of the screen's size show it.

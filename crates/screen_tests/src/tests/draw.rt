@@ -1,9 +1,9 @@
 //! All parts of a screen, and the bytes that draw it.
 use ansi_screen::{Place, Screen, is_shown};
-use anstyle_parse::io::{FromWrite, Output};
+use anstyle_parse::io::{FromRead, FromWrite, Output};
 use anstyle_parse::{Parser, Utf8Parser};
-use screen_draw::laws::{forgets, redrawn, selected, unchanged, updated};
-use screen_draw::{draw, update};
+use screen_draw::laws::{followed, forgets, redrawn, selected, unchanged, updated};
+use screen_draw::{draw, update, update_to_end};
 use std::alloc::{AllocError, Global};
 use std::test::Fail;
 
@@ -94,5 +94,30 @@ fn an_update_of_all(rt: HostRuntime) -> Result<(), Fail> {
     assert_eq!(rt; first.hidden_cells(), second.hidden_cells());
     assert_eq!(rt; first.stops(), second.stops());
     assert_eq!(rt; (first.cursor(), first.saved()), (place(2, 1), place(1, 3)));
+    Ok(())
+}
+
+/// The drawing of a blank screen ends with its modes, and one update comes behind it.
+#[test]
+fn updates_of_a_stream(rt: HostRuntime) -> Result<(), Fail> {
+    let (mut first, mut last) = (
+        Screen::new(rt.alloc(), 9, 3)?,
+        Screen::new(rt.alloc(), 9, 3)?,
+    );
+    let mut reader = FromRead::new(b"\x1b[2;2H\x1b[1mX".as_slice());
+    let mut output = Output::new(FromWrite::new(Vec::new(rt.alloc())));
+    let read = update_to_end(&mut reader, &mut first, &mut last, &mut output);
+    followed();
+    let (sink, answer) = output.finish();
+    assert!(rt; read.is_ok() && answer.is_ok());
+    let written = sink.into_inner();
+    assert!(rt;
+        written
+            .as_slice()
+            .ends_with(b"\x1b[?25h\x1b[2;2H\x1b[0;1mX")
+    );
+    let again = shown(rt.alloc(), written.as_slice())?;
+    assert_eq!(rt; again.cells(), last.cells());
+    assert_eq!(rt; again.cursor(), last.cursor());
     Ok(())
 }

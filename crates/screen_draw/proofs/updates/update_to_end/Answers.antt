@@ -1,0 +1,163 @@
+-- A piece more is read, and its update written.
+use Rattle.std.proofs.Common.{◌≡◌, ◌<◌, [], ◌∷◌, ◌++◌, is_some, length, take, refl, sym, ap, ◌∙◌, arith, length-append, length-take, subst, inl, inr, append-nil}
+use Rattle.std.proofs.KnownBytes.{Consumes-nil, Consumes-kept, Consumes-trans}
+use Rattle.std.specs.Io.KnownBytes.{Consumes}
+use Rattle.anstyle_parse.specs.Io.Output.{fault_in}
+use Rattle.anstyle_parse.specs.Stream.Call.{Call}
+use Rattle.anstyle_parse.specs.Stream.Calls.{HasReceived}
+use Rattle.anstyle_parse.specs.Views.Accumulator.{front_of}
+use Rattle.anstyle_parse.specs.Views.Parser.{IsAfter}
+use Rattle.anstyle_parse.proofs.Canonical.Items.{AreCalls-nil}
+use Rattle.anstyle_parse.proofs.Written.Output.{None-from_is_some}
+use Rattle.ansi_screen.specs.After.{State, after}
+use Rattle.screen_draw.specs.Draw.{drawn_calls}
+use Rattle.screen_draw.specs.Drawing.{Draws}
+use Rattle.screen_draw.specs.Update.{update_calls}
+use Rattle.screen_draw.specs.Updates.{IsPiece, joined}
+use Rattle.screen_draw.proofs.UpdatesLemmas.{joined-more, last-more, pieces-more, screens-more, received-shows, received-same, shows-sized, passed-on, no-updates, begins, draws-more, write-fault, follows}
+use Rattle.screen_draw.proofs.updates.update_to_end.Goals as goal
+
+pub returns-then-is_some : goal.returns-then-is_some
+returns-then-is_some g c =
+    let first = c.args.wanted.now in
+    let drawn : Draws g.W.Sink (drawn_calls first.display) c.args.output.now c.pass_on.new.self =
+    begins g.W.Sink c.args.shown.now first _ _ _ c.requires.same c.draw.ensures.text c.draw.ensures.only c.pass_on.ensures in
+    follows g.R.Source g.W.Sink _ _ first first c.args.output.now c.pass_on.new.self c.pass_on.new.self _ [] []
+    (Consumes-nil (g.R.Source.remaining c.args.reader.now)) tt tt refl drawn (no-updates g.W.Sink c.pass_on.new.self) (
+      write-fault g.W.Sink _ c.args.output.now c.pass_on.new.self drawn.added c.requires.no_fault
+          (sym (c.is_some.ensures ∙ ap is_some c.fault.ensures) ∙ c.if-is_some.true),
+      refl,
+    )
+
+pub loop-turn-init : goal.loop-turn-init
+loop-turn-init g c = record {
+  pieces = [];
+  screens = [];
+  consumed = Consumes-nil (g.R.Source.remaining c.args.reader.now);
+  each = tt;
+  are_screens = tt;
+  is_last = refl;
+  draws = no-updates g.W.Sink c.pass_on.new.self;
+  received = ([], AreCalls-nil, refl);
+  received_behind = ([], AreCalls-nil, c.requires.same);
+  stands = c.new-parser.ensures.stands;
+  stands_behind = c.new-behind.ensures.stands;
+  no_fault = None-from_is_some (fault_in c.pass_on.new.self) (sym (c.is_some.ensures ∙ ap is_some c.fault.ensures) ∙ c.if-is_some.false);
+  not_failed = refl;
+  counted = omega arith;
+  room = refl;
+}
+
+pub returns-in-None : goal.returns-in-None
+returns-in-None g c =
+    let before = c.loop-turn.invariant in
+    follows g.R.Source g.W.Sink _ _ c.args.wanted.now c.loop-turn.wanted c.args.output.now c.pass_on.new.self c.loop-turn.output _ before.pieces before.screens
+    (Consumes-kept _ _ _ (joined before.pieces) before.consumed c.in-None.ensures.nothing_passed)
+    before.each before.are_screens before.is_last
+    (begins g.W.Sink c.args.shown.now c.args.wanted.now _ _ _ c.requires.same c.draw.ensures.text c.draw.ensures.only c.pass_on.ensures)
+    before.draws (before.no_fault, inl c.in-None.ensures.failed)
+
+pub returns-in-Some-eq0 : goal.returns-in-Some-eq0
+returns-in-Some-eq0 g c =
+    let before = c.loop-turn.invariant in
+    let none : Consumes (g.R.Source.remaining c.loop-turn.reader) (g.R.Source.remaining c.read.new.self) [] =
+    subst (λ n. Consumes (g.R.Source.remaining c.loop-turn.reader) (g.R.Source.remaining c.read.new.self) (take n c.read.new.into))
+    c.in-Some-eq0.field-0-test c.in-Some-eq0.ensures.passed in
+    let room : 0 < length c.read.new.into = omega (arith, c.read.auto.into, before.room) in
+    follows g.R.Source g.W.Sink _ _ c.args.wanted.now c.loop-turn.wanted c.args.output.now c.pass_on.new.self c.loop-turn.output _ before.pieces before.screens
+    (subst (Consumes (g.R.Source.remaining c.args.reader.now) (g.R.Source.remaining c.read.new.self)) (append-nil (joined before.pieces))
+    (Consumes-trans _ _ _ (joined before.pieces) [] before.consumed none))
+    before.each before.are_screens before.is_last
+    (begins g.W.Sink c.args.shown.now c.args.wanted.now _ _ _ c.requires.same c.draw.ensures.text c.draw.ensures.only c.pass_on.ensures)
+    before.draws (before.no_fault, (λ zero. c.in-Some-eq0.ensures.end c.in-Some-eq0.field-0-test room zero, c.in-Some-eq0.ensures.not_failed ∙ before.not_failed))
+
+pub update-requires-clause-columns : goal.update-requires-clause-columns
+update-requires-clause-columns g c =
+    let before = c.loop-turn.invariant in
+    let first = c.args.wanted.now in
+    let here = shows-sized first c.loop-turn.shown (joined before.pieces) c.columns.ensures.sized before.received_behind in
+    let there = shows-sized first c.advance_all.new.performer _ c.columns.ensures.sized
+    (c.advance_all.ensures.received first (joined before.pieces) refl before.stands before.received) in
+    here.0 ∙ sym there.0
+
+pub update-requires-clause-rows : goal.update-requires-clause-rows
+update-requires-clause-rows g c =
+    let before = c.loop-turn.invariant in
+    let first = c.args.wanted.now in
+    let here = shows-sized first c.loop-turn.shown (joined before.pieces) c.columns.ensures.sized before.received_behind in
+    let there = shows-sized first c.advance_all.new.performer _ c.columns.ensures.sized
+    (c.advance_all.ensures.received first (joined before.pieces) refl before.stands before.received) in
+    here.1 ∙ sym there.1
+
+pub returns-then-is_some-2 : goal.returns-then-is_some-2
+returns-then-is_some-2 g c =
+    let before = c.loop-turn.invariant in
+    let first = c.args.wanted.now in
+    let next = c.advance_all.new.performer in
+    let bytes = take c.in-Some.count c.read.new.into in
+    let received = c.advance_all.ensures.received first (joined before.pieces) refl before.stands before.received in
+    let drawn : Draws g.W.Sink (drawn_calls first.display) c.args.output.now c.pass_on.new.self =
+    begins g.W.Sink c.args.shown.now first _ _ _ c.requires.same c.draw.ensures.text c.draw.ensures.only c.pass_on.ensures in
+    let last = passed-on g.W.Sink (update_calls c.loop-turn.shown.display next.display) _ _ _
+    (record { added = c.update.ensures.text; drawing = c.update.ensures.only }) c.pass_on-in-Some.ensures in
+    let is_piece : IsPiece bytes = (
+      omega (arith, length-take c.in-Some.count c.read.new.into, c.in-Some.ensures.within, c.in-Some.count-test),
+      omega (arith, length-take c.in-Some.count c.read.new.into, c.read.auto.into, before.room),
+    ) in
+    let updated = draws-more g.W.Sink first c.loop-turn.shown next before.screens _ _ _ _ before.draws
+    (received-same first _ _ (joined before.pieces) before.received_behind before.received ∙ before.is_last)
+    c.update.ensures.text c.update.ensures.only c.pass_on-in-Some.ensures in
+    follows g.R.Source g.W.Sink _ _ first next c.args.output.now c.pass_on.new.self c.pass_on-in-Some.new.self _
+    (before.pieces ++ bytes ∷ []) (before.screens ++ next ∷ [])
+    (subst (Consumes (g.R.Source.remaining c.args.reader.now) (g.R.Source.remaining c.read.new.self)) (sym (joined-more before.pieces bytes))
+    (Consumes-trans _ _ _ _ _ before.consumed c.in-Some.ensures.passed))
+    (pieces-more IsPiece before.pieces bytes before.each is_piece)
+    (screens-more first next [] bytes before.pieces before.screens before.are_screens (received-shows first next _ received))
+    (sym (last-more first next before.screens)) drawn updated (
+      write-fault g.W.Sink _ c.loop-turn.output c.pass_on-in-Some.new.self last.added before.no_fault
+          (sym (c.is_some-in-Some.ensures ∙ ap is_some c.fault-in-Some.ensures) ∙ c.if-is_some-2.true),
+      c.in-Some.ensures.not_failed ∙ before.not_failed,
+    )
+
+pub loop-turn-preserved : goal.loop-turn-preserved
+loop-turn-preserved g c =
+    let before = c.loop-turn.invariant in
+    let first = c.args.wanted.now in
+    let next = c.advance_all.new.performer in
+    let bytes = take c.in-Some.count c.read.new.into in
+    let more = sym (joined-more before.pieces bytes) in
+    let is_piece : IsPiece bytes = (
+      omega (arith, length-take c.in-Some.count c.read.new.into, c.in-Some.ensures.within, c.in-Some.count-test),
+      omega (arith, length-take c.in-Some.count c.read.new.into, c.read.auto.into, before.room),
+    ) in
+    let received = c.advance_all.ensures.received first (joined before.pieces) refl before.stands before.received in
+    record {
+      pieces = before.pieces ++ bytes ∷ [];
+      screens = before.screens ++ next ∷ [];
+      consumed = subst (Consumes (g.R.Source.remaining c.args.reader.now) (g.R.Source.remaining c.read.new.self)) more
+          (Consumes-trans _ _ _ _ _ before.consumed c.in-Some.ensures.passed);
+      each = pieces-more IsPiece before.pieces bytes before.each is_piece;
+      are_screens = screens-more first next [] bytes before.pieces before.screens before.are_screens (received-shows first next _ received);
+      is_last = sym (last-more first next before.screens);
+      draws = draws-more g.W.Sink first c.loop-turn.shown next before.screens _ _ _ _ before.draws
+          (received-same first _ _ (joined before.pieces) before.received_behind before.received ∙ before.is_last)
+          c.update.ensures.text c.update.ensures.only c.pass_on-in-Some.ensures;
+      received = subst (λ l. HasReceived (λ (a : State) (call : Call) (b : State). b ≡ after call a) first l next) more received;
+      received_behind = subst (λ l. HasReceived (λ (a : State) (call : Call) (b : State). b ≡ after call a) first l c.advance_all-in-Some.new.performer) more
+          (c.advance_all-in-Some.ensures.received first (joined before.pieces) refl before.stands_behind before.received_behind);
+      stands = subst (IsAfter front_of c.advance_all.new.self) more (c.advance_all.ensures.stands (joined before.pieces) refl before.stands);
+      stands_behind = subst (IsAfter front_of c.advance_all-in-Some.new.self) more
+          (c.advance_all-in-Some.ensures.stands (joined before.pieces) refl before.stands_behind);
+      no_fault = None-from_is_some (fault_in c.pass_on-in-Some.new.self) (sym (c.is_some-in-Some.ensures ∙ ap is_some c.fault-in-Some.ensures) ∙ c.if-is_some-2.false);
+      not_failed = c.in-Some.ensures.not_failed ∙ before.not_failed;
+      counted = omega (arith, before.counted, is_piece.0, ap length more, length-append (joined before.pieces) bytes);
+      room = c.read.auto.into ∙ before.room;
+    }
+
+pub returns : goal.returns
+returns g c =
+    let before = c.loop-turn.invariant in
+    follows g.R.Source g.W.Sink _ _ c.args.wanted.now c.loop-turn.wanted c.args.output.now c.pass_on.new.self c.loop-turn.output _ before.pieces before.screens
+    before.consumed before.each before.are_screens before.is_last
+    (begins g.W.Sink c.args.shown.now c.args.wanted.now _ _ _ c.requires.same c.draw.ensures.text c.draw.ensures.only c.pass_on.ensures)
+    before.draws (before.no_fault, inr (omega (arith, before.counted, c.loop-turn-test.false)))

@@ -1,0 +1,32 @@
+-- What is read so far was followed, and both screens show it.
+use Rattle.std.proofs.Common.{◌≡◌, ◌≤◌, None, List, ℕ, [], length}
+use Rattle.std.specs.List.{AllByRecursion}
+use Rattle.std.specs.Io.KnownBytes.{Consumes}
+use Rattle.anstyle_parse.specs.Views.Accumulator.{front_of}
+use Rattle.anstyle_parse.specs.Views.Parser.{IsAfter}
+use Rattle.anstyle_parse.specs.Io.Output.{fault_in}
+use Rattle.anstyle_parse.specs.Stream.Call.{Call}
+use Rattle.anstyle_parse.specs.Stream.Calls.{HasReceived}
+use Rattle.ansi_screen.specs.After.{State, after}
+use Rattle.screen_draw.specs.Drawing.{Draws}
+use Rattle.screen_draw.specs.Updates.{IsPiece, AreScreens, joined, last_of, updates_calls}
+use Rattle.screen_draw.proofs.updates.update_to_end.Given as goal
+
+abbrev pub invariant-loop-turn : goal.invariant-loop-turn
+invariant-loop-turn g l = record {
+  pieces : List (List ℕ);
+  screens : List State;
+  consumed : Consumes (g.R.Source.remaining l.initial.reader) (g.R.Source.remaining l.reader) (joined pieces);
+  each : AllByRecursion IsPiece pieces;
+  are_screens : AreScreens l.initial.wanted [] pieces screens;
+  is_last : l.wanted ≡ last_of l.initial.wanted screens;
+  draws : Draws g.W.Sink (updates_calls l.initial.wanted screens) l.initial.output l.output;
+  received : HasReceived (λ (a : State) (call : Call) (b : State). b ≡ after call a) l.initial.wanted (joined pieces) l.wanted;
+  received_behind : HasReceived (λ (a : State) (call : Call) (b : State). b ≡ after call a) l.initial.wanted (joined pieces) l.shown;
+  stands : IsAfter front_of l.parser (joined pieces);
+  stands_behind : IsAfter front_of l.behind (joined pieces);
+  no_fault : fault_in l.output ≡ None;
+  not_failed : g.R.Source.has_failed l.reader ≡ g.R.Source.has_failed l.initial.reader;
+  counted : l.turn ≤ length (joined pieces);
+  room : length l.piece ≡ 4096;
+}

@@ -1,0 +1,84 @@
+-- What a terminal is given that follows a stream: a drawing, and an update behind each piece that was read.
+use Rattle.std.specs.Prelude.{◌≡◌, ◌<◌, ◌≤◌, ℕ, Bool, List, [], ◌∷◌, ◌++◌, length, take, Option, None, Some, Result, Err, ⊤, IsTrue}
+use Rattle.std.specs.List.{AllByRecursion, flat_map}
+use Rattle.std.specs.Io.KnownBytes.{Consumes, IsAtEnd}
+use Rattle.anstyle_parse.specs.declared.io.Fault.{Fault}
+use Rattle.anstyle_parse.specs.declared.io.Fault.TheVariants.{Write}
+use Rattle.anstyle_parse.specs.declared.io.devices.Sink.{Ghosts as SinkOf}
+use Rattle.anstyle_parse.specs.declared.io.devices.Source.{Ghosts as SourceOf}
+use Rattle.anstyle_parse.specs.declared.io.output.Output.{Output}
+use Rattle.anstyle_parse.specs.Io.Output.{fault_in, Adds}
+use Rattle.anstyle_parse.specs.Io.Run.{EndsAs}
+use Rattle.anstyle_parse.specs.Stream.Call.{Call}
+use Rattle.anstyle_parse.specs.Stream.Calls.{AreCalls}
+use Rattle.anstyle_parse.specs.Stream.Canon.{canon}
+use Rattle.ansi_screen.specs.After.{State, Shows}
+use Rattle.ansi_screen.specs.Reachable.{IsScreen, HasContents}
+use Rattle.screen_draw.specs.Draw.{drawn_calls}
+use Rattle.screen_draw.specs.Redrawn.{as_shown}
+use Rattle.screen_draw.specs.Update.{update_calls}
+
+-- An update from each screen to the next,
+abbrev pub updates_calls : State → List State → List Call
+updates_calls first [] = []
+updates_calls first (screen ∷ screens) = update_calls first.display screen.display ++ updates_calls screen screens
+
+-- behind a drawing of the first.
+abbrev pub followed_calls : State → List State → List Call
+followed_calls first screens = drawn_calls first.display ++ updates_calls first screens
+
+-- the last screen
+abbrev pub last_of : State → List State → State
+last_of first [] = first
+last_of first (screen ∷ screens) = last_of screen screens
+
+-- Each screen is the one that all bytes lead to, from the first screen and a new parser on, up to the end of its
+-- piece; `before` was read before these pieces.
+abbrev pub AreScreens : State → (before : List ℕ) → List (List ℕ) → List State → Type 0
+AreScreens first before [] [] = ⊤
+AreScreens first before (piece ∷ pieces) (screen ∷ screens) =
+    Shows first (before ++ piece) screen × AreScreens first (before ++ piece) pieces screens
+AreScreens first before pieces screens = ⊥
+
+-- the pieces, joined
+abbrev pub joined : List (List ℕ) → List ℕ
+joined pieces = flat_map (λ piece. piece) pieces
+
+-- what one read gives
+abbrev pub most_piece : ℕ
+most_piece = 4096
+
+abbrev pub IsPiece : List ℕ → Type 0
+IsPiece piece = (0 < length piece) × (length piece ≤ most_piece)
+
+-- Why no more was read: a write failed; or as `EndsAs` has it.
+abbrev pub StopsBy : {T : Type 0} → Result T Fault → (at_end : Type 0) → (fault : Option Fault)
+    → (failed failed_after : Bool) → ℕ → Type 0
+StopsBy (Err Write) at_end fault failed failed_after count = (fault ≡ Some Write) × (failed_after ≡ failed)
+StopsBy answer at_end fault failed failed_after count = (fault ≡ None) × EndsAs answer at_end failed failed_after count
+
+-- A terminal of the size of a screen shows another one by these bytes, whatever it showed before.
+abbrev pub LeadsTo : State → List ℕ → State → Type 0
+LeadsTo first bytes wanted = (old new : State) → IsScreen first.display → HasContents first.display
+    → old.display.width ≡ first.display.width → old.display.height ≡ first.display.height
+    → Shows old bytes new → new.display ≡ as_shown wanted.display
+
+-- A reader's bytes were followed, from a screen on.
+pub record Follows {R W T : Type 0} (source : SourceOf R) (sink : SinkOf W) (reader reader_after : R)
+    (first last : State) (output output_after : Output W) (answer : Result T Fault) : Type 0 where
+  -- what each read gave, and the screens behind it
+  pub pieces : List (List ℕ)
+  pub screens : List State
+  pub consumed : Consumes (source.remaining reader) (source.remaining reader_after) (joined pieces)
+  pub each : AllByRecursion IsPiece pieces
+  pub are_screens : AreScreens first [] pieces screens
+  pub is_last : last ≡ last_of first screens
+  -- the text that was written, of which a parser makes these calls and no others
+  pub written : Adds sink (canon (followed_calls first screens)) output output_after
+  pub made : AreCalls (canon (followed_calls first screens)) (followed_calls first screens)
+  -- behind each piece it leads to what the bytes so far lead to
+  pub leads : (count : ℕ)
+      → LeadsTo first (canon (followed_calls first (take count screens))) (last_of first (take count screens))
+  pub stops : StopsBy answer
+      (IsTrue source.zero_is_end → IsAtEnd (source.remaining reader_after)) (fault_in output_after)
+      (source.has_failed reader) (source.has_failed reader_after) (length (joined pieces))

@@ -1,0 +1,57 @@
+//! Updates, behind each piece of a stream.
+ghost use Rattle.std.specs.Prelude.{◌≡◌, None};
+ghost use Rattle.anstyle_parse.specs.Io.Output.{fault_in};
+ghost use Rattle.screen_draw.specs.Updates.{Follows};
+
+use crate::{draw, update};
+use ansi_screen::Screen;
+use anstyle_parse::io::{Fault, Output, Sink, Source};
+use anstyle_parse::{Parser, Utf8Parser};
+
+/// The bytes that one read is asked for.
+const PIECE: usize = 4096;
+
+/// Draws a screen, and after each read of at most 4096 bytes the update to the screen that all bytes so far lead
+/// to, until the reader ends or fails or a write fails. What was written is handed on before the next read. At
+/// most 2^64 - 1 reads are made. No memory is taken.
+///
+/// Both screens are the one that is drawn first; in the end `wanted` is the last one. `Err(Fault::Write)` means
+/// that a write failed, and nothing was read after it; `Err(Fault::Read)` that a read failed, or that 2^64 - 1
+/// reads all gave bytes.
+pub fn update_to_end<R: Source, W: Sink>(
+    reader: &mut R,
+    shown: &mut Screen,
+    wanted: &mut Screen,
+    output: &mut Output<W>,
+) -> Result<(), Fault>
+    requires same { shown.old ≡ wanted.old }
+    requires no_fault { fault_in output.old ≡ None }
+    ensures { Follows R.Source W.Sink reader.old reader.new wanted.old wanted.new output.old output.new result }
+{
+    // The sizes of both are within their limits.
+    let _ = wanted.columns();
+    draw(shown, output);
+    output.pass_on();
+    if output.fault().is_some() {
+        return Err(Fault::Write);
+    }
+    let mut behind = Parser::<Utf8Parser>::new();
+    let mut parser = Parser::<Utf8Parser>::new();
+    let mut piece = [0; PIECE];
+    for turn in 0..u64::MAX {
+        match reader.read(&mut piece) {
+            None => return Err(Fault::Read),
+            Some(0) => return Ok(()),
+            Some(count) => {
+                parser.advance_all(wanted, &piece[..count]);
+                update(shown, wanted, output);
+                output.pass_on();
+                if output.fault().is_some() {
+                    return Err(Fault::Write);
+                }
+                behind.advance_all(shown, &piece[..count]);
+            }
+        }
+    }
+    Err(Fault::Read)
+}

@@ -24,14 +24,13 @@ and libvterm 0.1.4 stays on the alternate one. U+200D is left out, which tmux an
 
 What is not seen. tmux 3.3a: spaces in its last two columns where nothing but spaces follows, and the place that is
 saved. In tmux and libvterm no wrap is pending without autowrap, where updates print too: streams for updates have
-autowrap there. xterm 379 prints its
-screen (MC, with printAttributes): of a colour of RGB the nearest of the 256, of hidden text spaces, and 4:3 it takes
-for a colour: its streams do without these, and recordings have others of the 256 for RGB. It has no line above, and
-spaces are as for tmux; all else it answers: the cursor and the pending wrap (DECCIR), sets, tabs (DECTABSR), margins
-and modes. libvterm 0.1.4 tells cells and the cursor, a pending wrap as the last character; it has no dim, hidden or
-overlined text, shows named colours as those of the 256, and more than 16 fields in a sequence, which all attributes
-and two colours have together, are a memory fault there: its streams do without these. A screen with marks in the last
-column is left out there, since it moves on for them.
+autowrap there. xterm 379 prints its screen (MC, with printAttributes): of a colour of RGB the nearest of the 256, of
+hidden text spaces, and 4:3 it takes for a colour: its streams do without these, and recordings have others of the 256
+for RGB. It has no line above, and spaces are as for tmux; all else it answers: the cursor and the pending wrap
+(DECCIR), sets, tabs (DECTABSR), margins and modes. libvterm 0.1.4 tells cells and the cursor, a pending wrap as the
+last character; it has no dim, hidden or overlined text, shows named colours as those of the 256, and more than 16
+fields in a sequence, which all attributes and two colours have together, are a memory fault there: its streams do
+without these. A screen with marks in the last column is left out there, since it moves on for them.
 
 Each difference is told with the least operations of its stream that show it, and how many cells were compared. The
 last line is 'N passed, M failed'.

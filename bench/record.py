@@ -37,7 +37,9 @@ PROGRAMS = {
     "mc": (["mc", "-u"], [ARROW_DOWN, b"\t", ARROW_DOWN, b"\x1b3", PAGE_DOWN, b"\x1b0", b"\x1b9"], 6),
     "nano": (["nano", "/etc/services"], [b"\x17tcp\r", b"\x16", b"\x16", b"\x19", b"hello"], 5),
     "tmux": (
-        ["tmux", "-L", "recorded", "new-session", "ls --color=always -la /usr/bin; top -b -n1; sleep 5"],
+        # (its server ends with its client)
+        ["tmux", "-L", "recorded", "new-session", "ls --color=always -la /usr/bin; top -b -n1; sleep 5"]
+        + [";", "set", "-s", "exit-unattached", "on"],
         [b"\x02%", b"ls --color /etc\r", b"\x02\""],
         5,
     ),

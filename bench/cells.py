@@ -18,10 +18,13 @@ import subprocess
 import sys
 import tempfile
 
+sys.dont_write_bytecode = True
+
+import measure
+
 HERE = os.path.dirname(os.path.abspath(__file__))
 PIECES = 6
 QUIET = 0.5  # the seconds of silence behind which a piece counts as shown; valgrind is slow
-COUNTED = "glibc.cpu.x86_rep_stosb_threshold=1000000:glibc.cpu.x86_rep_movsb_threshold=1000000"
 
 
 def full(columns, rows):
@@ -49,7 +52,7 @@ def instructions(program, size, pieces):
         tool = ["valgrind", "--tool=callgrind", "--callgrind-out-file=" + os.path.join(folder, "out")]
         words = [*tool, program, "--updates", "--size=" + size]
         pipes = {"stdin": subprocess.PIPE, "stdout": subprocess.PIPE, "stderr": subprocess.PIPE, "bufsize": 0}
-        run = subprocess.Popen(words, env=dict(os.environ, GLIBC_TUNABLES=COUNTED), **pipes)
+        run = subprocess.Popen(words, env=dict(os.environ, GLIBC_TUNABLES=measure.COUNTED), **pipes)
         shown = [read_until_quiet(run.stdout, 60)]
         for piece in pieces:
             run.stdin.write(piece)

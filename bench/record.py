@@ -53,15 +53,15 @@ PROGRAMS = {
 }
 
 
-def record(command, keys, seconds, columns=COLUMNS, rows=ROWS):
-    """What the command writes to its terminal."""
+def recorded(command, keys, seconds, columns=COLUMNS, rows=ROWS):
+    """What the command writes to its terminal: the pieces that came, each with the seconds since the start."""
     process, terminal = pty.fork()
     if process == 0:
         fcntl.ioctl(0, termios.TIOCSWINSZ, struct.pack("HHHH", rows, columns, 0, 0))
         os.execvpe(command[0], command, dict(os.environ, TERM="xterm-256color", LANG="C.UTF-8", COLORTERM="truecolor"))
-    written, started, next_key = b"", time.monotonic(), time.monotonic() + 3 * BETWEEN
+    pieces, count, started, next_key = [], 0, time.monotonic(), time.monotonic() + 3 * BETWEEN
     keys = list(keys)
-    while time.monotonic() - started < seconds and len(written) < MOST:
+    while time.monotonic() - started < seconds and count < MOST:
         if select.select([terminal], [], [], 0.05)[0]:
             try:
                 got = os.read(terminal, 1 << 16)
@@ -69,7 +69,8 @@ def record(command, keys, seconds, columns=COLUMNS, rows=ROWS):
                 break
             if not got:
                 break
-            written += got
+            pieces.append((time.monotonic() - started, got))
+            count += len(got)
         if keys and time.monotonic() > next_key:
             os.write(terminal, keys.pop(0))
             next_key = time.monotonic() + BETWEEN
@@ -80,7 +81,7 @@ def record(command, keys, seconds, columns=COLUMNS, rows=ROWS):
         pass
     os.close(terminal)
     os.waitpid(process, 0)
-    return written
+    return pieces
 
 
 def main():
@@ -96,7 +97,7 @@ def main():
         if shutil.which(command[0]) is None:
             print("%-6s is not installed, and is left out" % name)
             continue
-        written = record(command, keys, seconds)
+        written = b"".join(piece for _, piece in recorded(command, keys, seconds))
         with open(os.path.join(folder, name + ".bin"), "wb") as file:
             file.write(written)
         print("%-6s %7d bytes" % (name, len(written)), flush=True)

@@ -34,26 +34,7 @@ import record
 import redrawn
 
 NAMES = ["htop", "top", "vim", "mc"]
-PIECE = 4096
 QUIET = 0.7  # the seconds after which tmux has nothing more to send
-
-
-def recorded(name, columns, rows):
-    """A recording in the pieces that came, each with the seconds since the start."""
-    command, keys, seconds = record.PROGRAMS[name]
-    pieces, started, read = [], time.monotonic(), os.read
-
-    def noted(file, size):
-        got = read(file, size)
-        pieces.append((time.monotonic() - started, got))
-        return got
-
-    os.read = noted
-    try:
-        record.record(command, keys, seconds, columns, rows)
-    finally:
-        os.read = read
-    return [piece for piece in pieces if piece[1]]
 
 
 def updated(program, size, pieces):
@@ -112,16 +93,17 @@ def main():
     reader.add_argument("names", nargs="*")
     options = reader.parse_args()
     columns, rows = map(int, options.size.split("x"))
+    piece = redrawn.PIECE
     print("| Recording | bytes | 4096 | as written | tmux |\n|---|---|---|---|---|")
     for name in options.names or NAMES:
         if options.folder:
             with open(os.path.join(options.folder, name + ".bin"), "rb") as file:
                 pieces = [(0, file.read())]
         else:
-            pieces = recorded(name, columns, rows)
-        data = b"".join(piece for _, piece in pieces)
-        by_reads = updated(options.program, options.size, [data[at : at + PIECE] for at in range(0, len(data), PIECE)])
-        as_written = "" if options.folder else updated(options.program, options.size, [piece for _, piece in pieces])
+            pieces = record.recorded(*record.PROGRAMS[name], columns, rows)
+        data = b"".join(it for _, it in pieces)
+        by_reads = updated(options.program, options.size, [data[at : at + piece] for at in range(0, len(data), piece)])
+        as_written = "" if options.folder else updated(options.program, options.size, [it for _, it in pieces])
         figures = name, len(data), by_reads, as_written, sent_by_tmux(pieces, columns, rows)
         print("| %s | %s | %s | %s | %s |" % figures, flush=True)
 

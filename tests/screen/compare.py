@@ -40,7 +40,6 @@ Each difference is told, and the last line is 'N agree, M differ'.
 
 import argparse
 import os
-import pty
 import random
 import re
 import select
@@ -48,11 +47,11 @@ import subprocess
 import sys
 import tempfile
 import time
-import tty
 
 sys.dont_write_bytecode = True
 
 import streams
+import terminals
 import twin
 import vterm_differences
 
@@ -80,8 +79,7 @@ class Pane:
         self.out = open(pipe, "wb", buffering=0)
 
     def ask(self, *words):
-        command = ["tmux", "-u", "-f", "/dev/null", "-S", self.socket, *words]
-        return subprocess.run(command, capture_output=True, env=dict(os.environ, LC_ALL="C.UTF-8")).stdout
+        return terminals.asked_of_tmux(self.socket, *words)
 
     def shown(self, data):
         """The text of the pane after a reset and the stream."""
@@ -115,17 +113,7 @@ class Xterm:
 
     def __init__(self, folder, width, height):
         self.width, self.height = width, height
-        told, tell = os.pipe()
-        words = ["Xvfb", "-displayfd", str(tell), "-screen", "0", "1600x1200x8", "-nolisten", "tcp"]
-        self.server = subprocess.Popen(words, pass_fds=[tell], stderr=subprocess.DEVNULL)
-        display = ":" + os.read(told, 9).decode().strip()
-        ours, self.terminal = pty.openpty()
-        tty.setraw(self.terminal)
-        words = ["xterm", "-u8", "-ti", "vt420", "-geometry", "%dx%d" % (width, height)]
-        words += [it for liberty in self.LIBERTIES for it in ("-xrm", "XTerm*" + liberty)]
-        words.append("-S%s/%d" % (os.path.basename(os.ttyname(self.terminal)), ours))
-        env = dict(os.environ, DISPLAY=display, LC_ALL="C.UTF-8")
-        self.program = subprocess.Popen(words, pass_fds=[ours], env=env, stderr=subprocess.DEVNULL)
+        self.server, self.program, self.terminal = terminals.xterm_under_xvfb(width, height, 8, self.LIBERTIES)
         self.read_until(b"\n")
 
     def read_until(self, last):

@@ -58,6 +58,27 @@ def write_all(file, data):
         data = data[os.write(file, data[:4096]) :]
 
 
+def asked_of_tmux(socket, *words):
+    """What a tmux of our own answers."""
+    command = ["tmux", "-u", "-f", "/dev/null", "-S", socket, *words]
+    return subprocess.run(command, capture_output=True, env=dict(os.environ, LC_ALL="C.UTF-8")).stdout
+
+
+def xterm_under_xvfb(width, height, depth, liberties):
+    """An xterm on a server of its own with so many bits a pixel: the server, the xterm, and the terminal that it shows."""
+    told, tell = os.pipe()
+    words = ["Xvfb", "-displayfd", str(tell), "-screen", "0", "1600x1200x%d" % depth, "-nolisten", "tcp"]
+    server = subprocess.Popen(words, pass_fds=[tell], stderr=subprocess.DEVNULL)
+    display = ":" + os.read(told, 9).decode().strip()
+    ours, terminal = pty.openpty()
+    tty.setraw(terminal)
+    words = ["xterm", "-u8", "-ti", "vt420", "-geometry", "%dx%d" % (width, height)]
+    words += [it for liberty in liberties for it in ("-xrm", "XTerm*" + liberty)]
+    words.append("-S%s/%d" % (os.path.basename(os.ttyname(terminal)), ours))
+    env = dict(os.environ, DISPLAY=display, LC_ALL="C.UTF-8")
+    return server, subprocess.Popen(words, pass_fds=[ours], env=env, stderr=subprocess.DEVNULL), terminal
+
+
 class Terminal:
     """What stands where a row ends is told only before a character, so that the cells are looked at twice: of the last
     two columns what was told before there were strokes, of the others what is told behind it."""
@@ -115,8 +136,7 @@ class Tmux(Terminal):
         self.stream = os.open(pipes[0], os.O_WRONLY)
 
     def ask(self, *words):
-        command = ["tmux", "-u", "-f", "/dev/null", "-S", self.socket, *words]
-        return subprocess.run(command, capture_output=True, env=dict(os.environ, LC_ALL="C.UTF-8")).stdout
+        return asked_of_tmux(self.socket, *words)
 
     def write(self, data):
         write_all(self.stream, data + RED_ON[0])
@@ -167,18 +187,8 @@ class Xterm(Terminal):
             script.write("#!/bin/sh\n{ cat; printf '\\001'; } >%s\n" % pipe)
         os.chmod(printer, 0o755)
         self.printed = os.open(pipe, os.O_RDWR)
-        told, tell = os.pipe()
-        words = ["Xvfb", "-displayfd", str(tell), "-screen", "0", "1600x1200x24", "-nolisten", "tcp"]
-        self.server = subprocess.Popen(words, pass_fds=[tell], stderr=subprocess.DEVNULL)
-        display = ":" + os.read(told, 9).decode().strip()
-        ours, self.terminal = pty.openpty()
-        tty.setraw(self.terminal)
-        words = ["xterm", "-u8", "-ti", "vt420", "-geometry", "%dx%d" % (self.width, self.height)]
         liberties = [*self.LIBERTIES, "printerCommand: " + printer]
-        words += [it for liberty in liberties for it in ("-xrm", "XTerm*" + liberty)]
-        words.append("-S%s/%d" % (os.path.basename(os.ttyname(self.terminal)), ours))
-        env = dict(os.environ, DISPLAY=display, LC_ALL="C.UTF-8")
-        self.program = subprocess.Popen(words, pass_fds=[ours], env=env, stderr=subprocess.DEVNULL)
+        self.server, self.program, self.terminal = xterm_under_xvfb(self.width, self.height, 24, liberties)
         read_until(self.terminal, b"\n", "xterm")
 
     def write(self, data):

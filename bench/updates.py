@@ -7,7 +7,8 @@ NAMES are programs of bench/record.py, and htop, top, vim and mc where none is g
 times at which it wrote, or with --folder, its recording FOLDER/NAME.bin is taken, which has none. Counted are:
 
     recording   the bytes that the program wrote
-    4096        what --updates writes of it by reads of 4096 bytes, each handed on when the one before was answered
+    65536       what --updates writes of it by reads of 65536 bytes, as of a file or where the terminal is slow
+    4096        the same in pieces of 4096 bytes, each handed on when the one before was answered
     as written  the same in the pieces that the program wrote
     tmux        what a tmux of our own sends to a client on a terminal of that size, to which the recording is
                 written in the same pieces at the same times; its first screen, and what it sends as it ends, are not
@@ -34,6 +35,7 @@ import record
 import redrawn
 
 NAMES = ["htop", "top", "vim", "mc"]
+SIZES = 65536, 4096  # the bytes of a piece: what one read takes, and less
 QUIET = 0.7  # the seconds after which tmux has nothing more to send
 
 
@@ -93,8 +95,7 @@ def main():
     reader.add_argument("names", nargs="*")
     options = reader.parse_args()
     columns, rows = map(int, options.size.split("x"))
-    piece = redrawn.PIECE
-    print("| Recording | bytes | 4096 | as written | tmux |\n|---|---|---|---|---|")
+    print("| Recording | bytes | %d | %d | as written | tmux |\n|---|---|---|---|---|---|" % SIZES)
     for name in options.names or NAMES:
         if options.folder:
             with open(os.path.join(options.folder, name + ".bin"), "rb") as file:
@@ -102,10 +103,11 @@ def main():
         else:
             pieces = record.recorded(*record.PROGRAMS[name], columns, rows)
         data = b"".join(it for _, it in pieces)
-        by_reads = updated(options.program, options.size, [data[at : at + piece] for at in range(0, len(data), piece)])
+        cuts = [[data[at : at + size] for at in range(0, len(data), size)] for size in SIZES]
+        by_reads = [updated(options.program, options.size, cut) for cut in cuts]
         as_written = "" if options.folder else updated(options.program, options.size, [it for _, it in pieces])
-        figures = name, len(data), by_reads, as_written, sent_by_tmux(pieces, columns, rows)
-        print("| %s | %s | %s | %s | %s |" % figures, flush=True)
+        figures = name, len(data), *by_reads, as_written, sent_by_tmux(pieces, columns, rows)
+        print("| %s | %s | %s | %s | %s | %s |" % figures, flush=True)
 
 
 if __name__ == "__main__":

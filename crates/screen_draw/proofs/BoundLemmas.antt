@@ -1,6 +1,6 @@
 -- How long a drawing and an update are: the bytes of a call by what it has, and the calls of each part.
-use Rattle.std.proofs.Common.{◌≡◌, ℕ, zero, suc, ◌+◌, ◌*◌, ◌^◌, ◌<◌, ◌≤◌, Bool, true, false, List, [], ◌∷◌, ◌++◌, length, drop, map, refl, sym, ap, subst, ◌∙◌, arith, lit<, lt_of_le_of_lt, length-append, length-take}
-use Rattle.std.specs.Prelude.{◌-◌, ◌%◌, ◌/◌, min, ◌&&◌, not, ◌==◌, if◌then◌else◌, Option, None, Some, encode_utf8}
+use Rattle.std.proofs.Common.{◌≡◌, ℕ, zero, suc, ◌+◌, ◌*◌, ◌<◌, ◌≤◌, Bool, true, false, List, [], ◌∷◌, ◌++◌, length, drop, map, sym, ap, subst, arith, lit<, lt_of_le_of_lt, length-append, length-take}
+use Rattle.std.specs.Prelude.{◌-◌, ◌%◌, ◌/◌, min, ◌&&◌, not, ◌==◌, if◌then◌else◌, Option, None, Some}
 use Rattle.std.specs.Bool.{beq}
 use Rattle.std.specs.Fmt.{decimal}
 use Rattle.std.specs.List.{AllByRecursion, concat}
@@ -14,7 +14,6 @@ use Rattle.anstyle_parse.specs.Stream.Groups.{fields_text, groups_text}
 use Rattle.anstyle_parse.specs.Laws.Lawful.{IsGroup, IsHeaderCall}
 use Rattle.anstyle_parse.proofs.Canonical.Shown.{leading_marker-after_marker}
 use Rattle.anstyle_parse.proofs.Lists.Parts.{spaced, length-join_with_byte}
-use Rattle.ansi_style.specs.Codes.{codes_of}
 use Rattle.ansi_style.specs.Style.{are_equal}
 use Rattle.ansi_style.specs.declared.style.Style.{Style}
 use Rattle.ansi_screen.specs.declared.cell.Cell.{Cell}

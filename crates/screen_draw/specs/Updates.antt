@@ -44,9 +44,9 @@ AreScreens first before pieces screens = ⊥
 abbrev pub joined : List (List ℕ) → List ℕ
 joined pieces = flat_map (λ piece. piece) pieces
 
--- what one read gives
+-- what one read gives: at most as much as a pipe of Linux holds
 abbrev pub most_piece : ℕ
-most_piece = 4096
+most_piece = 65536
 
 abbrev pub IsPiece : List ℕ → Type 0
 IsPiece piece = (0 < length piece) × (length piece ≤ most_piece)

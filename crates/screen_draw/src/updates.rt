@@ -8,10 +8,10 @@ use ansi_screen::Screen;
 use anstyle_parse::io::{Fault, Output, Sink, Source};
 use anstyle_parse::{Parser, Utf8Parser};
 
-/// The bytes that one read is asked for.
-const PIECE: usize = 4096;
+/// The bytes that one read is asked for: as many as a pipe of Linux holds.
+const PIECE: usize = 65_536;
 
-/// Draws a screen, and after each read of at most 4096 bytes the update to the screen that all bytes so far lead
+/// Draws a screen, and after each read of at most 65,536 bytes the update to the screen that all bytes so far lead
 /// to, until the reader ends or fails or a write fails. What was written is handed on before the next read. At
 /// most 2^64 - 1 reads are made. No memory is taken.
 ///

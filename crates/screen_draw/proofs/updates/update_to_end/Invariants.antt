@@ -9,7 +9,7 @@ use Rattle.anstyle_parse.specs.Stream.Call.{Call}
 use Rattle.anstyle_parse.specs.Stream.Calls.{HasReceived}
 use Rattle.ansi_screen.specs.After.{State, after}
 use Rattle.screen_draw.specs.Drawing.{Draws}
-use Rattle.screen_draw.specs.Updates.{IsPiece, AreScreens, joined, last_of, updates_calls}
+use Rattle.screen_draw.specs.Updates.{most_piece, IsPiece, AreScreens, joined, last_of, updates_calls}
 use Rattle.screen_draw.proofs.updates.update_to_end.Given as goal
 
 abbrev pub invariant-loop-turn : goal.invariant-loop-turn
@@ -28,5 +28,5 @@ invariant-loop-turn g l = record {
   no_fault : fault_in l.output ≡ None;
   not_failed : g.R.Source.has_failed l.reader ≡ g.R.Source.has_failed l.initial.reader;
   counted : l.turn ≤ length (joined pieces);
-  room : length l.piece ≡ 4096;
+  room : length l.piece ≡ most_piece;
 }

@@ -27,9 +27,9 @@ use Rattle.screen_draw.specs.declared.cells.Pen.{Pen}
 use Rattle.screen_draw.specs.declared.changes.Brush.{Brush}
 use Rattle.screen_draw.specs.Alike.{looks_same, is_steady}
 use Rattle.screen_draw.specs.Bound.{cell_bytes, column_bytes, draw_bound, update_bound}
-use Rattle.screen_draw.specs.Draw.{escape, sequence, private_mode, position, select, is_erased, is_fresh, space_if, last_cell, last_column, place_cell_calls, marks_calls, character_calls, style_calls, charsets_calls, there_calls, shown_calls, cell_calls, cells_calls, pen_behind, first_pen, wrap_calls, place_calls, plain_calls, saved_calls, screen_calls, covered_calls, stop_calls, stops_calls, cursor_calls, modes_calls, rest_calls, shown_screen_calls, drawn_calls}
+use Rattle.screen_draw.specs.Draw.{escape, sequence, private_mode, position, select, is_erased, is_fresh, space_if, last_cell, last_column, place_cell_calls, marks_calls, character_calls, style_calls, charsets_calls, there_calls, shown_calls, cell_calls, cells_calls, pen_behind, first_pen, wrap_calls, place_calls, plain_calls, saved_calls, screen_calls, covered_calls, stop_calls, stops_calls, cursor_calls, modes_calls, margins_calls, rest_calls, shown_screen_calls, drawn_calls}
 use Rattle.screen_draw.specs.Drawing.{IsDrawing}
-use Rattle.screen_draw.specs.Update.{erased_run, is_done, wants_wrap, move_calls, painted_calls, change_calls, brush_behind, row_calls, begun_at, place_behind, rows_calls, cursor_changes, mode_changes, changes_calls, reset_stop_calls, reset_stops_calls, leave_calls, reset_modes, cleared_calls, update_calls}
+use Rattle.screen_draw.specs.Update.{erased_run, is_done, wants_wrap, move_calls, painted_calls, change_calls, brush_behind, row_calls, begun_at, place_behind, rows_calls, cursor_changes, mode_changes, changes_from, margin_changes, place_at_first, changes_calls, reset_stop_calls, reset_stops_calls, leave_calls, reset_modes, cleared_calls, update_calls}
 
 -- the bytes of a call: two, what is collected, and each field with the byte behind it
 abbrev weight : Call → ℕ
@@ -184,13 +184,13 @@ of-row row column brush (old ∷ olds) (new ∷ news) =
 length-row : (row : ℕ) (d : Display) → length (row_cells row d) ≤ d.width
 length-row row d = omega (arith, length-take d.width (drop (row * d.width) d.cells))
 
-of-rows : (n : ℕ) (shown wanted : Display) → weigh (rows_calls n shown wanted) ≤ cell_bytes * (n * wanted.width)
-of-rows zero shown wanted = omega arith
-of-rows (suc n) shown wanted =
-    let brush = begun_at (place_behind n shown wanted) in
+of-rows : (n : ℕ) (start : Place) (shown wanted : Display) → weigh (rows_calls n start shown wanted) ≤ cell_bytes * (n * wanted.width)
+of-rows zero start shown wanted = omega arith
+of-rows (suc n) start shown wanted =
+    let brush = begun_at (place_behind n start shown wanted) in
     let row = row_calls n 0 brush (row_cells n shown) (row_cells n wanted) in
     let more : suc n * wanted.width ≡ wanted.width + n * wanted.width = omega arith in
-    omega (arith, both (rows_calls n shown wanted) row, of-rows n shown wanted, of-row n 0 brush (row_cells n shown) (row_cells n wanted), length-row n wanted, more)
+    omega (arith, both (rows_calls n start shown wanted) row, of-rows n start shown wanted, of-row n 0 brush (row_cells n shown) (row_cells n wanted), length-row n wanted, more)
 
 of-cursor_changes : (place : Place) (wanted : Display) → weigh (cursor_changes place wanted) ≤ 414
 of-cursor_changes place wanted =
@@ -207,22 +207,30 @@ of-cursor_changes place wanted =
 of-mode : (mode : ℕ) (old new : Bool) → weigh (mode_changes mode old new) ≤ 9
 of-mode mode old new = either 9 (beq old new) [] (private_mode mode new ∷ []) (omega arith) (omega arith)
 
-of-changes : (shown wanted : Display) → weigh (changes_calls shown wanted) ≤ cell_bytes * (wanted.height * wanted.width) + 432
-of-changes shown wanted =
-    let place = place_behind wanted.height shown wanted in
+of-changes_from : (start : Place) (shown wanted : Display) → weigh (changes_from start shown wanted) ≤ cell_bytes * (wanted.height * wanted.width) + 432
+of-changes_from start shown wanted =
+    let place = place_behind wanted.height start shown wanted in
     let cursor = cursor_changes place wanted in
     let wraps = mode_changes 7 shown.wraps wanted.wraps in
     let visible = mode_changes 25 shown.is_visible wanted.is_visible in
     omega (
       arith,
-      both (rows_calls wanted.height shown wanted) (cursor ++ (wraps ++ visible)),
+      both (rows_calls wanted.height start shown wanted) (cursor ++ (wraps ++ visible)),
       both cursor (wraps ++ visible),
       both wraps visible,
-      of-rows wanted.height shown wanted,
+      of-rows wanted.height start shown wanted,
       of-cursor_changes place wanted,
       of-mode 7 shown.wraps wanted.wraps,
       of-mode 25 shown.is_visible wanted.is_visible,
     )
+
+of-margins : (shown wanted : Display) → weigh (margin_changes shown wanted) ≤ 14
+of-margins shown wanted = either 14 _ [] (margins_calls wanted) (omega arith) (omega arith)
+
+of-changes : (shown wanted : Display) → weigh (changes_calls shown wanted) ≤ cell_bytes * (wanted.height * wanted.width) + 446
+of-changes shown wanted =
+    let start = place_at_first shown wanted in
+    omega (arith, both (margin_changes shown wanted) (changes_from start shown wanted), of-margins shown wanted, of-changes_from start shown wanted)
 
 -- all as on a new screen
 of-reset_stop : (column : ℕ) (stops : Bool) → weigh (reset_stop_calls column stops) ≤ column_bytes

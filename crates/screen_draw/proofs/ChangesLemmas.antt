@@ -1,4 +1,4 @@
--- What differs in cells, cursor and modes leads to the other screen.
+-- What differs in cells, cursor and modes leads to the other screen, where the margins are its own.
 use Rattle.std.proofs.Common.{◌≡◌, ℕ, zero, suc, ◌+◌, ◌-◌, ◌*◌, ◌<◌, ◌≤◌, Bool, true, false, List, [], ◌∷◌, ◌++◌, length, take, drop, set, refl, ap, sym, ◌∙◌, arith, append-nil, append_assoc}
 use Rattle.std.specs.Prelude.{◌&&◌, not, ◌==◌, nat_eq, map, if◌then◌else◌, None, Some}
 use Rattle.std.specs.Bool.{beq}
@@ -23,13 +23,13 @@ use Rattle.ansi_screen.proofs.ContentLemmas.{cells-take, cells-drop}
 use Rattle.ansi_screen.proofs.LawLemmas.{after_all-append}
 use Rattle.screen_draw.specs.Draw.{private_mode, position, select, style_calls, wrap_calls, last_cell, last_column}
 use Rattle.screen_draw.specs.Redrawn.{as_printed, as_drawn, drawn_cells, as_shown}
-use Rattle.screen_draw.specs.Alike.{lacks_print, is_steady}
-use Rattle.screen_draw.specs.Update.{move_calls, row_calls, begun_at, place_behind, rows_calls, wants_wrap, cursor_changes, mode_changes, changes_calls}
+use Rattle.screen_draw.specs.Alike.{lacks_print}
+use Rattle.screen_draw.specs.Update.{move_calls, row_calls, begun_at, place_behind, rows_calls, wants_wrap, cursor_changes, mode_changes, changes_from}
 use Rattle.screen_draw.proofs.AlikeLemmas.{flag-same}
 use Rattle.screen_draw.proofs.BrokenLemmas.{broken, broken-free}
 use Rattle.screen_draw.proofs.CanvasLemmas.{on, after-position, after-style}
 use Rattle.screen_draw.proofs.CursorLemmas.{first-drawn, drawn-append, drawn-length, full_by, last_at, column-inside}
-use Rattle.screen_draw.proofs.FrameLemmas.{Frame, Steady, steady-is, same-hidden, printed-last}
+use Rattle.screen_draw.proofs.FrameLemmas.{Frame, Steady, same-hidden, printed-last}
 use Rattle.screen_draw.proofs.RowLemmas.{Keeps, keeps-row, paint-row, after-move, after-style_change}
 use Rattle.screen_draw.proofs.SelectedLemmas.{after-private}
 
@@ -85,12 +85,9 @@ abbrev pub sized : Display → Display → Display
 sized a b = record a { width = b.width; height = b.height }
 
 module _ (other b : Display) (from : IsScreen (sized other b)) (has : HasContents (sized other b)) (to : IsScreen b) (gets : HasContents b)
-    (steady : is_steady (sized other b) b ≡ true) where
+    (is : Steady (sized other b) b) (top : other.top ≡ b.top) (bottom : other.bottom ≡ b.bottom) where
   abbrev a : Display
   a = sized other b
-
-  is : Steady a b
-  is = steady-is a b steady
 
   abbrev base : Display
   base = full_by a.wraps a.is_visible b
@@ -98,14 +95,14 @@ module _ (other b : Display) (from : IsScreen (sized other b)) (has : HasContent
   -- so many rows are drawn
   abbrev Drawn : ℕ → State → Type 0
   Drawn n s =
-      (s.display ≡ on base (map as_drawn (take (n * b.width) b.cells) ++ map as_drawn (drop (n * b.width) a.cells)) (place_behind n a b))
-      × Keeps a.cursor (place_behind n a b)
+      (s.display ≡ on base (map as_drawn (take (n * b.width) b.cells) ++ map as_drawn (drop (n * b.width) a.cells)) (place_behind n a.cursor a b))
+      × Keeps a.cursor (place_behind n a.cursor a b)
 
   row-drawn : (n : ℕ) (s : State) → n < b.height → Drawn n s
-      → Drawn (suc n) (after_all (row_calls n 0 (begun_at (place_behind n a b)) (row_cells n a) (row_cells n b)) s)
+      → Drawn (suc n) (after_all (row_calls n 0 (begun_at (place_behind n a.cursor a b)) (row_cells n a) (row_cells n b)) s)
   row-drawn n s below (at, keeps) =
       let k : ℕ = n * b.width in
-      let p : Place = place_behind n a b in
+      let p : Place = place_behind n a.cursor a b in
       let olds : List Cell = row_cells n a in
       let news : List Cell = row_cells n b in
       let front : List Cell = map as_drawn (take k b.cells) in
@@ -130,7 +127,7 @@ module _ (other b : Display) (from : IsScreen (sized other b)) (has : HasContent
       (record { long = olds_long ∙ sym news_long; wide = omega arith; there = omega arith })
       (ready ∙ ap (λ l. on base (front ++ (l ++ back)) p) unbroken) in
       let more : take (suc n * b.width) b.cells ≡ take k b.cells ++ news = ap (λ m. take m b.cells) next ∙ take-add k b.width b.cells in
-      let q : Place = place_behind (suc n) a b in
+      let q : Place = place_behind (suc n) a.cursor a b in
       let cells : front ++ (map as_drawn news ++ back) ≡ map as_drawn (take (suc n * b.width) b.cells) ++ map as_drawn (drop (suc n * b.width) a.cells) =
       sym (append_assoc front (map as_drawn news) back)
       ∙ (ap (λ l. l ++ back) (sym (drawn-append (take k b.cells) news) ∙ ap (map as_drawn) (sym more))
@@ -138,25 +135,25 @@ module _ (other b : Display) (from : IsScreen (sized other b)) (has : HasContent
       let kept = keeps-row n 0 (begun_at p) olds news in
       (painted ∙ ap (λ l. on base l q) cells, record { sets = kept.sets ∙ keeps.sets; origin = kept.origin ∙ keeps.origin })
 
-  rows-drawn : (n : ℕ) (s : State) → n ≤ b.height → s.display ≡ on base (map as_drawn a.cells) a.cursor → Drawn n (after_all (rows_calls n a b) s)
+  rows-drawn : (n : ℕ) (s : State) → n ≤ b.height → s.display ≡ on base (map as_drawn a.cells) a.cursor → Drawn n (after_all (rows_calls n a.cursor a b) s)
   rows-drawn zero s within at =
       let none : 0 * b.width ≡ 0 = omega arith in
       (at ∙ ap (λ k. on base (map as_drawn (take k b.cells) ++ map as_drawn (drop k a.cells)) a.cursor) (sym none), record { sets = refl; origin = refl })
   rows-drawn (suc n) s within at =
-      let row : List Call = row_calls n 0 (begun_at (place_behind n a b)) (row_cells n a) (row_cells n b) in
-      let before : State = after_all (rows_calls n a b) s in
+      let row : List Call = row_calls n 0 (begun_at (place_behind n a.cursor a b)) (row_cells n a) (row_cells n b) in
+      let before : State = after_all (rows_calls n a.cursor a b) s in
       let (drawn, keeps) = row-drawn n before (omega arith) (rows-drawn n s (omega arith) at) in
-      (ap (λ (e : State). e.display) (after_all-append (rows_calls n a b) row s) ∙ drawn, keeps)
+      (ap (λ (e : State). e.display) (after_all-append (rows_calls n a.cursor a b) row s) ∙ drawn, keeps)
 
   all-drawn-rows : (s : State) → s.display ≡ on base (map as_drawn a.cells) a.cursor
-      → ((after_all (rows_calls b.height a b) s).display ≡ on base (map as_drawn b.cells) (place_behind b.height a b)) × Keeps a.cursor (place_behind b.height a b)
+      → ((after_all (rows_calls b.height a.cursor a b) s).display ≡ on base (map as_drawn b.cells) (place_behind b.height a.cursor a b)) × Keeps a.cursor (place_behind b.height a.cursor a b)
   all-drawn-rows s at =
       let (drawn, keeps) = rows-drawn b.height s (omega arith) at in
       let fill : length a.cells ≡ b.height * b.width = from.sized.cells_fill in
       let to_fill : length b.cells ≡ b.height * b.width = to.sized.cells_fill in
       let all : take (b.height * b.width) b.cells ≡ b.cells = take_all (b.height * b.width) b.cells (omega arith) in
       let none : drop (b.height * b.width) a.cells ≡ [] = drop_all (b.height * b.width) a.cells (omega arith) in
-      let q : Place = place_behind b.height a b in (
+      let q : Place = place_behind b.height a.cursor a b in (
         drawn ∙ (ap (λ l. on base (map as_drawn l ++ map as_drawn (drop (b.height * b.width) a.cells)) q) all
             ∙ (ap (λ l. on base (map as_drawn b.cells ++ map as_drawn l) q) none ∙ ap (λ l. on base l q) (append-nil (map as_drawn b.cells)))),
         keeps,
@@ -270,18 +267,18 @@ module _ (other b : Display) (from : IsScreen (sized other b)) (has : HasContent
       ∙ (ap (λ t. record (as_shown a) { cells = all; hidden = map as_drawn b.hidden; is_alternate = t }) frame.alternate
       ∙ (ap (λ p. record (as_shown a) { cells = all; hidden = map as_drawn b.hidden; is_alternate = b.is_alternate; saved = p }) frame.saved
       ∙ (ap (λ p. record (as_shown a) { cells = all; hidden = map as_drawn b.hidden; is_alternate = b.is_alternate; saved = b.saved; hidden_saved = p }) frame.hidden_saved
-      ∙ (ap (λ n. record (as_shown a) { cells = all; hidden = map as_drawn b.hidden; is_alternate = b.is_alternate; saved = b.saved; hidden_saved = b.hidden_saved; top = n }) frame.top
-      ∙ (ap (λ n. record (as_shown a) { cells = all; hidden = map as_drawn b.hidden; is_alternate = b.is_alternate; saved = b.saved; hidden_saved = b.hidden_saved; top = b.top; bottom = n }) frame.bottom
+      ∙ (ap (λ n. record (as_shown a) { cells = all; hidden = map as_drawn b.hidden; is_alternate = b.is_alternate; saved = b.saved; hidden_saved = b.hidden_saved; top = n }) top
+      ∙ (ap (λ n. record (as_shown a) { cells = all; hidden = map as_drawn b.hidden; is_alternate = b.is_alternate; saved = b.saved; hidden_saved = b.hidden_saved; top = b.top; bottom = n }) bottom
       ∙ (ap (λ l. record (as_shown a) { cells = all; hidden = map as_drawn b.hidden; is_alternate = b.is_alternate; saved = b.saved; hidden_saved = b.hidden_saved; top = b.top; bottom = b.bottom; tabs = l }) frame.tabs
       ∙ ap (λ t. on (record base { inserts = t }) all a.cursor) is.replaces)))))))
 
   ended : made b.wraps b.is_visible ≡ as_shown b
   ended = ap (λ t. record (made b.wraps b.is_visible) { inserts = t }) (sym is.to_replaces)
 
-  pub changes-drawn : (s : State) → s.display ≡ as_shown a → (after_all (changes_calls a b) s).display ≡ as_shown b
-  changes-drawn s at =
-      let rows : List Call = rows_calls b.height a b in
-      let p : Place = place_behind b.height a b in
+  pub from-drawn : (s : State) → s.display ≡ as_shown a → (after_all (changes_from a.cursor a b) s).display ≡ as_shown b
+  from-drawn s at =
+      let rows : List Call = rows_calls b.height a.cursor a b in
+      let p : Place = place_behind b.height a.cursor a b in
       let modes : List Call = mode_changes 7 a.wraps b.wraps ++ mode_changes 25 a.is_visible b.is_visible in
       let first : State = after_all rows s in
       let second : State = after_all (cursor_changes p b) first in

@@ -11,7 +11,7 @@ use Rattle.ansi_screen.specs.Print.{draws}
 use Rattle.ansi_screen.specs.Reachable.{HasContents}
 use Rattle.screen_draw.specs.Draw.{is_erased}
 use Rattle.screen_draw.specs.Redrawn.{as_printed, as_drawn, drawn_cells}
-use Rattle.screen_draw.specs.Alike.{are_alike, all_two, has_same_frame, is_plain, lacks_print, is_steady}
+use Rattle.screen_draw.specs.Alike.{are_alike, all_two, has_same_frame, has_same_margins, is_plain, lacks_print, is_steady}
 use Rattle.screen_draw.proofs.AlikeLemmas.{flag-same, all-drawn, all-stops, sets-same, places-same}
 use Rattle.screen_draw.proofs.CellsLemmas.{not-true}
 use Rattle.screen_draw.proofs.PaintLemmas.{drawn-printed}
@@ -22,8 +22,6 @@ pub record Frame (a b : Display) : Type 0 where
   pub covered : a.is_alternate ≡ true → map as_drawn a.hidden ≡ map as_drawn b.hidden
   pub saved : a.saved ≡ b.saved
   pub hidden_saved : a.hidden_saved ≡ b.hidden_saved
-  pub top : a.top ≡ b.top
-  pub bottom : a.bottom ≡ b.bottom
   pub tabs : a.tabs ≡ b.tabs
 
 if-so : (t u : Bool) → (not t || u) ≡ true → t ≡ true → u ≡ true
@@ -37,17 +35,18 @@ same-frame a b h =
     let h1 = and_parts _ _ h0.1 in
     let h2 = and_parts _ _ h1.1 in
     let h3 = and_parts _ _ h2.1 in
-    let h4 = and_parts _ _ h3.1 in
-    let h5 = and_parts _ _ h4.1 in
     record {
       alternate = flag-same a.is_alternate b.is_alternate h0.0;
       covered = λ is. all-drawn a.hidden b.hidden (if-so a.is_alternate (all_two are_alike a.hidden b.hidden) h1.0 is);
       saved = places-same a.saved b.saved h2.0;
       hidden_saved = places-same a.hidden_saved b.hidden_saved h3.0;
-      top = eqb-true a.top b.top h4.0;
-      bottom = eqb-true a.bottom b.bottom h5.0;
-      tabs = all-stops a.tabs b.tabs h5.1;
+      tabs = all-stops a.tabs b.tabs h3.1;
     }
+
+pub same-margins : (a b : Display) → has_same_margins a b ≡ true → (a.top ≡ b.top) × (a.bottom ≡ b.bottom)
+same-margins a b h =
+    let h0 = and_parts (a.top == b.top) (a.bottom == b.bottom) h in
+    (eqb-true a.top b.top h0.0, eqb-true a.bottom b.bottom h0.1)
 
 hidden_at : (a b : Display) (t : Bool) → a.is_alternate ≡ t → Frame a b → length a.hidden ≡ length b.hidden → HasContents a → HasContents b → map as_drawn a.hidden ≡ map as_drawn b.hidden
 hidden_at a b true is frame long has gets = frame.covered is

@@ -20,4 +20,5 @@ pub mod UpdatedLemmas
 pub mod ClearedLemmas
 pub mod FrameLemmas
 pub mod ChangesLemmas
+pub mod MarginLemmas
 pub mod UpdatesLemmas

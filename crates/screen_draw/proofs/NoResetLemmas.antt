@@ -14,9 +14,9 @@ use Rattle.ansi_screen.specs.Display.{Display, row_cells}
 use Rattle.screen_draw.specs.declared.cells.Pen.{Pen}
 use Rattle.screen_draw.specs.declared.changes.Brush.{Brush}
 use Rattle.screen_draw.specs.Alike.{looks_same, is_steady}
-use Rattle.screen_draw.specs.Draw.{escape, sequence, private_mode, position, select, is_erased, is_fresh, space_if, last_cell, last_column, place_cell_calls, marks_calls, character_calls, style_calls, charsets_calls, there_calls, shown_calls, cell_calls, cells_calls, pen_behind, first_pen, wrap_calls, place_calls, plain_calls, saved_calls, screen_calls, covered_calls, stop_calls, stops_calls, cursor_calls, modes_calls, rest_calls, shown_screen_calls}
+use Rattle.screen_draw.specs.Draw.{escape, sequence, private_mode, position, select, is_erased, is_fresh, space_if, last_cell, last_column, place_cell_calls, marks_calls, character_calls, style_calls, charsets_calls, there_calls, shown_calls, cell_calls, cells_calls, pen_behind, first_pen, wrap_calls, place_calls, plain_calls, saved_calls, screen_calls, covered_calls, stop_calls, stops_calls, cursor_calls, modes_calls, margins_calls, rest_calls, shown_screen_calls}
 use Rattle.screen_draw.specs.Drawing.{HaveNoReset}
-use Rattle.screen_draw.specs.Update.{erased_run, is_done, wants_wrap, move_calls, painted_calls, change_calls, brush_behind, row_calls, begun_at, place_behind, rows_calls, cursor_changes, mode_changes, changes_calls, reset_stop_calls, reset_stops_calls, leave_calls, reset_modes, cleared_calls, update_calls}
+use Rattle.screen_draw.specs.Update.{erased_run, is_done, wants_wrap, move_calls, painted_calls, change_calls, brush_behind, row_calls, begun_at, place_behind, rows_calls, cursor_changes, mode_changes, changes_from, margin_changes, place_at_first, changes_calls, reset_stop_calls, reset_stops_calls, leave_calls, reset_modes, cleared_calls, update_calls}
 
 both : (xs ys : List Call) → HaveNoReset xs → HaveNoReset ys → HaveNoReset (xs ++ ys)
 both [] ys first second = second
@@ -79,12 +79,12 @@ of-row row column brush (old ∷ olds) (new ∷ news) =
     (of-change row column brush old new news)
     (of-row row (suc column) behind olds news)
 
-of-rows : (n : ℕ) (shown wanted : Display) → HaveNoReset (rows_calls n shown wanted)
-of-rows zero shown wanted = tt
-of-rows (suc n) shown wanted =
-    let brush = begun_at (place_behind n shown wanted) in
-    both (rows_calls n shown wanted) (row_calls n 0 brush (row_cells n shown) (row_cells n wanted))
-    (of-rows n shown wanted)
+of-rows : (n : ℕ) (start : Place) (shown wanted : Display) → HaveNoReset (rows_calls n start shown wanted)
+of-rows zero start shown wanted = tt
+of-rows (suc n) start shown wanted =
+    let brush = begun_at (place_behind n start shown wanted) in
+    both (rows_calls n start shown wanted) (row_calls n 0 brush (row_cells n shown) (row_cells n wanted))
+    (of-rows n start shown wanted)
     (of-row n 0 brush (row_cells n shown) (row_cells n wanted))
 
 of-cursor_changes : (place : Place) (wanted : Display) → HaveNoReset (cursor_changes place wanted)
@@ -104,15 +104,22 @@ of-cursor_changes place wanted =
 of-mode : (mode : ℕ) (old new : Bool) → HaveNoReset (mode_changes mode old new)
 of-mode mode old new = either (beq old new) [] (private_mode mode new ∷ []) tt (refl, tt)
 
-of-changes : (shown wanted : Display) → HaveNoReset (changes_calls shown wanted)
-of-changes shown wanted =
-    let place = place_behind wanted.height shown wanted in
+of-changes_from : (start : Place) (shown wanted : Display) → HaveNoReset (changes_from start shown wanted)
+of-changes_from start shown wanted =
+    let place = place_behind wanted.height start shown wanted in
     let cursor = cursor_changes place wanted in
     let wraps = mode_changes 7 shown.wraps wanted.wraps in
     let visible = mode_changes 25 shown.is_visible wanted.is_visible in
-    both (rows_calls wanted.height shown wanted) (cursor ++ (wraps ++ visible)) (of-rows wanted.height shown wanted)
+    both (rows_calls wanted.height start shown wanted) (cursor ++ (wraps ++ visible)) (of-rows wanted.height start shown wanted)
     (both cursor (wraps ++ visible) (of-cursor_changes place wanted)
     (both wraps visible (of-mode 7 shown.wraps wanted.wraps) (of-mode 25 shown.is_visible wanted.is_visible)))
+
+of-changes : (shown wanted : Display) → HaveNoReset (changes_calls shown wanted)
+of-changes shown wanted =
+    let start = place_at_first shown wanted in
+    both (margin_changes shown wanted) (changes_from start shown wanted)
+    (either _ [] (margins_calls wanted) tt (refl, tt))
+    (of-changes_from start shown wanted)
 
 -- all as on a new screen
 of-reset_stop : (column : ℕ) (stops : Bool) → HaveNoReset (reset_stop_calls column stops)

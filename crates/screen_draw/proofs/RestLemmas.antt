@@ -189,7 +189,7 @@ module _ (base : Display) (cells : List Cell) where
       )
 
 -- DECSTBM
-bottom-is : (bottom height : ℕ) (t : Bool) → nat_lt bottom height ≡ t → 0 < bottom → bottom ≤ height
+pub bottom-is : (bottom height : ℕ) (t : Bool) → nat_lt bottom height ≡ t → 0 < bottom → bottom ≤ height
     → (if nat_lt 0 bottom && nat_lt bottom height then bottom else height) ≡ bottom
 bottom-is bottom height true is some inside = let positive : nat_lt 0 bottom ≡ true = lt-ltb 0 bottom some in rw (positive, is) refl
 bottom-is bottom height false is some inside =

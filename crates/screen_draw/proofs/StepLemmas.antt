@@ -117,24 +117,24 @@ module _ {W : Type 0} (sink : SinkOf W) (row : ℕ) (first : Brush) (olds news :
       (so_far.calls b (subst (λ l. Draws sink l b b) (sym done) (draws-none sink b)), stays ∙ so_far.brush_is)
 
 -- rows
-module _ {W : Type 0} (sink : SinkOf W) (shown wanted : Display) where
+module _ {W : Type 0} (sink : SinkOf W) (start : Place) (shown wanted : Display) where
   pub rows-more : (row : ℕ) (place next : Place) (olds news : List Cell) (a b c : Output W) → olds ≡ row_cells row shown → news ≡ row_cells row wanted
-      → place ≡ place_behind row shown wanted → Draws sink (rows_calls row shown wanted) a b
+      → place ≡ place_behind row start shown wanted → Draws sink (rows_calls row start shown wanted) a b
       → Draws sink (row_calls row 0 (begun_at place) olds news) b c → next ≡ (brush_after row 0 (begun_at place) olds news).place
-      → Draws sink (rows_calls (row + 1) shown wanted) a c × (next ≡ place_behind (row + 1) shown wanted)
+      → Draws sink (rows_calls (row + 1) start shown wanted) a c × (next ≡ place_behind (row + 1) start shown wanted)
   rows-more row place next olds news a b c first second is before drawn follows =
       let step : suc row ≡ row + 1 = omega arith in
-      let calls : row_calls row 0 (begun_at place) olds news ≡ row_calls row 0 (begun_at (place_behind row shown wanted)) (row_cells row shown) (row_cells row wanted) =
+      let calls : row_calls row 0 (begun_at place) olds news ≡ row_calls row 0 (begun_at (place_behind row start shown wanted)) (row_cells row shown) (row_cells row wanted) =
       ap (λ p. row_calls row 0 (begun_at p) olds news) is
-      ∙ (ap (λ l. row_calls row 0 (begun_at (place_behind row shown wanted)) l news) first ∙ ap (λ l. row_calls row 0 (begun_at (place_behind row shown wanted)) (row_cells row shown) l) second) in
-      let places : (brush_after row 0 (begun_at place) olds news).place ≡ place_behind (suc row) shown wanted =
+      ∙ (ap (λ l. row_calls row 0 (begun_at (place_behind row start shown wanted)) l news) first ∙ ap (λ l. row_calls row 0 (begun_at (place_behind row start shown wanted)) (row_cells row shown) l) second) in
+      let places : (brush_after row 0 (begun_at place) olds news).place ≡ place_behind (suc row) start shown wanted =
       ap (λ p. (brush_after row 0 (begun_at p) olds news).place) is
-      ∙ (ap (λ l. (brush_after row 0 (begun_at (place_behind row shown wanted)) l news).place) first
-      ∙ ap (λ l. (brush_after row 0 (begun_at (place_behind row shown wanted)) (row_cells row shown) l).place) second) in (
-        subst (λ k. Draws sink (rows_calls k shown wanted) a c) step
-            (draws-append sink (rows_calls row shown wanted) (row_calls row 0 (begun_at (place_behind row shown wanted)) (row_cells row shown) (row_cells row wanted)) a b c before
+      ∙ (ap (λ l. (brush_after row 0 (begun_at (place_behind row start shown wanted)) l news).place) first
+      ∙ ap (λ l. (brush_after row 0 (begun_at (place_behind row start shown wanted)) (row_cells row shown) l).place) second) in (
+        subst (λ k. Draws sink (rows_calls k start shown wanted) a c) step
+            (draws-append sink (rows_calls row start shown wanted) (row_calls row 0 (begun_at (place_behind row start shown wanted)) (row_cells row shown) (row_cells row wanted)) a b c before
             (subst (λ l. Draws sink l b c) calls drawn)),
-        follows ∙ (places ∙ ap (λ k. place_behind k shown wanted) step),
+        follows ∙ (places ∙ ap (λ k. place_behind k start shown wanted) step),
       )
 
 -- the same of equal flags

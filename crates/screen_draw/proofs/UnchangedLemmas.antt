@@ -13,9 +13,9 @@ use Rattle.ansi_screen.specs.declared.place.Place.{Place}
 use Rattle.ansi_screen.specs.Cells.{is_right}
 use Rattle.ansi_screen.specs.Display.{Display, row_cells}
 use Rattle.screen_draw.specs.declared.changes.Brush.{Brush}
-use Rattle.screen_draw.specs.Draw.{style_calls}
-use Rattle.screen_draw.specs.Alike.{are_same_marks, are_same_parts, are_alike, all_two, are_same_places, has_same_frame, looks_same, lacks_print, is_steady}
-use Rattle.screen_draw.specs.Update.{move_calls, is_done, change_calls, brush_behind, row_calls, brush_after, begun_at, place_behind, rows_calls, wants_wrap, cursor_changes, mode_changes, changes_calls, cleared_calls, update_calls}
+use Rattle.screen_draw.specs.Draw.{style_calls, margins_calls}
+use Rattle.screen_draw.specs.Alike.{are_same_marks, are_same_parts, are_alike, all_two, are_same_places, has_same_frame, has_same_margins, looks_same, lacks_print, is_steady}
+use Rattle.screen_draw.specs.Update.{move_calls, is_done, change_calls, brush_behind, row_calls, brush_after, begun_at, place_behind, rows_calls, wants_wrap, cursor_changes, mode_changes, changes_from, changes_calls, cleared_calls, update_calls}
 use Rattle.screen_draw.specs.Draw.{shown_screen_calls}
 use Rattle.screen_draw.proofs.AlikeLemmas.{flag-refl}
 use Rattle.screen_draw.proofs.FrameLemmas.{Steady, steady-is}
@@ -69,19 +69,21 @@ frame-refl a =
     let either : (not a.is_alternate || true) ≡ true = or-true (not a.is_alternate) in
     let saved : are_same_places a.saved a.saved ≡ true = places-refl a.saved in
     let hidden_saved : are_same_places a.hidden_saved a.hidden_saved ≡ true = places-refl a.hidden_saved in
-    let top : (a.top == a.top) ≡ true = number-refl a.top in
-    let bottom : (a.bottom == a.bottom) ≡ true = number-refl a.bottom in
-    rw (alternate, hidden, either, saved, hidden_saved, top, bottom) (all-refl beq flag-refl a.tabs)
+    rw (alternate, hidden, either, saved, hidden_saved) (all-refl beq flag-refl a.tabs)
+
+margins-refl : (a : Display) → has_same_margins a a ≡ true
+margins-refl a = let top : (a.top == a.top) ≡ true = number-refl a.top in rw top (number-refl a.bottom)
 
 looks-refl : (a : Display) → looks_same a a ≡ true
 unfolding looks_same
 looks-refl a =
     let frame : has_same_frame a a ≡ true = frame-refl a in
+    let margins : has_same_margins a a ≡ true = margins-refl a in
     let wraps : beq a.wraps a.wraps ≡ true = flag-refl a.wraps in
     let inserts : beq a.inserts a.inserts ≡ true = flag-refl a.inserts in
     let visible : beq a.is_visible a.is_visible ≡ true = flag-refl a.is_visible in
     let cursor : are_same_places a.cursor a.cursor ≡ true = places-refl a.cursor in
-    rw (frame, wraps, inserts, visible, cursor) (all-refl are_alike alike-refl a.cells)
+    rw (frame, margins, wraps, inserts, visible, cursor) (all-refl are_alike alike-refl a.cells)
 
 -- a cell
 done-alike : (brush : Brush) (old new : Cell) → are_alike old new ≡ true → is_done brush old new ≡ true
@@ -121,13 +123,13 @@ module _ (d : Display) (place : Place) where
   abbrev before : Display
   before = record d { cursor = place }
 
-  rows-nothing : (n : ℕ) → (rows_calls n before d ≡ []) × (place_behind n before d ≡ place)
+  rows-nothing : (n : ℕ) → (rows_calls n place before d ≡ []) × (place_behind n place before d ≡ place)
   rows-nothing zero = (refl, refl)
   rows-nothing (suc n) =
       let (calls, stands) = rows-nothing n in
       let cells : List Cell = row_cells n d in
       let (none, same) = row-nothing n 0 place cells in (
-        ap (λ l. l ++ row_calls n 0 (begun_at (place_behind n before d)) cells cells) calls
+        ap (λ l. l ++ row_calls n 0 (begun_at (place_behind n place before d)) cells cells) calls
             ∙ (ap (λ p. row_calls n 0 (begun_at p) cells cells) stands ∙ none),
         ap (λ p. (brush_after n 0 (begun_at p) cells cells).place) stands ∙ ap (λ (b : Brush). b.place) same,
       )
@@ -140,10 +142,12 @@ module _ (d : Display) (place : Place) where
       let (none, stands) = rows-nothing d.height in
       let wraps : mode_changes 7 d.wraps d.wraps ≡ [] = modes-nothing 7 d.wraps in
       let visible : mode_changes 25 d.is_visible d.is_visible ≡ [] = modes-nothing 25 d.is_visible in
-      ap (λ l. l ++ (cursor_changes (place_behind d.height before d) d ++ (mode_changes 7 d.wraps d.wraps ++ mode_changes 25 d.is_visible d.is_visible))) none
+      let margins : has_same_margins before d ≡ true = margins-refl d in
+      ap (λ t. (if t then [] else margins_calls d) ++ changes_from (if t then place else record place { row = 0; column = 0 }) before d) margins
+      ∙ (ap (λ l. l ++ (cursor_changes (place_behind d.height place before d) d ++ (mode_changes 7 d.wraps d.wraps ++ mode_changes 25 d.is_visible d.is_visible))) none
       ∙ (ap (λ p. cursor_changes p d ++ (mode_changes 7 d.wraps d.wraps ++ mode_changes 25 d.is_visible d.is_visible)) stands
       ∙ (ap (λ l. cursor_changes place d ++ (l ++ mode_changes 25 d.is_visible d.is_visible)) wraps
-      ∙ (ap (λ l. cursor_changes place d ++ l) visible ∙ append-nil (cursor_changes place d))))
+      ∙ (ap (λ l. cursor_changes place d ++ l) visible ∙ append-nil (cursor_changes place d)))))
 
 -- a move alone
 no-style : (p : Place) → style_calls p.style p.style ≡ []

@@ -14,11 +14,12 @@ use Rattle.ansi_screen.specs.Reachable.{IsScreen, HasContents}
 use Rattle.ansi_screen.proofs.LawLemmas.{after_all-append}
 use Rattle.screen_draw.specs.Draw.{is_erased, shown_screen_calls}
 use Rattle.screen_draw.specs.Redrawn.{printed_part, as_printed, as_drawn, drawn_cells, as_shown}
-use Rattle.screen_draw.specs.Alike.{are_alike, all_two, are_same_places, has_same_frame, has_same_modes, looks_same, is_steady}
+use Rattle.screen_draw.specs.Alike.{are_alike, all_two, are_same_places, has_same_frame, has_same_margins, has_same_modes, looks_same, is_steady}
 use Rattle.screen_draw.specs.Update.{changes_calls, cleared_calls, update_calls}
 use Rattle.screen_draw.proofs.AlikeLemmas.{flag-same, all-drawn, places-same}
-use Rattle.screen_draw.proofs.FrameLemmas.{Frame, same-frame, same-hidden, drawn-at}
-use Rattle.screen_draw.proofs.ChangesLemmas.{sized, changes-drawn}
+use Rattle.screen_draw.proofs.FrameLemmas.{Frame, same-frame, same-margins, same-hidden, drawn-at}
+use Rattle.screen_draw.proofs.ChangesLemmas.{sized}
+use Rattle.screen_draw.proofs.MarginLemmas.{changes-drawn}
 use Rattle.screen_draw.proofs.ClearedLemmas.{cleared-is}
 use Rattle.screen_draw.proofs.RedrawnLemmas.{shown-is}
 
@@ -55,8 +56,10 @@ module _ (other b : Display) (old : State) where
   same-shown : IsScreen a → HasContents a → IsScreen b → HasContents b → looks_same a b ≡ true → as_shown a ≡ as_shown b
   unfolding looks_same
   same-shown from has to gets is =
-      let h0 = and_parts (has_same_frame a b) (has_same_modes a b && (are_same_places a.cursor b.cursor && all_two are_alike a.cells b.cells)) is in
-      let h1 = and_parts (has_same_modes a b) (are_same_places a.cursor b.cursor && all_two are_alike a.cells b.cells) h0.1 in
+      let h0 = and_parts (has_same_frame a b) (has_same_margins a b && (has_same_modes a b && (are_same_places a.cursor b.cursor && all_two are_alike a.cells b.cells))) is in
+      let hm = and_parts (has_same_margins a b) (has_same_modes a b && (are_same_places a.cursor b.cursor && all_two are_alike a.cells b.cells)) h0.1 in
+      let margins = same-margins a b hm.0 in
+      let h1 = and_parts (has_same_modes a b) (are_same_places a.cursor b.cursor && all_two are_alike a.cells b.cells) hm.1 in
       let h2 = and_parts (are_same_places a.cursor b.cursor) (all_two are_alike a.cells b.cells) h1.1 in
       let m0 = and_parts (beq a.wraps b.wraps) (beq a.inserts b.inserts && beq a.is_visible b.is_visible) h1.0 in
       let m1 = and_parts (beq a.inserts b.inserts) (beq a.is_visible b.is_visible) m0.1 in
@@ -74,8 +77,8 @@ module _ (other b : Display) (old : State) where
       ∙ (ap (λ t. record (as_shown a) { cells = drawn_cells b; cursor = b.cursor; hidden = map as_drawn b.hidden; is_alternate = t }) frame.alternate
       ∙ (ap (λ p. record (as_shown a) { cells = drawn_cells b; cursor = b.cursor; hidden = map as_drawn b.hidden; is_alternate = b.is_alternate; saved = p }) frame.saved
       ∙ (ap (λ p. record (as_shown a) { cells = drawn_cells b; cursor = b.cursor; hidden = map as_drawn b.hidden; is_alternate = b.is_alternate; saved = b.saved; hidden_saved = p }) frame.hidden_saved
-      ∙ (ap (λ n. record (as_shown b) { top = n; bottom = a.bottom; tabs = a.tabs; wraps = a.wraps; inserts = a.inserts; is_visible = a.is_visible }) frame.top
-      ∙ (ap (λ n. record (as_shown b) { bottom = n; tabs = a.tabs; wraps = a.wraps; inserts = a.inserts; is_visible = a.is_visible }) frame.bottom
+      ∙ (ap (λ n. record (as_shown b) { top = n; bottom = a.bottom; tabs = a.tabs; wraps = a.wraps; inserts = a.inserts; is_visible = a.is_visible }) margins.0
+      ∙ (ap (λ n. record (as_shown b) { bottom = n; tabs = a.tabs; wraps = a.wraps; inserts = a.inserts; is_visible = a.is_visible }) margins.1
       ∙ (ap (λ l. record (as_shown b) { tabs = l; wraps = a.wraps; inserts = a.inserts; is_visible = a.is_visible }) frame.tabs
       ∙ (ap (λ t. record (as_shown b) { wraps = t; inserts = a.inserts; is_visible = a.is_visible }) (flag-same a.wraps b.wraps m0.0)
       ∙ (ap (λ t. record (as_shown b) { inserts = t; is_visible = a.is_visible }) (flag-same a.inserts b.inserts m1.0)

@@ -50,12 +50,15 @@ are_same_places a b =
     a.row == b.row && (a.column == b.column
     && (are_equal a.style b.style && (beq a.is_relative b.is_relative && are_same_sets a.charsets b.charsets)))
 
--- The same alternate screen or main one, with what it covers, what is saved, margins and tabs.
+-- The same alternate screen or main one, with what it covers, what is saved, and tabs.
 unfoldable pub has_same_frame : Display → Display → Bool
 has_same_frame a b =
     beq a.is_alternate b.is_alternate && ((not a.is_alternate || all_two are_alike a.hidden b.hidden)
-    && (are_same_places a.saved b.saved && (are_same_places a.hidden_saved b.hidden_saved
-    && (a.top == b.top && (a.bottom == b.bottom && all_two beq a.tabs b.tabs)))))
+    && (are_same_places a.saved b.saved && (are_same_places a.hidden_saved b.hidden_saved && all_two beq a.tabs b.tabs)))
+
+-- DECSTBM
+abbrev pub has_same_margins : Display → Display → Bool
+has_same_margins a b = a.top == b.top && a.bottom == b.bottom
 
 -- DECAWM and DECTCEM
 abbrev pub has_same_modes : Display → Display → Bool
@@ -64,7 +67,8 @@ has_same_modes a b = beq a.wraps b.wraps && (beq a.inserts b.inserts && beq a.is
 -- All of it is the same.
 unfoldable pub looks_same : Display → Display → Bool
 looks_same a b =
-    has_same_frame a b && (has_same_modes a b && (are_same_places a.cursor b.cursor && all_two are_alike a.cells b.cells))
+    has_same_frame a b && (has_same_margins a b
+    && (has_same_modes a b && (are_same_places a.cursor b.cursor && all_two are_alike a.cells b.cells)))
 
 -- Characters are printed as they are, in their places: out of origin mode and insert mode, in letters.
 unfoldable pub is_plain : Display → Bool
@@ -74,7 +78,7 @@ is_plain d = not d.cursor.is_relative && (not d.inserts && not (draws d.cursor.c
 unfoldable pub lacks_print : Display → Bool
 lacks_print d = d.cursor.column == d.width && is_erased (cell_at (row_end d - 1) d.cells)
 
--- Only cells, the cursor with its style, DECAWM and DECTCEM can differ.
+-- Only cells, the cursor with its style, margins, DECAWM and DECTCEM can differ.
 unfoldable pub is_steady : Display → Display → Bool
 is_steady a b =
     is_plain a && (is_plain b && (not (lacks_print a)

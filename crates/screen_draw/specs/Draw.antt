@@ -188,11 +188,15 @@ abbrev pub modes_calls : Display → List Call
 modes_calls d =
     private_mode 7 d.wraps ∷ sequence (4 ∷ []) (set_or_reset d.inserts) ∷ private_mode 25 d.is_visible ∷ []
 
+-- DECSTBM; rows count from 0 here, and from 1 there
+abbrev pub margins_calls : Display → List Call
+margins_calls d = sequence ((d.top + 1) ∷ d.bottom ∷ []) 0x72 ∷ []
+
 -- Behind the cells: tabs, DECSTBM, the cursor, modes.
 abbrev pub rest_calls : Display → List Call
 rest_calls d =
     plain_calls
-    ++ (stops_calls 0 d.tabs ++ (sequence ((d.top + 1) ∷ d.bottom ∷ []) 0x72 ∷ [] ++ (cursor_calls d ++ modes_calls d)))
+    ++ (stops_calls 0 d.tabs ++ (margins_calls d ++ (cursor_calls d ++ modes_calls d)))
 
 -- all of it, on a new screen
 abbrev pub shown_screen_calls : Display → List Call

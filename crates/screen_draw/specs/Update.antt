@@ -13,8 +13,8 @@ use Rattle.ansi_screen.specs.declared.place.Place.{Place}
 use Rattle.ansi_screen.specs.Cells.{is_right}
 use Rattle.ansi_screen.specs.Display.{Display, row_cells}
 use Rattle.screen_draw.specs.declared.changes.Brush.{Brush}
-use Rattle.screen_draw.specs.Alike.{are_alike, looks_same, lacks_print, is_steady}
-use Rattle.screen_draw.specs.Draw.{escape, sequence, private_mode, position, select, character_calls, is_erased, style_calls, wrap_calls, plain_calls, last_cell, last_column, shown_screen_calls}
+use Rattle.screen_draw.specs.Alike.{are_alike, has_same_margins, looks_same, lacks_print, is_steady}
+use Rattle.screen_draw.specs.Draw.{escape, sequence, private_mode, position, select, character_calls, is_erased, style_calls, wrap_calls, plain_calls, margins_calls, last_cell, last_column, shown_screen_calls}
 
 -- CHA in the cursor's row, CUP to another, and nothing to where the cursor is
 unfoldable pub move_calls : Place → ℕ → ℕ → List Call
@@ -77,21 +77,21 @@ brush_after row column brush (old ∷ olds) (new ∷ news) =
     brush_after row (suc column) (brush_behind row column brush old new news) olds news
 brush_after row column brush olds news = brush
 
--- where the cursor stands behind so many rows, and the brush with which the next begins
+-- the brush with which a row begins, and where the cursor, which began at a place, stands behind so many rows
 abbrev pub begun_at : Place → Brush
 begun_at place = record { place = place; erased = 0 }
 
-abbrev pub place_behind : ℕ → Display → Display → Place
-place_behind zero shown wanted = shown.cursor
-place_behind (suc row) shown wanted =
-    (brush_after row 0 (begun_at (place_behind row shown wanted)) (row_cells row shown) (row_cells row wanted)).place
+abbrev pub place_behind : ℕ → Place → Display → Display → Place
+place_behind zero place shown wanted = place
+place_behind (suc row) place shown wanted =
+    (brush_after row 0 (begun_at (place_behind row place shown wanted)) (row_cells row shown) (row_cells row wanted)).place
 
 -- so many rows
-abbrev pub rows_calls : ℕ → Display → Display → List Call
-rows_calls zero shown wanted = []
-rows_calls (suc row) shown wanted =
-    rows_calls row shown wanted
-    ++ row_calls row 0 (begun_at (place_behind row shown wanted)) (row_cells row shown) (row_cells row wanted)
+abbrev pub rows_calls : ℕ → Place → Display → Display → List Call
+rows_calls zero place shown wanted = []
+rows_calls (suc row) place shown wanted =
+    rows_calls row place shown wanted
+    ++ row_calls row 0 (begun_at (place_behind row place shown wanted)) (row_cells row shown) (row_cells row wanted)
 
 -- The cursor goes where it is wanted. Where a wrap is to be pending and is not, the last character of the row
 -- is printed once more.
@@ -110,12 +110,25 @@ cursor_changes place wanted =
 abbrev pub mode_changes : ℕ → Bool → Bool → List Call
 mode_changes mode old new = if beq old new then [] else private_mode mode new ∷ []
 
--- what differs in cells, cursor, DECAWM and DECTCEM
+-- what differs in cells, cursor, DECAWM and DECTCEM, where the cursor stands at a place
+abbrev pub changes_from : Place → Display → Display → List Call
+changes_from place shown wanted =
+    rows_calls wanted.height place shown wanted
+    ++ (cursor_changes (place_behind wanted.height place shown wanted) wanted
+    ++ (mode_changes 7 shown.wraps wanted.wraps ++ mode_changes 25 shown.is_visible wanted.is_visible))
+
+-- DECSTBM, where the margins differ; it leads the cursor home.
+abbrev pub margin_changes : Display → Display → List Call
+margin_changes shown wanted = if has_same_margins shown wanted then [] else margins_calls wanted
+
+abbrev pub place_at_first : Display → Display → Place
+place_at_first shown wanted =
+    if has_same_margins shown wanted then shown.cursor else record shown.cursor { row = 0; column = 0 }
+
+-- all that differs
 abbrev pub changes_calls : Display → Display → List Call
 changes_calls shown wanted =
-    rows_calls wanted.height shown wanted
-    ++ (cursor_changes (place_behind wanted.height shown wanted) wanted
-    ++ (mode_changes 7 shown.wraps wanted.wraps ++ mode_changes 25 shown.is_visible wanted.is_visible))
+    margin_changes shown wanted ++ changes_from (place_at_first shown wanted) shown wanted
 
 -- Tabs as on a new screen, in each eighth column: CHA, and HTS or TBC where they are not.
 abbrev pub reset_stop_calls : ℕ → Bool → List Call

@@ -2,7 +2,7 @@
 ghost use Rattle.std.specs.Prelude.{◌≡◌};
 ghost use Rattle.std.specs.Bool.{beq};
 ghost use Rattle.ansi_screen.specs.Print.{draws};
-ghost use Rattle.screen_draw.specs.Alike.{are_same_marks, are_same_parts, are_alike, all_two, are_same_sets, are_same_places, has_same_frame, has_same_modes, looks_same, is_plain, lacks_print, is_steady};
+ghost use Rattle.screen_draw.specs.Alike.{are_same_marks, are_same_parts, are_alike, all_two, are_same_sets, are_same_places, has_same_frame, has_same_margins, has_same_modes, looks_same, is_plain, lacks_print, is_steady};
 
 use crate::cells::{is_erased, is_same};
 use ansi_screen::{Cell, Charsets, Marks, Part, Place, Screen};
@@ -92,7 +92,7 @@ fn are_same_places(a: Place, b: Place) -> bool
         && are_same_sets(a.charsets, b.charsets)
 }
 
-/// Whether both have the same screen below an alternate one, saved places, margins and tabs.
+/// Whether both have the same screen below an alternate one, saved places and tabs.
 #[tactic(auto, unfolding(crate::specs::Alike::has_same_frame))]
 fn has_same_frame(a: &Screen, b: &Screen) -> bool
     ensures { result ≡ has_same_frame a.now.display b.now.display }
@@ -101,9 +101,14 @@ fn has_same_frame(a: &Screen, b: &Screen) -> bool
         && (!a.is_alternate() || are_all_alike(a.hidden_cells(), b.hidden_cells()))
         && are_same_places(a.saved(), b.saved())
         && are_same_places(a.hidden_saved(), b.hidden_saved())
-        && a.margins().0 == b.margins().0
-        && a.margins().1 == b.margins().1
         && are_same_stops(a.stops(), b.stops())
+}
+
+/// Whether the same rows scroll.
+pub(crate) fn has_same_margins(a: &Screen, b: &Screen) -> bool
+    ensures { result ≡ has_same_margins a.now.display b.now.display }
+{
+    a.margins().0 == b.margins().0 && a.margins().1 == b.margins().1
 }
 
 /// Whether DECAWM, IRM and DECTCEM are the same.
@@ -121,6 +126,7 @@ pub(crate) fn looks_same(a: &Screen, b: &Screen) -> bool
     ensures { result ≡ looks_same a.now.display b.now.display }
 {
     has_same_frame(a, b)
+        && has_same_margins(a, b)
         && has_same_modes(a, b)
         && are_same_places(a.cursor(), b.cursor())
         && are_all_alike(a.cells(), b.cells())
@@ -153,7 +159,7 @@ pub(crate) fn lacks_print(screen: &Screen) -> bool
     screen.cursor().column == screen.columns() && is_erased(screen.cells()[screen.row_end() - 1])
 }
 
-/// Whether only cells, the cursor with its style, DECAWM and DECTCEM can differ.
+/// Whether only cells, the cursor with its style, margins, DECAWM and DECTCEM can differ.
 #[tactic(auto, unfolding(crate::specs::Alike::is_steady))]
 pub(crate) fn is_steady(a: &Screen, b: &Screen) -> bool
     ensures { result ≡ is_steady a.now.display b.now.display }

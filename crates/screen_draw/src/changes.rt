@@ -1,16 +1,16 @@
-//! What differs between two screens in cells, cursor and modes.
+//! What differs between two screens in margins, cells, cursor and modes.
 ghost use Rattle.std.specs.Prelude.{◌≡◌, ◌<◌, ◌≤◌, ◌∷◌, ◌++◌, [], Some, length};
 ghost use Rattle.ansi_screen.specs.Cells.{cell_at};
 ghost use Rattle.ansi_screen.specs.Display.{most_columns, most_rows, IsSized};
 ghost use Rattle.screen_draw.specs.Draw.{position, select, wrap_calls, last_cell, last_column};
 ghost use Rattle.screen_draw.specs.Drawing.{Draws};
-ghost use Rattle.screen_draw.specs.Update.{move_calls, erased_run, painted_calls, is_done, change_calls, half_columns, brush_behind, row_calls, brush_after, begun_at, place_behind, rows_calls, wants_wrap, cursor_changes, mode_changes, changes_calls};
+ghost use Rattle.screen_draw.specs.Update.{move_calls, erased_run, painted_calls, is_done, change_calls, half_columns, brush_behind, row_calls, brush_after, begun_at, place_behind, rows_calls, wants_wrap, cursor_changes, mode_changes, changes_from, changes_calls};
 
-use crate::alike::{are_alike, are_all_alike, lacks_print};
+use crate::alike::{are_alike, are_all_alike, has_same_margins, lacks_print};
 use crate::calls::{put_number, put_position, put_private_mode, put_style};
 use crate::cells::{is_erased, is_same, put_marked, put_style_change};
 use crate::places::put_wrap;
-use crate::rest::last_of_row;
+use crate::rest::{last_of_row, put_margins_of};
 use ansi_screen::{Cell, Part, Place, Screen};
 use ansi_style::Style;
 use anstyle_parse::io::{Output, Sink};
@@ -196,15 +196,15 @@ fn put_row<W: Sink>(
     }
 }
 
-/// Draws the cells that differ. The answer is where the cursor stands then.
-fn put_rows<W: Sink>(output: &mut Output<W>, shown: &Screen, wanted: &Screen) -> Place
+/// Draws the cells that differ, from the cursor's place on. The answer is where it stands then.
+fn put_rows<W: Sink>(output: &mut Output<W>, start: Place, shown: &Screen, wanted: &Screen) -> Place
     requires columns { shown.now.display.width ≡ wanted.now.display.width }
     requires rows { shown.now.display.height ≡ wanted.now.display.height }
-    ensures calls { Draws W.Sink (rows_calls wanted.now.display.height shown.now.display wanted.now.display)
+    ensures calls { Draws W.Sink (rows_calls wanted.now.display.height start shown.now.display wanted.now.display)
         output.old output.new }
-    ensures place { result ≡ place_behind wanted.now.display.height shown.now.display wanted.now.display }
+    ensures place { result ≡ place_behind wanted.now.display.height start shown.now.display wanted.now.display }
 {
-    let mut place = shown.cursor();
+    let mut place = start;
     for row in 0..wanted.rows() {
         place = put_row(output, row, place, shown.row(row), wanted.row(row));
     }
@@ -257,13 +257,13 @@ fn put_mode_change<W: Sink>(output: &mut Output<W>, mode: u16, old: bool, new: b
     }
 }
 
-/// Draws what differs in cells, cursor, DECAWM and DECTCEM.
-pub(crate) fn put_changes<W: Sink>(output: &mut Output<W>, shown: &Screen, wanted: &Screen)
+/// Draws what differs in cells, cursor, DECAWM and DECTCEM, where the cursor stands at a place.
+fn put_changes_from<W: Sink>(output: &mut Output<W>, start: Place, shown: &Screen, wanted: &Screen)
     requires columns { shown.now.display.width ≡ wanted.now.display.width }
     requires rows { shown.now.display.height ≡ wanted.now.display.height }
-    ensures { Draws W.Sink (changes_calls shown.now.display wanted.now.display) output.old output.new }
+    ensures { Draws W.Sink (changes_from start shown.now.display wanted.now.display) output.old output.new }
 {
-    let place = put_rows(output, shown, wanted);
+    let place = put_rows(output, start, shown, wanted);
     put_cursor_changes(output, place, wanted);
     put_mode_change(output, 7, shown.wraps(), wanted.wraps());
     put_mode_change(
@@ -272,4 +272,29 @@ pub(crate) fn put_changes<W: Sink>(output: &mut Output<W>, shown: &Screen, wante
         shown.is_cursor_visible(),
         wanted.is_cursor_visible(),
     );
+}
+
+/// The place where DECSTBM leads the cursor.
+fn at_home(place: Place) -> Place
+    ensures { result ≡ record place { row = 0; column = 0 } }
+{
+    Place {
+        row: 0,
+        column: 0,
+        ..place
+    }
+}
+
+/// Draws what differs in margins, cells, cursor, DECAWM and DECTCEM.
+pub(crate) fn put_changes<W: Sink>(output: &mut Output<W>, shown: &Screen, wanted: &Screen)
+    requires columns { shown.now.display.width ≡ wanted.now.display.width }
+    requires rows { shown.now.display.height ≡ wanted.now.display.height }
+    ensures { Draws W.Sink (changes_calls shown.now.display wanted.now.display) output.old output.new }
+{
+    if has_same_margins(shown, wanted) {
+        put_changes_from(output, shown.cursor(), shown, wanted);
+    } else {
+        put_margins_of(output, wanted);
+        put_changes_from(output, at_home(shown.cursor()), shown, wanted);
+    }
 }

@@ -65,8 +65,8 @@ pub fn draw<W: Sink>(screen: &Screen, output: &mut Output<W>)
 
 /// Writes the bytes that make a terminal which shows one screen show another, of the same size.
 ///
-/// Of cells only those are drawn that differ. Where more differs than cells, the cursor with its style, DECAWM and
-/// DECTCEM, as where the alternate screen comes, all is drawn, without a reset. No memory is taken.
+/// Of cells only those are drawn that differ. Where more differs than cells, margins, the cursor with its style, DECAWM
+/// and DECTCEM, as where the alternate screen comes, all is drawn, without a reset. No memory is taken.
 ///
 /// Not drawn is what [`draw`] doesn't draw.
 pub fn update<W: Sink>(shown: &Screen, wanted: &Screen, output: &mut Output<W>)

@@ -1,7 +1,7 @@
 //! What is drawn behind the cells: tabs, margins, the cursor, modes.
 ghost use Rattle.std.specs.Prelude.{◌≡◌, ◌+◌, ◌<◌, ◌≤◌, ◌∷◌, [], length};
 ghost use Rattle.ansi_screen.specs.Display.{most_columns, most_rows, IsSized};
-ghost use Rattle.screen_draw.specs.Draw.{sequence, escape, stop_calls, stops_calls, is_last_wide, last_cell, last_column, cursor_calls, modes_calls, rest_calls};
+ghost use Rattle.screen_draw.specs.Draw.{sequence, escape, stop_calls, stops_calls, is_last_wide, last_cell, last_column, cursor_calls, modes_calls, margins_calls, rest_calls};
 ghost use Rattle.screen_draw.specs.Drawing.{Draws};
 
 use crate::calls::{
@@ -102,14 +102,21 @@ fn put_margins<W: Sink>(output: &mut Output<W>, top: usize, bottom: usize)
     put_numbers(output, top as u16 + 1, bottom as u16, b'r');
 }
 
+/// DECSTBM of a screen.
+pub(crate) fn put_margins_of<W: Sink>(output: &mut Output<W>, screen: &Screen)
+    ensures { Draws W.Sink (margins_calls screen.now.display) output.old output.new }
+{
+    let (top, bottom) = screen.margins();
+    put_margins(output, top, bottom);
+}
+
 /// Tabs, margins, the cursor, modes.
 pub(crate) fn put_rest<W: Sink>(output: &mut Output<W>, screen: &Screen)
     ensures { Draws W.Sink (rest_calls screen.now.display) output.old output.new }
 {
     put_plain(output);
     put_stops(output, screen.stops());
-    let (top, bottom) = screen.margins();
-    put_margins(output, top, bottom);
+    put_margins_of(output, screen);
     put_cursor(output, screen);
     put_modes(output, screen);
 }

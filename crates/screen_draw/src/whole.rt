@@ -49,7 +49,7 @@ pub(crate) fn put_all<W: Sink>(output: &mut Output<W>, screen: &Screen)
     put_shown_screen(output, screen);
 }
 
-/// Draws what differs; all, where more differs than cells, the cursor, DECAWM and DECTCEM.
+/// Draws what differs; all, where more differs than cells, margins, the cursor, DECAWM and DECTCEM.
 pub(crate) fn put_update<W: Sink>(output: &mut Output<W>, shown: &Screen, wanted: &Screen)
     requires columns { shown.now.display.width ≡ wanted.now.display.width }
     requires rows { shown.now.display.height ≡ wanted.now.display.height }

@@ -80,6 +80,23 @@ fn an_update_of_a_cell(rt: HostRuntime) -> Result<(), Fail> {
     Ok(())
 }
 
+/// DECSTBM leads the cursor home, from where the cell is reached, and the cursor's place.
+#[test]
+fn an_update_of_margins(rt: HostRuntime) -> Result<(), Fail> {
+    let first = shown(rt.alloc(), b"abc\x1b[1;2r\x1b[3;2H")?;
+    let second = shown(rt.alloc(), b"abX\x1b[2;3r\x1b[3;2H")?;
+    assert!(rt; first.columns() == second.columns() && first.rows() == second.rows());
+    let mut output = Output::new(FromWrite::new(Vec::new(rt.alloc())));
+    update(&first, &second, &mut output);
+    let (sink, answer) = output.finish();
+    assert!(rt; answer.is_ok());
+    assert_eq!(rt;
+        sink.into_inner().as_slice(),
+        b"\x1b[2;3r\x1b[3GX\x1b[3;2H".as_slice()
+    );
+    Ok(())
+}
+
 #[test]
 fn an_update_of_all(rt: HostRuntime) -> Result<(), Fail> {
     let (mut first, second) = (shown(rt.alloc(), b"abc")?, shown(rt.alloc(), PARTS)?);

@@ -1,22 +1,21 @@
--- Cells, the cursor, modes.
-use Rattle.std.proofs.Common.{◌++◌, subst}
+-- Margins first, and the rest from home.
+use Rattle.std.proofs.Common.{◌≡◌, false, ap, sym, ◌∙◌, subst}
+use Rattle.ansi_screen.specs.declared.place.Place.{Place}
+use Rattle.screen_draw.specs.Draw.{margins_calls}
 use Rattle.screen_draw.specs.Drawing.{Draws}
-use Rattle.screen_draw.specs.Update.{rows_calls, cursor_changes, mode_changes, place_behind}
+use Rattle.screen_draw.specs.Alike.{has_same_margins}
+use Rattle.screen_draw.specs.Update.{changes_from}
 use Rattle.screen_draw.proofs.DrawLemmas.{draws-append}
-use Rattle.screen_draw.proofs.StepLemmas.{draws-mode}
 use Rattle.screen_draw.proofs.changes.put_changes.Goals as goal
 
-pub returns : goal.returns
-returns g c =
+pub returns-else-has_same_margins : goal.returns-else-has_same_margins
+returns-else-has_same_margins g c =
     let a = c.args.shown.now.display in
     let b = c.args.wanted.now.display in
-    let rows = rows_calls b.height a b in
-    let place = place_behind b.height a b in
-    let wraps = mode_changes 7 a.wraps b.wraps in
-    let visible = mode_changes 25 a.is_visible b.is_visible in
-    let cursor = subst (λ p. Draws g.W.Sink (cursor_changes p b) c.put_rows-place.new.output c.put_cursor_changes.new.output) c.put_rows-place.ensures.place c.put_cursor_changes.ensures in
-    draws-append g.W.Sink rows (cursor_changes place b ++ (wraps ++ visible)) _ _ _ c.put_rows-place.ensures.calls
-    (draws-append g.W.Sink (cursor_changes place b) (wraps ++ visible) _ _ _ cursor
-    (draws-append g.W.Sink wraps visible _ _ _
-    (draws-mode g.W.Sink 7 _ _ a.wraps b.wraps _ _ c.wraps.ensures c.wraps-2.ensures c.put_mode_change.ensures)
-    (draws-mode g.W.Sink 25 _ _ a.is_visible b.is_visible _ _ c.is_cursor_visible.ensures c.is_cursor_visible-2.ensures c.put_mode_change-2.ensures)))
+    let start : Place = record a.cursor { row = 0; column = 0 } in
+    let other : has_same_margins a b ≡ false = sym c.has_same_margins.ensures ∙ c.if-has_same_margins.false in
+    let home : c.at_home.result ≡ start =
+    c.at_home.ensures ∙ ap (λ (p : Place). record p { row = 0; column = 0 }) c.cursor-else-has_same_margins.ensures in
+    let drawn = subst (λ p. Draws g.W.Sink (changes_from p a b) c.put_margins_of.new.output c.put_changes_from-else-has_same_margins.new.output) home
+    c.put_changes_from-else-has_same_margins.ensures in
+    rw other (draws-append g.W.Sink (margins_calls b) (changes_from start a b) _ _ _ c.put_margins_of.ensures drawn)

@@ -6,5 +6,5 @@ use Rattle.screen_draw.proofs.changes.put_rows.Given as goal
 
 abbrev pub invariant-loop-row : goal.invariant-loop-row
 invariant-loop-row g l =
-    Draws g.W.Sink (rows_calls l.row l.shown.display l.wanted.display) l.initial.output l.output
-    × (l.place ≡ place_behind l.row l.shown.display l.wanted.display)
+    Draws g.W.Sink (rows_calls l.row l.initial.place l.shown.display l.wanted.display) l.initial.output l.output
+    × (l.place ≡ place_behind l.row l.initial.place l.shown.display l.wanted.display)

@@ -74,13 +74,23 @@ impl<W: Sink> HtmlWriter<W> {
         ensures standing { standing_of result ≡ kept (standing_in standing.entry) }
     {
         let mut writer = HtmlWriter::new(styling, output);
-        writer.shown = standing.shown.style;
-        writer.next = Some(standing.selected.style);
+        writer.go_on(standing);
         writer
-            .links
+    }
+
+    /// Goes on where the HTML of a stream stands, as one does that [`HtmlWriter::resume`] makes, but in its place: it
+    /// is large to copy.
+    #[inline(always)]
+    pub fn go_on(&mut self, standing: Standing<'_>)
+        ensures output { output_of self.new ≡ output_of self.old }
+        ensures styling { styling_of self.new ≡ styling_of self.old }
+        ensures standing { standing_of self.new ≡ kept (standing_in standing.entry) }
+    {
+        self.shown = standing.shown.style;
+        self.next = Some(standing.selected.style);
+        self.links
             .resume(standing.shown.link, standing.selected.link);
-        writer.returned = standing.returned;
-        writer
+        self.returned = standing.returned;
     }
 
     /// Where the HTML stands.

@@ -7,6 +7,7 @@ use crate::buffer::{CAPACITY, HtmlBuffer};
 use crate::state::HtmlState;
 use ansi_html::HtmlWriter;
 use anstyle_parse::canon::{Output, WritingPerformer};
+use anstyle_parse::{Parser, Utf8Parser};
 use strip_pieces::Fed;
 
 /// The bytes of room with which a stream always goes on: what one byte may lead to, where it opens a link
@@ -108,9 +109,11 @@ impl HtmlState {
         ensures little_room { IfNone result
             (min (length room.old) (length lent.old) < most_html (length piece.now)) }
     {
-        let mut parser = self.stream.resume();
+        let mut parser = Parser::<Utf8Parser>::new();
+        self.stream.resume_in(&mut parser);
         let output = Output::new(HtmlBuffer::new(room.len(), lent));
-        let mut writer = HtmlWriter::resume(self.styling(), self.standing(), output);
+        let mut writer = HtmlWriter::new(self.styling(), output);
+        writer.go_on(self.standing());
         parser.advance_texts(&mut writer, piece);
         if writer.output().fault().is_some() {
             return None;

@@ -1,10 +1,9 @@
--- What the writer of a state holds.
-use Rattle.std.specs.Prelude.{Bool}
+-- What the writer of a checkpoint took.
+use Rattle.std.specs.Prelude.{ℕ, Bool, List, take}
 use Rattle.strip_pieces.specs.declared.saved.Saved.{Saved}
-use Rattle.strip_pieces.specs.declared.state.StreamState.{StreamState}
 
-abbrev pub state_in : Saved → StreamState
-state_in saved = saved.state
+abbrev pub saved_in : Saved → List ℕ
+saved_in saved = take saved.written saved.into.now
 
 abbrev pub has_overflowed : Saved → Bool
 has_overflowed saved = saved.overflowed

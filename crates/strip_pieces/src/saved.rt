@@ -1,60 +1,62 @@
 //! The writer that a parser is written down to.
-ghost use Rattle.std.specs.Prelude.{◌≡◌, ◌≤◌, false, true, [], Some, IsTrue, length};
+ghost use Rattle.std.specs.Prelude.{◌≡◌, ◌≤◌, false, true, [], Some, length};
 ghost use Rattle.anstyle_parse.specs.Laws.Checkpoint.{max_checkpoint};
 
-use crate::state::StreamState;
 use anstyle_parse::canon::{MAX_CHECKPOINT, Sink};
 
-/// Takes bytes into a state, as many as it can hold, and then fails.
+/// Takes as many bytes as a checkpoint may have into room that is lent to it, and then fails.
 #[derive(Drop)]
-pub(crate) struct Saved {
-    state: StreamState,
+pub(crate) struct Saved<'a> {
+    into: &'a mut [u8],
+    written: usize,
     overflowed: bool,
-    ghost within: { state.length ≤ max_checkpoint },
+    ghost within: { written ≤ max_checkpoint },
+    ghost lent: { max_checkpoint ≤ length into.now },
     // Only one that is full fails.
-    ghost full: { overflowed ≡ true → state.length ≡ max_checkpoint },
+    ghost full: { overflowed ≡ true → written ≡ max_checkpoint },
 }
 
-impl Saved {
-    ghost use Rattle.strip_pieces.specs.State.{pending_of};
-    ghost use Rattle.strip_pieces.specs.Saved.{state_in, has_overflowed};
+impl<'a> Saved<'a> {
+    ghost use Rattle.strip_pieces.specs.Saved.{saved_in, has_overflowed};
 
-    pub(crate) fn new() -> Saved
-        ensures empty { pending_of (state_in result) ≡ [] }
+    pub(crate) fn new(into: &'a mut [u8]) -> Saved<'a>
+        requires { max_checkpoint ≤ length into.old }
+        ensures empty { saved_in result ≡ [] }
         ensures not_failed { has_overflowed result ≡ false }
     {
         Saved {
-            state: StreamState::new(),
+            into,
+            written: 0,
             overflowed: false,
         }
     }
 
-    /// The state.
-    pub(crate) fn into_state(self) -> StreamState
-        ensures same { result ≡ state_in self }
-        ensures full { has_overflowed self ≡ true → length (pending_of result) ≡ max_checkpoint }
+    /// What it took.
+    pub(crate) fn bytes(&self) -> &[u8]
+        ensures same { result.now ≡ saved_in self.now }
+        ensures short { length result.now ≤ max_checkpoint }
+        ensures full { has_overflowed self.now ≡ true → length result.now ≡ max_checkpoint }
     {
-        self.state
+        &self.into[..self.written]
     }
 }
 
-impl Sink for Saved {
-    ghost use Rattle.strip_pieces.specs.State.{pending_of};
-    ghost use Rattle.strip_pieces.specs.Saved.{state_in, has_overflowed};
+impl<'a> Sink for Saved<'a> {
+    ghost use Rattle.strip_pieces.specs.Saved.{saved_in, has_overflowed};
 
-    ghost contents = { λ saved. Some (pending_of (state_in saved)) };
+    ghost contents = { λ saved. Some (saved_in saved) };
 
     ghost has_failed = { has_overflowed };
 
     fn write(&mut self, bytes: &[u8]) -> Option<usize> {
-        let length = self.state.length;
-        let count = bytes.len().min(MAX_CHECKPOINT - length);
+        let start = self.written;
+        let count = bytes.len().min(MAX_CHECKPOINT - start);
         if count == 0 && !bytes.is_empty() {
             self.overflowed = true;
             return None;
         }
-        self.state.pending[length..length + count].copy_from_slice(&bytes[..count]);
-        self.state.length += count;
+        self.into[start..start + count].copy_from_slice(&bytes[..count]);
+        self.written = start + count;
         Some(count)
     }
 

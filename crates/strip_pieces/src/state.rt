@@ -1,5 +1,6 @@
 //! The state of a stream between its pieces.
-ghost use Rattle.std.specs.Prelude.{◌≡◌, [], ℕ, List};
+ghost use Rattle.std.specs.Prelude.{◌≡◌, ◌≤◌, [], ℕ, List, length};
+ghost use Rattle.anstyle_parse.specs.Laws.Checkpoint.{max_checkpoint};
 ghost use Rattle.anstyle_parse.specs.Views.Accumulator.{front_of};
 ghost use Rattle.anstyle_parse.specs.Views.Parser.{IsAfter};
 ghost use Rattle.strip_pieces.specs.State.{pending_of, StandsFor};
@@ -39,9 +40,18 @@ impl StreamState {
         ensures { (before : List ℕ) → StandsFor self.now before → IsAfter front_of result before }
     {
         let mut parser = Parser::<Utf8Parser>::new();
+        self.resume_in(&mut parser);
+        parser
+    }
+
+    /// Leads a new parser to where the stream stands, in its place: it is large to copy.
+    #[inline(always)]
+    pub fn resume_in(&self, parser: &mut Parser)
+        ensures { (before : List ℕ) → IsAfter front_of parser.old [] → StandsFor self.now before
+            → IsAfter front_of parser.new before }
+    {
         let length = self.length.min(MAX_CHECKPOINT);
         parser.advance_all(&mut (), &self.pending[..length]);
-        parser
     }
 
     /// Stands where the parser stands.
@@ -50,7 +60,17 @@ impl StreamState {
         ensures { (before : List ℕ) → IsAfter front_of parser.now before
             → StandsFor self.new before }
     {
-        let (saved, _) = checkpoint(parser, Saved::new());
-        *self = saved.into_state();
+        let mut held = [0; MAX_CHECKPOINT];
+        let (saved, _) = checkpoint(parser, Saved::new(&mut held));
+        self.hold(saved.bytes());
+    }
+
+    /// Holds these bytes.
+    fn hold(&mut self, bytes: &[u8])
+        requires { length bytes.now ≤ max_checkpoint }
+        ensures { pending_of self.new ≡ bytes.now }
+    {
+        self.pending[..bytes.len()].copy_from_slice(bytes);
+        self.length = bytes.len();
     }
 }

@@ -23,31 +23,31 @@ pub returns-then-is_some-clause-little_room : goal.returns-then-is_some-clause-l
 returns-then-is_some-clause-little_room c =
     let state = c.args.self.now in
     let piece = c.args.piece.now in
-    let writer = c.resume-writer.result in
+    let writer = c.go_on.new.self in
     let taken = c.advance_texts.ensures.calls in
     let held = pending_of state.stream in
-    let calls = machine_calls parser_after piece (machine_of c.resume-parser.result) in
-    let continues = c.advance_texts.ensures.stream held (c.resume-parser.ensures held refl) in
-    let at : writer_standing writer ≡ standing_of state = c.resume-writer.ensures.standing ∙ ap kept c.standing.ensures in
+    let calls = machine_calls parser_after piece (machine_of c.resume_in.new.parser) in
+    let continues = c.advance_texts.ensures.stream held (c.resume_in.ensures held c.new-parser.ensures.stands refl) in
+    let at : writer_standing writer ≡ standing_of state = c.go_on.ensures.standing ∙ ap kept c.standing.ensures in
     let short = length-html_continued (styling_of writer) held piece calls (writer_standing writer)
     (subst AreSound (sym at) (AreSound-kept _)) continues in
     let is_fault = c.fault.ensures ∙ ap fault_in c.output.ensures in
     let fault = some_fault-of (fault_in (output_of c.advance_texts.new.performer)) (ap is_some (sym is_fault) ∙ sym c.is_some.ensures ∙ c.if-is_some.true) in
     let more = longer (html_from (styling_of writer) (writer_standing writer) calls) c.new.result (output_of writer) (output_of c.advance_texts.new.performer)
-    (ap writer_in c.resume-writer.ensures.output ∙ c.new-output.ensures.writer) c.new.ensures.nothing
-    (ap fault_in c.resume-writer.ensures.output ∙ c.new-output.ensures.no_fault) taken.added fault.0 fault.1 in
+    (ap writer_in (c.go_on.ensures.output ∙ c.new-writer.ensures.output) ∙ c.new-output.ensures.writer) c.new.ensures.nothing
+    (ap fault_in (c.go_on.ensures.output ∙ c.new-writer.ensures.output) ∙ c.new-output.ensures.no_fault) taken.added fault.0 fault.1 in
     omega (arith, short, more, c.new.ensures.limit)
 
 pub save-requires : goal.save-requires
 save-requires c =
     let held = pending_of c.args.self.now.stream in
-    (held ++ c.args.piece.now, c.advance_texts.ensures.stands held (c.resume-parser.ensures held refl))
+    (held ++ c.args.piece.now, c.advance_texts.ensures.stands held (c.resume_in.ensures held c.new-parser.ensures.stands refl))
 
 module _ (c : goal.After-standing-2) where
   sound : AreSound (writer_standing c.advance_texts.new.performer)
   sound =
-      let calls = machine_calls parser_after c.args.piece.now (machine_of c.resume-parser.result) in
-      subst AreSound (sym c.advance_texts.ensures.calls.standing) (AreSound-at_end calls (writer_standing c.resume-writer.result) (subst AreSound (sym c.resume-writer.ensures.standing) (AreSound-kept _)))
+      let calls = machine_calls parser_after c.args.piece.now (machine_of c.resume_in.new.parser) in
+      subst AreSound (sym c.advance_texts.ensures.calls.standing) (AreSound-at_end calls (writer_standing c.go_on.new.self) (subst AreSound (sym c.go_on.ensures.standing) (AreSound-kept _)))
 
 pub save-requires-2-clause-shown : goal.save-requires-2-clause-shown
 save-requires-2-clause-shown c = omega (arith, ap (λ (at : Standing). length at.shown.link) c.standing-2.ensures, (sound c).shown.short)
@@ -59,18 +59,18 @@ pub returns-clause-taken : goal.returns-clause-taken
 returns-clause-taken c =
     let state = c.args.self.now in
     let piece = c.args.piece.now in
-    let writer = c.resume-writer.result in
+    let writer = c.go_on.new.self in
     let after = c.advance_texts.new.performer in
     let taken = c.advance_texts.ensures.calls in
-    let calls = machine_calls parser_after piece (machine_of c.resume-parser.result) in
+    let calls = machine_calls parser_after piece (machine_of c.resume_in.new.parser) in
     let buffer = c.finish-buffer.result.0 in
-    let at : writer_standing writer ≡ standing_of state = c.resume-writer.ensures.standing ∙ ap kept c.standing.ensures in
-    let styling : styling_of writer ≡ styling_in state = c.resume-writer.ensures.styling ∙ c.styling.ensures in
+    let at : writer_standing writer ≡ standing_of state = c.go_on.ensures.standing ∙ ap kept c.standing.ensures in
+    let styling : styling_of writer ≡ styling_in state = c.go_on.ensures.styling ∙ c.new-writer.ensures.new.styling ∙ c.styling.ensures in
     let no_fault = no_fault-of (fault_in (output_of after)) (ap is_some (sym (c.fault.ensures ∙ ap fault_in c.output.ensures)) ∙ sym c.is_some.ensures ∙ c.if-is_some.false) in
     let text = html_from (styling_of writer) (writer_standing writer) calls in
     let whole = held-all text c.new.result (output_of writer) (output_of after)
-    (ap writer_in c.resume-writer.ensures.output ∙ c.new-output.ensures.writer) c.new.ensures.nothing
-    (ap fault_in c.resume-writer.ensures.output ∙ c.new-output.ensures.no_fault) taken.added buffer c.finish-buffer.result.1 no_fault
+    (ap writer_in (c.go_on.ensures.output ∙ c.new-writer.ensures.output) ∙ c.new-output.ensures.writer) c.new.ensures.nothing
+    (ap fault_in (c.go_on.ensures.output ∙ c.new-writer.ensures.output) ∙ c.new-output.ensures.no_fault) taken.added buffer c.finish-buffer.result.1 no_fault
     (subst (λ output. Finishes ghosts output buffer c.finish-buffer.result.1) c.suspend.ensures c.finish-buffer.ensures.finishes) in
     let html = c.html.ensures ∙ ap behind whole in
     let stands = taken.standing ∙ ap (λ (s : Standing). standing_at_end s calls) at in
@@ -80,10 +80,10 @@ returns-clause-taken c =
     record {
       calls = calls;
       same_length = omega (arith, fits, ap length c.put_front.ensures.written, length-append c.html.result.now rest, length-drop (length c.html.result.now) c.args.room.now);
-      continues = λ before is. c.advance_texts.ensures.stream before (c.resume-parser.ensures before is);
+      continues = λ before is. c.advance_texts.ensures.stream before (c.resume_in.ensures before c.new-parser.ensures.stands is);
       stream = λ before is.
           subst (λ (stream : StreamState). StreamStandsFor stream (before ++ piece)) (sym c.save-2.ensures.stream)
-          (c.save.ensures (before ++ piece) (c.advance_texts.ensures.stands before (c.resume-parser.ensures before is)));
+          (c.save.ensures (before ++ piece) (c.advance_texts.ensures.stands before (c.resume_in.ensures before c.new-parser.ensures.stands is)));
       styling = c.save-2.ensures.styling;
       standing = ap kept (c.save-2.ensures.standing ∙ c.standing-2.ensures ∙ stands) ∙ kept-sound _ is_sound;
       written_fits = omega (arith, c.put_front.ensures.length, fits);

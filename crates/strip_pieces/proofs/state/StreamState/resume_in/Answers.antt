@@ -5,12 +5,12 @@ use Rattle.anstyle_parse.specs.Views.Accumulator.{front_of}
 use Rattle.anstyle_parse.specs.Views.Parser.{IsAfter}
 use Rattle.anstyle_parse.specs.Laws.Checkpoint.{max_checkpoint}
 use Rattle.strip_pieces.specs.State.{pending_of}
-use Rattle.strip_pieces.proofs.state.StreamState.resume.Goals as goal
+use Rattle.strip_pieces.proofs.state.StreamState.resume_in.Goals as goal
 
 pub returns : goal.returns
-returns c = λ before stands.
+returns c = λ before new stands.
     let state = c.args.self.now in
-    let took : IsAfter front_of c.advance_all.new.self (take c.min-length.result state.pending) = c.advance_all.ensures.stands [] refl c.new-parser.ensures.stands in
+    let took : IsAfter front_of c.advance_all.new.self (take c.min-length.result state.pending) = c.advance_all.ensures.stands [] refl new in
     let held : IsAfter front_of c.advance_all.new.self (pending_of state) =
     let all : length state.pending ≡ max_checkpoint = omega arith in
     subst (λ (l : List ℕ). IsAfter front_of c.advance_all.new.self l)

@@ -28,7 +28,7 @@ impl Links {
     ghost use Rattle.ansi_html.specs.ShownLinks.{shown_link, selected_link, has_next};
 
     /// No link.
-    #[inline(always)]
+    #[inline]
     pub(crate) fn none() -> Links
         ensures shown { shown_link result ≡ [] }
         ensures selected { selected_link result ≡ [] }

@@ -50,7 +50,7 @@ impl<W: Sink> HtmlWriter<W> {
 
     /// One that writes to this output, says styles in this way, and has received no call.
     /// Nothing is written.
-    #[inline(always)]
+    #[inline]
     pub fn new(styling: Styling, output: Output<W>) -> HtmlWriter<W>
         ensures output { output_of result ≡ output }
         ensures new { IsNew styling result }

@@ -109,11 +109,11 @@ impl HtmlState {
         ensures little_room { IfNone result
             (min (length room.old) (length lent.old) < most_html (length piece.now)) }
     {
-        let mut parser = Parser::<Utf8Parser>::new();
-        self.stream.resume_in(&mut parser);
         let output = Output::new(HtmlBuffer::new(room.len(), lent));
         let mut writer = HtmlWriter::new(self.styling(), output);
         writer.go_on(self.standing());
+        let mut parser = Parser::<Utf8Parser>::new();
+        self.stream.resume_in(&mut parser);
         parser.advance_texts(&mut writer, piece);
         if writer.output().fault().is_some() {
             return None;

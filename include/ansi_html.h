@@ -13,7 +13,7 @@
  *
  * A stream comes in pieces of any size, cut anywhere: its HTML, and what ends it, is the same. There is
  * nothing to allocate or to free, no input is refused, and no call fails but for a room that is too small.
- * A call takes about 40 KiB of the stack. The library has no data of its own: threads may call it at the
+ * A call takes about 26 KiB of the stack. The library has no data of its own: threads may call it at the
  * same time, each with a state of its own.
  *
  *     ansi_html state = {0};

@@ -6,7 +6,7 @@ mod words;
 
 use ansi_screen::Screen;
 use anstyle_parse::io::{FromRead, Output, perform_to_end};
-use screen_draw::{draw, update_to_end};
+use screen_draw::{Noting, draw, update_to_end};
 use standard_streams::{
     answered, asked_of, buffered, ended_with_reason, failed, given_words, misused, value_of,
     wrong_size,
@@ -38,10 +38,11 @@ fn main(rt: HostRuntime) -> ExitCode {
     let mut reader = FromRead::new(rt.stdin());
     let mut output = Output::new(buffered(rt.stdout()));
     let read = if updates {
-        let Ok(mut shown) = Screen::new(rt.alloc(), size.columns, size.rows) else {
+        let Ok(wanted) = Screen::new(rt.alloc(), size.columns, size.rows) else {
             return failed(&rt, PROGRAM, "out of memory");
         };
-        update_to_end(&mut reader, &mut shown, &mut screen, &mut output)
+        let mut wanted = Noting::new(wanted);
+        update_to_end(&mut reader, &mut screen, &mut wanted, &mut output)
     } else {
         perform_to_end(&mut reader, &mut screen)
     };

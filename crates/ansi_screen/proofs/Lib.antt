@@ -18,3 +18,4 @@ pub mod SizeLemmas
 pub mod ColorLemmas
 pub mod ContentLemmas
 pub mod ContentCalls
+pub mod AloneLemmas

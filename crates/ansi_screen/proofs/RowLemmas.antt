@@ -31,13 +31,13 @@ pub record Same (start end : ℕ) (xs ys : List Cell) : Type 0 where
   pub behind : drop end xs ≡ drop end ys
   pub long : length xs ≡ length ys
 
-same-refl : (start end : ℕ) (xs : List Cell) → Same start end xs xs
+pub same-refl : (start end : ℕ) (xs : List Cell) → Same start end xs xs
 same-refl start end xs = record { front = refl; behind = refl; long = refl }
 
 same-sym : (start end : ℕ) (xs ys : List Cell) → Same start end xs ys → Same start end ys xs
 same-sym start end xs ys a = record { front = sym a.front; behind = sym a.behind; long = sym a.long }
 
-same-trans : (start end : ℕ) (xs ys zs : List Cell) → Same start end xs ys → Same start end ys zs
+pub same-trans : (start end : ℕ) (xs ys zs : List Cell) → Same start end xs ys → Same start end ys zs
     → Same start end xs zs
 same-trans start end xs ys zs a b = record { front = a.front ∙ b.front; behind = a.behind ∙ b.behind; long = a.long ∙ b.long }
 
@@ -46,7 +46,7 @@ abbrev IsFree : ℕ → List Cell → Type 0
 IsFree place cells = is_right (cell_at place cells).part ≡ false
 
 -- edits between two such places
-same-set : (start end place : ℕ) (cells : List Cell) (x : Cell) → start ≤ place → place < end
+pub same-set : (start end place : ℕ) (cells : List Cell) (x : Cell) → start ≤ place → place < end
     → Same start end (set cells place x) cells
 same-set start end place cells x from to = record {
   front = take-set-le start cells place x from;
@@ -76,7 +76,7 @@ same-cut : (start end place : ℕ) (cells : List Cell) → start ≤ place → p
     → IsFree end cells → Same start end (cut place cells) cells
 same-cut start end place cells from to free free_end = cut-between start end place cells _ refl from to free free_end
 
-same-within : (start end from to : ℕ) (how : List Cell → List Cell) (cells : List Cell) → start ≤ from → from ≤ to
+pub same-within : (start end from to : ℕ) (how : List Cell → List Cell) (cells : List Cell) → start ≤ from → from ≤ to
     → to ≤ end → to ≤ length cells
     → length (how (take (to - from) (drop from cells))) ≡ to - from → Same start end (within from to how cells) cells
 same-within start end from to how cells first order last inside long =

@@ -13,3 +13,4 @@ pub mod Leaving
 pub mod Size
 pub mod Text
 pub mod Laws
+pub mod Alone

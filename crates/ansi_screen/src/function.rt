@@ -1,6 +1,7 @@
 //! Control functions by their final byte.
 ghost use Rattle.std.specs.Prelude.{◌≡◌};
 ghost use Rattle.ansi_screen.specs.After.{function_of, is_known};
+ghost use Rattle.ansi_screen.specs.Alone.{moves_alone};
 
 /// Edits of cells.
 #[derive(Clone, Copy)]
@@ -127,4 +128,22 @@ impl Function {
             _ => Function::Nothing,
         }
     }
+
+    /// Whether it changes nothing but the cursor: a move, SGR or CHT.
+    fn moves_alone(self) -> bool
+        ensures { result ≡ moves_alone self }
+    {
+        matches!(
+            self,
+            Function::Moves(_) | Function::Sets(Setting::Rendition | Setting::ForwardTab)
+        )
+    }
+}
+
+/// Whether a control sequence without intermediates changes nothing but the cursor, by its final byte: it moves it
+/// or is SGR.
+pub fn moves_alone(final_byte: u8) -> bool
+    ensures { result ≡ moves_alone (function_of final_byte) }
+{
+    Function::of(final_byte).moves_alone()
 }

@@ -22,3 +22,7 @@ pub mod FrameLemmas
 pub mod ChangesLemmas
 pub mod MarginLemmas
 pub mod UpdatesLemmas
+pub mod ChangedLemmas
+pub mod NotingLemmas
+pub mod SkippedLemmas
+pub mod NotedLemmas

@@ -1,8 +1,8 @@
 -- What is the same is not drawn.
-use Rattle.std.proofs.Common.{◌≡◌, ℕ, zero, suc, ◌<◌, Bool, true, false, List, [], ◌∷◌, ◌++◌, refl, ap, ◌∙◌, arith, append-nil}
+use Rattle.std.proofs.Common.{◌≡◌, ℕ, zero, suc, ◌-◌, ◌<◌, Bool, true, false, List, [], ◌∷◌, ◌++◌, refl, ap, ◌∙◌, arith, append-nil}
 use Rattle.std.specs.Prelude.{◌&&◌, ◌||◌, not, ◌==◌, nat_lt, if◌then◌else◌}
 use Rattle.std.specs.Bool.{beq}
-use Rattle.std.proofs.lemmas.Bool.{and_parts, eq-eqb, ne_eqb}
+use Rattle.std.proofs.lemmas.Bool.{and_parts, eq-eqb, eqb-true, ne_eqb}
 use Rattle.ansi_style.proofs.EqualityLemmas.{are_equal-refl}
 use Rattle.ansi_screen.specs.declared.cell.Cell.{Cell}
 use Rattle.ansi_screen.specs.declared.cell.Marks.{Marks}
@@ -61,7 +61,7 @@ or-true : (t : Bool) → (t || true) ≡ true
 or-true true = refl
 or-true false = refl
 
-frame-refl : (a : Display) → has_same_frame a a ≡ true
+pub frame-refl : (a : Display) → has_same_frame a a ≡ true
 unfolding has_same_frame
 frame-refl a =
     let alternate : beq a.is_alternate a.is_alternate ≡ true = flag-refl a.is_alternate in
@@ -101,6 +101,18 @@ stays : (row column : ℕ) (place : Place) (old new : Cell) (news : List Cell) �
 unfolding brush_behind
 stays row column place old new news alike = let done : is_done (begun_at place) old new ≡ true = done-alike (begun_at place) old new alike in rw done refl
 
+pub brush-stays : (row column : ℕ) (brush : Brush) (old new : Cell) (cells : List Cell) → ((brush.erased == 0) && are_alike old new) ≡ true
+    → (change_calls row column brush old new cells ≡ []) × (brush ≡ brush_behind row column brush old new cells)
+unfolding brush_behind
+brush-stays row column brush old new cells is =
+    let parts = and_parts (brush.erased == 0) (are_alike old new) is in
+    let none : brush.erased ≡ 0 = eqb-true brush.erased 0 parts.0 in
+    let left : brush.erased ≡ brush.erased - 1 = omega arith in
+    let done : is_done brush old new ≡ true = done-alike brush old new parts.1 in (
+      alike-nothing row column brush old new cells parts.1,
+      rw done (ap (λ n. record brush { erased = n }) left),
+    )
+
 pub row-alike : (row column : ℕ) (place : Place) (olds news : List Cell) → all_two are_alike olds news ≡ true
     → (row_calls row column (begun_at place) olds news ≡ []) × (brush_after row column (begun_at place) olds news ≡ begun_at place)
 row-alike row column place [] news all = (refl, refl)
@@ -115,7 +127,7 @@ row-alike row column place (x ∷ xs) (y ∷ ys) all =
       ap (λ b. brush_after row (suc column) b xs ys) same ∙ brush,
     )
 
-row-nothing : (row column : ℕ) (place : Place) (xs : List Cell) → (row_calls row column (begun_at place) xs xs ≡ []) × (brush_after row column (begun_at place) xs xs ≡ begun_at place)
+pub row-nothing : (row column : ℕ) (place : Place) (xs : List Cell) → (row_calls row column (begun_at place) xs xs ≡ []) × (brush_after row column (begun_at place) xs xs ≡ begun_at place)
 row-nothing row column place xs = row-alike row column place xs xs (all-refl are_alike alike-refl xs)
 
 -- of the same cells, wherever the cursor stood

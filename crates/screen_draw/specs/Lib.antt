@@ -1,8 +1,10 @@
 pub mod Alike
 pub mod Bound
+pub mod Changed
 pub mod Draw
 pub mod Drawing
 pub mod Laws
+pub mod Noting
 pub mod Redrawn
 pub mod Update
 pub mod Updates

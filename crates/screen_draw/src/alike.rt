@@ -3,8 +3,10 @@ ghost use Rattle.std.specs.Prelude.{◌≡◌};
 ghost use Rattle.std.specs.Bool.{beq};
 ghost use Rattle.ansi_screen.specs.Print.{draws};
 ghost use Rattle.screen_draw.specs.Alike.{are_same_marks, are_same_parts, are_alike, all_two, are_same_sets, are_same_places, has_same_frame, has_same_margins, has_same_modes, looks_same, is_plain, lacks_print, is_steady};
+ghost use Rattle.screen_draw.specs.Changed.{Keeps};
 
 use crate::cells::{is_erased, is_same};
+use crate::changed::Changed;
 use ansi_screen::{Cell, Charsets, Marks, Part, Place, Screen};
 
 /// Whether the marks are the same.
@@ -159,14 +161,24 @@ pub(crate) fn lacks_print(screen: &Screen) -> bool
     screen.cursor().column == screen.columns() && is_erased(screen.cells()[screen.row_end() - 1])
 }
 
-/// Whether only cells, the cursor with its style, margins, DECAWM and DECTCEM can differ.
+/// Whether both have the same frame, which is not asked where it can not have changed.
+fn keeps_frame(a: &Screen, b: &Screen, changed: Changed) -> bool
+    requires { Keeps changed a.now.display b.now.display }
+    ensures { result ≡ has_same_frame a.now.display b.now.display }
+{
+    !changed.is_framed || has_same_frame(a, b)
+}
+
+/// Whether only cells, the cursor with its style, margins, DECAWM and DECTCEM can differ, where no more can
+/// have changed.
 #[tactic(auto, unfolding(crate::specs::Alike::is_steady))]
-pub(crate) fn is_steady(a: &Screen, b: &Screen) -> bool
+pub(crate) fn is_steady(a: &Screen, b: &Screen, changed: Changed) -> bool
+    requires { Keeps changed a.now.display b.now.display }
     ensures { result ≡ is_steady a.now.display b.now.display }
 {
     is_plain(a)
         && is_plain(b)
         && !lacks_print(a)
         && are_same_sets(a.cursor().charsets, b.cursor().charsets)
-        && has_same_frame(a, b)
+        && keeps_frame(a, b, changed)
 }

@@ -1,7 +1,9 @@
 //! What differs between two screens in margins, cells, cursor and modes.
-ghost use Rattle.std.specs.Prelude.{◌≡◌, ◌<◌, ◌≤◌, ◌∷◌, ◌++◌, [], Some, length};
+ghost use Rattle.std.specs.Prelude.{◌≡◌, ◌<◌, ◌≤◌, ◌∷◌, ◌++◌, [], Some, ◌+◌, ◌&&◌, ◌==◌, length, drop};
+ghost use Rattle.screen_draw.specs.Alike.{are_alike};
 ghost use Rattle.ansi_screen.specs.Cells.{cell_at};
 ghost use Rattle.ansi_screen.specs.Display.{most_columns, most_rows, IsSized};
+ghost use Rattle.screen_draw.specs.Changed.{Keeps};
 ghost use Rattle.screen_draw.specs.Draw.{position, select, wrap_calls, last_cell, last_column};
 ghost use Rattle.screen_draw.specs.Drawing.{Draws};
 ghost use Rattle.screen_draw.specs.Update.{move_calls, erased_run, painted_calls, is_done, change_calls, half_columns, brush_behind, row_calls, brush_after, begun_at, place_behind, rows_calls, wants_wrap, cursor_changes, mode_changes, changes_from, changes_calls};
@@ -9,6 +11,7 @@ ghost use Rattle.screen_draw.specs.Update.{move_calls, erased_run, painted_calls
 use crate::alike::{are_alike, are_all_alike, has_same_margins, lacks_print};
 use crate::calls::{put_number, put_position, put_private_mode, put_style};
 use crate::cells::{is_erased, is_same, put_marked, put_style_change};
+use crate::changed::Changed;
 use crate::places::put_wrap;
 use crate::rest::{last_of_row, put_margins_of};
 use ansi_screen::{Cell, Part, Place, Screen};
@@ -90,6 +93,13 @@ impl Brush {
         self.erased > 0 || new.is_right() || are_alike(old, new)
     }
 
+    /// Whether a cell, which is like the old one, leaves the brush as it is.
+    fn stays(self, old: Cell, new: Cell) -> bool
+        ensures { result ≡ (self.erased == 0 && are_alike old new) }
+    {
+        self.erased == 0 && are_alike(old, new)
+    }
+
     /// The brush behind a cell, before others.
     #[tactic(auto, unfolding(crate::specs::Update::brush_behind))]
     fn behind(self, row: usize, column: usize, old: Cell, new: Cell, cells: &[Cell]) -> Brush
@@ -150,6 +160,31 @@ fn cell_in(cells: &[Cell], column: usize) -> Cell
     cells[column]
 }
 
+/// Draws the cell of a column, where it differs. The answer is the brush behind it.
+fn put_step<W: Sink>(
+    output: &mut Output<W>,
+    row: usize,
+    column: usize,
+    brush: Brush,
+    olds: &[Cell],
+    news: &[Cell],
+) -> Brush
+    requires row { row < most_rows }
+    requires column { column < length news.now }
+    requires columns { length news.now ≤ most_columns }
+    requires same { length olds.now ≡ length news.now }
+    ensures calls { Draws W.Sink (change_calls row column brush (cell_at column olds.now) (cell_at column news.now)
+        (drop (column + 1) news.now)) output.old output.new }
+    ensures brush { result ≡ brush_behind row column brush (cell_at column olds.now) (cell_at column news.now)
+        (drop (column + 1) news.now) }
+{
+    let old = cell_in(olds, column);
+    let new = cell_in(news, column);
+    let cells = &news[column + 1..];
+    put_change(output, row, column, brush, old, new, cells);
+    brush.behind(row, column, old, new, cells)
+}
+
 /// Draws the cells of a row that differ. The answer is where the cursor stands then.
 fn put_changed_row<W: Sink>(
     output: &mut Output<W>,
@@ -166,11 +201,9 @@ fn put_changed_row<W: Sink>(
 {
     let mut brush = Brush::begun_at(place);
     for column in 0..news.len() {
-        let old = cell_in(olds, column);
-        let new = cell_in(news, column);
-        let cells = &news[column + 1..];
-        put_change(output, row, column, brush, old, new, cells);
-        brush = brush.behind(row, column, old, new, cells);
+        if !brush.stays(cell_in(olds, column), cell_in(news, column)) {
+            brush = put_step(output, row, column, brush, olds, news);
+        }
     }
     brush.place
 }
@@ -196,16 +229,24 @@ fn put_row<W: Sink>(
     }
 }
 
-/// Draws the cells that differ, from the cursor's place on. The answer is where it stands then.
-fn put_rows<W: Sink>(output: &mut Output<W>, start: Place, shown: &Screen, wanted: &Screen) -> Place
-    requires columns { shown.now.display.width ≡ wanted.now.display.width }
-    requires rows { shown.now.display.height ≡ wanted.now.display.height }
+/// Draws the cells that differ, in the rows that can have changed, from the cursor's place on. The answer is where it
+/// stands then.
+fn put_rows<W: Sink>(
+    output: &mut Output<W>,
+    start: Place,
+    shown: &Screen,
+    wanted: &Screen,
+    changed: Changed,
+) -> Place
+    requires { Keeps changed shown.now.display wanted.now.display }
     ensures calls { Draws W.Sink (rows_calls wanted.now.display.height start shown.now.display wanted.now.display)
         output.old output.new }
     ensures place { result ≡ place_behind wanted.now.display.height start shown.now.display wanted.now.display }
 {
+    let past = changed.past.min(wanted.rows());
+    let first = changed.first.min(past);
     let mut place = start;
-    for row in 0..wanted.rows() {
+    for row in first..past {
         place = put_row(output, row, place, shown.row(row), wanted.row(row));
     }
     place
@@ -257,13 +298,19 @@ fn put_mode_change<W: Sink>(output: &mut Output<W>, mode: u16, old: bool, new: b
     }
 }
 
-/// Draws what differs in cells, cursor, DECAWM and DECTCEM, where the cursor stands at a place.
-fn put_changes_from<W: Sink>(output: &mut Output<W>, start: Place, shown: &Screen, wanted: &Screen)
-    requires columns { shown.now.display.width ≡ wanted.now.display.width }
-    requires rows { shown.now.display.height ≡ wanted.now.display.height }
+/// Draws what differs in cells, cursor, DECAWM and DECTCEM, where the cursor stands at a place and no other rows can
+/// have changed.
+fn put_changes_from<W: Sink>(
+    output: &mut Output<W>,
+    start: Place,
+    shown: &Screen,
+    wanted: &Screen,
+    changed: Changed,
+)
+    requires { Keeps changed shown.now.display wanted.now.display }
     ensures { Draws W.Sink (changes_from start shown.now.display wanted.now.display) output.old output.new }
 {
-    let place = put_rows(output, start, shown, wanted);
+    let place = put_rows(output, start, shown, wanted, changed);
     put_cursor_changes(output, place, wanted);
     put_mode_change(output, 7, shown.wraps(), wanted.wraps());
     put_mode_change(
@@ -285,16 +332,20 @@ fn at_home(place: Place) -> Place
     }
 }
 
-/// Draws what differs in margins, cells, cursor, DECAWM and DECTCEM.
-pub(crate) fn put_changes<W: Sink>(output: &mut Output<W>, shown: &Screen, wanted: &Screen)
-    requires columns { shown.now.display.width ≡ wanted.now.display.width }
-    requires rows { shown.now.display.height ≡ wanted.now.display.height }
+/// Draws what differs in margins, cells, cursor, DECAWM and DECTCEM, where no other rows can have changed.
+pub(crate) fn put_changes<W: Sink>(
+    output: &mut Output<W>,
+    shown: &Screen,
+    wanted: &Screen,
+    changed: Changed,
+)
+    requires { Keeps changed shown.now.display wanted.now.display }
     ensures { Draws W.Sink (changes_calls shown.now.display wanted.now.display) output.old output.new }
 {
     if has_same_margins(shown, wanted) {
-        put_changes_from(output, shown.cursor(), shown, wanted);
+        put_changes_from(output, shown.cursor(), shown, wanted, changed);
     } else {
         put_margins_of(output, wanted);
-        put_changes_from(output, at_home(shown.cursor()), shown, wanted);
+        put_changes_from(output, at_home(shown.cursor()), shown, wanted, changed);
     }
 }

@@ -4,9 +4,11 @@
 mod alike;
 mod calls;
 mod cells;
+mod changed;
 mod changes;
 mod cleared;
 pub mod laws;
+mod noting;
 mod places;
 mod rest;
 mod updates;
@@ -29,6 +31,8 @@ ghost use Rattle.std.specs.List.{AllByRecursion};
 
 use ansi_screen::Screen;
 use anstyle_parse::io::{Output, Sink};
+use changed::Changed;
+pub use noting::Noting;
 pub use updates::update_to_end;
 use whole::{put_all, put_update};
 
@@ -95,5 +99,5 @@ pub fn update<W: Sink>(shown: &Screen, wanted: &Screen, output: &mut Output<W>)
     ensures bound { IsSized wanted.now.display → length (canon (update_calls shown.now.display wanted.now.display))
         ≤ update_bound shown.now.display wanted.now.display }
 {
-    put_update(output, shown, wanted);
+    put_update(output, shown, wanted, Changed::all(wanted.rows()));
 }

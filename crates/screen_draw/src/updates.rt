@@ -1,9 +1,12 @@
 //! Updates, behind each piece of a stream.
 ghost use Rattle.std.specs.Prelude.{◌≡◌, None};
 ghost use Rattle.anstyle_parse.specs.Io.Output.{fault_in};
+ghost use Rattle.screen_draw.specs.Noting.{screen_of};
 ghost use Rattle.screen_draw.specs.Updates.{Follows};
 
-use crate::{draw, update};
+use crate::draw;
+use crate::noting::Noting;
+use crate::whole::put_update;
 use ansi_screen::Screen;
 use anstyle_parse::io::{Fault, Output, Sink, Source};
 use anstyle_parse::{Parser, Utf8Parser};
@@ -15,21 +18,24 @@ const PIECE: usize = 65_536;
 /// to, until the reader ends or fails or a write fails. What was written is handed on before the next read. At
 /// most 2^64 - 1 reads are made. No memory is taken.
 ///
-/// Both screens are the one that is drawn first; in the end `wanted` is the last one. `Err(Fault::Write)` means
+/// Of the rows only those are compared that the bytes of a read can have changed.
+///
+/// Both screens are the one that is drawn first; in the end `wanted` has the last one. `Err(Fault::Write)` means
 /// that a write failed, and nothing was read after it; `Err(Fault::Read)` that a read failed, or that 2^64 - 1
 /// reads all gave bytes.
 pub fn update_to_end<R: Source, W: Sink>(
     reader: &mut R,
     shown: &mut Screen,
-    wanted: &mut Screen,
+    wanted: &mut Noting,
     output: &mut Output<W>,
 ) -> Result<(), Fault>
-    requires same { shown.old ≡ wanted.old }
+    requires same { shown.old ≡ screen_of wanted.old }
     requires no_fault { fault_in output.old ≡ None }
-    ensures { Follows R.Source W.Sink reader.old reader.new wanted.old wanted.new output.old output.new result }
+    ensures { Follows R.Source W.Sink reader.old reader.new (screen_of wanted.old) (screen_of wanted.new)
+        output.old output.new result }
 {
     // The sizes of both are within their limits.
-    let _ = wanted.columns();
+    let _ = wanted.screen().columns();
     draw(shown, output);
     output.pass_on();
     if output.fault().is_some() {
@@ -43,8 +49,9 @@ pub fn update_to_end<R: Source, W: Sink>(
             None => return Err(Fault::Read),
             Some(0) => return Ok(()),
             Some(count) => {
+                wanted.forget();
                 parser.advance_all(wanted, &piece[..count]);
-                update(shown, wanted, output);
+                put_update(output, shown, wanted.screen(), wanted.changed());
                 output.pass_on();
                 if output.fault().is_some() {
                     return Err(Fault::Write);

@@ -1,4 +1,5 @@
 //! A whole screen, and the one that it covers.
+ghost use Rattle.screen_draw.specs.Changed.{Keeps};
 ghost use Rattle.screen_draw.specs.Draw.{covered_calls, shown_screen_calls, drawn_calls};
 ghost use Rattle.screen_draw.specs.Drawing.{Draws};
 ghost use Rattle.screen_draw.specs.Update.{update_calls};
@@ -6,6 +7,7 @@ ghost use Rattle.std.specs.Prelude.{◌≡◌};
 
 use crate::alike::{is_steady, looks_same};
 use crate::calls::{put_escape, put_private_mode};
+use crate::changed::Changed;
 use crate::changes::put_changes;
 use crate::cleared::put_cleared;
 use crate::places::put_screen;
@@ -49,14 +51,19 @@ pub(crate) fn put_all<W: Sink>(output: &mut Output<W>, screen: &Screen)
     put_shown_screen(output, screen);
 }
 
-/// Draws what differs; all, where more differs than cells, margins, the cursor, DECAWM and DECTCEM.
-pub(crate) fn put_update<W: Sink>(output: &mut Output<W>, shown: &Screen, wanted: &Screen)
-    requires columns { shown.now.display.width ≡ wanted.now.display.width }
-    requires rows { shown.now.display.height ≡ wanted.now.display.height }
+/// Draws what differs; all, where more differs than cells, margins, the cursor, DECAWM and DECTCEM. Of the rows only
+/// those are compared that can have changed.
+pub(crate) fn put_update<W: Sink>(
+    output: &mut Output<W>,
+    shown: &Screen,
+    wanted: &Screen,
+    changed: Changed,
+)
+    requires { Keeps changed shown.now.display wanted.now.display }
     ensures { Draws W.Sink (update_calls shown.now.display wanted.now.display) output.old output.new }
 {
-    if is_steady(shown, wanted) {
-        put_changes(output, shown, wanted);
+    if is_steady(shown, wanted, changed) {
+        put_changes(output, shown, wanted, changed);
     } else if !looks_same(shown, wanted) {
         put_cleared(output, shown);
         put_shown_screen(output, wanted);

@@ -1,5 +1,5 @@
 -- They are lawful, and so replayed.
-use Rattle.std.proofs.Common.{refl, ap, ◌∙◌}
+use Rattle.std.proofs.Common.{refl, ap, sym, ◌∙◌}
 use Rattle.anstyle_parse.proofs.Canonical.Replay.{replay}
 use Rattle.anstyle_parse.specs.Stream.Canon.{canon}
 use Rattle.ansi_screen.specs.After.{after_all}
@@ -10,6 +10,10 @@ use Rattle.screen_draw.proofs.DrawLemmas.{drawing-lawful}
 use Rattle.screen_draw.proofs.NoResetLemmas.{no-reset}
 use Rattle.screen_draw.proofs.UpdatedLemmas.{updated-is}
 use Rattle.screen_draw.proofs.update.Goals as goal
+
+pub put_update-requires : goal.put_update-requires
+put_update-requires g c =
+    c.all.ensures c.args.shown.now.display c.args.wanted.now.display (sym c.requires.columns) (sym c.requires.rows) (sym c.rows.ensures.rows)
 
 pub returns-clause-made : goal.returns-clause-made
 returns-clause-made g c =

@@ -1,9 +1,9 @@
 //! All parts of a screen, and the bytes that draw it.
-use ansi_screen::{Place, Screen, is_shown};
+use ansi_screen::{Place, Screen, is_shown, moves_alone};
 use anstyle_parse::io::{FromRead, FromWrite, Output};
 use anstyle_parse::{Parser, Utf8Parser};
 use screen_draw::laws::{followed, forgets, redrawn, selected, unchanged, updated};
-use screen_draw::{draw, update, update_to_end};
+use screen_draw::{Noting, draw, update, update_to_end};
 use std::alloc::{AllocError, Global};
 use std::test::Fail;
 
@@ -40,6 +40,7 @@ fn parts(rt: HostRuntime) -> Result<(), Fail> {
     assert!(rt; cells.len() == 27 && hidden.len() == 27);
     assert_eq!(rt; (cells[18].character, hidden[0].character), ('y', 'x'));
     assert_eq!(rt; screen.row_end(), 27);
+    assert!(rt; moves_alone(b'm') && moves_alone(b'H') && !moves_alone(b'K'));
     assert!(rt; is_shown('\u{ad}') && !is_shown('\u{85}') && !cells[18].is_right());
     Ok(())
 }
@@ -117,10 +118,8 @@ fn an_update_of_all(rt: HostRuntime) -> Result<(), Fail> {
 /// The drawing of a blank screen ends with its modes, and one update comes behind it.
 #[test]
 fn updates_of_a_stream(rt: HostRuntime) -> Result<(), Fail> {
-    let (mut first, mut last) = (
-        Screen::new(rt.alloc(), 9, 3)?,
-        Screen::new(rt.alloc(), 9, 3)?,
-    );
+    let mut first = Screen::new(rt.alloc(), 9, 3)?;
+    let mut last = Noting::new(Screen::new(rt.alloc(), 9, 3)?);
     let mut reader = FromRead::new(b"\x1b[2;2H\x1b[1mX".as_slice());
     let mut output = Output::new(FromWrite::new(Vec::new(rt.alloc())));
     let read = update_to_end(&mut reader, &mut first, &mut last, &mut output);
@@ -134,7 +133,7 @@ fn updates_of_a_stream(rt: HostRuntime) -> Result<(), Fail> {
             .ends_with(b"\x1b[?25h\x1b[2;2H\x1b[0;1mX")
     );
     let again = shown(rt.alloc(), written.as_slice())?;
-    assert_eq!(rt; again.cells(), last.cells());
-    assert_eq!(rt; again.cursor(), last.cursor());
+    assert_eq!(rt; again.cells(), last.screen().cells());
+    assert_eq!(rt; again.cursor(), last.screen().cursor());
     Ok(())
 }

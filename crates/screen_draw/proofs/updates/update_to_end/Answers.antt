@@ -14,12 +14,15 @@ use Rattle.screen_draw.specs.Draw.{drawn_calls}
 use Rattle.screen_draw.specs.Drawing.{Draws}
 use Rattle.screen_draw.specs.Update.{update_calls}
 use Rattle.screen_draw.specs.Updates.{IsPiece, joined}
-use Rattle.screen_draw.proofs.UpdatesLemmas.{joined-more, last-more, pieces-more, screens-more, received-shows, received-same, shows-sized, passed-on, no-updates, begins, draws-more, write-fault, follows}
+use Rattle.screen_draw.specs.declared.changed.Changed.{Changed}
+use Rattle.screen_draw.specs.Changed.{Keeps}
+use Rattle.screen_draw.proofs.NotedLemmas.{noted-keeps, noted-received}
+use Rattle.screen_draw.proofs.UpdatesLemmas.{joined-more, last-more, pieces-more, screens-more, received-shows, received-same, passed-on, no-updates, begins, draws-more, write-fault, follows}
 use Rattle.screen_draw.proofs.updates.update_to_end.Goals as goal
 
 pub returns-then-is_some : goal.returns-then-is_some
 returns-then-is_some g c =
-    let first = c.args.wanted.now in
+    let first = c.args.wanted.now.screen in
     let drawn : Draws g.W.Sink (drawn_calls first.display) c.args.output.now c.pass_on.new.self =
     begins g.W.Sink c.args.shown.now first _ _ _ c.requires.same c.draw.ensures.text c.draw.ensures.only c.pass_on.ensures in
     follows g.R.Source g.W.Sink _ _ first first c.args.output.now c.pass_on.new.self c.pass_on.new.self _ [] []
@@ -51,10 +54,10 @@ loop-turn-init g c = record {
 pub returns-in-None : goal.returns-in-None
 returns-in-None g c =
     let before = c.loop-turn.invariant in
-    follows g.R.Source g.W.Sink _ _ c.args.wanted.now c.loop-turn.wanted c.args.output.now c.pass_on.new.self c.loop-turn.output _ before.pieces before.screens
+    follows g.R.Source g.W.Sink _ _ c.args.wanted.now.screen c.loop-turn.wanted.screen c.args.output.now c.pass_on.new.self c.loop-turn.output _ before.pieces before.screens
     (Consumes-kept _ _ _ (joined before.pieces) before.consumed c.in-None.ensures.nothing_passed)
     before.each before.are_screens before.is_last
-    (begins g.W.Sink c.args.shown.now c.args.wanted.now _ _ _ c.requires.same c.draw.ensures.text c.draw.ensures.only c.pass_on.ensures)
+    (begins g.W.Sink c.args.shown.now c.args.wanted.now.screen _ _ _ c.requires.same c.draw.ensures.text c.draw.ensures.only c.pass_on.ensures)
     before.draws (before.no_fault, inl c.in-None.ensures.failed)
 
 pub returns-in-Some-eq0 : goal.returns-in-Some-eq0
@@ -64,49 +67,49 @@ returns-in-Some-eq0 g c =
     subst (λ n. Consumes (g.R.Source.remaining c.loop-turn.reader) (g.R.Source.remaining c.read.new.self) (take n c.read.new.into))
     c.in-Some-eq0.field-0-test c.in-Some-eq0.ensures.passed in
     let room : 0 < length c.read.new.into = omega (arith, c.read.auto.into, before.room) in
-    follows g.R.Source g.W.Sink _ _ c.args.wanted.now c.loop-turn.wanted c.args.output.now c.pass_on.new.self c.loop-turn.output _ before.pieces before.screens
+    follows g.R.Source g.W.Sink _ _ c.args.wanted.now.screen c.loop-turn.wanted.screen c.args.output.now c.pass_on.new.self c.loop-turn.output _ before.pieces before.screens
     (subst (Consumes (g.R.Source.remaining c.args.reader.now) (g.R.Source.remaining c.read.new.self)) (append-nil (joined before.pieces))
     (Consumes-trans _ _ _ (joined before.pieces) [] before.consumed none))
     before.each before.are_screens before.is_last
-    (begins g.W.Sink c.args.shown.now c.args.wanted.now _ _ _ c.requires.same c.draw.ensures.text c.draw.ensures.only c.pass_on.ensures)
+    (begins g.W.Sink c.args.shown.now c.args.wanted.now.screen _ _ _ c.requires.same c.draw.ensures.text c.draw.ensures.only c.pass_on.ensures)
     before.draws (before.no_fault, (λ zero. c.in-Some-eq0.ensures.end c.in-Some-eq0.field-0-test room zero, c.in-Some-eq0.ensures.not_failed ∙ before.not_failed))
 
-pub update-requires-clause-columns : goal.update-requires-clause-columns
-update-requires-clause-columns g c =
+pub put_update-requires : goal.put_update-requires
+put_update-requires g c =
     let before = c.loop-turn.invariant in
-    let first = c.args.wanted.now in
-    let here = shows-sized first c.loop-turn.shown (joined before.pieces) c.columns.ensures.sized before.received_behind in
-    let there = shows-sized first c.advance_all.new.performer _ c.columns.ensures.sized
-    (c.advance_all.ensures.received first (joined before.pieces) refl before.stands before.received) in
-    here.0 ∙ sym there.0
-
-pub update-requires-clause-rows : goal.update-requires-clause-rows
-update-requires-clause-rows g c =
-    let before = c.loop-turn.invariant in
-    let first = c.args.wanted.now in
-    let here = shows-sized first c.loop-turn.shown (joined before.pieces) c.columns.ensures.sized before.received_behind in
-    let there = shows-sized first c.advance_all.new.performer _ c.columns.ensures.sized
-    (c.advance_all.ensures.received first (joined before.pieces) refl before.stands before.received) in
-    here.1 ∙ sym there.1
+    let old = c.forget.new.self in
+    let same : c.loop-turn.shown ≡ old.screen =
+    received-same c.args.wanted.now.screen c.loop-turn.shown c.loop-turn.wanted.screen (joined before.pieces) before.received_behind before.received
+    ∙ sym c.forget.ensures.screen in
+    let noted : Keeps c.advance_all.new.performer.changed c.loop-turn.shown.display c.advance_all.new.performer.screen.display =
+    noted-keeps _ old c.advance_all.new.performer c.loop-turn.shown.display c.advance_all.ensures.calls
+    (subst (λ (s : State). Keeps old.changed s.display old.screen.display) (sym same) c.forget.ensures.nothing) in
+    subst (λ (s : State). Keeps c.changed.result c.loop-turn.shown.display s.display) (sym c.screen-in-Some.ensures)
+    (subst (λ (ch : Changed). Keeps ch c.loop-turn.shown.display c.advance_all.new.performer.screen.display) (sym c.changed.ensures) noted)
 
 pub returns-then-is_some-2 : goal.returns-then-is_some-2
 returns-then-is_some-2 g c =
     let before = c.loop-turn.invariant in
-    let first = c.args.wanted.now in
-    let next = c.advance_all.new.performer in
+    let first = c.args.wanted.now.screen in
+    let next = c.advance_all.new.performer.screen in
     let bytes = take c.in-Some.count c.read.new.into in
-    let received = c.advance_all.ensures.received first (joined before.pieces) refl before.stands before.received in
+    let received = noted-received first (joined before.pieces) bytes _ c.forget.new.self c.advance_all.new.performer
+    (subst (HasReceived (λ (a : State) (call : Call) (b : State). b ≡ after call a) first (joined before.pieces)) (sym c.forget.ensures.screen) before.received)
+    (c.advance_all.ensures.stream (joined before.pieces) refl before.stands) c.advance_all.ensures.calls in
     let drawn : Draws g.W.Sink (drawn_calls first.display) c.args.output.now c.pass_on.new.self =
     begins g.W.Sink c.args.shown.now first _ _ _ c.requires.same c.draw.ensures.text c.draw.ensures.only c.pass_on.ensures in
+    let update : Draws g.W.Sink (update_calls c.loop-turn.shown.display next.display) c.loop-turn.output c.put_update.new.output =
+    subst (λ (s : State). Draws g.W.Sink (update_calls c.loop-turn.shown.display s.display) c.loop-turn.output c.put_update.new.output) c.screen-in-Some.ensures
+    c.put_update.ensures in
     let last = passed-on g.W.Sink (update_calls c.loop-turn.shown.display next.display) _ _ _
-    (record { added = c.update.ensures.text; drawing = c.update.ensures.only }) c.pass_on-in-Some.ensures in
+    update c.pass_on-in-Some.ensures in
     let is_piece : IsPiece bytes = (
       omega (arith, length-take c.in-Some.count c.read.new.into, c.in-Some.ensures.within, c.in-Some.count-test),
       omega (arith, length-take c.in-Some.count c.read.new.into, c.read.auto.into, before.room),
     ) in
     let updated = draws-more g.W.Sink first c.loop-turn.shown next before.screens _ _ _ _ before.draws
     (received-same first _ _ (joined before.pieces) before.received_behind before.received ∙ before.is_last)
-    c.update.ensures.text c.update.ensures.only c.pass_on-in-Some.ensures in
+    update.added update.drawing c.pass_on-in-Some.ensures in
     follows g.R.Source g.W.Sink _ _ first next c.args.output.now c.pass_on.new.self c.pass_on-in-Some.new.self _
     (before.pieces ++ bytes ∷ []) (before.screens ++ next ∷ [])
     (subst (Consumes (g.R.Source.remaining c.args.reader.now) (g.R.Source.remaining c.read.new.self)) (sym (joined-more before.pieces bytes))
@@ -122,15 +125,20 @@ returns-then-is_some-2 g c =
 pub loop-turn-preserved : goal.loop-turn-preserved
 loop-turn-preserved g c =
     let before = c.loop-turn.invariant in
-    let first = c.args.wanted.now in
-    let next = c.advance_all.new.performer in
+    let first = c.args.wanted.now.screen in
+    let next = c.advance_all.new.performer.screen in
     let bytes = take c.in-Some.count c.read.new.into in
     let more = sym (joined-more before.pieces bytes) in
     let is_piece : IsPiece bytes = (
       omega (arith, length-take c.in-Some.count c.read.new.into, c.in-Some.ensures.within, c.in-Some.count-test),
       omega (arith, length-take c.in-Some.count c.read.new.into, c.read.auto.into, before.room),
     ) in
-    let received = c.advance_all.ensures.received first (joined before.pieces) refl before.stands before.received in
+    let received = noted-received first (joined before.pieces) bytes _ c.forget.new.self c.advance_all.new.performer
+    (subst (HasReceived (λ (a : State) (call : Call) (b : State). b ≡ after call a) first (joined before.pieces)) (sym c.forget.ensures.screen) before.received)
+    (c.advance_all.ensures.stream (joined before.pieces) refl before.stands) c.advance_all.ensures.calls in
+    let update : Draws g.W.Sink (update_calls c.loop-turn.shown.display next.display) c.loop-turn.output c.put_update.new.output =
+    subst (λ (s : State). Draws g.W.Sink (update_calls c.loop-turn.shown.display s.display) c.loop-turn.output c.put_update.new.output) c.screen-in-Some.ensures
+    c.put_update.ensures in
     record {
       pieces = before.pieces ++ bytes ∷ [];
       screens = before.screens ++ next ∷ [];
@@ -141,7 +149,7 @@ loop-turn-preserved g c =
       is_last = sym (last-more first next before.screens);
       draws = draws-more g.W.Sink first c.loop-turn.shown next before.screens _ _ _ _ before.draws
           (received-same first _ _ (joined before.pieces) before.received_behind before.received ∙ before.is_last)
-          c.update.ensures.text c.update.ensures.only c.pass_on-in-Some.ensures;
+          update.added update.drawing c.pass_on-in-Some.ensures;
       received = subst (λ l. HasReceived (λ (a : State) (call : Call) (b : State). b ≡ after call a) first l next) more received;
       received_behind = subst (λ l. HasReceived (λ (a : State) (call : Call) (b : State). b ≡ after call a) first l c.advance_all-in-Some.new.performer) more
           (c.advance_all-in-Some.ensures.received first (joined before.pieces) refl before.stands_behind before.received_behind);
@@ -157,7 +165,7 @@ loop-turn-preserved g c =
 pub returns : goal.returns
 returns g c =
     let before = c.loop-turn.invariant in
-    follows g.R.Source g.W.Sink _ _ c.args.wanted.now c.loop-turn.wanted c.args.output.now c.pass_on.new.self c.loop-turn.output _ before.pieces before.screens
+    follows g.R.Source g.W.Sink _ _ c.args.wanted.now.screen c.loop-turn.wanted.screen c.args.output.now c.pass_on.new.self c.loop-turn.output _ before.pieces before.screens
     before.consumed before.each before.are_screens before.is_last
-    (begins g.W.Sink c.args.shown.now c.args.wanted.now _ _ _ c.requires.same c.draw.ensures.text c.draw.ensures.only c.pass_on.ensures)
+    (begins g.W.Sink c.args.shown.now c.args.wanted.now.screen _ _ _ c.requires.same c.draw.ensures.text c.draw.ensures.only c.pass_on.ensures)
     before.draws (before.no_fault, inr (omega (arith, before.counted, c.loop-turn-test.false)))

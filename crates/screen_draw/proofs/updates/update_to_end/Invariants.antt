@@ -18,11 +18,11 @@ invariant-loop-turn g l = record {
   screens : List State;
   consumed : Consumes (g.R.Source.remaining l.initial.reader) (g.R.Source.remaining l.reader) (joined pieces);
   each : AllByRecursion IsPiece pieces;
-  are_screens : AreScreens l.initial.wanted [] pieces screens;
-  is_last : l.wanted ≡ last_of l.initial.wanted screens;
-  draws : Draws g.W.Sink (updates_calls l.initial.wanted screens) l.initial.output l.output;
-  received : HasReceived (λ (a : State) (call : Call) (b : State). b ≡ after call a) l.initial.wanted (joined pieces) l.wanted;
-  received_behind : HasReceived (λ (a : State) (call : Call) (b : State). b ≡ after call a) l.initial.wanted (joined pieces) l.shown;
+  are_screens : AreScreens l.initial.wanted.screen [] pieces screens;
+  is_last : l.wanted.screen ≡ last_of l.initial.wanted.screen screens;
+  draws : Draws g.W.Sink (updates_calls l.initial.wanted.screen screens) l.initial.output l.output;
+  received : HasReceived (λ (a : State) (call : Call) (b : State). b ≡ after call a) l.initial.wanted.screen (joined pieces) l.wanted.screen;
+  received_behind : HasReceived (λ (a : State) (call : Call) (b : State). b ≡ after call a) l.initial.wanted.screen (joined pieces) l.shown;
   stands : IsAfter front_of l.parser (joined pieces);
   stands_behind : IsAfter front_of l.behind (joined pieces);
   no_fault : fault_in l.output ≡ None;

@@ -1,0 +1,46 @@
+-- A screen that notes what its calls change, behind a list of calls.
+use Rattle.std.proofs.Common.{◌≡◌, ℕ, List, [], ◌∷◌, ◌++◌, refl, ap, sym, ◌∙◌, subst}
+use Rattle.anstyle_parse.specs.Stream.Call.{Call, Goes}
+use Rattle.anstyle_parse.specs.Stream.Calls.{Continues, HasReceived}
+use Rattle.ansi_screen.specs.After.{State, after, after_all}
+use Rattle.ansi_screen.specs.Display.{Display}
+use Rattle.ansi_screen.proofs.CallLemmas.{after_all-goes}
+use Rattle.ansi_screen.proofs.LawLemmas.{after_all-append}
+use Rattle.screen_draw.specs.declared.noting.Noting.{Noting}
+use Rattle.screen_draw.specs.Changed.{Keeps}
+use Rattle.screen_draw.specs.Noting.{screen_of, changed_of, Notes}
+
+-- the screen is the one behind the calls
+noted-screen : (calls : List Call) (old new : Noting) → Goes Notes old calls new → screen_of new ≡ after_all calls (screen_of old)
+noted-screen [] old new goes = ap (λ (n : Noting). screen_of n) goes
+noted-screen (call ∷ calls) old new goes =
+    let middle : Noting = goes.0 in
+    noted-screen calls middle new goes.2 ∙ ap (after_all calls) goes.1.screen
+
+-- and what they can change is noted
+pub noted-keeps : (calls : List Call) (old new : Noting) (shown : Display) → Goes Notes old calls new
+    → Keeps (changed_of old) shown (screen_of old).display → Keeps (changed_of new) shown (screen_of new).display
+noted-keeps [] old new shown goes keeps = subst (λ (n : Noting). Keeps (changed_of n) shown (screen_of n).display) (sym goes) keeps
+noted-keeps (call ∷ calls) old new shown goes keeps =
+    let middle : Noting = goes.0 in
+    noted-keeps calls middle new shown goes.2
+    (subst (λ (s : State). Keeps (changed_of middle) shown s.display) (sym goes.1.screen) (goes.1.noted shown keeps))
+
+goes-after : (calls : List Call) (old new : State) → new ≡ after_all calls old
+    → Goes (λ (a : State) (call : Call) (b : State). b ≡ after call a) old calls new
+goes-after [] old new is = is
+goes-after (call ∷ calls) old new is = (after call old, refl, goes-after calls (after call old) new is)
+
+-- so it has received a piece more
+pub noted-received : (first : State) (bytes piece : List ℕ) (calls : List Call) (old new : Noting)
+    → HasReceived (λ (a : State) (call : Call) (b : State). b ≡ after call a) first bytes (screen_of old)
+    → Continues bytes piece calls → Goes Notes old calls new
+    → HasReceived (λ (a : State) (call : Call) (b : State). b ≡ after call a) first (bytes ++ piece) (screen_of new)
+noted-received first bytes piece calls old new received continues goes =
+    let before : List Call = received.0 in (
+      before ++ calls,
+      continues before received.1,
+      goes-after (before ++ calls) first (screen_of new)
+          (noted-screen calls old new goes
+          ∙ (ap (after_all calls) (after_all-goes before first (screen_of old) received.2) ∙ sym (after_all-append before calls first))),
+    )

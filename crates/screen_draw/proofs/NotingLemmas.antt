@@ -1,0 +1,367 @@
+-- What each call leaves of a display as it was.
+use Rattle.std.proofs.Common.{◌≡◌, ℕ, zero, suc, ◌+◌, ◌-◌, ◌*◌, ◌<◌, ◌≤◌, Bool, true, false, ◌&&◌, ◌||◌, List, [], ◌∷◌, length, take, drop, set, refl, sym, ◌∙◌, subst, arith}
+use Rattle.std.specs.Prelude.{min, nat_lt, ◌==◌, if◌then◌else◌}
+use Rattle.std.proofs.lemmas.Bool.{le-ltb}
+use Rattle.std.proofs.Math.Nat.{mul-le-mul_right, suc-mul, add-mul}
+use borrow.Author.Tests.{ltb-false, eqb-true, eqb-false}
+use Rattle.anstyle_parse.specs.Stream.Call.{Call, print, execute, csi_dispatch}
+use Rattle.ansi_screen.specs.declared.cell.Cell.{Cell}
+use Rattle.ansi_screen.specs.declared.place.Place.{Place}
+use Rattle.ansi_screen.specs.Alone.{moves_alone}
+use Rattle.ansi_screen.specs.Cells.{is_right, cell_at, emptied, cut, within, change, marked_before, going_on}
+use Rattle.ansi_screen.specs.Display.{Display, IsSized, here, row_end}
+use Rattle.ansi_screen.specs.Moves.{to_row, to_column, settled, tabbed}
+use Rattle.ansi_screen.specs.Edits.{with_cells, row_going_on, inserted_characters, rows_up, scrolled_up, index}
+use Rattle.ansi_screen.specs.Modes.{shifted}
+use Rattle.ansi_screen.specs.Print.{glyph, wrapped, with_room, with_glyph, put, marked, shown, printed, drawn, draws}
+use Rattle.ansi_screen.specs.Widths.{is_shown, columns}
+use Rattle.ansi_screen.specs.After.{State, function_of, executed, displayed}
+use Rattle.ansi_screen.proofs.AloneLemmas.{alone-displayed}
+use Rattle.ansi_screen.proofs.KeptCalls.{columns-few}
+use Rattle.ansi_screen.proofs.PairLemmas.{length-cut}
+use Rattle.ansi_screen.proofs.RowLemmas.{Same, same-refl, same-trans, same-set, same-within}
+use Rattle.ansi_screen.proofs.SizeLemmas.{sized-after}
+use Rattle.ansi_screen.proofs.WholeLemmas.{length-glyph, length-going_on}
+use Rattle.screen_draw.specs.declared.changed.Changed.{Changed}
+use Rattle.screen_draw.specs.Changed.{Keeps, with_rows, Widens}
+use Rattle.screen_draw.proofs.ChangedLemmas.{Framed, Within, Still, framed-refl, framed-trans, framed-if, framed-cells, still-refl, still-trans, still-if, still-place, within-cells, same-wider, keeps-still, keeps-within, keeps-framed}
+
+-- control sequences that change the cursor alone
+pub widens-moves : (groups : List (List ℕ)) (ignore : Bool) (final : ℕ) (screen : State) (changed : Changed) → moves_alone (function_of final) ≡ true
+    → Widens (csi_dispatch groups [] ignore final) screen changed changed
+widens-moves groups ignore final screen changed alone = λ shown keeps.
+    let next : Display = displayed (csi_dispatch groups [] ignore final) screen in
+    keeps-still changed shown screen.display next
+    (subst (Still screen.display) (sym (alone-displayed groups ignore final screen alone)) (still-place next.cursor screen.display)) keeps
+
+pub none-there : (bytes : List ℕ) → (length bytes == 0) ≡ true → bytes ≡ []
+none-there [] none = refl
+none-there (byte ∷ bytes) none = let long : length (byte ∷ bytes) ≡ 0 = eqb-true (length (byte ∷ bytes)) 0 none in absurd (omega arith)
+
+-- controls
+still-tabbed : (d : Display) → Still d (tabbed d)
+unfolding tabbed
+still-tabbed d = still-if (d.cursor.column == d.width) d d _ (λ pending. still-refl d) (λ other. still-place _ d)
+
+still-index : (d : Display) → (d.cursor.row + 1 == d.bottom) ≡ false → Still d (index d)
+unfolding index
+still-index d above = rw above (still-place _ d)
+
+still-executed : (byte : ℕ) (d : Display) → ((byte == 0x0A || byte == 0x0B || byte == 0x0C) ≡ true → Still d (index (settled d)))
+    → Still d (executed byte d)
+unfolding executed
+still-executed byte d feeds =
+    let place : Display = settled d in
+    let sixth : Display = if byte == 0x0F then shifted false d else d in
+    let fifth : Display = if byte == 0x0E then shifted true d else sixth in
+    let fourth : Display = if byte == 0x0D then to_column 0 d else fifth in
+    let third : Display = if byte == 0x0A || byte == 0x0B || byte == 0x0C then index place else fourth in
+    let second : Display = if byte == 0x09 then tabbed d else third in
+    still-if (byte == 0x08) d (to_column (place.cursor.column - 1) place) second
+    (λ is. still-trans d place (to_column (place.cursor.column - 1) place) (still-place _ d) (still-place _ place))
+    (λ a. still-if (byte == 0x09) d (tabbed d) third (λ is. still-tabbed d)
+    (λ b. still-if (byte == 0x0A || byte == 0x0B || byte == 0x0C) d (index place) fourth feeds
+    (λ e. still-if (byte == 0x0D) d (to_column 0 d) fifth (λ is. still-place _ d)
+    (λ f. still-if (byte == 0x0E) d (shifted true d) sixth (λ is. still-place _ d)
+    (λ g. still-if (byte == 0x0F) d (shifted false d) d (λ is. still-place _ d) (λ none. still-refl d))))))
+
+-- printing keeps the frame
+framed-index : (d : Display) → Framed d (index d)
+unfolding index rows_up
+framed-index d = framed-if (d.cursor.row + 1 == d.bottom) d (scrolled_up 1 d) (to_row (d.cursor.row + 1) d) (framed-cells _ d) (still-place _ d).framed
+
+framed-executed : (byte : ℕ) (d : Display) → Framed d (executed byte d)
+unfolding executed
+framed-executed byte d =
+    let place : Display = settled d in
+    let sixth : Display = if byte == 0x0F then shifted false d else d in
+    let fifth : Display = if byte == 0x0E then shifted true d else sixth in
+    let fourth : Display = if byte == 0x0D then to_column 0 d else fifth in
+    let third : Display = if byte == 0x0A || byte == 0x0B || byte == 0x0C then index place else fourth in
+    let second : Display = if byte == 0x09 then tabbed d else third in
+    framed-if (byte == 0x08) d (to_column (place.cursor.column - 1) place) second
+    (still-trans d place (to_column (place.cursor.column - 1) place) (still-place _ d) (still-place _ place)).framed
+    (framed-if (byte == 0x09) d (tabbed d) third (still-tabbed d).framed
+    (framed-if (byte == 0x0A || byte == 0x0B || byte == 0x0C) d (index place) fourth
+    (framed-trans d place (index place) (still-place _ d).framed (framed-index place))
+    (framed-if (byte == 0x0D) d (to_column 0 d) fifth (still-place _ d).framed
+    (framed-if (byte == 0x0E) d (shifted true d) sixth (still-place _ d).framed
+    (framed-if (byte == 0x0F) d (shifted false d) d (still-place _ d).framed (framed-refl d))))))
+
+framed-wrapped : (n : ℕ) (d : Display) → Framed d (wrapped n d)
+unfolding wrapped
+framed-wrapped n d =
+    let joined : Display = row_going_on true d in
+    let start : Display = to_column 0 joined in
+    framed-if (nat_lt d.width (d.cursor.column + n)) d (if d.wraps then index start else settled d) d
+    (framed-if d.wraps d (index start) (settled d)
+    (framed-trans d start (index start) (framed-trans d joined start (framed-cells _ d) (still-place _ joined).framed) (framed-index start))
+    (still-place _ d).framed)
+    (framed-refl d)
+
+framed-glyph : (n c : ℕ) (d : Display) → Framed d (with_glyph n c d)
+unfolding with_glyph
+framed-glyph n c d =
+    let cells : List Cell = change (here d) (here d + n) (λ run. glyph n c d.cursor.style d.link) d.cells in
+    framed-trans d (with_cells cells d) _ (framed-cells cells d) (still-place _ (with_cells cells d)).framed
+
+framed-room : (n : ℕ) (d : Display) → Framed d (with_room n d)
+unfolding with_room inserted_characters
+framed-room n d = framed-if d.inserts d (inserted_characters n d) d (framed-cells _ d) (framed-refl d)
+
+framed-put : (n c : ℕ) (d : Display) → Framed d (put n c d)
+unfolding put
+framed-put n c d =
+    framed-if (nat_lt d.width (d.cursor.column + n)) d d (with_glyph n c (with_room n d)) (framed-refl d)
+    (framed-trans d (with_room n d) (with_glyph n c (with_room n d)) (framed-room n d) (framed-glyph n c (with_room n d)))
+
+framed-shown : (c : ℕ) (d : Display) → Framed d (shown c d)
+unfolding shown marked
+framed-shown c d =
+    framed-if (columns c == 0) d (marked c d) (put (columns c) c (wrapped (columns c) d))
+    (framed-if (d.cursor.column == 0) d d (with_cells (marked_before c (here d) d.cells) d) (framed-refl d) (framed-cells _ d))
+    (framed-trans d (wrapped (columns c) d) (put (columns c) c (wrapped (columns c) d)) (framed-wrapped (columns c) d) (framed-put (columns c) c (wrapped (columns c) d)))
+
+framed-printed : (c : ℕ) (d : Display) → Framed d (printed c d)
+unfolding printed
+framed-printed c d = framed-if (is_shown c) d (shown (if draws d.cursor.charsets then drawn c else c) d) d (framed-shown _ d) (framed-refl d)
+
+-- A character that is put changes the cells from one before the cursor on, up to one behind the character.
+cut-same : (place : ℕ) (cells : List Cell) (t : Bool) → (nat_lt 0 place && is_right (cell_at place cells).part) ≡ t
+    → Same (place - 1) (place + 1) (cut place cells) cells
+unfolding cut
+cut-same place cells false is = rw is (same-refl (place - 1) (place + 1) cells)
+cut-same place cells true is =
+    let left : Cell = emptied (cell_at (place - 1) cells) in
+    let right : Cell = emptied (cell_at place cells) in
+    rw is (same-trans (place - 1) (place + 1) (set (set cells (place - 1) left) place right) (set cells (place - 1) left) cells
+    (same-set (place - 1) (place + 1) place (set cells (place - 1) left) right (omega arith) (omega arith))
+    (same-set (place - 1) (place + 1) (place - 1) cells left (omega arith) (omega arith)))
+
+same-changed : (n from : ℕ) (how : List Cell → List Cell) (cells : List Cell) → from + n ≤ length cells
+    → ((run : List Cell) → length (how run) ≡ n) → Same (from - 1) (from + n + 1) (change from (from + n) how cells) cells
+same-changed n from how cells inside long =
+    let once : List Cell = cut (from + n) cells in
+    let both : List Cell = cut from once in
+    let first : Same (from - 1) (from + n + 1) once cells =
+    same-wider (from + n - 1) (from + n + 1) (from - 1) (from + n + 1) once cells (cut-same (from + n) cells _ refl) (omega arith) (omega arith) in
+    let second : Same (from - 1) (from + n + 1) both once =
+    same-wider (from - 1) (from + 1) (from - 1) (from + n + 1) both once (cut-same from once _ refl) (omega arith) (omega arith) in
+    let some : from + n - from ≡ n = omega arith in
+    same-trans (from - 1) (from + n + 1) (within from (from + n) how both) both cells
+    (same-within (from - 1) (from + n + 1) from (from + n) how both (omega arith) (omega arith) (omega arith)
+    (omega (arith, length-cut from once, length-cut (from + n) cells)) (long (take (from + n - from) (drop from both)) ∙ sym some))
+    (same-trans (from - 1) (from + n + 1) both once cells second first)
+
+same-glyph : (n c : ℕ) (d : Display) → d.inserts ≡ false → d.cursor.column + n ≤ d.width → 1 ≤ n → n ≤ 2
+    → row_end d ≤ length d.cells → Same (here d - 1) (here d + n + 1) (put n c d).cells d.cells
+unfolding put with_room with_glyph
+same-glyph n c d writes fits some few inside =
+    let room : nat_lt d.width (d.cursor.column + n) ≡ false = le-ltb d.width (d.cursor.column + n) fits in
+    rw (room, writes) (same-changed n (here d) (λ run. glyph n c d.cursor.style d.link) d.cells (omega arith)
+    (λ run. length-glyph n c d.cursor.style d.link _ refl some few))
+
+-- Where it has no room nothing is put.
+put-none : (n c : ℕ) (d : Display) → nat_lt d.width (d.cursor.column + n) ≡ true → put n c d ≡ d
+unfolding put
+put-none n c d is = rw is refl
+
+-- A mark changes one of the two cells before the cursor.
+same-marked_at : (c place : ℕ) (cells : List Cell) (t : Bool) → is_right (cell_at (place - 1) cells).part ≡ t
+    → Same (place - 2) (place + 1) (marked_before c place cells) cells
+unfolding marked_before
+same-marked_at c place cells true is = rw is (same-set (place - 2) (place + 1) (place - 2) cells _ (omega arith) (omega arith))
+same-marked_at c place cells false is = rw is (same-set (place - 2) (place + 1) (place - 1) cells _ (omega arith) (omega arith))
+
+same-marked : (c : ℕ) (d : Display) (t : Bool) → (d.cursor.column == 0) ≡ t → Same (here d - 2) (here d + 1) (marked c d).cells d.cells
+unfolding marked
+same-marked c d true is = rw is (same-refl (here d - 2) (here d + 1) d.cells)
+same-marked c d false is = rw is (same-marked_at c (here d) d.cells _ refl)
+
+-- where no wrap comes, or one without a scroll, or none may come
+wrapped-none : (n : ℕ) (d : Display) → nat_lt d.width (d.cursor.column + n) ≡ false → wrapped n d ≡ d
+unfolding wrapped
+wrapped-none n d is = rw is refl
+
+wrapped-on : (n : ℕ) (d : Display) → nat_lt d.width (d.cursor.column + n) ≡ true → d.wraps ≡ true → (d.cursor.row + 1 == d.bottom) ≡ false
+    → wrapped n d ≡ to_row (d.cursor.row + 1) (to_column 0 (row_going_on true d))
+unfolding wrapped index
+wrapped-on n d is on above = rw (is, on, above) refl
+
+wrapped-off : (n : ℕ) (d : Display) → nat_lt d.width (d.cursor.column + n) ≡ true → d.wraps ≡ false → wrapped n d ≡ settled d
+unfolding wrapped
+wrapped-off n d is off = rw (is, off) refl
+
+same-if : (t : Bool) (lo hi : ℕ) (cells : List Cell) (a b : Display) → (t ≡ true → Same lo hi a.cells cells) → (t ≡ false → Same lo hi b.cells cells)
+    → Same lo hi (if t then a else b).cells cells
+same-if true lo hi cells a b first second = first refl
+same-if false lo hi cells a b first second = second refl
+
+same-shown : (lo hi c : ℕ) (d : Display) → Same lo hi (marked c d).cells d.cells
+    → ((n : ℕ) → 1 ≤ n → n ≤ 2 → Same lo hi (put n c (wrapped n d)).cells d.cells) → Same lo hi (shown c d).cells d.cells
+unfolding shown
+same-shown lo hi c d mark character =
+    let few : columns c ≤ 2 = columns-few c _ _ refl refl in
+    same-if (columns c == 0) lo hi d.cells (marked c d) (put (columns c) c (wrapped (columns c) d)) (λ none. mark)
+    (λ other. let some : columns c ≡ 0 → ⊥ = eqb-false (columns c) 0 other in character (columns c) (omega arith) few)
+
+same-printed : (lo hi c : ℕ) (d : Display) → ((character : ℕ) → Same lo hi (shown character d).cells d.cells) → Same lo hi (printed c d).cells d.cells
+unfolding printed
+same-printed lo hi c d each =
+    let character : ℕ = if draws d.cursor.charsets then drawn c else c in
+    same-if (is_shown c) lo hi d.cells (shown character d) d (λ is. each character) (λ none. same-refl lo hi d.cells)
+
+-- rows of cells
+row-fits : (row : ℕ) (d : Display) → IsSized d → row < d.height → row * d.width + d.width ≤ length d.cells
+row-fits row d s below =
+    let past : suc row * d.width ≤ d.height * d.width = mul-le-mul_right {m = suc row} {n = d.height} d.width below in
+    let next : suc row * d.width ≡ row * d.width + d.width = suc-mul row d.width in
+    let fill : length d.cells ≡ d.height * d.width = s.cells_fill in
+    omega arith
+
+row-before : (row width : ℕ) → 2 ≤ width → (row - 1) * width ≤ row * width - 2
+row-before zero width wide = omega arith
+row-before (suc row) width wide =
+    let before : suc row - 1 ≡ row = omega arith in
+    let next : suc row * width ≡ row * width + width = suc-mul row width in
+    rw before (omega arith)
+
+-- the row that is the first to change
+abbrev pub first_row : Bool → ℕ → ℕ
+first_row at_edge row = if at_edge then row - 1 else row
+
+row-first : (d : Display) (t : Bool) → nat_lt d.cursor.column 2 ≡ t → 2 ≤ d.width → first_row t d.cursor.row * d.width ≤ here d - 2
+row-first d true is wide = let before = row-before d.cursor.row d.width wide in omega arith
+row-first d false is wide = let past : 2 ≤ d.cursor.column = ltb-false d.cursor.column 2 is in omega arith
+
+-- a character that no wrap comes before, and that ends before the row does
+within-printed : (c : ℕ) (d : Display) (t : Bool) → nat_lt d.cursor.column 2 ≡ t → IsSized d → d.inserts ≡ false
+    → d.cursor.column + 2 < d.width → Within (first_row t d.cursor.row) (d.cursor.row + 1) d (printed c d)
+within-printed c d t edge s writes fits =
+    let inside : row_end d ≤ length d.cells = row-fits d.cursor.row d s s.cursor_row in
+    let next : suc d.cursor.row * d.width ≡ d.cursor.row * d.width + d.width = suc-mul d.cursor.row d.width in
+    let after : d.cursor.row + 1 ≡ suc d.cursor.row = omega arith in
+    within-cells (first_row t d.cursor.row) (d.cursor.row + 1) (here d - 2) (here d + 3) d (printed c d) (framed-printed c d)
+    (same-printed (here d - 2) (here d + 3) c d (λ character. same-shown (here d - 2) (here d + 3) character d
+    (same-wider (here d - 2) (here d + 1) (here d - 2) (here d + 3) (marked character d).cells d.cells (same-marked character d _ refl) (omega arith) (omega arith))
+    (λ n some few. let room : d.cursor.column + n ≤ d.width = omega arith in
+    let stays : wrapped n d ≡ d = wrapped-none n d (le-ltb d.width (d.cursor.column + n) room) in
+    subst (λ (e : Display). Same (here d - 2) (here d + 3) (put n character e).cells d.cells) (sym stays)
+    (same-wider (here d - 1) (here d + n + 1) (here d - 2) (here d + 3) (put n character d).cells d.cells
+    (same-glyph n character d writes room some few inside) (omega arith) (omega arith)))))
+    (row-first d t edge s.two_columns) (rw after (omega arith))
+
+same-joined : (lo hi end : ℕ) (cells : List Cell) → lo ≤ end - 1 → end - 1 < hi → Same lo hi (going_on true end cells) cells
+unfolding going_on
+same-joined lo hi end cells from to = same-set lo hi (end - 1) cells (record (cell_at (end - 1) cells) { goes_on = true }) from to
+
+rest-false : (t u : Bool) → t ≡ true → (t && u) ≡ false → u ≡ false
+rest-false true u is both = both
+rest-false false u is both = cc is
+
+-- a character that a wrap may come before, where nothing scrolls
+module _ (d : Display) (s : IsSized d) (writes : d.inserts ≡ false) (above : (d.cursor.row + 1 == d.bottom) ≡ false) where
+  abbrev lo : ℕ
+  lo = (d.cursor.row - 1) * d.width
+
+  abbrev hi : ℕ
+  hi = (d.cursor.row + 3) * d.width
+
+  high : hi ≡ d.cursor.row * d.width + 3 * d.width
+  high = add-mul d.cursor.row 3 d.width
+
+  -- a display with other cells and the cursor in this row or the next
+  put-around : (n c : ℕ) (p : Place) (cells : List Cell) → d.cursor.row ≤ p.row → p.row ≤ d.cursor.row + 1 → p.row < d.height
+      → length cells ≡ length d.cells → 1 ≤ n → n ≤ 2 → (t : Bool) → nat_lt d.width (p.column + n) ≡ t
+      → Same lo hi (put n c (record d { cells = cells; cursor = p })).cells cells
+  put-around n c p cells from to below long some few true is =
+      let e : Display = record d { cells = cells; cursor = p } in
+      let none : put n c e ≡ e = put-none n c e is in
+      subst (λ (x : Display). Same lo hi x.cells cells) (sym none) (same-refl lo hi cells)
+  put-around n c p cells from to below long some few false is =
+      let e : Display = record d { cells = cells; cursor = p } in
+      let fits : p.column + n ≤ d.width = ltb-false d.width (p.column + n) is in
+      let wide : 2 ≤ d.width = s.two_columns in
+      let inside : p.row * d.width + d.width ≤ length d.cells = row-fits p.row d s below in
+      let first : d.cursor.row * d.width ≤ p.row * d.width = mul-le-mul_right {m = d.cursor.row} {n = p.row} d.width from in
+      let last : p.row * d.width ≤ (d.cursor.row + 1) * d.width = mul-le-mul_right {m = p.row} {n = d.cursor.row + 1} d.width to in
+      let next : (d.cursor.row + 1) * d.width ≡ d.cursor.row * d.width + 1 * d.width = add-mul d.cursor.row 1 d.width in
+      let before : lo ≤ d.cursor.row * d.width - 2 = row-before d.cursor.row d.width wide in
+      same-wider (here e - 1) (here e + n + 1) lo hi (put n c e).cells cells
+      (same-glyph n c e writes fits some few (omega (arith, long))) (omega arith) (omega (arith, high))
+
+  put-wrapped : (n c : ℕ) → 1 ≤ n → n ≤ 2 → (t u : Bool) → nat_lt d.width (d.cursor.column + n) ≡ t → d.wraps ≡ u
+      → Same lo hi (put n c (wrapped n d)).cells d.cells
+  put-wrapped n c some few false u is wraps =
+      let stays : wrapped n d ≡ d = wrapped-none n d is in
+      subst (λ (e : Display). Same lo hi (put n c e).cells d.cells) (sym stays)
+      (put-around n c d.cursor d.cells (omega arith) (omega arith) s.cursor_row refl some few _ refl)
+  put-wrapped n c some few true true is wraps =
+      let joined : List Cell = going_on true (row_end d) d.cells in
+      let long : length joined ≡ length d.cells = length-going_on true (row_end d) d.cells in
+      let there : Place = record d.cursor { row = min (d.cursor.row + 1) (d.height - 1); column = min 0 (d.width - 1) } in
+      let below : d.cursor.row < d.height = s.cursor_row in
+      let wide : 2 ≤ d.width = s.two_columns in
+      let before : lo ≤ d.cursor.row * d.width - 2 = row-before d.cursor.row d.width wide in
+      let goes : wrapped n d ≡ to_row (d.cursor.row + 1) (to_column 0 (row_going_on true d)) = wrapped-on n d is wraps above in
+      subst (λ (e : Display). Same lo hi (put n c e).cells d.cells) (sym goes)
+      (same-trans lo hi (put n c (record d { cells = joined; cursor = there })).cells joined d.cells
+      (put-around n c there joined (omega arith) (omega arith) (omega arith) long some few _ refl)
+      (same-joined lo hi (row_end d) d.cells (omega arith) (omega (arith, high))))
+  put-wrapped n c some few true false is wraps =
+      let there : Place = record d.cursor { column = min d.cursor.column (d.width - 1) } in
+      let stays : wrapped n d ≡ settled d = wrapped-off n d is wraps in
+      subst (λ (e : Display). Same lo hi (put n c e).cells d.cells) (sym stays)
+      (put-around n c there d.cells (omega arith) (omega arith) s.cursor_row refl some few _ refl)
+
+  within-wrapped : (c : ℕ) → Within (d.cursor.row - 1) (d.cursor.row + 3) d (printed c d)
+  within-wrapped c =
+      let wide : 2 ≤ d.width = s.two_columns in
+      let most : d.cursor.column ≤ d.width = s.cursor_column in
+      let before : lo ≤ d.cursor.row * d.width - 2 = row-before d.cursor.row d.width wide in
+      within-cells (d.cursor.row - 1) (d.cursor.row + 3) lo hi d (printed c d) (framed-printed c d)
+      (same-printed lo hi c d (λ character. same-shown lo hi character d
+      (same-wider (here d - 2) (here d + 1) lo hi (marked character d).cells d.cells (same-marked character d _ refl) (omega arith) (omega (arith, high)))
+      (λ n some few. put-wrapped n character some few _ _ refl refl)))
+      (omega arith) (omega arith)
+
+-- what is noted for a character
+pub widens-print : (c : ℕ) (screen : State) (changed : Changed) (t : Bool) → nat_lt screen.display.cursor.column 2 ≡ t → IsSized screen.display
+    → screen.display.inserts ≡ false → screen.display.cursor.column + 2 < screen.display.width
+    → Widens (print c) screen changed (with_rows (first_row t screen.display.cursor.row) (screen.display.cursor.row + 1) changed)
+widens-print c screen changed t edge s writes fits = λ shown keeps.
+    let d : Display = screen.display in
+    keeps-within (first_row t d.cursor.row) (d.cursor.row + 1) changed shown d (printed c d) (within-printed c d t edge s writes fits) keeps
+
+pub widens-wrap : (c : ℕ) (screen : State) (changed : Changed) → IsSized screen.display → screen.display.inserts ≡ false
+    → (screen.display.cursor.row + 1 == screen.display.bottom) ≡ false
+    → Widens (print c) screen changed (with_rows (screen.display.cursor.row - 1) (screen.display.cursor.row + 3) changed)
+widens-wrap c screen changed s writes above = λ shown keeps.
+    let d : Display = screen.display in
+    keeps-within (d.cursor.row - 1) (d.cursor.row + 3) changed shown d (printed c d) (within-wrapped d s writes above c) keeps
+
+pub widens-any : (c : ℕ) (screen : State) (changed : Changed) → Widens (print c) screen changed (with_rows 0 screen.display.height changed)
+widens-any c screen changed = λ shown keeps.
+    keeps-framed screen.display.height changed shown screen.display (printed c screen.display) (framed-printed c screen.display) refl keeps
+
+-- for a control
+pub widens-still : (byte : ℕ) (screen : State) (changed : Changed)
+    → ((byte == 0x0A || byte == 0x0B || byte == 0x0C) && (screen.display.cursor.row + 1 == screen.display.bottom)) ≡ false
+    → Widens (execute byte) screen changed changed
+widens-still byte screen changed not_so = λ shown keeps.
+    let d : Display = screen.display in
+    keeps-still changed shown d (executed byte d) (still-executed byte d (λ feeds.
+    let above : (d.cursor.row + 1 == d.bottom) ≡ false = rest-false (byte == 0x0A || byte == 0x0B || byte == 0x0C) (d.cursor.row + 1 == d.bottom) feeds not_so in
+    still-trans d (settled d) (index (settled d)) (still-place _ d) (still-index (settled d) above))) keeps
+
+pub widens-control : (byte : ℕ) (screen : State) (changed : Changed) → Widens (execute byte) screen changed (with_rows 0 screen.display.height changed)
+widens-control byte screen changed = λ shown keeps.
+    keeps-framed screen.display.height changed shown screen.display (executed byte screen.display) (framed-executed byte screen.display) refl keeps
+
+-- for all else
+pub widens-all : (call : Call) (screen : State) (before behind : Changed) → IsSized screen.display
+    → ((old new : Display) → new.width ≡ old.width → new.height ≡ old.height → new.height ≡ screen.display.height → Keeps behind old new)
+    → Widens call screen before behind
+widens-all call screen before behind s all = λ shown keeps.
+    let size = sized-after screen.display.width screen.display.height call screen (refl, refl, s.margins_within) in
+    all shown (displayed call screen) (size.0 ∙ keeps.width) (size.1 ∙ keeps.height) size.1

@@ -1,0 +1,50 @@
+//! What can have changed of a screen since another one.
+ghost use Rattle.std.specs.Prelude.{◌≡◌};
+
+/// The rows from `first` up to `past`, the cursor, modes and links can have changed; and where `is_framed` says so,
+/// margins, tabs, saved places and the alternate screen with what it covers.
+#[derive(Clone, Copy)]
+pub(crate) struct Changed {
+    pub(crate) first: usize,
+    pub(crate) past: usize,
+    pub(crate) is_framed: bool,
+}
+
+impl Changed {
+    ghost use Rattle.ansi_screen.specs.Display.{Display};
+    ghost use Rattle.screen_draw.specs.Changed.{Keeps, with_rows};
+
+    /// Nothing of a screen of so many rows.
+    pub(crate) fn nothing(rows: usize) -> Changed
+        ensures { (shown : Display) → shown.height ≡ rows → Keeps result shown shown }
+    {
+        Changed {
+            first: rows,
+            past: 0,
+            is_framed: false,
+        }
+    }
+
+    /// All of a screen of so many rows.
+    pub(crate) fn all(rows: usize) -> Changed
+        ensures { (old new : Display) → new.width ≡ old.width → new.height ≡ old.height → new.height ≡ rows
+            → Keeps result old new }
+    {
+        Changed {
+            first: 0,
+            past: rows,
+            is_framed: true,
+        }
+    }
+
+    /// The rows from `first` up to `past` too.
+    pub(crate) fn with_rows(self, first: usize, past: usize) -> Changed
+        ensures { result ≡ with_rows first past self }
+    {
+        Changed {
+            first: self.first.min(first),
+            past: self.past.max(past),
+            is_framed: self.is_framed,
+        }
+    }
+}

@@ -1,0 +1,214 @@
+//! A screen that notes what can have changed of it.
+ghost use Rattle.std.specs.Prelude.{◌≡◌, ◌+◌, ◌-◌, ℕ, Bool, List, ◌&&◌, ◌||◌, ◌==◌, nat_lt, length, if◌then◌else◌};
+ghost use Rattle.ansi_screen.specs.After.{function_of};
+ghost use Rattle.ansi_screen.specs.Alone.{moves_alone};
+ghost use Rattle.anstyle_parse.specs.Stream.Call.{print, execute, csi_dispatch, esc_dispatch};
+ghost use Rattle.screen_draw.specs.Changed.{Widens};
+
+use crate::changed::Changed;
+use ansi_screen::{Place, Screen, moves_alone};
+use anstyle_parse::{Params, Perform};
+
+/// A screen, and what of it can have changed since it was shown.
+#[derive(Drop)]
+pub struct Noting {
+    screen: Screen,
+    changed: Changed,
+}
+
+const LINE_FEED: u8 = 0x0A;
+
+const VERTICAL_TAB: u8 = 0x0B;
+
+const FORM_FEED: u8 = 0x0C;
+
+/// Whether a control is a line feed, a vertical tab or a form feed.
+fn is_feed(byte: u8) -> bool
+    ensures { result ≡ (byte == 0x0A || byte == 0x0B || byte == 0x0C) }
+{
+    byte == LINE_FEED || byte == VERTICAL_TAB || byte == FORM_FEED
+}
+
+/// Whether a control sequence moves the cursor or selects a style, and changes nothing else.
+fn is_move(intermediates: &[u8], final_byte: u8) -> bool
+    ensures { result ≡ (length intermediates.now == 0 && moves_alone (function_of final_byte)) }
+{
+    intermediates.is_empty() && moves_alone(final_byte)
+}
+
+/// The first row in which a character at a place can change cells.
+fn first_row(place: Place) -> usize
+    ensures { result ≡ if nat_lt place.column 2 then place.row - 1 else place.row }
+{
+    if place.column < 2 {
+        place.row.saturating_sub(1)
+    } else {
+        place.row
+    }
+}
+
+impl Noting {
+    ghost use Rattle.ansi_screen.specs.Display.{Display, IsSized};
+    ghost use Rattle.screen_draw.specs.Changed.{Keeps, with_rows};
+    ghost use Rattle.screen_draw.specs.Noting.{screen_of, changed_of};
+
+    /// One with this screen, of which all can have changed.
+    pub fn new(screen: Screen) -> Noting
+        ensures { screen_of result ≡ screen }
+    {
+        let changed = Changed::all(screen.rows());
+        Noting { screen, changed }
+    }
+
+    /// Nothing is noted any more: as it is, it is shown.
+    pub(crate) fn forget(&mut self)
+        ensures screen { screen_of self.new ≡ screen_of self.old }
+        ensures nothing { Keeps (changed_of self.new) (screen_of self.new).display (screen_of self.new).display }
+    {
+        self.changed = Changed::nothing(self.screen.rows());
+    }
+
+    /// What was noted.
+    pub(crate) fn changed(&self) -> Changed
+        ensures { result ≡ changed_of self.now }
+    {
+        self.changed
+    }
+
+    /// The screen.
+    pub fn screen(&self) -> &Screen
+        ensures { result.now ≡ screen_of self.now }
+    {
+        &self.screen
+    }
+
+    /// What can have changed behind a character too. Where it has room in the row, it is this row, since no wrap
+    /// comes; in its first two columns also the row above, where a left half would stand. A wrap goes to the next
+    /// row, and at the lower margin all rows scroll.
+    fn by_print(&self) -> Changed
+        ensures { (c : ℕ) → Widens (print c) self.now.screen self.now.changed result }
+    {
+        let columns = self.screen.columns();
+        let place = self.screen.cursor();
+        if self.screen.inserts() {
+            self.all_rows()
+        } else if place.column + 2 < columns {
+            self.changed.with_rows(first_row(place), place.row + 1)
+        } else if self.is_at_bottom() {
+            self.all_rows()
+        } else {
+            self.changed
+                .with_rows(place.row.saturating_sub(1), place.row + 3)
+        }
+    }
+
+    /// Whether the cursor stands in the last row of the margins, where a line feed scrolls.
+    fn is_at_bottom(&self) -> bool
+        ensures bottom { result ≡ (self.now.screen.display.cursor.row + 1 == self.now.screen.display.bottom) }
+        ensures sized { IsSized self.now.screen.display }
+    {
+        // The sizes are within their limits.
+        let _ = self.screen.columns();
+        self.screen.cursor().row + 1 == self.screen.margins().1
+    }
+
+    /// Whether a control scrolls: a line feed does at the lower margin.
+    fn scrolls(&self, byte: u8) -> bool
+        ensures { result ≡ ((byte == 0x0A || byte == 0x0B || byte == 0x0C)
+            && (self.now.screen.display.cursor.row + 1 == self.now.screen.display.bottom)) }
+    {
+        is_feed(byte) && self.is_at_bottom()
+    }
+
+    /// All rows can have changed too.
+    fn all_rows(&self) -> Changed
+        ensures { result ≡ with_rows 0 self.now.screen.display.height self.now.changed }
+    {
+        self.changed.with_rows(0, self.screen.rows())
+    }
+
+    /// Everything can have changed.
+    fn all(&self) -> Changed
+        ensures all { (old new : Display) → new.width ≡ old.width → new.height ≡ old.height
+            → new.height ≡ self.now.screen.display.height → Keeps result old new }
+        ensures sized { IsSized self.now.screen.display }
+    {
+        Changed::all(self.screen.rows())
+    }
+
+    /// What can have changed behind a control too: a line feed scrolls all rows at the lower margin, and all else
+    /// moves the cursor.
+    fn by_control(&self, byte: u8) -> Changed
+        ensures { Widens (execute byte) self.now.screen self.now.changed result }
+    {
+        if self.scrolls(byte) {
+            self.all_rows()
+        } else {
+            self.changed
+        }
+    }
+
+    /// What can have changed behind a control sequence too: nothing, if it moves the cursor or selects a style.
+    fn by_sequence(&self, intermediates: &[u8], final_byte: u8) -> Changed
+        ensures { (groups : List (List ℕ)) (ignore : Bool)
+            → Widens (csi_dispatch groups intermediates.now ignore final_byte) self.now.screen self.now.changed result }
+    {
+        if is_move(intermediates, final_byte) {
+            self.changed
+        } else {
+            self.all()
+        }
+    }
+
+    /// What can have changed behind an escape sequence too.
+    fn by_escape(&self) -> Changed
+        ensures { (intermediates : List ℕ) (ignore : Bool) (final : ℕ)
+            → Widens (esc_dispatch intermediates ignore final) self.now.screen self.now.changed result }
+    {
+        self.all()
+    }
+}
+
+/// What each call can change is noted, and then the screen takes it.
+impl Perform for Noting {
+    ghost use Rattle.screen_draw.specs.Noting.{Notes};
+
+    ghost means = { Notes };
+
+    fn print(&mut self, c: char) {
+        self.changed = self.by_print();
+        self.screen.print(c);
+    }
+
+    fn execute(&mut self, byte: u8) {
+        self.changed = self.by_control(byte);
+        self.screen.execute(byte);
+    }
+
+    fn hook(&mut self, params: &Params, intermediates: &[u8], ignore: bool, action: u8) {
+        self.screen.hook(params, intermediates, ignore, action);
+    }
+
+    fn put(&mut self, byte: u8) {
+        self.screen.put(byte);
+    }
+
+    fn unhook(&mut self) {
+        self.screen.unhook();
+    }
+
+    fn osc_dispatch(&mut self, params: &[&[u8]], bell_terminated: bool) {
+        self.screen.osc_dispatch(params, bell_terminated);
+    }
+
+    fn csi_dispatch(&mut self, params: &Params, intermediates: &[u8], ignore: bool, action: u8) {
+        self.changed = self.by_sequence(intermediates, action);
+        self.screen
+            .csi_dispatch(params, intermediates, ignore, action);
+    }
+
+    fn esc_dispatch(&mut self, intermediates: &[u8], ignore: bool, byte: u8) {
+        self.changed = self.by_escape();
+        self.screen.esc_dispatch(intermediates, ignore, byte);
+    }
+}

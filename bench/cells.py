@@ -6,7 +6,8 @@ Usage: bench/cells.py [--program PROGRAM] [--size COLUMNSxROWS]
 PROGRAM is the built ansi2screen (default: crates/ansi2screen/out/ansi2screen). It is run with --updates: a
 screen full of words comes first, and then pieces, each behind the update to the one before, that move the
 cursor, or print one character somewhere. What a piece costs more than none is divided by the cells of the
-screen. Reading the piece, its parser, both screens and the write are counted with the update.
+screen. In the first figure reading the piece, both parsers and screens and the write are counted with the
+update; the second is what is executed inside of the call of `update_noted` alone, and of what it calls.
 """
 
 import argparse
@@ -24,6 +25,7 @@ import measure
 
 HERE = os.path.dirname(os.path.abspath(__file__))
 PIECES = 6
+CALL = "screen_draw::update_noted*"  # the call, as the program's symbols name it
 QUIET = 0.5  # the seconds of silence behind which a piece counts as shown; valgrind is slow
 
 
@@ -46,11 +48,12 @@ def read_until_quiet(stream, most):
     return got
 
 
-def instructions(program, size, pieces):
-    """The instructions of a run that is given these pieces, and the bytes of the updates behind the first."""
+def instructions(program, size, pieces, inside=()):
+    """The instructions of a run that is given these pieces, all or those inside of a call, and the bytes of the
+    updates behind the first."""
     with tempfile.TemporaryDirectory() as folder:
         tool = ["valgrind", "--tool=callgrind", "--callgrind-out-file=" + os.path.join(folder, "out")]
-        words = [*tool, program, "--updates", "--size=" + size]
+        words = [*tool, *("--toggle-collect=" + call for call in inside), program, "--updates", "--size=" + size]
         pipes = {"stdin": subprocess.PIPE, "stdout": subprocess.PIPE, "stderr": subprocess.PIPE, "bufsize": 0}
         run = subprocess.Popen(words, env=dict(os.environ, GLIBC_TUNABLES=measure.COUNTED), **pipes)
         shown = [read_until_quiet(run.stdout, 60)]
@@ -71,14 +74,18 @@ def main():
     options = parser.parse_args()
     columns, rows = map(int, options.size.split("x"))
     first = full(columns, rows)
-    least, _ = instructions(options.program, options.size, [first])
-    for name, last in ("one cell", b"%c"), ("the cursor alone", b""):
-        places = [b"\x1b[%d;%dH" % (3 + piece, 5 + piece) for piece in range(PIECES)]
-        pieces = [place + (last % (65 + at) if last else b"") for at, place in enumerate(places)]
-        count, written = instructions(options.program, options.size, [first, *pieces])
-        cost = (count - least) / PIECES
-        words = name, cost, cost / (columns * rows), written / PIECES
-        print("%-18s %9.0f instructions, %6.1f a cell, %5.1f bytes" % words, flush=True)
+    ways = (), (CALL,)
+    least = [instructions(options.program, options.size, [first], inside)[0] for inside in ways]
+    if not least[1]:
+        sys.exit("cells.py: %s has no %s out of line" % (options.program, CALL))
+    for name, column in ("one cell", 5), ("in column 1", 1), ("in the last", columns), ("the cursor alone", 5):
+        places = [b"\x1b[%d;%dH" % (3 + piece, column) for piece in range(PIECES)]
+        pieces = places if "cursor" in name else [place + b"%c" % (65 + at) for at, place in enumerate(places)]
+        for inside, begun in zip(ways, least):
+            count, written = instructions(options.program, options.size, [first, *pieces], inside)
+            cost = (count - begun) / PIECES
+            words = name, "the call alone" if inside else "", cost, cost / (columns * rows), written / PIECES
+            print("%-18s %-15s %9.0f instructions, %6.2f a cell, %5.1f bytes" % words, flush=True)
 
 
 if __name__ == "__main__":

@@ -8,10 +8,10 @@ use Rattle.ansi_screen.proofs.CallLemmas.{after_all-goes}
 use Rattle.ansi_screen.proofs.LawLemmas.{after_all-append}
 use Rattle.screen_draw.specs.declared.noting.Noting.{Noting}
 use Rattle.screen_draw.specs.Changed.{Keeps}
-use Rattle.screen_draw.specs.Noting.{screen_of, changed_of, Notes}
+use Rattle.screen_draw.specs.Noting.{screen_of, changed_of, HasNoted, Notes}
 
 -- the screen is the one behind the calls
-noted-screen : (calls : List Call) (old new : Noting) → Goes Notes old calls new → screen_of new ≡ after_all calls (screen_of old)
+pub noted-screen : (calls : List Call) (old new : Noting) → Goes Notes old calls new → screen_of new ≡ after_all calls (screen_of old)
 noted-screen [] old new goes = ap (λ (n : Noting). screen_of n) goes
 noted-screen (call ∷ calls) old new goes =
     let middle : Noting = goes.0 in
@@ -19,8 +19,8 @@ noted-screen (call ∷ calls) old new goes =
 
 -- and what they can change is noted
 pub noted-keeps : (calls : List Call) (old new : Noting) (shown : Display) → Goes Notes old calls new
-    → Keeps (changed_of old) shown (screen_of old).display → Keeps (changed_of new) shown (screen_of new).display
-noted-keeps [] old new shown goes keeps = subst (λ (n : Noting). Keeps (changed_of n) shown (screen_of n).display) (sym goes) keeps
+    → HasNoted old shown → HasNoted new shown
+noted-keeps [] old new shown goes keeps = subst (λ (n : Noting). HasNoted n shown) (sym goes) keeps
 noted-keeps (call ∷ calls) old new shown goes keeps =
     let middle : Noting = goes.0 in
     noted-keeps calls middle new shown goes.2

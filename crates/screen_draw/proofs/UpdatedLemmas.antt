@@ -9,13 +9,21 @@ use Rattle.ansi_screen.specs.declared.cell.Part.TheVariants.{Empty, Whole, Left,
 use Rattle.ansi_screen.specs.declared.place.Place.{Place}
 use Rattle.ansi_screen.specs.Cells.{cell_at}
 use Rattle.ansi_screen.specs.Display.{Display, row_end}
-use Rattle.ansi_screen.specs.After.{State, after_all}
+use Rattle.anstyle_parse.specs.declared.io.devices.Sink.{Ghosts as SinkOf}
+use Rattle.anstyle_parse.specs.declared.io.output.Output.{Output}
+use Rattle.anstyle_parse.specs.Stream.Call.{Call}
+use Rattle.anstyle_parse.specs.Stream.Canon.{canon}
+use Rattle.anstyle_parse.proofs.Canonical.Replay.{replay}
+use Rattle.std.specs.List.{AllByRecursion}
+use Rattle.ansi_screen.specs.After.{State, after_all, Shows}
 use Rattle.ansi_screen.specs.Reachable.{IsScreen, HasContents}
-use Rattle.ansi_screen.proofs.LawLemmas.{after_all-append}
+use Rattle.ansi_screen.proofs.LawLemmas.{after_all-append, Shows-only}
 use Rattle.screen_draw.specs.Draw.{is_erased, shown_screen_calls}
 use Rattle.screen_draw.specs.Redrawn.{printed_part, as_printed, as_drawn, drawn_cells, as_shown}
 use Rattle.screen_draw.specs.Alike.{are_alike, all_two, are_same_places, has_same_frame, has_same_margins, has_same_modes, looks_same, is_steady}
 use Rattle.screen_draw.specs.Update.{changes_calls, cleared_calls, update_calls}
+use Rattle.screen_draw.specs.Drawing.{IsDrawing, Draws}
+use Rattle.screen_draw.proofs.DrawLemmas.{drawing-lawful}
 use Rattle.screen_draw.proofs.AlikeLemmas.{flag-same, all-drawn, places-same}
 use Rattle.screen_draw.proofs.FrameLemmas.{Frame, same-frame, same-margins, same-hidden, drawn-at}
 use Rattle.screen_draw.proofs.ChangesLemmas.{sized}
@@ -98,3 +106,18 @@ updated-is a b old from has to gets width height at =
     let same : a ≡ sized a b = ap (λ w. record a { width = w }) width ∙ ap (λ h. record a { width = b.width; height = h }) height in
     subst (λ (x : Display). IsScreen x → HasContents x → old.display ≡ as_shown x → (after_all (update_calls x b) old).display ≡ as_shown b) (sym same)
     (λ first holds begun. updated_at a b old _ _ refl refl first holds to gets begun) from has at
+
+-- the same of its text
+pub updated-shows : (a b : Display) (old new : State) → AllByRecursion IsDrawing (update_calls a b) → a.width ≡ b.width → a.height ≡ b.height
+    → IsScreen a → HasContents a → IsScreen b → HasContents b → old.display ≡ as_shown a
+    → Shows old (canon (update_calls a b)) new → new.display ≡ as_shown b
+updated-shows a b old new drawing width height from has to gets at shows =
+    let calls : List Call = update_calls a b in
+    ap (λ (s : State). s.display)
+    (Shows-only (canon calls) old new (after_all calls old) shows (calls, replay calls (drawing-lawful calls drawing), refl))
+    ∙ updated-is a b old from has to gets width height at
+
+-- an update to what the other screen is
+pub draws-wanted : {W : Type 0} (sink : SinkOf W) (shown : Display) (screen wanted : State) (a b : Output W) → screen ≡ wanted
+    → Draws sink (update_calls shown screen.display) a b → Draws sink (update_calls shown wanted.display) a b
+draws-wanted sink shown screen wanted a b same draws = subst (λ (s : State). Draws sink (update_calls shown s.display) a b) same draws

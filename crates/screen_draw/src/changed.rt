@@ -1,5 +1,5 @@
 //! What can have changed of a screen since another one.
-ghost use Rattle.std.specs.Prelude.{◌≡◌};
+ghost use Rattle.std.specs.Prelude.{◌≡◌, false};
 
 /// The rows from `first` up to `past`, the cursor, modes and links can have changed; and where `is_framed` says so,
 /// margins, tabs, saved places and the alternate screen with what it covers.
@@ -16,7 +16,9 @@ impl Changed {
 
     /// Nothing of a screen of so many rows.
     pub(crate) fn nothing(rows: usize) -> Changed
-        ensures { (shown : Display) → shown.height ≡ rows → Keeps result shown shown }
+        ensures kept { (shown : Display) → Keeps result shown shown }
+        ensures rows { result.first ≡ rows }
+        ensures frame { result.is_framed ≡ false }
     {
         Changed {
             first: rows,

@@ -6,11 +6,14 @@ ghost use Rattle.ansi_screen.specs.Reachable.{IsScreen, HasContents};
 ghost use Rattle.ansi_style.specs.Style.{HasBytes};
 ghost use Rattle.screen_draw.specs.Draw.{drawn_calls};
 ghost use Rattle.screen_draw.specs.Laws.{HasModes};
+ghost use Rattle.screen_draw.specs.Noting.{screen_of, HasNoted, Notes};
 ghost use Rattle.screen_draw.specs.Redrawn.{as_shown, drawn_state};
 ghost use Rattle.screen_draw.specs.Alike.{are_alike, is_steady};
 ghost use Rattle.screen_draw.specs.Update.{move_calls, change_calls, update_calls};
 ghost use Rattle.screen_draw.specs.Updates.{AreScreens, followed_calls, last_of, joined};
 ghost use Rattle.screen_draw.specs.declared.changes.Brush.{Brush};
+ghost use Rattle.screen_draw.specs.declared.noting.Noting.{Noting};
+ghost use Rattle.anstyle_parse.specs.Stream.Call.{Call, Goes};
 ghost use Rattle.ansi_screen.specs.declared.cell.Cell.{Cell};
 
 /// Whatever stood there, nothing of it counts: the calls that draw a screen lead any two screens of one
@@ -58,6 +61,15 @@ pub fn followed()
         → (after_all (followed_calls first screens) old).display ≡ as_shown (last_of first screens).display }
     ensures whole { (first : State) (pieces : List (List ℕ)) (screens : List State)
         → AreScreens first [] pieces screens → Shows first (joined pieces) (last_of first screens) }
+{}
+
+/// What differs from a screen that is shown stays noted: behind calls a `Noting` has the screen that they lead to, and
+/// where all was noted before them in which it differs from what is shown, all is noted behind them.
+pub fn noted()
+    ensures screen { (calls : List Call) (old new : Noting) → Goes Notes old calls new
+        → screen_of new ≡ after_all calls (screen_of old) }
+    ensures noted { (calls : List Call) (old new : Noting) (shown : Display) → Goes Notes old calls new
+        → HasNoted old shown → HasNoted new shown }
 {}
 
 /// What is the same is not drawn: nothing of a screen that shows, and no cell that is like the one that stands there.

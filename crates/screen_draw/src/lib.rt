@@ -1,4 +1,13 @@
-//! Draws a screen: bytes after which a terminal shows it, whatever it showed before.
+//! Draws a screen: bytes after which a terminal shows it, whatever it showed before; and updates: bytes that lead from
+//! one screen to another. So a terminal follows a stream, behind each piece of which only what differs is written:
+//!
+//! ```
+//! wanted.forget();
+//! parser.advance_all(wanted, piece);
+//! update_noted(shown, wanted, output);
+//! behind.advance_all(shown, piece);
+//! // both screens have taken the piece: the next one may come
+//! ```
 #![tactic(auto)]
 
 mod alike;
@@ -21,6 +30,7 @@ ghost use Rattle.anstyle_parse.specs.Stream.Canon.{canon};
 ghost use Rattle.screen_draw.specs.Bound.{draw_bound, update_bound};
 ghost use Rattle.screen_draw.specs.Draw.{drawn_calls};
 ghost use Rattle.screen_draw.specs.Drawing.{IsDrawing, HaveNoReset};
+ghost use Rattle.screen_draw.specs.Noting.{display_of, HasNoted};
 ghost use Rattle.screen_draw.specs.Redrawn.{as_shown, drawn_state};
 ghost use Rattle.screen_draw.specs.Update.{update_calls};
 ghost use Rattle.ansi_screen.specs.After.{State, Shows};
@@ -100,4 +110,41 @@ pub fn update<W: Sink>(shown: &Screen, wanted: &Screen, output: &mut Output<W>)
         ≤ update_bound shown.now.display wanted.now.display }
 {
     put_update(output, shown, wanted, Changed::all(wanted.rows()));
+}
+
+/// Writes what [`update`] writes, and compares of the rows those alone that were noted.
+///
+/// All has to be noted in which what is wanted differs from what is shown. So it is where both have the same size and
+/// nothing was forgotten; and where both were the same when [`Noting::forget`] was called, whatever `wanted` has taken
+/// since ([`laws::noted`]).
+// Out of line `bench/cells.py` finds it, and counts what it alone takes.
+#[inline(never)]
+pub fn update_noted<W: Sink>(shown: &Screen, wanted: &Noting, output: &mut Output<W>)
+    requires noted { HasNoted wanted.now shown.now.display }
+
+    // It adds the canonical text of the calls of an update.
+    ensures text { Adds W.Sink (canon (update_calls shown.now.display (display_of wanted.now))) output.old output.new }
+
+    // A parser makes these calls of it, and no others.
+    ensures made { AreCalls (canon (update_calls shown.now.display (display_of wanted.now)))
+        (update_calls shown.now.display (display_of wanted.now)) }
+    ensures lawful { AreLawful (update_calls shown.now.display (display_of wanted.now)) }
+
+    // A terminal that shows the one, as a drawing or an update leaves it, shows by this text the other.
+    ensures updated { (old new : State) → IsScreen shown.now.display → HasContents shown.now.display
+        → IsScreen (display_of wanted.now) → HasContents (display_of wanted.now)
+        → old.display ≡ as_shown shown.now.display
+        → Shows old (canon (update_calls shown.now.display (display_of wanted.now))) new
+        → new.display ≡ as_shown (display_of wanted.now) }
+
+    // They print what is shown, and have no controls but SO and SI, and no strings; there is neither RIS nor DECSTR.
+    ensures only { AllByRecursion IsDrawing (update_calls shown.now.display (display_of wanted.now)) }
+    ensures no_reset { HaveNoReset (update_calls shown.now.display (display_of wanted.now)) }
+
+    // As many as a drawing, where all is drawn, and so many to clear what is shown.
+    ensures bound { IsSized (display_of wanted.now)
+        → length (canon (update_calls shown.now.display (display_of wanted.now)))
+        ≤ update_bound shown.now.display (display_of wanted.now) }
+{
+    put_update(output, shown, wanted.screen(), wanted.changed());
 }

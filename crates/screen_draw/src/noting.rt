@@ -1,5 +1,5 @@
 //! A screen that notes what can have changed of it.
-ghost use Rattle.std.specs.Prelude.{◌≡◌, ◌+◌, ◌-◌, ℕ, Bool, List, ◌&&◌, ◌||◌, ◌==◌, nat_lt, length, if◌then◌else◌};
+ghost use Rattle.std.specs.Prelude.{◌≡◌, ◌<◌, ◌+◌, ◌-◌, ℕ, Bool, List, ◌&&◌, ◌||◌, ◌==◌, nat_lt, length, if◌then◌else◌};
 ghost use Rattle.ansi_screen.specs.After.{function_of};
 ghost use Rattle.ansi_screen.specs.Alone.{moves_alone};
 ghost use Rattle.anstyle_parse.specs.Stream.Call.{print, execute, csi_dispatch, esc_dispatch};
@@ -48,22 +48,29 @@ fn first_row(place: Place) -> usize
 }
 
 impl Noting {
-    ghost use Rattle.ansi_screen.specs.Display.{Display, IsSized};
-    ghost use Rattle.screen_draw.specs.Changed.{Keeps, with_rows};
-    ghost use Rattle.screen_draw.specs.Noting.{screen_of, changed_of};
+    ghost use Rattle.ansi_screen.specs.Display.{Display, IsSized, row_cells};
+    ghost use Rattle.screen_draw.specs.Changed.{Keeps, KeepsFrame, with_rows};
+    ghost use Rattle.screen_draw.specs.Noting.{screen_of, changed_of, display_of, HasNoted};
 
     /// One with this screen, of which all can have changed.
     pub fn new(screen: Screen) -> Noting
-        ensures { screen_of result ≡ screen }
+        ensures screen { screen_of result ≡ screen }
+        ensures all { (shown : Display) → shown.width ≡ screen.display.width → shown.height ≡ screen.display.height
+            → HasNoted result shown }
     {
         let changed = Changed::all(screen.rows());
         Noting { screen, changed }
     }
 
     /// Nothing is noted any more: as it is, it is shown.
-    pub(crate) fn forget(&mut self)
+    pub fn forget(&mut self)
         ensures screen { screen_of self.new ≡ screen_of self.old }
-        ensures nothing { Keeps (changed_of self.new) (screen_of self.new).display (screen_of self.new).display }
+        ensures shown { HasNoted self.new (display_of self.new) }
+
+        // No row is noted, and no frame: where all is noted in which another one differs, it has the same.
+        ensures rows { (shown : Display) (row : ℕ) → HasNoted self.new shown → row < (display_of self.new).height
+            → row_cells row (display_of self.new) ≡ row_cells row shown }
+        ensures frame { (shown : Display) → HasNoted self.new shown → KeepsFrame shown (display_of self.new) }
     {
         self.changed = Changed::nothing(self.screen.rows());
     }

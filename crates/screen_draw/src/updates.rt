@@ -4,9 +4,8 @@ ghost use Rattle.anstyle_parse.specs.Io.Output.{fault_in};
 ghost use Rattle.screen_draw.specs.Noting.{screen_of};
 ghost use Rattle.screen_draw.specs.Updates.{Follows};
 
-use crate::draw;
 use crate::noting::Noting;
-use crate::whole::put_update;
+use crate::{draw, update_noted};
 use ansi_screen::Screen;
 use anstyle_parse::io::{Fault, Output, Sink, Source};
 use anstyle_parse::{Parser, Utf8Parser};
@@ -51,7 +50,7 @@ pub fn update_to_end<R: Source, W: Sink>(
             Some(count) => {
                 wanted.forget();
                 parser.advance_all(wanted, &piece[..count]);
-                put_update(output, shown, wanted.screen(), wanted.changed());
+                update_noted(shown, wanted, output);
                 output.pass_on();
                 if output.fault().is_some() {
                     return Err(Fault::Write);

@@ -1,14 +1,11 @@
 -- They are lawful, and so replayed.
-use Rattle.std.proofs.Common.{refl, ap, sym, ◌∙◌}
+use Rattle.std.proofs.Common.{sym}
 use Rattle.anstyle_parse.proofs.Canonical.Replay.{replay}
-use Rattle.anstyle_parse.specs.Stream.Canon.{canon}
-use Rattle.ansi_screen.specs.After.{after_all}
-use Rattle.ansi_screen.proofs.LawLemmas.{Shows-only}
 use Rattle.screen_draw.specs.Update.{update_calls}
 use Rattle.screen_draw.proofs.BoundLemmas.{update-bound}
 use Rattle.screen_draw.proofs.DrawLemmas.{drawing-lawful}
 use Rattle.screen_draw.proofs.NoResetLemmas.{no-reset}
-use Rattle.screen_draw.proofs.UpdatedLemmas.{updated-is}
+use Rattle.screen_draw.proofs.UpdatedLemmas.{updated-shows}
 use Rattle.screen_draw.proofs.update.Goals as goal
 
 pub put_update-requires : goal.put_update-requires
@@ -28,12 +25,7 @@ returns-clause-no_reset g c = no-reset c.args.shown.now.display c.args.wanted.no
 
 pub returns-clause-updated : goal.returns-clause-updated
 returns-clause-updated g c = λ old new from has to gets is shows.
-    let a = c.args.shown.now.display in
-    let b = c.args.wanted.now.display in
-    let calls = update_calls a b in
-    ap (λ s. s.display)
-    (Shows-only (canon calls) old new (after_all calls old) shows (calls, replay calls (drawing-lawful calls c.put_update.ensures.drawing), refl))
-    ∙ updated-is a b old from has to gets c.requires.columns c.requires.rows is
+    updated-shows c.args.shown.now.display c.args.wanted.now.display old new c.put_update.ensures.drawing c.requires.columns c.requires.rows from has to gets is shows
 
 pub returns-clause-bound : goal.returns-clause-bound
 returns-clause-bound g c = λ sized. update-bound c.args.shown.now.display c.args.wanted.now.display sized c.put_update.ensures.drawing

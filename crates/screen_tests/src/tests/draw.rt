@@ -1,9 +1,16 @@
 //! All parts of a screen, and the bytes that draw it.
+ghost use Rattle.anstyle_parse.specs.Io.Output.{Adds};
+ghost use Rattle.anstyle_parse.specs.Stream.Canon.{canon};
+ghost use Rattle.anstyle_parse.specs.Views.Parser.{machine_of};
+ghost use Rattle.screen_draw.specs.Noting.{screen_of};
+ghost use Rattle.screen_draw.specs.Update.{update_calls};
+ghost use Rattle.std.specs.Prelude.{◌≡◌};
+
 use ansi_screen::{Place, Screen, is_shown, moves_alone};
-use anstyle_parse::io::{FromRead, FromWrite, Output};
+use anstyle_parse::io::{FromRead, FromWrite, Output, Sink};
 use anstyle_parse::{Parser, Utf8Parser};
-use screen_draw::laws::{followed, forgets, redrawn, selected, unchanged, updated};
-use screen_draw::{Noting, draw, update, update_to_end};
+use screen_draw::laws::{followed, forgets, noted, redrawn, selected, unchanged, updated};
+use screen_draw::{Noting, draw, update, update_noted, update_to_end};
 use std::alloc::{AllocError, Global};
 use std::test::Fail;
 
@@ -135,5 +142,60 @@ fn updates_of_a_stream(rt: HostRuntime) -> Result<(), Fail> {
     let again = shown(rt.alloc(), written.as_slice())?;
     assert_eq!(rt; again.cells(), last.screen().cells());
     assert_eq!(rt; again.cursor(), last.screen().cursor());
+    Ok(())
+}
+
+/// Writes what a piece of a stream changes, as the page of the crate `screen_draw` shows it: before and behind it both
+/// screens are the same.
+fn show_piece<W: Sink>(
+    parser: &mut Parser<Utf8Parser>,
+    behind: &mut Parser<Utf8Parser>,
+    shown: &mut Screen,
+    wanted: &mut Noting,
+    piece: &[u8],
+    output: &mut Output<W>,
+)
+    requires parsers { machine_of behind.old ≡ machine_of parser.old }
+    requires screens { shown.old ≡ screen_of wanted.old }
+    ensures parsers { machine_of behind.new ≡ machine_of parser.new }
+    ensures screens { shown.new ≡ screen_of wanted.new }
+    ensures text { Adds W.Sink (canon (update_calls shown.old.display shown.new.display)) output.old output.new }
+{
+    noted();
+    wanted.forget();
+    parser.advance_all(wanted, piece);
+    update_noted(shown, wanted, output);
+    behind.advance_all(shown, piece);
+}
+
+/// A character, and the next one, which stands where the cursor is, in its style.
+#[test]
+fn updates_of_what_is_noted(rt: HostRuntime) -> Result<(), Fail> {
+    let mut first = Screen::new(rt.alloc(), 9, 3)?;
+    let mut last = Noting::new(Screen::new(rt.alloc(), 9, 3)?);
+    let mut parser = Parser::<Utf8Parser>::new();
+    let mut behind = Parser::<Utf8Parser>::new();
+    let mut output = Output::new(FromWrite::new(Vec::new(rt.alloc())));
+    show_piece(
+        &mut parser,
+        &mut behind,
+        &mut first,
+        &mut last,
+        b"\x1b[2;2H\x1b[1mX",
+        &mut output,
+    );
+    show_piece(
+        &mut parser,
+        &mut behind,
+        &mut first,
+        &mut last,
+        b"Y",
+        &mut output,
+    );
+    let (sink, answer) = output.finish();
+    assert!(rt; answer.is_ok());
+    let written = sink.into_inner();
+    assert_eq!(rt; written.as_slice(), b"\x1b[2;2H\x1b[0;1mXY".as_slice());
+    assert_eq!(rt; first.cells(), last.screen().cells());
     Ok(())
 }

@@ -14,8 +14,7 @@ use Rattle.screen_draw.specs.Draw.{drawn_calls}
 use Rattle.screen_draw.specs.Drawing.{Draws}
 use Rattle.screen_draw.specs.Update.{update_calls}
 use Rattle.screen_draw.specs.Updates.{IsPiece, joined}
-use Rattle.screen_draw.specs.declared.changed.Changed.{Changed}
-use Rattle.screen_draw.specs.Changed.{Keeps}
+use Rattle.screen_draw.specs.Noting.{HasNoted}
 use Rattle.screen_draw.proofs.NotedLemmas.{noted-keeps, noted-received}
 use Rattle.screen_draw.proofs.UpdatesLemmas.{joined-more, last-more, pieces-more, screens-more, received-shows, received-same, passed-on, no-updates, begins, draws-more, write-fault, follows}
 use Rattle.screen_draw.proofs.updates.update_to_end.Goals as goal
@@ -74,18 +73,17 @@ returns-in-Some-eq0 g c =
     (begins g.W.Sink c.args.shown.now c.args.wanted.now.screen _ _ _ c.requires.same c.draw.ensures.text c.draw.ensures.only c.pass_on.ensures)
     before.draws (before.no_fault, (λ zero. c.in-Some-eq0.ensures.end c.in-Some-eq0.field-0-test room zero, c.in-Some-eq0.ensures.not_failed ∙ before.not_failed))
 
-pub put_update-requires : goal.put_update-requires
-put_update-requires g c =
+pub update_noted-requires : goal.update_noted-requires
+update_noted-requires g c =
     let before = c.loop-turn.invariant in
     let old = c.forget.new.self in
     let same : c.loop-turn.shown ≡ old.screen =
     received-same c.args.wanted.now.screen c.loop-turn.shown c.loop-turn.wanted.screen (joined before.pieces) before.received_behind before.received
     ∙ sym c.forget.ensures.screen in
-    let noted : Keeps c.advance_all.new.performer.changed c.loop-turn.shown.display c.advance_all.new.performer.screen.display =
-    noted-keeps _ old c.advance_all.new.performer c.loop-turn.shown.display c.advance_all.ensures.calls
-    (subst (λ (s : State). Keeps old.changed s.display old.screen.display) (sym same) c.forget.ensures.nothing) in
-    subst (λ (s : State). Keeps c.changed.result c.loop-turn.shown.display s.display) (sym c.screen-in-Some.ensures)
-    (subst (λ (ch : Changed). Keeps ch c.loop-turn.shown.display c.advance_all.new.performer.screen.display) (sym c.changed.ensures) noted)
+    record {
+      noted = noted-keeps _ old c.advance_all.new.performer c.loop-turn.shown.display c.advance_all.ensures.calls
+          (subst (λ (s : State). HasNoted old s.display) (sym same) c.forget.ensures.shown);
+    }
 
 pub returns-then-is_some-2 : goal.returns-then-is_some-2
 returns-then-is_some-2 g c =
@@ -98,9 +96,8 @@ returns-then-is_some-2 g c =
     (c.advance_all.ensures.stream (joined before.pieces) refl before.stands) c.advance_all.ensures.calls in
     let drawn : Draws g.W.Sink (drawn_calls first.display) c.args.output.now c.pass_on.new.self =
     begins g.W.Sink c.args.shown.now first _ _ _ c.requires.same c.draw.ensures.text c.draw.ensures.only c.pass_on.ensures in
-    let update : Draws g.W.Sink (update_calls c.loop-turn.shown.display next.display) c.loop-turn.output c.put_update.new.output =
-    subst (λ (s : State). Draws g.W.Sink (update_calls c.loop-turn.shown.display s.display) c.loop-turn.output c.put_update.new.output) c.screen-in-Some.ensures
-    c.put_update.ensures in
+    let update : Draws g.W.Sink (update_calls c.loop-turn.shown.display next.display) c.loop-turn.output c.update_noted.new.output =
+    record { added = c.update_noted.ensures.text; drawing = c.update_noted.ensures.only } in
     let last = passed-on g.W.Sink (update_calls c.loop-turn.shown.display next.display) _ _ _
     update c.pass_on-in-Some.ensures in
     let is_piece : IsPiece bytes = (
@@ -109,7 +106,7 @@ returns-then-is_some-2 g c =
     ) in
     let updated = draws-more g.W.Sink first c.loop-turn.shown next before.screens _ _ _ _ before.draws
     (received-same first _ _ (joined before.pieces) before.received_behind before.received ∙ before.is_last)
-    update.added update.drawing c.pass_on-in-Some.ensures in
+    c.update_noted.ensures.text c.update_noted.ensures.only c.pass_on-in-Some.ensures in
     follows g.R.Source g.W.Sink _ _ first next c.args.output.now c.pass_on.new.self c.pass_on-in-Some.new.self _
     (before.pieces ++ bytes ∷ []) (before.screens ++ next ∷ [])
     (subst (Consumes (g.R.Source.remaining c.args.reader.now) (g.R.Source.remaining c.read.new.self)) (sym (joined-more before.pieces bytes))
@@ -136,9 +133,6 @@ loop-turn-preserved g c =
     let received = noted-received first (joined before.pieces) bytes _ c.forget.new.self c.advance_all.new.performer
     (subst (HasReceived (λ (a : State) (call : Call) (b : State). b ≡ after call a) first (joined before.pieces)) (sym c.forget.ensures.screen) before.received)
     (c.advance_all.ensures.stream (joined before.pieces) refl before.stands) c.advance_all.ensures.calls in
-    let update : Draws g.W.Sink (update_calls c.loop-turn.shown.display next.display) c.loop-turn.output c.put_update.new.output =
-    subst (λ (s : State). Draws g.W.Sink (update_calls c.loop-turn.shown.display s.display) c.loop-turn.output c.put_update.new.output) c.screen-in-Some.ensures
-    c.put_update.ensures in
     record {
       pieces = before.pieces ++ bytes ∷ [];
       screens = before.screens ++ next ∷ [];
@@ -149,7 +143,7 @@ loop-turn-preserved g c =
       is_last = sym (last-more first next before.screens);
       draws = draws-more g.W.Sink first c.loop-turn.shown next before.screens _ _ _ _ before.draws
           (received-same first _ _ (joined before.pieces) before.received_behind before.received ∙ before.is_last)
-          update.added update.drawing c.pass_on-in-Some.ensures;
+          c.update_noted.ensures.text c.update_noted.ensures.only c.pass_on-in-Some.ensures;
       received = subst (λ l. HasReceived (λ (a : State) (call : Call) (b : State). b ≡ after call a) first l next) more received;
       received_behind = subst (λ l. HasReceived (λ (a : State) (call : Call) (b : State). b ≡ after call a) first l c.advance_all-in-Some.new.performer) more
           (c.advance_all-in-Some.ensures.received first (joined before.pieces) refl before.stands_behind before.received_behind);

@@ -1,9 +1,9 @@
 -- What each call leaves of a display as it was.
-use Rattle.std.proofs.Common.{◌≡◌, ℕ, zero, suc, ◌+◌, ◌-◌, ◌*◌, ◌<◌, ◌≤◌, Bool, true, false, ◌&&◌, ◌||◌, List, [], ◌∷◌, length, take, drop, set, refl, sym, ◌∙◌, subst, arith}
+use Rattle.std.proofs.Common.{◌≡◌, ℕ, zero, suc, ◌+◌, ◌-◌, ◌*◌, ◌<◌, ◌≤◌, Bool, true, false, ◌&&◌, ◌||◌, List, [], ◌∷◌, length, take, drop, set, refl, ap, sym, ◌∙◌, subst, arith}
 use Rattle.std.specs.Prelude.{min, nat_lt, ◌==◌, if◌then◌else◌}
 use Rattle.std.proofs.lemmas.Bool.{le-ltb}
 use Rattle.std.proofs.Math.Nat.{mul-le-mul_right, suc-mul, add-mul}
-use borrow.Author.Tests.{ltb-false, eqb-true, eqb-false}
+use borrow.Author.Tests.{ltb-true, ltb-false, eqb-true, eqb-false}
 use Rattle.anstyle_parse.specs.Stream.Call.{Call, print, execute, csi_dispatch}
 use Rattle.ansi_screen.specs.declared.cell.Cell.{Cell}
 use Rattle.ansi_screen.specs.declared.place.Place.{Place}
@@ -18,12 +18,13 @@ use Rattle.ansi_screen.specs.Widths.{is_shown, columns}
 use Rattle.ansi_screen.specs.After.{State, function_of, executed, displayed}
 use Rattle.ansi_screen.proofs.AloneLemmas.{alone-displayed}
 use Rattle.ansi_screen.proofs.KeptCalls.{columns-few}
-use Rattle.ansi_screen.proofs.PairLemmas.{length-cut}
+use Rattle.ansi_screen.proofs.CellLemmas.{cut-none}
+use Rattle.ansi_screen.proofs.PairLemmas.{length-cut, clear-cut_other}
 use Rattle.ansi_screen.proofs.RowLemmas.{Same, same-refl, same-trans, same-set, same-within}
 use Rattle.ansi_screen.proofs.SizeLemmas.{sized-after}
 use Rattle.ansi_screen.proofs.WholeLemmas.{length-glyph, length-going_on}
 use Rattle.screen_draw.specs.declared.changed.Changed.{Changed}
-use Rattle.screen_draw.specs.Changed.{Keeps, with_rows, Widens}
+use Rattle.screen_draw.specs.Changed.{Keeps, with_rows, Widens, begins_with_right}
 use Rattle.screen_draw.proofs.ChangedLemmas.{Framed, Within, Still, framed-refl, framed-trans, framed-if, framed-cells, still-refl, still-trans, still-if, still-place, within-cells, same-wider, keeps-still, keeps-within, keeps-framed}
 
 -- control sequences that change the cursor alone
@@ -153,6 +154,29 @@ same-changed n from how cells inside long =
     (omega (arith, length-cut from once, length-cut (from + n) cells)) (long (take (from + n - from) (drop from both)) ∙ sym some))
     (same-trans (from - 1) (from + n + 1) both once cells second first)
 
+and-none : (t : Bool) → (t && false) ≡ false
+and-none true = refl
+and-none false = refl
+
+-- Where no right half stands at the start, the cell before it stays.
+same-changed_clear : (n from : ℕ) (how : List Cell → List Cell) (cells : List Cell) → from + n ≤ length cells → 1 ≤ n
+    → is_right (cell_at from cells).part ≡ false → ((run : List Cell) → length (how run) ≡ n)
+    → Same from (from + n + 1) (change from (from + n) how cells) cells
+same-changed_clear n from how cells inside some clear long =
+    let once : List Cell = cut (from + n) cells in
+    let both : List Cell = cut from once in
+    let first : Same from (from + n + 1) once cells =
+    same-wider (from + n - 1) (from + n + 1) from (from + n + 1) once cells (cut-same (from + n) cells _ refl) (omega arith) (omega arith) in
+    let stays : once ≡ both =
+    cut-none once from (ap (λ t. nat_lt 0 from && t) (clear-cut_other (from + n) from cells clear) ∙ and-none (nat_lt 0 from)) in
+    let second : Same from (from + n + 1) both once =
+    subst (λ (l : List Cell). Same from (from + n + 1) l once) stays (same-refl from (from + n + 1) once) in
+    let whole : from + n - from ≡ n = omega arith in
+    same-trans from (from + n + 1) (within from (from + n) how both) both cells
+    (same-within from (from + n + 1) from (from + n) how both (omega arith) (omega arith) (omega arith)
+    (omega (arith, length-cut from once, length-cut (from + n) cells)) (long (take (from + n - from) (drop from both)) ∙ sym whole))
+    (same-trans from (from + n + 1) both once cells second first)
+
 same-glyph : (n c : ℕ) (d : Display) → d.inserts ≡ false → d.cursor.column + n ≤ d.width → 1 ≤ n → n ≤ 2
     → row_end d ≤ length d.cells → Same (here d - 1) (here d + n + 1) (put n c d).cells d.cells
 unfolding put with_room with_glyph
@@ -226,38 +250,105 @@ row-before (suc row) width wide =
     let next : suc row * width ≡ row * width + width = suc-mul row width in
     rw before (omega arith)
 
+-- Where the cursor's row begins with no right half, the row before stays.
+module _ (d : Display) (clear : begins_with_right d ≡ false) where
+  abbrev first : ℕ
+  first = row_end d - d.width
+
+  same-glyph_clear : (n c : ℕ) (t : Bool) → (d.cursor.column == 0) ≡ t → d.inserts ≡ false → d.cursor.column + n ≤ d.width → 1 ≤ n → n ≤ 2
+      → row_end d ≤ length d.cells → Same first (here d + n + 1) (put n c d).cells d.cells
+  unfolding put with_room with_glyph
+  same-glyph_clear n c true is writes fits some few inside =
+      let room : nat_lt d.width (d.cursor.column + n) ≡ false = le-ltb d.width (d.cursor.column + n) fits in
+      let start : d.cursor.column ≡ 0 = eqb-true d.cursor.column 0 is in
+      let there : first ≡ here d = omega arith in
+      rw (room, writes) (same-wider (here d) (here d + n + 1) first (here d + n + 1) _ d.cells
+      (same-changed_clear n (here d) (λ run. glyph n c d.cursor.style d.link) d.cells (omega arith) some
+      (subst (λ k. is_right (cell_at k d.cells).part ≡ false) there clear)
+      (λ run. length-glyph n c d.cursor.style d.link _ refl some few)) (omega arith) (omega arith))
+  same-glyph_clear n c false is writes fits some few inside =
+      let other : d.cursor.column ≡ 0 → ⊥ = eqb-false d.cursor.column 0 is in
+      same-wider (here d - 1) (here d + n + 1) first (here d + n + 1) (put n c d).cells d.cells
+      (same-glyph n c d writes fits some few inside) (omega arith) (omega arith)
+
+  same-mark_clear : (c place hi : ℕ) → place - 1 ≡ first → first < hi → Same first hi (marked_before c place d.cells) d.cells
+  unfolding marked_before
+  same-mark_clear c place hi there inside =
+      let none : is_right (cell_at (place - 1) d.cells).part ≡ false = subst (λ k. is_right (cell_at k d.cells).part ≡ false) (sym there) clear in
+      rw none (same-set first hi (place - 1) d.cells _ (omega arith) (omega arith))
+
+  same-marked_clear : (c : ℕ) (t : Bool) → (d.cursor.column == 0) ≡ t → d.cursor.column < 2
+      → Same first (here d + 1) (marked c d).cells d.cells
+  unfolding marked
+  same-marked_clear c true is near = rw is (same-refl first (here d + 1) d.cells)
+  same-marked_clear c false is near =
+      let other : d.cursor.column ≡ 0 → ⊥ = eqb-false d.cursor.column 0 is in
+      rw is (same-mark_clear c (here d) (here d + 1) (omega arith) (omega arith))
+
 -- the row that is the first to change
 abbrev pub first_row : Bool → ℕ → ℕ
 first_row at_edge row = if at_edge then row - 1 else row
 
-row-first : (d : Display) (t : Bool) → nat_lt d.cursor.column 2 ≡ t → 2 ≤ d.width → first_row t d.cursor.row * d.width ≤ here d - 2
-row-first d true is wide = let before = row-before d.cursor.row d.width wide in omega arith
-row-first d false is wide = let past : 2 ≤ d.cursor.column = ltb-false d.cursor.column 2 is in omega arith
+rest-false : (t u : Bool) → t ≡ true → (t && u) ≡ false → u ≡ false
+rest-false true u is both = both
+rest-false false u is both = cc is
 
--- a character that no wrap comes before, and that ends before the row does
-within-printed : (c : ℕ) (d : Display) (t : Bool) → nat_lt d.cursor.column 2 ≡ t → IsSized d → d.inserts ≡ false
-    → d.cursor.column + 2 < d.width → Within (first_row t d.cursor.row) (d.cursor.row + 1) d (printed c d)
-within-printed c d t edge s writes fits =
+-- A character that no wrap comes before, and that ends before the row does, changes cells of the rows from one up to
+-- this one, where marks and glyphs do.
+module _ (c first from : ℕ) (d : Display) (s : IsSized d) (fits : d.cursor.column + 2 < d.width) (begins : first * d.width ≤ from)
+    (mark : (character : ℕ) → Same from (here d + 3) (marked character d).cells d.cells)
+    (character : (n character : ℕ) → 1 ≤ n → n ≤ 2 → d.cursor.column + n ≤ d.width → Same from (here d + 3) (put n character d).cells d.cells) where
+  within-by : Within first (d.cursor.row + 1) d (printed c d)
+  within-by =
+      let next : suc d.cursor.row * d.width ≡ d.cursor.row * d.width + d.width = suc-mul d.cursor.row d.width in
+      let after : d.cursor.row + 1 ≡ suc d.cursor.row = omega arith in
+      within-cells first (d.cursor.row + 1) from (here d + 3) d (printed c d) (framed-printed c d)
+      (same-printed from (here d + 3) c d (λ glyph. same-shown from (here d + 3) glyph d (mark glyph)
+      (λ n some few. let room : d.cursor.column + n ≤ d.width = omega arith in
+      let stays : wrapped n d ≡ d = wrapped-none n d (le-ltb d.width (d.cursor.column + n) room) in
+      subst (λ (e : Display). Same from (here d + 3) (put n glyph e).cells d.cells) (sym stays) (character n glyph some few room))))
+      begins (rw after (omega arith))
+
+-- what it changes: where the cursor stands further on, or the row before can change
+within-far : (c first : ℕ) (d : Display) → IsSized d → d.inserts ≡ false → d.cursor.column + 2 < d.width → first * d.width ≤ here d - 2
+    → Within first (d.cursor.row + 1) d (printed c d)
+within-far c first d s writes fits begins =
     let inside : row_end d ≤ length d.cells = row-fits d.cursor.row d s s.cursor_row in
-    let next : suc d.cursor.row * d.width ≡ d.cursor.row * d.width + d.width = suc-mul d.cursor.row d.width in
-    let after : d.cursor.row + 1 ≡ suc d.cursor.row = omega arith in
-    within-cells (first_row t d.cursor.row) (d.cursor.row + 1) (here d - 2) (here d + 3) d (printed c d) (framed-printed c d)
-    (same-printed (here d - 2) (here d + 3) c d (λ character. same-shown (here d - 2) (here d + 3) character d
-    (same-wider (here d - 2) (here d + 1) (here d - 2) (here d + 3) (marked character d).cells d.cells (same-marked character d _ refl) (omega arith) (omega arith))
-    (λ n some few. let room : d.cursor.column + n ≤ d.width = omega arith in
-    let stays : wrapped n d ≡ d = wrapped-none n d (le-ltb d.width (d.cursor.column + n) room) in
-    subst (λ (e : Display). Same (here d - 2) (here d + 3) (put n character e).cells d.cells) (sym stays)
-    (same-wider (here d - 1) (here d + n + 1) (here d - 2) (here d + 3) (put n character d).cells d.cells
-    (same-glyph n character d writes room some few inside) (omega arith) (omega arith)))))
-    (row-first d t edge s.two_columns) (rw after (omega arith))
+    within-by c first (here d - 2) d s fits begins
+    (λ character.
+    same-wider (here d - 2) (here d + 1) (here d - 2) (here d + 3) (marked character d).cells d.cells (same-marked character d _ refl) (omega arith) (omega arith))
+    (λ n character some few room.
+    same-wider (here d - 1) (here d + n + 1) (here d - 2) (here d + 3) (put n character d).cells d.cells
+    (same-glyph n character d writes room some few inside) (omega arith) (omega arith))
+
+-- in the first columns of a row that begins with no right half
+within-near : (c : ℕ) (d : Display) → IsSized d → d.inserts ≡ false → d.cursor.column + 2 < d.width → d.cursor.column < 2
+    → begins_with_right d ≡ false → Within d.cursor.row (d.cursor.row + 1) d (printed c d)
+within-near c d s writes fits near clear =
+    let inside : row_end d ≤ length d.cells = row-fits d.cursor.row d s s.cursor_row in
+    let from : ℕ = row_end d - d.width in
+    within-by c d.cursor.row from d s fits (omega arith)
+    (λ character.
+    same-wider from (here d + 1) from (here d + 3) (marked character d).cells d.cells
+    (same-marked_clear d clear character _ refl near) (omega arith) (omega arith))
+    (λ n character some few room.
+    same-wider from (here d + n + 1) from (here d + 3) (put n character d).cells d.cells
+    (same-glyph_clear d clear n character _ refl writes room some few inside) (omega arith) (omega arith))
+
+within-printed : (c : ℕ) (d : Display) (t u : Bool) → (nat_lt d.cursor.column 2 && begins_with_right d) ≡ t → nat_lt d.cursor.column 2 ≡ u
+    → IsSized d → d.inserts ≡ false → d.cursor.column + 2 < d.width → Within (first_row t d.cursor.row) (d.cursor.row + 1) d (printed c d)
+within-printed c d true u edge near s writes fits =
+    let before = row-before d.cursor.row d.width s.two_columns in
+    within-far c (d.cursor.row - 1) d s writes fits (omega arith)
+within-printed c d false false edge near s writes fits =
+    let past : 2 ≤ d.cursor.column = ltb-false d.cursor.column 2 near in
+    within-far c d.cursor.row d s writes fits (omega arith)
+within-printed c d false true edge near s writes fits =
+    within-near c d s writes fits (ltb-true d.cursor.column 2 near) (rest-false (nat_lt d.cursor.column 2) (begins_with_right d) near edge)
 
 same-joined : (lo hi end : ℕ) (cells : List Cell) → lo ≤ end - 1 → end - 1 < hi → Same lo hi (going_on true end cells) cells
 unfolding going_on
 same-joined lo hi end cells from to = same-set lo hi (end - 1) cells (record (cell_at (end - 1) cells) { goes_on = true }) from to
-
-rest-false : (t u : Bool) → t ≡ true → (t && u) ≡ false → u ≡ false
-rest-false true u is both = both
-rest-false false u is both = cc is
 
 -- a character that a wrap may come before, where nothing scrolls
 module _ (d : Display) (s : IsSized d) (writes : d.inserts ≡ false) (above : (d.cursor.row + 1 == d.bottom) ≡ false) where
@@ -326,12 +417,13 @@ module _ (d : Display) (s : IsSized d) (writes : d.inserts ≡ false) (above : (
       (omega arith) (omega arith)
 
 -- what is noted for a character
-pub widens-print : (c : ℕ) (screen : State) (changed : Changed) (t : Bool) → nat_lt screen.display.cursor.column 2 ≡ t → IsSized screen.display
+pub widens-print : (c : ℕ) (screen : State) (changed : Changed) (t : Bool)
+    → (nat_lt screen.display.cursor.column 2 && begins_with_right screen.display) ≡ t → IsSized screen.display
     → screen.display.inserts ≡ false → screen.display.cursor.column + 2 < screen.display.width
     → Widens (print c) screen changed (with_rows (first_row t screen.display.cursor.row) (screen.display.cursor.row + 1) changed)
 widens-print c screen changed t edge s writes fits = λ shown keeps.
     let d : Display = screen.display in
-    keeps-within (first_row t d.cursor.row) (d.cursor.row + 1) changed shown d (printed c d) (within-printed c d t edge s writes fits) keeps
+    keeps-within (first_row t d.cursor.row) (d.cursor.row + 1) changed shown d (printed c d) (within-printed c d t _ edge refl s writes fits) keeps
 
 pub widens-wrap : (c : ℕ) (screen : State) (changed : Changed) → IsSized screen.display → screen.display.inserts ≡ false
     → (screen.display.cursor.row + 1 == screen.display.bottom) ≡ false

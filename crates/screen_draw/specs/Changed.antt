@@ -1,7 +1,8 @@
 -- What can have changed of a screen since another one: rows from one up to another, and its frame.
-use Rattle.std.specs.Prelude.{◌≡◌, ◌<◌, ◌≤◌, ℕ, min, max, false}
+use Rattle.std.specs.Prelude.{◌≡◌, ◌<◌, ◌≤◌, ◌-◌, ℕ, Bool, min, max, false}
 use Rattle.anstyle_parse.specs.Stream.Call.{Call}
-use Rattle.ansi_screen.specs.Display.{Display, row_cells}
+use Rattle.ansi_screen.specs.Cells.{is_right, cell_at}
+use Rattle.ansi_screen.specs.Display.{Display, row_cells, row_end}
 use Rattle.ansi_screen.specs.After.{State, displayed}
 use Rattle.screen_draw.specs.declared.changed.Changed.{Changed}
 
@@ -33,3 +34,7 @@ with_rows first past changed = record changed { first = min changed.first first;
 abbrev pub Widens : Call → State → (before behind : Changed) → Type 0
 Widens call screen before behind =
     (shown : Display) → Keeps before shown screen.display → Keeps behind shown (displayed call screen)
+
+-- the cursor's row begins with the right half of a wide character
+abbrev pub begins_with_right : Display → Bool
+begins_with_right d = is_right (cell_at (row_end d - d.width) d.cells).part

@@ -6,7 +6,7 @@ ghost use Rattle.anstyle_parse.specs.Stream.Call.{print, execute, csi_dispatch, 
 ghost use Rattle.screen_draw.specs.Changed.{Widens};
 
 use crate::changed::Changed;
-use ansi_screen::{Place, Screen, moves_alone};
+use ansi_screen::{Screen, moves_alone};
 use anstyle_parse::{Params, Perform};
 
 /// A screen, and what of it can have changed since it was shown.
@@ -36,20 +36,9 @@ fn is_move(intermediates: &[u8], final_byte: u8) -> bool
     intermediates.is_empty() && moves_alone(final_byte)
 }
 
-/// The first row in which a character at a place can change cells.
-fn first_row(place: Place) -> usize
-    ensures { result ≡ if nat_lt place.column 2 then place.row - 1 else place.row }
-{
-    if place.column < 2 {
-        place.row.saturating_sub(1)
-    } else {
-        place.row
-    }
-}
-
 impl Noting {
     ghost use Rattle.ansi_screen.specs.Display.{Display, IsSized, row_cells};
-    ghost use Rattle.screen_draw.specs.Changed.{Keeps, KeepsFrame, with_rows};
+    ghost use Rattle.screen_draw.specs.Changed.{Keeps, KeepsFrame, with_rows, begins_with_right};
     ghost use Rattle.screen_draw.specs.Noting.{screen_of, changed_of, display_of, HasNoted};
 
     /// One with this screen, of which all can have changed.
@@ -89,9 +78,30 @@ impl Noting {
         &self.screen
     }
 
+    /// Whether the cursor's row begins with the right half of a wide character.
+    fn begins_with_right(&self) -> bool
+        ensures { result ≡ begins_with_right self.now.screen.display }
+    {
+        let start = self.screen.row_end() - self.screen.columns();
+        self.screen.cells()[start].is_right()
+    }
+
+    /// The first row in which a character can change cells: the cursor's; or the one above it, where the left half
+    /// would stand to a right one with which the row begins, in the first two columns.
+    fn first_row(&self) -> usize
+        ensures { result ≡ if nat_lt self.now.screen.display.cursor.column 2 && begins_with_right self.now.screen.display
+            then self.now.screen.display.cursor.row - 1 else self.now.screen.display.cursor.row }
+    {
+        let place = self.screen.cursor();
+        if place.column < 2 && self.begins_with_right() {
+            place.row.saturating_sub(1)
+        } else {
+            place.row
+        }
+    }
+
     /// What can have changed behind a character too. Where it has room in the row, it is this row, since no wrap
-    /// comes; in its first two columns also the row above, where a left half would stand. A wrap goes to the next
-    /// row, and at the lower margin all rows scroll.
+    /// comes, or the one above too. A wrap goes to the next row, and at the lower margin all rows scroll.
     fn by_print(&self) -> Changed
         ensures { (c : ℕ) → Widens (print c) self.now.screen self.now.changed result }
     {
@@ -100,7 +110,7 @@ impl Noting {
         if self.screen.inserts() {
             self.all_rows()
         } else if place.column + 2 < columns {
-            self.changed.with_rows(first_row(place), place.row + 1)
+            self.changed.with_rows(self.first_row(), place.row + 1)
         } else if self.is_at_bottom() {
             self.all_rows()
         } else {

@@ -1,9 +1,9 @@
 -- The rows that it can reach.
 use Rattle.std.proofs.Common.{◌+◌, ◌-◌, refl, ap, sym, subst, ◌∙◌, arith}
-use Rattle.std.specs.Prelude.{nat_lt}
+use Rattle.std.specs.Prelude.{nat_lt, ◌&&◌}
 use Rattle.anstyle_parse.specs.Stream.Call.{print}
 use Rattle.ansi_screen.specs.declared.place.Place.{Place}
-use Rattle.screen_draw.specs.Changed.{Widens, with_rows}
+use Rattle.screen_draw.specs.Changed.{Widens, with_rows, begins_with_right}
 use Rattle.screen_draw.proofs.NotingLemmas.{first_row, widens-print, widens-wrap, widens-any}
 use Rattle.screen_draw.proofs.noting.Noting.by_print.Goals as goal
 
@@ -18,11 +18,12 @@ returns-then-place-columns c = λ character.
     let screen = c.args.self.now.screen in
     let changed = c.args.self.now.changed in
     subst (Widens (print character) screen changed)
-    (sym (c.with_rows.ensures ∙ ap (λ n. with_rows n (c.cursor-place.result.row + 1) changed) c.first_row.ensures))
-    (subst (λ (p : Place). Widens (print character) screen changed (with_rows (first_row (nat_lt p.column 2) p.row) (p.row + 1) changed))
-    (sym c.cursor-place.ensures)
+    (sym (c.with_rows.ensures
+    ∙ (ap (λ n. with_rows n (c.cursor-place.result.row + 1) changed) c.first_row.ensures
+    ∙ ap (λ (p : Place). with_rows (first_row (nat_lt screen.display.cursor.column 2 && begins_with_right screen.display) screen.display.cursor.row) (p.row + 1) changed)
+    c.cursor-place.ensures)))
     (widens-print character screen changed _ refl c.columns-columns.ensures.sized (sym c.inserts.ensures ∙ c.if-inserts.false)
-    (omega (arith, ap (λ (p : Place). p.column) c.cursor-place.ensures, c.columns-columns.ensures.columns))))
+    (omega (arith, ap (λ (p : Place). p.column) c.cursor-place.ensures, c.columns-columns.ensures.columns)))
 
 pub returns-then-is_at_bottom : goal.returns-then-is_at_bottom
 returns-then-is_at_bottom c = λ character.

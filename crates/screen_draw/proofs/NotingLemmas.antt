@@ -20,7 +20,8 @@ use Rattle.ansi_screen.proofs.AloneLemmas.{alone-displayed}
 use Rattle.ansi_screen.proofs.KeptCalls.{columns-few}
 use Rattle.ansi_screen.proofs.CellLemmas.{cut-none}
 use Rattle.ansi_screen.proofs.PairLemmas.{length-cut, clear-cut_other}
-use Rattle.ansi_screen.proofs.RowLemmas.{Same, same-refl, same-trans, same-set, same-within}
+use Rattle.ansi_screen.proofs.RangeLemmas.{no_column-below, two_columns-below}
+use Rattle.ansi_screen.proofs.RowLemmas.{drawn-if, Same, same-refl, same-trans, same-set, same-within}
 use Rattle.ansi_screen.proofs.SizeLemmas.{sized-after}
 use Rattle.ansi_screen.proofs.WholeLemmas.{length-glyph, length-going_on}
 use Rattle.screen_draw.specs.declared.changed.Changed.{Changed}
@@ -185,6 +186,32 @@ same-glyph n c d writes fits some few inside =
     rw (room, writes) (same-changed n (here d) (λ run. glyph n c d.cursor.style d.link) d.cells (omega arith)
     (λ run. length-glyph n c d.cursor.style d.link _ refl some few))
 
+-- Where no right half stands behind it, no cell behind it changes.
+same-changed_last : (n from : ℕ) (how : List Cell → List Cell) (cells : List Cell) → from + n ≤ length cells → 1 ≤ n
+    → is_right (cell_at (from + n) cells).part ≡ false → ((run : List Cell) → length (how run) ≡ n)
+    → Same (from - 1) (from + n) (change from (from + n) how cells) cells
+same-changed_last n from how cells inside some clear long =
+    let once : List Cell = cut (from + n) cells in
+    let both : List Cell = cut from once in
+    let stays : cells ≡ once = cut-none cells (from + n) (ap (λ t. nat_lt 0 (from + n) && t) clear ∙ and-none (nat_lt 0 (from + n))) in
+    let first : Same (from - 1) (from + n) once cells =
+    subst (λ (l : List Cell). Same (from - 1) (from + n) l cells) stays (same-refl (from - 1) (from + n) cells) in
+    let second : Same (from - 1) (from + n) both once =
+    same-wider (from - 1) (from + 1) (from - 1) (from + n) both once (cut-same from once _ refl) (omega arith) (omega arith) in
+    let whole : from + n - from ≡ n = omega arith in
+    same-trans (from - 1) (from + n) (within from (from + n) how both) both cells
+    (same-within (from - 1) (from + n) from (from + n) how both (omega arith) (omega arith) (omega arith)
+    (omega (arith, length-cut from once, length-cut (from + n) cells)) (long (take (from + n - from) (drop from both)) ∙ sym whole))
+    (same-trans (from - 1) (from + n) both once cells second first)
+
+same-glyph_last : (c : ℕ) (d : Display) → d.inserts ≡ false → d.cursor.column + 1 ≤ d.width → row_end d ≤ length d.cells
+    → is_right (cell_at (here d + 1) d.cells).part ≡ false → Same (here d - 1) (here d + 1) (put 1 c d).cells d.cells
+unfolding put with_room with_glyph
+same-glyph_last c d writes fits inside clear =
+    let room : nat_lt d.width (d.cursor.column + 1) ≡ false = le-ltb d.width (d.cursor.column + 1) fits in
+    rw (room, writes) (same-changed_last 1 (here d) (λ run. glyph 1 c d.cursor.style d.link) d.cells (omega arith) (omega arith) clear
+    (λ run. length-glyph 1 c d.cursor.style d.link _ refl (omega arith) (omega arith)))
+
 -- Where it has no room nothing is put.
 put-none : (n c : ℕ) (d : Display) → nat_lt d.width (d.cursor.column + n) ≡ true → put n c d ≡ d
 unfolding put
@@ -228,6 +255,24 @@ same-shown lo hi c d mark character =
     let few : columns c ≤ 2 = columns-few c _ _ refl refl in
     same-if (columns c == 0) lo hi d.cells (marked c d) (put (columns c) c (wrapped (columns c) d)) (λ none. mark)
     (λ other. let some : columns c ≡ 0 → ⊥ = eqb-false (columns c) 0 other in character (columns c) (omega arith) few)
+
+-- A character below U+0300 has one column, and so has what stands for it in the line drawing set.
+narrow : (c : ℕ) → c < 0x300 → columns c ≡ 1
+unfolding columns
+narrow c small = rw (no_column-below c small, two_columns-below c (omega arith)) refl
+
+same-printed_last : (c : ℕ) (d : Display) → d.inserts ≡ false → d.cursor.column + 1 ≤ d.width → row_end d ≤ length d.cells → c < 0x300
+    → is_right (cell_at (here d + 1) d.cells).part ≡ false → Same (here d - 1) (here d + 1) (printed c d).cells d.cells
+unfolding printed shown
+same-printed_last c d writes fits inside small clear =
+    let character : ℕ = if draws d.cursor.charsets then drawn c else c in
+    let one : columns character ≡ 1 = drawn-if c (draws d.cursor.charsets) ∙ narrow c small in
+    let stays : wrapped 1 d ≡ d = wrapped-none 1 d (le-ltb d.width (d.cursor.column + 1) fits) in
+    same-if (is_shown c) (here d - 1) (here d + 1) d.cells _ d
+    (λ is. subst (λ (n : ℕ). Same (here d - 1) (here d + 1) (if n == 0 then marked character d else put n character (wrapped n d)).cells d.cells) (sym one)
+    (subst (λ (e : Display). Same (here d - 1) (here d + 1) (put 1 character e).cells d.cells) (sym stays)
+    (same-glyph_last character d writes fits inside clear)))
+    (λ none. same-refl (here d - 1) (here d + 1) d.cells)
 
 same-printed : (lo hi c : ℕ) (d : Display) → ((character : ℕ) → Same lo hi (shown character d).cells d.cells) → Same lo hi (printed c d).cells d.cells
 unfolding printed
@@ -346,6 +391,16 @@ within-printed c d false false edge near s writes fits =
 within-printed c d false true edge near s writes fits =
     within-near c d s writes fits (ltb-true d.cursor.column 2 near) (rest-false (nat_lt d.cursor.column 2) (begins_with_right d) near edge)
 
+-- one of one column, behind the first, in whatever column that is
+within-last : (c : ℕ) (d : Display) → IsSized d → d.inserts ≡ false → 0 < d.cursor.column → d.cursor.column < d.width → c < 0x300
+    → is_right (cell_at (here d + 1) d.cells).part ≡ false → Within d.cursor.row (d.cursor.row + 1) d (printed c d)
+within-last c d s writes past fits small clear =
+    let inside : row_end d ≤ length d.cells = row-fits d.cursor.row d s s.cursor_row in
+    let next : suc d.cursor.row * d.width ≡ d.cursor.row * d.width + d.width = suc-mul d.cursor.row d.width in
+    let after : d.cursor.row + 1 ≡ suc d.cursor.row = omega arith in
+    within-cells d.cursor.row (d.cursor.row + 1) (here d - 1) (here d + 1) d (printed c d) (framed-printed c d)
+    (same-printed_last c d writes (omega arith) inside small clear) (omega arith) (rw after (omega arith))
+
 same-joined : (lo hi end : ℕ) (cells : List Cell) → lo ≤ end - 1 → end - 1 < hi → Same lo hi (going_on true end cells) cells
 unfolding going_on
 same-joined lo hi end cells from to = same-set lo hi (end - 1) cells (record (cell_at (end - 1) cells) { goes_on = true }) from to
@@ -424,6 +479,14 @@ pub widens-print : (c : ℕ) (screen : State) (changed : Changed) (t : Bool)
 widens-print c screen changed t edge s writes fits = λ shown keeps.
     let d : Display = screen.display in
     keeps-within (first_row t d.cursor.row) (d.cursor.row + 1) changed shown d (printed c d) (within-printed c d t _ edge refl s writes fits) keeps
+
+pub widens-last : (c : ℕ) (screen : State) (changed : Changed) → IsSized screen.display → screen.display.inserts ≡ false
+    → 0 < screen.display.cursor.column → screen.display.cursor.column < screen.display.width → c < 0x300
+    → is_right (cell_at (here screen.display + 1) screen.display.cells).part ≡ false
+    → Widens (print c) screen changed (with_rows screen.display.cursor.row (screen.display.cursor.row + 1) changed)
+widens-last c screen changed s writes past fits small clear = λ shown keeps.
+    let d : Display = screen.display in
+    keeps-within d.cursor.row (d.cursor.row + 1) changed shown d (printed c d) (within-last c d s writes past fits small clear) keeps
 
 pub widens-wrap : (c : ℕ) (screen : State) (changed : Changed) → IsSized screen.display → screen.display.inserts ≡ false
     → (screen.display.cursor.row + 1 == screen.display.bottom) ≡ false

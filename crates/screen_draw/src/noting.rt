@@ -1,5 +1,5 @@
 //! A screen that notes what can have changed of it.
-ghost use Rattle.std.specs.Prelude.{◌≡◌, ◌<◌, ◌+◌, ◌-◌, ℕ, Bool, List, ◌&&◌, ◌||◌, ◌==◌, nat_lt, length, if◌then◌else◌};
+ghost use Rattle.std.specs.Prelude.{◌≡◌, true, false, ◌<◌, ◌+◌, ◌-◌, ℕ, Bool, List, ◌&&◌, ◌||◌, ◌==◌, nat_lt, length, if◌then◌else◌};
 ghost use Rattle.ansi_screen.specs.After.{function_of};
 ghost use Rattle.ansi_screen.specs.Alone.{moves_alone};
 ghost use Rattle.anstyle_parse.specs.Stream.Call.{print, execute, csi_dispatch, esc_dispatch};
@@ -22,6 +22,9 @@ const VERTICAL_TAB: u8 = 0x0B;
 
 const FORM_FEED: u8 = 0x0C;
 
+/// Below the first mark each character has one column.
+const FIRST_MARK: char = '\u{300}';
+
 /// Whether a control is a line feed, a vertical tab or a form feed.
 fn is_feed(byte: u8) -> bool
     ensures { result ≡ (byte == 0x0A || byte == 0x0B || byte == 0x0C) }
@@ -37,7 +40,8 @@ fn is_move(intermediates: &[u8], final_byte: u8) -> bool
 }
 
 impl Noting {
-    ghost use Rattle.ansi_screen.specs.Display.{Display, IsSized, row_cells};
+    ghost use Rattle.ansi_screen.specs.Cells.{is_right, cell_at};
+    ghost use Rattle.ansi_screen.specs.Display.{Display, IsSized, here, row_cells};
     ghost use Rattle.screen_draw.specs.Changed.{Keeps, KeepsFrame, with_rows, begins_with_right};
     ghost use Rattle.screen_draw.specs.Noting.{screen_of, changed_of, display_of, HasNoted};
 
@@ -78,12 +82,19 @@ impl Noting {
         &self.screen
     }
 
+    /// Whether the right half of a wide character stands at a place of the list of cells.
+    fn is_right_at(&self, place: usize) -> bool
+        ensures { result ≡ is_right (cell_at place self.now.screen.display.cells).part }
+    {
+        let cells = self.screen.cells();
+        place < cells.len() && cells[place].is_right()
+    }
+
     /// Whether the cursor's row begins with the right half of a wide character.
     fn begins_with_right(&self) -> bool
         ensures { result ≡ begins_with_right self.now.screen.display }
     {
-        let start = self.screen.row_end() - self.screen.columns();
-        self.screen.cells()[start].is_right()
+        self.is_right_at(self.screen.row_end() - self.screen.columns())
     }
 
     /// The first row in which a character can change cells: the cursor's; or the one above it, where the left half
@@ -100,10 +111,25 @@ impl Noting {
         }
     }
 
-    /// What can have changed behind a character too. Where it has room in the row, it is this row, since no wrap
-    /// comes, or the one above too. A wrap goes to the next row, and at the lower margin all rows scroll.
-    fn by_print(&self) -> Changed
-        ensures { (c : ℕ) → Widens (print c) self.now.screen self.now.changed result }
+    /// Whether a character of one column is put behind the row's first column without a wrap, and no right half stands
+    /// behind it: so that it changes this row alone.
+    fn has_room(&self, c: char) -> bool
+        ensures past { result ≡ true → 0 < self.now.screen.display.cursor.column }
+        ensures inside { result ≡ true → self.now.screen.display.cursor.column < self.now.screen.display.width }
+        ensures narrow { result ≡ true → c < 0x300 }
+        ensures clear { result ≡ true
+            → is_right (cell_at (here self.now.screen.display + 1) self.now.screen.display.cells).part ≡ false }
+    {
+        let columns = self.screen.columns();
+        let column = self.screen.cursor().column;
+        let start = self.screen.row_end() - columns;
+        c < FIRST_MARK && 0 < column && column < columns && !self.is_right_at(start + column + 1)
+    }
+
+    /// What can have changed behind a character too. Where it has room in the row, no wrap comes, and it is this row, or
+    /// the one above too. A wrap goes to the next row, and at the lower margin all rows scroll.
+    fn by_print(&self, c: char) -> Changed
+        ensures { Widens (print c) self.now.screen self.now.changed result }
     {
         let columns = self.screen.columns();
         let place = self.screen.cursor();
@@ -111,6 +137,8 @@ impl Noting {
             self.all_rows()
         } else if place.column + 2 < columns {
             self.changed.with_rows(self.first_row(), place.row + 1)
+        } else if self.has_room(c) {
+            self.changed.with_rows(place.row, place.row + 1)
         } else if self.is_at_bottom() {
             self.all_rows()
         } else {
@@ -193,7 +221,7 @@ impl Perform for Noting {
     ghost means = { Notes };
 
     fn print(&mut self, c: char) {
-        self.changed = self.by_print();
+        self.changed = self.by_print(c);
         self.screen.print(c);
     }
 

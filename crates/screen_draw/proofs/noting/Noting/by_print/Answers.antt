@@ -4,38 +4,48 @@ use Rattle.std.specs.Prelude.{nat_lt, ◌&&◌}
 use Rattle.anstyle_parse.specs.Stream.Call.{print}
 use Rattle.ansi_screen.specs.declared.place.Place.{Place}
 use Rattle.screen_draw.specs.Changed.{Widens, with_rows, begins_with_right}
-use Rattle.screen_draw.proofs.NotingLemmas.{first_row, widens-print, widens-wrap, widens-any}
+use Rattle.screen_draw.proofs.NotingLemmas.{first_row, widens-print, widens-wrap, widens-last, widens-any}
 use Rattle.screen_draw.proofs.noting.Noting.by_print.Goals as goal
 
 pub returns-then-inserts : goal.returns-then-inserts
-returns-then-inserts c = λ character.
+returns-then-inserts c =
     let screen = c.args.self.now.screen in
     let changed = c.args.self.now.changed in
-    subst (Widens (print character) screen changed) (sym c.all_rows.ensures) (widens-any character screen changed)
+    subst (Widens (print c.args.c) screen changed) (sym c.all_rows.ensures) (widens-any c.args.c screen changed)
 
 pub returns-then-place-columns : goal.returns-then-place-columns
-returns-then-place-columns c = λ character.
+returns-then-place-columns c =
     let screen = c.args.self.now.screen in
     let changed = c.args.self.now.changed in
-    subst (Widens (print character) screen changed)
+    subst (Widens (print c.args.c) screen changed)
     (sym (c.with_rows.ensures
     ∙ (ap (λ n. with_rows n (c.cursor-place.result.row + 1) changed) c.first_row.ensures
     ∙ ap (λ (p : Place). with_rows (first_row (nat_lt screen.display.cursor.column 2 && begins_with_right screen.display) screen.display.cursor.row) (p.row + 1) changed)
     c.cursor-place.ensures)))
-    (widens-print character screen changed _ refl c.columns-columns.ensures.sized (sym c.inserts.ensures ∙ c.if-inserts.false)
+    (widens-print c.args.c screen changed _ refl c.columns-columns.ensures.sized (sym c.inserts.ensures ∙ c.if-inserts.false)
     (omega (arith, ap (λ (p : Place). p.column) c.cursor-place.ensures, c.columns-columns.ensures.columns)))
 
-pub returns-then-is_at_bottom : goal.returns-then-is_at_bottom
-returns-then-is_at_bottom c = λ character.
+pub returns-then-has_room : goal.returns-then-has_room
+returns-then-has_room c =
     let screen = c.args.self.now.screen in
     let changed = c.args.self.now.changed in
-    subst (Widens (print character) screen changed) (sym c.all_rows-then-is_at_bottom.ensures) (widens-any character screen changed)
+    let room = c.if-has_room.true in
+    subst (Widens (print c.args.c) screen changed)
+    (sym (c.with_rows-then-has_room.ensures ∙ ap (λ (p : Place). with_rows p.row (p.row + 1) changed) c.cursor-place.ensures))
+    (widens-last c.args.c screen changed c.columns-columns.ensures.sized (sym c.inserts.ensures ∙ c.if-inserts.false)
+    (c.has_room.ensures.past room) (c.has_room.ensures.inside room) (c.has_room.ensures.narrow room) (c.has_room.ensures.clear room))
+
+pub returns-then-is_at_bottom : goal.returns-then-is_at_bottom
+returns-then-is_at_bottom c =
+    let screen = c.args.self.now.screen in
+    let changed = c.args.self.now.changed in
+    subst (Widens (print c.args.c) screen changed) (sym c.all_rows-then-is_at_bottom.ensures) (widens-any c.args.c screen changed)
 
 pub returns-else-is_at_bottom : goal.returns-else-is_at_bottom
-returns-else-is_at_bottom c = λ character.
+returns-else-is_at_bottom c =
     let screen = c.args.self.now.screen in
     let changed = c.args.self.now.changed in
-    subst (Widens (print character) screen changed) (sym (c.with_rows-else-is_at_bottom.ensures ∙ ap (λ n. with_rows n (c.cursor-place.result.row + 3) changed) c.saturating_sub.ensures))
-    (subst (λ (p : Place). Widens (print character) screen changed (with_rows (p.row - 1) (p.row + 3) changed)) (sym c.cursor-place.ensures)
-    (widens-wrap character screen changed c.columns-columns.ensures.sized (sym c.inserts.ensures ∙ c.if-inserts.false)
+    subst (Widens (print c.args.c) screen changed) (sym (c.with_rows-else-is_at_bottom.ensures ∙ ap (λ n. with_rows n (c.cursor-place.result.row + 3) changed) c.saturating_sub.ensures))
+    (subst (λ (p : Place). Widens (print c.args.c) screen changed (with_rows (p.row - 1) (p.row + 3) changed)) (sym c.cursor-place.ensures)
+    (widens-wrap c.args.c screen changed c.columns-columns.ensures.sized (sym c.inserts.ensures ∙ c.if-inserts.false)
     (sym c.is_at_bottom.ensures.bottom ∙ c.if-is_at_bottom.false)))

@@ -3,4 +3,4 @@
 use Rattle.screen_draw.proofs.noting.NotingPerform.print.Goals as goal
 
 pub returns : goal.returns
-returns c = record { screen = c.print.ensures; noted = c.by_print-self.ensures c.args.c }
+returns c = record { screen = c.print.ensures; noted = c.by_print-self.ensures }

@@ -5,7 +5,7 @@ Usage: bench/cells.py [--program PROGRAM] [--size COLUMNSxROWS]
 
 PROGRAM is the built ansi2screen (default: crates/ansi2screen/out/ansi2screen). It is run with --updates: a
 screen full of words comes first, and then pieces, each behind the update to the one before, that move the
-cursor, or print one character somewhere. What a piece costs more than none is divided by the cells of the
+cursor, or print one character somewhere, or two over the end of a row. What a piece costs more than none is divided by the cells of the
 screen. In the first figure reading the piece, both parsers and screens and the write are counted with the
 update; the second is what is executed inside of the call of `update_noted` alone, and of what it calls.
 """
@@ -78,9 +78,9 @@ def main():
     least = [instructions(options.program, options.size, [first], inside)[0] for inside in ways]
     if not least[1]:
         sys.exit("cells.py: %s has no %s out of line" % (options.program, CALL))
-    for name, column in ("one cell", 5), ("in column 1", 1), ("in the last", columns), ("the cursor alone", 5):
-        places = [b"\x1b[%d;%dH" % (3 + piece, column) for piece in range(PIECES)]
-        pieces = places if "cursor" in name else [place + b"%c" % (65 + at) for at, place in enumerate(places)]
+    cases = [("one cell", 5, 1), ("in column 1", 1, 1), ("in the last", columns, 1), ("over the row's end", columns, 2)]
+    for name, column, characters in [*cases, ("the cursor alone", 5, 0)]:
+        pieces = [b"\x1b[%d;%dH" % (row, column) + bytes([64 + row]) * characters for row in range(3, 3 + PIECES)]
         for inside, begun in zip(ways, least):
             count, written = instructions(options.program, options.size, [first, *pieces], inside)
             cost = (count - begun) / PIECES

@@ -80,6 +80,12 @@ module _ {W : Type 0} (sink : SinkOf W) (row : ℕ) (first : Brush) (olds news :
   pub row-begun : (a : Output W) → RowDraws 0 first a a
   row-begun a = record { calls = λ c drawn. drawn; brush_is = refl }
 
+  -- where the cells in front draw nothing
+  pub row-from : (column : ℕ) (a : Output W)
+      → row_calls row 0 first olds news ≡ row_calls row column first (drop column olds) (drop column news)
+      → brush_after row 0 first olds news ≡ brush_after row column first (drop column olds) (drop column news) → RowDraws column first a a
+  row-from column a calls brush = record { calls = λ c drawn. subst (λ l. Draws sink l a c) (sym calls) drawn; brush_is = sym brush }
+
   pub row-more : (column : ℕ) (brush : Brush) (old new : Cell) (cells : List Cell) (next : Brush) (a b b2 : Output W)
       → column < length olds → column < length news → old ≡ cell_at column olds → new ≡ cell_at column news → cells ≡ drop (column + 1) news
       → next ≡ brush_behind row column brush old new cells

@@ -1,5 +1,5 @@
 -- What is the same is not drawn.
-use Rattle.std.proofs.Common.{◌≡◌, ℕ, zero, suc, ◌-◌, ◌<◌, Bool, true, false, List, [], ◌∷◌, ◌++◌, refl, ap, ◌∙◌, arith, append-nil}
+use Rattle.std.proofs.Common.{◌≡◌, ℕ, zero, suc, ◌+◌, ◌-◌, ◌<◌, Bool, true, false, List, [], ◌∷◌, ◌++◌, length, take, drop, refl, ap, ◌∙◌, arith, append-nil}
 use Rattle.std.specs.Prelude.{◌&&◌, ◌||◌, not, ◌==◌, nat_lt, if◌then◌else◌}
 use Rattle.std.specs.Bool.{beq}
 use Rattle.std.proofs.lemmas.Bool.{and_parts, eq-eqb, eqb-true, ne_eqb}
@@ -125,6 +125,44 @@ row-alike row column place (x ∷ xs) (y ∷ ys) all =
       ap (λ l. l ++ row_calls row (suc column) (brush_behind row column (begun_at place) x y ys) xs ys) none
           ∙ (ap (λ b. row_calls row (suc column) b xs ys) same ∙ calls),
       ap (λ b. brush_after row (suc column) b xs ys) same ∙ brush,
+    )
+
+-- the cells in front that are alike
+front-alike : (n row column : ℕ) (place : Place) (olds news : List Cell) → length olds ≡ length news
+    → all_two are_alike (take n olds) (take n news) ≡ true
+    → (row_calls row column (begun_at place) olds news ≡ row_calls row (column + n) (begun_at place) (drop n olds) (drop n news))
+    × (brush_after row column (begun_at place) olds news ≡ brush_after row (column + n) (begun_at place) (drop n olds) (drop n news))
+front-alike zero row column place olds news long are =
+    let none : column ≡ column + zero = omega arith in (
+      ap (λ k. row_calls row k (begun_at place) olds news) none,
+      ap (λ k. brush_after row k (begun_at place) olds news) none,
+    )
+front-alike (suc n) row column place [] [] long are = (refl, refl)
+front-alike (suc n) row column place [] (y ∷ ys) long are = absurd (omega (arith, long))
+front-alike (suc n) row column place (x ∷ xs) [] long are = absurd (omega (arith, long))
+front-alike (suc n) row column place (x ∷ xs) (y ∷ ys) long are =
+    let parts = and_parts (are_alike x y) (all_two are_alike (take n xs) (take n ys)) are in
+    let none : change_calls row column (begun_at place) x y ys ≡ [] = alike-nothing row column (begun_at place) x y ys parts.0 in
+    let same : brush_behind row column (begun_at place) x y ys ≡ begun_at place = stays row column place x y ys parts.0 in
+    let less : length xs ≡ length ys = omega (arith, long) in
+    let on : suc column + n ≡ column + suc n = omega arith in
+    let (calls, brush) = front-alike n row (suc column) place xs ys less parts.1 in (
+      ap (λ l. l ++ row_calls row (suc column) (brush_behind row column (begun_at place) x y ys) xs ys) none
+          ∙ (ap (λ b. row_calls row (suc column) b xs ys) same
+          ∙ (calls ∙ ap (λ k. row_calls row k (begun_at place) (drop n xs) (drop n ys)) on)),
+      ap (λ b. brush_after row (suc column) b xs ys) same
+          ∙ (brush ∙ ap (λ k. brush_after row k (begun_at place) (drop n xs) (drop n ys)) on),
+    )
+
+pub row-front : (n row : ℕ) (place : Place) (olds news : List Cell) → length olds ≡ length news
+    → all_two are_alike (take n olds) (take n news) ≡ true
+    → (row_calls row 0 (begun_at place) olds news ≡ row_calls row n (begun_at place) (drop n olds) (drop n news))
+    × (brush_after row 0 (begun_at place) olds news ≡ brush_after row n (begun_at place) (drop n olds) (drop n news))
+row-front n row place olds news long are =
+    let none : 0 + n ≡ n = omega arith in
+    let (calls, brush) = front-alike n row 0 place olds news long are in (
+      calls ∙ ap (λ k. row_calls row k (begun_at place) (drop n olds) (drop n news)) none,
+      brush ∙ ap (λ k. brush_after row k (begun_at place) (drop n olds) (drop n news)) none,
     )
 
 pub row-nothing : (row column : ℕ) (place : Place) (xs : List Cell) → (row_calls row column (begun_at place) xs xs ≡ []) × (brush_after row column (begun_at place) xs xs ≡ begun_at place)

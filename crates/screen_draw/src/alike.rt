@@ -1,5 +1,5 @@
 //! Comparing screens: what bytes can tell of them.
-ghost use Rattle.std.specs.Prelude.{◌≡◌};
+ghost use Rattle.std.specs.Prelude.{◌≡◌, ◌≤◌, true, length, take};
 ghost use Rattle.std.specs.Bool.{beq};
 ghost use Rattle.ansi_screen.specs.Print.{draws};
 ghost use Rattle.screen_draw.specs.Alike.{are_same_marks, are_same_parts, are_alike, all_two, are_same_sets, are_same_places, has_same_frame, has_same_margins, has_same_modes, looks_same, is_plain, lacks_print, is_steady};
@@ -58,6 +58,20 @@ pub(crate) fn are_all_alike(a: &[Cell], b: &[Cell]) -> bool
         }
     }
     true
+}
+
+/// How many cells are alike, from the first on, each to the one of its place.
+pub(crate) fn alike_front(a: &[Cell], b: &[Cell]) -> usize
+    requires { length a.now ≡ length b.now }
+    ensures front { all_two are_alike (take result a.now) (take result b.now) ≡ true }
+    ensures within { result ≤ length a.now }
+{
+    for place in 0..a.len() {
+        if !are_alike(a[place], b[place]) {
+            return place;
+        }
+    }
+    a.len()
 }
 
 /// Whether tabs stop in the same columns.

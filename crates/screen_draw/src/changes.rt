@@ -8,7 +8,7 @@ ghost use Rattle.screen_draw.specs.Draw.{position, select, wrap_calls, last_cell
 ghost use Rattle.screen_draw.specs.Drawing.{Draws};
 ghost use Rattle.screen_draw.specs.Update.{move_calls, erased_run, painted_calls, is_done, change_calls, half_columns, brush_behind, row_calls, brush_after, begun_at, place_behind, rows_calls, wants_wrap, cursor_changes, mode_changes, changes_from, changes_calls};
 
-use crate::alike::{are_alike, are_all_alike, has_same_margins, lacks_print};
+use crate::alike::{alike_front, are_alike, has_same_margins, lacks_print};
 use crate::calls::{put_number, put_position, put_private_mode, put_style};
 use crate::cells::{is_erased, is_same, put_marked, put_style_change};
 use crate::changed::Changed;
@@ -185,30 +185,7 @@ fn put_step<W: Sink>(
     brush.behind(row, column, old, new, cells)
 }
 
-/// Draws the cells of a row that differ. The answer is where the cursor stands then.
-fn put_changed_row<W: Sink>(
-    output: &mut Output<W>,
-    row: usize,
-    place: Place,
-    olds: &[Cell],
-    news: &[Cell],
-) -> Place
-    requires row { row < most_rows }
-    requires columns { length news.now ≤ most_columns }
-    requires same { length olds.now ≡ length news.now }
-    ensures calls { Draws W.Sink (row_calls row 0 (begun_at place) olds.now news.now) output.old output.new }
-    ensures place { result ≡ (brush_after row 0 (begun_at place) olds.now news.now).place }
-{
-    let mut brush = Brush::begun_at(place);
-    for column in 0..news.len() {
-        if !brush.stays(cell_in(olds, column), cell_in(news, column)) {
-            brush = put_step(output, row, column, brush, olds, news);
-        }
-    }
-    brush.place
-}
-
-/// The same. Most rows are as they were: then their cells are compared, and no more is done.
+/// Draws the cells of a row that differ, from the first one that does on. The answer is where the cursor stands then.
 fn put_row<W: Sink>(
     output: &mut Output<W>,
     row: usize,
@@ -222,11 +199,13 @@ fn put_row<W: Sink>(
     ensures calls { Draws W.Sink (row_calls row 0 (begun_at place) olds.now news.now) output.old output.new }
     ensures place { result ≡ (brush_after row 0 (begun_at place) olds.now news.now).place }
 {
-    if are_all_alike(olds, news) {
-        place
-    } else {
-        put_changed_row(output, row, place, olds, news)
+    let mut brush = Brush::begun_at(place);
+    for column in alike_front(olds, news)..news.len() {
+        if !brush.stays(cell_in(olds, column), cell_in(news, column)) {
+            brush = put_step(output, row, column, brush, olds, news);
+        }
     }
+    brush.place
 }
 
 /// Draws the cells that differ, in the rows that can have changed, from the cursor's place on. The answer is where it

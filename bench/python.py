@@ -1,16 +1,21 @@
 #!/usr/bin/env python3
 """Times the Python package on the five kinds of streams, beside what Python does without it.
 
-Usage: bench/python.py [--bytes N] [--rounds N]
+Usage: bench/python.py [--events] [--bytes N] [--rounds N]
 
 `make library` must have built the shared library, or ANSI_LIBRARY names it. `ansi.strip` is given a str and
 bytes, beside the expression of strip-ansi over the same, in one `re.sub`; `ansi.to_html` a str, beside
 bench/converter.py, a loop in Python over regular expressions. Each figure is the least wall time of some rounds
 (5), in seconds, ours and the peer's by turns; a ratio is how many times as long the peer takes. That the peer
 of the HTML shows the same text of a megabyte is checked, but for carriage returns.
+
+With --events it is `ansi.events` alone, of bytes, beside `ByteStream` of pyte (Debian's python3-pyte; run this by
+the Python that has it) whose listener does nothing, and beside the calls of the library that `ansi.events` makes,
+with nothing read of what they write. Beside the times stand those for one event, in nanoseconds.
 """
 
 import argparse
+import ctypes
 import html
 import os
 import re
@@ -33,16 +38,16 @@ OF_STR = re.compile(EXPRESSION, re.ASCII)
 OF_BYTES = re.compile(EXPRESSION.encode("ascii"))
 
 
-def pair(ours, theirs, rounds):
+def least(actions, rounds):
     """The least time of each, by turns."""
-    took = [[], []]
+    took = [[] for _ in actions]
     for _ in range(rounds):
-        for action, times in zip((ours, theirs), took):
+        for action, times in zip(actions, took):
             start = time.perf_counter()
             result = action()
             times.append(time.perf_counter() - start)
             del result
-    return min(took[0]), min(took[1])
+    return [min(times) for times in took]
 
 
 def shown(page):
@@ -52,12 +57,20 @@ def shown(page):
 
 def main():
     parser = argparse.ArgumentParser(description=__doc__, formatter_class=argparse.RawDescriptionHelpFormatter)
-    parser.add_argument("--bytes", type=int, default=16 << 20)
+    parser.add_argument("--events", action="store_true")
+    parser.add_argument("--bytes", type=int, help="(16 MiB, and of events 1 MiB)")
     parser.add_argument("--rounds", type=int, default=5)
     options = parser.parse_args()
+    options.bytes = options.bytes or (1 << 20 if options.events else 16 << 20)
+    print(measure.load())
+    (time_events if options.events else time_texts)(options)
+    print(measure.load())
+
+
+def time_texts(options):
+    """A row for each corpus: `ansi.strip` of a str and of bytes, and `ansi.to_html`."""
     import ansi
 
-    print(measure.load())
     heading = "".join("  %8s %8s %6s" % (name, "peer", "ratio") for name in ("str", "bytes", "to_html"))
     print("%-12s" % "seconds" + heading)
     for make_line in measure.CORPORA:
@@ -72,10 +85,60 @@ def main():
             (lambda: ansi.strip(stream), lambda: OF_BYTES.sub(b"", stream)),
             (lambda: ansi.to_html(text), lambda: converter.to_html(text)),
         ]:
-            times = pair(ours, theirs, options.rounds)
+            times = least((ours, theirs), options.rounds)
             row += "  %8.4f %8.4f %6.1f" % (*times, times[1] / times[0])
         print(row, flush=True)
-    print(measure.load())
+
+
+class Listener:
+    """What pyte hands events to: it does nothing with any of them."""
+
+    def __getattr__(self, name):
+        return self.nothing
+
+    def nothing(self, *values, **named):
+        pass
+
+
+def time_events(options):
+    """A row for each corpus: `ansi.events`, pyte, and the library alone."""
+    import ansi
+    import pyte
+
+    print("%-12s  %8s  %8s  %6s  %8s  %6s" % ("seconds", "events", "pyte", "ratio", "library", "ns"))
+    for make_line in measure.CORPORA:
+        stream = measure.corpus(make_line, options.bytes)
+        actions = [
+            lambda: read_all(ansi.events(stream)),
+            lambda: pyte.ByteStream(Listener()).feed(stream),
+            lambda: call_all(stream),
+        ]
+        ours, theirs, alone = least(actions, options.rounds)
+        values = make_line.__name__, ours, theirs, theirs / ours, alone, 1e9 * ours / call_all(stream)
+        print("%-12s  %8.4f  %8.4f  %6.1f  %8.4f  %6.0f" % values, flush=True)
+
+
+def read_all(events):
+    for _ in events:
+        pass
+
+
+def call_all(stream):
+    """Makes the calls of `ansi.events`, and answers how many events they write."""
+    from ansi.event import EVENTS, MOST, PLACES, ROOM, SIZE, Numbers, State, _feed
+    from ansi.library import address_of
+
+    state, numbers, count = State(), Numbers(), 0
+    buffers = state, ctypes.create_string_buffer(EVENTS * SIZE), ctypes.create_string_buffer(ROOM), numbers
+    state_at, records, room, first = map(ctypes.addressof, buffers)
+    places = [first + place for place in PLACES]
+    at = address_of(stream)
+    end = at + len(stream)
+    while at < end:
+        _feed(state_at, at, min(MOST, end - at), records, EVENTS, room, ROOM, *places)
+        at += numbers.taken
+        count += numbers.written
+    return count
 
 
 if __name__ == "__main__":

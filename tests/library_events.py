@@ -1,6 +1,7 @@
 """The events of the library, from C and Python: cases of tests/library."""
 
 import importlib.machinery
+import itertools
 import re
 import resource
 import shutil
@@ -91,9 +92,9 @@ def lines_of_events(found):
 
 
 def different_sequences(pieces):
-    """Pieces of a thousand control sequences, of which no two are the same."""
+    """Pieces of a thousand control sequences, of which no two are the same, of many final bytes."""
     for piece in range(pieces):
-        yield b"".join(b"\x1b[%d;%dm" % (piece, at) for at in range(1000))
+        yield b"".join(b"\x1b[%d;%d%c" % (piece, at, 0x40 + at % 63) for at in range(1000))
 
 
 def python_event_cases():
@@ -130,6 +131,133 @@ def python_event_cases():
     yield "Python: the events of a piece come before the next piece is asked for", why
     match = list(ansi.events("\x1b[1;38:2:9mA")) == [(((1,), (38, 2, 9)), "", False, "m"), ("A",)]
     yield "Python: an event is a tuple", None if match else "it is another"
+    yield from alike_cases(ansi)
+    yield from put_cases(ansi)
+    yield from caller_stream_cases(ansi)
+    yield from kept_cases(ansi)
+
+
+def alike(ansi):
+    """Sequences that are alike but for one thing, each with its events, worked by hand."""
+    one, st = ((1,),), ansi.Esc("", False, "\\")
+    yield b"\x1b[1m", [ansi.Csi(one, "", False, "m")]
+    yield b"\x1b[1n", [ansi.Csi(one, "", False, "n")]
+    yield b"\x1b[?1m", [ansi.Csi(one, "?", False, "m")]
+    yield b"\x1b[1 m", [ansi.Csi(one, " ", False, "m")]
+    yield b"\x1b[1  m", [ansi.Csi(one, "  ", False, "m")]
+    yield b"\x1b[1   m", [ansi.Csi(one, "  ", True, "m")]
+    yield b"\x1b[1;2;3m", [ansi.Csi(((1,), (2,), (3,)), "", False, "m")]
+    yield b"\x1b[1:2;3m", [ansi.Csi(((1, 2), (3,)), "", False, "m")]
+    yield b"\x1b[1;2:3m", [ansi.Csi(((1,), (2, 3)), "", False, "m")]
+    yield b"\x1b[1:2:3m", [ansi.Csi(((1, 2, 3),), "", False, "m")]
+    yield b"\x1b[257;512;65535;65536m", [ansi.Csi(((257,), (512,), (65535,), (65535,)), "", False, "m")]
+    yield b"\x1b[512m", [ansi.Csi(((512,),), "", False, "m")]
+    yield b"\x1b[m", [ansi.Csi(((0,),), "", False, "m")]
+    yield b"\x1bP1m\x1b\\", [ansi.Hook(one, "", False, "m"), ansi.Unhook(), st]
+    yield b"\x1bP1:2$qm\x07\x1b\\", [ansi.Hook(((1, 2),), "$", False, "q"), ansi.Put(0x6D), ansi.Put(7), ansi.Unhook(), st]
+    yield b"\x1b]1;m\x07", [ansi.Osc((b"1", b"m"), True)]
+    yield b"\x1b]1;m\x1b\\", [ansi.Osc((b"1", b"m"), False), st]
+    yield b"\x1b]1m\x07", [ansi.Osc((b"1m",), True)]
+    yield b"\x1b]\x07\x07", [ansi.Osc((b"",), True), ansi.Execute(7)]
+    yield b"\x1bm\n", [ansi.Esc("", False, "m"), ansi.Execute(10)]
+    yield b"\x1b m\r", [ansi.Esc(" ", False, "m"), ansi.Execute(13)]
+    yield b"\x1b  m\x9c", [ansi.Esc("  ", False, "m"), ansi.Execute(0x9C)]
+    yield b"\x1b   m", [ansi.Esc("  ", True, "m")]
+    yield "\x071m\u20ac\n".encode(), [ansi.Execute(7), ansi.Text("1m\u20ac"), ansi.Execute(10)]
+
+
+def same_events(found, wanted):
+    """Says where events differ, in kind or in what they hold, or answers None."""
+    pairs = itertools.zip_longest(found, wanted)
+    wrong = next(((at, a, b) for at, (a, b) in enumerate(pairs) if type(a) is not type(b) or a != b), None)
+    return wrong and "event %d is %r, and not %r" % wrong
+
+
+def alike_cases(ansi):
+    """What is alike is not mixed up: by itself, and in both orders one after another, three times in one stream."""
+    rows = list(alike(ansi))
+    for given, wanted in rows:
+        yield "Python: events of %r" % given, same_events(ansi.events(given), wanted)
+    for name, some in [("in order", rows), ("in the other order", rows[::-1])]:
+        stream, wanted = b"".join(given for given, _ in some) * 3, [it for _, events in some for it in events] * 3
+        yield "Python: events that are alike, %s" % name, same_events(ansi.events(stream), wanted)
+        cut = [it for byte in pieces(stream, 1) for it in (b"", byte)] + [b""]
+        whole = texts_joined(ansi, ansi.events(cut))
+        yield "Python: events that are alike, %s, with an empty piece before each byte" % name, same_events(whole, wanted)
+    why = None if list(ansi.events(b"")) + list(ansi.events([])) + list(ansi.events([b"", ""])) == [] else "some came"
+    yield "Python: no bytes have no events", why
+
+
+def texts_joined(ansi, events):
+    """Events with texts that follow one another as one."""
+    for is_text, some in itertools.groupby(events, lambda it: type(it) is ansi.Text):
+        yield from [ansi.Text("".join(it.text for it in some))] if is_text else some
+
+
+def put_cases(ansi):
+    """Device control strings of lengths around what one call writes, with all else before and behind them."""
+    before, behind = [ansi.Text("a"), ansi.Hook(((0,),), "", False, "q")], [ansi.Unhook(), ansi.Esc("", False, "\\")]
+    put = [*range(0x18), 0x19, *range(0x1C, 0x7F)]
+    for count in [0, 1, 2, *range(4085, 4100), 8190, 16379, 16384, 70_000]:
+        puts = [ansi.Put(put[at % len(put)]) for at in range(count)]
+        string = b"a\x1bPq" + bytes(it.byte for it in puts) + b"\x1b\\"
+        wanted = (before + puts + behind) * 2
+        yield "Python: a string of %d bytes, twice" % count, same_events(ansi.events(string * 2), wanted)
+    given, wanted = b"a\n\xe2\x82\xac\x07" * 9_000, [("a",), (10,), ("\u20ac",), (7,)] * 9_000
+    found = [tuple(it) for it in ansi.events(given)]
+    yield "Python: 36,000 events of many calls, each in its place", None if found == wanted else "they are others"
+
+
+def caller_stream_cases(ansi):
+    """Callers that fail, that stop and go on, and that change what they gave."""
+
+    def failing():
+        yield from (b"a\x1b[1", b"mb\n")
+        raise KeyError("no more")
+
+    found, why = [], "the caller's error does not come"
+    try:
+        for event in ansi.events(failing()):
+            found.append(event)
+    except KeyError:
+        why = same_events(found, [ansi.Text("a"), ansi.Csi(((1,),), "", False, "m"), ansi.Text("b"), ansi.Execute(10)])
+    yield "Python: the events before an error of the caller's stream are given, and then the error", why
+    given = bytearray(b"one\n" + b"a\x1bPqxyz\x1b\\" * 10_000)
+    wanted, events = list(ansi.events(bytes(given))), ansi.events(given)
+    found = [next(events)]
+    given[:] = b"\x07" * len(given)
+    yield "Python: what is given may be changed when its first event has come", same_events(found + list(events), wanted)
+    events, found = ansi.events([b"a\x1bPqxyz\x1b\\", b"\x1b[1mb"]), []
+    other = ansi.events(b"\x1bP1;2rXYZ\x1b\\" * 100)
+    for event in events:
+        found.append(event)
+        next(other)
+    wanted = list(ansi.events(b"a\x1bPqxyz\x1b\\\x1b[1mb"))
+    yield "Python: two streams are read by turns", same_events(found, wanted)
+    buffer = bytearray(4)
+
+    def reused():
+        for piece in (b"ab\x1b[", b"1mcd", b"\x1bPqx", b"y\x1b\\e"):
+            buffer[:] = piece
+            yield buffer
+
+    wanted = list(ansi.events(b"ab\x1b[1mcd\x1bPqxy\x1b\\e"))
+    yield "Python: pieces may be one bytearray that is filled again", same_events(ansi.events(reused()), wanted)
+
+
+def kept_cases(ansi):
+    """No more events are kept than ansi.event.KEPT, also of those with nothing in the room, of which there are more."""
+    marks = [bytes([one, two]) for one in range(0x20, 0x30) for two in range(0x20, 0x30)]
+    for mark in marks:
+        finals = [it for it in range(0x30, 0x7F)]
+        given = b"".join(b"\x1b%s%c\x1b%s %c" % (mark, final, mark, final) for final in finals)
+        wanted = [ansi.Esc(mark.decode(), flag, chr(final)) for final in finals for flag in (False, True)]
+        why = same_events(ansi.events(given), wanted)
+        if why:
+            break
+    count = len(ansi.event.WITHOUT_DATA)
+    yield "Python: events of all escape sequences", why
+    yield "Python: few of them are kept", None if count <= ansi.event.KEPT else "%d are" % count
 
 
 def events_differ(path, sizes, stream, wanted):

@@ -1,18 +1,25 @@
 """Terminal output as events: ansi_events.h, for Python."""
 
 import ctypes
+import re
 import struct
+import sys
 from itertools import chain
 from typing import NamedTuple
 
 from .library import address_of, bytes_of, function
 from .text import State
 
-EVENTS, ROOM = 4096, 65536  # records and bytes of room that one call writes at most
 MOST = 16384  # bytes that one call is given at most
-KEPT, KEPT_LENGTH = 4096, 64  # events that are kept to be given again, and the bytes of one at most
-RECORD = struct.Struct("@NN6s2x")  # start, length; kind, byte, flag, how many intermediates, two of these
-FIELD = struct.Struct("<HB")
+EVENTS, ROOM = 4096, 65536  # records and bytes of room that one call writes at most
+# A record is three numbers: start and length of its bytes in the room; and its key, which is all else of it, in
+# bytes kind, byte, flag, how many intermediates, two of these, and two that are 0.
+NUMBERS, SIZE, KEY = 3, 24, 16  # its numbers, its bytes, and where among these its key begins
+TEXT, EXECUTE, HOOK, PUT, UNHOOK, OSC, CSI, ESC = range(8)  # the kinds; the key of a text is TEXT
+PUTS_AT_ONCE = re.compile(b"\x03\x03*")  # kinds PUT, one after another (by "\x03+" they are found in twice the time)
+KEPT = 16384  # events that a stream keeps, to give them again; looked at where as many were read
+KEPT_LENGTH = 64  # bytes in the room that such an event has at most
+FIELD, ALONE = struct.Struct("<HB"), struct.Struct("<Hx")  # a field, and one that is a group by itself
 _new = tuple.__new__
 
 _feed = function(
@@ -78,7 +85,12 @@ class Esc(NamedTuple):
     final: str
 
 
+PUTS = [Put(byte) for byte in range(256)]
+
+
 def _groups(data):
+    if 1 not in data[2::3]:
+        return tuple(ALONE.iter_unpack(data))
     groups, group = [], []
     for value, goes_on in FIELD.iter_unpack(data):
         group.append(value)
@@ -88,29 +100,59 @@ def _groups(data):
     return tuple(groups)
 
 
+def _event_of(key):
+    """What makes the event of a record with this key, of its bytes in the room; it is no Text and no Put."""
+    kind, byte, flag, count, *intermediates = key.to_bytes(8, sys.byteorder)
+    if kind == EXECUTE:
+        return lambda data: Execute(byte)
+    if kind == UNHOOK:
+        return lambda data: Unhook()
+    if kind == OSC:
+        return lambda data: Osc(tuple(data.split(b";")), flag != 0)
+    rest = bytes(intermediates[:count]).decode("ascii"), flag != 0, chr(byte)
+    if kind == ESC:
+        return lambda data: Esc(*rest)
+    header = Hook if kind == HOOK else Csi
+    return lambda data: _new(header, (_groups(data), *rest))
+
+
+class _OfKey(dict):
+    """Events of one key, by their bytes in the room; short ones are kept."""
+
+    def __init__(self, key):
+        self._event_of = _event_of(key)
+
+    def __missing__(self, data):
+        event = self._event_of(data)
+        if len(data) <= KEPT_LENGTH:
+            self[data] = event
+        return event
+
+
 class _Kept(dict):
-    """Events by a record's last six bytes and its bytes in the room; short ones are kept."""
+    """Events by their key, and then by their bytes in the room."""
 
     def __missing__(self, key):
-        kind, byte, flag, count = key[:4]
-        if kind == 0:
-            event = _new(Text, (key[6:].decode(),))
-        elif kind == 1:
-            event = Execute(byte)
-        elif kind == 3:
-            event = Put(byte)
-        elif kind == 4:
-            event = Unhook()
-        elif kind == 5:
-            event = Osc(tuple(key[6:].split(b";")), flag != 0)
-        else:
-            rest = key[4 : 4 + count].decode("ascii"), flag != 0, chr(byte)
-            event = Esc(*rest) if kind == 7 else (Hook if kind == 2 else Csi)(_groups(key[6:]), *rest)
-        if len(key) <= KEPT_LENGTH:
-            if len(self) >= KEPT:
-                self.clear()
-            self[key] = event
+        self[key] = events = _OfKey(key)
+        return events
+
+    def make_room(self):
+        """Lets go of all where they are too many."""
+        if len(self) + sum(map(len, self.values())) > KEPT:
+            self.clear()
+
+
+class _WithoutData(dict):
+    """Events that have nothing in the room, by their key."""
+
+    def __missing__(self, key):
+        if len(self) >= KEPT:
+            self.clear()
+        self[key] = event = _event_of(key)(b"")
         return event
+
+
+WITHOUT_DATA = _WithoutData()
 
 
 class Numbers(ctypes.Structure):
@@ -119,23 +161,71 @@ class Numbers(ctypes.Structure):
     _fields_ = [("taken", ctypes.c_size_t), ("written", ctypes.c_size_t), ("used", ctypes.c_size_t)]
 
 
-def _events_of(pieces):
-    """The events of each call."""
-    state, numbers, event_at = State(), Numbers(), _Kept().__getitem__
-    records, room = ctypes.create_string_buffer(EVENTS * RECORD.size), ctypes.create_string_buffer(ROOM)
-    view = memoryview(records)
-    places = [ctypes.addressof(numbers) + field.offset for field in (Numbers.taken, Numbers.written, Numbers.used)]
-    for piece in map(_bytes_of, pieces):
-        at = address_of(piece)
+PLACES = [Numbers.taken.offset, Numbers.written.offset, Numbers.used.offset]
+
+
+class _Reader:
+    """A stream, which goes on with each piece."""
+
+    def __init__(self):
+        self._state, self._numbers, self._kept, self._most, self._read = State(), Numbers(), _Kept(), 0, 0
+
+    def _make_room(self, most):
+        """Makes room for the events of so many bytes, or for what one call writes at most."""
+        count, size, self._most = min(2 * most, EVENTS), min(6 * (most + 1042), ROOM), most
+        self._records, self._room = map(ctypes.create_string_buffer, (count * SIZE, size))
+        self._view = memoryview(self._records).cast("B").cast("Q")
+        self._records_at, self._room_at, first = map(ctypes.addressof, (self._records, self._room, self._numbers))
+        self._rest = (self._records_at, count, self._room_at, size, *(first + place for place in PLACES))
+
+    def events(self, piece):
+        """The events of the bytes that come next, in parts."""
+        if self._most < min(MOST, len(piece)):
+            self._make_room(min(MOST, len(piece)))
+        numbers, state, at = self._numbers, ctypes.addressof(self._state), address_of(piece)
         end = at + len(piece)
         while at < end:
-            most = min(MOST, end - at)
-            if not _feed(ctypes.addressof(state), at, most, ctypes.addressof(records), EVENTS, ctypes.addressof(room), ROOM, *places):
+            if not _feed(state, at, min(MOST, end - at), *self._rest):
                 raise RuntimeError("the library asks for more room than ansi_events.h of this version")
             at += numbers.taken
-            data = ctypes.string_at(room, numbers.used)
-            found = RECORD.iter_unpack(view[: numbers.written * RECORD.size])
-            yield map(event_at, [key + data[start : start + length] for start, length, key in found])
+            written = ctypes.string_at(self._records_at, SIZE * numbers.written)
+            yield from self._parts(written, ctypes.string_at(self._room_at, numbers.used))
+            self._read += len(written) // SIZE
+            if self._read > KEPT:
+                self._read = 0
+                self._kept.make_room()
+
+    def _parts(self, records, room):
+        """The events of one call, in order: Puts that follow one another, and what stands before them and behind."""
+        bytes_, at = records[KEY + 1 :: SIZE], 0
+        for puts in PUTS_AT_ONCE.finditer(records[KEY::SIZE]):
+            start, end = puts.span()
+            if at < start:
+                yield self._others(at, start, room)
+            yield map(PUTS.__getitem__, bytes_[start:end])
+            at = end
+        if at < len(bytes_):
+            yield self._others(at, len(bytes_), room)
+
+    def _others(self, start, end, room):
+        """The events of some records, none of them a Put; what the last call has written still stands."""
+        kept = self._kept
+        numbers = iter(self._view[NUMBERS * start : NUMBERS * end].tolist())
+        return [
+            _new(Text, (room[start : start + length].decode(),))
+            if key == TEXT
+            else kept[key][room[start : start + length]]
+            if length
+            else WITHOUT_DATA[key]
+            for start, length, key in zip(numbers, numbers, numbers)
+        ]
+
+
+def _events_of(pieces):
+    """The events of each piece, in parts."""
+    reader = _Reader()
+    for piece in map(_bytes_of, pieces):
+        yield from reader.events(piece)
 
 
 def _bytes_of(piece):

@@ -1,12 +1,16 @@
 """Terminal output as HTML: ansi_html.h, for Python."""
 
 import ctypes
+import re
 
 from .library import Counts, Room, address_of, function, joined, pieces_of, whole_of
 
 MOST = 4096  # bytes that one call takes at most
 CALL_ROOM = 16384  # bytes of HTML that one call writes at most
 ROOM = 64 << 10  # bytes of HTML that are handed on at once, at most
+LONG = 1024  # characters at the beginning that are plain, and sooner taken by themselves
+# characters that are their own HTML, and HT and LF: all but the five that are escaped and other controls
+PLAIN = re.compile("[\t\n\x20!#-%(-;=?-\ud7ff\ue000-\U0010ffff]*")
 STYLINGS = {"both": 0, "light": 1, "dark": 2, "classes": 3}
 
 
@@ -27,16 +31,22 @@ _end = function(
 )
 
 
-class Converter:
-    """A stream, which goes on with each piece, in the styling of this name."""
+def _number_of(styling):
+    """The number of the styling of this name."""
+    if not isinstance(styling, str):
+        raise TypeError("a styling is a name, and not " + type(styling).__name__)
+    if styling not in STYLINGS:
+        raise ValueError("a styling is one of %s, and not %r" % (", ".join(STYLINGS), styling))
+    return STYLINGS[styling]
 
-    def __init__(self, styling):
-        if not isinstance(styling, str):
-            raise TypeError("a styling is a name, and not " + type(styling).__name__)
-        if styling not in STYLINGS:
-            raise ValueError("a styling is one of %s, and not %r" % (", ".join(STYLINGS), styling))
+
+class Converter:
+    """A stream, which goes on with each piece, in the styling of this number."""
+
+    def __init__(self, number):
         self._state, self._counts, self._room = State(), Counts(), Room(CALL_ROOM)
-        _init(ctypes.addressof(self._state), STYLINGS[styling])
+        if number:
+            _init(ctypes.addressof(self._state), number)
 
     def htmls(self, piece, made=bytes):
         """The HTML of the bytes that come next, in parts that are made of memory, each UTF-8 by itself."""
@@ -76,12 +86,20 @@ def html_of(stream, styling="both"):
 
     The HTML of a piece is given before the next piece is asked for. Each part is UTF-8 by itself.
     """
-    return _parts_of(Converter(styling), pieces_of(stream))
+    return _parts_of(Converter(_number_of(styling)), pieces_of(stream))
 
 
 def to_html(text, styling="both"):
     """The HTML of terminal output: a fragment for a `<pre>`, right after a newline there.
 
     Of a str it is a str, of bytes, a bytearray or a memoryview bytes."""
+    number = _number_of(styling)
+    if isinstance(text, str):
+        # What it begins with that is plain is its own HTML, after which all is as at the start: tested, not proved.
+        count = PLAIN.match(text).end()
+        if count == len(text):
+            return text
+        if count > LONG:
+            return text[:count] + to_html(text[count:], styling)
     piece, is_str = whole_of(text)
-    return joined(lambda made: _parts_of(Converter(styling), [piece], made), is_str)
+    return joined(lambda made: _parts_of(Converter(number), [piece], made), is_str)

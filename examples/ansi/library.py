@@ -83,7 +83,7 @@ class Room:
     def __init__(self, size):
         self._bytes = ctypes.create_string_buffer(size)
         self.size, self.address = size, ctypes.addressof(self._bytes)
-        self.view = memoryview(self._bytes).cast("B")
+        self.view = memoryview(self._bytes)
 
 
 def decoded(view):

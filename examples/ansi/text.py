@@ -6,6 +6,7 @@ import re
 from .library import Counts, Room, address_of, function, joined, pieces_of, whole_of
 
 MOST = 64 << 10  # bytes that one call is given at most
+SHORT = 256  # characters of a str that is looked through sooner than it is stripped
 CLEAN = re.compile("[\t\n\r\x20-\ud7ff\ue000-\U0010ffff]*")  # characters, and controls that are left
 
 
@@ -61,15 +62,19 @@ def text_of(stream):
 
 
 def is_clean(text):
-    """Whether a str is told to be clean sooner than it is stripped: where little of it is ASCII, so that to encode
-    and to decode it takes long, and all of it is left."""
+    """Whether a str is told to be clean sooner than it is stripped: where it is short, or little of it is ASCII, so
+    that to encode and to decode it takes long, and all of it is left."""
+    if len(text) <= SHORT:
+        return "\x1b" not in text and CLEAN.match(text).end() == len(text)
+    if text.isascii():
+        return False
     begin = text[:4096].encode("utf-8", "surrogatepass")
     return 2 * len(begin) > 3 * min(len(text), 4096) and CLEAN.match(text).end() == len(text)
 
 
 def strip(text):
     """The text of terminal output: of a str a str, of bytes, a bytearray or a memoryview bytes."""
-    if isinstance(text, str) and not text.isascii() and is_clean(text):
+    if isinstance(text, str) and is_clean(text):
         return text  # (clean text is left as it is: laws::clean_text of ansi_strip)
     piece, is_str = whole_of(text)
     return joined(lambda made: Stripper().texts(piece, made), is_str)

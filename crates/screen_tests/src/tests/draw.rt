@@ -11,7 +11,8 @@ use anstyle_parse::io::{FromRead, FromWrite, Output, Sink};
 use anstyle_parse::{Parser, Utf8Parser};
 use screen_draw::laws::{followed, forgets, noted, redrawn, selected, unchanged, updated};
 use screen_draw::{Noting, draw, update, update_noted, update_to_end};
-use std::alloc::{AllocError, Global};
+use std::alloc::{AllocError, AllocGlobal, Global};
+use std::process::Abort;
 use std::test::Fail;
 
 /// A screen of 9 columns and 3 rows after the bytes.
@@ -43,26 +44,35 @@ fn parts(rt: HostRuntime) -> Result<(), Fail> {
     assert_eq!(rt; screen.saved(), place(1, 3));
     assert_eq!(rt; screen.hidden_saved(), place(0, 1));
     assert!(rt; screen.is_alternate() && screen.inserts() && !screen.wraps());
-    let (cells, hidden) = (screen.cells(), screen.hidden_cells());
-    assert!(rt; cells.len() == 27 && hidden.len() == 27);
-    assert_eq!(rt; (cells[18].character, hidden[0].character), ('y', 'x'));
-    assert_eq!(rt; screen.row_end(), 27);
-    assert!(rt; moves_alone(b'm') && moves_alone(b'H') && !moves_alone(b'K'));
-    assert!(rt; is_shown('\u{ad}') && !is_shown('\u{85}') && !cells[18].is_right());
     Ok(())
 }
 
 #[test]
-fn a_drawing(rt: HostRuntime) -> Result<(), Fail> {
+fn cells(rt: HostRuntime) -> Result<(), Fail> {
     let screen = shown(rt.alloc(), PARTS)?;
-    let mut output = Output::new(FromWrite::new(Vec::new(rt.alloc())));
-    draw(&screen, &mut output);
-    forgets();
-    selected();
-    redrawn();
+    let (cells, hidden) = (screen.cells(), screen.hidden_cells());
+    assert!(rt; cells.len() == 27 && hidden.len() == 27);
+    assert_eq!(rt; (cells[18].character, hidden[0].character), ('y', 'x'));
+    assert!(rt; !cells[18].is_right());
+    assert_eq!(rt; screen.row_end(), 27);
+    Ok(())
+}
+
+#[test]
+fn what_moves_alone_and_what_is_shown(rt: HostRuntime) {
+    assert!(rt; moves_alone(b'm') && moves_alone(b'H') && !moves_alone(b'K'));
+    assert!(rt; is_shown('\u{ad}') && !is_shown('\u{85}'));
+}
+
+/// What was written, where no write failed.
+fn bytes_of(rt: &impl Abort, output: Output<FromWrite<Vec<u8>>>) -> Vec<u8> {
     let (sink, answer) = output.finish();
     assert!(rt; answer.is_ok());
-    let again = shown(rt.alloc(), sink.into_inner().as_slice())?;
+    sink.into_inner()
+}
+
+/// A screen has the cells and stops of another, and what [`PARTS`] leads to besides.
+fn assert_has_parts(rt: &impl Abort, again: &Screen, screen: &Screen) {
     assert_eq!(rt; again.cells(), screen.cells());
     assert_eq!(rt; again.hidden_cells(), screen.hidden_cells());
     assert_eq!(rt; again.stops(), screen.stops());
@@ -71,69 +81,86 @@ fn a_drawing(rt: HostRuntime) -> Result<(), Fail> {
         (again.margins(), again.wraps(), again.inserts()),
         ((1, 3), false, true)
     );
+}
+
+#[test]
+fn a_drawing(rt: HostRuntime) -> Result<(), Fail> {
+    let screen = shown(rt.alloc(), PARTS)?;
+    let mut output = Output::new(FromWrite::new(Vec::new(rt.alloc())));
+    draw(&screen, &mut output);
+    let written = bytes_of(&rt, output);
+    let again = shown(rt.alloc(), written.as_slice())?;
+    assert_has_parts(&rt, &again, &screen);
     Ok(())
+}
+
+/// Writes the update between two screens, which have one size.
+fn put_update(
+    rt: &impl Abort,
+    first: &Screen,
+    second: &Screen,
+    output: &mut Output<FromWrite<Vec<u8>>>,
+) {
+    assert!(rt; first.columns() == second.columns() && first.rows() == second.rows());
+    update(first, second, output);
+}
+
+/// The update from the screen after some bytes to the one after others.
+fn update_of(
+    rt: &(impl Abort + AllocGlobal),
+    first: &[u8],
+    second: &[u8],
+) -> Result<Vec<u8>, AllocError> {
+    let (first, second) = (shown(rt.alloc(), first)?, shown(rt.alloc(), second)?);
+    let mut output = Output::new(FromWrite::new(Vec::new(rt.alloc())));
+    put_update(rt, &first, &second, &mut output);
+    Ok(bytes_of(rt, output))
 }
 
 #[test]
 fn an_update_of_a_cell(rt: HostRuntime) -> Result<(), Fail> {
-    let (first, second) = (shown(rt.alloc(), b"abc")?, shown(rt.alloc(), b"abX")?);
-    assert!(rt; first.columns() == second.columns() && first.rows() == second.rows());
-    let mut output = Output::new(FromWrite::new(Vec::new(rt.alloc())));
-    update(&first, &second, &mut output);
-    updated();
-    unchanged();
-    let (sink, answer) = output.finish();
-    assert!(rt; answer.is_ok());
-    assert_eq!(rt; sink.into_inner().as_slice(), b"\x1b[3GX".as_slice());
+    let written = update_of(&rt, b"abc", b"abX")?;
+    assert_eq!(rt; written.as_slice(), b"\x1b[3GX".as_slice());
     Ok(())
 }
 
 /// DECSTBM leads the cursor home, from where the cell is reached, and the cursor's place.
 #[test]
 fn an_update_of_margins(rt: HostRuntime) -> Result<(), Fail> {
-    let first = shown(rt.alloc(), b"abc\x1b[1;2r\x1b[3;2H")?;
-    let second = shown(rt.alloc(), b"abX\x1b[2;3r\x1b[3;2H")?;
-    assert!(rt; first.columns() == second.columns() && first.rows() == second.rows());
-    let mut output = Output::new(FromWrite::new(Vec::new(rt.alloc())));
-    update(&first, &second, &mut output);
-    let (sink, answer) = output.finish();
-    assert!(rt; answer.is_ok());
-    assert_eq!(rt;
-        sink.into_inner().as_slice(),
-        b"\x1b[2;3r\x1b[3GX\x1b[3;2H".as_slice()
-    );
+    let written = update_of(&rt, b"abc\x1b[1;2r\x1b[3;2H", b"abX\x1b[2;3r\x1b[3;2H")?;
+    let wanted = b"\x1b[2;3r\x1b[3GX\x1b[3;2H";
+    assert_eq!(rt; written.as_slice(), wanted.as_slice());
     Ok(())
 }
 
 #[test]
 fn an_update_of_all(rt: HostRuntime) -> Result<(), Fail> {
-    let (mut first, second) = (shown(rt.alloc(), b"abc")?, shown(rt.alloc(), PARTS)?);
-    assert!(rt; first.columns() == second.columns() && first.rows() == second.rows());
-    let mut output = Output::new(FromWrite::new(Vec::new(rt.alloc())));
-    update(&first, &second, &mut output);
-    let (sink, answer) = output.finish();
-    assert!(rt; answer.is_ok());
+    let written = update_of(&rt, b"abc", PARTS)?;
+    let mut again = shown(rt.alloc(), b"abc")?;
     let mut parser = Parser::<Utf8Parser>::new();
-    parser.advance_all(&mut first, sink.into_inner().as_slice());
-    assert_eq!(rt; first.cells(), second.cells());
-    assert_eq!(rt; first.hidden_cells(), second.hidden_cells());
-    assert_eq!(rt; first.stops(), second.stops());
-    assert_eq!(rt; (first.cursor(), first.saved()), (place(2, 1), place(1, 3)));
+    parser.advance_all(&mut again, written.as_slice());
+    assert_has_parts(&rt, &again, &shown(rt.alloc(), PARTS)?);
     Ok(())
+}
+
+/// What is written of a stream, a drawing of the first screen and updates, and the last screen.
+fn updates_of(
+    rt: &(impl Abort + AllocGlobal),
+    stream: &[u8],
+) -> Result<(Vec<u8>, Noting), AllocError> {
+    let mut first = Screen::new(rt.alloc(), 9, 3)?;
+    let mut last = Noting::new(Screen::new(rt.alloc(), 9, 3)?);
+    let mut reader = FromRead::new(stream);
+    let mut output = Output::new(FromWrite::new(Vec::new(rt.alloc())));
+    let read = update_to_end(&mut reader, &mut first, &mut last, &mut output);
+    assert!(rt; read.is_ok());
+    Ok((bytes_of(rt, output), last))
 }
 
 /// The drawing of a blank screen ends with its modes, and one update comes behind it.
 #[test]
 fn updates_of_a_stream(rt: HostRuntime) -> Result<(), Fail> {
-    let mut first = Screen::new(rt.alloc(), 9, 3)?;
-    let mut last = Noting::new(Screen::new(rt.alloc(), 9, 3)?);
-    let mut reader = FromRead::new(b"\x1b[2;2H\x1b[1mX".as_slice());
-    let mut output = Output::new(FromWrite::new(Vec::new(rt.alloc())));
-    let read = update_to_end(&mut reader, &mut first, &mut last, &mut output);
-    followed();
-    let (sink, answer) = output.finish();
-    assert!(rt; read.is_ok() && answer.is_ok());
-    let written = sink.into_inner();
+    let (written, last) = updates_of(&rt, b"\x1b[2;2H\x1b[1mX")?;
     assert!(rt;
         written
             .as_slice()
@@ -143,6 +170,18 @@ fn updates_of_a_stream(rt: HostRuntime) -> Result<(), Fail> {
     assert_eq!(rt; again.cells(), last.screen().cells());
     assert_eq!(rt; again.cursor(), last.screen().cursor());
     Ok(())
+}
+
+// The names of the laws.
+#[test]
+fn laws(_rt: HostRuntime) {
+    forgets();
+    selected();
+    redrawn();
+    updated();
+    unchanged();
+    followed();
+    noted();
 }
 
 /// Writes what a piece of a stream changes, as the page of the crate `screen_draw` shows it: before and behind it both

@@ -7,6 +7,7 @@ use ansi_style::Style;
 use anstyle_parse::io::{FromRead, FromWrite, Output, write_calls_by};
 use screen_text::laws::{bound, clean, lines, plain_text, returned, rewritten};
 use screen_text::{NoSize, SHOWN, ShownWriter, TextRows, screen_size, write_shown};
+use std::alloc::{AllocError, Global};
 use std::test::Fail;
 
 /// Counts the rows that it takes, and keeps whether the last one goes on.
@@ -42,40 +43,57 @@ impl TakeCommand for Counter {
     }
 }
 
-// A screen of one row too: the row that a character wraps from goes on.
-#[test]
-fn rows_that_leave(rt: HostRuntime) -> Result<(), Fail> {
+/// A screen of three columns and one row, whose rows are counted as they leave.
+fn counting(alloc: Global) -> Result<Scrolling<Counter>, AllocError> {
     let counter = Counter {
         count: 0,
         goes_on: false,
         link: 0,
     };
-    let mut scrolling = Scrolling::new(Screen::new(rt.alloc(), 3, 1)?, counter);
+    Ok(Scrolling::new(Screen::new(alloc, 3, 1)?, counter))
+}
+
+// The row that a character wraps from goes on.
+#[test]
+fn rows_that_leave(rt: HostRuntime) -> Result<(), Fail> {
+    let mut scrolling = counting(rt.alloc())?;
     scrolled_off(&mut scrolling, &[b"ab\r\n\x1b[S", b"abc", b"d"]);
     scrolling.pass_on();
+    assert_eq!(rt; scrolling.taker().count, 3);
+    assert!(rt; scrolling.taker().goes_on);
+    assert_eq!(rt; scrolling.screen().used_rows(LeftOut::Unprinted), 1);
+    Ok(())
+}
+
+#[test]
+fn rows_that_are_left(rt: HostRuntime) -> Result<(), Fail> {
+    let mut scrolling = counting(rt.alloc())?;
+    assert_eq!(rt; scrolling.screen().rows(), 1);
+    scrolling.hand_on(1);
+    let (screen, counter) = scrolling.into_parts();
+    assert!(rt; counter.count == 1 && !counter.goes_on);
+    assert!(rt; screen.columns() == 3 && screen.rows() == 1);
+    assert!(rt; matches!(screen.row(0)[1].part, Part::Empty));
+    assert_eq!(rt; screen.used_rows(LeftOut::Unprinted), 0);
+    Ok(())
+}
+
+#[test]
+fn commands_are_taken(rt: HostRuntime) -> Result<(), Fail> {
+    let mut scrolling = counting(rt.alloc())?;
     scrolled_off(&mut scrolling, &[b"\x1b]8;;a:b\x07"]);
     assert_eq!(rt; scrolling.screen().link(), 1);
     scrolling.tell(&[b"8"]);
     assert_eq!(rt; scrolling.taker().link, 1);
-    assert_eq!(rt; scrolling.taker().count, 3);
-    assert!(rt; scrolling.taker().goes_on);
-    assert_eq!(rt; scrolling.screen().rows(), 1);
-    scrolling.hand_on(1);
-    let (screen, counter) = scrolling.into_parts();
-    assert!(rt; counter.count == 4 && !counter.goes_on);
-    assert_eq!(rt; screen.columns(), 3);
-    assert!(rt; matches!(screen.row(0)[1].part, Part::Empty));
-    let blanks = [Cell::blank(Style::default())];
-    assert_eq!(rt;
-        (
-            used(&blanks, LeftOut::Blanks),
-            used(&blanks, LeftOut::Unprinted)
-        ),
-        (0, 0)
-    );
-    assert!(rt; !goes_on(&blanks) && !blanks[0].is_right());
-    assert_eq!(rt; screen.used_rows(LeftOut::Unprinted), 1);
     Ok(())
+}
+
+#[test]
+fn blanks_are_not_used(rt: HostRuntime) {
+    let blanks = [Cell::blank(Style::default())];
+    assert_eq!(rt; used(&blanks, LeftOut::Blanks), 0);
+    assert_eq!(rt; used(&blanks, LeftOut::Unprinted), 0);
+    assert!(rt; !goes_on(&blanks) && !blanks[0].is_right());
 }
 
 #[test]

@@ -1,0 +1,55 @@
+"""What .ci/gate and .ci/edits take of the rt that is run here, and how the one hands on libraries to the other."""
+
+import importlib.machinery
+import importlib.util
+import os
+import shutil
+import sys
+
+sys.dont_write_bytecode = True
+
+TOLD = "out/handed-on"  # the file of a crate that says whether its library was handed on, and so is proved
+
+
+def load_rt():
+    """Its functions, as a module."""
+    path = os.path.realpath(shutil.which("rt"))
+    loader = importlib.machinery.SourceFileLoader("rt", path)
+    module = importlib.util.module_from_spec(importlib.util.spec_from_loader("rt", loader))
+    loader.exec_module(module)
+    # (the first call sets a signal's handler, which only the main thread may)
+    module.rtlib.guarded()
+    return module
+
+
+rt = load_rt()
+
+
+def crates_in(folder):
+    """The crates of a repository, the lower ones first."""
+    return rt.rtlib.crates_below(folder)
+
+
+def hand_on(crate, is_proved, proved):
+    """Gives a crate the library that rt ci has proved of it in another copy of the repository, which is that of the
+    folder `proved`, or says that there is none. What it stands on was handed on before."""
+    out, built = "%s/out" % crate.folder, "%s/crates/%s/out/rlib" % (proved, crate.name)
+    os.makedirs(out, exist_ok=True)
+    if is_proved and os.path.isdir(built):
+        shutil.copytree(built, "%s/rlib" % out, copy_function=os.link, dirs_exist_ok=True)
+        # (rt ci cuts proofs off its libraries, and leaves out the mark by which other commands take them: they fit
+        # those that they were built over, which are all handed on together)
+        with open("%s/rlib/stamp" % out, "w", encoding="utf-8") as it:
+            it.write(crate.stamp())
+    with open("%s/%s.new" % (crate.folder, TOLD), "w", encoding="utf-8") as it:
+        it.write("proved" if is_proved else "not proved")
+    os.replace("%s/%s.new" % (crate.folder, TOLD), "%s/%s" % (crate.folder, TOLD))
+
+
+def is_told(crate):
+    return os.path.exists("%s/%s" % (crate.folder, TOLD))
+
+
+def is_handed_on(crate):
+    with open("%s/%s" % (crate.folder, TOLD), encoding="utf-8") as it:
+        return it.read() == "proved"

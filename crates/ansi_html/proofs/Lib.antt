@@ -1,6 +1,7 @@
 pub mod ContrastLemmas
 pub mod ColorLemmas
 pub mod HtmlLemmas
+pub mod ChunkLemmas
 pub mod PrintLemmas
 pub mod BytesLemmas
 pub mod DeclarationLemmas

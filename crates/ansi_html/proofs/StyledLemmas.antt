@@ -6,7 +6,6 @@ use Rattle.std.specs.Str.{IsUtf8}
 use Rattle.std.proofs.lemmas.Bool.{and_parts}
 use Rattle.std.proofs.lemmas.Grind.{flat_map-append}
 use Rattle.std.proofs.lemmas.Str.{IsUtf8-append, IsUtf8-nil}
-use Rattle.ansi_style.specs.declared.style.Style.{Style}
 use Rattle.ansi_style.specs.Style.{plain}
 use Rattle.ansi_style.proofs.EqualityLemmas.{are_equal-refl}
 use Rattle.ansi_html.specs.declared.scheme.Styling.{Styling}
@@ -14,7 +13,6 @@ use Rattle.ansi_html.specs.Grammar.{IsFragment, end}
 use Rattle.ansi_html.specs.Html.{escaped_text, Element, no_element, element_value, change, text_html, element_end}
 use Rattle.ansi_html.specs.Reader.{Attributes, href_of, no_attributes, attributes_of, byte_of, in_text, Seen, text, seen_from, seen, read_of, read, drawn_of, drawn}
 use Rattle.ansi_html.specs.Styled.{Styled, element_of, before, behind, styled_html, shown_after, all_html, shown_of, all_shown, bytes_of, all_bytes}
-use Rattle.ansi_html.proofs.ColorLemmas.{choose}
 use Rattle.ansi_html.proofs.HtmlLemmas.{false-from_not}
 use Rattle.ansi_html.proofs.ShownLemmas.{AreLinks, AreLinks-append, AreLinks-under, href-by}
 use Rattle.ansi_html.proofs.SoundLemmas.{IsSound, IsSound-none, AreSound, either}

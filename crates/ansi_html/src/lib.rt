@@ -30,6 +30,7 @@ ghost use Rattle.ansi_html.specs.declared.class.Class.{Class};
 ghost use Rattle.ansi_html.specs.Classes.{class_name, classes_of};
 ghost use Rattle.ansi_html.specs.Stylesheet.{vocabulary, stylesheet, applied, snapped};
 
+mod chunks;
 mod class;
 pub mod contrast;
 mod css;

@@ -5,7 +5,9 @@ ghost use Rattle.std.specs.Str.{bytes_eq};
 ghost use Rattle.anstyle_parse.specs.Stream.Arguments.{max_osc_bytes};
 ghost use Rattle.ansi_html.specs.Links.{has_scheme, is_visible, is_linkable, is_link_command, is_whole, uri_of, link_of, kept_link};
 
+use crate::chunks::{CHUNK, invisibles};
 use arrayvec::ArrayVec;
+use std::simd::prelude::*;
 
 /// The parts of a command that the parser hands on at most, and the bytes that it stores.
 const MAX_PARTS: usize = 16;
@@ -252,7 +254,30 @@ fn has_scheme(uri: &[u8]) -> bool
 fn are_visible(uri: &[u8]) -> bool
     ensures { result ≡ list_all is_visible uri.now }
 {
-    uri.iter().all(|byte| is_visible(*byte))
+    are_each_visible(after_visible(uri))
+}
+
+/// The same, byte by byte.
+#[inline(always)]
+fn are_each_visible(bytes: &[u8]) -> bool
+    ensures { result ≡ list_all is_visible bytes.now }
+{
+    bytes.iter().all(|byte| is_visible(*byte))
+}
+
+/// What comes after the visible bytes at the front, as far as they are tested sixteen at a time.
+#[inline(always)]
+fn after_visible(uri: &[u8]) -> &[u8]
+    ensures { list_all is_visible result.now ≡ list_all is_visible uri.now }
+{
+    let mut rest = uri;
+    'chunks: while let Some((chunk, behind)) = rest.split_first_chunk::<CHUNK>() {
+        if invisibles(u8x16::from_array(*chunk)) != 0 {
+            break;
+        }
+        rest = behind;
+    }
+    rest
 }
 
 /// Whether a byte is.

@@ -8,6 +8,7 @@ ghost use Rattle.ansi_html.specs.Grammar.{is_special, AreClear, BeginWithClear};
 ghost use Rattle.ansi_html.specs.ShownLinks.{shown_link, selected_link};
 ghost use Rattle.ansi_html.specs.Html.{line_break, beginning, value_of, attribute_text, span_begin, span_end, link_begin, element, are_same, element_begin, element_end, change, escaped, escaped_text};
 
+use crate::chunks::{CHUNK, specials};
 use crate::class::put_classes;
 use crate::css::put_css;
 use crate::link::{Links, is_link_command};
@@ -17,6 +18,7 @@ use ansi_strip::is_layout;
 use ansi_style::Style;
 use anstyle_parse::canon::{Output, Sink, WritingPerformer};
 use anstyle_parse::{Params, Perform, PerformText};
+use std::simd::prelude::*;
 
 /// Writes the text of a stream as HTML, in the style that the stream selects.
 ///
@@ -350,9 +352,6 @@ pub(crate) fn put_span_end<W: Sink>(output: &mut Output<W>, style: Style)
     }
 }
 
-/// How many bytes are tested at once.
-const CHUNK: usize = 16;
-
 /// Whether a byte has a meaning in HTML: one of `& < > " '`, or 0D.
 #[inline(always)]
 #[tactic(auto, unfolding(crate::specs::Grammar::is_special))]
@@ -362,19 +361,6 @@ fn is_special(byte: u8) -> bool
     byte == b'&' || byte == b'<' || byte == b'>' || byte == b'"' || byte == b'\'' || byte == b'\r'
 }
 
-/// Whether some byte has a meaning in HTML. It has no early exit, so that a chunk is tested at
-/// once.
-#[inline(always)]
-fn has_special(bytes: &[u8]) -> bool
-    ensures { result ≡ false → AreClear bytes.now }
-{
-    let mut has = false;
-    for byte in bytes {
-        has = has | is_special(*byte);
-    }
-    has
-}
-
 /// What begins at the first byte with a meaning in HTML.
 #[inline(always)]
 fn after_clear(bytes: &[u8]) -> &[u8]
@@ -382,8 +368,10 @@ fn after_clear(bytes: &[u8]) -> &[u8]
 {
     let mut rest = bytes;
     'chunks: while let Some((chunk, behind)) = rest.split_first_chunk::<CHUNK>() {
-        if has_special(chunk) {
-            break;
+        let found = specials(u8x16::from_array(*chunk));
+        if found != 0 {
+            let (_, at) = rest.split_at(found.trailing_zeros() as usize);
+            return at;
         }
         rest = behind;
     }

@@ -1,9 +1,10 @@
 //! Sixteen bytes, tested by one comparison.
 ghost use Rattle.std.specs.Prelude.{◌≡◌, ◌≤◌, ◌+◌, map, not};
 ghost use Rattle.std.specs.Simd.Lanes.{mask_l};
-ghost use Rattle.anstyle_parse.specs.Stream.Bytes.{is_within};
+ghost use Rattle.anstyle_parse.specs.Stream.Bytes.{is_within, is_plain_text};
 ghost use Rattle.anstyle_parse.specs.Stream.Texts.{is_layout};
 
+use crate::controls::SPACE;
 use std::simd::prelude::*;
 
 /// How many bytes are tested at once.
@@ -29,4 +30,12 @@ pub(crate) fn layouts(bytes: u8x16) -> u64
     (bytes.simd_eq(u8x16::splat(b'\t'))
         | bytes.simd_eq(u8x16::splat(b'\n'))
         | bytes.simd_eq(u8x16::splat(b'\r'))).to_bitmask()
+}
+
+/// The same: whether it is a control below 20, or the separator of a command's parts.
+#[inline(always)]
+pub(crate) fn unplain(bytes: u8x16) -> u64
+    ensures { result ≡ mask_l (map (λ b. not (is_plain_text b)) bytes) }
+{
+    (bytes.simd_lt(u8x16::splat(SPACE)) | bytes.simd_eq(u8x16::splat(b';'))).to_bitmask()
 }

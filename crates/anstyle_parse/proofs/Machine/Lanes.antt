@@ -1,12 +1,12 @@
 -- Sixteen bytes, tested at once.
-use Rattle.std.proofs.Common.{◌≡◌, ◌≢◌, ◌⊎◌, ⊎_elim, ◌&&◌, ◌||◌, bit_or, ℕ, ◌+◌, ◌*◌, ◌-◌, ◌%◌, ◌^◌, ◌<◌, ◌≤◌, Bool, true, false, cond, eqb, leb, List, [], ◌∷◌, length, take, map, replicate, suc, subst, refl, sym, ap, ap₂, ◌∙◌, arith, w8, Fits}
+use Rattle.std.proofs.Common.{◌≡◌, ◌≢◌, ⊎_elim, ◌&&◌, ◌||◌, bit_or, ℕ, ◌+◌, ◌*◌, ◌-◌, ◌%◌, ◌^◌, ◌<◌, ◌≤◌, Bool, true, false, cond, eqb, leb, ltb, List, [], ◌∷◌, length, take, map, replicate, suc, subst, refl, sym, ap, ap₂, ◌∙◌, arith, w8, Fits}
 use Rattle.std.specs.Prelude.{not, nat_le}
 use Rattle.std.specs.List.{prefix_len}
 use Rattle.std.specs.Simd.Lanes.{zip2, mask_l, top, Each1}
 use Rattle.std.proofs.lemmas.Bool.{cases_lt, false≢true, le-leb, lt-leb, eq-eqb, ne_eqb, cond-true, cond-false}
 use Rattle.std.proofs.lemmas.List.{length-map}
 use Rattle.std.proofs.lemmas.Simd.{zip2_splat, zip2_splat_left, zip2_of_maps, map-map, mask_l-mod, first_set_mask_l}
-use Rattle.anstyle_parse.specs.Stream.Bytes.{is_within}
+use Rattle.anstyle_parse.specs.Stream.Bytes.{is_within, is_plain_text}
 use Rattle.anstyle_parse.specs.Stream.Items.{EachIs}
 use Rattle.anstyle_parse.specs.Stream.Texts.{is_layout}
 use Rattle.anstyle_parse.specs.Views.Texts.{is_text_byte}
@@ -217,3 +217,33 @@ module _ (test : ℕ → Bool) (bytes : List ℕ) (mask : ℕ) (long : length by
 
   pub each_passes : mask ≡ 0 → EachIs test bytes
   each_passes none = passes bytes (each_before (λ b. not (test b)) bytes mask long is none)
+
+-- whether a byte is not of a command's plain text, lane by lane
+abbrev below : ℕ → ℕ → ℕ
+below a b = cond (ltb a b) 255 0
+
+abbrev unplain_lane : ℕ → ℕ
+unplain_lane b = bit_or (below b 0x20) (hit b 0x3B)
+
+top-either : (s t : Bool) → top 7 (bit_or (cond s 255 0) (cond t 255 0)) ≡ (s || t)
+top-either true true = refl
+top-either true false = refl
+top-either false true = refl
+top-either false false = refl
+
+is_unplain : (b : ℕ) → b < 256 → (ltb b 0x20 || eqb b 0x3B) ≡ not (is_plain_text b)
+unfolding is_within
+is_unplain b small = grind (arith, small)
+
+unplain_lanes : (bytes : List ℕ) → Each1 (Fits w8) bytes → map (top 7) (map unplain_lane bytes) ≡ map (λ b. not (is_plain_text b)) bytes
+unplain_lanes [] fits = refl
+unplain_lanes (b ∷ bytes) fits =
+    ap₂ (λ x xs. x ∷ xs) (top-either (ltb b 0x20) (eqb b 0x3B) ∙ is_unplain b fits.0.fits) (unplain_lanes bytes fits.1)
+
+pub mask-unplain : (bytes : List ℕ) → length bytes ≡ 16 → Each1 (Fits w8) bytes
+    → mask_l (map (top 7) (zip2 bit_or (zip2 below bytes (replicate 16 0x20)) (zip2 hit bytes (replicate 16 0x3B)))) % 2 ^ 64
+    ≡ mask_l (map (λ b. not (is_plain_text b)) bytes)
+mask-unplain bytes long fits =
+    let two = zip2_of_maps bit_or (λ x. below x 0x20) (λ x. hit x 0x3B) bytes (zip2_splat below bytes 16 0x20 long) (zip2_splat hit bytes 16 0x3B long) in
+    ap (λ l. mask_l l % 2 ^ 64) (ap (map (top 7)) two ∙ unplain_lanes bytes fits)
+    ∙ mask_l-mod (map (λ b. not (is_plain_text b)) bytes) 64 (omega (arith, length-map bytes (λ b. not (is_plain_text b))))

@@ -1,5 +1,5 @@
 -- Texts: printed characters with their layout, handed on at once.
-use Rattle.std.proofs.Common.{◌≡◌, ℕ, ◌+◌, ◌<◌, ◌≤◌, ◌-◌, arith, Bool, IsTrue, true, false, cond, zero, suc, refl, List, length, [], ◌∷◌, ◌++◌, ⊎_elim, map, take, drop, ap, ap₂, sym, ◌∙◌, subst, append_assoc, append-nil, length-append, take-append-drop}
+use Rattle.std.proofs.Common.{◌≡◌, ℕ, ◌<◌, ◌≤◌, ◌-◌, arith, Bool, IsTrue, true, false, cond, refl, List, length, [], ◌∷◌, ◌++◌, ⊎_elim, map, take, drop, ap, ap₂, sym, ◌∙◌, subst, append_assoc, append-nil, length-append, take-append-drop}
 use Rattle.std.specs.Prelude.{encode_utf8}
 use Rattle.std.specs.Char.{IsScalar}
 use Rattle.std.specs.Str.{IsUtf8, chars, encode_utf8_all, all_scalars}

@@ -6,14 +6,16 @@ ghost use Rattle.anstyle_parse.specs.Stream.Items.{EachIs};
 ghost use Rattle.anstyle_parse.specs.Stream.Bytes.{is_plain_text};
 ghost use Rattle.arrayvec.specs.ArrayVec.{array_vec_len};
 
+use crate::chunks::{CHUNK, unplain};
 use crate::controls::SPACE;
 use arrayvec::ArrayVec;
 use std::alloc::AllocError;
+use std::simd::prelude::*;
 
 /// The bytes of a command that are stored at most.
 const MAX_OSC_RAW: usize = 1024;
 /// The parts of a command at most.
-const MAX_OSC_PARTS: usize = 16;
+pub(super) const MAX_OSC_PARTS: usize = 16;
 
 /// The text of a command so far.
 #[derive(Debug, PartialEq, Eq, Drop)]
@@ -152,31 +154,40 @@ pub(super) fn is_plain_byte(byte: u8) -> bool
 }
 
 /// How many bytes of plain text come first.
+#[inline(always)]
 fn plain_length(bytes: &[u8]) -> usize
     ensures within { result ≤ length bytes.now }
     ensures plain { EachIs is_plain_text (take result bytes.now) }
 {
-    for (i, byte) in bytes.iter().enumerate() {
-        if !is_plain_byte(*byte) {
-            return i;
+    let mut rest = bytes;
+    'chunks: while let Some((chunk, behind)) = rest.split_first_chunk::<CHUNK>() {
+        let others = unplain(u8x16::from_array(*chunk));
+        if others != 0 {
+            return bytes.len() - rest.len() + others.trailing_zeros() as usize;
         }
+        rest = behind;
     }
-    bytes.len()
+    'bytes: while let Some((first, behind)) = rest.split_first() {
+        if !is_plain_byte(*first) {
+            break;
+        }
+        rest = behind;
+    }
+    bytes.len() - rest.len()
 }
 
-/// The parts of a command, as slices of its text: as many as there are lengths, and empty ones
-/// after them.
-pub(super) fn parts_of<'a>(text: &'a [u8], lengths: &[usize]) -> [&'a [u8]; MAX_OSC_PARTS]
-    requires few { length lengths.now ≤ max_osc_parts }
+/// Sets the first of these to the parts of a command, as slices of its text: as many as there are lengths.
+#[inline(always)]
+pub(super) fn set_parts<'a>(parts: &mut [&'a [u8]], text: &'a [u8], lengths: &[usize])
+    requires few { length lengths.now ≤ length parts.old }
     requires within { total lengths.now ≤ length text.now }
-    ensures { map (λ part. part.now) (take (length lengths.now) result) ≡ cut lengths.now text.now }
+    ensures same_length { length parts.new ≡ length parts.old }
+    ensures parts { map (λ part. part.now) (take (length lengths.now) parts.new) ≡ cut lengths.now text.now }
 {
-    let mut parts: [&[u8]; MAX_OSC_PARTS] = [&[]; MAX_OSC_PARTS];
     let mut rest = text;
     for (i, part_length) in lengths.iter().enumerate() {
         let (part, behind) = rest.split_at(*part_length);
         parts[i] = part;
         rest = behind;
     }
-    parts
 }

@@ -337,7 +337,7 @@ impl<C: CharAccumulator> Parser<C> {
             }
             if *next == b']' {
                 self.step_by_answer(performer, State::OscString, Action::Nop, *next);
-                return rest;
+                return self.take_command(performer, rest);
             }
         }
         behind
@@ -429,7 +429,22 @@ impl<C: CharAccumulator> Parser<C> {
 impl<C: CharAccumulator> Parser<C> {
     ghost use Rattle.anstyle_parse.specs.Views.Parser.{CanTakeAll};
 
-    /// A byte of the command, and the plain text after it.
+    /// What stands here of a command that has begun. It is out of line, so that the loop stays small.
+    #[inline(never)]
+    fn take_command<'a, P: Perform>(&mut self, performer: &mut P, bytes: &'a [u8]) -> &'a [u8]
+        requires command { self.old.state ≡ State.OscString }
+        requires can { CanTakeAll C.takes self.old bytes.now }
+        ensures leads { LeadsTo C.takes C.taken P.means self.old performer.old bytes.now
+            self.new performer.new result.now }
+        ensures within { length result.now ≤ length bytes.now }
+    {
+        match bytes.split_first() {
+            Some((first, behind)) => self.take_in_command(performer, *first, behind),
+            None => bytes,
+        }
+    }
+
+    /// A byte of the command, and the text after it, up to a control that goes with it.
     #[inline(always)]
     fn take_in_command<'a, P: Perform>(
         &mut self,
@@ -445,10 +460,10 @@ impl<C: CharAccumulator> Parser<C> {
         if first < SPACE {
             return self.take_control_in_command(performer, first, behind);
         }
-        self.command.put(first);
-        match behind.split_first() {
-            Some((next, _)) if is_plain_byte(*next) => self.store_plain(behind),
-            _ => behind,
+        let rest = self.store_text(first, behind);
+        match rest.split_first() {
+            Some((control, further)) => self.take_control_in_command(performer, *control, further),
+            None => rest,
         }
     }
 
@@ -467,7 +482,7 @@ impl<C: CharAccumulator> Parser<C> {
     {
         if first == ESCAPE {
             self.end_command(performer, State::Escape, first);
-            return behind;
+            return self.take_string_end(performer, behind);
         }
         if first == BELL {
             self.end_command(performer, State::Ground, first);
@@ -476,12 +491,67 @@ impl<C: CharAccumulator> Parser<C> {
         self.take_by_table(performer, first, behind)
     }
 
+    /// What mostly follows the ESC that ends a command, a backslash, if it stands here.
+    #[inline(always)]
+    fn take_string_end<'a, P: Perform>(&mut self, performer: &mut P, bytes: &'a [u8]) -> &'a [u8]
+        requires escape { self.old.state ≡ State.Escape }
+        requires can { CanTakeAll C.takes self.old bytes.now }
+        ensures leads { LeadsTo C.takes C.taken P.means self.old performer.old bytes.now
+            self.new performer.new result.now }
+        ensures within { length result.now ≤ length bytes.now }
+    {
+        match bytes.split_first() {
+            Some((next, behind)) if *next == b'\\' => {
+                self.take_after_escape(performer, *next, behind)
+            }
+            _ => bytes,
+        }
+    }
+
+    /// Text of the command: a byte of it, and what follows up to a control.
+    #[inline(always)]
+    fn store_text<'a>(&mut self, first: u8, behind: &'a [u8]) -> &'a [u8]
+        requires command { self.old.state ≡ State.OscString }
+        requires text { 0x20 ≤ first }
+        requires can { CanTakeAll C.takes self.old (first ∷ behind.now) }
+        ensures leads { LeadsQuietlyTo C.takes C.taken self.old (first ∷ behind.now) self.new result.now }
+        ensures command { self.new.state ≡ State.OscString }
+        ensures within { length result.now ≤ length behind.now }
+    {
+        let mut rest = self.store_byte(first, behind);
+        'text: while let Some((next, further)) = rest.split_first() {
+            if *next < SPACE {
+                break;
+            }
+            rest = self.store_byte(*next, further);
+        }
+        rest
+    }
+
+    /// A byte of it, and the plain text after that.
+    #[inline(always)]
+    fn store_byte<'a>(&mut self, first: u8, behind: &'a [u8]) -> &'a [u8]
+        requires command { self.old.state ≡ State.OscString }
+        requires text { 0x20 ≤ first }
+        requires can { CanTakeAll C.takes self.old (first ∷ behind.now) }
+        ensures leads { LeadsQuietlyTo C.takes C.taken self.old (first ∷ behind.now) self.new result.now }
+        ensures command { self.new.state ≡ State.OscString }
+        ensures within { length result.now ≤ length behind.now }
+    {
+        self.command.put(first);
+        match behind.split_first() {
+            Some((next, _)) if is_plain_byte(*next) => self.store_plain(behind),
+            _ => behind,
+        }
+    }
+
     /// Plain text, as much as there is room for.
     #[inline(always)]
     fn store_plain<'a>(&mut self, bytes: &'a [u8]) -> &'a [u8]
         requires command { self.old.state ≡ State.OscString }
         requires can { CanTakeAll C.takes self.old bytes.now }
         ensures leads { LeadsQuietlyTo C.takes C.taken self.old bytes.now self.new result.now }
+        ensures command { self.new.state ≡ State.OscString }
         ensures within { length result.now ≤ length bytes.now }
     {
         self.command.put_plain(bytes)

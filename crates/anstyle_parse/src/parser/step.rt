@@ -1,18 +1,23 @@
 //! One byte: where the table leads, and the actions on the way.
-ghost use Rattle.std.specs.Prelude.{◌≡◌, ◌≢◌};
-ghost use Rattle.anstyle_parse.specs.Stream.Call.{Goes};
+ghost use Rattle.std.specs.Prelude.{◌≡◌, ◌≢◌, ◌≤◌, ◌∷◌, [], length};
+ghost use Rattle.anstyle_parse.specs.Stream.Arguments.{max_osc_parts};
+ghost use Rattle.anstyle_parse.specs.Stream.Call.{Goes, osc_dispatch};
+ghost use Rattle.anstyle_parse.specs.Stream.Groups.{total, cut};
 ghost use Rattle.anstyle_parse.specs.Machine.Step.{exit_action as exit_of, entry_action as entry_of};
 
 use super::Parser;
-use super::command::parts_of;
+use super::command::{MAX_OSC_PARTS, set_parts};
 use crate::accumulator::{CharAccumulator, Taken};
 use crate::controls::BELL;
 use crate::perform::Perform;
 use crate::state::{Action, State, state_change};
 
+/// A command has mostly no more parts: such as a title has two, and a link three.
+const FEW_PARTS: usize = 4;
+
 /// One byte, inside a character or outside.
 impl<C: CharAccumulator> Parser<C> {
-    ghost use Rattle.std.specs.Prelude.{◌∷◌, [], IsTrue, ◌↔◌};
+    ghost use Rattle.std.specs.Prelude.{IsTrue, ◌↔◌};
     ghost use Rattle.anstyle_parse.specs.Stream.Call.{print};
     ghost use Rattle.anstyle_parse.specs.Views.Parser.{machine_of, CanTake, ReachesAccumulator};
     ghost use Rattle.anstyle_parse.specs.Machine.Table.{◌by◌, change_at};
@@ -217,8 +222,11 @@ impl<C: CharAccumulator> Parser<C> {
     {
         self.command.close_part();
         let (text, lengths) = self.command.text();
-        let parts = parts_of(text, lengths);
-        performer.osc_dispatch(&parts[..lengths.len()], byte == BELL);
+        if lengths.len() <= FEW_PARTS {
+            dispatch_few(performer, text, lengths, byte == BELL);
+        } else {
+            dispatch_many(performer, text, lengths, byte == BELL);
+        }
     }
 
     /// The first byte of a character.
@@ -234,6 +242,40 @@ impl<C: CharAccumulator> Parser<C> {
             Taken::Char(c) | Taken::Broken(c) => performer.print(c),
         }
     }
+}
+
+/// Dispatches the few parts of a command.
+#[inline(always)]
+fn dispatch_few<P: Perform>(
+    performer: &mut P,
+    text: &[u8],
+    lengths: &[usize],
+    bell_terminated: bool,
+)
+    requires few { length lengths.now ≤ 4 }
+    requires within { total lengths.now ≤ length text.now }
+    ensures { Goes P.means performer.old (osc_dispatch (cut lengths.now text.now) bell_terminated ∷ []) performer.new }
+{
+    let mut parts: [&[u8]; FEW_PARTS] = [&[]; FEW_PARTS];
+    set_parts(&mut parts, text, lengths);
+    performer.osc_dispatch(&parts[..lengths.len()], bell_terminated);
+}
+
+/// The same with up to sixteen parts. It is out of line: a function pays for the size of its locals at each entry.
+#[inline(never)]
+fn dispatch_many<P: Perform>(
+    performer: &mut P,
+    text: &[u8],
+    lengths: &[usize],
+    bell_terminated: bool,
+)
+    requires few { length lengths.now ≤ max_osc_parts }
+    requires within { total lengths.now ≤ length text.now }
+    ensures { Goes P.means performer.old (osc_dispatch (cut lengths.now text.now) bell_terminated ∷ []) performer.new }
+{
+    let mut parts: [&[u8]; MAX_OSC_PARTS] = [&[]; MAX_OSC_PARTS];
+    set_parts(&mut parts, text, lengths);
+    performer.osc_dispatch(&parts[..lengths.len()], bell_terminated);
 }
 
 /// What is done on the way out of a state.

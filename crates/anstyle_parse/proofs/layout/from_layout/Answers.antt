@@ -1,9 +1,8 @@
-use Rattle.std.proofs.Common.{◌≡◌, ◌<◌, arith, refl, sym, ap, ap₂, subst, ◌++◌, [], ◌∷◌, length, take, drop, ◌∙◌, append_assoc, take-append-drop}
+use Rattle.std.proofs.Common.{◌≡◌, arith, refl, sym, ap, ap₂, subst, ◌++◌, [], ◌∷◌, take, drop, ◌∙◌, append_assoc, take-append-drop}
 use Rattle.std.specs.Prelude.{not}
 use Rattle.std.proofs.lemmas.Bool.{not_from_false}
 use lib.Count.{count_trailing_zeros}
 use Rattle.std.specs.List.{prefix_len}
-use Rattle.anstyle_parse.specs.Stream.Items.{EachIs}
 use Rattle.anstyle_parse.specs.Stream.Texts.{is_layout}
 use Rattle.anstyle_parse.specs.Views.Texts.{AreAtLayout}
 use Rattle.anstyle_parse.proofs.Bytes.Passing.{EachIs-append, EachIs-push}

@@ -1,6 +1,5 @@
-use Rattle.std.proofs.Common.{◌≡◌, ◌+◌, ◌<◌, ◌-◌, ◌++◌, ◌∷◌, length, length-append, take, drop, arith, subst, sym, ap, ap₂, ◌∙◌}
+use Rattle.std.proofs.Common.{◌≡◌, ◌+◌, ◌-◌, ◌++◌, ◌∷◌, length, length-append, take, drop, arith, subst, sym, ap, ap₂, ◌∙◌}
 use Rattle.std.specs.Str.{IsCharBoundary}
-use Rattle.anstyle_parse.specs.Stream.Texts.{is_layout}
 use Rattle.anstyle_parse.specs.Views.Texts.{AreAtLayout}
 use Rattle.anstyle_parse.proofs.Characters.Layout.{layout-low, front-parted, back-parted, IsCharBoundary-parted}
 use Rattle.anstyle_parse.proofs.layout.split_at_layout.Goals as goal

@@ -1,5 +1,5 @@
 -- From the element of one text to that of another, unless they are the same.
-use Rattle.std.proofs.Common.{[], ◌++◌, Bool, true, ◌&&◌, sym, ap, ap₂, ◌∙◌, subst}
+use Rattle.std.proofs.Common.{[], ◌++◌, Bool, sym, ◌∙◌, subst}
 use Rattle.std.specs.Prelude.{if◌then◌else◌}
 use Rattle.anstyle_parse.specs.Io.Output.{Adds}
 use Rattle.anstyle_parse.proofs.Written.Output.{Adds-nil}

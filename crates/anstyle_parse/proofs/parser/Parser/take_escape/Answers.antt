@@ -1,5 +1,5 @@
 use Rattle.std.proofs.Common.{◌≡◌, arith, ap, ◌∙◌, sym, inl}
-use Rattle.anstyle_parse.specs.declared.state.definitions.State.TheVariants.{CsiEntry, Escape, Utf8}
+use Rattle.anstyle_parse.specs.declared.state.definitions.State.TheVariants.{CsiEntry, Escape, OscString, Utf8}
 use Rattle.anstyle_parse.specs.declared.state.definitions.Action.TheVariants.{Nop}
 use Rattle.anstyle_parse.specs.Machine.Step.{Machine, exit_action}
 use Rattle.anstyle_parse.specs.Views.Parser.{machine_of}
@@ -79,18 +79,40 @@ returns-then-next-eq91 g c =
       within = omega (arith, c.in-Some.ensures.cases.1, c.take_in_header.ensures.onward);
     }
 
+pub take_command-requires-clause-command : goal.take_command-requires-clause-command
+take_command-requires-clause-command g c =
+    let n = g.C.CharAccumulator in
+    let m = machine_of c.args.self.now in
+    let escape = ap (λ (x : Machine g.row.C.Denot). x.state) c.step_by_answer.ensures.machine
+    ∙ state-by n.taken c.args.first m Escape Nop (λ h. absurd (cc (c.requires.ground, h))) (λ h. absurd (cc)) (change_at-escape m.state c.args.first c.requires.ground c.requires.escape) in
+    let second = machine_of c.step_by_answer.new.self in
+    ap (λ (x : Machine g.row.C.Denot). x.state) c.step_by_answer-then-next-eq93.ensures.machine
+    ∙ state-by n.taken c.in-Some.next.now second OscString Nop (λ h. absurd (cc (escape, h))) (λ h. absurd (cc))
+    (change_at-command second.state c.in-Some.next.now escape c.if-next-eq93.true)
+
+pub take_command-requires-clause-can : goal.take_command-requires-clause-can
+take_command-requires-clause-can g c =
+    let n = g.C.CharAccumulator in
+    let means = g.P.Perform.means in
+    let begun = LeadsTo-byte n.takes n.taken means c.args.self.now c.step_by_answer.new.self c.args.performer.now c.step_by_answer.new.performer
+    c.args.first c.args.behind.now c.requires.can c.step_by_answer.ensures.machine c.step_by_answer.ensures.calls in
+    let introduced = LeadsTo-first n.takes n.taken means c.in-Some.ensures.cases.0 begun
+    (λ can. LeadsTo-byte n.takes n.taken means c.step_by_answer.new.self c.step_by_answer-then-next-eq93.new.self c.step_by_answer.new.performer c.step_by_answer-then-next-eq93.new.performer
+    c.in-Some.next.now c.in-Some.rest.now can c.step_by_answer-then-next-eq93.ensures.machine c.step_by_answer-then-next-eq93.ensures.calls) in
+    introduced.can
+
 pub returns-then-next-eq93 : goal.returns-then-next-eq93
 returns-then-next-eq93 g c =
     let n = g.C.CharAccumulator in
     let means = g.P.Perform.means in
     let begun = LeadsTo-byte n.takes n.taken means c.args.self.now c.step_by_answer.new.self c.args.performer.now c.step_by_answer.new.performer
     c.args.first c.args.behind.now c.requires.can c.step_by_answer.ensures.machine c.step_by_answer.ensures.calls in
+    let introduced = LeadsTo-first n.takes n.taken means c.in-Some.ensures.cases.0 begun
+    (λ can. LeadsTo-byte n.takes n.taken means c.step_by_answer.new.self c.step_by_answer-then-next-eq93.new.self c.step_by_answer.new.performer c.step_by_answer-then-next-eq93.new.performer
+    c.in-Some.next.now c.in-Some.rest.now can c.step_by_answer-then-next-eq93.ensures.machine c.step_by_answer-then-next-eq93.ensures.calls) in
     record {
-      leads =
-          LeadsTo-first n.takes n.taken means c.in-Some.ensures.cases.0 begun
-          (λ can. LeadsTo-byte n.takes n.taken means c.step_by_answer.new.self c.step_by_answer-then-next-eq93.new.self c.step_by_answer.new.performer c.step_by_answer-then-next-eq93.new.performer
-          c.in-Some.next.now c.in-Some.rest.now can c.step_by_answer-then-next-eq93.ensures.machine c.step_by_answer-then-next-eq93.ensures.calls);
-      within = omega (arith, c.in-Some.ensures.cases.1);
+      leads = LeadsTo-trans n.takes n.taken means introduced c.take_command.ensures.leads;
+      within = omega (arith, c.in-Some.ensures.cases.1, c.take_command.ensures.within);
     }
 
 pub returns-else-next-eq93 : goal.returns-else-next-eq93

@@ -1,4 +1,4 @@
-use Rattle.std.proofs.Common.{◌≡◌, arith, length, subst, sym, take, take_all, ◌∙◌}
+use Rattle.std.proofs.Common.{◌≡◌, arith, length, subst, take, take_all}
 use Rattle.anstyle_parse.specs.Stream.Items.{EachIs}
 use Rattle.anstyle_parse.specs.Views.Texts.{is_text_byte}
 use Rattle.anstyle_parse.proofs.Machine.Runs.{chunk_and_rest, length-first_chunk}

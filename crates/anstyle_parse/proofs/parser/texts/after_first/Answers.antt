@@ -1,4 +1,4 @@
-use Rattle.std.proofs.Common.{sym, ap, length, arith, ◌∷◌, ◌∙◌, refl}
+use Rattle.std.proofs.Common.{sym, arith, ◌∷◌, ◌∙◌, refl}
 use Rattle.anstyle_parse.proofs.Machine.Texts.{BeginWithText-none, BeginWithText-byte, BeginWithText-trans, BeginWithText-whole, length-BeginWithText, length-BeginWithWhole}
 use Rattle.anstyle_parse.proofs.parser.texts.after_first.Goals as goal
 

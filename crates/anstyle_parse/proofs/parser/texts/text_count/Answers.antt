@@ -1,4 +1,4 @@
-use Rattle.std.proofs.Common.{arith, ◌-◌, length, subst, sym, take, take_all}
+use Rattle.std.proofs.Common.{arith, ◌-◌, subst, sym, take_all}
 use Rattle.std.proofs.lemmas.Bool.{or_left}
 use Rattle.anstyle_parse.specs.Stream.Bytes.{is_within}
 use Rattle.anstyle_parse.specs.Stream.Items.{EachIs}

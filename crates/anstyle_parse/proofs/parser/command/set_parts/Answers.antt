@@ -1,7 +1,7 @@
 use Rattle.std.proofs.Common.{◌≡◌, ◌+◌, ◌++◌, ◌∷◌, [], take, drop, map, arith, ap, sym, ◌∙◌, get_or, append_assoc}
 use Rattle.std.proofs.lemmas.List.{length-set, at_drop_more, take_more_set, map_push}
 use Rattle.anstyle_parse.specs.Stream.Groups.{total, cut}
-use Rattle.anstyle_parse.proofs.parser.command.parts_of.Goals as goal
+use Rattle.anstyle_parse.proofs.parser.command.set_parts.Goals as goal
 
 pub loop-i-preserved : goal.loop-i-preserved
 loop-i-preserved c =

@@ -1,0 +1,19 @@
+use Rattle.std.proofs.Common.{◌∷◌, List, ℕ, arith, subst}
+use Rattle.anstyle_parse.specs.Views.Parser.{CanTakeAll}
+use Rattle.anstyle_parse.specs.Views.Runs.{LeadsQuietlyTo}
+use Rattle.anstyle_parse.proofs.Machine.Runs.{LeadsQuietlyTo-trans}
+use Rattle.anstyle_parse.proofs.parser.Parser.store_text.Goals as goal
+
+pub store_byte-rest-requires-in-Some-clause-can : goal.store_byte-rest-requires-in-Some-clause-can
+store_byte-rest-requires-in-Some-clause-can g c =
+    subst (λ (l : List ℕ). CanTakeAll g.C.CharAccumulator.takes c.text.self l) c.in-Some.ensures.cases.0 c.text.invariant.leads.can
+
+pub text-preserved : goal.text-preserved
+text-preserved g c =
+    let n = g.C.CharAccumulator in
+    let passed = subst (λ (l : List ℕ). LeadsQuietlyTo n.takes n.taken c.args.self.now (c.args.first ∷ c.args.behind.now) c.text.self l) c.in-Some.ensures.cases.0 c.text.invariant.leads in
+    record {
+      leads = LeadsQuietlyTo-trans n.takes n.taken passed c.store_byte-rest-in-Some.ensures.leads;
+      command = c.store_byte-rest-in-Some.ensures.command;
+      within = omega (arith, c.store_byte-rest-in-Some.ensures.within, c.in-Some.ensures.cases.1, c.text.invariant.within);
+    }

@@ -34,6 +34,7 @@ mod chunks;
 mod class;
 pub mod contrast;
 mod css;
+pub mod laws;
 mod link;
 mod nearest;
 mod palette;

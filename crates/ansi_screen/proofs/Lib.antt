@@ -19,3 +19,4 @@ pub mod ColorLemmas
 pub mod ContentLemmas
 pub mod ContentCalls
 pub mod AloneLemmas
+mod EqualityLemmas

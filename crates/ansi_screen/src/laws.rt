@@ -1,5 +1,5 @@
 //! Laws of screens.
-ghost use Rattle.std.specs.Prelude.{◌≡◌, ◌≤◌, ◌+◌, ℕ, false, List, [], ◌∷◌, ◌++◌, length};
+ghost use Rattle.std.specs.Prelude.{◌≡◌, ◌≤◌, ◌+◌, ◌↔◌, ℕ, false, List, [], ◌∷◌, ◌++◌, length, IsTrue};
 ghost use Rattle.std.specs.List.{flat_map, AllByRecursion};
 ghost use Rattle.anstyle_parse.specs.Stream.Call.{Call};
 ghost use Rattle.ansi_screen.specs.Display.{most_columns, most_rows};
@@ -9,8 +9,11 @@ ghost use Rattle.ansi_screen.specs.Leaving.{ScrollsBy, leaving, before_scroll};
 ghost use Rattle.ansi_screen.specs.Edits.{rows_up};
 ghost use Rattle.ansi_screen.specs.Laws.{KeepsRows, once_scrolled, reset, save, restore, IsMoveOrStyle, carriage_return, erase_rest, printing, typing, lines_text, FitsIn, page, text_columns};
 
+use crate::cell::{Cell, Marks, Part};
 use crate::leaving::{Scrolling, TakeRow};
+use crate::place::{Charsets, Place};
 use crate::screen::Screen;
+use crate::size::Size;
 
 /// After any bytes, in whatever pieces they are handed to a new parser, a screen shows what the
 /// definition says of the whole stream.
@@ -103,4 +106,24 @@ pub fn rows_leave()
         → screen.display.top ≡ 0 → screen.display.is_alternate ≡ false
         → (once_scrolled call screen).cells
         ≡ (rows_up (leaving call screen.display) 0 screen.display.bottom (before_scroll call screen.display)).cells }
+{}
+
+/// `==` of cells, of places and of sizes is equality, and so it is of what they are made of.
+pub fn equality()
+    ensures cells { (a b : Cell) → (IsTrue (⟦<Cell as PartialEq>⟧.eq a b) ↔ (a ≡ b)) }
+    ensures marks { (a b : Marks) → (IsTrue (⟦<Marks as PartialEq>⟧.eq a b) ↔ (a ≡ b)) }
+    ensures parts { (a b : Part) → (IsTrue (⟦<Part as PartialEq>⟧.eq a b) ↔ (a ≡ b)) }
+    ensures places { (a b : Place) → (IsTrue (⟦<Place as PartialEq>⟧.eq a b) ↔ (a ≡ b)) }
+    ensures charsets { (a b : Charsets) → (IsTrue (⟦<Charsets as PartialEq>⟧.eq a b) ↔ (a ≡ b)) }
+    ensures sizes { (a b : Size) → (IsTrue (⟦<Size as PartialEq>⟧.eq a b) ↔ (a ≡ b)) }
+{}
+
+/// A clone of each of these is the same.
+pub fn clones()
+    ensures cells { (cell clone : Cell) → ⟦<Cell as Clone>⟧.is_clone cell clone → clone ≡ cell }
+    ensures marks { (marks clone : Marks) → ⟦<Marks as Clone>⟧.is_clone marks clone → clone ≡ marks }
+    ensures parts { (part clone : Part) → ⟦<Part as Clone>⟧.is_clone part clone → clone ≡ part }
+    ensures places { (place clone : Place) → ⟦<Place as Clone>⟧.is_clone place clone → clone ≡ place }
+    ensures charsets { (sets clone : Charsets) → ⟦<Charsets as Clone>⟧.is_clone sets clone → clone ≡ sets }
+    ensures sizes { (size clone : Size) → ⟦<Size as Clone>⟧.is_clone size clone → clone ≡ size }
 {}

@@ -6,7 +6,7 @@ ghost use Rattle.ansi_style.specs.Style.{plain, hue_number};
 ghost use Rattle.ansi_style.specs.Rendition.{is_color_code, selected, AreWhole};
 ghost use Rattle.ansi_style.specs.Codes.{one};
 
-use crate::style::{Hue, Style};
+use crate::style::{Color, Hue, Style, Underline};
 
 /// 0 resets all: what comes before it in a sequence counts no more, where no colour is left
 /// open.
@@ -41,6 +41,14 @@ pub fn forms()
 /// `==` of styles is equality.
 pub fn equality()
     ensures { (a b : Style) → (IsTrue (⟦<Style as PartialEq>⟧.eq a b) ↔ (a ≡ b)) }
+{}
+
+/// A clone of a style, or of what it is made of, is the same.
+pub fn clones()
+    ensures styles { (style clone : Style) → ⟦<Style as Clone>⟧.is_clone style clone → clone ≡ style }
+    ensures colors { (color clone : Color) → ⟦<Color as Clone>⟧.is_clone color clone → clone ≡ color }
+    ensures hues { (hue clone : Hue) → ⟦<Hue as Clone>⟧.is_clone hue clone → clone ≡ hue }
+    ensures underlines { (line clone : Underline) → ⟦<Underline as Clone>⟧.is_clone line clone → clone ≡ line }
 {}
 
 /// `as u8` gives the number of a hue, 0 to 7: what is added to 30 to select it.

@@ -221,6 +221,15 @@ pub fn equal_variants()
     ensures taken { (a b : Taken) → (IsTrue (⟦<Taken as PartialEq>⟧.eq a b) ↔ (a ≡ b)) }
 {}
 
+/// A clone of a state, of an action, of a fault, of a run's end or of an accumulator's answer is the same.
+pub fn cloned_variants()
+    ensures states { (state clone : State) → ⟦<State as Clone>⟧.is_clone state clone → clone ≡ state }
+    ensures actions { (action clone : Action) → ⟦<Action as Clone>⟧.is_clone action clone → clone ≡ action }
+    ensures faults { (fault clone : Fault) → ⟦<Fault as Clone>⟧.is_clone fault clone → clone ≡ fault }
+    ensures stops { (stop clone : Stop) → ⟦<Stop as Clone>⟧.is_clone stop clone → clone ≡ stop }
+    ensures taken { (taken clone : Taken) → ⟦<Taken as Clone>⟧.is_clone taken clone → clone ≡ taken }
+{}
+
 /// `as u8` gives the number of a state.
 pub fn state_as_number(state: State) -> u8
     ensures { result ≡ state_number state }

@@ -22,3 +22,9 @@ pub fn events_joined()
 pub fn equality()
     ensures { (a b : Fed) → (IsTrue (⟦<Fed as PartialEq>⟧.eq a b) ↔ (a ≡ b)) }
 {}
+
+/// A clone of a record, or of what calls took and wrote, is the same.
+pub fn clones()
+    ensures events { (event clone : Event) → ⟦<Event as Clone>⟧.is_clone event clone → clone ≡ event }
+    ensures fed { (fed clone : Fed) → ⟦<Fed as Clone>⟧.is_clone fed clone → clone ≡ fed }
+{}

@@ -26,3 +26,8 @@ pub fn html_joined()
     ensures whole { (styling : Styling) (bytes text end : List ℕ) → IsHtmlOf styling [] bytes text
         → IsEndOf bytes end → (calls : List Call) × AreCalls bytes calls × (text ++ end ≡ html styling calls) }
 {}
+
+/// A clone of a state is the same.
+pub fn clones()
+    ensures { (state clone : HtmlState) → ⟦<HtmlState as Clone>⟧.is_clone state clone → clone ≡ state }
+{}

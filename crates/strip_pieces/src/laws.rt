@@ -30,3 +30,9 @@ pub fn texts_joined()
 pub fn equality()
     ensures { (a b : Fed) → (IsTrue (⟦<Fed as PartialEq>⟧.eq a b) ↔ (a ≡ b)) }
 {}
+
+/// A clone of a state, or of what calls took and wrote, is the same.
+pub fn clones()
+    ensures states { (state clone : StreamState) → ⟦<StreamState as Clone>⟧.is_clone state clone → clone ≡ state }
+    ensures fed { (fed clone : Fed) → ⟦<Fed as Clone>⟧.is_clone fed clone → clone ≡ fed }
+{}

@@ -27,7 +27,13 @@ static_assert(offsetof(ansi_event, intermediates) == 20, "and so do the intermed
 static_assert(ANSI_EVENTS_LEAST_EVENTS == 2 && ANSI_EVENTS_LEAST_ROOM == 6258, "what one byte may need");
 static_assert(ANSI_EVENTS_EVENTS(1) == ANSI_EVENTS_LEAST_EVENTS, "so many for one");
 static_assert(ANSI_EVENTS_ROOM(1) == ANSI_EVENTS_LEAST_ROOM, "so much for one");
-static_assert(ANSI_EVENTS_ROOM(1 + 1) == 6264 && ANSI_EVENTS_EVENTS(1 + 1) == 4, "the count stands in brackets");
+static_assert(ANSI_EVENTS_EVENTS(1 + 1) == 4 && ANSI_EVENTS_ROOM(1 ? 2 : 3) == 6264, "the count stands in brackets");
+static_assert(7 % ANSI_EVENTS_EVENTS(1) == 1 && 7 % ANSI_EVENTS_EVENTS(2) == 3, "and so does the whole");
+static_assert(9999 % ANSI_EVENTS_ROOM(1) == 3741, "and so does the room's");
+static_assert(sizeof(ANSI_EVENTS_EVENTS(1)) == sizeof(size_t), "it is a size");
+static_assert(sizeof(ANSI_EVENTS_ROOM(1)) == sizeof(size_t), "and so is the room");
+static_assert(ANSI_EVENTS_EVENTS(0xC0000000) == 0x180000000, "also of a large count");
+static_assert(ANSI_EVENTS_ROOM(0x40000000) == 0x18000186C, "also of a large count");
 
 /* The types: with another one this is a warning, and warnings are errors. */
 static void (*const init)(ansi_events *) = ansi_events_init;

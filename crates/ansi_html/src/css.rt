@@ -3,6 +3,7 @@ ghost use Rattle.std.specs.Prelude.{◌≡◌, ◌<◌, ◌++◌, ◌∷◌, ◌
 ghost use Rattle.anstyle_parse.specs.Io.Output.{Adds};
 ghost use Rattle.ansi_html.specs.Palette.{hex_digit, hex};
 ghost use Rattle.ansi_html.specs.Css.{declared as declared_color, light_dark, themed, is_chosen, text_of, behind_of, light_text, dark_text, on_page, reversed_text, reversed_ground, on_reversed, color_on, text_on, on_chosen, colors_css, text_if, is_underlined, lines_css, underline_css, css};
+ghost use Rattle.ansi_html.specs.Html.{is_plain};
 
 use crate::contrast::{BLACK, Rgb, WHITE};
 use crate::palette::{Shades, shades_of};
@@ -228,6 +229,43 @@ pub(crate) fn is_underlined(underline: Underline) -> bool
     ensures { result ≡ is_underlined underline }
 {
     !matches!(underline, Underline::Off)
+}
+
+/// Whether a style is the plain one: by its fields, the first of which mostly says that it is not.
+#[inline(always)]
+pub(crate) fn is_plain(style: Style) -> bool
+    ensures { result ≡ is_plain style }
+{
+    !is_styled(style)
+}
+
+/// Whether any colour is chosen, or anything else set.
+#[inline(always)]
+fn is_styled(style: Style) -> bool
+    ensures { result ≡ (is_chosen style.foreground || (is_chosen style.background
+        || (is_underlined style.underline || (style.bold || (style.dim || (style.italic || (style.blink
+        || (style.reverse || (style.hidden || (style.struck_out || style.overlined)))))))))) }
+{
+    is_chosen(style.foreground)
+        || is_chosen(style.background)
+        || is_underlined(style.underline)
+        || has_attribute(style)
+}
+
+/// Whether any attribute is set.
+#[inline(always)]
+fn has_attribute(style: Style) -> bool
+    ensures { result ≡ (style.bold || (style.dim || (style.italic || (style.blink
+        || (style.reverse || (style.hidden || (style.struck_out || style.overlined))))))) }
+{
+    style.bold
+        || style.dim
+        || style.italic
+        || style.blink
+        || style.reverse
+        || style.hidden
+        || style.struck_out
+        || style.overlined
 }
 
 /// Whether there is any line.

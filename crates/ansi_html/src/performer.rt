@@ -10,7 +10,7 @@ ghost use Rattle.ansi_html.specs.Html.{line_break, beginning, value_of, attribut
 
 use crate::chunks::{CHUNK, specials};
 use crate::class::put_classes;
-use crate::css::put_css;
+use crate::css::{is_plain, put_css};
 use crate::link::{Links, is_link_command};
 use crate::scheme::{Scheme, Styling};
 use crate::standing::{Element, Standing};
@@ -249,7 +249,7 @@ fn put_change<W: Sink>(
 fn is_other(shown: Style, style: Style, links: &Links) -> bool
     ensures { result ≡ not (are_same (element shown (shown_link links.now)) (element style (selected_link links.now))) }
 {
-    shown != style || links.differ()
+    links.differ() || shown != style
 }
 
 /// Opens an element of the style and the link, where there is either.
@@ -297,7 +297,11 @@ fn put_link_style<W: Sink>(output: &mut Output<W>, styling: Styling, style: Styl
 {
     match styling {
         Styling::Inline(scheme) => {
-            put_css_between(output, b"\" style=\"color:inherit;", scheme, style);
+            if is_plain(style) {
+                output.put(b"\" style=\"color:inherit;\">");
+            } else {
+                put_css_between(output, b"\" style=\"color:inherit;", scheme, style);
+            }
         }
         Styling::Classes => put_classes_between(output, b"\" class=\"", true, style),
     }
@@ -307,7 +311,7 @@ fn put_link_style<W: Sink>(output: &mut Output<W>, styling: Styling, style: Styl
 pub(crate) fn put_span_begin<W: Sink>(output: &mut Output<W>, styling: Styling, style: Style)
     ensures { Adds W.Sink (span_begin styling style) output.old output.new }
 {
-    if style != Style::default() {
+    if !is_plain(style) {
         put_span(output, styling, style);
     }
 }
@@ -347,7 +351,7 @@ fn put_classes_between<W: Sink>(output: &mut Output<W>, before: &[u8], linked: b
 pub(crate) fn put_span_end<W: Sink>(output: &mut Output<W>, style: Style)
     ensures { Adds W.Sink (span_end style) output.old output.new }
 {
-    if style != Style::default() {
+    if !is_plain(style) {
         output.put(b"</span>");
     }
 }

@@ -1,4 +1,4 @@
-use Rattle.std.proofs.Common.{Bool, ◌&&◌, sym, ap, ◌∙◌}
+use Rattle.std.proofs.Common.{◌≡◌, Bool, true, false, ◌&&◌, refl, sym, ap, ◌∙◌}
 use Rattle.std.specs.Prelude.{not}
 use Rattle.std.specs.Str.{bytes_eq}
 use Rattle.ansi_style.specs.Style.{are_equal}
@@ -6,16 +6,25 @@ use Rattle.ansi_html.specs.ShownLinks.{shown_link, selected_link}
 use Rattle.ansi_html.proofs.HtmlLemmas.{false-from_not, true-from_not}
 use Rattle.ansi_html.proofs.performer.is_other.Goals as goal
 
-pub returns-then-ne : goal.returns-then-ne
-unfolding are_equal
-returns-then-ne c =
-    let other = false-from_not (are_equal c.args.shown c.args.style) (sym c.ne.ensures ∙ c.if-ne.true) in
-    let links = bytes_eq (shown_link c.args.links.now) (selected_link c.args.links.now) in
-    c.if-ne.true ∙ sym (ap (λ (same : Bool). not (same && links)) other)
+-- where the second is false, they are not both true
+not_both : (first : Bool) → not (first && false) ≡ true
+not_both true = refl
+not_both false = refl
 
-pub returns-else-ne : goal.returns-else-ne
+-- and where it is true, that is for the first to say
+first_alone : (first : Bool) → not (first && true) ≡ not first
+first_alone true = refl
+first_alone false = refl
+
+pub returns-then-differ : goal.returns-then-differ
+returns-then-differ c =
+    let same = are_equal c.args.shown c.args.style in
+    let other = false-from_not (bytes_eq (shown_link c.args.links.now) (selected_link c.args.links.now)) (sym c.differ.ensures ∙ c.if-differ.true) in
+    c.if-differ.true ∙ sym (ap (λ (links : Bool). not (same && links)) other ∙ not_both same)
+
+pub returns-else-differ : goal.returns-else-differ
 unfolding are_equal
-returns-else-ne c =
-    let same = true-from_not (are_equal c.args.shown c.args.style) (sym c.ne.ensures ∙ c.if-ne.false) in
-    let links = bytes_eq (shown_link c.args.links.now) (selected_link c.args.links.now) in
-    c.differ.ensures ∙ sym (ap (λ (same : Bool). not (same && links)) same)
+returns-else-differ c =
+    let same = are_equal c.args.shown c.args.style in
+    let links = true-from_not (bytes_eq (shown_link c.args.links.now) (selected_link c.args.links.now)) (sym c.differ.ensures ∙ c.if-differ.false) in
+    c.ne.ensures ∙ sym (ap (λ (links : Bool). not (same && links)) links ∙ first_alone same)

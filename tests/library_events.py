@@ -5,6 +5,7 @@ import itertools
 import re
 import resource
 import shutil
+import subprocess
 
 from library_shared import *
 
@@ -54,6 +55,11 @@ def title_cases(room, cc):
     given = b"a\x1b]0;one;two\x07\x1b[1m\x1b]2;\xe2\x82\xac\x1b\\\x1b]1;no\x07\x1b]20;no\x07\x1b]2;\x07\x1b]0;open"
     done = run([path], given)
     yield "titles.c prints titles", failure(done) or first_difference(done.stdout, b"one;two\n\xe2\x82\xac\n\n")
+    with open("/dev/full", "wb") as full:
+        done = subprocess.run([path], input=given, stdout=full)
+    yield "titles.c ends with status 1 where a write fails", done.returncode != 1 and "status %d" % done.returncode
+    done = subprocess.run(["sh", "-c", '"$0" < /', path], stdout=subprocess.DEVNULL)
+    yield "titles.c ends with status 1 where a read fails", done.returncode != 1 and "status %d" % done.returncode
 
 
 def rust_cases(room):

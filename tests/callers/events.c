@@ -8,6 +8,8 @@
  *        events quiet PIECE EVENTS ROOM   writes how many events there are, alone */
 #include "ansi_events.h"
 #include "ansi_events.h" /* (a second time: it guards itself) */
+#include "ansi_html.h"   /* (and these stand beside it) */
+#include "ansi_strip.h"
 
 #define CALLER "events.c"
 #include "expect.h"
@@ -19,7 +21,9 @@
 
 static_assert(sizeof(ansi_events) == 1056, "a state has 1,056 bytes");
 static_assert(offsetof(ansi_events, pending) == 8, "pending stands after length");
+static_assert(sizeof(struct ansi_events) == sizeof(ansi_strip), "the state is that of the stripper");
 static_assert(sizeof(ansi_event) == 24, "an event has 24 bytes");
+static_assert(sizeof(((struct ansi_event *)0)->intermediates) == 2, "two intermediates are shown");
 static_assert(offsetof(ansi_event, length) == 8 && offsetof(ansi_event, kind) == 16, "fields stand in order");
 static_assert(offsetof(ansi_event, byte) == 17 && offsetof(ansi_event, flag) == 18, "and so do these");
 static_assert(offsetof(ansi_event, intermediate_count) == 19, "and so does the count");

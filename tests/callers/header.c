@@ -3,6 +3,8 @@
  * with the sanitizers. Says what is wrong on standard error and ends with status 1. */
 #include "ansi_strip.h"
 #include "ansi_strip.h" /* (a second time: it guards itself) */
+#include "ansi_events.h" /* (and these stand beside it) */
+#include "ansi_html.h"
 
 #define CALLER "header.c"
 #include "expect.h"
@@ -13,6 +15,7 @@
 #include <string.h>
 
 static_assert(sizeof(ansi_strip) == 1056, "a state has 1,056 bytes");
+static_assert(sizeof(struct ansi_strip) == sizeof(ansi_events), "the state is that of the events");
 static_assert(offsetof(ansi_strip, length) == 0, "length is first");
 static_assert(sizeof(((ansi_strip *)0)->length) == 8, "length is a size_t of 8 bytes");
 static_assert(offsetof(ansi_strip, pending) == 8, "pending stands after length");

@@ -3,6 +3,8 @@
  * is wrong on standard error and ends with status 1. */
 #include "ansi_html.h"
 #include "ansi_html.h" /* (a second time: it guards itself) */
+#include "ansi_events.h" /* (and these stand beside it) */
+#include "ansi_strip.h"
 
 #define CALLER "html.c"
 #include "expect.h"
@@ -12,7 +14,7 @@
 #include <stdlib.h>
 #include <string.h>
 
-static_assert(sizeof(ansi_html) == 3192, "a state has 3,192 bytes");
+static_assert(sizeof(struct ansi_html) == 3192, "a state has 3,192 bytes");
 static_assert(offsetof(ansi_html, others) == sizeof(size_t), "nothing stands between");
 static_assert(ANSI_HTML_BOTH == 0 && ANSI_HTML_LIGHT == 1, "stylings have the numbers that are told apart below");
 static_assert(ANSI_HTML_DARK == 2 && ANSI_HTML_CLASSES == 3, "stylings have the numbers that are told apart below");

@@ -4,10 +4,10 @@
 Usage: bench/cells.py [--program PROGRAM] [--size COLUMNSxROWS]
 
 PROGRAM is the built ansi2screen (default: crates/ansi2screen/out/ansi2screen). It is run with --updates: a
-screen full of words comes first, and then pieces, each behind the update to the one before, that move the
-cursor, or print one character somewhere, or two over the end of a row. What a piece costs more than none is divided by the cells of the
-screen. In the first figure reading the piece, both parsers and screens and the write are counted with the
-update; the second is what is executed inside of the call of `update_noted` alone, and of what it calls.
+screen full of words comes first, and then pieces, each behind the update to the one before, that change a cell or two of
+a row, move the cursor, or change nothing by a sequence for which all rows are compared. What a piece costs more than none
+is divided by the cells of the screen. In the first figure reading the piece, both parsers and screens and the write are
+counted with the update; the second is what is executed inside of the call of `update_noted` alone, and of what it calls.
 """
 
 import argparse
@@ -27,6 +27,7 @@ HERE = os.path.dirname(os.path.abspath(__file__))
 PIECES = 6
 CALL = "screen_draw::update_noted*"  # the call, as the program's symbols name it
 QUIET = 0.5  # the seconds of silence behind which a piece counts as shown; valgrind is slow
+PATIENCE = 60  # the seconds in which something of it has to come
 
 
 def full(columns, rows):
@@ -56,15 +57,46 @@ def instructions(program, size, pieces, inside=()):
         words = [*tool, *("--toggle-collect=" + call for call in inside), program, "--updates", "--size=" + size]
         pipes = {"stdin": subprocess.PIPE, "stdout": subprocess.PIPE, "stderr": subprocess.PIPE, "bufsize": 0}
         run = subprocess.Popen(words, env=dict(os.environ, GLIBC_TUNABLES=measure.COUNTED), **pipes)
-        shown = [read_until_quiet(run.stdout, 60)]
+        shown = [read_until_quiet(run.stdout, PATIENCE)]
         for piece in pieces:
             run.stdin.write(piece)
-            shown.append(read_until_quiet(run.stdout, 5))
+            shown.append(read_until_quiet(run.stdout, PATIENCE))
         run.stdin.close()
         found = re.search(rb"Collected : (\d+)", run.stderr.read())
         if run.wait() != 0 or not found:
             sys.exit("cells.py: %s failed under valgrind" % program)
     return int(found[1]), sum(map(len, shown[2:]))
+
+
+def ways(columns):
+    """What changes a row, by name: the column where the cursor goes first, and what comes there."""
+    return {
+        "one cell": (5, "%c"),
+        "in column 1": (1, "%c"),
+        "in the last": (columns, "%c"),
+        "over the row's end": (columns, "%c+"),
+        "a mark": (5, "%c\N{COMBINING ACUTE ACCENT}"),
+        "a wide character": (5, "\u6f22%c"),
+        "behind sgr0": (5, "\x1b(B\x1b[m%c"),
+        "ECH": (5, "\x1b[X%.0s"),
+        "EL": (columns - 1, "\x1b[K%.0s"),
+        "ICH": (columns - 1, "\x1b[@%.0s"),
+        "DCH": (columns - 1, "\x1b[P%.0s"),
+        "the cursor alone": (5, "%.0s"),
+    }
+
+
+def costs(program, size, cases, inside):
+    """For each of these ways the instructions of an update, all or those inside of a call, and the bytes that it writes."""
+    columns, rows = map(int, size.split("x"))
+    first = full(columns, rows)
+    begun = instructions(program, size, [first], inside)[0]
+    if not begun:
+        sys.exit("cells.py: %s has no %s out of line" % (program, CALL))
+    for name, (column, text) in cases.items():
+        pieces = ["\x1b[%d;%dH" % (row, column) + text % chr(64 + row) for row in range(3, 3 + PIECES)]
+        count, written = instructions(program, size, [first, *map(str.encode, pieces)], inside)
+        yield name, (count - begun) / PIECES, written / PIECES
 
 
 def main():
@@ -73,18 +105,10 @@ def main():
     parser.add_argument("--size", default="120x40")
     options = parser.parse_args()
     columns, rows = map(int, options.size.split("x"))
-    first = full(columns, rows)
-    ways = (), (CALL,)
-    least = [instructions(options.program, options.size, [first], inside)[0] for inside in ways]
-    if not least[1]:
-        sys.exit("cells.py: %s has no %s out of line" % (options.program, CALL))
-    cases = [("one cell", 5, 1), ("in column 1", 1, 1), ("in the last", columns, 1), ("over the row's end", columns, 2)]
-    for name, column, characters in [*cases, ("the cursor alone", 5, 0)]:
-        pieces = [b"\x1b[%d;%dH" % (row, column) + bytes([64 + row]) * characters for row in range(3, 3 + PIECES)]
-        for inside, begun in zip(ways, least):
-            count, written = instructions(options.program, options.size, [first, *pieces], inside)
-            cost = (count - begun) / PIECES
-            words = name, "the call alone" if inside else "", cost, cost / (columns * rows), written / PIECES
+    cases = {**ways(columns), "all rows compared": (5, "\x1b[?25h%.0s")}
+    for inside in (), (CALL,):
+        for name, cost, written in costs(options.program, options.size, cases, inside):
+            words = name, "the call alone" if inside else "", cost, cost / (columns * rows), written
             print("%-18s %-15s %9.0f instructions, %6.2f a cell, %5.1f bytes" % words, flush=True)
 
 

@@ -5,7 +5,7 @@ use Rattle.std.specs.Fn.{iterate}
 use borrow.Author.Tests.{eqb-true}
 use Rattle.anstyle_parse.specs.Stream.Call.{csi_dispatch}
 use Rattle.ansi_screen.specs.declared.function.Function.{Function}
-use Rattle.ansi_screen.specs.declared.function.Function.TheVariants.{Moves, Sets}
+use Rattle.ansi_screen.specs.declared.function.Function.TheVariants.{Moves, Sets, Nothing}
 use Rattle.ansi_screen.specs.declared.function.Move.{Move}
 use Rattle.ansi_screen.specs.declared.function.Move.TheVariants.{Up, Down, Forward, Back, NextLine, PrecedingLine, Column, Line, Position, BackTab}
 use Rattle.ansi_screen.specs.declared.function.Setting.{Setting}
@@ -65,17 +65,18 @@ alone-controlled (Moves move) groups d alone =
 alone-controlled (Sets setting) groups d alone = alone-set setting groups d alone
 alone-controlled function groups d alone = cc alone
 
--- none of them is REP
-none-repeats : moves_alone (function_of 0x62) ≡ false
+-- What is a function of one of these is not REP, which is none.
+rep-none : function_of 0x62 ≡ Nothing
 unfolding function_of
-none-repeats = refl
+rep-none = refl
 
-repeats-not : (final : ℕ) (t : Bool) → (final == 0x62) ≡ t → moves_alone (function_of final) ≡ true → t ≡ false
-repeats-not final true is alone =
+pub repeats-not : (is_one : Function → Bool) → is_one Nothing ≡ false → (final : ℕ) (t : Bool) → (final == 0x62) ≡ t
+    → is_one (function_of final) ≡ true → t ≡ false
+repeats-not is_one none final true is one =
     let same : final ≡ 0x62 = eqb-true final 0x62 is in
-    let other : moves_alone (function_of final) ≡ false = ap (λ n. moves_alone (function_of n)) same ∙ none-repeats in
+    let other : is_one (function_of final) ≡ false = ap (λ n. is_one (function_of n)) same ∙ (ap is_one rep-none ∙ none) in
     cc
-repeats-not final false is alone = refl
+repeats-not is_one none final false is one = refl
 
 alone-sequenced : (groups : List (List ℕ)) (final : ℕ) (d : Display) → moves_alone (function_of final) ≡ true
     → IsAlone d (sequenced groups [] final d)
@@ -87,5 +88,5 @@ pub alone-displayed : (groups : List (List ℕ)) (ignore : Bool) (final : ℕ) (
 unfolding is_repeat
 alone-displayed groups true final s alone = refl
 alone-displayed groups false final s alone =
-    let not_repeat : (final == 0x62) ≡ false = repeats-not final _ refl alone in
+    let not_repeat : (final == 0x62) ≡ false = repeats-not moves_alone refl final _ refl alone in
     rw not_repeat (alone-sequenced groups final s.display alone)

@@ -1,5 +1,5 @@
 -- `==` of cells and of places is equality.
-use Rattle.std.proofs.Common.{◌≡◌, ◌↔◌, Bool, true, false, ◌&&◌, eqb, refl, subst, IsTrue, rules}
+use Rattle.std.proofs.Common.{◌≡◌, ◌↔◌, Bool, true, false, eqb, refl, subst, IsTrue, rules}
 use Rattle.std.specs.Bool.{beq}
 use Rattle.std.proofs.lemmas.Bool.{and_parts, eqb-true}
 use denote.Enum.Bare.{sameb, same_true}

@@ -124,7 +124,7 @@ kept-cleared kind d s =
     (λ other. kept-if (kind == 3) none d (λ is. kept-tabs (replicate (length d.tabs) false) d s (length-replicate (length d.tabs) false)) (λ neither. s))
 
 -- edits of cells
-row-inside : (row width height : ℕ) → row < height → row * width + width ≤ height * width
+pub row-inside : (row width height : ℕ) → row < height → row * width + width ≤ height * width
 row-inside row width height below =
     let past : suc row * width ≤ height * width = mul-le-mul_right {m = suc row} {n = height} width below in
     let next : suc row * width ≡ row * width + width = suc-mul row width in

@@ -13,6 +13,7 @@ pub mod LawLemmas
 pub mod ScrollLemmas
 pub mod PlainLemmas
 pub mod RowLemmas
+pub mod EditLemmas
 pub mod CharacterLemmas
 pub mod SizeLemmas
 pub mod ColorLemmas

@@ -41,8 +41,14 @@ pub same-trans : (start end : ℕ) (xs ys zs : List Cell) → Same start end xs 
     → Same start end xs zs
 same-trans start end xs ys zs a b = record { front = a.front ∙ b.front; behind = a.behind ∙ b.behind; long = a.long ∙ b.long }
 
+-- cells of either of two displays
+pub same-if : (t : Bool) (lo hi : ℕ) (cells : List Cell) (a b : Display) → (t ≡ true → Same lo hi a.cells cells) → (t ≡ false → Same lo hi b.cells cells)
+    → Same lo hi (if t then a else b).cells cells
+same-if true lo hi cells a b first second = first refl
+same-if false lo hi cells a b first second = second refl
+
 -- no right half stands there
-abbrev IsFree : ℕ → List Cell → Type 0
+abbrev pub IsFree : ℕ → List Cell → Type 0
 IsFree place cells = is_right (cell_at place cells).part ≡ false
 
 -- edits between two such places
@@ -72,7 +78,7 @@ cut-between start end place cells true is from to free free_end =
     (same-set start end place (set cells (place - 1) left) right from (omega arith))
     (same-set start end (place - 1) cells left (omega arith) (omega arith)))
 
-same-cut : (start end place : ℕ) (cells : List Cell) → start ≤ place → place ≤ end → IsFree start cells
+pub same-cut : (start end place : ℕ) (cells : List Cell) → start ≤ place → place ≤ end → IsFree start cells
     → IsFree end cells → Same start end (cut place cells) cells
 same-cut start end place cells from to free free_end = cut-between start end place cells _ refl from to free free_end
 
@@ -107,7 +113,7 @@ same-cuts start end from to cells first order last free free_end =
     (same-cut start end from (cut to cells) first (omega arith) (clear-cut_other to start cells free) (clear-cut_other to end cells free_end))
     (same-cut start end to cells (omega arith) last free free_end)
 
-same-change : (start end from to : ℕ) (how : List Cell → List Cell) (cells : List Cell) → start ≤ from → from ≤ to
+pub same-change : (start end from to : ℕ) (how : List Cell → List Cell) (cells : List Cell) → start ≤ from → from ≤ to
     → to ≤ end → end ≤ length cells
     → IsFree start cells → IsFree end cells
     → length (how (take (to - from) (drop from (cut from (cut to cells))))) ≡ to - from
@@ -118,7 +124,7 @@ same-change start end from to how cells first order last inside free free_end lo
     (same-within start end from to how both first order last (omega (arith, length-cut from (cut to cells), length-cut to cells)) long)
     (same-cuts start end from to cells first order last free free_end)
 
-same-inserted : (start end from n : ℕ) (gap : Cell) (cells : List Cell) → start ≤ from → from ≤ end
+pub same-inserted : (start end from n : ℕ) (gap : Cell) (cells : List Cell) → start ≤ from → from ≤ end
     → end ≤ length cells
     → IsFree start cells → IsFree end cells → Same start end (inserted n from end gap cells) cells
 same-inserted start end from n gap cells first order inside free free_end =
@@ -134,7 +140,7 @@ same-inserted start end from n gap cells first order inside free free_end =
     (same-cut start end place cells (omega arith) (omega arith) free free_end)
 
 -- a mark goes to a cell before its place, and not past a place where no right half stands
-marked-between : (start end mark place : ℕ) (cells : List Cell) (t : Bool)
+pub marked-between : (start end mark place : ℕ) (cells : List Cell) (t : Bool)
     → is_right (cell_at (place - 1) cells).part ≡ t
     → start < place → place ≤ end → IsFree start cells → Same start end (marked_before mark place cells) cells
 unfolding marked_before
@@ -179,14 +185,14 @@ marked-free mark place j cells free =
     right-same cells at j (with_mark mark (cell_at at cells)) refl free
 
 -- the row does not go on
-same-going_on : (start end : ℕ) (cells : List Cell) → start < end → Same start end (going_on false end cells) cells
+pub same-going_on : (on : Bool) (start end : ℕ) (cells : List Cell) → start < end → Same start end (going_on on end cells) cells
 unfolding going_on
-same-going_on start end cells some =
-    same-set start end (end - 1) cells (record (cell_at (end - 1) cells) { goes_on = false }) (omega arith) (omega arith)
+same-going_on on start end cells some =
+    same-set start end (end - 1) cells (record (cell_at (end - 1) cells) { goes_on = on }) (omega arith) (omega arith)
 
-going_on-free : (end j : ℕ) (cells : List Cell) → IsFree j cells → IsFree j (going_on false end cells)
+pub going_on-free : (on : Bool) (end j : ℕ) (cells : List Cell) → IsFree j cells → IsFree j (going_on on end cells)
 unfolding going_on
-going_on-free end j cells free = right-same cells (end - 1) j (record (cell_at (end - 1) cells) { goes_on = false }) refl free
+going_on-free on end j cells free = right-same cells (end - 1) j (record (cell_at (end - 1) cells) { goes_on = on }) refl free
 
 -- a display with other cells and the cursor in another column
 abbrev in_row : List Cell → ℕ → Display → Display
@@ -331,8 +337,8 @@ module _ (n c : ℕ) (d : Display) (cells : List Cell) (screen : IsScreen (with_
       let s : IsScreen (with_cells before d) = kept-going_on false (with_cells cells d) screen in
       same-trans start (row_end d) (inserted n (here d) (row_end d) (space d) before) before cells
       (same-inserted start (row_end d) (here d) n (space d) before from (omega arith) (row_end-inside (with_cells before d) s)
-      (going_on-free (row_end d) start cells free) (row_end-free (with_cells before d) s))
-      (same-going_on start (row_end d) cells (omega arith))
+      (going_on-free false (row_end d) start cells free) (row_end-free (with_cells before d) s))
+      (same-going_on false start (row_end d) cells (omega arith))
   room-same start false from free = same-refl start (row_end d) cells
 
   room-free : (t : Bool) → IsFree (here d) cells → IsFree (here d) (room_by t n d cells)
@@ -340,7 +346,7 @@ module _ (n c : ℕ) (d : Display) (cells : List Cell) (screen : IsScreen (with_
       let before : List Cell = going_on false (row_end d) cells in
       let s : IsScreen (with_cells before d) = kept-going_on false (with_cells cells d) screen in
       inserted-free (here d) (row_end d) n (space d) before some (omega arith) (row_end-inside (with_cells before d) s) refl
-      (going_on-free (row_end d) (here d) cells free)
+      (going_on-free false (row_end d) (here d) cells free)
   room-free false free = free
 
   glyph-long : length (glyph n c d.cursor.style d.link) ≡ here d + n - here d

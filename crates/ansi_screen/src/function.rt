@@ -1,7 +1,7 @@
 //! Control functions by their final byte.
 ghost use Rattle.std.specs.Prelude.{◌≡◌};
 ghost use Rattle.ansi_screen.specs.After.{function_of, is_known};
-ghost use Rattle.ansi_screen.specs.Alone.{moves_alone};
+ghost use Rattle.ansi_screen.specs.Alone.{moves_alone, edits_row, edits_cells};
 
 /// Edits of cells.
 #[derive(Clone, Copy)]
@@ -138,6 +138,31 @@ impl Function {
             Function::Moves(_) | Function::Sets(Setting::Rendition | Setting::ForwardTab)
         )
     }
+
+    /// Whether it changes nothing but cells of the cursor's row and the cursor: ICH, DCH, EL or ECH.
+    fn edits_row(self) -> bool
+        ensures { result ≡ edits_row self }
+    {
+        matches!(
+            self,
+            Function::Edits(
+                Edit::InsertCharacters
+                    | Edit::DeleteCharacters
+                    | Edit::EraseInLine
+                    | Edit::EraseCharacters
+            )
+        )
+    }
+
+    /// Whether it changes nothing but cells and the cursor: an edit of cells, SU or SD.
+    fn edits_cells(self) -> bool
+        ensures { result ≡ edits_cells self }
+    {
+        matches!(
+            self,
+            Function::Edits(_) | Function::Sets(Setting::ScrollUp | Setting::ScrollDown)
+        )
+    }
 }
 
 /// Whether a control sequence without intermediates changes nothing but the cursor, by its final byte: it moves it
@@ -146,4 +171,20 @@ pub fn moves_alone(final_byte: u8) -> bool
     ensures { result ≡ moves_alone (function_of final_byte) }
 {
     Function::of(final_byte).moves_alone()
+}
+
+/// Whether a control sequence without intermediates changes nothing but cells of the cursor's row and the cursor, by its
+/// final byte: ICH, DCH, EL or ECH.
+pub fn edits_row(final_byte: u8) -> bool
+    ensures { result ≡ edits_row (function_of final_byte) }
+{
+    Function::of(final_byte).edits_row()
+}
+
+/// Whether a control sequence without intermediates changes nothing but cells and the cursor, by its final byte: it
+/// erases, inserts, deletes or scrolls them.
+pub fn edits_cells(final_byte: u8) -> bool
+    ensures { result ≡ edits_cells (function_of final_byte) }
+{
+    Function::of(final_byte).edits_cells()
 }

@@ -21,7 +21,7 @@ mod text;
 mod width;
 
 pub use cell::{Cell, Marks, Part};
-pub use function::moves_alone;
+pub use function::{edits_cells, edits_row, moves_alone};
 pub use leaving::{Scrolling, TakeCommand, TakeRow};
 pub use place::{Charsets, Place};
 pub use screen::{MAX_COLUMNS, MAX_ROWS, MIN_COLUMNS, MIN_ROWS, Screen};

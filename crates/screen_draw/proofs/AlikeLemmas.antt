@@ -4,6 +4,7 @@ use Rattle.std.specs.Prelude.{◌&&◌, not, ◌==◌, map}
 use Rattle.std.specs.Bool.{beq}
 use Rattle.std.proofs.lemmas.Bool.{and_parts, eqb-true}
 use Rattle.std.proofs.lemmas.List.{take_more, take_all}
+use Rattle.std.proofs.Math.Bool.{and_assoc}
 use Rattle.ansi_style.specs.declared.style.Style.{Style}
 use Rattle.ansi_style.specs.Style.{are_equal}
 use Rattle.ansi_style.proofs.EqualityLemmas.{are_equal-same}
@@ -183,3 +184,13 @@ module _ {A : Type 0} (test : A → A → Bool) (d e : A) where
   all_two-long (x ∷ xs) (y ∷ ys) true is other =
       let parts = and_parts (test x y) (all_two test xs ys) is in
       all_two-long xs ys true parts.1 (λ e. other (ap suc e))
+
+-- eight of them in the order in which they are joined one by one
+pub and-of_eight : (a b c d e f g h : Bool)
+    → (a && b && c && d && e && f && g && h) ≡ (a && (b && (c && (d && (e && (f && (g && h)))))))
+and-of_eight a b c d e f g h =
+    and_assoc (a && b && c && d && e && f) g h
+    ∙ (and_assoc (a && b && c && d && e) f (g && h)
+    ∙ (and_assoc (a && b && c && d) e (f && (g && h))
+    ∙ (and_assoc (a && b && c) d (e && (f && (g && h)))
+    ∙ (and_assoc (a && b) c (d && (e && (f && (g && h)))) ∙ and_assoc a b (c && (d && (e && (f && (g && h)))))))))

@@ -1,12 +1,12 @@
 -- What a step of a display leaves as it was: size and frame, and all rows but some.
-use Rattle.std.proofs.Common.{◌≡◌, ℕ, zero, suc, ◌+◌, ◌-◌, ◌*◌, ◌<◌, ◌≤◌, Bool, true, false, List, take, drop, refl, ap, sym, ◌∙◌, subst, arith}
+use Rattle.std.proofs.Common.{◌≡◌, ℕ, zero, suc, ◌+◌, ◌-◌, ◌*◌, ◌<◌, ◌≤◌, Bool, true, false, List, length, take, drop, refl, ap, sym, ◌∙◌, subst, arith}
 use Rattle.std.specs.Prelude.{if◌then◌else◌}
 use Rattle.std.specs.Fn.{iterate}
 use Rattle.std.proofs.lemmas.List.{take-take, drop-drop, drop-take}
 use Rattle.std.proofs.Math.Nat.{mul-le-mul_right, suc-mul}
 use Rattle.ansi_screen.specs.declared.cell.Cell.{Cell}
 use Rattle.ansi_screen.specs.declared.place.Place.{Place}
-use Rattle.ansi_screen.specs.Display.{Display, row_cells}
+use Rattle.ansi_screen.specs.Display.{Display, IsSized, row_cells}
 use Rattle.ansi_screen.specs.Edits.{with_cells}
 use Rattle.ansi_screen.proofs.RowLemmas.{Same}
 use Rattle.screen_draw.specs.declared.changed.Changed.{Changed}
@@ -83,6 +83,14 @@ still-place p d = record {
 pub still-times : (step : Display → Display) → ((d : Display) → Still d (step d)) → (n : ℕ) (d : Display) → Still d (iterate step n d)
 still-times step still zero d = still-refl d
 still-times step still (suc n) d = still-trans d (step d) (iterate step n (step d)) (still d) (still-times step still n (step d))
+
+-- A row of the display is within the list of cells.
+pub row-fits : (row : ℕ) (d : Display) → IsSized d → row < d.height → row * d.width + d.width ≤ length d.cells
+row-fits row d s below =
+    let past : suc row * d.width ≤ d.height * d.width = mul-le-mul_right {m = suc row} {n = d.height} d.width below in
+    let next : suc row * d.width ≡ row * d.width + d.width = suc-mul row d.width in
+    let fill : length d.cells ≡ d.height * d.width = s.cells_fill in
+    omega arith
 
 -- rows, by what stays of the list of cells
 row-above : (width first start end row : ℕ) (xs ys : List Cell) → Same start end xs ys → first * width ≤ start → row < first

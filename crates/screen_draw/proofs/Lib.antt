@@ -24,5 +24,7 @@ pub mod MarginLemmas
 pub mod UpdatesLemmas
 pub mod ChangedLemmas
 pub mod NotingLemmas
+pub mod EditLemmas
+pub mod EscapeLemmas
 pub mod SkippedLemmas
 pub mod NotedLemmas

@@ -2,14 +2,14 @@
 use Rattle.std.proofs.Common.{◌≡◌, ℕ, zero, suc, ◌+◌, ◌-◌, ◌*◌, ◌<◌, ◌≤◌, Bool, true, false, ◌&&◌, ◌||◌, List, [], ◌∷◌, length, take, drop, set, refl, ap, sym, ◌∙◌, subst, arith}
 use Rattle.std.specs.Prelude.{min, nat_lt, ◌==◌, if◌then◌else◌}
 use Rattle.std.proofs.lemmas.Bool.{le-ltb}
-use Rattle.std.proofs.Math.Nat.{mul-le-mul_right, suc-mul, add-mul}
+use Rattle.std.proofs.Math.Nat.{suc-mul, add-mul}
 use borrow.Author.Tests.{ltb-true, ltb-false, eqb-true, eqb-false}
 use Rattle.anstyle_parse.specs.Stream.Call.{Call, print, execute, csi_dispatch}
 use Rattle.ansi_screen.specs.declared.cell.Cell.{Cell}
 use Rattle.ansi_screen.specs.declared.place.Place.{Place}
 use Rattle.ansi_screen.specs.Alone.{moves_alone}
 use Rattle.ansi_screen.specs.Cells.{is_right, cell_at, emptied, cut, within, change, marked_before, going_on}
-use Rattle.ansi_screen.specs.Display.{Display, IsSized, here, row_end}
+use Rattle.ansi_screen.specs.Display.{Display, IsSized, here, row_start, row_end}
 use Rattle.ansi_screen.specs.Moves.{to_row, to_column, settled, tabbed}
 use Rattle.ansi_screen.specs.Edits.{with_cells, row_going_on, inserted_characters, rows_up, scrolled_up, index}
 use Rattle.ansi_screen.specs.Modes.{shifted}
@@ -21,12 +21,12 @@ use Rattle.ansi_screen.proofs.KeptCalls.{columns-few}
 use Rattle.ansi_screen.proofs.CellLemmas.{cut-none}
 use Rattle.ansi_screen.proofs.PairLemmas.{length-cut, clear-cut_other}
 use Rattle.ansi_screen.proofs.RangeLemmas.{no_column-below, two_columns-below}
-use Rattle.ansi_screen.proofs.RowLemmas.{drawn-if, Same, same-refl, same-trans, same-set, same-within}
+use Rattle.ansi_screen.proofs.RowLemmas.{IsFree, drawn-if, same-if, Same, same-refl, same-trans, same-set, same-within, same-change, same-going_on, going_on-free, marked-between}
 use Rattle.ansi_screen.proofs.SizeLemmas.{sized-after}
 use Rattle.ansi_screen.proofs.WholeLemmas.{length-glyph, length-going_on}
 use Rattle.screen_draw.specs.declared.changed.Changed.{Changed}
 use Rattle.screen_draw.specs.Changed.{Keeps, with_rows, Widens, begins_with_right}
-use Rattle.screen_draw.proofs.ChangedLemmas.{Framed, Within, Still, framed-refl, framed-trans, framed-if, framed-cells, still-refl, still-trans, still-if, still-place, within-cells, same-wider, keeps-still, keeps-within, keeps-framed}
+use Rattle.screen_draw.proofs.ChangedLemmas.{Framed, Within, Still, framed-refl, framed-trans, framed-if, framed-cells, still-refl, still-trans, still-if, still-place, within-cells, row-fits, same-wider, keeps-still, keeps-within, keeps-framed}
 
 -- control sequences that change the cursor alone
 pub widens-moves : (groups : List (List ℕ)) (ignore : Bool) (final : ℕ) (screen : State) (changed : Changed) → moves_alone (function_of final) ≡ true
@@ -68,7 +68,7 @@ still-executed byte d feeds =
     (λ g. still-if (byte == 0x0F) d (shifted false d) d (λ is. still-place _ d) (λ none. still-refl d))))))
 
 -- printing keeps the frame
-framed-index : (d : Display) → Framed d (index d)
+pub framed-index : (d : Display) → Framed d (index d)
 unfolding index rows_up
 framed-index d = framed-if (d.cursor.row + 1 == d.bottom) d (scrolled_up 1 d) (to_row (d.cursor.row + 1) d) (framed-cells _ d) (still-place _ d).framed
 
@@ -212,11 +212,6 @@ same-glyph_last c d writes fits inside clear =
     rw (room, writes) (same-changed_last 1 (here d) (λ run. glyph 1 c d.cursor.style d.link) d.cells (omega arith) (omega arith) clear
     (λ run. length-glyph 1 c d.cursor.style d.link _ refl (omega arith) (omega arith)))
 
--- Where it has no room nothing is put.
-put-none : (n c : ℕ) (d : Display) → nat_lt d.width (d.cursor.column + n) ≡ true → put n c d ≡ d
-unfolding put
-put-none n c d is = rw is refl
-
 -- A mark changes one of the two cells before the cursor.
 same-marked_at : (c place : ℕ) (cells : List Cell) (t : Bool) → is_right (cell_at (place - 1) cells).part ≡ t
     → Same (place - 2) (place + 1) (marked_before c place cells) cells
@@ -242,11 +237,6 @@ wrapped-on n d is on above = rw (is, on, above) refl
 wrapped-off : (n : ℕ) (d : Display) → nat_lt d.width (d.cursor.column + n) ≡ true → d.wraps ≡ false → wrapped n d ≡ settled d
 unfolding wrapped
 wrapped-off n d is off = rw (is, off) refl
-
-same-if : (t : Bool) (lo hi : ℕ) (cells : List Cell) (a b : Display) → (t ≡ true → Same lo hi a.cells cells) → (t ≡ false → Same lo hi b.cells cells)
-    → Same lo hi (if t then a else b).cells cells
-same-if true lo hi cells a b first second = first refl
-same-if false lo hi cells a b first second = second refl
 
 same-shown : (lo hi c : ℕ) (d : Display) → Same lo hi (marked c d).cells d.cells
     → ((n : ℕ) → 1 ≤ n → n ≤ 2 → Same lo hi (put n c (wrapped n d)).cells d.cells) → Same lo hi (shown c d).cells d.cells
@@ -279,14 +269,6 @@ unfolding printed
 same-printed lo hi c d each =
     let character : ℕ = if draws d.cursor.charsets then drawn c else c in
     same-if (is_shown c) lo hi d.cells (shown character d) d (λ is. each character) (λ none. same-refl lo hi d.cells)
-
--- rows of cells
-row-fits : (row : ℕ) (d : Display) → IsSized d → row < d.height → row * d.width + d.width ≤ length d.cells
-row-fits row d s below =
-    let past : suc row * d.width ≤ d.height * d.width = mul-le-mul_right {m = suc row} {n = d.height} d.width below in
-    let next : suc row * d.width ≡ row * d.width + d.width = suc-mul row d.width in
-    let fill : length d.cells ≡ d.height * d.width = s.cells_fill in
-    omega arith
 
 row-before : (row width : ℕ) → 2 ≤ width → (row - 1) * width ≤ row * width - 2
 row-before zero width wide = omega arith
@@ -401,73 +383,98 @@ within-last c d s writes past fits small clear =
     within-cells d.cursor.row (d.cursor.row + 1) (here d - 1) (here d + 1) d (printed c d) (framed-printed c d)
     (same-printed_last c d writes (omega arith) inside small clear) (omega arith) (rw after (omega arith))
 
-same-joined : (lo hi end : ℕ) (cells : List Cell) → lo ≤ end - 1 → end - 1 < hi → Same lo hi (going_on true end cells) cells
-unfolding going_on
-same-joined lo hi end cells from to = same-set lo hi (end - 1) cells (record (cell_at (end - 1) cells) { goes_on = true }) from to
+-- A character that is put changes its row alone, where no right half stands at the row's ends.
+same-put : (n c : ℕ) (d : Display) (t : Bool) → nat_lt d.width (d.cursor.column + n) ≡ t → d.inserts ≡ false → 1 ≤ n → n ≤ 2
+    → row_end d ≤ length d.cells → IsFree (row_start d) d.cells → IsFree (row_end d) d.cells → Same (row_start d) (row_end d) (put n c d).cells d.cells
+unfolding put with_room with_glyph
+same-put n c d true is writes some few inside free free_end = rw is (same-refl (row_start d) (row_end d) d.cells)
+same-put n c d false is writes some few inside free free_end =
+    let fits : d.cursor.column + n ≤ d.width = ltb-false d.width (d.cursor.column + n) is in
+    rw (is, writes) (same-change (row_start d) (row_end d) (here d) (here d + n) (λ run. glyph n c d.cursor.style d.link) d.cells
+    (omega arith) (omega arith) (omega arith) inside free free_end
+    (length-glyph n c d.cursor.style d.link _ refl some few ∙ omega arith))
 
--- a character that a wrap may come before, where nothing scrolls
-module _ (d : Display) (s : IsSized d) (writes : d.inserts ≡ false) (above : (d.cursor.row + 1 == d.bottom) ≡ false) where
-  abbrev lo : ℕ
-  lo = (d.cursor.row - 1) * d.width
+-- So does a mark.
+same-marked_row : (c : ℕ) (d : Display) (t : Bool) → (d.cursor.column == 0) ≡ t → d.cursor.column ≤ d.width → IsFree (row_start d) d.cells
+    → Same (row_start d) (row_end d) (marked c d).cells d.cells
+unfolding marked
+same-marked_row c d true is most free = rw is (same-refl (row_start d) (row_end d) d.cells)
+same-marked_row c d false is most free =
+    let other : d.cursor.column ≡ 0 → ⊥ = eqb-false d.cursor.column 0 is in
+    rw is (marked-between (row_start d) (row_end d) c (here d) d.cells _ refl (omega arith) (omega arith) free)
 
-  abbrev hi : ℕ
-  hi = (d.cursor.row + 3) * d.width
+-- A character that a wrap may come before changes its row and the next, where nothing scrolls, and no right half stands
+-- at their ends.
+module _ (d : Display) (s : IsSized d) (writes : d.inserts ≡ false) (above : (d.cursor.row + 1 == d.bottom) ≡ false)
+    (free : IsFree (row_start d) d.cells) (free_next : IsFree (row_end d) d.cells) (free_second : IsFree (row_end d + d.width) d.cells) where
+  abbrev last : ℕ
+  last = row_end d + d.width
 
-  high : hi ≡ d.cursor.row * d.width + 3 * d.width
-  high = add-mul d.cursor.row 3 d.width
-
-  -- a display with other cells and the cursor in this row or the next
-  put-around : (n c : ℕ) (p : Place) (cells : List Cell) → d.cursor.row ≤ p.row → p.row ≤ d.cursor.row + 1 → p.row < d.height
-      → length cells ≡ length d.cells → 1 ≤ n → n ≤ 2 → (t : Bool) → nat_lt d.width (p.column + n) ≡ t
-      → Same lo hi (put n c (record d { cells = cells; cursor = p })).cells cells
-  put-around n c p cells from to below long some few true is =
+  -- with the cursor in a row
+  put-there : (n c row : ℕ) (p : Place) (cells : List Cell) → p.row ≡ row → row < d.height → length cells ≡ length d.cells → 1 ≤ n → n ≤ 2
+      → IsFree (row * d.width) cells → IsFree (row * d.width + d.width) cells
+      → Same (row * d.width) (row * d.width + d.width) (put n c (record d { cells = cells; cursor = p })).cells cells
+  put-there n c row p cells at below long some few free_here free_end =
       let e : Display = record d { cells = cells; cursor = p } in
-      let none : put n c e ≡ e = put-none n c e is in
-      subst (λ (x : Display). Same lo hi x.cells cells) (sym none) (same-refl lo hi cells)
-  put-around n c p cells from to below long some few false is =
-      let e : Display = record d { cells = cells; cursor = p } in
-      let fits : p.column + n ≤ d.width = ltb-false d.width (p.column + n) is in
-      let wide : 2 ≤ d.width = s.two_columns in
-      let inside : p.row * d.width + d.width ≤ length d.cells = row-fits p.row d s below in
-      let first : d.cursor.row * d.width ≤ p.row * d.width = mul-le-mul_right {m = d.cursor.row} {n = p.row} d.width from in
-      let last : p.row * d.width ≤ (d.cursor.row + 1) * d.width = mul-le-mul_right {m = p.row} {n = d.cursor.row + 1} d.width to in
-      let next : (d.cursor.row + 1) * d.width ≡ d.cursor.row * d.width + 1 * d.width = add-mul d.cursor.row 1 d.width in
-      let before : lo ≤ d.cursor.row * d.width - 2 = row-before d.cursor.row d.width wide in
-      same-wider (here e - 1) (here e + n + 1) lo hi (put n c e).cells cells
-      (same-glyph n c e writes fits some few (omega (arith, long))) (omega arith) (omega (arith, high))
+      let inside : row * d.width + d.width ≤ length d.cells = row-fits row d s below in
+      subst (λ k. Same (k * d.width) (k * d.width + d.width) (put n c e).cells cells) at
+      (same-put n c e _ refl writes some few (subst (λ k. k * d.width + d.width ≤ length cells) (sym at) (omega (arith, long)))
+      (subst (λ k. IsFree (k * d.width) cells) (sym at) free_here) (subst (λ k. IsFree (k * d.width + d.width) cells) (sym at) free_end))
+
+  put-here : (n c : ℕ) (p : Place) (cells : List Cell) → p.row ≡ d.cursor.row → length cells ≡ length d.cells → 1 ≤ n → n ≤ 2
+      → IsFree (row_start d) cells → IsFree (row_end d) cells
+      → Same (row_start d) last (put n c (record d { cells = cells; cursor = p })).cells cells
+  put-here n c p cells at long some few free_here free_end =
+      same-wider (row_start d) (row_end d) (row_start d) last _ cells
+      (put-there n c d.cursor.row p cells at s.cursor_row long some few free_here free_end) (omega arith) (omega arith)
+
+  -- in the row to which a wrap goes: the next one, or this one, where it is the last
+  put-next : (n c : ℕ) (t : Bool) → nat_lt (d.cursor.row + 1) d.height ≡ t → 1 ≤ n → n ≤ 2
+      → Same (row_start d) last (put n c (to_row (d.cursor.row + 1) (to_column 0 (row_going_on true d)))).cells (going_on true (row_end d) d.cells)
+  put-next n c true is some few =
+      let joined : List Cell = going_on true (row_end d) d.cells in
+      let below : d.cursor.row + 1 < d.height = ltb-true (d.cursor.row + 1) d.height is in
+      let there : Place = record d.cursor { row = min (d.cursor.row + 1) (d.height - 1); column = min 0 (d.width - 1) } in
+      let next : row_end d ≡ (d.cursor.row + 1) * d.width = omega (arith, add-mul d.cursor.row 1 d.width) in
+      same-wider ((d.cursor.row + 1) * d.width) ((d.cursor.row + 1) * d.width + d.width) (row_start d) last _ joined
+      (put-there n c (d.cursor.row + 1) there joined (omega arith) below (length-going_on true (row_end d) d.cells) some few
+      (subst (λ k. IsFree k joined) next (going_on-free true (row_end d) (row_end d) d.cells free_next))
+      (subst (λ k. IsFree (k + d.width) joined) next (going_on-free true (row_end d) last d.cells free_second))) (omega arith) (omega arith)
+  put-next n c false is some few =
+      let joined : List Cell = going_on true (row_end d) d.cells in
+      let lowest : d.height ≤ d.cursor.row + 1 = ltb-false (d.cursor.row + 1) d.height is in
+      let inside : d.cursor.row < d.height = s.cursor_row in
+      let there : Place = record d.cursor { row = min (d.cursor.row + 1) (d.height - 1); column = min 0 (d.width - 1) } in
+      put-here n c there joined (omega arith) (length-going_on true (row_end d) d.cells) some few
+      (going_on-free true (row_end d) (row_start d) d.cells free) (going_on-free true (row_end d) (row_end d) d.cells free_next)
 
   put-wrapped : (n c : ℕ) → 1 ≤ n → n ≤ 2 → (t u : Bool) → nat_lt d.width (d.cursor.column + n) ≡ t → d.wraps ≡ u
-      → Same lo hi (put n c (wrapped n d)).cells d.cells
+      → Same (row_start d) last (put n c (wrapped n d)).cells d.cells
   put-wrapped n c some few false u is wraps =
       let stays : wrapped n d ≡ d = wrapped-none n d is in
-      subst (λ (e : Display). Same lo hi (put n c e).cells d.cells) (sym stays)
-      (put-around n c d.cursor d.cells (omega arith) (omega arith) s.cursor_row refl some few _ refl)
+      subst (λ (e : Display). Same (row_start d) last (put n c e).cells d.cells) (sym stays)
+      (put-here n c d.cursor d.cells refl refl some few free free_next)
   put-wrapped n c some few true true is wraps =
       let joined : List Cell = going_on true (row_end d) d.cells in
-      let long : length joined ≡ length d.cells = length-going_on true (row_end d) d.cells in
-      let there : Place = record d.cursor { row = min (d.cursor.row + 1) (d.height - 1); column = min 0 (d.width - 1) } in
-      let below : d.cursor.row < d.height = s.cursor_row in
       let wide : 2 ≤ d.width = s.two_columns in
-      let before : lo ≤ d.cursor.row * d.width - 2 = row-before d.cursor.row d.width wide in
       let goes : wrapped n d ≡ to_row (d.cursor.row + 1) (to_column 0 (row_going_on true d)) = wrapped-on n d is wraps above in
-      subst (λ (e : Display). Same lo hi (put n c e).cells d.cells) (sym goes)
-      (same-trans lo hi (put n c (record d { cells = joined; cursor = there })).cells joined d.cells
-      (put-around n c there joined (omega arith) (omega arith) (omega arith) long some few _ refl)
-      (same-joined lo hi (row_end d) d.cells (omega arith) (omega (arith, high))))
+      subst (λ (e : Display). Same (row_start d) last (put n c e).cells d.cells) (sym goes)
+      (same-trans (row_start d) last _ joined d.cells (put-next n c _ refl some few)
+      (same-wider (row_start d) (row_end d) (row_start d) last joined d.cells
+      (same-going_on true (row_start d) (row_end d) d.cells (omega arith)) (omega arith) (omega arith)))
   put-wrapped n c some few true false is wraps =
       let there : Place = record d.cursor { column = min d.cursor.column (d.width - 1) } in
       let stays : wrapped n d ≡ settled d = wrapped-off n d is wraps in
-      subst (λ (e : Display). Same lo hi (put n c e).cells d.cells) (sym stays)
-      (put-around n c there d.cells (omega arith) (omega arith) s.cursor_row refl some few _ refl)
+      subst (λ (e : Display). Same (row_start d) last (put n c e).cells d.cells) (sym stays)
+      (put-here n c there d.cells refl refl some few free free_next)
 
-  within-wrapped : (c : ℕ) → Within (d.cursor.row - 1) (d.cursor.row + 3) d (printed c d)
+  within-wrapped : (c : ℕ) → Within d.cursor.row (d.cursor.row + 2) d (printed c d)
   within-wrapped c =
-      let wide : 2 ≤ d.width = s.two_columns in
-      let most : d.cursor.column ≤ d.width = s.cursor_column in
-      let before : lo ≤ d.cursor.row * d.width - 2 = row-before d.cursor.row d.width wide in
-      within-cells (d.cursor.row - 1) (d.cursor.row + 3) lo hi d (printed c d) (framed-printed c d)
-      (same-printed lo hi c d (λ character. same-shown lo hi character d
-      (same-wider (here d - 2) (here d + 1) lo hi (marked character d).cells d.cells (same-marked character d _ refl) (omega arith) (omega (arith, high)))
+      let past : (d.cursor.row + 2) * d.width ≡ d.cursor.row * d.width + 2 * d.width = add-mul d.cursor.row 2 d.width in
+      within-cells d.cursor.row (d.cursor.row + 2) (row_start d) last d (printed c d) (framed-printed c d)
+      (same-printed (row_start d) last c d (λ character. same-shown (row_start d) last character d
+      (same-wider (row_start d) (row_end d) (row_start d) last (marked character d).cells d.cells
+      (same-marked_row character d _ refl s.cursor_column free) (omega arith) (omega arith))
       (λ n some few. put-wrapped n character some few _ _ refl refl)))
       (omega arith) (omega arith)
 
@@ -489,11 +496,12 @@ widens-last c screen changed s writes past fits small clear = λ shown keeps.
     keeps-within d.cursor.row (d.cursor.row + 1) changed shown d (printed c d) (within-last c d s writes past fits small clear) keeps
 
 pub widens-wrap : (c : ℕ) (screen : State) (changed : Changed) → IsSized screen.display → screen.display.inserts ≡ false
-    → (screen.display.cursor.row + 1 == screen.display.bottom) ≡ false
-    → Widens (print c) screen changed (with_rows (screen.display.cursor.row - 1) (screen.display.cursor.row + 3) changed)
-widens-wrap c screen changed s writes above = λ shown keeps.
+    → (screen.display.cursor.row + 1 == screen.display.bottom) ≡ false → IsFree (row_start screen.display) screen.display.cells
+    → IsFree (row_end screen.display) screen.display.cells → IsFree (row_end screen.display + screen.display.width) screen.display.cells
+    → Widens (print c) screen changed (with_rows screen.display.cursor.row (screen.display.cursor.row + 2) changed)
+widens-wrap c screen changed s writes above free free_next free_second = λ shown keeps.
     let d : Display = screen.display in
-    keeps-within (d.cursor.row - 1) (d.cursor.row + 3) changed shown d (printed c d) (within-wrapped d s writes above c) keeps
+    keeps-within d.cursor.row (d.cursor.row + 2) changed shown d (printed c d) (within-wrapped d s writes above free free_next free_second c) keeps
 
 pub widens-any : (c : ℕ) (screen : State) (changed : Changed) → Widens (print c) screen changed (with_rows 0 screen.display.height changed)
 widens-any c screen changed = λ shown keeps.

@@ -10,10 +10,10 @@ use crate::changed::Changed;
 use ansi_screen::{Cell, Charsets, Marks, Part, Place, Screen};
 
 /// Whether the marks are the same.
-fn are_same_marks(a: Marks, b: Marks) -> bool
-    ensures { result ≡ are_same_marks a b }
+fn are_same_marks(a: &Marks, b: &Marks) -> bool
+    ensures { result ≡ are_same_marks a.now b.now }
 {
-    match (a, b) {
+    match (*a, *b) {
         (Marks::Unmarked, Marks::Unmarked) => true,
         (Marks::One(first), Marks::One(other)) => first == other,
         (Marks::Two(first, second), Marks::Two(other, last)) => first == other && second == last,
@@ -22,27 +22,23 @@ fn are_same_marks(a: Marks, b: Marks) -> bool
 }
 
 /// Whether the parts are the same.
+#[inline(always)]
 fn are_same_parts(a: Part, b: Part) -> bool
     ensures { result ≡ are_same_parts a b }
 {
-    match (a, b) {
-        (Part::Empty, Part::Empty)
-        | (Part::Whole, Part::Whole)
-        | (Part::Left, Part::Left)
-        | (Part::Right, Part::Right) => true,
-        _ => false,
-    }
+    a == b
 }
 
 /// Whether the cells have the same character, marks, style and part.
 #[tactic(auto, unfolding(crate::specs::Alike::are_alike))]
-pub(crate) fn are_alike(a: Cell, b: Cell) -> bool
-    ensures { result ≡ are_alike a b }
+#[inline(always)]
+pub(crate) fn are_alike(a: &Cell, b: &Cell) -> bool
+    ensures { result ≡ are_alike a.now b.now }
 {
     a.character == b.character
         && are_same_parts(a.part, b.part)
-        && are_same_marks(a.marks, b.marks)
-        && is_same(a.style, b.style)
+        && are_same_marks(&a.marks, &b.marks)
+        && is_same(&a.style, &b.style)
 }
 
 /// Whether all cells are alike, each to the one of its place.
@@ -53,7 +49,7 @@ pub(crate) fn are_all_alike(a: &[Cell], b: &[Cell]) -> bool
         return false;
     }
     for place in 0..a.len() {
-        if !are_alike(a[place], b[place]) {
+        if !are_alike(&a[place], &b[place]) {
             return false;
         }
     }
@@ -67,7 +63,7 @@ pub(crate) fn alike_front(a: &[Cell], b: &[Cell]) -> usize
     ensures within { result ≤ length a.now }
 {
     for place in 0..a.len() {
-        if !are_alike(a[place], b[place]) {
+        if !are_alike(&a[place], &b[place]) {
             return place;
         }
     }
@@ -103,7 +99,7 @@ fn are_same_places(a: Place, b: Place) -> bool
 {
     a.row == b.row
         && a.column == b.column
-        && is_same(a.style, b.style)
+        && is_same(&a.style, &b.style)
         && a.is_relative == b.is_relative
         && are_same_sets(a.charsets, b.charsets)
 }

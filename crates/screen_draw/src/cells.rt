@@ -1,5 +1,6 @@
 //! The cells of a screen.
-ghost use Rattle.std.specs.Prelude.{◌≡◌, ◌<◌, ◌≤◌, ◌*◌, ◌/◌, ◌∷◌, ◌++◌, [], length};
+ghost use Rattle.std.specs.Prelude.{◌≡◌, ◌<◌, ◌≤◌, ◌*◌, ◌/◌, ◌∷◌, ◌++◌, [], length, ◌&&◌};
+ghost use Rattle.std.specs.Bool.{beq};
 ghost use Rattle.anstyle_parse.specs.Stream.Call.{print};
 ghost use Rattle.ansi_style.specs.Style.{are_equal};
 ghost use Rattle.ansi_screen.specs.Display.{most_columns, most_rows};
@@ -52,12 +53,34 @@ impl Pen {
     }
 }
 
-/// Whether the styles are the same.
-#[tactic(auto, unfolding(ansi_style::specs::Style::are_equal))]
-pub(crate) fn is_same(a: Style, b: Style) -> bool
-    ensures { result ≡ are_equal a b }
+/// Whether the attributes are the same. They stand side by side, and are compared at once.
+#[inline(always)]
+fn has_same_flags(a: &Style, b: &Style) -> bool
+    ensures { result ≡ (beq a.now.bold b.now.bold && (beq a.now.dim b.now.dim
+        && (beq a.now.italic b.now.italic && (beq a.now.blink b.now.blink
+        && (beq a.now.reverse b.now.reverse && (beq a.now.hidden b.now.hidden
+        && (beq a.now.struck_out b.now.struck_out && beq a.now.overlined b.now.overlined))))))) }
 {
-    a == b
+    (a.bold == b.bold)
+        & (a.dim == b.dim)
+        & (a.italic == b.italic)
+        & (a.blink == b.blink)
+        & (a.reverse == b.reverse)
+        & (a.hidden == b.hidden)
+        & (a.struck_out == b.struck_out)
+        & (a.overlined == b.overlined)
+}
+
+/// Whether the styles are the same.
+#[inline(always)]
+#[tactic(auto, unfolding(ansi_style::specs::Style::are_equal))]
+pub(crate) fn is_same(a: &Style, b: &Style) -> bool
+    ensures { result ≡ are_equal a.now b.now }
+{
+    a.foreground == b.foreground
+        && a.background == b.background
+        && a.underline == b.underline
+        && has_same_flags(a, b)
 }
 
 /// Whether the cell is as erasing leaves it.
@@ -67,7 +90,7 @@ pub(crate) fn is_erased(cell: Cell) -> bool
 {
     matches!(cell.part, Part::Empty)
         && matches!(cell.marks, Marks::Unmarked)
-        && is_same(cell.style, Cell::blank(cell.style).style)
+        && is_same(&cell.style, &Cell::blank(cell.style).style)
 }
 
 /// Whether the cell is as on a new screen.
@@ -75,7 +98,7 @@ pub(crate) fn is_erased(cell: Cell) -> bool
 fn is_fresh(cell: Cell) -> bool
     ensures { result ≡ is_fresh cell }
 {
-    is_erased(cell) && is_same(cell.style, Style::default())
+    is_erased(cell) && is_same(&cell.style, &Style::default())
 }
 
 /// The character; a space for one that shows nothing.
@@ -119,7 +142,7 @@ pub(crate) fn put_marked<W: Sink>(output: &mut Output<W>, cell: Cell)
 pub(crate) fn put_style_change<W: Sink>(output: &mut Output<W>, selected: Style, wanted: Style)
     ensures { Draws W.Sink (style_calls selected wanted) output.old output.new }
 {
-    if !is_same(selected, wanted) {
+    if !is_same(&selected, &wanted) {
         put_style(output, wanted);
     }
 }

@@ -47,7 +47,7 @@ fn erased_run(style: Style, cells: &[Cell]) -> usize
     ensures within { result ≤ length cells.now }
 {
     for (count, cell) in cells.iter().enumerate() {
-        if !is_erased(*cell) || !is_same(cell.style, style) {
+        if !is_erased(*cell) || !is_same(&cell.style, &style) {
             return count;
         }
     }
@@ -87,15 +87,15 @@ impl Brush {
 
     /// Whether nothing is to be drawn for a cell.
     #[tactic(auto, unfolding(crate::specs::Update::is_done))]
-    fn is_done(self, old: Cell, new: Cell) -> bool
-        ensures { result ≡ is_done self old new }
+    fn is_done(self, old: &Cell, new: &Cell) -> bool
+        ensures { result ≡ is_done self old.now new.now }
     {
         self.erased > 0 || new.is_right() || are_alike(old, new)
     }
 
     /// Whether a cell, which is like the old one, leaves the brush as it is.
-    fn stays(self, old: Cell, new: Cell) -> bool
-        ensures { result ≡ (self.erased == 0 && are_alike old new) }
+    fn stays(self, old: &Cell, new: &Cell) -> bool
+        ensures { result ≡ (self.erased == 0 && are_alike old.now new.now) }
     {
         self.erased == 0 && are_alike(old, new)
     }
@@ -106,7 +106,7 @@ impl Brush {
         requires { column < most_columns }
         ensures { result ≡ brush_behind row column self old new cells.now }
     {
-        if self.is_done(old, new) {
+        if self.is_done(&old, &new) {
             return Brush {
                 erased: self.erased.saturating_sub(1),
                 ..self
@@ -145,7 +145,7 @@ fn put_change<W: Sink>(
     requires cells { length cells.now < most_columns }
     ensures { Draws W.Sink (change_calls row column brush old new cells.now) output.old output.new }
 {
-    if !brush.is_done(old, new) {
+    if !brush.is_done(&old, &new) {
         put_move(output, brush.place, row, column);
         put_style_change(output, brush.place.style, new.style);
         put_painted(output, new, cells);
@@ -153,11 +153,11 @@ fn put_change<W: Sink>(
 }
 
 /// The cell of a column.
-fn cell_in(cells: &[Cell], column: usize) -> Cell
+fn cell_in(cells: &[Cell], column: usize) -> &Cell
     requires { column < length cells.now }
-    ensures { result ≡ cell_at column cells.now }
+    ensures { result.now ≡ cell_at column cells.now }
 {
-    cells[column]
+    &cells[column]
 }
 
 /// Draws the cell of a column, where it differs. The answer is the brush behind it.
@@ -178,8 +178,8 @@ fn put_step<W: Sink>(
     ensures brush { result ≡ brush_behind row column brush (cell_at column olds.now) (cell_at column news.now)
         (drop (column + 1) news.now) }
 {
-    let old = cell_in(olds, column);
-    let new = cell_in(news, column);
+    let old = *cell_in(olds, column);
+    let new = *cell_in(news, column);
     let cells = &news[column + 1..];
     put_change(output, row, column, brush, old, new, cells);
     brush.behind(row, column, old, new, cells)

@@ -1,12 +1,12 @@
 //! A screen that notes what can have changed of it.
 ghost use Rattle.std.specs.Prelude.{◌≡◌, true, false, ◌<◌, ◌+◌, ◌-◌, ℕ, Bool, List, ◌&&◌, ◌||◌, ◌==◌, nat_lt, length, if◌then◌else◌};
 ghost use Rattle.ansi_screen.specs.After.{function_of};
-ghost use Rattle.ansi_screen.specs.Alone.{moves_alone};
+ghost use Rattle.ansi_screen.specs.Alone.{moves_alone, edits_row, edits_cells};
 ghost use Rattle.anstyle_parse.specs.Stream.Call.{print, execute, csi_dispatch, esc_dispatch};
 ghost use Rattle.screen_draw.specs.Changed.{Widens};
 
 use crate::changed::Changed;
-use ansi_screen::{Screen, moves_alone};
+use ansi_screen::{Screen, edits_cells, edits_row, moves_alone};
 use anstyle_parse::{Params, Perform};
 
 /// A screen, and what of it can have changed since it was shown.
@@ -21,6 +21,12 @@ const LINE_FEED: u8 = 0x0A;
 const VERTICAL_TAB: u8 = 0x0B;
 
 const FORM_FEED: u8 = 0x0C;
+
+const INDEX: u8 = b'D';
+
+const NEXT_LINE: u8 = b'E';
+
+const REVERSE_INDEX: u8 = b'M';
 
 /// Below the first mark each character has one column.
 const FIRST_MARK: char = '\u{300}';
@@ -39,9 +45,30 @@ fn is_move(intermediates: &[u8], final_byte: u8) -> bool
     intermediates.is_empty() && moves_alone(final_byte)
 }
 
+/// Whether a control sequence changes cells of the cursor's row and the cursor, and nothing else.
+fn is_row_edit(intermediates: &[u8], final_byte: u8) -> bool
+    ensures { result ≡ (length intermediates.now == 0 && edits_row (function_of final_byte)) }
+{
+    intermediates.is_empty() && edits_row(final_byte)
+}
+
+/// Whether a control sequence changes cells and the cursor, and nothing else.
+fn is_edit(intermediates: &[u8], final_byte: u8) -> bool
+    ensures { result ≡ (length intermediates.now == 0 && edits_cells (function_of final_byte)) }
+{
+    intermediates.is_empty() && edits_cells(final_byte)
+}
+
+/// Whether an escape sequence without intermediates goes to another row, and scrolls at a margin: IND, NEL or RI.
+fn is_row_move(final_byte: u8) -> bool
+    ensures { result ≡ (final_byte == 0x44 || final_byte == 0x45 || final_byte == 0x4D) }
+{
+    final_byte == INDEX || final_byte == NEXT_LINE || final_byte == REVERSE_INDEX
+}
+
 impl Noting {
     ghost use Rattle.ansi_screen.specs.Cells.{is_right, cell_at};
-    ghost use Rattle.ansi_screen.specs.Display.{Display, IsSized, here, row_cells};
+    ghost use Rattle.ansi_screen.specs.Display.{Display, IsSized, here, row_start, row_end, row_cells};
     ghost use Rattle.screen_draw.specs.Changed.{Keeps, KeepsFrame, with_rows, begins_with_right};
     ghost use Rattle.screen_draw.specs.Noting.{screen_of, changed_of, display_of, HasNoted};
 
@@ -126,8 +153,26 @@ impl Noting {
         c < FIRST_MARK && 0 < column && column < columns && !self.is_right_at(start + column + 1)
     }
 
+    /// Whether neither the cursor's row nor the two below it begin with the right half of a wide character: so that what
+    /// changes a row of them leaves those beside it. So it is on every screen that a stream leads to.
+    fn is_apart(&self) -> bool
+        ensures row { result ≡ true
+            → is_right (cell_at (row_start self.now.screen.display) self.now.screen.display.cells).part ≡ false }
+        ensures next { result ≡ true
+            → is_right (cell_at (row_end self.now.screen.display) self.now.screen.display.cells).part ≡ false }
+        ensures second { result ≡ true → is_right (cell_at (row_end self.now.screen.display + self.now.screen.display.width)
+            self.now.screen.display.cells).part ≡ false }
+        ensures sized { IsSized self.now.screen.display }
+    {
+        let columns = self.screen.columns();
+        let next = self.screen.row_end();
+        !self.is_right_at(next - columns)
+            && !self.is_right_at(next)
+            && !self.is_right_at(next + columns)
+    }
+
     /// What can have changed behind a character too. Where it has room in the row, no wrap comes, and it is this row, or
-    /// the one above too. A wrap goes to the next row, and at the lower margin all rows scroll.
+    /// the one above too. A wrap goes from this row to the next, and at the lower margin all rows scroll.
     fn by_print(&self, c: char) -> Changed
         ensures { Widens (print c) self.now.screen self.now.changed result }
     {
@@ -139,11 +184,10 @@ impl Noting {
             self.changed.with_rows(self.first_row(), place.row + 1)
         } else if self.has_room(c) {
             self.changed.with_rows(place.row, place.row + 1)
-        } else if self.is_at_bottom() {
-            self.all_rows()
+        } else if !self.is_at_bottom() && self.is_apart() {
+            self.changed.with_rows(place.row, place.row + 2)
         } else {
-            self.changed
-                .with_rows(place.row.saturating_sub(1), place.row + 3)
+            self.all_rows()
         }
     }
 
@@ -193,24 +237,37 @@ impl Noting {
         }
     }
 
-    /// What can have changed behind a control sequence too: nothing, if it moves the cursor or selects a style.
+    /// What can have changed behind a control sequence too: nothing, if it moves the cursor or selects a style; the
+    /// cursor's row, if it edits that; all rows, if it edits others too or scrolls; and the frame too behind all others.
     fn by_sequence(&self, intermediates: &[u8], final_byte: u8) -> Changed
         ensures { (groups : List (List ℕ)) (ignore : Bool)
             → Widens (csi_dispatch groups intermediates.now ignore final_byte) self.now.screen self.now.changed result }
     {
         if is_move(intermediates, final_byte) {
             self.changed
+        } else if is_row_edit(intermediates, final_byte) && self.is_apart() {
+            let row = self.screen.cursor().row;
+            self.changed.with_rows(row, row + 1)
+        } else if is_edit(intermediates, final_byte) {
+            self.all_rows()
         } else {
             self.all()
         }
     }
 
-    /// What can have changed behind an escape sequence too.
-    fn by_escape(&self) -> Changed
-        ensures { (intermediates : List ℕ) (ignore : Bool) (final : ℕ)
-            → Widens (esc_dispatch intermediates ignore final) self.now.screen self.now.changed result }
+    /// What can have changed behind an escape sequence too: nothing, if it designates a character set; all rows, if it goes
+    /// to another; and the frame too behind all others.
+    fn by_escape(&self, intermediates: &[u8], final_byte: u8) -> Changed
+        ensures { (ignore : Bool)
+            → Widens (esc_dispatch intermediates.now ignore final_byte) self.now.screen self.now.changed result }
     {
-        self.all()
+        if !intermediates.is_empty() {
+            self.changed
+        } else if is_row_move(final_byte) {
+            self.all_rows()
+        } else {
+            self.all()
+        }
     }
 }
 
@@ -253,7 +310,7 @@ impl Perform for Noting {
     }
 
     fn esc_dispatch(&mut self, intermediates: &[u8], ignore: bool, byte: u8) {
-        self.changed = self.by_escape();
+        self.changed = self.by_escape(intermediates, byte);
         self.screen.esc_dispatch(intermediates, ignore, byte);
     }
 }

@@ -56,6 +56,7 @@ use anstyle_parse::laws::calls_are_lawful;
 use anstyle_parse::laws::cancelled;
 use anstyle_parse::laws::canonical_again;
 use anstyle_parse::laws::canonical_text;
+use anstyle_parse::laws::cloned_variants;
 use anstyle_parse::laws::clones;
 use anstyle_parse::laws::counted;
 use anstyle_parse::laws::default_variants;
@@ -193,6 +194,7 @@ fn names_of_the_laws(rt: HostRuntime) {
     equal_accumulators();
     clones();
     equal_variants();
+    cloned_variants();
     default_variants();
     assert_eq!(rt; state_as_number(State::Anywhere), 0);
     assert_eq!(rt; action_as_number(Action::Nop), 0);
@@ -206,10 +208,12 @@ fn names_of_the_laws(rt: HostRuntime) {
     ansi_style::laws::joined();
     ansi_style::laws::forms();
     ansi_style::laws::equality();
+    ansi_style::laws::clones();
     assert_eq!(rt; ansi_style::laws::hue_as_number(Hue::Black), 0);
     strip_pieces::laws::states();
     strip_pieces::laws::texts_joined();
     strip_pieces::laws::equality();
+    strip_pieces::laws::clones();
 }
 
 #[test]
@@ -243,6 +247,9 @@ fn names_of_html_in_pieces(rt: HostRuntime) {
     assert_well(&rt, writer.suspend().finish());
     html_pieces::laws::states();
     html_pieces::laws::html_joined();
+    html_pieces::laws::clones();
+    ansi_html::laws::equality();
+    ansi_html::laws::clones();
 }
 
 #[test]
@@ -279,6 +286,7 @@ fn names_of_events(rt: HostRuntime) {
     assert_eq!(rt; others.len(), 4);
     event_pieces::laws::events_joined();
     event_pieces::laws::equality();
+    event_pieces::laws::clones();
 }
 
 #[test]

@@ -6,7 +6,7 @@ ghost use Rattle.screen_draw.specs.Noting.{screen_of};
 ghost use Rattle.screen_draw.specs.Update.{update_calls};
 ghost use Rattle.std.specs.Prelude.{◌≡◌};
 
-use ansi_screen::{Place, Screen, is_shown, moves_alone};
+use ansi_screen::{Place, Screen, edits_cells, edits_row, is_shown, moves_alone};
 use anstyle_parse::io::{FromRead, FromWrite, Output, Sink};
 use anstyle_parse::{Parser, Utf8Parser};
 use screen_draw::laws::{followed, forgets, noted, redrawn, selected, unchanged, updated};
@@ -59,8 +59,10 @@ fn cells(rt: HostRuntime) -> Result<(), Fail> {
 }
 
 #[test]
-fn what_moves_alone_and_what_is_shown(rt: HostRuntime) {
+fn what_moves_alone_what_edits_and_what_is_shown(rt: HostRuntime) {
     assert!(rt; moves_alone(b'm') && moves_alone(b'H') && !moves_alone(b'K'));
+    assert!(rt; edits_row(b'K') && edits_row(b'X') && !edits_row(b'J'));
+    assert!(rt; edits_cells(b'J') && edits_cells(b'S') && !edits_cells(b'r'));
     assert!(rt; is_shown('\u{ad}') && !is_shown('\u{85}'));
 }
 

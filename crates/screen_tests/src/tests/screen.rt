@@ -1,7 +1,8 @@
 //! What the text of a screen does not say: styles, halves, the cursor. Rows of text stand in
 //! tests/screen_twin.
 use ansi_screen::laws::{
-    contents, determined, enclosed, plain_text, reachable, reset, rewritten, rows_leave, show,
+    clones, contents, determined, enclosed, equality, plain_text, reachable, reset, rewritten,
+    rows_leave, show,
 };
 use ansi_screen::{
     Cell, Charsets, MAX_COLUMNS, MAX_ROWS, MIN_COLUMNS, MIN_ROWS, Marks, Part, Place, Screen,
@@ -138,6 +139,8 @@ fn a_screen_shows_a_stream(rt: HostRuntime) -> Result<(), Fail> {
     rewritten();
     rows_leave();
     reset();
+    equality();
+    clones();
     assert_eq!(rt; screen.rows(), 1);
     assert_eq!(rt; screen.columns(), 2);
     let mut style = Style::default();

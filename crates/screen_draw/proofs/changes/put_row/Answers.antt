@@ -26,7 +26,7 @@ loop-column-preserved g c =
     let old = cell_at column olds in
     let new = cell_at column news in
     let stays : c.stays.result ≡ ((brush.erased == 0) && are_alike old new) =
-    c.stays.ensures ∙ (ap (λ x. (brush.erased == 0) && are_alike x c.cell_in-in-loop-column.result) c.cell_in.ensures
+    c.stays.ensures ∙ (ap (λ x. (brush.erased == 0) && are_alike x c.cell_in-in-loop-column.result.now) c.cell_in.ensures
     ∙ ap (λ y. (brush.erased == 0) && are_alike old y) c.cell_in-in-loop-column.ensures) in
     elim c.if-not-stays.branch [
       | then-not-stays w ↦

@@ -1,5 +1,5 @@
 -- The rows that it can reach.
-use Rattle.std.proofs.Common.{◌+◌, ◌-◌, refl, ap, sym, subst, ◌∙◌, arith}
+use Rattle.std.proofs.Common.{◌+◌, refl, ap, sym, subst, ◌∙◌, arith}
 use Rattle.std.specs.Prelude.{nat_lt, ◌&&◌}
 use Rattle.anstyle_parse.specs.Stream.Call.{print}
 use Rattle.ansi_screen.specs.declared.place.Place.{Place}
@@ -35,17 +35,19 @@ returns-then-has_room c =
     (widens-last c.args.c screen changed c.columns-columns.ensures.sized (sym c.inserts.ensures ∙ c.if-inserts.false)
     (c.has_room.ensures.past room) (c.has_room.ensures.inside room) (c.has_room.ensures.narrow room) (c.has_room.ensures.clear room))
 
-pub returns-then-is_at_bottom : goal.returns-then-is_at_bottom
-returns-then-is_at_bottom c =
+pub returns-else-not-is_at_bottom : goal.returns-else-not-is_at_bottom
+returns-else-not-is_at_bottom c =
     let screen = c.args.self.now.screen in
     let changed = c.args.self.now.changed in
-    subst (Widens (print c.args.c) screen changed) (sym c.all_rows-then-is_at_bottom.ensures) (widens-any c.args.c screen changed)
+    subst (Widens (print c.args.c) screen changed) (sym c.all_rows-else-not-is_at_bottom.ensures) (widens-any c.args.c screen changed)
 
-pub returns-else-is_at_bottom : goal.returns-else-is_at_bottom
-returns-else-is_at_bottom c =
+pub returns-then-is_apart : goal.returns-then-is_apart
+returns-then-is_apart c =
     let screen = c.args.self.now.screen in
     let changed = c.args.self.now.changed in
-    subst (Widens (print c.args.c) screen changed) (sym (c.with_rows-else-is_at_bottom.ensures ∙ ap (λ n. with_rows n (c.cursor-place.result.row + 3) changed) c.saturating_sub.ensures))
-    (subst (λ (p : Place). Widens (print c.args.c) screen changed (with_rows (p.row - 1) (p.row + 3) changed)) (sym c.cursor-place.ensures)
+    let apart = c.if-is_apart.true in
+    subst (Widens (print c.args.c) screen changed)
+    (sym (c.with_rows-then-is_apart.ensures ∙ ap (λ (p : Place). with_rows p.row (p.row + 2) changed) c.cursor-place.ensures))
     (widens-wrap c.args.c screen changed c.columns-columns.ensures.sized (sym c.inserts.ensures ∙ c.if-inserts.false)
-    (sym c.is_at_bottom.ensures.bottom ∙ c.if-is_at_bottom.false)))
+    (sym c.is_at_bottom.ensures.bottom ∙ c.if-not-is_at_bottom.true)
+    (c.is_apart.ensures.row apart) (c.is_apart.ensures.next apart) (c.is_apart.ensures.second apart))

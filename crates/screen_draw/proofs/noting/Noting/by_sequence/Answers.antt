@@ -1,11 +1,13 @@
--- Nothing, or all of it.
-use Rattle.std.proofs.Common.{length, sym, subst, ◌∙◌}
+-- Nothing, the cursor's row, all rows, or all of it.
+use Rattle.std.proofs.Common.{◌+◌, length, ap, sym, subst, ◌∙◌}
 use Rattle.std.specs.Prelude.{◌==◌}
 use Rattle.std.proofs.lemmas.Bool.{and_parts}
 use Rattle.anstyle_parse.specs.Stream.Call.{csi_dispatch}
-use Rattle.ansi_screen.specs.Alone.{moves_alone}
+use Rattle.ansi_screen.specs.Alone.{moves_alone, edits_row, edits_cells}
 use Rattle.ansi_screen.specs.After.{function_of}
-use Rattle.screen_draw.specs.Changed.{Widens}
+use Rattle.ansi_screen.specs.declared.place.Place.{Place}
+use Rattle.screen_draw.specs.Changed.{with_rows, Widens}
+use Rattle.screen_draw.proofs.EditLemmas.{widens-row_edit, widens-edit}
 use Rattle.screen_draw.proofs.NotingLemmas.{widens-moves, widens-all, none-there}
 use Rattle.screen_draw.proofs.noting.Noting.by_sequence.Goals as goal
 
@@ -18,7 +20,28 @@ returns-then-is_move c = λ groups ignore.
     (sym (none-there c.args.intermediates.now parts.0))
     (widens-moves groups ignore c.args.final_byte screen changed parts.1)
 
-pub returns-else-is_move : goal.returns-else-is_move
-returns-else-is_move c = λ groups ignore.
+pub returns-then-is_apart : goal.returns-then-is_apart
+returns-then-is_apart c = λ groups ignore.
+    let screen = c.args.self.now.screen in
+    let changed = c.args.self.now.changed in
+    let apart = c.if-is_apart.true in
+    let parts = and_parts (length c.args.intermediates.now == 0) (edits_row (function_of c.args.final_byte)) (sym c.is_row_edit.ensures ∙ c.if-is_row_edit.true) in
+    subst (Widens (csi_dispatch groups c.args.intermediates.now ignore c.args.final_byte) screen changed)
+    (sym (c.with_rows.ensures ∙ ap (λ (p : Place). with_rows p.row (p.row + 1) changed) c.cursor-row.ensures))
+    (subst (λ l. Widens (csi_dispatch groups l ignore c.args.final_byte) screen changed (with_rows screen.display.cursor.row (screen.display.cursor.row + 1) changed))
+    (sym (none-there c.args.intermediates.now parts.0))
+    (widens-row_edit groups ignore c.args.final_byte screen changed parts.1 c.is_apart.ensures.sized (c.is_apart.ensures.row apart) (c.is_apart.ensures.next apart)))
+
+pub returns-then-is_edit : goal.returns-then-is_edit
+returns-then-is_edit c = λ groups ignore.
+    let screen = c.args.self.now.screen in
+    let changed = c.args.self.now.changed in
+    let parts = and_parts (length c.args.intermediates.now == 0) (edits_cells (function_of c.args.final_byte)) (sym c.is_edit.ensures ∙ c.if-is_edit.true) in
+    subst (Widens (csi_dispatch groups c.args.intermediates.now ignore c.args.final_byte) screen changed) (sym c.all_rows.ensures)
+    (subst (λ l. Widens (csi_dispatch groups l ignore c.args.final_byte) screen changed (with_rows 0 screen.display.height changed))
+    (sym (none-there c.args.intermediates.now parts.0)) (widens-edit groups ignore c.args.final_byte screen changed parts.1))
+
+pub returns-else-is_edit : goal.returns-else-is_edit
+returns-else-is_edit c = λ groups ignore.
     widens-all (csi_dispatch groups c.args.intermediates.now ignore c.args.final_byte) c.args.self.now.screen c.args.self.now.changed c.all.result
     c.all.ensures.sized c.all.ensures.all

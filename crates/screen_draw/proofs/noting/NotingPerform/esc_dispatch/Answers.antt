@@ -3,4 +3,4 @@
 use Rattle.screen_draw.proofs.noting.NotingPerform.esc_dispatch.Goals as goal
 
 pub returns : goal.returns
-returns c = record { screen = c.esc_dispatch.ensures; noted = c.by_escape-self.ensures c.args.intermediates.now c.args.ignore c.args.byte }
+returns c = record { screen = c.esc_dispatch.ensures; noted = c.by_escape-self.ensures c.args.ignore }

@@ -1,0 +1,160 @@
+-- Edits of cells change cells and the cursor alone; and those of the cursor's row no others than its own, where no right
+-- half stands at its ends.
+use Rattle.std.proofs.Common.{◌≡◌, ℕ, ◌+◌, ◌-◌, ◌<◌, ◌≤◌, Bool, true, false, List, [], length, take, drop, refl, sym, ◌∙◌, subst, arith}
+use Rattle.std.specs.Prelude.{min, ◌==◌, if◌then◌else◌}
+use Rattle.std.proofs.lemmas.List.{length-replicate}
+use Rattle.anstyle_parse.specs.Stream.Call.{csi_dispatch}
+use Rattle.ansi_screen.specs.declared.cell.Cell.{Cell}
+use Rattle.ansi_screen.specs.declared.function.Edit.{Edit}
+use Rattle.ansi_screen.specs.declared.function.Edit.TheVariants.{InsertCharacters, EraseInDisplay, EraseInLine, InsertLines, DeleteLines, DeleteCharacters, EraseCharacters}
+use Rattle.ansi_screen.specs.declared.function.Function.{Function}
+use Rattle.ansi_screen.specs.declared.function.Function.TheVariants.{Edits, Sets, Nothing}
+use Rattle.ansi_screen.specs.declared.function.Setting.{Setting}
+use Rattle.ansi_screen.specs.declared.function.Setting.TheVariants.{ScrollUp, ScrollDown}
+use Rattle.ansi_screen.specs.Alone.{edits_row, edits_cells}
+use Rattle.ansi_screen.specs.Cells.{cut, change, erased, moved_back, deleted, going_on}
+use Rattle.ansi_screen.specs.Display.{Display, IsSized, here, row_start, row_end}
+use Rattle.ansi_screen.specs.Moves.{to_column, settled}
+use Rattle.ansi_screen.specs.Edits.{space, erased_cells, erased_part, erased_display, erased_line, erased_characters, deleted_characters, inserted_characters, rows_up, rows_down, is_in_margins, inserted_lines, deleted_lines}
+use Rattle.ansi_screen.specs.After.{State, function_of, first_of, count, is_known, edited, set, controlled, sequenced, is_repeat, displayed}
+use Rattle.ansi_screen.proofs.AloneLemmas.{repeats-not}
+use Rattle.ansi_screen.proofs.KeptLemmas.{row-inside}
+use Rattle.ansi_screen.proofs.PairLemmas.{length-cut, length-run, length-back, clear-cut_other}
+use Rattle.ansi_screen.proofs.RowLemmas.{IsFree, Same, same-refl, same-trans, same-if, same-cut, same-change, same-inserted, same-going_on, going_on-free}
+use Rattle.ansi_screen.proofs.WholeLemmas.{length-going_on}
+
+-- but for the cells and the cursor the same
+abbrev pub IsEdited : Display → Display → Type 0
+IsEdited d e = e ≡ record d { cells = e.cells; cursor = e.cursor }
+
+edited-if : (t : Bool) (d a b : Display) → IsEdited d a → IsEdited d b → IsEdited d (if t then a else b)
+edited-if true d a b first second = first
+edited-if false d a b first second = second
+
+edited-part : (kind start end : ℕ) (d : Display) → IsEdited d (erased_part kind start end d)
+unfolding erased_part
+edited-part kind start end d =
+    edited-if (kind == 0) d (erased_cells (here d) end d) _ refl
+    (edited-if (kind == 1) d (erased_cells start (here d + 1) d) (erased_cells start end d) refl refl)
+
+edited-by : (edit : Edit) (n : ℕ) (d : Display) → IsEdited d (edited edit n d)
+unfolding edited erased_display erased_line erased_characters deleted_characters inserted_characters inserted_lines deleted_lines rows_up rows_down
+edited-by InsertCharacters n d = refl
+edited-by EraseInDisplay n d = edited-part n 0 (length d.cells) d
+edited-by EraseInLine n d = edited-part n (row_start d) (row_end d) d
+edited-by InsertLines n d = edited-if (is_in_margins d) d (to_column 0 (rows_down (count n) d.cursor.row d.bottom d)) d refl refl
+edited-by DeleteLines n d = edited-if (is_in_margins d) d (to_column 0 (rows_up (count n) d.cursor.row d.bottom d)) d refl refl
+edited-by DeleteCharacters n d = refl
+edited-by EraseCharacters n d = refl
+
+edited-set : (setting : Setting) (groups : List (List ℕ)) (d : Display) → edits_cells (Sets setting) ≡ true → IsEdited d (set setting groups d)
+unfolding set rows_up rows_down
+edited-set ScrollUp groups d is = refl
+edited-set ScrollDown groups d is = refl
+edited-set setting groups d is = cc is
+
+edited-settled : (d e : Display) → IsEdited (settled d) e → IsEdited d e
+edited-settled d e is = is
+
+edited-controlled : (function : Function) (groups : List (List ℕ)) (d : Display) → edits_cells function ≡ true → IsEdited d (controlled function groups d)
+unfolding controlled
+edited-controlled (Edits edit) groups d is =
+    let e : Display = edited edit (first_of groups) (settled d) in
+    edited-if (is_known edit (first_of groups)) d e d (edited-settled d e (edited-by edit (first_of groups) (settled d))) refl
+edited-controlled (Sets setting) groups d is = edited-set setting groups d is
+edited-controlled function groups d is = cc is
+
+-- Between two places where no right half stands, erasing and deleting change the cells between them alone.
+module _ (start end from : ℕ) (gap : Cell) (cells : List Cell) (first : start ≤ from) (free : IsFree start cells) (free_end : IsFree end cells) where
+  same-erased : (to : ℕ) → from ≤ to → to ≤ end → end ≤ length cells → Same start end (change from to (erased gap) cells) cells
+  same-erased to order last inside =
+      let both : List Cell = cut from (cut to cells) in
+      let fits : to ≤ length both = omega (arith, length-cut from (cut to cells), length-cut to cells) in
+      same-change start end from to (erased gap) cells first order last inside free free_end
+      (length-replicate (length (take (to - from) (drop from both))) gap ∙ length-run from to both fits)
+
+  same-deleted : (n : ℕ) → from ≤ end → end ≤ length cells → Same start end (deleted n from end gap cells) cells
+  same-deleted n order inside =
+      let place : ℕ = from + min n (end - from) in
+      let once : List Cell = cut place cells in
+      let both : List Cell = cut from (cut end once) in
+      let inside_once : end ≤ length once = omega (arith, length-cut place cells) in
+      let inside_both : end ≤ length both = omega (arith, length-cut from (cut end once), length-cut end once) in
+      same-trans start end (change from end (moved_back n gap) once) once cells
+      (same-change start end from end (moved_back n gap) once first order (omega arith) inside_once
+      (clear-cut_other place start cells free) (clear-cut_other place end cells free_end)
+      (length-back n gap (take (end - from) (drop from both)) ∙ length-run from end both inside_both))
+      (same-cut start end place cells (omega arith) (omega arith) free free_end)
+
+-- So do the edits of the cursor's row there, where no right half stands at its ends.
+same-edited : (edit : Edit) (n : ℕ) (d : Display) → edits_row (Edits edit) ≡ true → d.cursor.column < d.width → row_end d ≤ length d.cells
+    → IsFree (row_start d) d.cells → IsFree (row_end d) d.cells → Same (row_start d) (row_end d) (edited edit n d).cells d.cells
+unfolding edited erased_line erased_part erased_characters deleted_characters inserted_characters
+same-edited InsertCharacters n d is column inside free free_end =
+    let cells : List Cell = going_on false (row_end d) d.cells in
+    let long : length cells ≡ length d.cells = length-going_on false (row_end d) d.cells in
+    same-trans (row_start d) (row_end d) _ cells d.cells
+    (same-inserted (row_start d) (row_end d) (here d) (count n) (space d) cells (omega arith) (omega arith) (omega arith)
+    (going_on-free false (row_end d) (row_start d) d.cells free) (going_on-free false (row_end d) (row_end d) d.cells free_end))
+    (same-going_on false (row_start d) (row_end d) d.cells (omega arith))
+same-edited DeleteCharacters n d is column inside free free_end =
+    let cells : List Cell = going_on false (row_end d) d.cells in
+    let long : length cells ≡ length d.cells = length-going_on false (row_end d) d.cells in
+    same-trans (row_start d) (row_end d) _ cells d.cells
+    (same-deleted (row_start d) (row_end d) (here d) (space d) cells (omega arith)
+    (going_on-free false (row_end d) (row_start d) d.cells free) (going_on-free false (row_end d) (row_end d) d.cells free_end)
+    (count n) (omega arith) (omega arith))
+    (same-going_on false (row_start d) (row_end d) d.cells (omega arith))
+same-edited EraseInLine n d is column inside free free_end =
+    let start : ℕ = row_start d in
+    let end : ℕ = row_end d in
+    let up_to : Display = erased_cells start (here d + 1) d in
+    let all : Display = erased_cells start end d in
+    same-if (n == 0) start end d.cells (erased_cells (here d) end d) (if n == 1 then up_to else all)
+    (λ a. same-erased start end (here d) (space d) d.cells (omega arith) free free_end end (omega arith) (omega arith) inside)
+    (λ b. same-if (n == 1) start end d.cells up_to all
+    (λ e. same-erased start end start (space d) d.cells (omega arith) free free_end (here d + 1) (omega arith) (omega arith) inside)
+    (λ f. same-erased start end start (space d) d.cells (omega arith) free free_end end (omega arith) (omega arith) inside))
+same-edited EraseCharacters n d is column inside free free_end =
+    same-erased (row_start d) (row_end d) (here d) (space d) d.cells (omega arith) free free_end (min (row_end d) (here d + count n))
+    (omega arith) (omega arith) inside
+same-edited edit n d is column inside free free_end = cc is
+
+same-controlled : (function : Function) (groups : List (List ℕ)) (d : Display) → edits_row function ≡ true → IsSized d
+    → IsFree (row_start d) d.cells → IsFree (row_end d) d.cells → Same (row_start d) (row_end d) (controlled function groups d).cells d.cells
+unfolding controlled
+same-controlled (Edits edit) groups d is s free free_end =
+    let wide : 2 ≤ d.width = s.two_columns in
+    let inside : row_end d ≤ length d.cells = omega (arith, row-inside d.cursor.row d.width d.height s.cursor_row, s.cells_fill) in
+    same-if (is_known edit (first_of groups)) (row_start d) (row_end d) d.cells (edited edit (first_of groups) (settled d)) d
+    (λ known. same-edited edit (first_of groups) (settled d) is (omega arith) inside free free_end)
+    (λ none. same-refl (row_start d) (row_end d) d.cells)
+same-controlled function groups d is s free free_end = cc is
+
+-- An edit of the cursor's row is one of cells.
+pub row-cells : (function : Function) → edits_row function ≡ true → edits_cells function ≡ true
+row-cells (Edits edit) is = refl
+row-cells function is = cc is
+
+-- what such a control sequence shows
+shown-by : (is_one : Function → Bool) → is_one Nothing ≡ false → (groups : List (List ℕ)) (final : ℕ) (s : State) → is_one (function_of final) ≡ true
+    → displayed (csi_dispatch groups [] false final) s ≡ controlled (function_of final) groups s.display
+unfolding is_repeat sequenced
+shown-by is_one none groups final s is =
+    let not_repeat : (final == 0x62) ≡ false = repeats-not is_one none final _ refl is in
+    rw not_repeat refl
+
+pub edited-displayed : (groups : List (List ℕ)) (ignore : Bool) (final : ℕ) (s : State) → edits_cells (function_of final) ≡ true
+    → IsEdited s.display (displayed (csi_dispatch groups [] ignore final) s)
+edited-displayed groups true final s is = refl
+edited-displayed groups false final s is =
+    subst (IsEdited s.display) (sym (shown-by edits_cells refl groups final s is)) (edited-controlled (function_of final) groups s.display is)
+
+pub same-displayed : (groups : List (List ℕ)) (ignore : Bool) (final : ℕ) (s : State) → edits_row (function_of final) ≡ true → IsSized s.display
+    → IsFree (row_start s.display) s.display.cells → IsFree (row_end s.display) s.display.cells
+    → Same (row_start s.display) (row_end s.display) (displayed (csi_dispatch groups [] ignore final) s).cells s.display.cells
+same-displayed groups true final s is size free free_end = same-refl (row_start s.display) (row_end s.display) s.display.cells
+same-displayed groups false final s is size free free_end =
+    let d : Display = s.display in
+    subst (λ (e : Display). Same (row_start d) (row_end d) e.cells d.cells) (sym (shown-by edits_row refl groups final s is))
+    (same-controlled (function_of final) groups d is size free free_end)

@@ -1,0 +1,43 @@
+-- What edits of cells leave of a display as it was: its frame, and, where they are edits of the cursor's row, all other
+-- rows.
+use Rattle.std.proofs.Common.{◌≡◌, ℕ, ◌+◌, ◌*◌, Bool, true, List, [], refl, sym, subst, arith}
+use Rattle.std.proofs.Math.Nat.{add-mul}
+use Rattle.anstyle_parse.specs.Stream.Call.{csi_dispatch}
+use Rattle.ansi_screen.specs.Alone.{edits_row, edits_cells}
+use Rattle.ansi_screen.specs.Display.{Display, IsSized, row_start, row_end}
+use Rattle.ansi_screen.specs.Edits.{with_cells}
+use Rattle.ansi_screen.specs.After.{State, function_of, displayed}
+use Rattle.ansi_screen.proofs.EditLemmas.{IsEdited, row-cells, edited-displayed, same-displayed}
+use Rattle.ansi_screen.proofs.RowLemmas.{IsFree}
+use Rattle.screen_draw.specs.declared.changed.Changed.{Changed}
+use Rattle.screen_draw.specs.Changed.{with_rows, Widens}
+use Rattle.screen_draw.proofs.ChangedLemmas.{Framed, framed-trans, framed-cells, still-place, within-cells, keeps-within, keeps-framed}
+
+framed-edited : (d e : Display) → IsEdited d e → Framed d e
+framed-edited d e is =
+    let there : Display = with_cells e.cells d in
+    subst (Framed d) (sym is) (framed-trans d there (record d { cells = e.cells; cursor = e.cursor }) (framed-cells e.cells d) (still-place e.cursor there).framed)
+
+framed-displayed : (groups : List (List ℕ)) (ignore : Bool) (final : ℕ) (s : State) → edits_cells (function_of final) ≡ true
+    → Framed s.display (displayed (csi_dispatch groups [] ignore final) s)
+framed-displayed groups ignore final s is =
+    framed-edited s.display (displayed (csi_dispatch groups [] ignore final) s) (edited-displayed groups ignore final s is)
+
+-- what is noted for them
+pub widens-row_edit : (groups : List (List ℕ)) (ignore : Bool) (final : ℕ) (screen : State) (changed : Changed) → edits_row (function_of final) ≡ true
+    → IsSized screen.display → IsFree (row_start screen.display) screen.display.cells → IsFree (row_end screen.display) screen.display.cells
+    → Widens (csi_dispatch groups [] ignore final) screen changed (with_rows screen.display.cursor.row (screen.display.cursor.row + 1) changed)
+widens-row_edit groups ignore final screen changed is s free free_end = λ shown keeps.
+    let d : Display = screen.display in
+    let next : Display = displayed (csi_dispatch groups [] ignore final) screen in
+    let past : (d.cursor.row + 1) * d.width ≡ d.cursor.row * d.width + 1 * d.width = add-mul d.cursor.row 1 d.width in
+    keeps-within d.cursor.row (d.cursor.row + 1) changed shown d next
+    (within-cells d.cursor.row (d.cursor.row + 1) (row_start d) (row_end d) d next
+    (framed-displayed groups ignore final screen (row-cells (function_of final) is)) (same-displayed groups ignore final screen is s free free_end)
+    (omega arith) (omega arith)) keeps
+
+pub widens-edit : (groups : List (List ℕ)) (ignore : Bool) (final : ℕ) (screen : State) (changed : Changed) → edits_cells (function_of final) ≡ true
+    → Widens (csi_dispatch groups [] ignore final) screen changed (with_rows 0 screen.display.height changed)
+widens-edit groups ignore final screen changed is = λ shown keeps.
+    let next : Display = displayed (csi_dispatch groups [] ignore final) screen in
+    keeps-framed screen.display.height changed shown screen.display next (framed-displayed groups ignore final screen is) refl keeps

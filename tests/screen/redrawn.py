@@ -30,8 +30,7 @@ for RGB. It has no line above, and spaces are as for tmux; all else it answers: 
 (DECCIR), sets, tabs (DECTABSR), margins and modes. libvterm 0.1.4 tells cells and the cursor, a pending wrap as the
 last character; it has no dim, hidden or overlined text, shows named colours as those of the 256, and more than 16
 fields in a sequence, which all attributes and two colours have together, are a memory fault there: its streams do
-without these. A screen with marks in the last column is left out there, since it moves on for them; and on tmux one
-behind an update by which ECH erases the left half of a wide character alone, since tmux keeps the right one.
+without these. A screen with marks in the last column is left out there, since it moves on for them.
 
 Each difference is told with the least operations of its stream that show it, and how many cells were compared. The
 last line is 'N passed, M failed'.
@@ -178,24 +177,10 @@ def place_of(terminal, name, at):
     return "the cursor's" if row == terminal.height else "row %d, column %d" % (row, column)
 
 
-def halves_wide_characters(output, width, height):
-    """Whether ECH erases the left half of a wide character there, and not its right one."""
-    display = twin.Display(width, height)
-    for operation in operations(output):
-        erased = re.fullmatch(r"\x1b\[(\d+)X", operation)
-        end = display.cursor.column + int(erased[1]) if erased else width
-        if end < width and display.cells[display.cursor.row * width + end][1] == twin.RIGHT:
-            return True
-        twin.feed(display, operation.encode())
-    return False
-
-
 def compared(terminal, data, output, before):
     """The first difference of a terminal that shows an output; None, where it is not asked."""
     display = screen_of(data, terminal.width, terminal.height)
     if not terminal.is_asked(display):
-        return None
-    if terminal.keeps_right_halves and halves_wide_characters(output, terminal.width, terminal.height):
         return None
     terminal.write(before + LEAVE + output)
     told, cells = terminal.told(), terminal.cells()

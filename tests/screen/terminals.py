@@ -85,7 +85,6 @@ class Terminal:
 
     codes = streams.STYLES
     keeps_autowrap = True  # of streams for updates, since without it no wrap is pending
-    keeps_right_halves = False  # where ECH erases the left one
     shown = staticmethod(lambda cell: cell)
     given = staticmethod(lambda data: data)
     is_asked = staticmethod(lambda display: True)
@@ -121,7 +120,6 @@ class Terminal:
 class Tmux(Terminal):
     """A pane of a tmux of our own. One process of it copies streams to the pane, and another what the pane answers."""
 
-    keeps_right_halves = True
     TOLD = "#{cursor_y} #{cursor_x} #{wrap_flag} #{insert_flag} #{origin_flag} #{cursor_flag}"
     TOLD += " #{scroll_region_upper} #{scroll_region_lower} #{alternate_on} #{pane_tabs}"
 

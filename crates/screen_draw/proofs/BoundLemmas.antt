@@ -29,7 +29,7 @@ use Rattle.screen_draw.specs.Alike.{looks_same, is_steady}
 use Rattle.screen_draw.specs.Bound.{cell_bytes, column_bytes, draw_bound, update_bound}
 use Rattle.screen_draw.specs.Draw.{escape, sequence, private_mode, position, select, is_erased, is_fresh, space_if, last_cell, last_column, place_cell_calls, marks_calls, character_calls, style_calls, charsets_calls, there_calls, shown_calls, cell_calls, cells_calls, pen_behind, first_pen, wrap_calls, place_calls, plain_calls, saved_calls, screen_calls, covered_calls, stop_calls, stops_calls, cursor_calls, modes_calls, margins_calls, rest_calls, shown_screen_calls, drawn_calls}
 use Rattle.screen_draw.specs.Drawing.{IsDrawing}
-use Rattle.screen_draw.specs.Update.{erased_run, is_done, wants_wrap, move_calls, painted_calls, change_calls, brush_behind, row_calls, begun_at, place_behind, rows_calls, cursor_changes, mode_changes, changes_from, margin_changes, place_at_first, changes_calls, reset_stop_calls, reset_stops_calls, leave_calls, reset_modes, cleared_calls, update_calls}
+use Rattle.screen_draw.specs.Update.{erased_columns, is_done, wants_wrap, move_calls, painted_calls, change_calls, brush_behind, row_calls, begun_at, place_behind, rows_calls, cursor_changes, mode_changes, changes_from, margin_changes, place_at_first, changes_calls, reset_stop_calls, reset_stops_calls, leave_calls, reset_modes, cleared_calls, update_calls}
 
 -- the bytes of a call: two, what is collected, and each field with the byte behind it
 abbrev weight : Call → ℕ
@@ -159,27 +159,27 @@ of-move place row column =
     (either 14 (place.column == column) [] (sequence ((column + 1) ∷ []) 0x47 ∷ []) (omega arith) (omega arith))
     (omega arith)
 
-of-painted : (cell : Cell) (cells : List Cell) → weigh (painted_calls cell cells) ≤ 12
-of-painted cell cells =
-    either 12 (is_erased cell) (sequence (suc (erased_run cell.style cells) ∷ []) 0x58 ∷ []) (character_calls cell)
+of-painted : (cell : Cell) (olds cells : List Cell) → weigh (painted_calls cell olds cells) ≤ 12
+of-painted cell olds cells =
+    either 12 (is_erased cell) (sequence (erased_columns cell.style olds cells ∷ []) 0x58 ∷ []) (character_calls cell)
     (omega arith)
     (of-character cell)
 
-of-change : (row column : ℕ) (brush : Brush) (old new : Cell) (cells : List Cell) → weigh (change_calls row column brush old new cells) ≤ cell_bytes
+of-change : (row column : ℕ) (brush : Brush) (old new : Cell) (olds cells : List Cell) → weigh (change_calls row column brush old new olds cells) ≤ cell_bytes
 unfolding change_calls
-of-change row column brush old new cells =
+of-change row column brush old new olds cells =
     let move = move_calls brush.place row column in
     let style = style_calls brush.place.style new.style in
-    let painted = painted_calls new cells in
+    let painted = painted_calls new olds cells in
     either cell_bytes (is_done brush old new) [] (move ++ (style ++ painted)) (omega arith)
-    (omega (arith, both move (style ++ painted), both style painted, of-move brush.place row column, of-style brush.place.style new.style, of-painted new cells))
+    (omega (arith, both move (style ++ painted), both style painted, of-move brush.place row column, of-style brush.place.style new.style, of-painted new olds cells))
 
 of-row : (row column : ℕ) (brush : Brush) (olds news : List Cell) → weigh (row_calls row column brush olds news) ≤ cell_bytes * length news
 of-row row column brush [] news = omega arith
 of-row row column brush (old ∷ olds) [] = omega arith
 of-row row column brush (old ∷ olds) (new ∷ news) =
     let behind = brush_behind row column brush old new news in
-    omega (arith, both (change_calls row column brush old new news) (row_calls row (suc column) behind olds news), of-change row column brush old new news, of-row row (suc column) behind olds news)
+    omega (arith, both (change_calls row column brush old new olds news) (row_calls row (suc column) behind olds news), of-change row column brush old new olds news, of-row row (suc column) behind olds news)
 
 length-row : (row : ℕ) (d : Display) → length (row_cells row d) ≤ d.width
 length-row row d = omega (arith, length-take d.width (drop (row * d.width) d.cells))

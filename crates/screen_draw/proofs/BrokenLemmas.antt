@@ -2,35 +2,45 @@
 use Rattle.std.proofs.Common.{◌≡◌, ℕ, suc, ◌+◌, ◌-◌, Bool, true, false, List, [], ◌∷◌, ◌++◌, length, set, refl, ap, sym, ◌∙◌, arith, append_assoc, length-append}
 use Rattle.std.specs.Prelude.{nat_lt, if◌then◌else◌}
 use Rattle.std.proofs.lemmas.Bool.{lt-ltb}
+use Rattle.ansi_style.specs.declared.style.Style.{Style}
 use Rattle.ansi_screen.specs.declared.cell.Cell.{Cell}
-use Rattle.ansi_screen.specs.Cells.{emptied, is_right, cell_at, cut, within, change}
+use Rattle.ansi_screen.specs.declared.cell.Part.TheVariants.{Empty}
+use Rattle.ansi_screen.specs.Cells.{plain_cell, emptied, is_right, cell_at, cut, within, change}
 use Rattle.screen_draw.proofs.CanvasLemmas.{at-front, set-front, within-front, cut-free}
 
--- a right half without its left one
-abbrev pub mended : Cell → Cell
-mended x = if is_right x.part then emptied x else x
+-- A right half without its left one is a space, in a style that is told;
+abbrev pub mended : (Cell → Style) → Cell → Cell
+mended styled x = if is_right x.part then plain_cell 0x20 (styled x) Empty else x
+
+abbrev pub first_mended : (Cell → Style) → List Cell → List Cell
+first_mended styled [] = []
+first_mended styled (x ∷ xs) = mended styled x ∷ xs
+
+-- in its own, where a change has taken the left one.
+abbrev pub own_style : Cell → Style
+own_style x = x.style
 
 abbrev pub broken : List Cell → List Cell
-broken [] = []
-broken (x ∷ xs) = mended x ∷ xs
+broken xs = first_mended own_style xs
 
-mended_at : (x : Cell) (t : Bool) → is_right x.part ≡ t → is_right (mended x).part ≡ false
-mended_at x true is = rw is refl
-mended_at x false is = ap (λ (u : Bool). is_right (if u then emptied x else x).part) is ∙ is
+module _ (styled : Cell → Style) where
+  mended_at : (x : Cell) (t : Bool) → is_right x.part ≡ t → is_right (mended styled x).part ≡ false
+  mended_at x true is = rw is refl
+  mended_at x false is = ap (λ (u : Bool). is_right (if u then plain_cell 0x20 (styled x) Empty else x).part) is ∙ is
 
-pub mended-free : (x : Cell) → is_right (mended x).part ≡ false
-mended-free x = mended_at x _ refl
+  pub mended-free : (x : Cell) → is_right (mended styled x).part ≡ false
+  mended-free x = mended_at x _ refl
 
-pub mended-same : (x : Cell) → is_right x.part ≡ false → mended x ≡ x
-mended-same x free = rw free refl
+  pub mended-same : (x : Cell) → is_right x.part ≡ false → mended styled x ≡ x
+  mended-same x free = rw free refl
 
-pub broken-free : (xs : List Cell) → is_right (cell_at 0 xs).part ≡ false → broken xs ≡ xs
-broken-free [] free = refl
-broken-free (x ∷ xs) free = ap (λ y. y ∷ xs) (mended-same x free)
+  pub mended-first : (xs : List Cell) → is_right (cell_at 0 xs).part ≡ false → first_mended styled xs ≡ xs
+  mended-first [] free = refl
+  mended-first (x ∷ xs) free = ap (λ y. y ∷ xs) (mended-same x free)
 
-pub broken-append : (xs back : List Cell) → is_right (cell_at 0 back).part ≡ false → broken (xs ++ back) ≡ broken xs ++ back
-broken-append [] back free = broken-free back free
-broken-append (x ∷ xs) back free = refl
+  pub mended-append : (xs back : List Cell) → is_right (cell_at 0 back).part ≡ false → first_mended styled (xs ++ back) ≡ first_mended styled xs ++ back
+  mended-append [] back free = mended-first back free
+  mended-append (x ∷ xs) back free = refl
 
 -- the cut behind one cell
 abbrev Cut : List Cell → Cell → List Cell → Type 0
@@ -58,7 +68,7 @@ cut-half front z b bs false is =
     let there : cell_at (length front + 1) (front ++ (z ∷ (b ∷ bs))) ≡ b = at-front front (z ∷ (b ∷ bs)) 1 (length front + 1) (omega arith) in (
       z,
       cut-free (length front + 1) (front ++ (z ∷ (b ∷ bs))) (ap (λ (x : Cell). is_right x.part) there ∙ is)
-          ∙ ap (λ y. front ++ (z ∷ (y ∷ bs))) (sym (mended-same b is)),
+          ∙ ap (λ y. front ++ (z ∷ (y ∷ bs))) (sym (mended-same own_style b is)),
       λ free. free,
     )
 

@@ -26,7 +26,7 @@ use Rattle.screen_draw.specs.Redrawn.{as_printed, as_drawn, drawn_cells, as_show
 use Rattle.screen_draw.specs.Alike.{lacks_print}
 use Rattle.screen_draw.specs.Update.{move_calls, row_calls, begun_at, place_behind, rows_calls, wants_wrap, cursor_changes, mode_changes, changes_from}
 use Rattle.screen_draw.proofs.AlikeLemmas.{flag-same}
-use Rattle.screen_draw.proofs.BrokenLemmas.{broken, broken-free}
+use Rattle.screen_draw.proofs.BrokenLemmas.{own_style, broken, mended-first}
 use Rattle.screen_draw.proofs.CanvasLemmas.{on, after-position, after-style}
 use Rattle.screen_draw.proofs.CursorLemmas.{first-drawn, drawn-append, drawn-length, full_by, last_at, column-inside}
 use Rattle.screen_draw.proofs.FrameLemmas.{Frame, Steady, same-hidden, printed-last}
@@ -120,12 +120,12 @@ module _ (other b : Display) (from : IsScreen (sized other b)) (has : HasContent
       let whole_olds : map as_drawn (drop k a.cells) ≡ map as_drawn olds ++ back = ap (map as_drawn) split ∙ drawn-append olds (drop (k + b.width) a.cells) in
       let free_back : is_right (cell_at 0 back).part ≡ false = first-drawn (drop (k + b.width) a.cells) (rest-free a from.whole n) in
       let ready : s.display ≡ on base (front ++ (map as_drawn olds ++ back)) p = at ∙ ap (λ l. on base (front ++ l) p) whole_olds in
-      let unbroken : map as_drawn olds ≡ broken (map as_drawn olds) = sym (broken-free (map as_drawn olds) (first-drawn olds (paired-first olds old_pairs))) in
+      let unbroken : map as_drawn olds ≡ broken (map as_drawn olds) = sym (mended-first own_style (map as_drawn olds) (first-drawn olds (paired-first olds old_pairs))) in
       let painted = paint-row base n below refl refl back free_back olds news front 0 None None p 0 s (row-paired b to.whole n) (cells-take b.width (drop k b.cells) (cells-drop k b.cells gets.cells))
       old_pairs (cells-take b.width (drop k a.cells) (cells-drop k a.cells has.cells))
       (record { awaits = tt; enough = omega arith; absolute = keeps.origin ∙ is.absolute; letter = ap draws keeps.sets ∙ is.letter })
       (record { long = olds_long ∙ sym news_long; wide = omega arith; there = omega arith })
-      (ready ∙ ap (λ l. on base (front ++ (l ++ back)) p) unbroken) in
+      (own_style, ready ∙ ap (λ l. on base (front ++ (l ++ back)) p) unbroken) in
       let more : take (suc n * b.width) b.cells ≡ take k b.cells ++ news = ap (λ m. take m b.cells) next ∙ take-add k b.width b.cells in
       let q : Place = place_behind (suc n) a.cursor a b in
       let cells : front ++ (map as_drawn news ++ back) ≡ map as_drawn (take (suc n * b.width) b.cells) ++ map as_drawn (drop (suc n * b.width) a.cells) =

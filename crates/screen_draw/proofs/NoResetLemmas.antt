@@ -16,7 +16,7 @@ use Rattle.screen_draw.specs.declared.changes.Brush.{Brush}
 use Rattle.screen_draw.specs.Alike.{looks_same, is_steady}
 use Rattle.screen_draw.specs.Draw.{escape, sequence, private_mode, position, select, is_erased, is_fresh, space_if, last_cell, last_column, place_cell_calls, marks_calls, character_calls, style_calls, charsets_calls, there_calls, shown_calls, cell_calls, cells_calls, pen_behind, first_pen, wrap_calls, place_calls, plain_calls, saved_calls, screen_calls, covered_calls, stop_calls, stops_calls, cursor_calls, modes_calls, margins_calls, rest_calls, shown_screen_calls}
 use Rattle.screen_draw.specs.Drawing.{HaveNoReset}
-use Rattle.screen_draw.specs.Update.{erased_run, is_done, wants_wrap, move_calls, painted_calls, change_calls, brush_behind, row_calls, begun_at, place_behind, rows_calls, cursor_changes, mode_changes, changes_from, margin_changes, place_at_first, changes_calls, reset_stop_calls, reset_stops_calls, leave_calls, reset_modes, cleared_calls, update_calls}
+use Rattle.screen_draw.specs.Update.{erased_columns, is_done, wants_wrap, move_calls, painted_calls, change_calls, brush_behind, row_calls, begun_at, place_behind, rows_calls, cursor_changes, mode_changes, changes_from, margin_changes, place_at_first, changes_calls, reset_stop_calls, reset_stops_calls, leave_calls, reset_modes, cleared_calls, update_calls}
 
 both : (xs ys : List Call) → HaveNoReset xs → HaveNoReset ys → HaveNoReset (xs ++ ys)
 both [] ys first second = second
@@ -54,29 +54,29 @@ of-move place row column =
     (either (place.column == column) [] (sequence ((column + 1) ∷ []) 0x47 ∷ []) tt (refl, tt))
     (refl, tt)
 
-of-painted : (cell : Cell) (cells : List Cell) → HaveNoReset (painted_calls cell cells)
-of-painted cell cells =
-    either (is_erased cell) (sequence (suc (erased_run cell.style cells) ∷ []) 0x58 ∷ []) (character_calls cell)
+of-painted : (cell : Cell) (olds cells : List Cell) → HaveNoReset (painted_calls cell olds cells)
+of-painted cell olds cells =
+    either (is_erased cell) (sequence (erased_columns cell.style olds cells ∷ []) 0x58 ∷ []) (character_calls cell)
     (refl, tt)
     (of-character cell)
 
-of-change : (row column : ℕ) (brush : Brush) (old new : Cell) (cells : List Cell) → HaveNoReset (change_calls row column brush old new cells)
+of-change : (row column : ℕ) (brush : Brush) (old new : Cell) (olds cells : List Cell) → HaveNoReset (change_calls row column brush old new olds cells)
 unfolding change_calls
-of-change row column brush old new cells =
+of-change row column brush old new olds cells =
     let move = move_calls brush.place row column in
     let style = style_calls brush.place.style new.style in
-    let painted = painted_calls new cells in
+    let painted = painted_calls new olds cells in
     either (is_done brush old new) [] (move ++ (style ++ painted)) tt
     (both move (style ++ painted) (of-move brush.place row column)
-    (both style painted (of-style brush.place.style new.style) (of-painted new cells)))
+    (both style painted (of-style brush.place.style new.style) (of-painted new olds cells)))
 
 of-row : (row column : ℕ) (brush : Brush) (olds news : List Cell) → HaveNoReset (row_calls row column brush olds news)
 of-row row column brush [] news = tt
 of-row row column brush (old ∷ olds) [] = tt
 of-row row column brush (old ∷ olds) (new ∷ news) =
     let behind = brush_behind row column brush old new news in
-    both (change_calls row column brush old new news) (row_calls row (suc column) behind olds news)
-    (of-change row column brush old new news)
+    both (change_calls row column brush old new olds news) (row_calls row (suc column) behind olds news)
+    (of-change row column brush old new olds news)
     (of-row row (suc column) behind olds news)
 
 of-rows : (n : ℕ) (start : Place) (shown wanted : Display) → HaveNoReset (rows_calls n start shown wanted)

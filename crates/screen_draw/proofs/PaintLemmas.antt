@@ -23,7 +23,7 @@ use Rattle.ansi_screen.specs.After.{State, after, after_all}
 use Rattle.ansi_screen.specs.Reachable.{is_left, FitsPart, IsMark, AreMarks, IsCell}
 use Rattle.screen_draw.specs.Draw.{is_empty, is_erased, is_fresh, drawn_character, marks_calls, character_calls, sequence}
 use Rattle.screen_draw.specs.Redrawn.{printed_part, as_printed, as_drawn}
-use Rattle.screen_draw.proofs.BrokenLemmas.{broken, broken-free, change-broken}
+use Rattle.screen_draw.proofs.BrokenLemmas.{own_style, broken, mended-first, change-broken}
 use Rattle.screen_draw.proofs.CanvasLemmas.{on, at-front, set-front, change-front, after-print, after-mark, after-erase, after-erase_run}
 
 -- what is shown is drawn as it is
@@ -172,7 +172,7 @@ module _ (base : Display) (front back : List Cell) (p : Place) (letter : draws p
       → (after_all (character_calls cell) s).display ≡ on base (front ++ (as_printed cell ∷ back)) (record p { column = p.column + 1 })
   character-narrow cell old s is holds left right style room free =
       over-narrow base front back p letter replaces unlinked there cell old s is holds left right style room free
-      ∙ ap (λ l. on base (front ++ (as_printed cell ∷ l)) (record p { column = p.column + 1 })) (broken-free back free_end)
+      ∙ ap (λ l. on base (front ++ (as_printed cell ∷ l)) (record p { column = p.column + 1 })) (mended-first own_style back free_end)
 
   pub character-wide : (cell a b : Cell) (s : State) → s.display ≡ on base (front ++ (a ∷ (b ∷ back))) p → IsCell cell
       → cell.part ≡ Left → p.style ≡ cell.style → p.column + 2 ≤ base.width → is_right a.part ≡ false
@@ -180,7 +180,7 @@ module _ (base : Display) (front back : List Cell) (p : Place) (letter : draws p
       ≡ on base (front ++ (as_printed cell ∷ (plain_cell 0x20 cell.style Right ∷ back))) (record p { column = p.column + 2 })
   character-wide cell a b s is holds left style room free =
       over-wide base front back p letter replaces unlinked there cell a b s is holds left style room free
-      ∙ ap (λ l. on base (front ++ (as_printed cell ∷ (plain_cell 0x20 cell.style Right ∷ l))) (record p { column = p.column + 2 })) (broken-free back free_end)
+      ∙ ap (λ l. on base (front ++ (as_printed cell ∷ (plain_cell 0x20 cell.style Right ∷ l))) (record p { column = p.column + 2 })) (mended-first own_style back free_end)
 
 -- erased cells, as erasing leaves them
 empty-is : (part : Part) → is_empty part ≡ true → part ≡ Empty

@@ -22,26 +22,27 @@ use Rattle.screen_draw.specs.declared.changes.Brush.{Brush}
 use Rattle.screen_draw.specs.Draw.{is_erased, sequence, position, select, style_calls, character_calls}
 use Rattle.screen_draw.specs.Redrawn.{as_printed, as_drawn}
 use Rattle.screen_draw.specs.Alike.{are_alike}
-use Rattle.screen_draw.specs.Update.{move_calls, erased_run, is_done, change_calls, half_columns, brush_behind, row_calls, brush_after}
+use Rattle.screen_draw.specs.Update.{move_calls, erased_run, erased_columns, is_done, change_calls, half_columns, brush_behind, row_calls, brush_after}
 use Rattle.screen_draw.proofs.AlikeLemmas.{Same, alike-same, alike-drawn}
-use Rattle.screen_draw.proofs.BrokenLemmas.{mended, mended-free, mended-same, broken, broken-free, broken-append}
+use Rattle.screen_draw.proofs.BrokenLemmas.{mended, first_mended, own_style, broken, mended-free, mended-same, mended-first, mended-append}
 use Rattle.screen_draw.proofs.CanvasLemmas.{on, after-position, after-style}
 use Rattle.screen_draw.proofs.PaintLemmas.{over-narrow, over-wide, erase-run, erased-part, drawn-erased, drawn-printed}
 use Rattle.screen_draw.proofs.ScreenLemmas.{right-half, right-erased, half-of_at, left-some, left-of}
 use Rattle.screen_draw.proofs.RestLemmas.{after-column}
 use Rattle.screen_draw.proofs.CursorLemmas.{left-erased, drawn-right, first-drawn}
 
--- What stands behind the cells that are drawn: so many that are erased already, and then the old ones.
-abbrev pub covered : ℕ → Style → List Cell → List Cell
-covered zero style olds = broken (map as_drawn olds)
-covered (suc n) style [] = []
-covered (suc n) style (x ∷ xs) = blank style ∷ covered n style xs
+-- What stands behind the cells that are drawn: so many that are erased already, and then the old ones. Where the first
+-- of these is a right half that has lost its left one, it is a space in the style that `lost` gives it.
+abbrev pub covered : (Cell → Style) → ℕ → Style → List Cell → List Cell
+covered lost zero style olds = first_mended lost (map as_drawn olds)
+covered lost (suc n) style [] = []
+covered lost (suc n) style (x ∷ xs) = blank style ∷ covered lost n style xs
 
 -- and before them the right half of the last one
-abbrev pub standing : Option Style → ℕ → Style → List Cell → List Cell
-standing None n style olds = covered n style olds
-standing (Some half) n style [] = []
-standing (Some half) n style (x ∷ xs) = plain_cell 0x20 half Right ∷ covered n style xs
+abbrev pub standing : (Cell → Style) → Option Style → ℕ → Style → List Cell → List Cell
+standing lost None n style olds = covered lost n style olds
+standing lost (Some half) n style [] = []
+standing lost (Some half) n style (x ∷ xs) = plain_cell 0x20 half Right ∷ covered lost n style xs
 
 -- nothing is erased already behind a left half
 abbrev pub Awaits : Option Style → ℕ → Type 0
@@ -49,16 +50,17 @@ Awaits None n = ⊤
 Awaits (Some half) n = n ≡ 0
 
 -- old cells that stay
-kept-behind : (behind : Option Style) (style : Style) (xs : List Cell) → ArePaired behind xs → AreCells xs → standing behind 0 style xs ≡ map as_drawn xs
-kept-behind None style xs are holds = broken-free (map as_drawn xs) (first-drawn xs (paired-first xs are))
-kept-behind (Some half) style [] are holds = cc are
-kept-behind (Some half) style (y ∷ ys) are holds =
+kept-behind : (lost : Cell → Style) (behind : Option Style) (style : Style) (xs : List Cell) → ArePaired behind xs → AreCells xs
+    → standing lost behind 0 style xs ≡ map as_drawn xs
+kept-behind lost None style xs are holds = mended-first lost (map as_drawn xs) (first-drawn xs (paired-first xs are))
+kept-behind lost (Some half) style [] are holds = cc are
+kept-behind lost (Some half) style (y ∷ ys) are holds =
     let pair = half-of_at y half _ refl are.0 in
     let not_left : is_left y.part ≡ false = right-not-left y.part (ap is_right pair.0) in
     let none : left_style y ≡ None = left-none y not_left in
     let paired : ArePaired None ys = rw none at are.1 in
     let drawn : as_drawn y ≡ plain_cell 0x20 half Right = drawn-printed y (right-erased y pair.0) ∙ right-half y pair.0 pair.1 holds.0 in
-    rw (sym drawn) (ap (λ l. as_drawn y ∷ l) (broken-free (map as_drawn ys) (first-drawn ys (paired-first ys paired))))
+    rw (sym drawn) (ap (λ l. as_drawn y ∷ l) (mended-first lost (map as_drawn ys) (first-drawn ys (paired-first ys paired))))
 
 -- the first of a run
 record FirstOf (n : ℕ) (style : Style) (cell : Cell) (cells : List Cell) : Type 0 where
@@ -86,10 +88,34 @@ run-long style (cell ∷ cells) = run-long_at style cell cells (is_erased cell &
 
 -- those that are erased at once
 covered-is : (n : ℕ) (style : Style) (xs back : List Cell) → n ≤ length xs → is_right (cell_at 0 back).part ≡ false
-    → covered n style xs ++ back ≡ replicate n (blank style) ++ broken (map as_drawn (drop n xs) ++ back)
-covered-is zero style xs back long free = sym (broken-append (map as_drawn xs) back free)
+    → covered own_style n style xs ++ back ≡ replicate n (blank style) ++ broken (map as_drawn (drop n xs) ++ back)
+covered-is zero style xs back long free = sym (mended-append own_style (map as_drawn xs) back free)
 covered-is (suc n) style [] back long free = absurd (omega arith)
 covered-is (suc n) style (x ∷ xs) back long free = ap (λ l. blank style ∷ l) (covered-is n style xs back (omega arith) free)
+
+-- and with them a right half behind
+abbrev erased_style : Style → Cell → Style
+erased_style style x = (blank style).style
+
+covered-half : (n : ℕ) (style : Style) (behind : Option Style) (xs back : List Cell) → is_right (cell_at n xs).part ≡ true → ArePaired behind xs
+    → is_right (cell_at 0 back).part ≡ false
+    → covered (erased_style style) n style xs ++ back ≡ replicate (suc n) (blank style) ++ broken (map as_drawn (drop (suc n) xs) ++ back)
+covered-half zero style behind [] back half are free = cc half
+covered-half zero style behind (x ∷ xs) back half are free =
+    let drawn : is_right (as_drawn x).part ≡ true = drawn-right x _ refl ∙ half in
+    let none : left_style x ≡ None = left-none x (right-not-left x.part half) in
+    let paired : ArePaired None xs = rw none at are.1 in
+    let rest : broken (map as_drawn xs ++ back) ≡ map as_drawn xs ++ back =
+    mended-append own_style (map as_drawn xs) back free ∙ ap (λ l. l ++ back) (mended-first own_style (map as_drawn xs) (first-drawn xs (paired-first xs paired))) in
+    rw drawn (ap (λ l. blank style ∷ l) (sym rest))
+covered-half (suc n) style behind [] back half are free = cc half
+covered-half (suc n) style behind (x ∷ xs) back half are free = ap (λ l. blank style ∷ l) (covered-half n style (left_style x) xs back half are.1 free)
+
+half-within : (n : ℕ) (xs : List Cell) → is_right (cell_at n xs).part ≡ true → n < length xs
+half-within zero [] half = cc half
+half-within zero (x ∷ xs) half = omega arith
+half-within (suc n) [] half = cc half
+half-within (suc n) (x ∷ xs) half = omega (arith, half-within n xs half)
 
 drawn-split : (n : ℕ) (xs : List Cell) → map as_drawn xs ≡ map as_drawn (take n xs) ++ map as_drawn (drop n xs)
 drawn-split zero xs = refl
@@ -140,7 +166,8 @@ one-column Right is = refl
 module _ (base : Display) (row : ℕ) (below : row < base.height) (replaces : base.inserts ≡ false) (unlinked : base.link ≡ 0) (back : List Cell)
     (free_back : is_right (cell_at 0 back).part ≡ false) where
   abbrev pub Painted : List Cell → Option Style → Place → ℕ → List Cell → State → Type 0
-  Painted front behind place n olds s = s.display ≡ on base (front ++ (standing behind n place.style olds ++ back)) place
+  Painted front behind place n olds s =
+      (lost : Cell → Style) × (s.display ≡ on base (front ++ (standing lost behind n place.style olds ++ back)) place)
 
   abbrev pub brush : Place → ℕ → Brush
   brush place n = record { place = place; erased = n }
@@ -149,36 +176,38 @@ module _ (base : Display) (row : ℕ) (below : row < base.height) (replaces : ba
   abbrev Next : ℕ → Place → ℕ → Cell → Cell → List Cell → List Cell → List Cell → State → Type 0
   Next column place n old new olds news front s =
       let next : Brush = brush_behind row column (brush place n) old new news in
-      Painted (front ++ as_drawn new ∷ []) (left_style new) next.place next.erased olds (after_all (change_calls row column (brush place n) old new news) s)
+      Painted (front ++ as_drawn new ∷ []) (left_style new) next.place next.erased olds (after_all (change_calls row column (brush place n) old new olds news) s)
 
   -- erased with the cells before it
   step-erased : (column : ℕ) (place : Place) (n : ℕ) (old new : Cell) (olds news front : List Cell) (s : State) → IsCell new → suc n ≤ erased_run place.style (new ∷ news)
       → Painted front None place (suc n) (old ∷ olds) s → Next column place (suc n) old new olds news front s
   unfolding change_calls brush_behind is_done
-  step-erased column place n old new olds news front s holds enough is =
+  step-erased column place n old new olds news front s holds enough (lost, is) =
       let first : FirstOf n place.style new news = run-first n place.style new news enough in
       let some : nat_lt 0 (suc n) ≡ true = lt-ltb 0 (suc n) (omega arith) in
       let none : left_style new ≡ None = left-none new (ap is_left (erased-part new first.erased)) in
       let drawn : as_drawn new ≡ blank place.style = drawn-erased new first.erased holds ∙ ap blank first.style_is in
       let less : suc n - 1 ≡ n = omega arith in
       rw (some, none, less) (
-      is
-      ∙ ap (λ l. on base l place)
-      (rw (sym drawn) (sym (append_assoc front (as_drawn new ∷ []) (covered n place.style olds ++ back))))
+        lost,
+        is
+            ∙ ap (λ l. on base l place)
+            (rw (sym drawn) (sym (append_assoc front (as_drawn new ∷ []) (covered lost n place.style olds ++ back)))),
       )
 
   -- a right half came with its left one
   step-right : (column : ℕ) (place : Place) (half : Style) (old new : Cell) (olds news front : List Cell) (s : State) → IsCell new → new.part ≡ Right → new.style ≡ half
       → Painted front (Some half) place 0 (old ∷ olds) s → Next column place 0 old new olds news front s
   unfolding change_calls brush_behind is_done
-  step-right column place half old new olds news front s holds part same is =
+  step-right column place half old new olds news front s holds part same (lost, is) =
       let right : is_right new.part ≡ true = ap is_right part in
       let none : left_style new ≡ None = left-none new (ap is_left part) in
       let drawn : as_drawn new ≡ plain_cell 0x20 half Right = drawn-printed new (right-erased new part) ∙ right-half new part same holds in
       rw (right, none) (
-      is
-      ∙ ap (λ l. on base l place)
-      (rw (sym drawn) (sym (append_assoc front (as_drawn new ∷ []) (covered 0 place.style olds ++ back))))
+        lost,
+        is
+            ∙ ap (λ l. on base l place)
+            (rw (sym drawn) (sym (append_assoc front (as_drawn new ∷ []) (covered lost 0 place.style olds ++ back)))),
       )
 
   -- a cell that stays
@@ -186,18 +215,18 @@ module _ (base : Display) (row : ℕ) (below : row < base.height) (replaces : ba
       → ArePaired (left_style old) olds → AreCells olds
       → Painted front None place 0 (old ∷ olds) s → Next column place 0 old new olds news front s
   unfolding change_calls brush_behind is_done
-  step-kept column place old new olds news front s right alike are holds is =
+  step-kept column place old new olds news front s right alike are holds (lost, is) =
       let same : Same old new = alike-same old new alike in
       let drawn : as_drawn old ≡ as_drawn new = alike-drawn old new alike in
       let free : is_right (as_drawn old).part ≡ false = drawn-right old _ refl ∙ (ap is_right same.part ∙ right) in
       let half : left_style old ≡ left_style new =
       ap (λ (p : Part). if is_left p then Some old.style else None) same.part ∙ ap (λ (t : Style). if is_left new.part then Some t else None) same.style in
-      let behind : standing (left_style new) 0 place.style olds ≡ map as_drawn olds =
-      ap (λ h. standing h 0 place.style olds) (sym half) ∙ kept-behind (left_style old) place.style olds are holds in
-      let cells : front ++ ((mended (as_drawn old) ∷ map as_drawn olds) ++ back) ≡ (front ++ as_drawn new ∷ []) ++ (standing (left_style new) 0 place.style olds ++ back) =
-      ap (λ x. front ++ ((x ∷ map as_drawn olds) ++ back)) (mended-same (as_drawn old) free ∙ drawn)
+      let behind : standing lost (left_style new) 0 place.style olds ≡ map as_drawn olds =
+      ap (λ h. standing lost h 0 place.style olds) (sym half) ∙ kept-behind lost (left_style old) place.style olds are holds in
+      let cells : front ++ ((mended lost (as_drawn old) ∷ map as_drawn olds) ++ back) ≡ (front ++ as_drawn new ∷ []) ++ (standing lost (left_style new) 0 place.style olds ++ back) =
+      ap (λ x. front ++ ((x ∷ map as_drawn olds) ++ back)) (mended-same lost (as_drawn old) free ∙ drawn)
       ∙ (sym (append_assoc front (as_drawn new ∷ []) (map as_drawn olds ++ back)) ∙ ap (λ l. (front ++ as_drawn new ∷ []) ++ (l ++ back)) (sym behind)) in
-      rw (right, alike) (is ∙ ap (λ l. on base l place) cells)
+      rw (right, alike) (lost, is ∙ ap (λ l. on base l place) cells)
 
   -- to a cell that differs, in its style
   made-at : (column : ℕ) (place : Place) (cells : List Cell) (new : Cell) (s : State) → place.is_relative ≡ false → column < base.width → HasColors new.style
@@ -214,39 +243,62 @@ module _ (base : Display) (row : ℕ) (below : row < base.height) (replaces : ba
       after_all-append (move_calls place row column) (style_calls place.style new.style ++ painted) s
       ∙ after_all-append (style_calls place.style new.style) painted (after_all (move_calls place row column) s)
 
+  -- ECH of a cell and some of those behind it
+  erase-front : (m : ℕ) (first : Cell) (olds front : List Cell) (q : Place) (s : State) → m ≤ length olds → is_right first.part ≡ false
+      → q.row * base.width + q.column ≡ length front → q.column + suc (length olds) ≤ base.width
+      → s.display ≡ on base (front ++ ((first ∷ map as_drawn olds) ++ back)) q
+      → (after (sequence (suc m ∷ []) 0x58) s).display ≡ on base (front ++ (replicate (suc m) (blank q.style) ++ broken (map as_drawn (drop m olds) ++ back))) q
+  erase-front m first olds front q s enough free there room is =
+      let run : List Cell = map as_drawn (take m olds) in
+      let rest : List Cell = map as_drawn (drop m olds) ++ back in
+      let long_run : length run ≡ m = drawn-long m olds enough in
+      let cells : front ++ ((first ∷ map as_drawn olds) ++ back) ≡ front ++ ((first ∷ run) ++ rest) =
+      ap (λ l. front ++ ((first ∷ l) ++ back)) (drawn-split m olds) ∙ ap (λ l. front ++ (first ∷ l)) (append_assoc run (map as_drawn (drop m olds)) back) in
+      ap (λ n. (after (sequence (suc n ∷ []) 0x58) s).display) (sym long_run)
+      ∙ (erase-run base front first run rest q s (is ∙ ap (λ l. on base l q) cells) there (omega arith) free
+      ∙ ap (λ n. on base (front ++ (replicate (suc n) (blank q.style) ++ broken rest)) q) long_run)
+
+  -- with the right half behind them
+  erase-columns : (k : ℕ) (behind : Option Style) (first : Cell) (olds front : List Cell) (q : Place) (s : State) (t : Bool) → is_right (cell_at k olds).part ≡ t
+      → ArePaired behind olds → k ≤ length olds → is_right first.part ≡ false → q.row * base.width + q.column ≡ length front → q.column + suc (length olds) ≤ base.width
+      → s.display ≡ on base (front ++ ((first ∷ map as_drawn olds) ++ back)) q
+      → (lost : Cell → Style) × ((after (sequence ((if t then suc (suc k) else suc k) ∷ []) 0x58) s).display
+      ≡ on base (front ++ (blank q.style ∷ (covered lost k q.style olds ++ back))) q)
+  erase-columns k behind first olds front q s true half are enough free there room is = (
+    erased_style q.style,
+    erase-front (suc k) first olds front q s (half-within k olds half) free there room is
+        ∙ ap (λ l. on base (front ++ (blank q.style ∷ l)) q) (sym (covered-half k q.style behind olds back half are free_back)),
+  )
+  erase-columns k behind first olds front q s false half are enough free there room is = (
+    own_style,
+    erase-front k first olds front q s enough free there room is
+        ∙ ap (λ l. on base (front ++ (blank q.style ∷ l)) q) (sym (covered-is k q.style olds back enough free_back)),
+  )
+
   -- a run of erased cells
   step-run : (column : ℕ) (place : Place) (old new : Cell) (olds news front : List Cell) (s : State) → IsCell new
-      → is_right new.part ≡ false → are_alike old new ≡ false → is_erased new ≡ true → place.is_relative ≡ false
+      → is_right new.part ≡ false → are_alike old new ≡ false → is_erased new ≡ true → place.is_relative ≡ false → ArePaired (left_style old) olds
       → length olds ≡ length news → column + suc (length news) ≡ base.width → row * base.width + column ≡ length front
       → Painted front None place 0 (old ∷ olds) s → Next column place 0 old new olds news front s
   unfolding change_calls brush_behind is_done
-  step-run column place old new olds news front s holds right differs erased absolute long fits there is =
+  step-run column place old new olds news front s holds right differs erased absolute pairs long fits there (lost, is) =
       let k : ℕ = erased_run new.style news in
-      let enough : k ≤ length olds = omega (arith, run-long new.style news) in
+      let painted : List Call = sequence (erased_columns new.style olds news ∷ []) 0x58 ∷ [] in
       let q : Place = record place { row = row; column = column; style = new.style } in
       let middle : State = after_all (style_calls place.style new.style) (after_all (move_calls place row column) s) in
-      let first : Cell = mended (as_drawn old) in
-      let run : List Cell = map as_drawn (take k olds) in
-      let rest : List Cell = map as_drawn (drop k olds) ++ back in
-      let long_run : length run ≡ k = drawn-long k olds enough in
-      let cells : front ++ ((first ∷ map as_drawn olds) ++ back) ≡ front ++ ((first ∷ run) ++ rest) =
-      ap (λ l. front ++ ((first ∷ l) ++ back)) (drawn-split k olds) ∙ ap (λ l. front ++ (first ∷ l)) (append_assoc run (map as_drawn (drop k olds)) back) in
-      let ready : middle.display ≡ on base (front ++ ((first ∷ run) ++ rest)) q =
-      made-at column place (front ++ ((first ∷ map as_drawn olds) ++ back)) new s absolute (omega arith) holds.colored is ∙ ap (λ l. on base l q) cells in
-      let room : column + suc (length run) ≤ base.width = omega (arith, run-long new.style news) in
-      let gone : (after (sequence (suc k ∷ []) 0x58) middle).display ≡ on base (front ++ (replicate (suc k) (blank new.style) ++ broken rest)) q =
-      ap (λ n. (after (sequence (suc n ∷ []) 0x58) middle).display) (sym long_run)
-      ∙ (erase-run base front first run rest q middle ready there room (mended-free (as_drawn old))
-      ∙ ap (λ n. on base (front ++ (replicate (suc n) (blank new.style) ++ broken rest)) q) long_run) in
+      let first : Cell = mended lost (as_drawn old) in
+      let ready : middle.display ≡ on base (front ++ ((first ∷ map as_drawn olds) ++ back)) q =
+      made-at column place (front ++ ((first ∷ map as_drawn olds) ++ back)) new s absolute (omega arith) holds.colored is in
+      let (left, gone) = erase-columns k (left_style old) first olds front q middle _ refl pairs (omega (arith, run-long new.style news)) (mended-free lost (as_drawn old))
+      there (omega arith) ready in
       let none : left_style new ≡ None = left-none new (ap is_left (erased-part new erased)) in
       let drawn : as_drawn new ≡ blank new.style = drawn-erased new erased holds in
-      let done : front ++ (blank new.style ∷ (replicate k (blank new.style) ++ broken rest)) ≡ (front ++ as_drawn new ∷ []) ++ (covered k new.style olds ++ back) =
-      ap (λ l. front ++ (blank new.style ∷ l)) (sym (covered-is k new.style olds back enough free_back))
-      ∙ (ap (λ x. front ++ (x ∷ (covered k new.style olds ++ back))) (sym drawn) ∙ sym (append_assoc front (as_drawn new ∷ []) (covered k new.style olds ++ back))) in
-      let all : (after_all (move_calls place row column ++ (style_calls place.style new.style ++ sequence (suc k ∷ []) 0x58 ∷ [])) s).display
-      ≡ on base ((front ++ as_drawn new ∷ []) ++ (covered k new.style olds ++ back)) q =
-      ap (λ (e : State). e.display) (calls-are column place new (sequence (suc k ∷ []) 0x58 ∷ []) s) ∙ (gone ∙ ap (λ l. on base l q) done) in
-      rw (right, differs, erased, none) all
+      let done : front ++ (blank new.style ∷ (covered left k new.style olds ++ back)) ≡ (front ++ as_drawn new ∷ []) ++ (covered left k new.style olds ++ back) =
+      ap (λ x. front ++ (x ∷ (covered left k new.style olds ++ back))) (sym drawn) ∙ sym (append_assoc front (as_drawn new ∷ []) (covered left k new.style olds ++ back)) in
+      let all : (after_all (move_calls place row column ++ (style_calls place.style new.style ++ painted)) s).display
+      ≡ on base ((front ++ as_drawn new ∷ []) ++ (covered left k new.style olds ++ back)) q =
+      ap (λ (e : State). e.display) (calls-are column place new painted s) ∙ (gone ∙ ap (λ l. on base l q) done) in
+      rw (right, differs, erased, none) (left, all)
 
   -- a character of one column
   step-narrow : (column : ℕ) (place : Place) (old new : Cell) (olds news front : List Cell) (s : State) → IsCell new
@@ -254,25 +306,26 @@ module _ (base : Display) (row : ℕ) (below : row < base.height) (replaces : ba
       → column + suc (length news) ≡ base.width → row * base.width + column ≡ length front
       → Painted front None place 0 (old ∷ olds) s → Next column place 0 old new olds news front s
   unfolding change_calls brush_behind is_done
-  step-narrow column place old new olds news front s holds right differs erased left absolute letter fits there is =
+  step-narrow column place old new olds news front s holds right differs erased left absolute letter fits there (lost, is) =
       let q : Place = record place { row = row; column = column; style = new.style } in
       let next : Place = record q { column = column + 1 } in
       let middle : State = after_all (style_calls place.style new.style) (after_all (move_calls place row column) s) in
-      let first : Cell = mended (as_drawn old) in
+      let first : Cell = mended lost (as_drawn old) in
       let rest : List Cell = map as_drawn olds ++ back in
       let ready : middle.display ≡ on base (front ++ (first ∷ rest)) q =
       made-at column place (front ++ (first ∷ rest)) new s absolute (omega arith) holds.colored is in
       let printed : (after_all (character_calls new) middle).display ≡ on base (front ++ (as_printed new ∷ broken rest)) next =
-      over-narrow base front rest q letter replaces unlinked there new first middle ready holds left right refl (omega arith) (mended-free (as_drawn old)) in
+      over-narrow base front rest q letter replaces unlinked there new first middle ready holds left right refl (omega arith) (mended-free lost (as_drawn old)) in
       let none : left_style new ≡ None = left-none new left in
       let one : half_columns new.part ≡ 1 = one-column new.part left in
-      let done : front ++ (as_printed new ∷ broken rest) ≡ (front ++ as_drawn new ∷ []) ++ (covered 0 new.style olds ++ back) =
-      ap (λ l. front ++ (as_printed new ∷ l)) (broken-append (map as_drawn olds) back free_back)
-      ∙ (ap (λ x. front ++ (x ∷ (covered 0 new.style olds ++ back))) (sym (drawn-printed new erased)) ∙ sym (append_assoc front (as_drawn new ∷ []) (covered 0 new.style olds ++ back))) in
+      let done : front ++ (as_printed new ∷ broken rest) ≡ (front ++ as_drawn new ∷ []) ++ (covered own_style 0 new.style olds ++ back) =
+      ap (λ l. front ++ (as_printed new ∷ l)) (mended-append own_style (map as_drawn olds) back free_back)
+      ∙ (ap (λ x. front ++ (x ∷ (covered own_style 0 new.style olds ++ back))) (sym (drawn-printed new erased))
+      ∙ sym (append_assoc front (as_drawn new ∷ []) (covered own_style 0 new.style olds ++ back))) in
       let all : (after_all (move_calls place row column ++ (style_calls place.style new.style ++ character_calls new)) s).display
-      ≡ on base ((front ++ as_drawn new ∷ []) ++ (covered 0 new.style olds ++ back)) next =
+      ≡ on base ((front ++ as_drawn new ∷ []) ++ (covered own_style 0 new.style olds ++ back)) next =
       ap (λ (e : State). e.display) (calls-are column place new (character_calls new) s) ∙ (printed ∙ ap (λ l. on base l next) done) in
-      rw (right, differs, erased, none, one) all
+      rw (right, differs, erased, none, one) (own_style, all)
 
   -- a character of two
   step-wide : (column : ℕ) (place : Place) (old new other : Cell) (olds news front : List Cell) (s : State) → IsCell new
@@ -280,30 +333,30 @@ module _ (base : Display) (row : ℕ) (below : row < base.height) (replaces : ba
       → column + suc (suc (length news)) ≡ base.width → row * base.width + column ≡ length front → (mate : Cell)
       → Painted front None place 0 (old ∷ (other ∷ olds)) s → Next column place 0 old new (other ∷ olds) (mate ∷ news) front s
   unfolding change_calls brush_behind is_done
-  step-wide column place old new other olds news front s holds differs left absolute letter fits there mate is =
+  step-wide column place old new other olds news front s holds differs left absolute letter fits there mate (lost, is) =
       let q : Place = record place { row = row; column = column; style = new.style } in
       let next : Place = record q { column = column + 2 } in
       let middle : State = after_all (style_calls place.style new.style) (after_all (move_calls place row column) s) in
-      let first : Cell = mended (as_drawn old) in
+      let first : Cell = mended lost (as_drawn old) in
       let rest : List Cell = map as_drawn olds ++ back in
       let half : Cell = plain_cell 0x20 new.style Right in
       let ready : middle.display ≡ on base (front ++ (first ∷ (as_drawn other ∷ rest))) q =
       made-at column place (front ++ (first ∷ (as_drawn other ∷ rest))) new s absolute (omega arith) holds.colored is in
       let printed : (after_all (character_calls new) middle).display ≡ on base (front ++ (as_printed new ∷ (half ∷ broken rest))) next =
-      over-wide base front rest q letter replaces unlinked there new first (as_drawn other) middle ready holds left refl (omega arith) (mended-free (as_drawn old)) in
+      over-wide base front rest q letter replaces unlinked there new first (as_drawn other) middle ready holds left refl (omega arith) (mended-free lost (as_drawn old)) in
       let right : is_right new.part ≡ false = ap is_right left in
       let is_half : is_left new.part ≡ true = ap is_left left in
       let erased : is_erased new ≡ false = left-erased new left in
       let some : left_style new ≡ Some new.style = left-some new is_half in
       let two : half_columns new.part ≡ 2 = ap half_columns left in
-      let done : front ++ (as_printed new ∷ (half ∷ broken rest)) ≡ (front ++ as_drawn new ∷ []) ++ ((half ∷ covered 0 new.style olds) ++ back) =
-      ap (λ l. front ++ (as_printed new ∷ (half ∷ l))) (broken-append (map as_drawn olds) back free_back)
-      ∙ (ap (λ x. front ++ (x ∷ (half ∷ (covered 0 new.style olds ++ back)))) (sym (drawn-printed new erased))
-      ∙ sym (append_assoc front (as_drawn new ∷ []) (half ∷ (covered 0 new.style olds ++ back)))) in
+      let done : front ++ (as_printed new ∷ (half ∷ broken rest)) ≡ (front ++ as_drawn new ∷ []) ++ ((half ∷ covered own_style 0 new.style olds) ++ back) =
+      ap (λ l. front ++ (as_printed new ∷ (half ∷ l))) (mended-append own_style (map as_drawn olds) back free_back)
+      ∙ (ap (λ x. front ++ (x ∷ (half ∷ (covered own_style 0 new.style olds ++ back)))) (sym (drawn-printed new erased))
+      ∙ sym (append_assoc front (as_drawn new ∷ []) (half ∷ (covered own_style 0 new.style olds ++ back)))) in
       let all : (after_all (move_calls place row column ++ (style_calls place.style new.style ++ character_calls new)) s).display
-      ≡ on base ((front ++ as_drawn new ∷ []) ++ ((half ∷ covered 0 new.style olds) ++ back)) next =
+      ≡ on base ((front ++ as_drawn new ∷ []) ++ ((half ∷ covered own_style 0 new.style olds) ++ back)) next =
       ap (λ (e : State). e.display) (calls-are column place new (character_calls new) s) ∙ (printed ∙ ap (λ l. on base l next) done) in
-      rw (right, differs, erased, some, two) all
+      rw (right, differs, erased, some, two) (own_style, all)
 
   -- whatever the cell
   pub record IsBrush (behind : Option Style) (place : Place) (n : ℕ) (news : List Cell) : Type 0 where
@@ -341,7 +394,7 @@ module _ (base : Display) (row : ℕ) (below : row < base.height) (replaces : ba
   step column None place zero old new olds news front s true u v alike erased left holds are pairs whole made fits is =
       step-kept column place old new olds news front s (none-right new are.0) alike pairs whole is
   step column None place zero old new olds news front s false true v alike erased left holds are pairs whole made fits is =
-      step-run column place old new olds news front s holds (none-right new are.0) alike erased made.absolute (omega (arith, fits.long)) fits.wide fits.there is
+      step-run column place old new olds news front s holds (none-right new are.0) alike erased made.absolute pairs (omega (arith, fits.long)) fits.wide fits.there is
   step column None place zero old new olds news front s false false false alike erased left holds are pairs whole made fits is =
       step-narrow column place old new olds news front s holds (none-right new are.0) alike erased left made.absolute made.letter fits.wide fits.there is
   step column None place zero old new olds news front s false false true alike erased left holds are pairs whole made fits is =
@@ -378,9 +431,9 @@ module _ (base : Display) (row : ℕ) (below : row < base.height) (replaces : ba
       let none : left_style new ≡ None = left-none new (ap is_left (erased-part new first.erased)) in
       rw (some, less, none) (record { awaits = tt; enough = first.others; absolute = made.absolute; letter = made.letter })
 
-  covered-none : (n : ℕ) (style : Style) → covered n style [] ≡ []
-  covered-none zero style = refl
-  covered-none (suc n) style = refl
+  covered-none : (lost : Cell → Style) (n : ℕ) (style : Style) → covered lost n style [] ≡ []
+  covered-none lost zero style = refl
+  covered-none lost (suc n) style = refl
 
   -- the whole row
   pub paint-row : (olds news front : List Cell) (column : ℕ) (behind old_behind : Option Style) (place : Place) (n : ℕ) (s : State)
@@ -388,13 +441,14 @@ module _ (base : Display) (row : ℕ) (below : row < base.height) (replaces : ba
       → IsBrush behind place n news → Fits column olds news front → Painted front behind place n olds s
       → (after_all (row_calls row column (brush place n) olds news) s).display
       ≡ on base (front ++ (map as_drawn news ++ back)) (brush_after row column (brush place n) olds news).place
-  paint-row [] [] front column None old_behind place n s are holds pairs whole made fits is = is ∙ ap (λ l. on base (front ++ (l ++ back)) place) (covered-none n place.style)
+  paint-row [] [] front column None old_behind place n s are holds pairs whole made fits (lost, is) =
+      is ∙ ap (λ l. on base (front ++ (l ++ back)) place) (covered-none lost n place.style)
   paint-row [] [] front column (Some half) old_behind place n s are holds pairs whole made fits is = cc are
   paint-row [] (new ∷ news) front column behind old_behind place n s are holds pairs whole made fits is = absurd (omega (arith, fits.long))
   paint-row (old ∷ olds) [] front column behind old_behind place n s are holds pairs whole made fits is = absurd (omega (arith, fits.long))
   paint-row (old ∷ olds) (new ∷ news) front column behind old_behind place n s are holds pairs whole made fits is =
       let next : Brush = brush_behind row column (brush place n) old new news in
-      let calls : List Call = change_calls row column (brush place n) old new news in
+      let calls : List Call = change_calls row column (brush place n) old new olds news in
       let more : List Cell = front ++ as_drawn new ∷ [] in
       let one : Next column place n old new olds news front s =
       step column behind place n old new olds news front s _ _ _ refl refl refl holds.0 are pairs.1 whole.1 made fits is in

@@ -89,12 +89,12 @@ module _ {W : Type 0} (sink : SinkOf W) (row : ℕ) (first : Brush) (olds news :
   pub row-more : (column : ℕ) (brush : Brush) (old new : Cell) (cells : List Cell) (next : Brush) (a b b2 : Output W)
       → column < length olds → column < length news → old ≡ cell_at column olds → new ≡ cell_at column news → cells ≡ drop (column + 1) news
       → next ≡ brush_behind row column brush old new cells
-      → RowDraws column brush a b → Draws sink (change_calls row column brush old new cells) b b2
+      → RowDraws column brush a b → Draws sink (change_calls row column brush old new (drop (column + 1) olds) cells) b b2
       → RowDraws (column + 1) next a b2
   row-more column brush old new cells next a b b2 inside within old_is new_is rest follows so_far drawn =
       let step : suc column ≡ column + 1 = omega arith in
       let fewer : List Cell = drop (column + 1) olds in
-      let change : List Call = change_calls row column brush old new cells in
+      let change : List Call = change_calls row column brush old new fewer cells in
       let front : drop column olds ≡ old ∷ fewer = drop_more olds column (blank plain) inside ∙ ap (λ x. x ∷ fewer) (sym old_is) in
       let back : drop column news ≡ new ∷ cells =
       drop_more news column (blank plain) within ∙ (ap (λ x. x ∷ drop (column + 1) news) (sym new_is) ∙ ap (λ l. new ∷ l) (sym rest)) in

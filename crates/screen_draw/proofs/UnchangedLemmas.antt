@@ -92,24 +92,24 @@ done-alike brush old new alike =
     let right : (is_right new.part || true) ≡ true = or-true (is_right new.part) in
     rw (alike, right) (or-true (nat_lt 0 brush.erased))
 
-pub alike-nothing : (row column : ℕ) (brush : Brush) (old new : Cell) (behind : List Cell) → are_alike old new ≡ true → change_calls row column brush old new behind ≡ []
+pub alike-nothing : (row column : ℕ) (brush : Brush) (old new : Cell) (olds behind : List Cell) → are_alike old new ≡ true → change_calls row column brush old new olds behind ≡ []
 unfolding change_calls
-alike-nothing row column brush old new behind alike = let done : is_done brush old new ≡ true = done-alike brush old new alike in rw done refl
+alike-nothing row column brush old new olds behind alike = let done : is_done brush old new ≡ true = done-alike brush old new alike in rw done refl
 
 -- rows
 stays : (row column : ℕ) (place : Place) (old new : Cell) (news : List Cell) → are_alike old new ≡ true → brush_behind row column (begun_at place) old new news ≡ begun_at place
 unfolding brush_behind
 stays row column place old new news alike = let done : is_done (begun_at place) old new ≡ true = done-alike (begun_at place) old new alike in rw done refl
 
-pub brush-stays : (row column : ℕ) (brush : Brush) (old new : Cell) (cells : List Cell) → ((brush.erased == 0) && are_alike old new) ≡ true
-    → (change_calls row column brush old new cells ≡ []) × (brush ≡ brush_behind row column brush old new cells)
+pub brush-stays : (row column : ℕ) (brush : Brush) (old new : Cell) (olds cells : List Cell) → ((brush.erased == 0) && are_alike old new) ≡ true
+    → (change_calls row column brush old new olds cells ≡ []) × (brush ≡ brush_behind row column brush old new cells)
 unfolding brush_behind
-brush-stays row column brush old new cells is =
+brush-stays row column brush old new olds cells is =
     let parts = and_parts (brush.erased == 0) (are_alike old new) is in
     let none : brush.erased ≡ 0 = eqb-true brush.erased 0 parts.0 in
     let left : brush.erased ≡ brush.erased - 1 = omega arith in
     let done : is_done brush old new ≡ true = done-alike brush old new parts.1 in (
-      alike-nothing row column brush old new cells parts.1,
+      alike-nothing row column brush old new olds cells parts.1,
       rw done (ap (λ n. record brush { erased = n }) left),
     )
 
@@ -119,7 +119,7 @@ row-alike row column place [] news all = (refl, refl)
 row-alike row column place (x ∷ xs) [] all = (refl, refl)
 row-alike row column place (x ∷ xs) (y ∷ ys) all =
     let parts = and_parts (are_alike x y) (all_two are_alike xs ys) all in
-    let none : change_calls row column (begun_at place) x y ys ≡ [] = alike-nothing row column (begun_at place) x y ys parts.0 in
+    let none : change_calls row column (begun_at place) x y xs ys ≡ [] = alike-nothing row column (begun_at place) x y xs ys parts.0 in
     let same : brush_behind row column (begun_at place) x y ys ≡ begun_at place = stays row column place x y ys parts.0 in
     let (calls, brush) = row-alike row (suc column) place xs ys parts.1 in (
       ap (λ l. l ++ row_calls row (suc column) (brush_behind row column (begun_at place) x y ys) xs ys) none
@@ -142,7 +142,7 @@ front-alike (suc n) row column place [] (y ∷ ys) long are = absurd (omega (ari
 front-alike (suc n) row column place (x ∷ xs) [] long are = absurd (omega (arith, long))
 front-alike (suc n) row column place (x ∷ xs) (y ∷ ys) long are =
     let parts = and_parts (are_alike x y) (all_two are_alike (take n xs) (take n ys)) are in
-    let none : change_calls row column (begun_at place) x y ys ≡ [] = alike-nothing row column (begun_at place) x y ys parts.0 in
+    let none : change_calls row column (begun_at place) x y xs ys ≡ [] = alike-nothing row column (begun_at place) x y xs ys parts.0 in
     let same : brush_behind row column (begun_at place) x y ys ≡ begun_at place = stays row column place x y ys parts.0 in
     let less : length xs ≡ length ys = omega (arith, long) in
     let on : suc column + n ≡ column + suc n = omega arith in

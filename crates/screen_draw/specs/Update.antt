@@ -10,7 +10,7 @@ use Rattle.ansi_screen.specs.declared.cell.Cell.{Cell}
 use Rattle.ansi_screen.specs.declared.cell.Part.{Part}
 use Rattle.ansi_screen.specs.declared.cell.Part.TheVariants.{Left}
 use Rattle.ansi_screen.specs.declared.place.Place.{Place}
-use Rattle.ansi_screen.specs.Cells.{is_right}
+use Rattle.ansi_screen.specs.Cells.{is_right, cell_at}
 use Rattle.ansi_screen.specs.Display.{Display, row_cells}
 use Rattle.screen_draw.specs.declared.changes.Brush.{Brush}
 use Rattle.screen_draw.specs.Alike.{are_alike, has_same_margins, looks_same, lacks_print, is_steady}
@@ -29,10 +29,19 @@ erased_run style [] = 0
 erased_run style (cell ∷ cells) =
     if is_erased cell && are_equal cell.style style then suc (erased_run style cells) else 0
 
--- ECH, for all such cells that follow at once; or the character
-abbrev pub painted_calls : Cell → List Cell → List Call
-painted_calls cell cells =
-    if is_erased cell then sequence (suc (erased_run cell.style cells) ∷ []) 0x58 ∷ [] else character_calls cell
+-- How many columns are erased at once, of which the first is followed by old cells, and to be followed by others: its
+-- own, those of the run, and the right half of an old wide character behind them, since a terminal may keep it where
+-- the left one is erased. What is to stand there is no right half, and so drawn next.
+abbrev pub erased_columns : Style → List Cell → List Cell → ℕ
+erased_columns style olds cells =
+    if is_right (cell_at (erased_run style cells) olds).part
+    then suc (suc (erased_run style cells))
+    else suc (erased_run style cells)
+
+-- ECH, or the character
+abbrev pub painted_calls : Cell → List Cell → List Cell → List Call
+painted_calls cell olds cells =
+    if is_erased cell then sequence (erased_columns cell.style olds cells ∷ []) 0x58 ∷ [] else character_calls cell
 
 -- A brush is the place where the cursor stands, with the style that is selected, and how many cells from here on
 -- are erased already.
@@ -43,10 +52,10 @@ unfoldable pub is_done : Brush → Cell → Cell → Bool
 is_done brush old new = nat_lt 0 brush.erased || (is_right new.part || are_alike old new)
 
 -- a cell that differs: there, in its style
-unfoldable pub change_calls : ℕ → ℕ → Brush → Cell → Cell → List Cell → List Call
-change_calls row column brush old new cells =
+unfoldable pub change_calls : ℕ → ℕ → Brush → Cell → Cell → List Cell → List Cell → List Call
+change_calls row column brush old new olds cells =
     if is_done brush old new then []
-    else move_calls brush.place row column ++ (style_calls brush.place.style new.style ++ painted_calls new cells)
+    else move_calls brush.place row column ++ (style_calls brush.place.style new.style ++ painted_calls new olds cells)
 
 -- how many columns the cursor moves; ECH leaves it where it is
 abbrev pub half_columns : Part → ℕ
@@ -68,7 +77,7 @@ brush_behind row column brush old new cells =
 -- a row, from a column on: the cells that differ
 abbrev pub row_calls : ℕ → ℕ → Brush → List Cell → List Cell → List Call
 row_calls row column brush (old ∷ olds) (new ∷ news) =
-    change_calls row column brush old new news
+    change_calls row column brush old new olds news
     ++ row_calls row (suc column) (brush_behind row column brush old new news) olds news
 row_calls row column brush olds news = []
 

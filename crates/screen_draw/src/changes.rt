@@ -6,7 +6,7 @@ ghost use Rattle.ansi_screen.specs.Display.{most_columns, most_rows, IsSized};
 ghost use Rattle.screen_draw.specs.Changed.{Keeps};
 ghost use Rattle.screen_draw.specs.Draw.{position, select, wrap_calls, last_cell, last_column};
 ghost use Rattle.screen_draw.specs.Drawing.{Draws};
-ghost use Rattle.screen_draw.specs.Update.{move_calls, erased_run, painted_calls, is_done, change_calls, half_columns, brush_behind, row_calls, brush_after, begun_at, place_behind, rows_calls, wants_wrap, cursor_changes, mode_changes, changes_from, changes_calls};
+ghost use Rattle.screen_draw.specs.Update.{move_calls, erased_run, erased_columns, painted_calls, is_done, change_calls, half_columns, brush_behind, row_calls, brush_after, begun_at, place_behind, rows_calls, wants_wrap, cursor_changes, mode_changes, changes_from, changes_calls};
 
 use crate::alike::{alike_front, are_alike, has_same_margins, lacks_print};
 use crate::calls::{put_number, put_position, put_private_mode, put_style};
@@ -54,13 +54,31 @@ fn erased_run(style: Style, cells: &[Cell]) -> usize
     cells.len()
 }
 
+/// How many columns are erased at once: one, those of the run behind it, and an old right half behind these, which
+/// a terminal may keep where its left one is erased.
+fn erased_columns(style: Style, olds: &[Cell], cells: &[Cell]) -> usize
+    requires { length olds.now ≡ length cells.now }
+    ensures columns { result ≡ erased_columns style olds.now cells.now }
+    ensures within { result ≤ length cells.now + 1 }
+{
+    let run = erased_run(style, cells);
+    if run < olds.len() && olds[run].is_right() {
+        run + 2
+    } else {
+        run + 1
+    }
+}
+
 /// Erases this cell and all like it that follow at once, or prints it.
-fn put_painted<W: Sink>(output: &mut Output<W>, cell: Cell, cells: &[Cell])
-    requires { length cells.now < most_columns }
-    ensures { Draws W.Sink (painted_calls cell cells.now) output.old output.new }
+// Out of line, so that the loop over a row's cells keeps what it compares in registers.
+#[inline(never)]
+fn put_painted<W: Sink>(output: &mut Output<W>, cell: Cell, olds: &[Cell], cells: &[Cell])
+    requires few { length cells.now < most_columns }
+    requires same { length olds.now ≡ length cells.now }
+    ensures { Draws W.Sink (painted_calls cell olds.now cells.now) output.old output.new }
 {
     if is_erased(cell) {
-        put_number(output, erased_run(cell.style, cells) as u16 + 1, b'X');
+        put_number(output, erased_columns(cell.style, olds, cells) as u16, b'X');
     } else {
         put_marked(output, cell);
     }
@@ -129,35 +147,50 @@ impl Brush {
     }
 }
 
-/// Draws a cell, where it differs.
-#[tactic(auto, unfolding(crate::specs::Update::change_calls))]
-fn put_change<W: Sink>(
-    output: &mut Output<W>,
-    row: usize,
-    column: usize,
-    brush: Brush,
-    old: Cell,
-    new: Cell,
-    cells: &[Cell],
-)
-    requires row { row < most_rows }
-    requires column { column < most_columns }
-    requires cells { length cells.now < most_columns }
-    ensures { Draws W.Sink (change_calls row column brush old new cells.now) output.old output.new }
-{
-    if !brush.is_done(&old, &new) {
-        put_move(output, brush.place, row, column);
-        put_style_change(output, brush.place.style, new.style);
-        put_painted(output, new, cells);
-    }
-}
-
 /// The cell of a column.
 fn cell_in(cells: &[Cell], column: usize) -> &Cell
     requires { column < length cells.now }
     ensures { result.now ≡ cell_at column cells.now }
 {
     &cells[column]
+}
+
+/// The cells behind a column.
+fn cells_behind(cells: &[Cell], column: usize) -> &[Cell]
+    requires { column < length cells.now }
+    ensures { result.now ≡ drop (column + 1) cells.now }
+{
+    &cells[column + 1..]
+}
+
+/// Draws the cell of a column, where it differs.
+#[tactic(auto, unfolding(crate::specs::Update::change_calls))]
+fn put_change<W: Sink>(
+    output: &mut Output<W>,
+    row: usize,
+    column: usize,
+    brush: Brush,
+    olds: &[Cell],
+    news: &[Cell],
+)
+    requires row { row < most_rows }
+    requires column { column < length news.now }
+    requires columns { length news.now ≤ most_columns }
+    requires same { length olds.now ≡ length news.now }
+    ensures { Draws W.Sink (change_calls row column brush (cell_at column olds.now) (cell_at column news.now)
+        (drop (column + 1) olds.now) (drop (column + 1) news.now)) output.old output.new }
+{
+    let new = *cell_in(news, column);
+    if !brush.is_done(cell_in(olds, column), &new) {
+        put_move(output, brush.place, row, column);
+        put_style_change(output, brush.place.style, new.style);
+        put_painted(
+            output,
+            new,
+            cells_behind(olds, column),
+            cells_behind(news, column),
+        );
+    }
 }
 
 /// Draws the cell of a column, where it differs. The answer is the brush behind it.
@@ -174,15 +207,14 @@ fn put_step<W: Sink>(
     requires columns { length news.now ≤ most_columns }
     requires same { length olds.now ≡ length news.now }
     ensures calls { Draws W.Sink (change_calls row column brush (cell_at column olds.now) (cell_at column news.now)
-        (drop (column + 1) news.now)) output.old output.new }
+        (drop (column + 1) olds.now) (drop (column + 1) news.now)) output.old output.new }
     ensures brush { result ≡ brush_behind row column brush (cell_at column olds.now) (cell_at column news.now)
         (drop (column + 1) news.now) }
 {
     let old = *cell_in(olds, column);
     let new = *cell_in(news, column);
-    let cells = &news[column + 1..];
-    put_change(output, row, column, brush, old, new, cells);
-    brush.behind(row, column, old, new, cells)
+    put_change(output, row, column, brush, olds, news);
+    brush.behind(row, column, old, new, cells_behind(news, column))
 }
 
 /// Draws the cells of a row that differ, from the first one that does on. The answer is where the cursor stands then.

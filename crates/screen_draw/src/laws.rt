@@ -75,8 +75,8 @@ pub fn noted()
 /// What is the same is not drawn: nothing of a screen that shows, and no cell that is like the one that stands there.
 pub fn unchanged()
     ensures screen { (shown : Display) → update_calls shown shown ≡ [] }
-    ensures cell { (row column : ℕ) (brush : Brush) (old new : Cell) (behind : List Cell) → are_alike old new ≡ true
-        → change_calls row column brush old new behind ≡ [] }
+    ensures cell { (row column : ℕ) (brush : Brush) (old new : Cell) (olds news : List Cell) → are_alike old new ≡ true
+        → change_calls row column brush old new olds news ≡ [] }
     ensures cursor { (shown : Display) (row column : ℕ)
         → is_steady (record shown { cursor = record shown.cursor { row = row; column = column } }) shown ≡ true
         → shown.cursor.column < shown.width

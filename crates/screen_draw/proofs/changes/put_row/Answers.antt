@@ -35,7 +35,7 @@ loop-column-preserved g c =
           (row-more g.W.Sink c.args.row (begun_at c.args.place) olds news column brush _ _ _ _ _ _ _
           (omega (arith, c.requires.same)) (omega arith) refl refl refl w.put_step-brush.ensures.brush c.loop-column.invariant w.put_step-brush.ensures.calls))
       | else-not-stays w ↦
-          let none = brush-stays c.args.row column brush old new (drop (column + 1) news) (sym stays ∙ w.if-not-stays.false) in
+          let none = brush-stays c.args.row column brush old new (drop (column + 1) olds) (drop (column + 1) news) (sym stays ∙ w.if-not-stays.false) in
           subst (λ b. RowDraws g.W.Sink c.args.row (begun_at c.args.place) olds news (column + 1) b c.args.output.now c.if-not-stays.output) (sym w.brush-is)
           (subst (λ o. RowDraws g.W.Sink c.args.row (begun_at c.args.place) olds news (column + 1) brush c.args.output.now o) (sym w.output-is)
           (row-more g.W.Sink c.args.row (begun_at c.args.place) olds news column brush _ _ _ _ _ _ _

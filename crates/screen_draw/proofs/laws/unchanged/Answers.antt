@@ -6,7 +6,7 @@ pub returns-clause-screen : goal.returns-clause-screen
 returns-clause-screen c = λ shown. same-nothing shown
 
 pub returns-clause-cell : goal.returns-clause-cell
-returns-clause-cell c = λ row column brush old new behind alike. alike-nothing row column brush old new behind alike
+returns-clause-cell c = λ row column brush old new olds behind alike. alike-nothing row column brush old new olds behind alike
 
 pub returns-clause-cursor : goal.returns-clause-cursor
 returns-clause-cursor c = λ shown row column steady inside. cursor-alone shown row column steady inside

@@ -196,9 +196,14 @@ module _ (other : ℕ → Bool) where
     each_before none =
         each_of_prefix (λ b. not (other b)) bytes (sym counted ∙ cond-true (eqb mask 0) 16 (count_trailing_zeros 64 mask) (eq-eqb mask 0 none) ∙ sym long)
 
-pub each_as : (test same : ℕ → Bool) → ((b : ℕ) → same b ≡ test b) → (bytes : List ℕ) → EachIs test bytes → EachIs same bytes
+each_as : (test same : ℕ → Bool) → ((b : ℕ) → same b ≡ test b) → (bytes : List ℕ) → EachIs test bytes → EachIs same bytes
 each_as test same are_same [] are = tt
 each_as test same are_same (b ∷ bytes) are = (are_same b ∙ are.0, each_as test same are_same bytes are.1)
+
+-- those that do not pass, by a test that answers the same
+pub others-as : (test same : ℕ → Bool) → ((b : ℕ) → same b ≡ test b) → (bytes : List ℕ) → map (λ b. not (test b)) bytes ≡ map (λ b. not (same b)) bytes
+others-as test same are_same [] = refl
+others-as test same are_same (b ∷ bytes) = ap₂ (λ x xs. not x ∷ xs) (sym (are_same b)) (others-as test same are_same bytes)
 
 -- the same by a mask of those that do not pass a test
 not-not : (t : Bool) → not (not t) ≡ t

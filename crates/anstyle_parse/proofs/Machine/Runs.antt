@@ -5,7 +5,7 @@ use Rattle.std.specs.List.{range_with_len}
 use Rattle.std.proofs.lemmas.List.{length-take-le, take-append-le, take-append-drop}
 use Rattle.std.proofs.lemmas.Bool.{cond-true, cond_both, and_from, and_parts, leb-true, le-leb, or_cases}
 use Rattle.anstyle_parse.specs.declared.state.definitions.State.{State}
-use Rattle.anstyle_parse.specs.declared.state.definitions.State.TheVariants.{Anywhere, CsiEntry, CsiIgnore, CsiParam, DcsIgnore, DcsPassthrough, Escape, Ground, OscString, SosPmApcString, Utf8}
+use Rattle.anstyle_parse.specs.declared.state.definitions.State.TheVariants.{Anywhere, CsiEntry, CsiIgnore, CsiParam, DcsEntry, DcsIgnore, DcsPassthrough, Escape, Ground, OscString, SosPmApcString, Utf8}
 use Rattle.anstyle_parse.specs.declared.state.definitions.Action.{Action}
 use Rattle.anstyle_parse.specs.declared.state.definitions.Action.TheVariants.{BeginUtf8, CsiDispatch, EscDispatch, Execute, Nop, OscPut, Param}
 use Rattle.anstyle_parse.specs.declared.accumulator.Taken.{Taken}
@@ -123,6 +123,17 @@ unfolding change_at is_within
 change_at-command state b is byte =
     ap (λ s. change_at s b) is ∙ ap (λ n. change_at Escape n) byte
 
+-- of Escape to the beginning of a device control string, and of a hooked one to its end
+pub change_at-device : (state : State) (b : ℕ) → state ≡ Escape → b ≡ 0x50 → change_at state b ≡ (DcsEntry by Nop)
+unfolding change_at is_within
+change_at-device state b is byte =
+    ap (λ s. change_at s b) is ∙ ap (λ n. change_at Escape n) byte
+
+pub change_at-hooked_escape : (state : State) (b : ℕ) → state ≡ DcsPassthrough → b ≡ 0x1B → change_at state b ≡ (Escape by Nop)
+unfolding change_at is_within
+change_at-hooked_escape state b is byte =
+    ap (λ s. change_at s b) is ∙ ap (λ n. change_at DcsPassthrough n) byte
+
 -- the answers of a command to its ends
 pub change_at-command_escape : (state : State) (b : ℕ) → state ≡ OscString → b ≡ 0x1B → change_at state b ≡ (Escape by Nop)
 unfolding change_at is_within
@@ -172,6 +183,12 @@ module _ {A : Type 0} (adds : AccumulatorStep A) (b : ℕ) where
       → (step adds b m).state ≡ state
   state-by m state action outside moves is =
       ap (λ (x : Machine A). x.state) ((step-by adds m b (state by action) outside is).0 ∙ after_change-moves adds state action b m moves)
+
+  -- ESC in Ground
+  pub state-escape : (old new : Parser A) → old.state ≡ Ground → b ≡ 0x1B → machine_of new ≡ step adds b (machine_of old) → new.state ≡ Escape
+  state-escape old new ground escape stepped =
+      ap (λ (x : Machine A). x.state) stepped
+      ∙ state-by (machine_of old) Escape Nop (λ h. absurd (cc (ground, h))) (λ h. absurd (cc)) (change_at-escape old.state b ground escape)
 
   -- a field's byte in a header that has one, and in one that may be empty so far
   pub step-field : (m : Machine A) → m.state ≡ CsiParam → IsTrue (is_parameter b) → (step adds b m ≡ after_param b m) × (step_calls adds b m ≡ [])
@@ -318,6 +335,15 @@ module _ {C P : Type 0} (takes : C → ℕ → Type 0) (adds : AccumulatorStep C
     performed = goes;
   }
 
+  -- a byte after a byte
+  pub LeadsTo-bytes : (p q r : Parser C) (x y z : P) (a b : ℕ) (behind left : List ℕ) → CanTakeAll takes p (a ∷ behind) → behind ≡ b ∷ left
+      → machine_of q ≡ step adds a (machine_of p) → Goes means x (step_calls adds a (machine_of p)) y
+      → machine_of r ≡ step adds b (machine_of q) → Goes means y (step_calls adds b (machine_of q)) z
+      → LeadsTo takes adds means p x (a ∷ behind) r z left
+  LeadsTo-bytes p q r x y z a b behind left can same first_step first_calls second_step second_calls =
+      LeadsTo-first same (LeadsTo-byte p q x y a behind can first_step first_calls)
+      (λ further. LeadsTo-byte q r y z b left further second_step second_calls)
+
   pub Takes-byte : (old new : Parser C) (before after : P) (b : ℕ) (left : List ℕ) → CanTakeAll takes old (b ∷ left)
       → machine_of new ≡ step adds b (machine_of old) → Goes means before (step_calls adds b (machine_of old)) after
       → Takes takes adds means old before b left new after left
@@ -352,6 +378,16 @@ module _ {C P : Type 0} (takes : C → ℕ → Type 0) (adds : AccumulatorStep C
         → EachIs (λ b. is_of_run run b) bytes → AreMade means (λ b. run_calls run b) before bytes after
         → LeadsTo takes adds means parser before (bytes ++ left) parser after left
     LeadsTo-chunk = LeadsTo-all_kept parser (λ b. is_of_run run b) (λ b. run_calls run b) (λ b. step-run adds (machine_of parser) b run keeps) before after
+
+    -- the front of a chunk
+    pub LeadsTo-front : {p : Parser C} {first : P} {xs : List ℕ} (count : ℕ) (rest chunk few others : List ℕ)
+        → chunk ≡ take 16 rest → count ≤ length chunk → EachIs (λ b. is_of_run run b) (take count chunk)
+        → few ≡ take count rest → others ≡ drop count rest → AreMade means (λ b. run_calls run b) before few after
+        → LeadsTo takes adds means p first xs parser before rest → LeadsTo takes adds means p first xs parser after others
+    LeadsTo-front count rest chunk few others front within each taken behind made begun =
+        let same : few ≡ take count chunk = taken ∙ front_of_chunk 16 count rest chunk front within in
+        LeadsTo-first (chunk_and_rest count rest few others taken behind) begun
+        (λ can. LeadsTo-chunk few others can (subst (EachIs (λ b. is_of_run run b)) (sym same) each) made)
 
   -- a whole character
   pub LeadsTo-whole : (parser : Parser C) (before after : P) (first : ℕ) (behind : List ℕ) (c : ℕ) (left : List ℕ) → CanTakeAll takes parser (first ∷ behind)

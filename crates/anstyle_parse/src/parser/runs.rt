@@ -4,11 +4,11 @@
 //! clause says that going on from where it leaves with the rest is taking all bytes one after
 //! another. A byte that is in no run goes through the table.
 ghost use Rattle.std.specs.Prelude.{◌≡◌, ◌≢◌, ◌≤◌, ◌+◌, ◌-◌, ◌∷◌, ◌⊎◌, ◌||◌, ℕ, IsTrue, length};
-ghost use Rattle.std.specs.Prelude.{take};
+ghost use Rattle.std.specs.Prelude.{map, not};
+ghost use Rattle.std.specs.Simd.Lanes.{mask_l};
 ghost use Rattle.anstyle_parse.specs.Stream.Bytes.{is_within, is_final};
 ghost use Rattle.anstyle_parse.specs.Stream.Call.{Goes};
 ghost use Rattle.anstyle_parse.specs.Machine.Table.{◌by◌, change_at};
-ghost use Rattle.anstyle_parse.specs.Stream.Items.{EachIs};
 ghost use Rattle.anstyle_parse.specs.Views.Runs.{Takes, LeadsTo, LeadsQuietlyTo, KeepsTo, is_of_run, run_calls, AreMade};
 
 use super::Parser;
@@ -60,12 +60,12 @@ impl Run {
         }
     }
 
-    /// Whether all are of the run.
+    /// A bit for each byte of a chunk, the lowest for the first: whether it is none of the run.
     #[inline(always)]
-    fn has_all(self, chunk: &[u8; CHUNK]) -> bool
-        ensures { IsTrue result → EachIs (λ b. is_of_run self b) chunk.now }
+    fn others(self, chunk: &[u8; CHUNK]) -> u64
+        ensures { result ≡ mask_l (map (λ b. not (is_of_run self b)) chunk.now) }
     {
-        outside(u8x16::from_array(*chunk), self.count()) == 0
+        outside(u8x16::from_array(*chunk), self.count())
     }
 
     /// Makes the call of a byte of the run, if it has one.
@@ -87,6 +87,16 @@ impl Run {
     {
         for byte in bytes {
             self.call(performer, byte);
+        }
+    }
+
+    /// The same for each of fewer.
+    #[inline(always)]
+    fn call_few<P: Perform>(self, performer: &mut P, bytes: &[u8])
+        ensures { AreMade P.means (λ b. run_calls self b) performer.old bytes.now performer.new }
+    {
+        for byte in bytes {
+            self.call(performer, *byte);
         }
     }
 }
@@ -129,7 +139,7 @@ impl<C: CharAccumulator> Parser<C> {
             State::Escape => self.take_after_escape(performer, first, behind),
             State::CsiEntry | State::CsiParam => self.take_in_header(performer, bytes),
             State::OscString => self.take_in_command(performer, first, behind),
-            State::DcsPassthrough => self.take_run(performer, Run::OfHookedString, first, behind),
+            State::DcsPassthrough => self.take_in_hooked_string(performer, first, behind),
             State::SosPmApcString | State::DcsIgnore => {
                 self.take_run(performer, Run::OfIgnoredString, first, behind)
             }
@@ -176,12 +186,29 @@ impl<C: CharAccumulator> Parser<C> {
         if !run.has(first) {
             return self.take_by_table(performer, first, behind);
         }
-        run.call(performer, first);
-        let rest = self.take_chunks(performer, run, behind);
-        self.take_others(performer, run, rest)
+        self.take_whole_run(performer, run, first, behind)
     }
 
-    /// Chunks, as long as all of a chunk is of the run.
+    /// The same of a first byte that is of the run.
+    #[inline(always)]
+    fn take_whole_run<'a, P: Perform>(
+        &self,
+        performer: &mut P,
+        run: Run,
+        first: u8,
+        behind: &'a [u8],
+    ) -> &'a [u8]
+        requires keeps { KeepsTo run self.now.state }
+        requires first { IsTrue (is_of_run run first) }
+        requires can { CanTakeAll C.takes self.now (first ∷ behind.now) }
+        ensures { Takes C.takes C.taken P.means self.now performer.old first behind.now
+            self.now performer.new result.now }
+    {
+        run.call(performer, first);
+        self.take_chunks(performer, run, behind)
+    }
+
+    /// Chunks, up to one of which not all is of the run, and then single bytes.
     #[inline(always)]
     fn take_chunks<'a, P: Perform>(&self, performer: &mut P, run: Run, bytes: &'a [u8]) -> &'a [u8]
         requires keeps { KeepsTo run self.now.state }
@@ -192,13 +219,16 @@ impl<C: CharAccumulator> Parser<C> {
     {
         let mut rest = bytes;
         'chunks: while let Some((chunk, behind)) = rest.split_first_chunk::<CHUNK>() {
-            if !run.has_all(chunk) {
-                break;
+            let others = run.others(chunk);
+            if others != 0 {
+                let (few, left) = rest.split_at(others.trailing_zeros() as usize);
+                run.call_few(performer, few);
+                return left;
             }
             run.call_all(performer, *chunk);
             rest = behind;
         }
-        rest
+        self.take_others(performer, run, rest)
     }
 
     /// Single bytes, as long as they are of the run.
@@ -314,8 +344,8 @@ impl<C: CharAccumulator> Parser<C> {
         rest
     }
 
-    /// ESC, and with it a control sequence that it begins, as far as that stands here, or the byte
-    /// that begins a command.
+    /// ESC, and with it a control sequence or a command that it begins, as far as that stands here,
+    /// or the byte after it.
     #[inline(always)]
     fn take_escape<'a, P: Perform>(
         &mut self,
@@ -339,6 +369,7 @@ impl<C: CharAccumulator> Parser<C> {
                 self.step_by_answer(performer, State::OscString, Action::Nop, *next);
                 return self.take_command(performer, rest);
             }
+            return self.take_begun(performer, *next, rest);
         }
         behind
     }
@@ -363,6 +394,26 @@ impl<C: CharAccumulator> Parser<C> {
     {
         if first == b'\\' {
             self.step_by_answer(performer, State::Ground, Action::EscDispatch, first);
+            return behind;
+        }
+        self.take_by_table(performer, first, behind)
+    }
+
+    /// What begins a device control string; another byte by the table. It is out of line, so that the loop stays small.
+    #[inline(never)]
+    fn take_begun<'a, P: Perform>(
+        &mut self,
+        performer: &mut P,
+        first: u8,
+        behind: &'a [u8],
+    ) -> &'a [u8]
+        requires escape { self.old.state ≡ State.Escape }
+        requires can { CanTakeAll C.takes self.old (first ∷ behind.now) }
+        ensures { Takes C.takes C.taken P.means self.old performer.old first behind.now
+            self.new performer.new result.now }
+    {
+        if first == b'P' {
+            self.step_by_answer(performer, State::DcsEntry, Action::Nop, first);
             return behind;
         }
         self.take_by_table(performer, first, behind)
@@ -555,5 +606,53 @@ impl<C: CharAccumulator> Parser<C> {
         ensures within { length result.now ≤ length bytes.now }
     {
         self.command.put_plain(bytes)
+    }
+}
+
+/// A hooked device control string.
+impl<C: CharAccumulator> Parser<C> {
+    ghost use Rattle.anstyle_parse.specs.Views.Parser.{CanTakeAll};
+
+    /// Bytes that are put, and the byte after them.
+    #[inline(always)]
+    fn take_in_hooked_string<'a, P: Perform>(
+        &mut self,
+        performer: &mut P,
+        first: u8,
+        behind: &'a [u8],
+    ) -> &'a [u8]
+        requires hooked { self.old.state ≡ State.DcsPassthrough }
+        requires can { CanTakeAll C.takes self.old (first ∷ behind.now) }
+        ensures { Takes C.takes C.taken P.means self.old performer.old first behind.now
+            self.new performer.new result.now }
+    {
+        if !Run::OfHookedString.has(first) {
+            return self.take_after_puts(performer, first, behind);
+        }
+        let rest = self.take_whole_run(performer, Run::OfHookedString, first, behind);
+        match rest.split_first() {
+            Some((next, further)) => self.take_after_puts(performer, *next, further),
+            None => rest,
+        }
+    }
+
+    /// A byte that is not put: the ESC that ends the string, or another.
+    #[inline(always)]
+    fn take_after_puts<'a, P: Perform>(
+        &mut self,
+        performer: &mut P,
+        first: u8,
+        behind: &'a [u8],
+    ) -> &'a [u8]
+        requires hooked { self.old.state ≡ State.DcsPassthrough }
+        requires can { CanTakeAll C.takes self.old (first ∷ behind.now) }
+        ensures { Takes C.takes C.taken P.means self.old performer.old first behind.now
+            self.new performer.new result.now }
+    {
+        if first == ESCAPE {
+            self.end_hooked_string(performer, first);
+            return self.take_string_end(performer, behind);
+        }
+        self.take_by_table(performer, first, behind)
     }
 }

@@ -120,6 +120,17 @@ impl<C: CharAccumulator> Parser<C> {
     {
         self.change_state(performer, Action::OscEnd, state, Action::Nop, byte);
     }
+
+    /// The ESC that ends a hooked string.
+    #[inline(always)]
+    pub(super) fn end_hooked_string<P: Perform>(&mut self, performer: &mut P, byte: u8)
+        requires hooked { self.old.state ≡ State.DcsPassthrough }
+        requires escape { byte ≡ 0x1B }
+        ensures machine { machine_of self.new ≡ step C.taken byte (machine_of self.old) }
+        ensures calls { Goes P.means performer.old (step_calls C.taken byte (machine_of self.old)) performer.new }
+    {
+        self.change_state(performer, Action::Unhook, State::Escape, Action::Nop, byte);
+    }
 }
 
 /// A change of state, and its actions.

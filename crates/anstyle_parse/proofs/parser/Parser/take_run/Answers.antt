@@ -1,14 +1,5 @@
-use Rattle.std.proofs.Common.{arith, sym, ◌∙◌}
-use Rattle.anstyle_parse.proofs.Machine.Runs.{LeadsTo-run, LeadsTo-trans}
+use Rattle.std.proofs.Common.{sym, ◌∙◌}
 use Rattle.anstyle_parse.proofs.parser.Parser.take_run.Goals as goal
 
-pub returns : goal.returns
-returns g c =
-    let n = g.C.CharAccumulator in
-    let means = g.P.Perform.means in
-    let begun = LeadsTo-run n.takes n.taken means c.args.run c.args.self.now c.requires.keeps c.args.performer.now c.call.new.performer
-    c.args.first c.args.behind.now c.requires.can (sym c.has.ensures ∙ c.if-not-has.false) c.call.ensures in
-    record {
-      leads = LeadsTo-trans n.takes n.taken means (LeadsTo-trans n.takes n.taken means begun c.take_chunks-rest.ensures.leads) c.take_others.ensures.leads;
-      within = omega (arith, c.take_chunks-rest.ensures.within, c.take_others.ensures.within);
-    }
+pub take_whole_run-requires-clause-first : goal.take_whole_run-requires-clause-first
+take_whole_run-requires-clause-first g c = sym c.has.ensures ∙ c.if-not-has.false

@@ -1,0 +1,13 @@
+use Rattle.anstyle_parse.proofs.Machine.Runs.{LeadsTo-run, LeadsTo-trans}
+use Rattle.anstyle_parse.proofs.parser.Parser.take_whole_run.Goals as goal
+
+pub returns : goal.returns
+returns g c =
+    let n = g.C.CharAccumulator in
+    let means = g.P.Perform.means in
+    let begun = LeadsTo-run n.takes n.taken means c.args.run c.args.self.now c.requires.keeps c.args.performer.now c.call.new.performer
+    c.args.first c.args.behind.now c.requires.can c.requires.first c.call.ensures in
+    record {
+      leads = LeadsTo-trans n.takes n.taken means begun c.take_chunks.ensures.leads;
+      within = c.take_chunks.ensures.within;
+    }

@@ -52,14 +52,14 @@ module _ {W : Type 0} (sink : SinkOf W) where
 
 -- bytes with no meaning in HTML, behind text of their element
 module _ (styling : Styling) (it : Element) where
-  bytes_html-same : (bytes : List ℕ) → AreClear bytes → bytes_html styling (in_element it false) bytes ≡ bytes
+  pub bytes_html-same : (bytes : List ℕ) → AreClear bytes → bytes_html styling (in_element it false) bytes ≡ bytes
   bytes_html-same [] clear = refl
   bytes_html-same (b ∷ bytes) clear =
       ap₂ (λ text after. text ++ bytes_html styling (in_element it after) bytes)
       (ap₂ (λ changed text. (changed ++ []) ++ text) (change-same styling it) (escaped-clear b clear.0)) (not_return-clear b clear.0)
       ∙ ap (λ l. b ∷ l) (bytes_html-same bytes clear.1)
 
-  standing_after_bytes-same : (bytes : List ℕ) → AreClear bytes → standing_after_bytes (in_element it false) bytes ≡ in_element it false
+  pub standing_after_bytes-same : (bytes : List ℕ) → AreClear bytes → standing_after_bytes (in_element it false) bytes ≡ in_element it false
   standing_after_bytes-same [] clear = refl
   standing_after_bytes-same (b ∷ bytes) clear =
       ap (λ after. standing_after_bytes (in_element it after) bytes) (not_return-clear b clear.0) ∙ standing_after_bytes-same bytes clear.1
@@ -125,7 +125,7 @@ module _ (styling : Styling) (at : Standing) where
 
 -- characters, as their calls and as their bytes
 module _ (styling : Styling) where
-  html_from-characters : (cs : List ℕ) (at : Standing) → html_from styling at (map layout_call cs) ≡ bytes_html styling at (encode_utf8_all cs)
+  pub html_from-characters : (cs : List ℕ) (at : Standing) → html_from styling at (map layout_call cs) ≡ bytes_html styling at (encode_utf8_all cs)
   html_from-characters [] at = refl
   html_from-characters (c ∷ cs) at =
       let one = same styling at c in
@@ -133,7 +133,7 @@ module _ (styling : Styling) where
       ∙ ap (λ l. bytes_html styling at (encode_utf8 c) ++ l) (html_from-characters cs (standing_after_bytes at (encode_utf8 c)))
       ∙ sym (bytes_html-append styling (encode_utf8 c) (encode_utf8_all cs) at)
 
-  standing_at_end-characters : (cs : List ℕ) (at : Standing) → standing_at_end at (map layout_call cs) ≡ standing_after_bytes at (encode_utf8_all cs)
+  pub standing_at_end-characters : (cs : List ℕ) (at : Standing) → standing_at_end at (map layout_call cs) ≡ standing_after_bytes at (encode_utf8_all cs)
   standing_at_end-characters [] at = refl
   standing_at_end-characters (c ∷ cs) at =
       ap (λ after. standing_at_end after (map layout_call cs)) (same styling at c).1

@@ -1,12 +1,18 @@
 -- Sixteen bytes, tested at once.
-use Rattle.std.proofs.Common.{◌≡◌, ◌||◌, ◌&&◌, bit_or, ℕ, ◌%◌, ◌^◌, Bool, true, false, cond, eqb, ltb, List, [], ◌∷◌, ◌++◌, length, map, replicate, refl, ap, ap₂, ◌∙◌, arith}
+use lib.Count.{count_trailing_zeros}
+use Rattle.std.proofs.Common.{◌≡◌, ◌≢◌, ◌||◌, ◌&&◌, bit_and, bit_or, ℕ, ◌+◌, ◌-◌, ◌%◌, ◌^◌, Bool, true, false, cond, eqb, leb, ltb, List, [], ◌∷◌, ◌++◌, length, map, replicate, refl, sym, ap, ap₂, ◌∙◌, arith, w8, Fits}
 use Rattle.std.specs.Prelude.{not}
-use Rattle.std.specs.List.{list_all}
-use Rattle.std.specs.Simd.Lanes.{zip2, mask_l, top}
+use Rattle.std.specs.List.{list_all, prefix_len}
+use Rattle.std.specs.Simd.Lanes.{zip2, mask_l, top, Each1}
+use Rattle.std.proofs.lemmas.Bool.{ne_eqb, cond-true, cond-false}
 use Rattle.std.proofs.lemmas.List.{length-map}
-use Rattle.std.proofs.lemmas.Simd.{zip2_splat, zip2_splat_left, zip2_of_maps, mask_l-mod}
+use Rattle.std.proofs.lemmas.List.Folds.{prefix_len-append}
+use Rattle.std.proofs.lemmas.Simd.{zip2_splat, zip2_splat_left, splat_is_map, zip2_of_maps, mask_l-mod}
 use Rattle.anstyle_parse.specs.Stream.Items.{EachIs}
-use Rattle.ansi_html.specs.Grammar.{is_special, AreClear}
+use Rattle.anstyle_parse.proofs.Machine.Lanes.{before_lowest, lowest-lt}
+use Rattle.anstyle_parse.proofs.Machine.Table.{same_below}
+use Rattle.ansi_html.specs.Grammar.{is_special, is_text_byte, AreClear}
+use Rattle.ansi_html.specs.Plain.{is_plain}
 use Rattle.ansi_html.specs.Links.{is_visible}
 use Rattle.ansi_html.proofs.HtmlLemmas.{false-from_not}
 
@@ -37,6 +43,24 @@ map_as f g same (b ∷ bytes) = ap₂ (λ x xs. x ∷ xs) (same b) (map_as f g s
 tops : (s : ℕ → Bool) (bytes : List ℕ) → map (top 7) (map (λ b. on (s b)) bytes) ≡ map s bytes
 tops s [] = refl
 tops s (b ∷ bytes) = ap₂ (λ x xs. x ∷ xs) (top-on (s b)) (tops s bytes)
+
+-- what a subtraction and a comparison are, and whether a byte is none of plain text: so it is for each of the 256
+abbrev minus : ℕ → ℕ → ℕ
+minus a b = (a + (256 - b)) % 256
+
+abbrev at_most : ℕ → ℕ → ℕ
+at_most a b = on (leb a b)
+
+abbrev unplain_lane : ℕ → ℕ
+unplain_lane b =
+    bit_or (bit_and (at_most 0x60 (minus b 0x20)) (at_most 2 (minus b 0x09)))
+    (bit_or (hit (bit_and b 0xFB) 0x22) (bit_or (hit b 0x27) (hit (bit_and b 0xFD) 0x3C)))
+
+unplain_lanes : (bytes : List ℕ) → Each1 (Fits w8) bytes → map (top 7) (map unplain_lane bytes) ≡ map (λ b. not (is_plain b)) bytes
+unfolding is_plain is_text_byte is_special
+unplain_lanes [] fits = refl
+unplain_lanes (b ∷ bytes) fits =
+    ap₂ (λ x xs. x ∷ xs) (same_below (λ n. top 7 (unplain_lane n)) (λ n. not (is_plain n)) 0x100 b refl fits.0.fits) (unplain_lanes bytes fits.1)
 
 module _ (bytes : List ℕ) (long : length bytes ≡ 16) where
   hits : (a : ℕ) → zip2 hit bytes (replicate 16 a) ≡ map (λ b. on (eqb b a)) bytes
@@ -81,9 +105,56 @@ module _ (bytes : List ℕ) (long : length bytes ≡ 16) where
       outside : (b : ℕ) → (ltb b 0x21 || ltb 0x7E b) ≡ not (is_visible b)
       outside b = grind arith
 
+  -- whether it is none of plain text
+  outside : (from count : ℕ) → zip2 at_most (replicate 16 count) (zip2 minus bytes (replicate 16 from)) ≡ map (λ b. at_most count (minus b from)) bytes
+  outside from count = zip2_of_maps at_most (λ b. count) (λ b. minus b from) bytes (splat_is_map bytes 16 count long) (zip2_splat minus bytes 16 from long)
+
+  kept_hits : (kept a : ℕ) → zip2 hit (zip2 bit_and bytes (replicate 16 kept)) (replicate 16 a) ≡ map (λ b. hit (bit_and b kept) a) bytes
+  kept_hits kept a = zip2_of_maps hit (λ b. bit_and b kept) (λ b. a) bytes (zip2_splat bit_and bytes 16 kept long) (splat_is_map bytes 16 a long)
+
+  pub mask-unplain : Each1 (Fits w8) bytes
+      → mask_l (map (top 7) (zip2 bit_or
+      (zip2 bit_and (zip2 at_most (replicate 16 0x60) (zip2 minus bytes (replicate 16 0x20))) (zip2 at_most (replicate 16 2) (zip2 minus bytes (replicate 16 0x09))))
+      (zip2 bit_or (zip2 hit (zip2 bit_and bytes (replicate 16 0xFB)) (replicate 16 0x22))
+      (zip2 bit_or (zip2 hit bytes (replicate 16 0x27)) (zip2 hit (zip2 bit_and bytes (replicate 16 0xFD)) (replicate 16 0x3C)))))) % 2 ^ 64
+      ≡ mask_l (map (λ b. not (is_plain b)) bytes)
+  mask-unplain fits =
+      let unshown = zip2_of_maps bit_and (λ b. at_most 0x60 (minus b 0x20)) (λ b. at_most 2 (minus b 0x09)) bytes (outside 0x20 0x60) (outside 0x09 2) in
+      let quotes = zip2_of_maps bit_or (λ b. hit b 0x27) (λ b. hit (bit_and b 0xFD) 0x3C) bytes (hits 0x27) (kept_hits 0xFD 0x3C) in
+      let special = zip2_of_maps bit_or (λ b. hit (bit_and b 0xFB) 0x22) (λ b. bit_or (hit b 0x27) (hit (bit_and b 0xFD) 0x3C)) bytes (kept_hits 0xFB 0x22) quotes in
+      let is = zip2_of_maps bit_or (λ b. bit_and (at_most 0x60 (minus b 0x20)) (at_most 2 (minus b 0x09)))
+      (λ b. bit_or (hit (bit_and b 0xFB) 0x22) (bit_or (hit b 0x27) (hit (bit_and b 0xFD) 0x3C))) bytes unshown special in
+      ap (λ l. mask_l l % 2 ^ 64) (ap (map (top 7)) is ∙ unplain_lanes bytes fits)
+      ∙ mask_l-mod (map (λ b. not (is_plain b)) bytes) 64 (omega (arith, length-map bytes (λ b. not (is_plain b))))
+
 pub AreClear-each : (bytes : List ℕ) → EachIs (λ b. not (is_special b)) bytes → AreClear bytes
 AreClear-each [] are = tt
 AreClear-each (b ∷ bytes) are = (false-from_not (is_special b) are.0, AreClear-each bytes are.1)
+
+-- how many bytes come first that pass a test: those behind count where all in front pass it
+pub prefix_len-passed : (test : ℕ → Bool) (front back : List ℕ) → EachIs test front → prefix_len test (front ++ back) ≡ length front + prefix_len test back
+prefix_len-passed test [] back are = omega arith
+prefix_len-passed test (b ∷ front) back are =
+    let counted = cond-true (test b) (1 + prefix_len test (front ++ back)) 0 are.0 in
+    omega (arith, counted, prefix_len-passed test front back are.1)
+
+-- and else those before the first of a chunk's mask that does not
+not-not : (t : Bool) → not (not t) ≡ t
+not-not true = refl
+not-not false = refl
+
+prefix_len-not_not : (test : ℕ → Bool) (bytes : List ℕ) → prefix_len (λ b. not (not (test b))) bytes ≡ prefix_len test bytes
+prefix_len-not_not test [] = refl
+prefix_len-not_not test (b ∷ bytes) = ap₂ (λ t n. cond t (1 + n) 0) (not-not (test b)) (prefix_len-not_not test bytes)
+
+pub prefix_len-stopped : (test : ℕ → Bool) (chunk behind : List ℕ) (mask : ℕ) → length chunk ≡ 16 → mask ≡ mask_l (map (λ b. not (test b)) chunk) → mask ≢ 0
+    → prefix_len test (chunk ++ behind) ≡ count_trailing_zeros 64 mask
+prefix_len-stopped test chunk behind mask long is some =
+    let counted = before_lowest (λ b. not (test b)) chunk mask long is some ∙ prefix_len-not_not test chunk in
+    let short = lowest-lt (λ b. not (test b)) chunk mask long is some in
+    prefix_len-append test chunk behind
+    ∙ cond-false (eqb (prefix_len test chunk) (length chunk)) (length chunk + prefix_len test behind) (prefix_len test chunk) (ne_eqb _ _ (omega (arith, counted, short)))
+    ∙ sym counted
 
 -- where those in front pass a test, all do if those behind do
 pub all_behind : (test : ℕ → Bool) (front back : List ℕ) → EachIs test front → list_all test (front ++ back) ≡ list_all test back

@@ -4,6 +4,7 @@ pub mod HtmlLemmas
 pub mod ChunkLemmas
 pub mod PrintLemmas
 pub mod BytesLemmas
+pub mod PlainLemmas
 pub mod DeclarationLemmas
 pub mod NearestLemmas
 pub mod ClassLemmas

@@ -8,6 +8,7 @@ pub mod Links
 pub mod Html
 pub mod Reader
 pub mod Grammar
+pub mod Plain
 pub mod Styled
 pub mod ShownLinks
 pub mod Writer

@@ -3,6 +3,7 @@ ghost use Rattle.std.specs.Prelude.{◌≡◌, map, not};
 ghost use Rattle.std.specs.Simd.Lanes.{mask_l};
 ghost use Rattle.ansi_html.specs.Grammar.{is_special};
 ghost use Rattle.ansi_html.specs.Links.{is_visible};
+ghost use Rattle.ansi_html.specs.Plain.{is_plain};
 
 use std::simd::prelude::*;
 
@@ -28,4 +29,18 @@ pub(crate) fn invisibles(bytes: u8x16) -> u64
     ensures { result ≡ mask_l (map (λ b. not (is_visible b)) bytes) }
 {
     (bytes.simd_lt(u8x16::splat(0x21)) | bytes.simd_gt(u8x16::splat(0x7E))).to_bitmask()
+}
+
+/// The same: whether it is none of plain text. With 20 taken off, modulo 100, the bytes from 20 to 7F are the
+/// smallest, and with 09 taken off 09 and 0A; `"` and `&` differ in one bit, and so do `<` and `>`.
+#[inline(always)]
+pub(crate) fn unplain(bytes: u8x16) -> u64
+    ensures { result ≡ mask_l (map (λ b. not (is_plain b)) bytes) }
+{
+    let unprinted = (bytes - u8x16::splat(0x20)).simd_ge(u8x16::splat(0x60));
+    let no_layout = (bytes - u8x16::splat(b'\t')).simd_ge(u8x16::splat(2));
+    let special = (bytes & u8x16::splat(0xFB)).simd_eq(u8x16::splat(b'"'))
+        | (bytes.simd_eq(u8x16::splat(b'\''))
+            | (bytes & u8x16::splat(0xFD)).simd_eq(u8x16::splat(b'<')));
+    (unprinted & no_layout | special).to_bitmask()
 }

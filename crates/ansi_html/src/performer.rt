@@ -443,18 +443,27 @@ fn put_layout<W: Sink>(output: &mut Output<W>, byte: u8)
     }
 }
 
-/// Writes a byte, as a character reference where it has a meaning in HTML.
+/// Writes a byte, as a character reference where it has a meaning in HTML. They are told apart a few at a time,
+/// since for all of them at once the compiler makes a table of jumps.
 fn put_reference<W: Sink>(output: &mut Output<W>, byte: u8)
     ensures { Adds W.Sink (escaped byte) output.old output.new }
 {
     match byte {
-        b'&' => output.put(b"&amp;"),
-        b'<' => output.put(b"&lt;"),
-        b'>' => output.put(b"&gt;"),
-        b'"' => output.put(b"&quot;"),
-        b'\'' => output.put(b"&#39;"),
-        b'\r' => output.put(b"&#13;"),
-        _ => output.put_byte(byte),
+        0x00..=0x1F => match byte {
+            b'\r' => output.put(b"&#13;"),
+            _ => output.put_byte(byte),
+        },
+        0x20..=0x3B => match byte {
+            b'&' => output.put(b"&amp;"),
+            b'"' => output.put(b"&quot;"),
+            b'\'' => output.put(b"&#39;"),
+            _ => output.put_byte(byte),
+        },
+        _ => match byte {
+            b'<' => output.put(b"&lt;"),
+            b'>' => output.put(b"&gt;"),
+            _ => output.put_byte(byte),
+        },
     }
 }
 

@@ -1,11 +1,11 @@
 //! A piece of a stream, and its end.
-ghost use Rattle.std.specs.Prelude.{◌≡◌, ◌<◌, ◌≤◌, ◌++◌, length, drop, min, IfSome, IfNone};
+ghost use Rattle.std.specs.Prelude.{◌≡◌, ◌<◌, ◌≤◌, ◌++◌, length, take, drop, min, IfSome, IfNone};
 ghost use Rattle.html_pieces.specs.Sizes.{most_html, capacity};
 ghost use Rattle.html_pieces.specs.Feed.{Takes, Feeds, Refuses, Ends, RefusesEnd};
 
 use crate::buffer::{CAPACITY, HtmlBuffer};
 use crate::state::HtmlState;
-use ansi_html::HtmlWriter;
+use ansi_html::{HtmlWriter, plain_length};
 use anstyle_parse::canon::{Output, WritingPerformer};
 use anstyle_parse::{Parser, Utf8Parser};
 use strip_pieces::Fed;
@@ -46,7 +46,14 @@ impl HtmlState {
         }
         let size = room.len().min(CAPACITY);
         let sure = size / LEAST_ROOM;
-        let mut taken = piece.len().min(sure.max(size / HTML_OF_A_BYTE));
+        let most = piece.len().min(sure.max(size / HTML_OF_A_BYTE));
+        if let Some(taken) = self.take_plain(&piece[..most], room) {
+            return Some(Fed {
+                taken,
+                written: taken,
+            });
+        }
+        let mut taken = most;
         loop {
             if let Some(written) = self.take(&piece[..taken], room) {
                 return Some(Fed { taken, written });
@@ -73,6 +80,26 @@ impl HtmlState {
         let (buffer, _) = writer.into_output().finish();
         *self = HtmlState::new(self.styling());
         Some(put_front(room, buffer.html()))
+    }
+
+    /// Takes the plain text at the front of the piece, if that is more than half of it and is its own HTML. It goes
+    /// to the room as it is, with no parser.
+    fn take_plain(&self, piece: &[u8], room: &mut [u8]) -> Option<usize>
+        requires { length piece.now ≤ length room.old }
+        ensures within { IfSome result (λ taken. taken ≤ length piece.now) }
+        ensures some { IfSome result (λ taken. 0 < taken) }
+        ensures taken { IfSome result (λ taken.
+            Takes self.now self.now (take taken piece.now) room.old room.new taken) }
+        ensures same_room { IfNone result (room.new ≡ room.old) }
+    {
+        if !self.is_in_text() {
+            return None;
+        }
+        let taken = plain_length(piece);
+        if taken <= piece.len() / 2 {
+            return None;
+        }
+        Some(put_front(room, &piece[..taken]))
     }
 
     /// Takes all bytes of the piece, if there is room for their HTML.

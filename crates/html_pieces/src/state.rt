@@ -1,8 +1,10 @@
 //! The state of a stream and its HTML between pieces.
 ghost use Rattle.std.specs.Prelude.{◌≡◌, ◌≤◌, [], length};
+ghost use Rattle.std.specs.Bool.{OnTrue};
 ghost use Rattle.ansi_html.specs.Links.{max_link};
 ghost use Rattle.ansi_html.specs.Html.{no_element};
 ghost use Rattle.ansi_html.specs.Writer.{element_in, standing_in, kept};
+ghost use Rattle.html_pieces.specs.Plain.{IsInText};
 ghost use Rattle.html_pieces.specs.State.{held_element, held_standing, styling_in, styling_numbered, StandsFor};
 
 use crate::style::{StyleBytes, flag};
@@ -139,6 +141,18 @@ impl HtmlState {
         self.shown.hold(standing.shown);
         self.selected.hold(standing.selected);
         self.returned = flag(standing.returned);
+    }
+
+    /// Whether it stands in the midst of text, so that plain text is its own HTML: no sequence and no character is
+    /// begun, the style that is selected is that of the last text, with no link, and that was not 0D.
+    pub(crate) fn is_in_text(&self) -> bool
+        ensures { OnTrue result (IsInText self.now) }
+    {
+        self.stream.length == 0
+            && self.returned == 0
+            && self.shown.length == 0
+            && self.selected.length == 0
+            && self.shown.style.is(self.selected.style)
     }
 
     /// Where the HTML stands.

@@ -1,5 +1,6 @@
 //! Styles in plain bytes, of which any are valid.
 ghost use Rattle.std.specs.Prelude.{◌≡◌, not, ◌==◌, if◌then◌else◌};
+ghost use Rattle.std.specs.Bool.{OnTrue};
 ghost use Rattle.html_pieces.specs.Styles.{color_of, underline_of, is_set, style_of};
 
 use ansi_style::{Color, Hue, Style, Underline};
@@ -46,6 +47,13 @@ impl ColorBytes {
             Color::Direct(red, green, blue) => (4, [red, green, blue]),
         };
         ColorBytes { kind, values }
+    }
+
+    /// Whether these are the same bytes.
+    fn is(self, other: ColorBytes) -> bool
+        ensures { OnTrue result (self ≡ other) }
+    {
+        self.kind == other.kind && self.values == other.values
     }
 
     pub(crate) fn color(self) -> Color
@@ -114,6 +122,23 @@ impl StyleBytes {
             struck_out: flag(style.struck_out),
             overlined: flag(style.overlined),
         }
+    }
+
+    /// Whether these are the same bytes, and so the same style.
+    pub(crate) fn is(self, other: StyleBytes) -> bool
+        ensures { OnTrue result (self ≡ other) }
+    {
+        self.foreground.is(other.foreground)
+            && self.background.is(other.background)
+            && self.underline == other.underline
+            && self.bold == other.bold
+            && self.dim == other.dim
+            && self.italic == other.italic
+            && self.blink == other.blink
+            && self.reverse == other.reverse
+            && self.hidden == other.hidden
+            && self.struck_out == other.struck_out
+            && self.overlined == other.overlined
     }
 
     pub(crate) fn style(self) -> Style

@@ -13,6 +13,7 @@ use ansi_html::contrast::WHITE;
 use ansi_html::contrast::linear;
 use ansi_html::convert;
 use ansi_html::is_link_command;
+use ansi_html::plain_length;
 use ansi_html::put_stylesheet;
 use ansi_html::put_text;
 use ansi_strip::Stripper;
@@ -379,6 +380,7 @@ fn names_of_what_is_put(rt: HostRuntime) {
     let mut output = Output::new(memory(rt.alloc()));
     put_text(&mut output, "<");
     put_stylesheet(&mut output, Scheme::Light);
+    assert_eq!(rt; plain_length(b"a\tb<"), 3);
     output.put(b"a");
     output.put_byte(b'b');
     output.put_char('c');

@@ -12,7 +12,7 @@ use Rattle.anstyle_parse.specs.Stream.Items.{EachIs}
 use Rattle.anstyle_parse.proofs.Machine.Lanes.{before_lowest, lowest-lt}
 use Rattle.anstyle_parse.proofs.Machine.Table.{same_below}
 use Rattle.ansi_html.specs.Grammar.{is_special, is_text_byte, AreClear}
-use Rattle.ansi_html.specs.Plain.{is_plain}
+use Rattle.ansi_html.specs.Verbatim.{is_verbatim}
 use Rattle.ansi_html.specs.Links.{is_visible}
 use Rattle.ansi_html.proofs.HtmlLemmas.{false-from_not}
 
@@ -44,23 +44,23 @@ tops : (s : ℕ → Bool) (bytes : List ℕ) → map (top 7) (map (λ b. on (s b
 tops s [] = refl
 tops s (b ∷ bytes) = ap₂ (λ x xs. x ∷ xs) (top-on (s b)) (tops s bytes)
 
--- what a subtraction and a comparison are, and whether a byte is none of plain text: so it is for each of the 256
+-- what a subtraction and a comparison are, and whether a byte is none of verbatim text: so it is for each of the 256
 abbrev minus : ℕ → ℕ → ℕ
 minus a b = (a + (256 - b)) % 256
 
 abbrev at_most : ℕ → ℕ → ℕ
 at_most a b = on (leb a b)
 
-abbrev unplain_lane : ℕ → ℕ
-unplain_lane b =
+abbrev not_verbatim_lane : ℕ → ℕ
+not_verbatim_lane b =
     bit_or (bit_and (at_most 0x60 (minus b 0x20)) (at_most 2 (minus b 0x09)))
     (bit_or (hit (bit_and b 0xFB) 0x22) (bit_or (hit b 0x27) (hit (bit_and b 0xFD) 0x3C)))
 
-unplain_lanes : (bytes : List ℕ) → Each1 (Fits w8) bytes → map (top 7) (map unplain_lane bytes) ≡ map (λ b. not (is_plain b)) bytes
-unfolding is_plain is_text_byte is_special
-unplain_lanes [] fits = refl
-unplain_lanes (b ∷ bytes) fits =
-    ap₂ (λ x xs. x ∷ xs) (same_below (λ n. top 7 (unplain_lane n)) (λ n. not (is_plain n)) 0x100 b refl fits.0.fits) (unplain_lanes bytes fits.1)
+not_verbatim_lanes : (bytes : List ℕ) → Each1 (Fits w8) bytes → map (top 7) (map not_verbatim_lane bytes) ≡ map (λ b. not (is_verbatim b)) bytes
+unfolding is_verbatim is_text_byte is_special
+not_verbatim_lanes [] fits = refl
+not_verbatim_lanes (b ∷ bytes) fits =
+    ap₂ (λ x xs. x ∷ xs) (same_below (λ n. top 7 (not_verbatim_lane n)) (λ n. not (is_verbatim n)) 0x100 b refl fits.0.fits) (not_verbatim_lanes bytes fits.1)
 
 module _ (bytes : List ℕ) (long : length bytes ≡ 16) where
   hits : (a : ℕ) → zip2 hit bytes (replicate 16 a) ≡ map (λ b. on (eqb b a)) bytes
@@ -105,27 +105,27 @@ module _ (bytes : List ℕ) (long : length bytes ≡ 16) where
       outside : (b : ℕ) → (ltb b 0x21 || ltb 0x7E b) ≡ not (is_visible b)
       outside b = grind arith
 
-  -- whether it is none of plain text
+  -- whether it is none of verbatim text
   outside : (from count : ℕ) → zip2 at_most (replicate 16 count) (zip2 minus bytes (replicate 16 from)) ≡ map (λ b. at_most count (minus b from)) bytes
   outside from count = zip2_of_maps at_most (λ b. count) (λ b. minus b from) bytes (splat_is_map bytes 16 count long) (zip2_splat minus bytes 16 from long)
 
   kept_hits : (kept a : ℕ) → zip2 hit (zip2 bit_and bytes (replicate 16 kept)) (replicate 16 a) ≡ map (λ b. hit (bit_and b kept) a) bytes
   kept_hits kept a = zip2_of_maps hit (λ b. bit_and b kept) (λ b. a) bytes (zip2_splat bit_and bytes 16 kept long) (splat_is_map bytes 16 a long)
 
-  pub mask-unplain : Each1 (Fits w8) bytes
+  pub mask-not_verbatim : Each1 (Fits w8) bytes
       → mask_l (map (top 7) (zip2 bit_or
       (zip2 bit_and (zip2 at_most (replicate 16 0x60) (zip2 minus bytes (replicate 16 0x20))) (zip2 at_most (replicate 16 2) (zip2 minus bytes (replicate 16 0x09))))
       (zip2 bit_or (zip2 hit (zip2 bit_and bytes (replicate 16 0xFB)) (replicate 16 0x22))
       (zip2 bit_or (zip2 hit bytes (replicate 16 0x27)) (zip2 hit (zip2 bit_and bytes (replicate 16 0xFD)) (replicate 16 0x3C)))))) % 2 ^ 64
-      ≡ mask_l (map (λ b. not (is_plain b)) bytes)
-  mask-unplain fits =
+      ≡ mask_l (map (λ b. not (is_verbatim b)) bytes)
+  mask-not_verbatim fits =
       let unshown = zip2_of_maps bit_and (λ b. at_most 0x60 (minus b 0x20)) (λ b. at_most 2 (minus b 0x09)) bytes (outside 0x20 0x60) (outside 0x09 2) in
       let quotes = zip2_of_maps bit_or (λ b. hit b 0x27) (λ b. hit (bit_and b 0xFD) 0x3C) bytes (hits 0x27) (kept_hits 0xFD 0x3C) in
       let special = zip2_of_maps bit_or (λ b. hit (bit_and b 0xFB) 0x22) (λ b. bit_or (hit b 0x27) (hit (bit_and b 0xFD) 0x3C)) bytes (kept_hits 0xFB 0x22) quotes in
       let is = zip2_of_maps bit_or (λ b. bit_and (at_most 0x60 (minus b 0x20)) (at_most 2 (minus b 0x09)))
       (λ b. bit_or (hit (bit_and b 0xFB) 0x22) (bit_or (hit b 0x27) (hit (bit_and b 0xFD) 0x3C))) bytes unshown special in
-      ap (λ l. mask_l l % 2 ^ 64) (ap (map (top 7)) is ∙ unplain_lanes bytes fits)
-      ∙ mask_l-mod (map (λ b. not (is_plain b)) bytes) 64 (omega (arith, length-map bytes (λ b. not (is_plain b))))
+      ap (λ l. mask_l l % 2 ^ 64) (ap (map (top 7)) is ∙ not_verbatim_lanes bytes fits)
+      ∙ mask_l-mod (map (λ b. not (is_verbatim b)) bytes) 64 (omega (arith, length-map bytes (λ b. not (is_verbatim b))))
 
 pub AreClear-each : (bytes : List ℕ) → EachIs (λ b. not (is_special b)) bytes → AreClear bytes
 AreClear-each [] are = tt

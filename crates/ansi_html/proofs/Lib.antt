@@ -2,9 +2,10 @@ pub mod ContrastLemmas
 pub mod ColorLemmas
 pub mod HtmlLemmas
 pub mod ChunkLemmas
+pub mod EndLemmas
 pub mod PrintLemmas
 pub mod BytesLemmas
-pub mod PlainLemmas
+pub mod VerbatimLemmas
 pub mod DeclarationLemmas
 pub mod NearestLemmas
 pub mod ClassLemmas

@@ -1,6 +1,7 @@
 pub mod Contrast
 pub mod Palette
 pub mod Css
+pub mod Chunks
 pub mod Nearest
 pub mod Classes
 pub mod Stylesheet
@@ -8,7 +9,7 @@ pub mod Links
 pub mod Html
 pub mod Reader
 pub mod Grammar
-pub mod Plain
+pub mod Verbatim
 pub mod Styled
 pub mod ShownLinks
 pub mod Writer

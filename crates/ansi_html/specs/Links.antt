@@ -7,6 +7,7 @@ use Rattle.std.specs.Prelude.{◌≡◌, ℕ, ◌⊎◌, Bool, false, ◌||◌, 
 use Rattle.std.specs.Str.{bytes_eq}
 use Rattle.std.specs.List.{list_all, concat, starts_with, join_with_byte}
 use Rattle.anstyle_parse.specs.Stream.Bytes.{semicolon}
+use Rattle.anstyle_parse.specs.Stream.Items.{EachIs}
 use Rattle.anstyle_parse.specs.Stream.Arguments.{max_osc_bytes, max_osc_parts, is_kept}
 use Rattle.anstyle_parse.specs.Stream.Call.{Call, osc_dispatch}
 
@@ -19,6 +20,10 @@ has_scheme uri =
 -- ASCII without controls and the space (RFC 3986, 2)
 abbrev pub is_visible : ℕ → Bool
 is_visible b = nat_le 0x21 b && nat_le b 0x7E
+
+-- such bytes stand first, and these are left
+abbrev pub BeginWithVisible : List ℕ → (left : List ℕ) → Type 0
+BeginWithVisible bytes left = (front : List ℕ) × EachIs is_visible front × (bytes ≡ front ++ left)
 
 -- a URI that a link may have
 unfoldable pub is_linkable : List ℕ → Bool

@@ -1,9 +1,10 @@
 //! Sixteen bytes, tested by one comparison.
-ghost use Rattle.std.specs.Prelude.{◌≡◌, map, not};
+ghost use Rattle.std.specs.Prelude.{◌≡◌, map, not, IsTrue};
 ghost use Rattle.std.specs.Simd.Lanes.{mask_l};
+ghost use Rattle.ansi_html.specs.Chunks.{PassAtEnd};
 ghost use Rattle.ansi_html.specs.Grammar.{is_special};
 ghost use Rattle.ansi_html.specs.Links.{is_visible};
-ghost use Rattle.ansi_html.specs.Plain.{is_plain};
+ghost use Rattle.ansi_html.specs.Verbatim.{is_verbatim};
 
 use std::simd::prelude::*;
 
@@ -23,7 +24,18 @@ pub(crate) fn specials(bytes: u8x16) -> u64
                         | bytes.simd_eq(u8x16::splat(b'\r'))))))).to_bitmask()
 }
 
-/// The same: whether it is a control, a space or not of ASCII.
+/// Whether there are sixteen bytes, and the last sixteen have no meaning in HTML.
+#[inline(always)]
+pub(crate) fn are_last_clear(bytes: &[u8]) -> bool
+    ensures { IsTrue result → PassAtEnd (λ b. not (is_special b)) bytes.now }
+{
+    match bytes.last_chunk::<CHUNK>() {
+        Some(last) => specials(u8x16::from_array(*last)) == 0,
+        None => false,
+    }
+}
+
+/// A bit for each byte: whether it is a control, a space or not of ASCII.
 #[inline(always)]
 pub(crate) fn invisibles(bytes: u8x16) -> u64
     ensures { result ≡ mask_l (map (λ b. not (is_visible b)) bytes) }
@@ -31,11 +43,22 @@ pub(crate) fn invisibles(bytes: u8x16) -> u64
     (bytes.simd_lt(u8x16::splat(0x21)) | bytes.simd_gt(u8x16::splat(0x7E))).to_bitmask()
 }
 
-/// The same: whether it is none of plain text. With 20 taken off, modulo 100, the bytes from 20 to 7F are the
+/// Whether there are sixteen bytes, and the last sixteen are none of these.
+#[inline(always)]
+pub(crate) fn are_last_visible(bytes: &[u8]) -> bool
+    ensures { IsTrue result → PassAtEnd is_visible bytes.now }
+{
+    match bytes.last_chunk::<CHUNK>() {
+        Some(last) => invisibles(u8x16::from_array(*last)) == 0,
+        None => false,
+    }
+}
+
+/// A bit for each byte: whether it is no verbatim text. With 20 taken off, modulo 100, the bytes from 20 to 7F are the
 /// smallest, and with 09 taken off 09 and 0A; `"` and `&` differ in one bit, and so do `<` and `>`.
 #[inline(always)]
-pub(crate) fn unplain(bytes: u8x16) -> u64
-    ensures { result ≡ mask_l (map (λ b. not (is_plain b)) bytes) }
+pub(crate) fn not_verbatim(bytes: u8x16) -> u64
+    ensures { result ≡ mask_l (map (λ b. not (is_verbatim b)) bytes) }
 {
     let unprinted = (bytes - u8x16::splat(0x20)).simd_ge(u8x16::splat(0x60));
     let no_layout = (bytes - u8x16::splat(b'\t')).simd_ge(u8x16::splat(2));

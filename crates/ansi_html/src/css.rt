@@ -233,18 +233,19 @@ pub(crate) fn is_underlined(underline: Underline) -> bool
 
 /// Whether a style is the plain one: by its fields, the first of which mostly says that it is not.
 #[inline(always)]
-pub(crate) fn is_plain(style: Style) -> bool
-    ensures { result ≡ is_plain style }
+pub(crate) fn is_plain(style: &Style) -> bool
+    ensures { result ≡ is_plain style.now }
 {
     !is_styled(style)
 }
 
 /// Whether any colour is chosen, or anything else set.
 #[inline(always)]
-fn is_styled(style: Style) -> bool
-    ensures { result ≡ (is_chosen style.foreground || (is_chosen style.background
-        || (is_underlined style.underline || (style.bold || (style.dim || (style.italic || (style.blink
-        || (style.reverse || (style.hidden || (style.struck_out || style.overlined)))))))))) }
+fn is_styled(style: &Style) -> bool
+    ensures { result ≡ (is_chosen style.now.foreground || (is_chosen style.now.background
+        || (is_underlined style.now.underline || (style.now.bold || (style.now.dim || (style.now.italic
+        || (style.now.blink || (style.now.reverse || (style.now.hidden
+        || (style.now.struck_out || style.now.overlined)))))))))) }
 {
     is_chosen(style.foreground)
         || is_chosen(style.background)
@@ -252,20 +253,17 @@ fn is_styled(style: Style) -> bool
         || has_attribute(style)
 }
 
-/// Whether any attribute is set.
+/// Whether any attribute is set. None is mostly, and so all are asked for at once.
 #[inline(always)]
-fn has_attribute(style: Style) -> bool
-    ensures { result ≡ (style.bold || (style.dim || (style.italic || (style.blink
-        || (style.reverse || (style.hidden || (style.struck_out || style.overlined))))))) }
+fn has_attribute(style: &Style) -> bool
+    ensures { result ≡ (style.now.bold || (style.now.dim || (style.now.italic || (style.now.blink
+        || (style.now.reverse || (style.now.hidden || (style.now.struck_out || style.now.overlined))))))) }
 {
     style.bold
-        || style.dim
-        || style.italic
-        || style.blink
-        || style.reverse
-        || style.hidden
-        || style.struck_out
-        || style.overlined
+        | (style.dim
+            | (style.italic
+                | (style.blink
+                    | (style.reverse | (style.hidden | (style.struck_out | style.overlined))))))
 }
 
 /// Whether there is any line.

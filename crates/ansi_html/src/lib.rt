@@ -39,21 +39,22 @@ mod link;
 mod nearest;
 mod palette;
 mod performer;
-mod plain;
 mod scheme;
 mod standing;
 mod styled;
 mod stylesheet;
+mod uri;
+mod verbatim;
 
 use anstyle_parse::canon::{Fault, Output, Sink, Source, write_calls_by};
 pub use link::{Link, is_link_command};
 pub use performer::HtmlWriter;
 use performer::put_escaped;
-pub use plain::plain_length;
 pub use scheme::{Scheme, Styling};
 pub use standing::{Element, Standing};
 pub use styled::StyledWriter;
 use stylesheet::put_all;
+pub use verbatim::verbatim_length;
 
 /// Writes the text of all bytes that the reader gives as HTML, in the styles that the stream
 /// selects, said as `styling` has it: a fragment for a `<pre>`. `head` is written before it and `tail`

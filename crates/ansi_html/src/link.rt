@@ -3,10 +3,11 @@ ghost use Rattle.std.specs.Prelude.{◌≡◌, true, false, not, nat_lt, [], len
 ghost use Rattle.std.specs.List.{concat, list_all};
 ghost use Rattle.std.specs.Str.{bytes_eq};
 ghost use Rattle.anstyle_parse.specs.Stream.Arguments.{max_osc_bytes};
-ghost use Rattle.ansi_html.specs.Links.{has_scheme, is_visible, is_linkable, is_link_command, is_whole, uri_of, link_of, kept_link};
+ghost use Rattle.ansi_html.specs.ShownLinks.{uri_in};
+ghost use Rattle.ansi_html.specs.Links.{has_scheme, is_visible, BeginWithVisible, is_linkable, is_link_command, is_whole, uri_of, link_of, kept_link};
 
-use crate::chunks::{CHUNK, invisibles};
-use arrayvec::ArrayVec;
+use crate::chunks::{CHUNK, are_last_visible, invisibles};
+use crate::uri::{MAX_LINK, Uri};
 use std::simd::prelude::*;
 
 /// The parts of a command that the parser hands on at most, and the bytes that it stores.
@@ -14,20 +15,20 @@ const MAX_PARTS: usize = 16;
 
 const MAX_BYTES: usize = 1024;
 
-/// The bytes of a link at most: 1,023 that are stored, and twelve separators between thirteen parts.
-const MAX_LINK: usize = 1035;
-
-/// The link of the last text, and the one for what comes. None is empty.
+/// The link of the last text, and the one for what comes. None is empty. Two places hold them in turn, so that neither
+/// is copied where the one becomes the other.
 #[derive(Drop)]
 pub(crate) struct Links {
-    shown: ArrayVec<u8, MAX_LINK>,
-    /// The link that a command has selected since, if one has.
-    next: ArrayVec<u8, MAX_LINK>,
+    first: Uri,
+    second: Uri,
+    /// The link of the last text is the second.
+    shows_second: bool,
+    /// A command has selected a link since, which is the other one.
     has_next: bool,
 }
 
 impl Links {
-    ghost use Rattle.ansi_html.specs.ShownLinks.{shown_link, selected_link, has_next};
+    ghost use Rattle.ansi_html.specs.ShownLinks.{link_at, shown_link, selected_link, has_next};
 
     /// No link.
     #[inline]
@@ -36,8 +37,9 @@ impl Links {
         ensures selected { selected_link result ≡ [] }
     {
         Links {
-            shown: ArrayVec::new(),
-            next: ArrayVec::new(),
+            first: Uri::new(),
+            second: Uri::new(),
+            shows_second: false,
             has_next: false,
         }
     }
@@ -47,8 +49,9 @@ impl Links {
         ensures shown { shown_link self.new ≡ kept_link shown.now }
         ensures selected { selected_link self.new ≡ kept_link selected.now }
     {
-        keep(&mut self.shown, shown);
-        keep(&mut self.next, selected);
+        keep(&mut self.first, shown);
+        keep(&mut self.second, selected);
+        self.shows_second = false;
         self.has_next = true;
     }
 
@@ -57,7 +60,7 @@ impl Links {
     pub(crate) fn shown(&self) -> &[u8]
         ensures { result.now ≡ shown_link self.now }
     {
-        self.shown.as_slice()
+        self.place(self.shows_second)
     }
 
     /// The link for what comes.
@@ -65,10 +68,18 @@ impl Links {
     pub(crate) fn selected(&self) -> &[u8]
         ensures { result.now ≡ selected_link self.now }
     {
-        if self.has_next {
-            self.next.as_slice()
+        self.place(self.shows_second != self.has_next)
+    }
+
+    /// The link in one of the two places.
+    #[inline(always)]
+    fn place(&self, is_second: bool) -> &[u8]
+        ensures { result.now ≡ link_at is_second self.now }
+    {
+        if is_second {
+            self.second.as_slice()
         } else {
-            self.shown.as_slice()
+            self.first.as_slice()
         }
     }
 
@@ -77,7 +88,7 @@ impl Links {
     pub(crate) fn differ(&self) -> bool
         ensures { result ≡ not (bytes_eq (shown_link self.now) (selected_link self.now)) }
     {
-        self.has_next && self.shown.as_slice() != self.next.as_slice()
+        self.has_next && self.first.as_slice() != self.second.as_slice()
     }
 
     /// Text of the selected link follows.
@@ -87,21 +98,8 @@ impl Links {
         ensures selected { selected_link self.new ≡ selected_link self.old }
         ensures next { has_next self.new ≡ false }
     {
-        if self.has_next {
-            self.show_next();
-        }
-    }
-
-    /// Text of the link that was selected follows.
-    #[inline(never)]
-    fn show_next(&mut self)
-        requires { has_next self.old ≡ true }
-        ensures shown { shown_link self.new ≡ selected_link self.old }
-        ensures next { has_next self.new ≡ false }
-    {
+        self.shows_second = self.shows_second != self.has_next;
         self.has_next = false;
-        self.shown.clear();
-        let _ = self.shown.try_extend_from_slice(self.next.as_slice());
     }
 
     /// The link of the last text is the one for what comes.
@@ -119,14 +117,18 @@ impl Links {
         ensures selected { selected_link self.new ≡ link_of (map (λ part. part.now) parts.now) }
     {
         self.has_next = true;
-        put_link(&mut self.next, parts);
+        if self.shows_second {
+            put_link(&mut self.first, parts);
+        } else {
+            put_link(&mut self.second, parts);
+        }
     }
 }
 
 /// A link of a stream: its URI, or none.
 #[derive(Drop)]
 pub struct Link {
-    uri: ArrayVec<u8, MAX_LINK>,
+    uri: Uri,
 }
 
 impl Link {
@@ -136,9 +138,7 @@ impl Link {
     pub fn none() -> Link
         ensures { link_in result ≡ [] }
     {
-        Link {
-            uri: ArrayVec::new(),
-        }
+        Link { uri: Uri::new() }
     }
 
     /// Its URI; empty for none.
@@ -161,13 +161,13 @@ impl Link {
         ensures { link_in self.new ≡ link_in other.now }
     {
         self.uri.clear();
-        let _ = self.uri.try_extend_from_slice(other.uri.as_slice());
+        self.uri.append(other.uri.as_slice());
     }
 }
 
 /// Makes a URI the one that a command selects which is OSC 8.
-fn put_link(uri: &mut ArrayVec<u8, MAX_LINK>, parts: &[&[u8]])
-    ensures { uri.new.items ≡ link_of (map (λ part. part.now) parts.now) }
+fn put_link(uri: &mut Uri, parts: &[&[u8]])
+    ensures { uri_in uri.new ≡ link_of (map (λ part. part.now) parts.now) }
 {
     uri.clear();
     if is_whole(parts) {
@@ -179,12 +179,12 @@ fn put_link(uri: &mut ArrayVec<u8, MAX_LINK>, parts: &[&[u8]])
 }
 
 /// Keeps the link of a URI that was written down; none where no link has it.
-fn keep(link: &mut ArrayVec<u8, MAX_LINK>, uri: &[u8])
-    ensures { link.new.items ≡ kept_link uri.now }
+fn keep(link: &mut Uri, uri: &[u8])
+    ensures { uri_in link.new ≡ kept_link uri.now }
 {
     link.clear();
     if uri.len() <= MAX_LINK && is_linkable(uri) {
-        let _ = link.try_extend_from_slice(uri);
+        link.append(uri);
     }
 }
 
@@ -220,16 +220,16 @@ fn are_stored(parts: &[&[u8]]) -> bool
 }
 
 /// Writes the URI of a command, with its own separators.
-fn put_uri(uri: &mut ArrayVec<u8, MAX_LINK>, parts: &[&[u8]])
-    requires empty { uri.old.items ≡ [] }
+fn put_uri(uri: &mut Uri, parts: &[&[u8]])
+    requires empty { uri_in uri.old ≡ [] }
     requires whole { is_whole (map (λ part. part.now) parts.now) ≡ true }
-    ensures { uri.new.items ≡ uri_of (map (λ part. part.now) parts.now) }
+    ensures { uri_in uri.new ≡ uri_of (map (λ part. part.now) parts.now) }
 {
     if let [_, _, first, others @ ..] = parts {
-        let _ = uri.try_extend_from_slice(first);
+        uri.append(first);
         for part in others {
-            uri.push(b';');
-            let _ = uri.try_extend_from_slice(part);
+            uri.append(b";");
+            uri.append(part);
         }
     }
 }
@@ -254,7 +254,9 @@ fn has_scheme(uri: &[u8]) -> bool
 fn are_visible(uri: &[u8]) -> bool
     ensures { result ≡ list_all is_visible uri.now }
 {
-    are_each_visible(after_visible(uri))
+    let rest = after_visible(uri);
+    // What is left of a chunk is among the last sixteen bytes.
+    rest.len() < CHUNK && are_last_visible(uri) || are_each_visible(rest)
 }
 
 /// The same, byte by byte.
@@ -268,7 +270,7 @@ fn are_each_visible(bytes: &[u8]) -> bool
 /// What comes after the visible bytes at the front, as far as they are tested sixteen at a time.
 #[inline(always)]
 fn after_visible(uri: &[u8]) -> &[u8]
-    ensures { list_all is_visible result.now ≡ list_all is_visible uri.now }
+    ensures { BeginWithVisible uri.now result.now }
 {
     let mut rest = uri;
     'chunks: while let Some((chunk, behind)) = rest.split_first_chunk::<CHUNK>() {

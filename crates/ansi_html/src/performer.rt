@@ -8,7 +8,7 @@ ghost use Rattle.ansi_html.specs.Grammar.{is_special, AreClear, BeginWithClear};
 ghost use Rattle.ansi_html.specs.ShownLinks.{shown_link, selected_link};
 ghost use Rattle.ansi_html.specs.Html.{line_break, beginning, value_of, attribute_text, span_begin, span_end, link_begin, element, are_same, element_begin, element_end, change, escaped, escaped_text};
 
-use crate::chunks::{CHUNK, specials};
+use crate::chunks::{CHUNK, are_last_clear, specials};
 use crate::class::put_classes;
 use crate::css::{is_plain, put_css};
 use crate::link::{Links, is_link_command};
@@ -189,8 +189,8 @@ impl<W: Sink> HtmlWriter<W> {
         put_change(
             &mut self.output,
             self.styling,
-            self.shown,
-            style,
+            &self.shown,
+            &style,
             &self.links,
         );
         self.next = None;
@@ -230,12 +230,12 @@ fn put_line_break<W: Sink>(output: &mut Output<W>, is_line_feed: bool)
 fn put_change<W: Sink>(
     output: &mut Output<W>,
     styling: Styling,
-    shown: Style,
-    style: Style,
+    shown: &Style,
+    style: &Style,
     links: &Links,
 )
     ensures { Adds W.Sink
-        (change styling (element shown (shown_link links.now)) (element style (selected_link links.now)))
+        (change styling (element shown.now (shown_link links.now)) (element style.now (selected_link links.now)))
         output.old output.new }
 {
     if is_other(shown, style, links) {
@@ -246,21 +246,22 @@ fn put_change<W: Sink>(
 
 /// Whether these two elements differ.
 #[inline(always)]
-fn is_other(shown: Style, style: Style, links: &Links) -> bool
-    ensures { result ≡ not (are_same (element shown (shown_link links.now)) (element style (selected_link links.now))) }
+fn is_other(shown: &Style, style: &Style, links: &Links) -> bool
+    ensures { result ≡ not (are_same (element shown.now (shown_link links.now))
+        (element style.now (selected_link links.now))) }
 {
-    links.differ() || shown != style
+    links.differ() || *shown != *style
 }
 
 /// Opens an element of the style and the link, where there is either.
-#[inline]
+#[inline(always)]
 pub(crate) fn put_begin<W: Sink>(
     output: &mut Output<W>,
     styling: Styling,
-    style: Style,
+    style: &Style,
     link: &[u8],
 )
-    ensures { Adds W.Sink (element_begin styling (element style link.now)) output.old output.new }
+    ensures { Adds W.Sink (element_begin styling (element style.now link.now)) output.old output.new }
 {
     if link.is_empty() {
         put_span_begin(output, styling, style);
@@ -271,8 +272,8 @@ pub(crate) fn put_begin<W: Sink>(
 
 /// Closes it.
 #[inline(always)]
-pub(crate) fn put_end<W: Sink>(output: &mut Output<W>, style: Style, link: &[u8])
-    ensures { Adds W.Sink (element_end (element style link.now)) output.old output.new }
+pub(crate) fn put_end<W: Sink>(output: &mut Output<W>, style: &Style, link: &[u8])
+    ensures { Adds W.Sink (element_end (element style.now link.now)) output.old output.new }
 {
     if link.is_empty() {
         put_span_end(output, style);
@@ -282,8 +283,9 @@ pub(crate) fn put_end<W: Sink>(output: &mut Output<W>, style: Style, link: &[u8]
 }
 
 /// Opens a link, in the style.
-fn put_link_begin<W: Sink>(output: &mut Output<W>, styling: Styling, style: Style, link: &[u8])
-    ensures { Adds W.Sink (link_begin styling link.now (value_of styling true style)) output.old output.new }
+#[inline(never)]
+fn put_link_begin<W: Sink>(output: &mut Output<W>, styling: Styling, style: &Style, link: &[u8])
+    ensures { Adds W.Sink (link_begin styling link.now (value_of styling true style.now)) output.old output.new }
 {
     output.put(b"<a rel=\"nofollow noreferrer\" href=\"");
     put_in_parts(output, link);
@@ -292,24 +294,26 @@ fn put_link_begin<W: Sink>(output: &mut Output<W>, styling: Styling, style: Styl
 
 /// The end of a link's URI, and its style.
 #[inline(always)]
-fn put_link_style<W: Sink>(output: &mut Output<W>, styling: Styling, style: Style)
-    ensures { Adds W.Sink (codes "\"" ++ attribute_text styling (value_of styling true style)) output.old output.new }
+fn put_link_style<W: Sink>(output: &mut Output<W>, styling: Styling, style: &Style)
+    ensures { Adds W.Sink (codes "\"" ++ attribute_text styling (value_of styling true style.now))
+        output.old output.new }
 {
     match styling {
         Styling::Inline(scheme) => {
             if is_plain(style) {
                 output.put(b"\" style=\"color:inherit;\">");
             } else {
-                put_css_between(output, b"\" style=\"color:inherit;", scheme, style);
+                put_css_between(output, b"\" style=\"color:inherit;", scheme, *style);
             }
         }
-        Styling::Classes => put_classes_between(output, b"\" class=\"", true, style),
+        Styling::Classes => put_classes_between(output, b"\" class=\"", true, *style),
     }
 }
 
 /// Opens a span of the style, unless it is plain.
-pub(crate) fn put_span_begin<W: Sink>(output: &mut Output<W>, styling: Styling, style: Style)
-    ensures { Adds W.Sink (span_begin styling style) output.old output.new }
+#[inline(always)]
+pub(crate) fn put_span_begin<W: Sink>(output: &mut Output<W>, styling: Styling, style: &Style)
+    ensures { Adds W.Sink (span_begin styling style.now) output.old output.new }
 {
     if !is_plain(style) {
         put_span(output, styling, style);
@@ -317,14 +321,14 @@ pub(crate) fn put_span_begin<W: Sink>(output: &mut Output<W>, styling: Styling, 
 }
 
 /// Opens a span of the style.
-#[inline(always)]
-fn put_span<W: Sink>(output: &mut Output<W>, styling: Styling, style: Style)
-    ensures { Adds W.Sink (codes "<span" ++ attribute_text styling (value_of styling false style))
+#[inline(never)]
+fn put_span<W: Sink>(output: &mut Output<W>, styling: Styling, style: &Style)
+    ensures { Adds W.Sink (codes "<span" ++ attribute_text styling (value_of styling false style.now))
         output.old output.new }
 {
     match styling {
-        Styling::Inline(scheme) => put_css_between(output, b"<span style=\"", scheme, style),
-        Styling::Classes => put_classes_between(output, b"<span class=\"", false, style),
+        Styling::Inline(scheme) => put_css_between(output, b"<span style=\"", scheme, *style),
+        Styling::Classes => put_classes_between(output, b"<span class=\"", false, *style),
     }
 }
 
@@ -348,8 +352,9 @@ fn put_classes_between<W: Sink>(output: &mut Output<W>, before: &[u8], linked: b
 }
 
 /// Closes a span of the style, unless it is plain.
-pub(crate) fn put_span_end<W: Sink>(output: &mut Output<W>, style: Style)
-    ensures { Adds W.Sink (span_end style) output.old output.new }
+#[inline(always)]
+pub(crate) fn put_span_end<W: Sink>(output: &mut Output<W>, style: &Style)
+    ensures { Adds W.Sink (span_end style.now) output.old output.new }
 {
     if !is_plain(style) {
         output.put(b"</span>");
@@ -378,6 +383,9 @@ fn after_clear(bytes: &[u8]) -> &[u8]
             return at;
         }
         rest = behind;
+    }
+    if are_last_clear(bytes) {
+        return &[];
     }
     'bytes: while let Some((first, behind)) = rest.split_first() {
         if is_special(*first) {
@@ -571,7 +579,7 @@ impl<W: Sink> WritingPerformer<W> for HtmlWriter<W> {
             links,
             ..
         } = self;
-        put_end(&mut output, shown, links.shown());
+        put_end(&mut output, &shown, links.shown());
         output
     }
 

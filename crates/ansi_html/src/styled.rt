@@ -73,8 +73,8 @@ impl<W: Sink> StyledWriter<W> {
             (element_end (shown_in self.old) ++ element_begin (styling_of self.old) (element style (link_in link.now)))
             (output_of self.old) (output_of self.new) }
     {
-        put_end(&mut self.output, self.shown, self.link.uri());
-        put_begin(&mut self.output, self.styling, style, link.uri());
+        put_end(&mut self.output, &self.shown, self.link.uri());
+        put_begin(&mut self.output, self.styling, &style, link.uri());
         self.shown = style;
         self.link.assign(link);
     }
@@ -114,7 +114,7 @@ impl<W: Sink> StyledWriter<W> {
             link,
             ..
         } = self;
-        put_end(&mut output, shown, link.uri());
+        put_end(&mut output, &shown, link.uri());
         output
     }
 }

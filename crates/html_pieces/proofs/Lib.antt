@@ -1,4 +1,4 @@
 pub mod StateLemmas
 pub mod BufferLemmas
 pub mod FeedLemmas
-pub mod PlainLemmas
+pub mod VerbatimLemmas

@@ -2,5 +2,5 @@ pub mod Sizes
 pub mod Styles
 pub mod Buffer
 pub mod State
-pub mod Plain
+pub mod Verbatim
 pub mod Feed

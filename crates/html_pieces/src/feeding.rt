@@ -5,7 +5,7 @@ ghost use Rattle.html_pieces.specs.Feed.{Takes, Feeds, Refuses, Ends, RefusesEnd
 
 use crate::buffer::{CAPACITY, HtmlBuffer};
 use crate::state::HtmlState;
-use ansi_html::{HtmlWriter, plain_length};
+use ansi_html::{HtmlWriter, verbatim_length};
 use anstyle_parse::canon::{Output, WritingPerformer};
 use anstyle_parse::{Parser, Utf8Parser};
 use strip_pieces::Fed;
@@ -47,7 +47,7 @@ impl HtmlState {
         let size = room.len().min(CAPACITY);
         let sure = size / LEAST_ROOM;
         let most = piece.len().min(sure.max(size / HTML_OF_A_BYTE));
-        if let Some(taken) = self.take_plain(&piece[..most], room) {
+        if let Some(taken) = self.take_verbatim(&piece[..most], room) {
             return Some(Fed {
                 taken,
                 written: taken,
@@ -82,9 +82,9 @@ impl HtmlState {
         Some(put_front(room, buffer.html()))
     }
 
-    /// Takes the plain text at the front of the piece, if that is more than half of it and is its own HTML. It goes
+    /// Takes the verbatim text at the front of the piece, if that is more than half of it and is its own HTML. It goes
     /// to the room as it is, with no parser.
-    fn take_plain(&self, piece: &[u8], room: &mut [u8]) -> Option<usize>
+    fn take_verbatim(&self, piece: &[u8], room: &mut [u8]) -> Option<usize>
         requires { length piece.now ≤ length room.old }
         ensures within { IfSome result (λ taken. taken ≤ length piece.now) }
         ensures some { IfSome result (λ taken. 0 < taken) }
@@ -95,7 +95,7 @@ impl HtmlState {
         if !self.is_in_text() {
             return None;
         }
-        let taken = plain_length(piece);
+        let taken = verbatim_length(piece);
         if taken <= piece.len() / 2 {
             return None;
         }

@@ -4,7 +4,7 @@ ghost use Rattle.std.specs.Bool.{OnTrue};
 ghost use Rattle.ansi_html.specs.Links.{max_link};
 ghost use Rattle.ansi_html.specs.Html.{no_element};
 ghost use Rattle.ansi_html.specs.Writer.{element_in, standing_in, kept};
-ghost use Rattle.html_pieces.specs.Plain.{IsInText};
+ghost use Rattle.html_pieces.specs.Verbatim.{IsInText};
 ghost use Rattle.html_pieces.specs.State.{held_element, held_standing, styling_in, styling_numbered, StandsFor};
 
 use crate::style::{StyleBytes, flag};
@@ -143,7 +143,7 @@ impl HtmlState {
         self.returned = flag(standing.returned);
     }
 
-    /// Whether it stands in the midst of text, so that plain text is its own HTML: no sequence and no character is
+    /// Whether it stands in the midst of text, so that verbatim text is its own HTML: no sequence and no character is
     /// begun, the style that is selected is that of the last text, with no link, and that was not 0D.
     pub(crate) fn is_in_text(&self) -> bool
         ensures { OnTrue result (IsInText self.now) }

@@ -123,11 +123,16 @@ unfolding change_at is_within
 change_at-command state b is byte =
     ap (λ s. change_at s b) is ∙ ap (λ n. change_at Escape n) byte
 
--- of Escape to the beginning of a device control string, and of a hooked one to its end
+-- of Escape to the beginning of a device control string, of this to what hooks it, and of a hooked one to its end
 pub change_at-device : (state : State) (b : ℕ) → state ≡ Escape → b ≡ 0x50 → change_at state b ≡ (DcsEntry by Nop)
 unfolding change_at is_within
 change_at-device state b is byte =
     ap (λ s. change_at s b) is ∙ ap (λ n. change_at Escape n) byte
+
+pub change_at-device_final : (state : State) (b : ℕ) → state ≡ DcsEntry → IsTrue (is_final b) → change_at state b ≡ (DcsPassthrough by Nop)
+unfolding change_at is_within is_final
+change_at-device_final state b is final =
+    ap (λ s. change_at s b) is ∙ change_at-within DcsEntry 0x40 0x7E (DcsPassthrough by Nop) (omega arith) b final refl
 
 pub change_at-hooked_escape : (state : State) (b : ℕ) → state ≡ DcsPassthrough → b ≡ 0x1B → change_at state b ≡ (Escape by Nop)
 unfolding change_at is_within

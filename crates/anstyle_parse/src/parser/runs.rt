@@ -139,6 +139,7 @@ impl<C: CharAccumulator> Parser<C> {
             State::Escape => self.take_after_escape(performer, first, behind),
             State::CsiEntry | State::CsiParam => self.take_in_header(performer, bytes),
             State::OscString => self.take_in_command(performer, first, behind),
+            State::DcsEntry => self.take_device_final(performer, first, behind),
             State::DcsPassthrough => self.take_in_hooked_string(performer, first, behind),
             State::SosPmApcString | State::DcsIgnore => {
                 self.take_run(performer, Run::OfIgnoredString, first, behind)
@@ -612,6 +613,26 @@ impl<C: CharAccumulator> Parser<C> {
 /// A hooked device control string.
 impl<C: CharAccumulator> Parser<C> {
     ghost use Rattle.anstyle_parse.specs.Views.Parser.{CanTakeAll};
+
+    /// Directly behind ESC P: what hooks the string; another byte by the table.
+    #[inline(always)]
+    fn take_device_final<'a, P: Perform>(
+        &mut self,
+        performer: &mut P,
+        first: u8,
+        behind: &'a [u8],
+    ) -> &'a [u8]
+        requires entry { self.old.state ≡ State.DcsEntry }
+        requires can { CanTakeAll C.takes self.old (first ∷ behind.now) }
+        ensures { Takes C.takes C.taken P.means self.old performer.old first behind.now
+            self.new performer.new result.now }
+    {
+        if is_final_byte(first) {
+            self.step_by_answer(performer, State::DcsPassthrough, Action::Nop, first);
+            return behind;
+        }
+        self.take_by_table(performer, first, behind)
+    }
 
     /// Bytes that are put, and the byte after them.
     #[inline(always)]

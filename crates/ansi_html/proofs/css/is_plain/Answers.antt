@@ -55,4 +55,4 @@ is_plain-fields s =
     (both _ _ s.struck_out _ (flag-plain s.struck_out) (flag-plain s.overlined))))))))))
 
 pub returns : goal.returns
-returns c = ap not c.is_styled.ensures ∙ sym (is_plain-fields c.args.style)
+returns c = ap not c.is_styled.ensures ∙ sym (is_plain-fields c.args.style.now)

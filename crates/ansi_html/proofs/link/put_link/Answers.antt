@@ -8,7 +8,7 @@ pub returns-then-not-is_linkable : goal.returns-then-not-is_linkable
 unfolding link_of
 returns-then-not-is_linkable c =
     let parts = texts c.args.parts.now in
-    let uri = c.as_slice.ensures.value ∙ c.put_uri.ensures in
+    let uri = c.as_slice.ensures ∙ c.put_uri.ensures in
     let whole = sym c.is_whole.ensures ∙ c.if-is_whole.true in
     let other = sym (ap is_linkable uri) ∙ sym c.is_linkable.ensures ∙ c.if-not-is_linkable.true in
     c.clear-then-not-is_linkable.ensures ∙ sym (ap₂ (λ (x y : Bool). if x && y then uri_of parts else []) whole other)
@@ -17,7 +17,7 @@ pub returns-else-not-is_linkable : goal.returns-else-not-is_linkable
 unfolding link_of
 returns-else-not-is_linkable c =
     let parts = texts c.args.parts.now in
-    let uri = c.as_slice.ensures.value ∙ c.put_uri.ensures in
+    let uri = c.as_slice.ensures ∙ c.put_uri.ensures in
     let whole = sym c.is_whole.ensures ∙ c.if-is_whole.true in
     let is = sym (ap is_linkable uri) ∙ sym c.is_linkable.ensures ∙ c.if-not-is_linkable.false in
     c.put_uri.ensures ∙ sym (ap₂ (λ (x y : Bool). if x && y then uri_of parts else []) whole is)

@@ -1,9 +1,12 @@
 use Rattle.std.proofs.Common.{[], ◌∷◌, ◌++◌, sym, ap₂, arith, take, ◌∙◌, take-append-drop}
+use Rattle.std.specs.Prelude.{not}
+use Rattle.std.proofs.lemmas.List.{append-nil}
 use lib.Count.{count_trailing_zeros}
 use Rattle.anstyle_parse.proofs.Machine.Lanes.{lowest-lt, each_before, each_before_lowest}
 use Rattle.anstyle_parse.proofs.Machine.Runs.{chunk_and_rest, front_of_chunk, length-first_chunk}
 use Rattle.ansi_html.specs.Grammar.{is_special}
 use Rattle.ansi_html.proofs.ChunkLemmas.{AreClear-each}
+use Rattle.ansi_html.proofs.EndLemmas.{PassAtEnd-behind}
 use Rattle.ansi_html.proofs.HtmlLemmas.{BeginWithClear-none, BeginWithClear-more}
 use Rattle.ansi_html.proofs.performer.after_clear.Goals as goal
 
@@ -38,6 +41,13 @@ chunks-preserved c =
     BeginWithClear-more c.args.bytes.now rest chunk behind
     (AreClear-each chunk (each_before is_special chunk c.specials-found.result long c.specials-found.ensures c.if-found-ne0.false))
     (chunk_and_rest 16 rest chunk behind c.in-Some.ensures.cases.0 c.in-Some.ensures.cases.1) c.chunks.invariant
+
+pub returns-then-are_last_clear : goal.returns-then-are_last_clear
+returns-then-are_last_clear c =
+    let rest = c.chunks.rest.now in
+    let (front, are, joined) = c.chunks.invariant in
+    let clear = PassAtEnd-behind (λ b. not (is_special b)) c.args.bytes.now front rest joined c.in_default.ensures.cases (c.are_last_clear.ensures c.if-are_last_clear.true) in
+    BeginWithClear-more c.args.bytes.now rest rest [] (AreClear-each rest clear) (sym (append-nil rest)) c.chunks.invariant
 
 pub bytes-preserved : goal.bytes-preserved
 bytes-preserved c =

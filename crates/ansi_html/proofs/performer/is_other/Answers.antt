@@ -18,13 +18,13 @@ first_alone false = refl
 
 pub returns-then-differ : goal.returns-then-differ
 returns-then-differ c =
-    let same = are_equal c.args.shown c.args.style in
+    let same = are_equal c.args.shown.now c.args.style.now in
     let other = false-from_not (bytes_eq (shown_link c.args.links.now) (selected_link c.args.links.now)) (sym c.differ.ensures ∙ c.if-differ.true) in
     c.if-differ.true ∙ sym (ap (λ (links : Bool). not (same && links)) other ∙ not_both same)
 
 pub returns-else-differ : goal.returns-else-differ
 unfolding are_equal
 returns-else-differ c =
-    let same = are_equal c.args.shown c.args.style in
+    let same = are_equal c.args.shown.now c.args.style.now in
     let links = true-from_not (bytes_eq (shown_link c.args.links.now) (selected_link c.args.links.now)) (sym c.differ.ensures ∙ c.if-differ.false) in
     c.ne.ensures ∙ sym (ap (λ (links : Bool). not (same && links)) links ∙ first_alone same)

@@ -11,20 +11,20 @@ pub returns-then-is_other : goal.returns-then-is_other
 returns-then-is_other g c =
     let begin = c.args.output.now in
     let end = c.put_begin.new.output in
-    let shown = element c.args.shown (shown_link c.args.links.now) in
-    let next = element c.args.style (selected_link c.args.links.now) in
+    let shown = element c.args.shown.now (shown_link c.args.links.now) in
+    let next = element c.args.style.now (selected_link c.args.links.now) in
     let text = element_end shown ++ element_begin c.args.styling next in
     let other = false-from_not (are_same shown next) (sym c.is_other.ensures ∙ c.if-is_other.true) in
     subst (λ (same : Bool). Adds g.W.Sink (if same then [] else text) begin end) (sym other)
     (Adds-append g.W.Sink (element_end shown) (element_begin c.args.styling next) begin c.put_end.new.output end
-    (subst (λ (link : List ℕ). Adds g.W.Sink (element_end (element c.args.shown link)) begin c.put_end.new.output) c.shown.ensures c.put_end.ensures)
-    (subst (λ (link : List ℕ). Adds g.W.Sink (element_begin c.args.styling (element c.args.style link)) c.put_end.new.output end) c.selected.ensures c.put_begin.ensures))
+    (subst (λ (link : List ℕ). Adds g.W.Sink (element_end (element c.args.shown.now link)) begin c.put_end.new.output) c.shown.ensures c.put_end.ensures)
+    (subst (λ (link : List ℕ). Adds g.W.Sink (element_begin c.args.styling (element c.args.style.now link)) c.put_end.new.output end) c.selected.ensures c.put_begin.ensures))
 
 pub returns-else-is_other : goal.returns-else-is_other
 returns-else-is_other g c =
     let begin = c.args.output.now in
-    let shown = element c.args.shown (shown_link c.args.links.now) in
-    let next = element c.args.style (selected_link c.args.links.now) in
+    let shown = element c.args.shown.now (shown_link c.args.links.now) in
+    let next = element c.args.style.now (selected_link c.args.links.now) in
     let text = element_end shown ++ element_begin c.args.styling next in
     let same = true-from_not (are_same shown next) (sym c.is_other.ensures ∙ c.if-is_other.false) in
     subst (λ (same : Bool). Adds g.W.Sink (if same then [] else text) begin begin) (sym same) (Adds-nil g.W.Sink begin)

@@ -1,4 +1,4 @@
--- Plain text in the midst of text is taken as it is, and leaves the state as it is.
+-- Verbatim text in the midst of text is taken as it is, and leaves the state as it is.
 use Rattle.std.proofs.Common.{◌≡◌, ◌≤◌, ℕ, false, List, [], ◌++◌, length, map, take, drop, refl, sym, ap, ap₂, ◌∙◌, subst, arith, length-append, length-drop}
 use Rattle.std.proofs.Math.Seq.{take-append_seam, drop-append_seam}
 use Rattle.anstyle_parse.specs.Stream.Call.{Call}
@@ -10,17 +10,17 @@ use Rattle.anstyle_parse.specs.Machine.Step.{Machine, new_machine, machine_after
 use Rattle.anstyle_parse.specs.Machine.Stands.{StandsAfter}
 use Rattle.anstyle_parse.proofs.Agreement.Whole.{StandsAfter-machine, Continues-machine}
 use Rattle.strip_pieces.specs.State.{StandsFor as StreamStandsFor}
-use Rattle.ansi_html.specs.Plain.{is_plain}
+use Rattle.ansi_html.specs.Verbatim.{is_verbatim}
 use Rattle.ansi_html.specs.Html.{Element, element, html_from, standing_at_end}
 use Rattle.ansi_html.specs.Links.{kept_link}
 use Rattle.ansi_html.specs.Writer.{in_element}
-use Rattle.ansi_html.proofs.PlainLemmas.{machine-plain, html_from-plain, standing_at_end-plain}
+use Rattle.ansi_html.proofs.VerbatimLemmas.{machine-verbatim, html_from-verbatim, standing_at_end-verbatim}
 use Rattle.html_pieces.specs.declared.state.HtmlState.{HtmlState}
 use Rattle.html_pieces.specs.State.{styling_in, standing_of}
-use Rattle.html_pieces.specs.Plain.{IsInText}
+use Rattle.html_pieces.specs.Verbatim.{IsInText}
 use Rattle.html_pieces.specs.Feed.{Takes}
 
-module _ (state : HtmlState) (in_text : IsInText state) (bytes : List ℕ) (plain : EachIs is_plain bytes) where
+module _ (state : HtmlState) (in_text : IsInText state) (bytes : List ℕ) (verbatim : EachIs is_verbatim bytes) where
   -- the element that its text stands in
   abbrev stood : Element
   stood = (standing_of state).selected
@@ -34,29 +34,29 @@ module _ (state : HtmlState) (in_text : IsInText state) (bytes : List ℕ) (plai
   stands-new : (before : List ℕ) → StreamStandsFor state.stream before → StandsAfter (new_machine []) before
   stands-new before stands = subst (λ held. StandsAfter (machine_after decoded held (new_machine [])) before) in_text.nothing_pending stands
 
-  continues-plain : (before : List ℕ) → StreamStandsFor state.stream before → Continues before bytes (map layout_call bytes)
-  continues-plain before stands =
-      subst (λ (calls : List Call). Continues before bytes calls) (machine-plain bytes plain).1 (Continues-machine (new_machine []) before bytes (stands-new before stands))
+  continues-verbatim : (before : List ℕ) → StreamStandsFor state.stream before → Continues before bytes (map layout_call bytes)
+  continues-verbatim before stands =
+      subst (λ (calls : List Call). Continues before bytes calls) (machine-verbatim bytes verbatim).1 (Continues-machine (new_machine []) before bytes (stands-new before stands))
 
-  stands-plain : (before : List ℕ) → StreamStandsFor state.stream before → StreamStandsFor state.stream (before ++ bytes)
-  stands-plain before stands =
+  stands-verbatim : (before : List ℕ) → StreamStandsFor state.stream before → StreamStandsFor state.stream (before ++ bytes)
+  stands-verbatim before stands =
       subst (λ held. StandsAfter (machine_after decoded held (new_machine [])) (before ++ bytes)) (sym in_text.nothing_pending)
-      (subst (λ (m : Machine (List ℕ)). StandsAfter m (before ++ bytes)) (machine-plain bytes plain).0 (StandsAfter-machine (new_machine []) before bytes (stands-new before stands)))
+      (subst (λ (m : Machine (List ℕ)). StandsAfter m (before ++ bytes)) (machine-verbatim bytes verbatim).0 (StandsAfter-machine (new_machine []) before bytes (stands-new before stands)))
 
-  pub Takes-plain : (room room_after : List ℕ) → length bytes ≤ length room → room_after ≡ bytes ++ drop (length bytes) room
+  pub Takes-verbatim : (room room_after : List ℕ) → length bytes ≤ length room → room_after ≡ bytes ++ drop (length bytes) room
       → Takes state state bytes room room_after (length bytes)
-  Takes-plain room room_after fits is =
+  Takes-verbatim room room_after fits is =
       let calls = map layout_call bytes in
       let rest = drop (length bytes) room in
       record {
         calls = calls;
-        continues = continues-plain;
-        stream = stands-plain;
+        continues = continues-verbatim;
+        stream = stands-verbatim;
         styling = refl;
-        standing = standing-in_text ∙ sym (standing_at_end-plain (styling_in state) stood bytes plain) ∙ ap (λ at. standing_at_end at calls) (sym standing-in_text);
+        standing = standing-in_text ∙ sym (standing_at_end-verbatim (styling_in state) stood bytes verbatim) ∙ ap (λ at. standing_at_end at calls) (sym standing-in_text);
         same_length = omega (arith, fits, ap length is, length-append bytes rest, length-drop (length bytes) room);
         written_fits = fits;
         html = ap (take (length bytes)) is ∙ take-append_seam bytes rest
-            ∙ sym (html_from-plain (styling_in state) stood bytes plain) ∙ ap (λ at. html_from (styling_in state) at calls) (sym standing-in_text);
+            ∙ sym (html_from-verbatim (styling_in state) stood bytes verbatim) ∙ ap (λ at. html_from (styling_in state) at calls) (sym standing-in_text);
         untouched = ap (drop (length bytes)) is ∙ drop-append_seam bytes rest;
       }

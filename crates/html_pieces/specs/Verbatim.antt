@@ -1,4 +1,4 @@
--- Where plain text is written as it is.
+-- Where verbatim text is written as it is.
 use Rattle.std.specs.Prelude.{◌≡◌, false, []}
 use Rattle.strip_pieces.specs.State.{pending_of}
 use Rattle.html_pieces.specs.declared.state.HtmlState.{HtmlState}

@@ -1,5 +1,5 @@
 //! The HTML of a piece, before it goes to the caller's room.
-ghost use Rattle.std.specs.Prelude.{◌≡◌, ◌≤◌, ◌∷◌, [], false, Some, length, min};
+ghost use Rattle.std.specs.Prelude.{◌≡◌, ◌<◌, ◌≤◌, ◌+◌, ◌++◌, ◌∷◌, [], false, Some, IfSome, IfNone, OnSome, IsTrue, length, take, min};
 
 use anstyle_parse::canon::Sink;
 
@@ -18,7 +18,7 @@ pub(crate) struct HtmlBuffer<'a> {
 }
 
 impl<'a> HtmlBuffer<'a> {
-    ghost use Rattle.html_pieces.specs.Buffer.{limit_of, held_in, has_overflowed};
+    ghost use Rattle.html_pieces.specs.Buffer.{limit_of, held_in, has_overflowed, is_full};
 
     /// One that holds nothing, and takes at most so many bytes, and as many as are lent.
     pub(crate) fn new(limit: usize, into: &'a mut [u8]) -> HtmlBuffer<'a>
@@ -32,6 +32,43 @@ impl<'a> HtmlBuffer<'a> {
             written: 0,
             overflowed: false,
         }
+    }
+
+    /// Holds these bytes too. Mostly their number is known where they are written, and then they are copied with no
+    /// call.
+    #[inline(always)]
+    fn hold(&mut self, bytes: &[u8])
+        requires room { length (held_in self.old) + length bytes.now ≤ limit_of self.old }
+        ensures held { held_in self.new ≡ held_in self.old ++ bytes.now }
+        ensures same_limit { limit_of self.new ≡ limit_of self.old }
+        ensures not_failed { has_overflowed self.new ≡ has_overflowed self.old }
+    {
+        let end = self.written + bytes.len();
+        self.into[self.written..end].copy_from_slice(bytes);
+        self.written = end;
+    }
+
+    /// Holds as many of these bytes as there is room for, which is not for all, and answers how many: `None` where there is
+    /// no room. It is out of line, since mostly there is room for all.
+    #[inline(never)]
+    fn hold_front(&mut self, bytes: &[u8]) -> Option<usize>
+        requires over { limit_of self.old < length (held_in self.old) + length bytes.now }
+        ensures within { IfSome result (λ count. count ≤ length bytes.now) }
+        ensures some { IfSome result (λ count. 0 < count) }
+        ensures held { IfSome result (λ count. held_in self.new ≡ held_in self.old ++ take count bytes.now) }
+        ensures not_failed { OnSome result (has_overflowed self.new ≡ has_overflowed self.old) }
+        ensures nothing_held { IfNone result (held_in self.new ≡ held_in self.old) }
+        ensures failed { IfNone result (IsTrue (has_overflowed self.new)) }
+        ensures full { IfNone result (is_full self.new) }
+        ensures same_limit { limit_of self.new ≡ limit_of self.old }
+    {
+        let room = self.limit - self.written;
+        if room == 0 {
+            self.overflowed = true;
+            return None;
+        }
+        self.hold(&bytes[..room]);
+        Some(room)
     }
 
     /// What it holds.
@@ -53,15 +90,11 @@ impl<'a> Sink for HtmlBuffer<'a> {
 
     #[inline]
     fn write(&mut self, bytes: &[u8]) -> Option<usize> {
-        let start = self.written;
-        let count = bytes.len().min(self.limit - start);
-        if count == 0 && !bytes.is_empty() {
-            self.overflowed = true;
-            return None;
+        if bytes.len() > self.limit - self.written {
+            return self.hold_front(bytes);
         }
-        self.into[start..start + count].copy_from_slice(&bytes[..count]);
-        self.written = start + count;
-        Some(count)
+        self.hold(bytes);
+        Some(bytes.len())
     }
 
     fn flush(&mut self) -> bool {

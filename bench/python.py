@@ -1,7 +1,7 @@
 #!/usr/bin/env python3
 """Times the Python package on the five kinds of streams, beside what Python does without it.
 
-Usage: bench/python.py [--events] [--bytes N] [--rounds N]
+Usage: bench/python.py [--events | --short] [--bytes N] [--rounds N]
 
 `make library` must have built the shared library, or ANSI_LIBRARY names it. `ansi.strip` is given a str and
 bytes, beside the expression of strip-ansi over the same, in one `re.sub`; `ansi.to_html` a str, beside
@@ -12,6 +12,9 @@ of the HTML shows the same text of a megabyte is checked, but for carriage retur
 With --events it is `ansi.events` alone, of bytes, beside `ByteStream` of pyte (Debian's python3-pyte; run this by
 the Python that has it) whose listener does nothing, and beside the calls of the library that `ansi.events` makes,
 with nothing read of what they write. Beside the times stand those for one event, in nanoseconds.
+
+With --short it is what a call takes of a str of 20 characters, in microseconds: a clean one, and one with two
+colours.
 """
 
 import argparse
@@ -58,12 +61,13 @@ def shown(page):
 def main():
     parser = argparse.ArgumentParser(description=__doc__, formatter_class=argparse.RawDescriptionHelpFormatter)
     parser.add_argument("--events", action="store_true")
+    parser.add_argument("--short", action="store_true")
     parser.add_argument("--bytes", type=int, help="(16 MiB, and of events 1 MiB)")
     parser.add_argument("--rounds", type=int, default=5)
     options = parser.parse_args()
     options.bytes = options.bytes or (1 << 20 if options.events else 16 << 20)
     print(measure.load())
-    (time_events if options.events else time_texts)(options)
+    (time_events if options.events else time_short if options.short else time_texts)(options)
     print(measure.load())
 
 
@@ -88,6 +92,19 @@ def time_texts(options):
             times = least((ours, theirs), options.rounds)
             row += "  %8.4f %8.4f %6.1f" % (*times, times[1] / times[0])
         print(row, flush=True)
+
+
+def time_short(options):
+    """A row for each str: `ansi.strip`, `ansi.to_html` and `ansi.events`, and the peers of the first two."""
+    import ansi
+
+    names = "strip", "expression", "to_html", "loop", "events"
+    calls = ansi.strip, lambda it: OF_STR.sub("", it), ansi.to_html, converter.to_html, lambda it: list(ansi.events(it))
+    print("%-12s" % "microseconds" + "".join("  %10s" % it for it in names))
+    for name, text in [("clean", "twenty letters clean"), ("two colours", "\x1b[31mred\x1b[0m, plain.")]:
+        actions = [lambda call=call: [call(text) for _ in range(1000)] for call in calls]
+        times = least(actions, 40 * options.rounds)
+        print("%-12s" % name + "".join("  %10.2f" % (1000 * it) for it in times), flush=True)
 
 
 class Listener:

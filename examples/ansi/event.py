@@ -7,7 +7,7 @@ import sys
 from itertools import chain
 from typing import NamedTuple
 
-from .library import address_of, bytes_of, function
+from .library import FEW, Idle, address_of, bytes_of, function
 from .text import State
 
 MOST = 16384  # bytes that one call is given at most
@@ -220,6 +220,14 @@ class _Reader:
             for start, length, key in zip(numbers, numbers, numbers)
         ]
 
+    def whole(self, piece):
+        """The events of a whole, which is a stream of its own."""
+        self._state.length = 0  # (so a stream begins, whatever stands behind: pending_of of strip_pieces)
+        return list(chain.from_iterable(self.events(piece)))
+
+
+READERS = Idle(_Reader)
+
 
 def _events_of(pieces):
     """The events of each piece, in parts."""
@@ -240,6 +248,12 @@ def events(stream):
     for a text, which is cut where its piece ends. Each is a named tuple of this package; include/ansi_events.h says
     what the kinds are.
     """
-    if isinstance(stream, (str, bytes, bytearray, memoryview)):
-        return chain.from_iterable(_events_of([stream]))
-    return chain.from_iterable(_events_of(iter(stream)))
+    if not isinstance(stream, (str, bytes, bytearray, memoryview)):
+        return chain.from_iterable(_events_of(iter(stream)))
+    piece = _bytes_of(stream)
+    if len(piece) > FEW:
+        return chain.from_iterable(_events_of([piece]))
+    reader = READERS.taken()
+    found = reader.whole(piece)
+    READERS.append(reader)
+    return iter(found)

@@ -2,11 +2,12 @@
 
 import ctypes
 import re
+from functools import partial
 
-from .library import Counts, Room, address_of, function, joined, pieces_of, whole_of
+from .library import FEW, Counts, Idle, Room, address_of, decoded, function, joined, pieces_of, whole_of
 
 MOST = 4096  # bytes that one call takes at most
-CALL_ROOM = 16384  # bytes of HTML that one call writes at most
+CALL_ROOM, END_ROOM = 16384, 7  # bytes of HTML that one call, and the end, write at most
 ROOM = 64 << 10  # bytes of HTML that are handed on at once, at most
 LONG = 1024  # characters at the beginning that are plain, and sooner taken by themselves
 # characters that are their own HTML, and HT and LF: all but the five that are escaped and other controls
@@ -75,6 +76,28 @@ class Converter:
             yield made(room.view[: self._counts.written])
 
 
+class ShortConverter:
+    """Makes the HTML of wholes of FEW bytes at most, each a stream of its own, in the styling of this number."""
+
+    def __init__(self, number):
+        self._state, self._counts, self._room = State(), Counts(), Room(CALL_ROOM + END_ROOM)
+        self._state_at, self._places = ctypes.addressof(self._state), self._counts.places()
+        _init(self._state_at, number)
+
+    def html(self, piece):
+        """The HTML of a whole, as memory that the next one is written to; or None where there is not room enough
+        for it at once, and then this one is not to be used again."""
+        room, counts, (taken, written) = self._room, self._counts, self._places
+        _feed(self._state_at, piece, len(piece), room.address, CALL_ROOM, taken, written)
+        count = counts.written
+        if counts.taken < len(piece) or not _end(self._state_at, room.address + count, END_ROOM, written):
+            return None
+        return room.view[: count + counts.written]  # (and where a stream has ended the next one begins)
+
+
+SHORT_CONVERTERS = [Idle(partial(ShortConverter, number)) for number in STYLINGS.values()]
+
+
 def _parts_of(converter, pieces, made=bytes):
     for piece in pieces:
         yield from converter.htmls(piece, made)
@@ -102,4 +125,11 @@ def to_html(text, styling="both"):
         if count > LONG:
             return text[:count] + to_html(text[count:], styling)
     piece, is_str = whole_of(text)
+    if len(piece) <= FEW:
+        converter = SHORT_CONVERTERS[number].taken()
+        view = converter.html(piece)
+        if view is not None:
+            html = (decoded if is_str else bytes)(view)
+            SHORT_CONVERTERS[number].append(converter)
+            return html
     return joined(lambda made: _parts_of(Converter(number), [piece], made), is_str)

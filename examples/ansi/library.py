@@ -3,6 +3,7 @@
 import ctypes
 import os
 
+FEW = 1024  # bytes of a whole that goes through what an earlier one went through
 VARIABLE = "ANSI_LIBRARY"  # names the library, in place of PLACES
 _here = os.path.dirname(os.path.abspath(__file__))
 # `make install` puts the place where it installs the library here.
@@ -84,6 +85,20 @@ class Room:
         self._bytes = ctypes.create_string_buffer(size)
         self.size, self.address = size, ctypes.addressof(self._bytes)
         self.view = memoryview(self._bytes)
+
+
+class Idle(list):
+    """What wholes of FEW bytes at most go through: each is used by one call at a time, and put back."""
+
+    def __init__(self, make):
+        self._make = make
+
+    def taken(self):
+        """One that no other call uses."""
+        try:
+            return self.pop()
+        except IndexError:  # (as many are made as threads call at once)
+            return self._make()
 
 
 def decoded(view):

@@ -3,7 +3,7 @@
 import ctypes
 import re
 
-from .library import Counts, Room, address_of, function, joined, pieces_of, whole_of
+from .library import FEW, Counts, Idle, Room, address_of, decoded, function, joined, pieces_of, whole_of
 
 MOST = 64 << 10  # bytes that one call is given at most
 SHORT = 256  # characters of a str that is looked through sooner than it is stripped
@@ -61,6 +61,26 @@ def text_of(stream):
     return (text for piece in pieces for text in stripper.texts(piece))
 
 
+class ShortStripper:
+    """Strips wholes of FEW bytes at most, each a stream of its own."""
+
+    def __init__(self):
+        self._state, self._counts, self._room = State(), Counts(), Room(room_of(FEW))
+        self._state_at = ctypes.addressof(self._state)
+        self._rest = self._room.address, self._room.size, *self._counts.places()
+
+    def text(self, piece):
+        """The text of a whole, as memory that the next one is written to."""
+        self._state.length = 0  # (so a stream begins, whatever stands behind: pending_of of strip_pieces)
+        _feed(self._state_at, piece, len(piece), *self._rest)
+        if self._counts.taken != len(piece):
+            raise RuntimeError("the library asks for more room than ansi_strip.h of this version")
+        return self._room.view[: self._counts.written]
+
+
+SHORT_STRIPPERS = Idle(ShortStripper)
+
+
 def is_clean(text):
     """Whether a str is told to be clean sooner than it is stripped: where it is short, or little of it is ASCII, so
     that to encode and to decode it takes long, and all of it is left."""
@@ -77,4 +97,9 @@ def strip(text):
     if isinstance(text, str) and is_clean(text):
         return text  # (clean text is left as it is: laws::clean_text of ansi_strip)
     piece, is_str = whole_of(text)
-    return joined(lambda made: Stripper().texts(piece, made), is_str)
+    if len(piece) > FEW:
+        return joined(lambda made: Stripper().texts(piece, made), is_str)
+    stripper = SHORT_STRIPPERS.taken()
+    text = (decoded if is_str else bytes)(stripper.text(piece))
+    SHORT_STRIPPERS.append(stripper)
+    return text

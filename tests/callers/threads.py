@@ -19,8 +19,12 @@ def convert_lines(letter):
     line = b"\x1b[1m" + text[:100] + b"\x1b]0;title\x07" + text[100:]
     page = b'<span style="font-weight:bold;">' + text + b"</span>"
     long, stripped = line * (PIECE // len(line)), text * (PIECE // len(line))
+    bold, title = ansi.Csi(((1,),), "", False, "m"), ansi.Osc((b"0", b"title"), True)
+    events = [bold, ansi.Text(100 * chr(letter[0])), title, ansi.Text(100 * chr(letter[0])), ansi.Execute(10)]
     for _ in range(CALLS):
-        if ansi.strip(long) != stripped or ansi.to_html(line) != page:
+        if ansi.strip(long) != stripped or ansi.strip(line) != text or ansi.to_html(line) != page:
+            wrong.append(letter)
+        if list(ansi.events(line)) != events:
             wrong.append(letter)
 
 

@@ -1,4 +1,8 @@
-"""What .ci/gate and .ci/edits take of the rt that is run here, and how the one hands on libraries to the other."""
+"""What .ci/gate and .ci/edits take of the rt that is run here, and how the one hands on libraries to the other.
+
+Kits differ in it: rt of kit 13f keeps what it has passed, and says more of an edit than whether it is refused; that of
+kit 13b does neither. Either is taken.
+"""
 
 import importlib.machinery
 import importlib.util
@@ -23,6 +27,23 @@ def load_rt():
 
 
 rt = load_rt()
+
+
+def keeps_work():
+    """Whether rt ci keeps on this machine what it has passed, and so has a flag to do without."""
+    return hasattr(rt, "Kept")
+
+
+def share_work():
+    """Has checks begin with what other copies of the repository here have checked, where rt's own do."""
+    if hasattr(rt, "share_work"):
+        rt.share_work(True)
+
+
+def must_fail(crate, path, flags, *kept):
+    """Whether the prover refuses an edit by rt's own function, and what that says."""
+    answer, said = rt.must_fail(crate, path, flags, *kept)
+    return answer == getattr(rt, "REFUSED", True), said  # (at a limit of the prover there is no verdict)
 
 
 def crates_in(folder):

@@ -1,6 +1,5 @@
-//! The tests of `ansi_screen`, `ansi_style`, `screen_text`, `screen_html` and `screen_draw`, through their public
-//! calls. They stand in a crate
-//! above them, since a crate with tests is proved twice, and wait for no other.
+//! The tests of `ansi_screen`, `ansi_style`, `screen_text` and `screen_html`, through their public calls. They stand in a
+//! crate above them, since a crate with tests is proved twice, and wait for no other.
 #![tactic(auto)]
 
 #[cfg(test)]

@@ -1,5 +1,4 @@
 //! Rows that were worked by hand, by the library that they are of, and the names of the screen.
-mod draw;
 mod html;
 mod leaving;
 mod screen;

@@ -9,7 +9,7 @@ use Rattle.ansi_screen.specs.After.{State, after_all}
 use Rattle.ansi_screen.proofs.CallLemmas.{after_all-goes}
 use Rattle.screen_draw.specs.Noting.{HasNoted}
 use Rattle.screen_draw.specs.Update.{update_calls}
-use Rattle.screen_tests.proofs.tests.draw.show_piece.Goals as goal
+use Rattle.draw_tests.proofs.tests.draw.show_piece.Goals as goal
 
 pub update_noted-requires : goal.update_noted-requires
 update_noted-requires g c = record {

@@ -1,0 +1,2 @@
+//! What a screen is made of, and what draws it.
+mod draw;

@@ -19,6 +19,10 @@ MAJOR := $(firstword $(subst ., ,$(VERSION)))
 
 ARCHIVE = crates/ansi/out/libansi.a
 SHARED = crates/ansi/out/libansi.so
+# what makes the events of the Python package in C, where this Python can be built for
+EXTENSION = crates/ansi/out/_events.abi3.so
+PYTHON_HEADERS := $(shell $(PYTHON) -c 'import os, sysconfig as it; at = it.get_path("include"); \
+    print(at if os.path.exists(at + "/Python.h") and not it.get_config_var("Py_GIL_DISABLED") else "")' 2>/dev/null)
 PACKAGE = $(notdir $(wildcard examples/ansi/*.py))
 
 BIN = $(DESTDIR)$(PREFIX)/bin
@@ -34,7 +38,13 @@ all: programs library
 
 programs: $(BUILT)
 
-library: $(SHARED)
+library: $(SHARED) $(if $(PYTHON_HEADERS),$(EXTENSION))
+
+ifeq ($(PYTHON_HEADERS),)
+ifneq ($(filter all library install,$(or $(MAKECMDGOALS),all)),)
+$(info $(EXTENSION) is left out: $(PYTHON) has no Python.h for it. The Python package goes without it.)
+endif
+endif
 
 # rt builds a program when it runs it; with nothing to read it writes nothing. The stamp of the
 # file is set in any case, so that the next `make` has nothing to do.
@@ -50,6 +60,10 @@ $(ARCHIVE): $(SOURCES)
 $(SHARED): $(ARCHIVE)
 	$(CC) -shared -Wl,-soname,libansi.so.$(MAJOR) -o $@ \
 	    -Wl,--whole-archive $(ARCHIVE) -Wl,--no-whole-archive
+
+# (two makes may build it at once)
+$(EXTENSION): examples/ansi/_events.c include/ansi_events.h
+	$(CC) -std=c99 -O2 -fPIC -shared -Iinclude -isystem $(PYTHON_HEADERS) -o $@.$$$$ $< && mv $@.$$$$ $@
 
 check:
 	sh .ci/run
@@ -73,6 +87,7 @@ install: all
 	    sed 's|^PLACES = .*|PLACES = ["$(PREFIX)/lib/libansi.so.$(MAJOR)"]|' examples/ansi/$$name \
 	        > $(MODULES)/ansi/$$name && chmod 644 $(MODULES)/ansi/$$name || exit 1; \
 	done
+	$(if $(PYTHON_HEADERS),$(INSTALL) $(EXTENSION) $(MODULES)/ansi/$(notdir $(EXTENSION)))
 	chmod 644 $(LIB)/pkgconfig/ansi.pc
 
 uninstall:
@@ -81,6 +96,7 @@ uninstall:
 	rm -f $(LIB)/libansi.a $(LIB)/pkgconfig/ansi.pc
 	rm -f $(LIB)/libansi.so $(LIB)/libansi.so.$(MAJOR) $(LIB)/libansi.so.$(VERSION)
 	for name in $(PACKAGE); do rm -f $(MODULES)/ansi/$$name; done
+	rm -f $(MODULES)/ansi/$(notdir $(EXTENSION))
 	rm -rf $(MODULES)/ansi/__pycache__
 	if [ -d $(MODULES)/ansi ]; then rmdir --ignore-fail-on-non-empty $(MODULES)/ansi; fi
 

@@ -142,13 +142,13 @@ def read_all(events):
 
 def call_all(stream):
     """Makes the calls of `ansi.events`, and answers how many events they write."""
-    from ansi.event import EVENTS, MOST, PLACES, ROOM, SIZE, Numbers, State, _feed
+    from ansi.event import EVENTS, MOST, NUMBERS_AT, ROOM, SIZE, Numbers, State, _feed
     from ansi.library import address_of
 
     state, numbers, count = State(), Numbers(), 0
     buffers = state, ctypes.create_string_buffer(EVENTS * SIZE), ctypes.create_string_buffer(ROOM), numbers
     state_at, records, room, first = map(ctypes.addressof, buffers)
-    places = [first + place for place in PLACES]
+    places = [first + place for place in NUMBERS_AT]
     at = address_of(stream)
     end = at + len(stream)
     while at < end:

@@ -103,9 +103,7 @@ def different_sequences(pieces):
         yield b"".join(b"\x1b[%d;%d%c" % (piece, at, 0x40 + at % 63) for at in range(1000))
 
 
-def python_event_cases():
-    import ansi
-
+def python_event_cases(ansi):
     rows = importlib.machinery.SourceFileLoader("vectors", "%s/tests/vectors" % ROOT).load_module().answers()
     for name, cut in [("whole", lambda given: given), ("cut everywhere", lambda given: pieces(given, 1))]:
         wrong = None

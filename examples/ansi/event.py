@@ -1,13 +1,16 @@
 """Terminal output as events: ansi_events.h, for Python."""
 
 import ctypes
+import os
 import re
 import struct
 import sys
+from importlib.machinery import ExtensionFileLoader
+from importlib.util import module_from_spec, spec_from_loader
 from itertools import chain
 from typing import NamedTuple
 
-from .library import FEW, Idle, address_of, bytes_of, function
+from .library import FEW, Idle, _here, address_of, bytes_of, function
 from .text import State
 
 MOST = 16384  # bytes that one call is given at most
@@ -85,7 +88,7 @@ class Esc(NamedTuple):
     final: str
 
 
-PUTS = [Put(byte) for byte in range(256)]
+PUTS = tuple(Put(byte) for byte in range(256))
 
 
 def _groups(data):
@@ -161,7 +164,7 @@ class Numbers(ctypes.Structure):
     _fields_ = [("taken", ctypes.c_size_t), ("written", ctypes.c_size_t), ("used", ctypes.c_size_t)]
 
 
-PLACES = [Numbers.taken.offset, Numbers.written.offset, Numbers.used.offset]
+NUMBERS_AT = [Numbers.taken.offset, Numbers.written.offset, Numbers.used.offset]
 
 
 class _Reader:
@@ -176,7 +179,7 @@ class _Reader:
         self._records, self._room = map(ctypes.create_string_buffer, (count * SIZE, size))
         self._view = memoryview(self._records).cast("B").cast("Q")
         self._records_at, self._room_at, first = map(ctypes.addressof, (self._records, self._room, self._numbers))
-        self._rest = (self._records_at, count, self._room_at, size, *(first + place for place in PLACES))
+        self._rest = (self._records_at, count, self._room_at, size, *(first + place for place in NUMBERS_AT))
 
     def events(self, piece):
         """The events of the bytes that come next, in parts."""
@@ -241,6 +244,31 @@ def _bytes_of(piece):
     return piece.encode("utf-8", "surrogatepass") if isinstance(piece, str) else bytes_of(piece)
 
 
+# What makes the same events in C (_events.c): beside this file, or where `make library` leaves it.
+COMPILED = [os.path.join(_here, "_events.abi3.so"), os.path.normpath(_here + "/../../crates/ansi/out/_events.abi3.so")]
+
+
+def _compiled():
+    """The iterator that is compiled, or None where it is not there or cannot be loaded."""
+    place = next(filter(os.path.exists, COMPILED), None)
+    if place is None:
+        return None
+    loader = ExtensionFileLoader(__package__ + "._events", place)
+    try:
+        module = module_from_spec(spec_from_loader(loader.name, loader))
+        loader.exec_module(module)
+    except ImportError:
+        return None
+    return getattr(module, "Reader", None)
+
+
+_CompiledReader = _compiled()
+IS_COMPILED = _CompiledReader is not None  # whether events are made by it
+# What it takes behind the pieces: the address of the function, and for each kind a class or the events that there are.
+_MADE = Text, tuple(map(Execute, range(256))), Hook, PUTS, Unhook(), Osc, Csi, Esc
+_REST = ctypes.cast(_feed, ctypes.c_void_p).value, _MADE
+
+
 def events(stream):
     """Gives the events of a stream: a str, bytes, a bytearray or a memoryview, or pieces of such, a list or a file.
 
@@ -248,6 +276,9 @@ def events(stream):
     for a text, which is cut where its piece ends. Each is a named tuple of this package; include/ansi_events.h says
     what the kinds are.
     """
+    if IS_COMPILED:
+        is_whole = isinstance(stream, (str, bytes, bytearray, memoryview))
+        return _CompiledReader(iter((_bytes_of(stream),)) if is_whole else map(_bytes_of, iter(stream)), *_REST)
     if not isinstance(stream, (str, bytes, bytearray, memoryview)):
         return chain.from_iterable(_events_of(iter(stream)))
     piece = _bytes_of(stream)

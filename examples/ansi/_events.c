@@ -1,0 +1,431 @@
+/* Makes the events of event.py: an iterator over the events of an iterator of pieces, each of which is bytes.
+ *
+ * It is given the address of ansi_events_feed, and the classes and events of event.py; it is not linked with the
+ * library. An event is made when it is asked for. Where an error comes, or the end, nothing more comes. */
+#define Py_LIMITED_API 0x03080000
+#define PY_SSIZE_T_CLEAN
+#include <Python.h>
+
+#include <stdint.h>
+#include <string.h>
+
+#include "ansi_events.h"
+
+/* As in event.py: bytes that one call is given at most, and records and bytes of room that it writes at most. */
+#define MOST 16384
+#define EVENTS 4096
+#define ROOM 65536
+
+#define KINDS (ANSI_EVENTS_ESC + 1)
+#define BYTES 256
+
+/* ISO C converts between functions and numbers, but not between functions and objects. */
+#define AS_OBJECT(function) ((void *)(uintptr_t)(function))
+
+typedef bool feed_function(ansi_events *, const unsigned char *, size_t, ansi_event *, size_t, unsigned char *, size_t,
+                           size_t *, size_t *, size_t *);
+
+typedef struct {
+    PyObject_HEAD
+    PyObject *pieces; /* the iterator, or NULL where all is read */
+    PyObject *piece;  /* the bytes that are read, or NULL */
+    PyObject *made;   /* by kind: a class; the events of each byte, of EXECUTE and PUT; the event, of UNHOOK */
+    feed_function *feed;
+    const unsigned char *bytes; /* what is left of the piece */
+    size_t count;
+    size_t most; /* bytes that the room is for */
+    ansi_event *events;
+    unsigned char *room;
+    size_t next; /* of the records that are written, the one that is read next */
+    size_t written;
+    bool is_running; /* from here Python code may run, which may ask for an event */
+    ansi_events state;
+} Reader;
+
+static size_t smaller(size_t one, size_t other)
+{
+    return one < other ? one : other;
+}
+
+/* ------------------------------------------------------------------ the parts of an event */
+
+/* Puts an item, which is given away, into a tuple that is made. Answers false where the item could not be made. */
+static bool is_put(PyObject *tuple, Py_ssize_t at, PyObject *item)
+{
+    return item != NULL && PyTuple_SetItem(tuple, at, item) == 0;
+}
+
+/* The tuple where it is whole, or NULL, and then it is let go. */
+static PyObject *whole(PyObject *tuple, bool is_whole)
+{
+    if (!is_whole) {
+        Py_DECREF(tuple);
+        return NULL;
+    }
+    return tuple;
+}
+
+/* How many fields the first group has. */
+static Py_ssize_t fields_of_group(const unsigned char *fields)
+{
+    Py_ssize_t count = 1;
+
+    while (fields[ANSI_EVENTS_FIELD * count - 1] != 0)
+        count++;
+    return count;
+}
+
+/* How many groups there are: as many as fields behind which none of the same group comes. */
+static Py_ssize_t groups_in(const unsigned char *fields, size_t length)
+{
+    Py_ssize_t count = 0;
+    size_t at;
+
+    for (at = ANSI_EVENTS_FIELD; at <= length; at += ANSI_EVENTS_FIELD)
+        count += fields[at - 1] == 0;
+    return count;
+}
+
+static PyObject *group_of(const unsigned char *fields, Py_ssize_t count)
+{
+    PyObject *group = PyTuple_New(count);
+    bool is_whole = true;
+    Py_ssize_t at;
+
+    for (at = 0; group != NULL && is_whole && at < count; at++, fields += ANSI_EVENTS_FIELD)
+        is_whole = is_put(group, at, PyLong_FromLong(fields[0] + 256L * fields[1]));
+    return group == NULL ? NULL : whole(group, is_whole);
+}
+
+static PyObject *groups_of(const unsigned char *fields, size_t length)
+{
+    Py_ssize_t count = groups_in(fields, length), at, of_group;
+    PyObject *groups = PyTuple_New(count);
+    bool is_whole = true;
+
+    for (at = 0; groups != NULL && is_whole && at < count; at++, fields += ANSI_EVENTS_FIELD * of_group) {
+        of_group = fields_of_group(fields);
+        is_whole = is_put(groups, at, group_of(fields, of_group));
+    }
+    return groups == NULL ? NULL : whole(groups, is_whole);
+}
+
+static Py_ssize_t parts_in(const unsigned char *bytes, size_t length)
+{
+    Py_ssize_t count = 1;
+    size_t at;
+
+    for (at = 0; at < length; at++)
+        count += bytes[at] == ';';
+    return count;
+}
+
+/* The bytes between the `;`. */
+static PyObject *parts_of(const unsigned char *bytes, size_t length)
+{
+    Py_ssize_t count = parts_in(bytes, length), at;
+    PyObject *parts = PyTuple_New(count);
+    const unsigned char *end = bytes + length, *found;
+    bool is_whole = true;
+
+    for (at = 0; parts != NULL && is_whole && at < count; at++, bytes = found + 1) {
+        found = at + 1 < count ? memchr(bytes, ';', (size_t)(end - bytes)) : end;
+        is_whole = is_put(parts, at, PyBytes_FromStringAndSize((const char *)bytes, found - bytes));
+    }
+    return parts == NULL ? NULL : whole(parts, is_whole);
+}
+
+/* ------------------------------------------------------------------ an event */
+
+/* An event of a class, with nothing in it. */
+static PyObject *new_event(PyObject *class, Py_ssize_t fields)
+{
+    allocfunc alloc = (allocfunc)(uintptr_t)PyType_GetSlot((PyTypeObject *)class, Py_tp_alloc);
+
+    return alloc((PyTypeObject *)class, fields);
+}
+
+static PyObject *text_event(PyObject *class, const unsigned char *bytes, size_t length)
+{
+    PyObject *text = PyUnicode_DecodeUTF8((const char *)bytes, (Py_ssize_t)length, NULL);
+    PyObject *event = text == NULL ? NULL : new_event(class, 1);
+
+    if (event == NULL) {
+        Py_XDECREF(text);
+        return NULL;
+    }
+    return whole(event, is_put(event, 0, text));
+}
+
+static PyObject *osc_event(PyObject *class, const unsigned char *bytes, const ansi_event *record)
+{
+    PyObject *event = new_event(class, 2);
+
+    if (event == NULL)
+        return NULL;
+    return whole(event, is_put(event, 0, parts_of(bytes, record->length)) &&
+                            is_put(event, 1, PyBool_FromLong(record->flag)));
+}
+
+/* Puts what an escape sequence has, and the others have behind their groups. */
+static bool is_ended(PyObject *event, Py_ssize_t at, const ansi_event *record)
+{
+    const char *intermediates = (const char *)record->intermediates;
+
+    return is_put(event, at, PyUnicode_DecodeLatin1(intermediates, record->intermediate_count, NULL)) &&
+           is_put(event, at + 1, PyBool_FromLong(record->flag)) &&
+           is_put(event, at + 2, PyUnicode_FromOrdinal(record->byte));
+}
+
+static PyObject *escape_event(PyObject *class, const ansi_event *record)
+{
+    PyObject *event = new_event(class, 3);
+
+    return event == NULL ? NULL : whole(event, is_ended(event, 0, record));
+}
+
+static PyObject *sequence_event(PyObject *class, const unsigned char *fields, const ansi_event *record)
+{
+    PyObject *event = new_event(class, 4);
+
+    if (event == NULL)
+        return NULL;
+    return whole(event, is_put(event, 0, groups_of(fields, record->length)) && is_ended(event, 1, record));
+}
+
+/* The event of a byte, which is there already. */
+static PyObject *event_of_byte(PyObject *events, size_t byte)
+{
+    PyObject *event = PyTuple_GetItem(events, (Py_ssize_t)byte);
+
+    Py_XINCREF(event);
+    return event;
+}
+
+static PyObject *event_of(Reader *reader, const ansi_event *record)
+{
+    PyObject *made = PyTuple_GetItem(reader->made, record->kind); /* (NULL, with an error, of an unknown kind) */
+    const unsigned char *bytes = reader->room + record->start;
+
+    if (made == NULL)
+        return NULL;
+    switch (record->kind) {
+    case ANSI_EVENTS_TEXT:
+        return text_event(made, bytes, record->length);
+    case ANSI_EVENTS_EXECUTE:
+    case ANSI_EVENTS_PUT:
+        return event_of_byte(made, record->byte);
+    case ANSI_EVENTS_UNHOOK:
+        Py_INCREF(made);
+        return made;
+    case ANSI_EVENTS_OSC:
+        return osc_event(made, bytes, record);
+    case ANSI_EVENTS_ESC:
+        return escape_event(made, record);
+    default:
+        return sequence_event(made, bytes, record);
+    }
+}
+
+/* ------------------------------------------------------------------ the iterator */
+
+/* Lets go of what is left to read, and of the memory for it. */
+static void finish(Reader *reader)
+{
+    ansi_event *events = reader->events;
+    unsigned char *room = reader->room;
+
+    reader->events = NULL;
+    reader->room = NULL;
+    reader->count = reader->next = reader->written = reader->most = 0;
+    PyMem_Free(events);
+    PyMem_Free(room);
+    Py_CLEAR(reader->piece);
+    Py_CLEAR(reader->pieces);
+}
+
+/* Makes room for the events of so many bytes, or for what one call writes at most; all that was there is read. */
+static bool has_room(Reader *reader, size_t most)
+{
+    size_t count = smaller(ANSI_EVENTS_EVENTS(most), EVENTS), size = smaller(ANSI_EVENTS_ROOM(most), ROOM);
+
+    if (most <= reader->most)
+        return true;
+    PyMem_Free(reader->events);
+    PyMem_Free(reader->room);
+    reader->most = most;
+    reader->events = PyMem_Malloc(count * sizeof *reader->events);
+    reader->room = PyMem_Malloc(size);
+    if (reader->events == NULL || reader->room == NULL)
+        PyErr_NoMemory();
+    return reader->events != NULL && reader->room != NULL;
+}
+
+/* Takes the next piece. Answers false where there is none, or an error. */
+static bool has_piece(Reader *reader)
+{
+    PyObject *old = reader->piece, *piece = reader->pieces == NULL ? NULL : PyIter_Next(reader->pieces);
+    Py_ssize_t count;
+    char *bytes;
+
+    if (piece == NULL)
+        return false;
+    reader->piece = piece;
+    Py_XDECREF(old);
+    if (PyBytes_AsStringAndSize(piece, &bytes, &count) != 0)
+        return false;
+    reader->bytes = (const unsigned char *)bytes;
+    reader->count = (size_t)count;
+    return has_room(reader, smaller(reader->count, MOST));
+}
+
+/* Calls the library with what is left of the piece. */
+static bool is_fed(Reader *reader)
+{
+    size_t taken, used, count = smaller(ANSI_EVENTS_EVENTS(reader->most), EVENTS);
+    size_t size = smaller(ANSI_EVENTS_ROOM(reader->most), ROOM);
+
+    if (PyErr_CheckSignals() != 0)
+        return false;
+    reader->next = 0;
+    if (!reader->feed(&reader->state, reader->bytes, smaller(reader->count, MOST), reader->events, count, reader->room,
+                      size, &taken, &reader->written, &used)) {
+        PyErr_SetString(PyExc_RuntimeError, "the library asks for more room than ansi_events.h of this version");
+        return false;
+    }
+    reader->bytes += taken;
+    reader->count -= taken;
+    return true;
+}
+
+/* Whether a record is there to be read; where none is left, of the bytes that come next. */
+static bool has_record(Reader *reader)
+{
+    bool goes_on = true;
+
+    while (goes_on && reader->next == reader->written)
+        goes_on = reader->count > 0 ? is_fed(reader) : has_piece(reader);
+    return goes_on;
+}
+
+static PyObject *reader_next(PyObject *self)
+{
+    Reader *reader = (Reader *)self;
+    PyObject *event = NULL;
+
+    if (reader->is_running) {
+        PyErr_SetString(PyExc_ValueError, "events already executing");
+        return NULL;
+    }
+    reader->is_running = true;
+    if (has_record(reader))
+        event = event_of(reader, &reader->events[reader->next++]);
+    if (event == NULL)
+        finish(reader);
+    reader->is_running = false;
+    return event;
+}
+
+static int reader_traverse(PyObject *self, visitproc visit, void *arg)
+{
+    Reader *reader = (Reader *)self;
+
+    Py_VISIT(Py_TYPE(self));
+    Py_VISIT(reader->pieces);
+    Py_VISIT(reader->piece);
+    Py_VISIT(reader->made);
+    return 0;
+}
+
+static int reader_clear(PyObject *self)
+{
+    finish((Reader *)self);
+    Py_CLEAR(((Reader *)self)->made);
+    return 0;
+}
+
+static void reader_dealloc(PyObject *self)
+{
+    PyTypeObject *type = Py_TYPE(self);
+    freefunc release = (freefunc)(uintptr_t)PyType_GetSlot(type, Py_tp_free);
+
+    PyObject_GC_UnTrack(self);
+    reader_clear(self);
+    release(self);
+    Py_DECREF(type);
+}
+
+/* Whether an item is what events of this kind are made of. */
+static bool is_made(PyObject *item, int kind)
+{
+    if (kind == ANSI_EVENTS_EXECUTE || kind == ANSI_EVENTS_PUT)
+        return PyTuple_Check(item) && PyTuple_Size(item) == BYTES;
+    return kind == ANSI_EVENTS_UNHOOK ||
+           (PyType_Check(item) && PyType_IsSubtype((PyTypeObject *)item, &PyTuple_Type));
+}
+
+/* Whether there is an item for each kind. */
+static bool are_made(PyObject *made)
+{
+    bool are = PyTuple_Size(made) == KINDS;
+    int kind;
+
+    for (kind = 0; are && kind < KINDS; kind++)
+        are = is_made(PyTuple_GetItem(made, kind), kind);
+    return are;
+}
+
+static PyObject *reader_new(PyTypeObject *type, PyObject *words, PyObject *named)
+{
+    allocfunc alloc = (allocfunc)(uintptr_t)PyType_GetSlot(type, Py_tp_alloc);
+    PyObject *pieces, *address, *made;
+    Reader *reader;
+
+    if (named != NULL || !PyArg_ParseTuple(words, "OO!O!", &pieces, &PyLong_Type, &address, &PyTuple_Type, &made) ||
+        !PyIter_Check(pieces) || !are_made(made)) {
+        if (!PyErr_Occurred())
+            PyErr_SetString(PyExc_TypeError, "an iterator, an address, and what events are made of");
+        return NULL;
+    }
+    reader = (Reader *)alloc(type, 0); /* (all zero bytes, and so the state begins a stream) */
+    if (reader == NULL)
+        return NULL;
+    reader->feed = (feed_function *)(uintptr_t)PyLong_AsVoidPtr(address);
+    Py_INCREF(pieces);
+    Py_INCREF(made);
+    reader->pieces = pieces;
+    reader->made = made;
+    return (PyObject *)reader;
+}
+
+/* ------------------------------------------------------------------ the module */
+
+static PyType_Slot slots[] = {
+    {Py_tp_new, AS_OBJECT(reader_new)},           {Py_tp_dealloc, AS_OBJECT(reader_dealloc)},
+    {Py_tp_traverse, AS_OBJECT(reader_traverse)}, {Py_tp_clear, AS_OBJECT(reader_clear)},
+    {Py_tp_iter, AS_OBJECT(PyObject_SelfIter)},   {Py_tp_iternext, AS_OBJECT(reader_next)},
+    {0, NULL},
+};
+
+static PyType_Spec reader_spec = {"ansi._events.Reader", sizeof(Reader), 0, Py_TPFLAGS_DEFAULT | Py_TPFLAGS_HAVE_GC,
+                                  slots};
+
+static int add_reader(PyObject *module)
+{
+    PyObject *reader = PyType_FromSpec(&reader_spec);
+
+    if (reader == NULL || PyModule_AddObject(module, "Reader", reader) != 0) {
+        Py_XDECREF(reader);
+        return -1;
+    }
+    return 0;
+}
+
+static PyModuleDef_Slot module_slots[] = {{Py_mod_exec, AS_OBJECT(add_reader)}, {0, NULL}};
+
+static PyModuleDef module = {PyModuleDef_HEAD_INIT, "_events", NULL, 0, NULL, module_slots, NULL, NULL, NULL};
+
+PyMODINIT_FUNC PyInit__events(void)
+{
+    return PyModuleDef_Init(&module);
+}

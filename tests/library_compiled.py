@@ -1,0 +1,231 @@
+"""The events of the Python package, made in C and in Python: cases of tests/library."""
+
+import collections
+import gc
+import importlib
+import itertools
+import random
+import resource
+import shutil
+import subprocess
+import sys
+import threading
+import weakref
+
+from library_events import alike, pieces, python_event_cases, same_events
+from library_shared import *
+
+NAME = "_events.abi3.so"
+OFTEN = b"\x1b\x1b\x1b[[[]P\\;;;::0123456789m?$ \x07\x18\n\x9c\xc2\xe2\x82\xac\xf0\x9faq"
+STREAMS = 30_000
+
+
+def extension_cases(room):
+    """Makes two packages in the room, one with the extension beside it and one without; says whether it is built."""
+    for name in ("compiled", "pure"):
+        shutil.copytree("%s/ansi" % EXAMPLES, "%s/%s" % (room, name), ignore=shutil.ignore_patterns("__pycache__"))
+    path = "%s/compiled/%s" % (room, NAME)
+    done = run(["make", "-C", ROOT, "PYTHON=" + sys.executable, "EXTENSION=" + path, path])
+    if not os.path.exists(path):
+        yield left_out("Python: the extension")
+        return
+    yield "Python: the extension is built by make", failure(done)
+    asked = [sys.executable, "-c", "import sysconfig; print(sysconfig.get_path('include'))"]
+    headers = run(asked).stdout.decode().strip()
+    for cc in ("gcc", "clang"):
+        command = [cc, "-std=c99", "-pedantic", "-O2", *WARNINGS, "-isystem", headers, "-fPIC", "-shared"]
+        if not shutil.which(cc):
+            yield left_out("Python: the extension by " + cc)
+            continue
+        done = run([*command, "%s/ansi/_events.c" % EXAMPLES, "-o", room + "/warned.so"])
+        yield "Python: the extension is compiled by %s with no warning" % cc, failure(done)
+    yield from place_cases(room, path)
+
+
+def place_cases(room, path):
+    """Where it is looked for, and that what is no extension leads to events all the same."""
+    shutil.copytree(room + "/pure", room + "/repository/examples/ansi")
+    os.makedirs(room + "/repository/crates/ansi/out")
+    shutil.copy(path, room + "/repository/crates/ansi/out")
+    for name in ("empty", "library"):
+        shutil.copytree(room + "/pure", "%s/%s/ansi" % (room, name))
+    open("%s/empty/ansi/%s" % (room, NAME), "w").close()
+    shutil.copy(os.environ["ANSI_LIBRARY"], "%s/library/ansi/%s" % (room, NAME))
+    code = "import ansi; print(ansi.event.IS_COMPILED, list(ansi.events('\\x1b[1mA')) == [(((1,),), '', False, 'm'), ('A',)])"
+    for folder, wanted in [("repository/examples", b"True True\n"), ("empty", b"False True\n"), ("library", b"False True\n")]:
+        known = dict(os.environ, PYTHONPATH="%s/%s" % (room, folder), PYTHONDONTWRITEBYTECODE="1")
+        done = run([sys.executable, "-c", code], env=known, cwd=room)
+        why = failure(done) or (None if done.stdout == wanted else "it writes %r" % done.stdout)
+        yield "Python: the package of %s, with or without the extension" % folder, why
+
+
+def all_cases(room, name):
+    """All cases of events over one of the packages."""
+    sys.path.insert(0, room)
+    ansi = importlib.import_module(name)
+    is_well = ansi.event.IS_COMPILED == (name == "compiled")
+    yield "Python: events are %s" % name, None if is_well else "they are not"
+    for case in itertools.chain(python_event_cases(ansi), caller_cases(ansi), memory_cases(ansi), thread_cases(ansi)):
+        yield "%s, %s" % (case[0], name), case[1]
+
+
+def shown(events):
+    return [(type(it).__name__, tuple(it)) for it in events]
+
+
+def both_cases(room):
+    """Equal events of both packages, with texts cut alike: of all streams, and of many that break what can be broken."""
+    sys.path.insert(0, room)
+    compiled, pure = map(importlib.import_module, ("compiled", "pure"))
+    pick = random.Random(24)
+    rows = [(repr(given), given) for given, _ in alike(pure)]
+    for kind, stream in itertools.chain(streams(), rows):
+        cuts = [stream, pieces(stream, 1), pieces(stream, 4097)]
+        cuts += [[it for one in pieces(stream, 20_000) for it in pieces(one, pick.randint(1, 20_000))] for _ in range(3)]
+        wrong = next((at for at, it in enumerate(cuts) if shown(compiled.events(it)) != shown(pure.events(it))), None)
+        yield "Python: events of %s are the same, compiled or not" % kind, None if wrong is None else "not of cut %d" % wrong
+    wrong = None
+    for _ in range(STREAMS):
+        stream = bytes(pick.choices(OFTEN, k=pick.randint(1, 120)))
+        given = pick.choice([stream, [stream], pieces(stream, pick.randint(1, 40))])
+        if shown(compiled.events(given)) != shown(pure.events(given)):
+            wrong = "not of %r" % (given,)
+            break
+    yield "Python: events of %d hostile streams are the same, compiled or not" % STREAMS, wrong
+    for kind in ("bytes", "every text"):
+        stream = bytes(range(256)) * 40 if kind == "bytes" else "".join(map(chr, range(0xA0, 0x3000))).encode()
+        yield "Python: events of %s, twice" % kind, same_events(*(shown(it.events(stream * 2)) for it in (compiled, pure)))
+
+
+def caller_cases(ansi):
+    """Callers that fail, that ask for events inside of their own pieces, and that go away."""
+
+    def failing():
+        yield b"a\x1b[1m"
+        raise KeyError("no more")
+
+    events, found = ansi.events(failing()), []
+    try:
+        found.extend(iter(lambda: next(events), None))
+    except KeyError:
+        found = list(found) + ["KeyError", *events, *events]
+    yield "Python: after an error of the caller's stream no event comes", None if found[-1:] == ["KeyError"] else "%r" % found
+    events = ansi.events([b"a", 5, b"b"])
+    found = [next(events)]
+    try:
+        next(events)
+    except TypeError:
+        found += ["TypeError", *events]
+    yield "Python: after a wrong piece no event comes", None if found == [("a",), "TypeError"] else "%r" % found
+    asked = []
+
+    def asking():
+        yield b"a"
+        try:
+            asked.append(next(events))
+        except ValueError as error:
+            asked.append(str(error))
+        yield b"b"
+
+    events = ansi.events(asking())
+    found = list(events) + list(events)
+    is_well = found == [("a",), ("b",)] and len(asked) == 1 and "already executing" in str(asked[0])
+    yield "Python: to ask for an event inside of the pieces is a ValueError", None if is_well else "%r %r" % (found, asked)
+    closed = []
+
+    def closing():
+        try:
+            yield b"a\n" * 10
+            yield b"b\n"
+        finally:
+            closed.append(1)
+
+    events = ansi.events(closing())
+    next(events)
+    del events
+    yield "Python: events that are left let go of their pieces", None if closed == [1] else "they hold them"
+
+    class Holder:
+        pass
+
+    holder = Holder()
+    gone = weakref.ref(holder)
+
+    def held(holder):
+        yield b"a\nb"
+        yield holder
+
+    holder.events = ansi.events(held(holder))
+    next(holder.events)
+    del holder
+    gc.collect()
+    yield "Python: events in a cycle are collected", None if gone() is None else "they are not"
+    several = [ansi.events(b"\x1b[%dmA" % at) for at in range(3)]
+    found = [list(it) for it in several[::-1]]
+    yield "Python: each has its own", None if [it[0][0] for it in found] == [((2,),), ((1,),), ((0,),)] else "%r" % found
+
+
+# Streams of one kind of event each, with how many one has.
+KINDS = {
+    "Text": b"a\xe2\x82\xacb\x1b[m",
+    "Execute": b"\n",
+    "Put": b"\x1bPq" + b"x" * 100 + b"\x1b\\",
+    "Osc": b"\x1b]0;title;x\x07",
+    "Csi": b"\x1b[38:2:300:4;1000 q",
+    "Esc": b"\x1b(B",
+    "Hook": b"\x1bP1000;2:3$q\x1b\\",
+}
+
+
+def memory_cases(ansi):
+    """Many events of each kind: no memory that stays, and no reference that is kept or lost."""
+    counted = [getattr(ansi, it) for it in ("Text", "Csi", "Osc", "Esc", "Hook", "Put", "Unhook", "Execute")]
+    counted += [None, True, False, (), "", b"", 1, "m", "q", "x", *ansi.event.PUTS[120:122]]
+    for kind, one in KINDS.items():
+        stream = one * (400_000 // len(one))
+        for given in (stream, pieces(stream, 1000)):
+            collections.deque(ansi.events(given), 0)
+        gc.collect()
+        before = resource.getrusage(resource.RUSAGE_SELF).ru_maxrss
+        counts = [sys.getrefcount(it) for it in counted]
+        for given in (stream, pieces(stream, 1000), stream, pieces(stream, 1000)):
+            collections.deque(ansi.events(given), 0)
+            for _ in range(200):
+                next(ansi.events(one))
+        del given
+        gc.collect()
+        grown = resource.getrusage(resource.RUSAGE_SELF).ru_maxrss - before
+        wrong = [repr(it) for it, was in zip(counted, counts) if abs(sys.getrefcount(it) - was) > 100]
+        yield "Python: many events of %s leave every count of references as it was" % kind, ", ".join(wrong)[:300] or None
+        yield "Python: many events of %s take no memory that stays" % kind, "%d kB" % grown if grown > 5000 else None
+
+
+def thread_cases(ansi):
+    """Eight threads with events of their own, and four over the same."""
+    stream = b"a\x1b[1;2mb\x1bPqxy\x1b\\\n" * 3000
+    wanted, wrong = list(ansi.events(stream)), []
+
+    def own():
+        wrong.extend([1] if list(ansi.events(pieces(stream, len(stream) // 20 * 20))) != wanted else [])
+
+    def shared(events):
+        while True:
+            try:
+                found.append(next(events))
+            except ValueError:
+                continue
+            except StopIteration:
+                return
+
+    def in_threads(actions):
+        threads = [threading.Thread(target=it) for it in actions]
+        [it.start() for it in threads]
+        [it.join() for it in threads]
+
+    if ansi.event.IS_COMPILED:
+        found, events = [], ansi.events(pieces(stream, 100))
+        in_threads([lambda: shared(events)] * 4)
+        whole = collections.Counter(it for it in ansi.events(pieces(stream, 100)))
+        yield "Python: four threads over the same events have each once", None if collections.Counter(found) == whole else "no"
+    in_threads([own] * 8)
+    yield "Python: eight threads have each their own events", "some are others" if wrong else None

@@ -160,6 +160,17 @@ def caller_cases(ansi):
     del holder
     gc.collect()
     yield "Python: events in a cycle are collected", None if gone() is None else "they are not"
+    piece = b"a\nb\n" * 100
+    counts = sys.getrefcount(piece), sys.getrefcount(ansi.event.Text)
+    for given in ([piece] * 50, [piece, b"", piece], [piece, 5]):
+        for most in (1, 3, 100_000):
+            try:
+                collections.deque(itertools.islice(ansi.events(given), most), 0)
+            except TypeError:
+                pass
+    del given
+    found = sys.getrefcount(piece), sys.getrefcount(ansi.event.Text)
+    yield "Python: a piece is let go of", None if found == counts else "%r, and not %r" % (found, counts)
     several = [ansi.events(b"\x1b[%dmA" % at) for at in range(3)]
     found = [list(it) for it in several[::-1]]
     yield "Python: each has its own", None if [it[0][0] for it in found] == [((2,),), ((1,),), ((0,),)] else "%r" % found

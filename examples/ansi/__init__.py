@@ -28,7 +28,8 @@ is a ValueError. What the text is, include/ansi_strip.h says, and what events th
 
 The shared library is looked for where it was installed; in the repository beside this package and where
 `make library` leaves it; or where the variable ANSI_LIBRARY says. Where none is there, the import is an
-ImportError that says so.
+ImportError that says so. Events are made in C where `_events.abi3.so` is beside this package or in that folder, and
+else in Python.
 """
 
 from .event import Csi, Esc, Execute, Hook, Osc, Put, Text, Unhook, events

@@ -131,6 +131,25 @@ def caller_cases(ansi):
     found = list(events) + list(events)
     is_well = found == [("a",), ("b",)] and len(asked) == 1 and "already executing" in str(asked[0])
     yield "Python: to ask for an event inside of the pieces is a ValueError", None if is_well else "%r %r" % (found, asked)
+    left, told = [b"b", b"a"], []
+
+    class Asking:  # (a generator would refuse by itself)
+        def __iter__(self):
+            return self
+
+        def __next__(self):
+            try:
+                told.append(next(events))
+            except ValueError as error:
+                told.append(str(error))
+            if not left:
+                raise StopIteration
+            return left.pop()
+
+    events = ansi.events(Asking())
+    found = list(itertools.islice(events, 1))
+    is_well = found == [("a",)] and len(told) == 1 and "already executing" in str(told[0])
+    yield "Python: nor inside of pieces of a class", None if is_well else "%r %r" % (found, told[:3])
     closed = []
 
     def closing():
@@ -192,6 +211,7 @@ def memory_cases(ansi):
     """Many events of each kind: no memory that stays, and no reference that is kept or lost."""
     counted = [getattr(ansi, it) for it in ("Text", "Csi", "Osc", "Esc", "Hook", "Put", "Unhook", "Execute")]
     counted += [None, True, False, (), "", b"", 1, "m", "q", "x", *ansi.event.PUTS[120:122]]
+    counted.append(type(ansi.events([])))
     for kind, one in KINDS.items():
         stream = one * (400_000 // len(one))
         for given in (stream, pieces(stream, 1000)):
@@ -201,7 +221,7 @@ def memory_cases(ansi):
         counts = [sys.getrefcount(it) for it in counted]
         for given in (stream, pieces(stream, 1000), stream, pieces(stream, 1000)):
             collections.deque(ansi.events(given), 0)
-            for _ in range(200):
+            for _ in range(2000):
                 next(ansi.events(one))
         del given
         gc.collect()

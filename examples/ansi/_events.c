@@ -128,9 +128,10 @@ static PyObject *parts_of(const unsigned char *bytes, size_t length)
     const unsigned char *end = bytes + length, *found;
     bool is_whole = true;
 
-    for (at = 0; parts != NULL && is_whole && at < count; at++, bytes = found + 1) {
+    for (at = 0; parts != NULL && is_whole && at < count; at++) {
         found = at + 1 < count ? memchr(bytes, ';', (size_t)(end - bytes)) : end;
         is_whole = is_put(parts, at, PyBytes_FromStringAndSize((const char *)bytes, found - bytes));
+        bytes = found < end ? found + 1 : end;
     }
     return parts == NULL ? NULL : whole(parts, is_whole);
 }
@@ -380,9 +381,10 @@ static PyObject *reader_new(PyTypeObject *type, PyObject *words, PyObject *named
     allocfunc alloc = (allocfunc)(uintptr_t)PyType_GetSlot(type, Py_tp_alloc);
     PyObject *pieces, *address, *made;
     Reader *reader;
+    void *feed;
 
     if (named != NULL || !PyArg_ParseTuple(words, "OO!O!", &pieces, &PyLong_Type, &address, &PyTuple_Type, &made) ||
-        !PyIter_Check(pieces) || !are_made(made)) {
+        !PyIter_Check(pieces) || !are_made(made) || (feed = PyLong_AsVoidPtr(address)) == NULL) {
         if (!PyErr_Occurred())
             PyErr_SetString(PyExc_TypeError, "an iterator, an address, and what events are made of");
         return NULL;
@@ -390,7 +392,7 @@ static PyObject *reader_new(PyTypeObject *type, PyObject *words, PyObject *named
     reader = (Reader *)alloc(type, 0); /* (all zero bytes, and so the state begins a stream) */
     if (reader == NULL)
         return NULL;
-    reader->feed = (feed_function *)(uintptr_t)PyLong_AsVoidPtr(address);
+    reader->feed = (feed_function *)(uintptr_t)feed;
     Py_INCREF(pieces);
     Py_INCREF(made);
     reader->pieces = pieces;

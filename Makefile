@@ -84,8 +84,9 @@ install: all
 	ln -sf libansi.so.$(MAJOR) $(LIB)/libansi.so
 	sed 's|@PREFIX@|$(PREFIX)|; s|@VERSION@|$(VERSION)|' include/ansi.pc.in > $(LIB)/pkgconfig/ansi.pc
 	for name in $(PACKAGE); do \
-	    sed 's|^PLACES = .*|PLACES = ["$(PREFIX)/lib/libansi.so.$(MAJOR)"]|' examples/ansi/$$name \
-	        > $(MODULES)/ansi/$$name && chmod 644 $(MODULES)/ansi/$$name || exit 1; \
+	    sed -e 's|^PLACES = .*|PLACES = ["$(PREFIX)/lib/libansi.so.$(MAJOR)"]|' \
+	        -e 's|^COMPILED = .*|COMPILED = [os.path.join(_here, "$(notdir $(EXTENSION))")]|' \
+	        examples/ansi/$$name > $(MODULES)/ansi/$$name && chmod 644 $(MODULES)/ansi/$$name || exit 1; \
 	done
 	$(if $(PYTHON_HEADERS),$(INSTALL) $(EXTENSION) $(MODULES)/ansi/$(notdir $(EXTENSION)))
 	chmod 644 $(LIB)/pkgconfig/ansi.pc

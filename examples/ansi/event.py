@@ -244,7 +244,8 @@ def _bytes_of(piece):
     return piece.encode("utf-8", "surrogatepass") if isinstance(piece, str) else bytes_of(piece)
 
 
-# What makes the same events in C (_events.c): beside this file, or where `make library` leaves it.
+# What makes the same events in C (_events.c): beside this file, or where `make library` leaves it; `make install` takes
+# the latter away.
 COMPILED = [os.path.join(_here, "_events.abi3.so"), os.path.normpath(_here + "/../../crates/ansi/out/_events.abi3.so")]
 
 

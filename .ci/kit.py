@@ -8,7 +8,9 @@ import importlib.machinery
 import importlib.util
 import os
 import shutil
+import subprocess
 import sys
+import tempfile
 
 sys.dont_write_bytecode = True
 
@@ -44,6 +46,24 @@ def must_fail(crate, path, flags, *kept):
     """Whether the prover refuses an edit by rt's own function, and what that says."""
     answer, said = rt.must_fail(crate, path, flags, *kept)
     return answer == getattr(rt, "REFUSED", True), said  # (at a limit of the prover there is no verdict)
+
+
+def checked(crate, texts, flags, kept):
+    """Checks a copy of a crate with these texts in place of its own, over what a check kept, and returns how that ends. A
+    library is built: where it is not proved that says what a check says, and does not go on to propose proofs."""
+    if not crate.makes_rlib():
+        return rt.checked(crate, texts, flags, kept)
+    lib = rt.rtlib
+    with tempfile.TemporaryDirectory(prefix="built-") as room:
+        for part in lib.PARTS:
+            if os.path.isdir("%s/%s" % (crate.folder, part)):
+                shutil.copytree("%s/%s" % (crate.folder, part), "%s/%s" % (room, part))
+        for path, text in texts.items():
+            with open("%s/%s" % (room, path), "w", encoding="utf-8") as it:
+                it.write(text)
+        words = ["build", *crate.words(flags, keeps=False), "--incremental", kept, "-o", "%s/built" % room]
+        streams = {"stdin": subprocess.DEVNULL, "stdout": subprocess.PIPE, "stderr": subprocess.STDOUT}
+        return subprocess.run([*lib.guarded(), lib.RATTLE, *words], cwd=room, errors="replace", **streams)
 
 
 def crates_in(folder):

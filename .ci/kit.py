@@ -7,6 +7,7 @@ kit 13b does neither. Either is taken.
 import importlib.machinery
 import importlib.util
 import os
+import re
 import shutil
 import subprocess
 import sys
@@ -14,6 +15,7 @@ import tempfile
 
 sys.dont_write_bytecode = True
 
+MAIN = re.compile(r"(?:pub )?fn main\b")
 TOLD = "out/handed-on"  # the file of a crate that says whether its library was handed on, and so is proved
 
 
@@ -49,21 +51,51 @@ def must_fail(crate, path, flags, *kept):
 
 
 def checked(crate, texts, flags, kept):
-    """Checks a copy of a crate with these texts in place of its own, over what a check kept, and returns how that ends. A
-    library is built: where it is not proved that says what a check says, and does not go on to propose proofs."""
-    if not crate.makes_rlib():
-        return rt.checked(crate, texts, flags, kept)
+    """Checks a copy of a crate as a library, with these texts in place of its own, over what a check kept, and returns how
+    that ends. A program is one without its `main`: so what it would link isn't read. Where a library is not proved, a
+    build says what a check says, and does not go on to propose proofs; some flags are for checks alone."""
     lib = rt.rtlib
-    with tempfile.TemporaryDirectory(prefix="built-") as room:
+    with tempfile.TemporaryDirectory(prefix="tried-") as room:
         for part in lib.PARTS:
             if os.path.isdir("%s/%s" % (crate.folder, part)):
                 shutil.copytree("%s/%s" % (crate.folder, part), "%s/%s" % (room, part))
         for path, text in texts.items():
-            with open("%s/%s" % (room, path), "w", encoding="utf-8") as it:
-                it.write(text)
-        words = ["build", *crate.words(flags, keeps=False), "--incremental", kept, "-o", "%s/built" % room]
+            write("%s/%s" % (room, path), text)
+        if crate.is_program:
+            write("%s/src/lib.rt" % room, without_main(read("%s/src/main.rt" % room)))
+            os.remove("%s/src/main.rt" % room)
+        is_build = "--only" not in flags and bool(texts)
+        words = ["build", "-o", "%s/built" % room] if is_build else ["check"]
+        words += [*as_library(crate.words(flags, keeps=False)), "--incremental", kept]
         streams = {"stdin": subprocess.DEVNULL, "stdout": subprocess.PIPE, "stderr": subprocess.STDOUT}
         return subprocess.run([*lib.guarded(), lib.RATTLE, *words], cwd=room, errors="replace", **streams)
+
+
+def as_library(words):
+    """The words for rattle by which a crate is a library, whatever it is."""
+    kinds = {"src/main.rt": "src/lib.rt"}
+    left_out = {at + it for at, word in enumerate(words) if word == "--crate-type" for it in (0, 1)}
+    return [kinds.get(word, word) for at, word in enumerate(words) if at not in left_out]
+
+
+def without_main(text):
+    """The text of a program's root without its `main`, each other line where it was."""
+    lines = text.split("\n")
+    first = next(at for at, line in enumerate(lines) if MAIN.match(line))
+    last = lines.index("}", first)
+    while lines[first - 1].startswith(("///", "#[")):
+        first -= 1
+    return "\n".join("" if first <= at <= last else line for at, line in enumerate(lines))
+
+
+def read(path):
+    with open(path, encoding="utf-8") as it:
+        return it.read()
+
+
+def write(path, text):
+    with open(path, "w", encoding="utf-8") as it:
+        it.write(text)
 
 
 def crates_in(folder):

@@ -183,9 +183,13 @@ module _ {W : Type 0} (sink : SinkOf W) where
   write-fault text a b added none some = fault_at text a b (subst (λ f. AddsAt f sink text a b) none added) some
 
 -- what was handed on is no text
+pub text-passed-on : {W : Type 0} (sink : SinkOf W) (text : List ℕ) (a b c : Output W) → Adds sink text a b → Adds sink [] b c → Adds sink text a c
+text-passed-on sink text a b c added none =
+    subst (λ t. Adds sink t a c) (append-nil text) (Adds-append sink text [] a b c added none)
+
 pub passed-on : {W : Type 0} (sink : SinkOf W) (calls : List Call) (a b c : Output W) → Draws sink calls a b → Adds sink [] b c → Draws sink calls a c
 passed-on sink calls a b c draws none = record {
-  added = subst (λ t. Adds sink t a c) (append-nil (canon calls)) (Adds-append sink (canon calls) [] a b c draws.added none);
+  added = text-passed-on sink (canon calls) a b c draws.added none;
   drawing = draws.drawing;
 }
 

@@ -138,15 +138,6 @@ pub const TROUBLES: [Option<ErrorKind>; 3] = [
     None,
 ];
 
-/// Writers that take so many bytes, one a write, and then have trouble, for good or once.
-pub fn narrow_papers(alloc: Global, room: usize, trouble: Option<ErrorKind>) -> [Paper; 2] {
-    let fails_at = (room as u64).saturating_add(1);
-    [
-        Paper::narrow(alloc, room, trouble),
-        Paper::failing_once(alloc, fails_at, trouble),
-    ]
-}
-
 /// Texts, each so often, one after another.
 pub fn repeated(alloc: Global, parts: &[(&[u8], usize)]) -> Result<Vec<u8>, AllocError> {
     let mut bytes = Vec::new(alloc);

@@ -1,9 +1,10 @@
 //! The examples once each: what the pages say that they write, and the counts that no clause gives.
-use anstyle_parse::canon::{FromWrite, Output};
+use anstyle_parse::canon::{Fault, FromWrite, Output};
 use examples::{
     Quiet, calls_made, canonical, html, make_first_calls, plain, printed, stay_quiet,
     strip_two_pieces, write_last_style,
 };
+use std::process::Abort;
 use strip_pieces::Fed;
 
 /// A device control string with its terminator, 1B 5C.
@@ -28,24 +29,35 @@ fn a_quiet_performer_stays(rt: HostRuntime) {
     assert_eq!(rt; quiet.mark, 7);
 }
 
+/// A run that went well wrote this.
+fn assert_written(rt: &impl Abort, ran: (Vec<u8>, Result<(), Fault>), wanted: &[u8]) {
+    let (text, answer) = ran;
+    assert_eq!(rt; (text.as_slice(), answer), (wanted, Ok(())));
+}
+
 // What the crates' pages say of their examples.
 #[test]
 fn pages(rt: HostRuntime) {
     make_first_calls(&mut ());
-    let (text, answer) = plain(rt.alloc(), b"\x1b[31mhi");
-    assert_eq!(rt; (text.as_slice(), answer), (&b"hi"[..], Ok(())));
-    let (text, answer) = canonical(rt.alloc(), b"\x1b[01mhi");
-    assert_eq!(rt; (text.as_slice(), answer), (&b"\x1b[1mhi"[..], Ok(())));
-    let (text, answer) = html(rt.alloc(), b"\x1b[1m<hi");
-    let bold = &b"<pre><span style=\"font-weight:bold;\">&lt;hi</span></pre>"[..];
-    assert_eq!(rt; (text.as_slice(), answer), (bold, Ok(())));
+    assert_written(&rt, plain(rt.alloc(), b"\x1b[31mhi"), b"hi");
+    assert_written(&rt, canonical(rt.alloc(), b"\x1b[01mhi"), b"\x1b[1mhi");
+    assert_written(
+        &rt,
+        html(rt.alloc(), b"\x1b[1m<hi"),
+        b"<pre><span style=\"font-weight:bold;\">&lt;hi</span></pre>",
+    );
+}
+
+#[test]
+fn page_of_styles(rt: HostRuntime) {
     let mut output = Output::new(FromWrite::new(Vec::new(rt.alloc())));
     write_last_style(b"\x1b[1m\x1b[31m", &mut output);
     let (writer, answer) = output.finish();
-    assert_eq!(rt;
-        (writer.into_inner().as_slice(), answer),
-        (&b"\x1b[0;1;31m"[..], Ok(()))
-    );
+    assert_written(&rt, (writer.into_inner(), answer), b"\x1b[0;1;31m");
+}
+
+#[test]
+fn page_of_pieces(rt: HostRuntime) {
     let mut room = [0; 64];
     let fed = strip_two_pieces(&mut room);
     let first = Fed {

@@ -114,7 +114,6 @@ use strip_pieces::StreamState;
 use test_streams::Paper;
 use test_streams::TROUBLES;
 use test_streams::Tape;
-use test_streams::narrow_papers;
 use test_streams::repeated;
 
 type Memory = FromWrite<Vec<u8>>;
@@ -320,17 +319,16 @@ fn reader() -> Reader {
 
 #[test]
 fn names_of_runs(rt: HostRuntime) {
-    let [first, second] = [memory(rt.alloc()), memory(rt.alloc())];
     assert_well(
         &rt,
-        write_calls::<CanonWriter<Memory>, Reader, Memory>(&mut reader(), first),
+        write_calls::<CanonWriter<Memory>, Reader, Memory>(&mut reader(), memory(rt.alloc())),
     );
     assert_well(
         &rt,
         write_calls_between::<CanonWriter<Memory>, Reader, Memory>(
             b"<",
             &mut reader(),
-            second,
+            memory(rt.alloc()),
             b">",
         ),
     );
@@ -351,6 +349,10 @@ fn names_of_runs(rt: HostRuntime) {
         checkpoint(&Parser::<Utf8Parser>::new(), memory(rt.alloc())),
     );
     assert!(rt; MAX_CHECKPOINT > 0 && is_layout(b'\t') && !is_layout(0x07));
+}
+
+#[test]
+fn names_of_writers(rt: HostRuntime) {
     writes_calls(&Stripper::over(Output::new(memory(rt.alloc()))));
     let writer = HtmlWriter::new(
         Styling::Inline(Scheme::Dark),
@@ -358,21 +360,24 @@ fn names_of_runs(rt: HostRuntime) {
     );
     is_writing(&writer);
     assert_well(&rt, write_calls_by(writer, &mut reader(), b">"));
-    let output = Output::new(memory(rt.alloc()));
-    let mut writer = StyledWriter::new(Styling::Classes, output);
+    let mut style = Style::default();
+    assert_eq!(rt; perform_to_end(&mut reader(), &mut style), Ok(()));
+    assert!(rt; style != Style::default());
+}
+
+#[test]
+fn names_of_links(rt: HostRuntime) {
     let parts: [&[u8]; 3] = [b"8", b"", b"http://a"];
     assert!(rt; is_link_command(&parts));
     let mut link = Link::none();
     link.select(&parts);
     assert_eq!(rt; link.uri(), b"http://a".as_slice());
+    let mut writer = StyledWriter::new(Styling::Classes, Output::new(memory(rt.alloc())));
     writer.select(Style::default(), &link);
     writer.put_char('a');
     writer.pass_on();
     assert!(rt; writer.output().fault().is_none());
     assert_well(&rt, writer.into_output().finish());
-    let mut style = Style::default();
-    assert_eq!(rt; perform_to_end(&mut reader(), &mut style), Ok(()));
-    assert!(rt; style != Style::default());
 }
 
 #[test]
@@ -437,7 +442,7 @@ fn names_of_test_streams(rt: HostRuntime) -> Result<(), Fail> {
     is_writer(&Paper::new(rt.alloc()));
     is_writer(&Paper::narrow(rt.alloc(), 1, Some(ErrorKind::Other)));
     is_writer(&Paper::failing_once(rt.alloc(), 1, None));
-    let _ = narrow_papers(rt.alloc(), 1, TROUBLES[0]);
+    is_plain(TROUBLES);
     assert_eq!(rt;
         repeated(rt.alloc(), &[(b"a", 2)])?.as_slice(),
         b"aa".as_slice()
@@ -453,7 +458,8 @@ fn memory(alloc: Global) -> Memory {
 pub fn names_of_standard_streams<W: Write + IsTerminal + Drop>(
     rt: &impl Eprint,
     output: W,
-    [other, last]: [W; 2],
+    other: W,
+    last: W,
 ) -> (Buffer<FromWrite<W>>, [ExitCode; 5]) {
     let ran = (buffered(other), Err(Fault::Read));
     let reader = FromRead::new(b"".as_slice());

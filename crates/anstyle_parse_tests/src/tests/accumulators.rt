@@ -1,18 +1,18 @@
 //! Answers of the two decoders to worked bytes of Unicode's Table 3-7, which no clause names.
 use anstyle_parse::{AsciiParser, CharAccumulator, DefaultCharAccumulator, Taken};
-use std::process::Abort;
 
 // The last byte of each row answers the character, and the bytes before it nothing. After
 // it the next byte is at the start of a character.
-fn assert_answered(rt: &impl Abort, bytes: &[u8], want: char) {
+fn is_answered(bytes: &[u8], want: char) -> bool {
     let mut parser = DefaultCharAccumulator::default();
     let mut answer = None;
     for byte in bytes {
-        assert!(rt; answer.is_none(), "within {bytes:?}");
+        if answer.is_some() {
+            return false;
+        }
         answer = parser.add(*byte);
     }
-    assert!(rt; answer == Some(want), "after {bytes:?}");
-    assert!(rt; parser.add(b'A') == Some('A'), "after {bytes:?}");
+    answer == Some(want) && parser.add(b'A') == Some('A')
 }
 
 #[test]
@@ -32,7 +32,7 @@ fn answers_at_the_last_byte(rt: HostRuntime) {
         (b"\xC3\xC3", '\u{FFFD}'),
     ];
     for (bytes, want) in rows {
-        assert_answered(&rt, bytes, want);
+        assert!(rt; is_answered(bytes, want), "{bytes:?}");
     }
 }
 
@@ -49,13 +49,18 @@ fn broken_characters_are_told_apart(rt: HostRuntime) {
         (b"\xF0\x9F\x98\x1B", Taken::Broken('\u{FFFD}')),
     ];
     for (bytes, want) in rows {
-        let mut parser = DefaultCharAccumulator::default();
-        let mut answer = Taken::More;
-        for byte in bytes {
-            answer = parser.take(*byte);
-        }
-        assert!(rt; answer == want, "after {bytes:?}");
+        assert!(rt; last_taken(bytes) == want, "{bytes:?}");
     }
+}
+
+/// What `take` answers for the last of these bytes.
+fn last_taken(bytes: &[u8]) -> Taken {
+    let mut parser = DefaultCharAccumulator::default();
+    let mut answer = Taken::More;
+    for byte in bytes {
+        answer = parser.take(*byte);
+    }
+    answer
 }
 
 #[test]

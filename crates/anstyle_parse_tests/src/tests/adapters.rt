@@ -64,22 +64,30 @@ fn one_flush_a_call(rt: HostRuntime) {
     }
 }
 
-/// Slices of any length, longer than a run's pieces and than a buffer, go through in one call.
-fn assert_whole(rt: &(impl Abort + AllocGlobal), length: usize) {
-    assert!(rt; length <= 100_000);
-    let bytes = &[b'a'; 100_000][..length];
-    let mut into = [b'b'; 100_000];
+/// As many bytes as the longest slice has.
+const MANY: usize = 100_000;
+
+/// Whether one read gives all of a slice.
+fn is_read_whole(bytes: &[u8], into: &mut [u8]) -> bool {
     let mut source = FromRead::new(Tape::new(bytes));
-    assert!(rt; source.read(&mut into[..length]) == Some(length));
-    assert!(rt; &into[..length] == bytes);
-    let mut sink = FromWrite::new(Paper::new(rt.alloc()));
-    assert!(rt; sink.write(bytes) == Some(length));
-    assert!(rt; sink.into_inner().text.as_slice() == bytes);
+    source.read(into) == Some(bytes.len()) && *into == *bytes
 }
 
+/// One write takes all of a slice.
+fn assert_written_whole(rt: &(impl Abort + AllocGlobal), bytes: &[u8]) {
+    let mut sink = FromWrite::new(Paper::new(rt.alloc()));
+    let taken = sink.write(bytes);
+    let paper = sink.into_inner();
+    assert!(rt; taken == Some(bytes.len()) && paper.text.as_slice() == bytes);
+}
+
+/// Slices of any length, longer than a run's pieces and than a buffer, go through in one call.
 #[test]
 fn long_slices(rt: HostRuntime) {
-    for length in [4097, 8193, 100_000] {
-        assert_whole(&rt, length);
+    for length in [4097, 8193, MANY] {
+        let bytes = &[b'a'; MANY][..length];
+        let mut into = [b'b'; MANY];
+        assert!(rt; is_read_whole(bytes, &mut into[..length]), "{length}");
+        assert_written_whole(&rt, bytes);
     }
 }

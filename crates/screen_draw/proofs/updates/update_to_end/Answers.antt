@@ -5,6 +5,7 @@ use Rattle.std.specs.Io.KnownBytes.{Consumes}
 use Rattle.anstyle_parse.specs.Io.Output.{fault_in}
 use Rattle.anstyle_parse.specs.Stream.Call.{Call}
 use Rattle.anstyle_parse.specs.Stream.Calls.{HasReceived}
+use Rattle.anstyle_parse.specs.Stream.Canon.{canon}
 use Rattle.anstyle_parse.specs.Views.Accumulator.{front_of}
 use Rattle.anstyle_parse.specs.Views.Parser.{IsAfter}
 use Rattle.anstyle_parse.proofs.Canonical.Items.{AreCalls-nil}
@@ -16,7 +17,7 @@ use Rattle.screen_draw.specs.Update.{update_calls}
 use Rattle.screen_draw.specs.Updates.{IsPiece, joined}
 use Rattle.screen_draw.specs.Noting.{HasNoted}
 use Rattle.screen_draw.proofs.NotedLemmas.{noted-keeps, noted-received}
-use Rattle.screen_draw.proofs.UpdatesLemmas.{joined-more, last-more, pieces-more, screens-more, received-shows, received-same, passed-on, no-updates, begins, draws-more, write-fault, follows}
+use Rattle.screen_draw.proofs.UpdatesLemmas.{joined-more, last-more, pieces-more, screens-more, received-shows, received-same, text-passed-on, no-updates, begins, draws-more, write-fault, follows}
 use Rattle.screen_draw.proofs.updates.update_to_end.Goals as goal
 
 pub returns-then-is_some : goal.returns-then-is_some
@@ -96,10 +97,8 @@ returns-then-is_some-2 g c =
     (c.advance_all.ensures.stream (joined before.pieces) refl before.stands) c.advance_all.ensures.calls in
     let drawn : Draws g.W.Sink (drawn_calls first.display) c.args.output.now c.pass_on.new.self =
     begins g.W.Sink c.args.shown.now first _ _ _ c.requires.same c.draw.ensures.text c.draw.ensures.only c.pass_on.ensures in
-    let update : Draws g.W.Sink (update_calls c.loop-turn.shown.display next.display) c.loop-turn.output c.update_noted.new.output =
-    record { added = c.update_noted.ensures.text; drawing = c.update_noted.ensures.only } in
-    let last = passed-on g.W.Sink (update_calls c.loop-turn.shown.display next.display) _ _ _
-    update c.pass_on-in-Some.ensures in
+    let last = text-passed-on g.W.Sink (canon (update_calls c.loop-turn.shown.display next.display)) _ _ _
+    c.update_noted.ensures.text c.pass_on-in-Some.ensures in
     let is_piece : IsPiece bytes = (
       omega (arith, length-take c.in-Some.count c.read.new.into, c.in-Some.ensures.within, c.in-Some.count-test),
       omega (arith, length-take c.in-Some.count c.read.new.into, c.read.auto.into, before.room),
@@ -114,7 +113,7 @@ returns-then-is_some-2 g c =
     (pieces-more IsPiece before.pieces bytes before.each is_piece)
     (screens-more first next [] bytes before.pieces before.screens before.are_screens (received-shows first next _ received))
     (sym (last-more first next before.screens)) drawn updated (
-      write-fault g.W.Sink _ c.loop-turn.output c.pass_on-in-Some.new.self last.added before.no_fault
+      write-fault g.W.Sink _ c.loop-turn.output c.pass_on-in-Some.new.self last before.no_fault
           (sym (c.is_some-in-Some.ensures ∙ ap is_some c.fault-in-Some.ensures) ∙ c.if-is_some-2.true),
       c.in-Some.ensures.not_failed ∙ before.not_failed,
     )

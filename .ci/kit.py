@@ -15,6 +15,7 @@ import tempfile
 
 sys.dont_write_bytecode = True
 
+PROGRAM, LIBRARY = ("src/%s.rt" % it for it in ("main", "lib"))  # the root of a crate
 MAIN = re.compile(r"(?:pub )?fn main\b")
 TOLD = "out/handed-on"  # the file of a crate that says whether its library was handed on, and so is proved
 
@@ -62,8 +63,8 @@ def checked(crate, texts, flags, kept):
         for path, text in texts.items():
             write("%s/%s" % (room, path), text)
         if crate.is_program:
-            write("%s/src/lib.rt" % room, without_main(read("%s/src/main.rt" % room)))
-            os.remove("%s/src/main.rt" % room)
+            write("%s/%s" % (room, LIBRARY), without_main(read("%s/%s" % (room, PROGRAM))))
+            os.remove("%s/%s" % (room, PROGRAM))
         is_build = "--only" not in flags and bool(texts)
         words = ["build", "-o", "%s/built" % room] if is_build else ["check"]
         words += [*as_library(crate.words(flags, keeps=False)), "--incremental", kept]
@@ -73,9 +74,8 @@ def checked(crate, texts, flags, kept):
 
 def as_library(words):
     """The words for rattle by which a crate is a library, whatever it is."""
-    kinds = {"src/main.rt": "src/lib.rt"}
     left_out = {at + it for at, word in enumerate(words) if word == "--crate-type" for it in (0, 1)}
-    return [kinds.get(word, word) for at, word in enumerate(words) if at not in left_out]
+    return [LIBRARY if word == PROGRAM else word for at, word in enumerate(words) if at not in left_out]
 
 
 def without_main(text):

@@ -3,3 +3,12 @@ mod html;
 mod leaving;
 mod screen;
 mod style;
+
+use anstyle_parse::io::Fault;
+use std::process::Abort;
+
+/// A run that went well wrote this.
+fn assert_written(rt: &impl Abort, ran: (Vec<u8>, Result<(), Fault>), wanted: &[u8]) {
+    let (text, answer) = ran;
+    assert_eq!(rt; (text.as_slice(), answer), (wanted, Ok(())));
+}

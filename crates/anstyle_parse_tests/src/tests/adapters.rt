@@ -85,6 +85,7 @@ fn assert_written_whole(rt: &(impl Abort + AllocGlobal), bytes: &[u8]) {
 #[test]
 fn long_slices(rt: HostRuntime) {
     for length in [4097, 8193, MANY] {
+        assert!(rt; length <= MANY);
         let bytes = &[b'a'; MANY][..length];
         let mut into = [b'b'; MANY];
         assert!(rt; is_read_whole(bytes, &mut into[..length]), "{length}");

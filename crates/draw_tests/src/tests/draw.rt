@@ -35,15 +35,19 @@ fn place(row: usize, column: usize) -> Place {
 /// one stop, no autowrap, insert mode.
 const PARTS: &[u8] = b"x\x1b[?1049h\x1b[2;3r\x1b[2;4H\x1b7\x1b[?7l\x1b[4h\x1b[3g\x1bH\x1b[3;1Hy";
 
-#[test]
-fn parts(rt: HostRuntime) -> Result<(), Fail> {
-    let screen = shown(rt.alloc(), PARTS)?;
+/// What [`PARTS`] leads to.
+fn assert_parts(rt: &impl Abort, screen: &Screen) {
     assert_eq!(rt; screen.margins(), (1, 3));
     let stops = [false, false, false, true, false, false, false, false, false];
     assert_eq!(rt; screen.stops(), stops.as_slice());
     assert_eq!(rt; screen.saved(), place(1, 3));
     assert_eq!(rt; screen.hidden_saved(), place(0, 1));
     assert!(rt; screen.is_alternate() && screen.inserts() && !screen.wraps());
+}
+
+#[test]
+fn parts(rt: HostRuntime) -> Result<(), Fail> {
+    assert_parts(&rt, &shown(rt.alloc(), PARTS)?);
     Ok(())
 }
 
@@ -233,9 +237,7 @@ fn updates_of_what_is_noted(rt: HostRuntime) -> Result<(), Fail> {
         b"Y",
         &mut output,
     );
-    let (sink, answer) = output.finish();
-    assert!(rt; answer.is_ok());
-    let written = sink.into_inner();
+    let written = bytes_of(&rt, output);
     assert_eq!(rt; written.as_slice(), b"\x1b[2;2H\x1b[0;1mXY".as_slice());
     assert_eq!(rt; first.cells(), last.screen().cells());
     Ok(())

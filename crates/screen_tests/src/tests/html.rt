@@ -1,4 +1,5 @@
 //! What a screen showed, as HTML. Streams stand in tests/screen_twin.
+use super::assert_written;
 use ansi_html::{Scheme, Styling};
 use ansi_screen::Screen;
 use anstyle_parse::io::{Fault, FromRead, FromWrite, Output, write_calls_by};
@@ -24,10 +25,8 @@ fn shown(alloc: Global, log: &[u8]) -> Result<(Vec<u8>, Result<(), Fault>), Allo
 
 #[test]
 fn a_page(rt: HostRuntime) -> Result<(), Fail> {
-    let (written, answer) = shown(rt.alloc(), b"10%\r\x1b[1mdone\n")?;
-    assert_eq!(rt; answer, Ok(()));
     let wanted = b"<pre><span style=\"font-weight:bold;\">done</span>\n</pre>";
-    assert_eq!(rt; written.as_slice(), wanted.as_slice());
+    assert_written(&rt, shown(rt.alloc(), b"10%\r\x1b[1mdone\n")?, wanted);
     Ok(())
 }
 
@@ -36,13 +35,11 @@ fn a_page(rt: HostRuntime) -> Result<(), Fail> {
 fn links(rt: HostRuntime) -> Result<(), Fail> {
     let log =
         b"\x1b]8;;http://a\x07abc\x1b]8;;\x07\rX\n\x1b]8;;http://b\x07de\x1b[1D\x1b[K\n\x1b]8;;javascript:f\x07g\x1b]8;;mailto:'\x07h\n";
-    let (written, answer) = shown(rt.alloc(), log)?;
-    assert_eq!(rt; answer, Ok(()));
     let wanted =
         "<pre>X<a rel=\"nofollow noreferrer\" href=\"http://a\" style=\"color:inherit;\">bc</a>\n\
         <a rel=\"nofollow noreferrer\" href=\"http://b\" style=\"color:inherit;\">d</a>\n\
         g<a rel=\"nofollow noreferrer\" href=\"mailto:&#39;\" style=\"color:inherit;\">h</a>\n</pre>";
-    assert_eq!(rt; written.as_slice(), wanted.as_bytes());
+    assert_written(&rt, shown(rt.alloc(), log)?, wanted.as_bytes());
     Ok(())
 }
 
@@ -57,9 +54,7 @@ fn by_classes(rt: HostRuntime) -> Result<(), Fail> {
     let performer = ShownWriter::new(Screen::new(rt.alloc(), 3, 1)?, rows);
     let mut reader = FromRead::new("\x1b[3ma<\u{301}\u{6F22}\x1b[m!".as_bytes());
     let (writer, answer) = write_calls_by(performer, &mut reader, b".");
-    assert_eq!(rt; answer, Ok(()));
-    let written = writer.into_inner();
     let wanted = "<span class=\"ansi-italic\">a&lt;\u{301}\u{6F22}</span>!\n.";
-    assert_eq!(rt; written.as_slice(), wanted.as_bytes());
+    assert_written(&rt, (writer.into_inner(), answer), wanted.as_bytes());
     Ok(())
 }

@@ -1,4 +1,5 @@
 //! Rows that leave a screen, and what it showed as text. Streams stand in tests/screen_twin.
+use super::assert_written;
 use ansi_screen::laws::scrolled_off;
 use ansi_screen::{
     Cell, LeftOut, Part, Screen, Scrolling, Size, TakeCommand, TakeRow, goes_on, put_cells, used,
@@ -101,16 +102,19 @@ fn what_was_shown(rt: HostRuntime) -> Result<(), Fail> {
     let screen = Screen::new(rt.alloc(), 4, 2)?;
     let mut reader = FromRead::new(b"10%\r20%\nlonger\n\x1b[31m ok \n".as_slice());
     let (writer, answer) = write_shown(screen, &mut reader, FromWrite::new(Vec::new(rt.alloc())));
-    assert_eq!(rt; answer, Ok(()));
-    let written = writer.into_inner();
-    assert_eq!(rt; written.as_slice(), b"20%\nlonger\n ok \n".as_slice());
+    assert_written(&rt, (writer.into_inner(), answer), b"20%\nlonger\n ok \n");
+    Ok(())
+}
+
+// The names of the laws of `screen_text`.
+#[test]
+fn laws(_rt: HostRuntime) {
     clean();
     lines();
     plain_text();
     returned();
     rewritten();
     bound();
-    Ok(())
 }
 
 // By hand: what came before counts as written.
@@ -121,9 +125,11 @@ fn a_writer_that_is_given(rt: HostRuntime) -> Result<(), Fail> {
     let performer = ShownWriter::new(Screen::new(rt.alloc(), 2, 1)?, TextRows::new(output));
     let mut reader = FromRead::new("\u{6F22}\u{5B57}".as_bytes());
     let (writer, answer) = write_calls_by(performer, &mut reader, b".");
-    assert_eq!(rt; answer, Ok(()));
-    let written = writer.into_inner();
-    assert_eq!(rt; written.as_slice(), " \u{6F22}\u{5B57}\n.".as_bytes());
+    assert_written(
+        &rt,
+        (writer.into_inner(), answer),
+        " \u{6F22}\u{5B57}\n.".as_bytes(),
+    );
     Ok(())
 }
 

@@ -7,9 +7,11 @@ import itertools
 import random
 import resource
 import shutil
+import signal
 import subprocess
 import sys
 import threading
+import time
 import weakref
 
 from library_events import alike, pieces, python_event_cases, same_events
@@ -65,7 +67,8 @@ def all_cases(room, name):
     ansi = importlib.import_module(name)
     is_well = ansi.event.IS_COMPILED == (name == "compiled")
     yield "Python: events are %s" % name, None if is_well else "they are not"
-    for case in itertools.chain(python_event_cases(ansi), caller_cases(ansi), memory_cases(ansi), thread_cases(ansi)):
+    parts = python_event_cases(ansi), caller_cases(ansi), signal_cases(ansi), memory_cases(ansi), thread_cases(ansi)
+    for case in itertools.chain(*parts):
         yield "%s, %s" % (case[0], name), case[1]
 
 
@@ -205,6 +208,31 @@ KINDS = {
     "Esc": b"\x1b(B",
     "Hook": b"\x1bP1000;2:3$q\x1b\\",
 }
+
+
+def signal_cases(ansi):
+    """A signal that comes within one large piece, which leads to no event."""
+    piece = b"\x1b[" + b"1;" * 80_000_000
+    started = time.monotonic()
+    collections.deque(ansi.events([piece]), 0)
+    whole = time.monotonic() - started
+    was = signal.signal(signal.SIGALRM, interrupted)
+    signal.setitimer(signal.ITIMER_REAL, whole / 8)
+    started = time.monotonic()
+    try:
+        collections.deque(ansi.events([piece]), 0)
+        why = "it is not handled"
+    except InterruptedError:
+        took = time.monotonic() - started
+        why = None if took < whole / 2 else "after %.2f s of %.2f" % (took, whole)
+    finally:
+        signal.setitimer(signal.ITIMER_REAL, 0)
+        signal.signal(signal.SIGALRM, was)
+    yield "Python: a signal is handled within a piece", why
+
+
+def interrupted(_signal, _frame):
+    raise InterruptedError("a signal came")
 
 
 def memory_cases(ansi):

@@ -1,6 +1,6 @@
-//! Strips terminal output of its escapes, or shows it as HTML, by the proved library.
+//! Strips terminal output of its escapes, shows it as HTML, or reads it as events, by the proved library.
 
 #[path = "../../ansi.rs"]
 mod ansi;
 
-pub use ansi::{Converter, Stripper, Styling, strip, to_html};
+pub use ansi::*;

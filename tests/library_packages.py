@@ -1,0 +1,106 @@
+"""What tests/library tries of the packages: where that of Python looks for the library, and all that Cargo's hands on."""
+
+import ast
+import os
+import shutil
+import sys
+import tempfile
+import time
+
+from library_shared import *
+
+STYLINGS = ("both", "light", "dark", "classes")
+
+
+def unsaid(done, words):
+    """Says how a command did not fail with these words, or answers None."""
+    is_said = done.returncode != 0 and words in done.stderr
+    return None if is_said else "status %d, it says %r" % (done.returncode, done.stderr[-300:])
+
+
+def cargo_cases(room):
+    """examples/rust, a package, built and used by another package, which names all that it hands on."""
+    if not shutil.which("cargo"):
+        yield left_out("cargo")
+        return
+    shutil.copytree(EXAMPLES, room + "/examples", ignore=shutil.ignore_patterns("target", "__pycache__"))
+    os.makedirs(room + "/user/src/bin")
+    os.mkdir(room + "/archive")
+    shutil.copy(ARCHIVE, room + "/archive")
+    with open(room + "/user/Cargo.toml", "w") as file:
+        file.write('[package]\nname = "user"\nversion = "0.0.0"\nedition = "2021"\n')
+        file.write('[dependencies]\nansi = { path = "../examples/rust" }\n')
+    with open(room + "/user/src/main.rs", "w") as file:
+        file.write(read("examples/filter.rs").replace("mod ansi;\n", ""))
+    shutil.copy("%s/tests/callers/whole.rs" % ROOT, room + "/user/src/bin")
+    known = dict(os.environ, ANSI_LIB=room + "/archive", CARGO_TARGET_DIR=room + "/target")
+    command, options = ["cargo", "build", "--offline", "--verbose"], {"cwd": room + "/user", "env": known}
+    done = run(command, patience=10 * PATIENCE, **options)
+    yield "cargo: a package that depends on examples/rust is built", failure(done)
+    if done.returncode == 0:
+        yield from built_cases(room + "/target/debug/")
+        newer = time.time() + 10
+        os.utime(room + "/archive/libansi.a", (newer, newer))
+        done = run(command, patience=10 * PATIENCE, **options)
+        is_new = b"Fresh ansi" not in done.stderr
+        yield "cargo: it is built again over a new archive", failure(done) or (None if is_new else "it is not")
+
+
+def built_cases(folder):
+    """The programs of the other package beside ours."""
+    stream = dict(streams())["sequences of every kind"]
+    done = run([folder + "user"], stream)
+    yield "cargo: it strips", failure(done) or first_difference(done.stdout, text_of(stream))
+    for word, wanted in [("strip", text_of(stream)), ("events", printed_of(stream))]:
+        done = run([folder + "whole", word], stream)
+        yield "cargo: %s of a whole" % word, failure(done) or first_difference(done.stdout, wanted)
+    for styling in STYLINGS:
+        for kind, given in [("short", b"\x1b[31m<"), ("long", stream)]:
+            words = [] if styling == "both" else ["--" + styling]
+            wanted = run(["%s/crates/ansi2html/out/ansi2html" % ROOT, *words], given).stdout
+            done = run([folder + "whole", styling], given)
+            yield "cargo: HTML of a %s whole, %s" % (kind, styling), failure(done) or first_difference(done.stdout, wanted)
+
+
+def lookup_cases():
+    """Where the package looks for the library: beside itself, in the repository, or where the variable says."""
+    library = os.environ["ANSI_LIBRARY"]
+    script = "import ansi; assert ansi.strip(b'\\x1b[1mA') == b'A'"
+    with tempfile.TemporaryDirectory() as room:
+        for name in ("beside", "alone", "repository/examples"):
+            shutil.copytree("%s/ansi" % EXAMPLES, "%s/%s/ansi" % (room, name), ignore=shutil.ignore_patterns("__pycache__"))
+        for name in ("beside/ansi", "repository/crates/ansi/out", "library"):
+            os.makedirs("%s/%s" % (room, name), exist_ok=True)
+            shutil.copy(library, "%s/%s/libansi.so" % (room, name))
+        os.mkdir(room + "/elsewhere")
+        with open(room + "/elsewhere/libansi.so", "w") as wrong:
+            wrong.write("no library")
+        found = {name: value for name, value in os.environ.items() if name != "ANSI_LIBRARY"}
+        found.update(PYTHONDONTWRITEBYTECODE="1")
+        command = [sys.executable, "-c", script]
+        for name, folder in [("beside the package", "beside"), ("in the repository", "repository/examples")]:
+            done = run(command, cwd=room + "/elsewhere", env=dict(found, PYTHONPATH="%s/%s" % (room, folder)))
+            yield "Python: the library is found %s" % name, failure(done)
+        alone = dict(found, PYTHONPATH=room + "/alone")
+        done = run(command, cwd=room + "/elsewhere", env=dict(alone, ANSI_LIBRARY=library))
+        yield "Python: the library is found where the variable says", failure(done)
+        done = run(command, cwd=room + "/library", env=dict(alone, LD_LIBRARY_PATH=room + "/library"))
+        words = b"ImportError: libansi.so is not at %s/alone/ansi/libansi.so and " % room.encode()
+        yield "Python: it is not looked for elsewhere, and that is said", unsaid(done, words)
+        for place in ("/nowhere/libansi.so", room + "/elsewhere/libansi.so"):
+            done = run(command, env=dict(alone, ANSI_LIBRARY=place))
+            words = b"ImportError: the library that ANSI_LIBRARY names cannot be loaded: %s: " % place.encode()
+            name = os.path.basename(os.path.dirname(place))
+            yield "Python: where %s is no library, that is said" % name, unsaid(done, words)
+        run([compiler("cc", "gcc", "clang"), "-shared", "-x", "c", "/dev/null", "-o", room + "/older.so"])
+        done = run(command, env=dict(alone, ANSI_LIBRARY=room + "/older.so"))
+        words = b"ImportError: the library %s/older.so has no " % room.encode()
+        yield "Python: where it lacks a function, it is said to be an older one", unsaid(done, words)
+        found.update(PYTHONPATH=EXAMPLES, ANSI_LIBRARY=library)
+        names = [it.asname or it.name for node in ast.parse(read("examples/ansi/__init__.py")).body for it in getattr(node, "names", ())]
+        script = "from ansi import *; print(*sorted(set(dir()) & set(%r)))" % names
+        done = run([sys.executable, "-c", script], env=found)
+        wanted = " ".join(sorted(names)) + "\n"
+        yield "Python: all its names are public", failure(done) or first_difference(done.stdout.decode(), wanted)
+        done = run([sys.executable, "%s/tests/callers/threads.py" % ROOT], env=found)
+        yield "Python: eight threads have each their own text, in little memory", failure(done)

@@ -12,6 +12,7 @@ import subprocess
 import sys
 import threading
 import time
+import tracemalloc
 import weakref
 
 from library_events import alike, pieces, python_event_cases, same_events
@@ -67,8 +68,8 @@ def all_cases(room, name):
     ansi = importlib.import_module(name)
     is_well = ansi.event.IS_COMPILED == (name == "compiled")
     yield "Python: events are %s" % name, None if is_well else "they are not"
-    parts = python_event_cases(ansi), caller_cases(ansi), signal_cases(ansi), memory_cases(ansi), thread_cases(ansi)
-    for case in itertools.chain(*parts):
+    parts = [python_event_cases, caller_cases, signal_cases, memory_cases, kept_memory_cases, thread_cases]
+    for case in itertools.chain.from_iterable(part(ansi) for part in parts):
         yield "%s, %s" % (case[0], name), case[1]
 
 
@@ -257,6 +258,16 @@ def memory_cases(ansi):
         wrong = [repr(it) for it, was in zip(counted, counts) if abs(sys.getrefcount(it) - was) > 100]
         yield "Python: many events of %s leave every count of references as it was" % kind, ", ".join(wrong)[:300] or None
         yield "Python: many events of %s take no memory that stays" % kind, "%d kB" % grown if grown > 5000 else None
+
+
+def kept_memory_cases(ansi):
+    """A stream of long events, each another: what it keeps to give again are short ones alone."""
+    titles = (b"\x1b]0;%01000d\x07" % at for at in range(5000))
+    tracemalloc.start()
+    collections.deque(ansi.events(titles), 0)
+    _, most = tracemalloc.get_traced_memory()
+    tracemalloc.stop()
+    yield "Python: of long events none is kept", "%d kB at once" % (most >> 10) if most > 2 << 20 else None
 
 
 def thread_cases(ansi):

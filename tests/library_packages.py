@@ -1,6 +1,5 @@
 """What tests/library tries of the packages: where that of Python looks for the library, and all that Cargo's hands on."""
 
-import ast
 import os
 import shutil
 import sys
@@ -9,7 +8,13 @@ import time
 
 from library_shared import *
 
-STYLINGS = ("both", "light", "dark", "classes")
+# Says which names of the package `import *` lacks.
+LACKING = """
+import ansi, types
+from ansi import *
+public = {name for name, it in vars(ansi).items() if name[0] != "_" and not isinstance(it, types.ModuleType)}
+print(*sorted(public - set(globals())))
+"""
 
 
 def unsaid(done, words):
@@ -54,12 +59,11 @@ def built_cases(folder):
     for word, wanted in [("strip", text_of(stream)), ("events", printed_of(stream))]:
         done = run([folder + "whole", word], stream)
         yield "cargo: %s of a whole" % word, failure(done) or first_difference(done.stdout, wanted)
-    for styling in STYLINGS:
+    for styling in ("both", "light", "dark", "classes"):
         for kind, given in [("short", b"\x1b[31m<"), ("long", stream)]:
-            words = [] if styling == "both" else ["--" + styling]
-            wanted = run(["%s/crates/ansi2html/out/ansi2html" % ROOT, *words], given).stdout
             done = run([folder + "whole", styling], given)
-            yield "cargo: HTML of a %s whole, %s" % (kind, styling), failure(done) or first_difference(done.stdout, wanted)
+            why = failure(done) or first_difference(done.stdout, html_of(given, styling))
+            yield "cargo: HTML of a %s whole, %s" % (kind, styling), why
 
 
 def lookup_cases():
@@ -97,10 +101,7 @@ def lookup_cases():
         words = b"ImportError: the library %s/older.so has no " % room.encode()
         yield "Python: where it lacks a function, it is said to be an older one", unsaid(done, words)
         found.update(PYTHONPATH=EXAMPLES, ANSI_LIBRARY=library)
-        names = [it.asname or it.name for node in ast.parse(read("examples/ansi/__init__.py")).body for it in getattr(node, "names", ())]
-        script = "from ansi import *; print(*sorted(set(dir()) & set(%r)))" % names
-        done = run([sys.executable, "-c", script], env=found)
-        wanted = " ".join(sorted(names)) + "\n"
-        yield "Python: all its names are public", failure(done) or first_difference(done.stdout.decode(), wanted)
+        done = run([sys.executable, "-c", LACKING], env=found)
+        yield "Python: all its names are public", failure(done) or done.stdout.decode().strip() or None
         done = run([sys.executable, "%s/tests/callers/threads.py" % ROOT], env=found)
         yield "Python: eight threads have each their own text, in little memory", failure(done)

@@ -85,9 +85,10 @@ def text_of(stream):
     return done.stdout
 
 
-def html_of(stream):
-    """What ansi2html writes."""
-    done = run(["%s/crates/ansi2html/out/ansi2html" % ROOT], stream)
+def html_of(stream, styling="both"):
+    """What ansi2html writes in a styling."""
+    words = [] if styling == "both" else ["--" + styling]
+    done = run(["%s/crates/ansi2html/out/ansi2html" % ROOT, *words], stream)
     done.check_returncode()
     return done.stdout
 

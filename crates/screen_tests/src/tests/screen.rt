@@ -61,7 +61,7 @@ fn assert_cell(rt: &impl Abort, row: &[Cell], column: usize, wanted: Cell) {
 #[test]
 fn styles(rt: HostRuntime) -> Result<(), Fail> {
     let screen = shown(rt.alloc(), b"\x1b[1;31;44ma\x1b[K\x1b[0mb")?;
-    assert!(rt; screen.rows() == 4);
+    assert!(rt; screen.rows() == 4 && screen.columns() == 8);
     let row = screen.row(0);
     // Erased: the background alone.
     let erased = Style {
@@ -82,7 +82,7 @@ fn styles(rt: HostRuntime) -> Result<(), Fail> {
 #[test]
 fn halves(rt: HostRuntime) -> Result<(), Fail> {
     let screen = shown(rt.alloc(), "a漢\x1b[2;1H漢\x1b[2;2Hx".as_bytes())?;
-    assert!(rt; screen.rows() == 4);
+    assert!(rt; screen.rows() == 4 && screen.columns() == 8);
     let plain = Style::default();
     assert_cell(&rt, screen.row(0), 1, cell('漢', plain, Part::Left));
     assert_cell(&rt, screen.row(0), 2, cell(' ', plain, Part::Right));

@@ -1,7 +1,7 @@
 # Proves, builds and installs the programs and the library.
 #
 #   make            proves and builds all of it
-#   make check      the gate: every proof from nothing, and every test
+#   make check      the gate: every proof and test, but for what it has passed here before
 #   make install    to PREFIX (/usr/local), below DESTDIR where that is set
 #   make uninstall  takes away what install has put there
 
@@ -29,7 +29,13 @@ BIN = $(DESTDIR)$(PREFIX)/bin
 LIB = $(DESTDIR)$(PREFIX)/lib
 HEADERS = $(DESTDIR)$(PREFIX)/include
 MAN = $(DESTDIR)$(PREFIX)/share/man
-MODULES = $(DESTDIR)$(shell $(PYTHON) -c 'import sys, sysconfig; print(sysconfig.get_path("purelib", vars={"base": sys.argv[1]}))' $(PREFIX))
+# the folder below PREFIX in which this Python looks for modules (Debian's has names of its own), or else Python's usual one
+LOOKS_IN = import site, sys, sysconfig as it; given, known = sys.argv[1], [*sys.path, site.getusersitepackages()];
+MODULES_IN = $(shell $(PYTHON) -c '$(LOOKS_IN) \
+    ways = [way for way in ("posix_local", "deb_system", "posix_prefix") if way in it.get_scheme_names()]; \
+    found = [it.get_path("purelib", way, vars={"base": given}).replace("/local/local/", "/local/") for way in ways]; \
+    print(*[at for at in found if at.startswith(given + "/lib/") and at in known][:1] or found[-1:])' $(PREFIX))
+MODULES = $(DESTDIR)$(MODULES_IN)
 
 BUILT = $(foreach name,$(PROGRAMS),crates/$(name)/out/$(name))
 SOURCES := crates.txt $(shell find crates -path '*/out' -prune -o -path '*/must-fail' -prune -o -type f -print)
@@ -90,6 +96,8 @@ install: all
 	done
 	$(if $(PYTHON_HEADERS),$(INSTALL) $(EXTENSION) $(MODULES)/ansi/$(notdir $(EXTENSION)))
 	chmod 644 $(LIB)/pkgconfig/ansi.pc
+	@$(PYTHON) -c '$(LOOKS_IN) \
+	    given in known or print("$(PYTHON) does not look in %s: PYTHONPATH has to name it." % given)' $(MODULES_IN)
 
 uninstall:
 	for name in $(PROGRAMS); do rm -f $(BIN)/$$name $(MAN)/man1/$$name.1; done

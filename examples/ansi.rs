@@ -7,12 +7,14 @@
 
 use std::convert::Infallible;
 
+#[derive(Clone, Debug)]
 #[repr(C)]
 struct StripState {
     length: usize,
     pending: [u8; 1042],
 }
 
+#[derive(Clone, Debug)]
 #[repr(C)]
 struct HtmlState {
     length: usize,
@@ -83,8 +85,15 @@ const END_ROOM: usize = 7;
 const EVENTS: usize = 1024;
 const EVENTS_ROOM: usize = 16384;
 
-/// A stream that is stripped, which goes on with each piece.
+/// A stream that is stripped, which goes on with each piece. A clone goes on from where it was cloned.
+#[derive(Clone, Debug)]
 pub struct Stripper(StripState);
+
+impl Default for Stripper {
+    fn default() -> Stripper {
+        Stripper::new()
+    }
+}
 
 impl Stripper {
     /// The beginning of a stream.
@@ -135,7 +144,8 @@ pub enum Styling {
     Classes = 3,
 }
 
-/// A stream that becomes HTML, which goes on with each piece.
+/// A stream that becomes HTML, which goes on with each piece. A clone goes on from where it was cloned.
+#[derive(Clone, Debug)]
 pub struct Converter(HtmlState);
 
 impl Converter {
@@ -249,6 +259,7 @@ pub struct Sequence {
 }
 
 /// The events of a stream in pieces.
+#[derive(Clone, Debug)]
 pub struct Events<I> {
     pieces: I,
     state: StripState,

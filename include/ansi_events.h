@@ -65,7 +65,7 @@ extern "C" {
 #define ANSI_EVENTS_UNHOOK 4
 
 /* An operating system command: in the room its 1 to 16 parts with `;` between them, at most 1,039 bytes in
- * all. No part has a `;`. `flag` is 1 where BEL ended it. */
+ * all. No part has a `;`. What came after is dropped, and nothing tells so. `flag` is 1 where BEL ended it. */
 #define ANSI_EVENTS_OSC 5
 
 /* A control sequence: in the room its 1 to 32 fields; in `intermediates` its marker (one of < = > ?) and its

@@ -5,8 +5,8 @@
  * The bytes & < > " ' and a carriage return are written as character references. Text that is not plain
  * stands in <span style="..">, and where it has a link (OSC 8) to https://, http:// or mailto: in
  * <a rel="nofollow noreferrer" href=".." style="..">; with ANSI_HTML_CLASSES the attribute is class. A link
- * that is shown was not cut. Behind a carriage return stands <br>, unless a line feed follows. No markup
- * comes in from the stream.
+ * that is shown was not cut. Before what is printed behind a carriage return stands <br>, unless it is a line
+ * feed. No markup comes in from the stream.
  *
  * The HTML is a fragment for a <pre> of a page in UTF-8, right after a newline there. For classes the page
  * has the rules that `ansi2html --classes --stylesheet` writes.

@@ -1,7 +1,7 @@
 /* Strips a stream of its terminal escapes: what is left is the text that it prints.
  *
  * Every printed character is left, in UTF-8, and of the controls tab (09), line feed (0A) and
- * carriage return (0D), inside an escape or control sequence too. Such sequences, titles, links,
+ * carriage return (0D), inside an escape or control sequence too. Such sequences, titles, the targets of links,
  * device control strings with all that is in them and the other controls below 20 leave nothing.
  * DEL (7F) and the characters U+0080 to U+009F count as printed. A character that is broken leaves
  * U+FFFD; bytes that begin no character leave nothing. So well-formed UTF-8 with no control below

@@ -1,9 +1,13 @@
-"""What tests/library tries of the packages: where that of Python looks for the library, and all that Cargo's hands on."""
+"""What tests/library tries of the packages: where that of Python looks for the library, what documents show of it, and all
+that Cargo's hands on."""
 
+import ast
 import os
+import re
 import shutil
 import sys
 import tempfile
+import textwrap
 import time
 
 from library_shared import *
@@ -49,6 +53,12 @@ def cargo_cases(room):
         done = run(command, patience=10 * PATIENCE, **options)
         is_new = b"Fresh ansi" not in done.stderr
         yield "cargo: it is built again over a new archive", failure(done) or (None if is_new else "it is not")
+        # (where no variable says so, it is where `rt lib` leaves it)
+        os.makedirs(room + "/crates/ansi/out")
+        os.rename(room + "/archive/libansi.a", room + "/crates/ansi/out/libansi.a")
+        known.pop("ANSI_LIB")
+        done = run(["cargo", "build", "--offline"], patience=10 * PATIENCE, cwd=room + "/user", env=known)
+        yield "cargo: without ANSI_LIB it takes the archive of the repository", failure(done)
 
 
 def built_cases(folder):
@@ -56,14 +66,57 @@ def built_cases(folder):
     stream = dict(streams())["sequences of every kind"]
     done = run([folder + "user"], stream)
     yield "cargo: it strips", failure(done) or first_difference(done.stdout, text_of(stream))
-    for word, wanted in [("strip", text_of(stream)), ("events", printed_of(stream))]:
+    for word, wanted in [("strip", text_of(stream)), ("events", printed_of(stream)), ("cloned", text_of(stream))]:
         done = run([folder + "whole", word], stream)
         yield "cargo: %s of a whole" % word, failure(done) or first_difference(done.stdout, wanted)
+    done = run([folder + "whole", "asked"], b"\x1b[1mABCD")
+    yield "cargo: the first event comes before more pieces are asked for", failure(done) or first_difference(done.stdout, b"4")
     for styling in ("both", "light", "dark", "classes"):
         for kind, given in [("short", b"\x1b[31m<"), ("long", stream)]:
             done = run([folder + "whole", styling], given)
             why = failure(done) or first_difference(done.stdout, html_of(given, styling))
             yield "cargo: HTML of a %s whole, %s" % (kind, styling), why
+
+
+LOG = b"\x1b]0;one;two\x07\x1b[1;31mred\n"  # has each event that the documents tell apart
+TOLD = "print(repr([type(it).__name__ for it in took]), repr([*map(tuple, took)]), b';'.join(title).decode(), sep='\\n')"
+
+
+def shown_python():
+    """The lines of Python that docs/USING.md and the package itself show."""
+    yield "docs/USING.md", re.search(r"(?m)^    import ansi\n(?:    .*\n)+", read("docs/USING.md"))[0]
+    package = ast.get_docstring(ast.parse(read("examples/ansi/__init__.py")))
+    yield "the package", "".join(re.findall(r"(?m)^    .*\n", package))
+
+
+def shown_cases():
+    """What they show, run over a log: what comments say of a line or a case is so, and each case is met."""
+    known = dict(os.environ, PYTHONPATH=EXAMPLES, PYTHONDONTWRITEBYTECODE="1")
+    for place, lines in shown_python():
+        said = re.findall(r"(?m)^    (ansi\..*?)  +# (.*)$", lines)
+        for code, value in said:
+            done = run([sys.executable, "-c", "import ansi; print(repr(%s))" % code], env=known)
+            is_so = re.fullmatch(re.escape(value).replace(r"\.\.", ".*") + "\n", done.stdout.decode())
+            yield "Python, %s: %s" % (place, code), failure(done) or (None if is_so else "it is %r" % done.stdout)
+        if sys.version_info < (3, 10):
+            yield "Python, %s: left out, it wants Python 3.10" % place, None
+            continue
+        cases = re.findall(r"(?m)^ +case ansi\.(\w+)\(.*?\):(?:  # (\(.*\)))?", lines)
+        text = re.sub(r"ansi\.events\(.*?\):", "ansi.events(stream):", textwrap.dedent(lines))
+        text = re.sub(r"(?m)^    \.\.$", "    pass", text)
+        text = re.sub(r"(?m)^ +\.\.$", lambda it: it[0].replace("..", "took.append(event)"), text)
+        script = "import sys\ntook, log, stream = [], [], [%r]\n%s\n%s" % (LOG, text, TOLD)
+        with tempfile.TemporaryDirectory() as room:
+            with open(room + "/log", "wb") as log:
+                log.write(LOG)
+            done = run([sys.executable, "-c", script], cwd=room, env=known)
+        names, events, title = (done.stdout.decode().splitlines() or [""])[-3:] if done.returncode == 0 else ("[]", "[]", "")
+        met = sorted(ast.literal_eval(names)) == sorted(name for name, _ in cases)
+        yield "Python, %s: each case is met once" % place, failure(done) or (None if met and cases else "it meets %s" % names)
+        fields = [field for event in ast.literal_eval(events) for field in event]
+        wrong = [value for _, value in cases if value and ast.literal_eval(value) not in fields]
+        yield "Python, %s: with what its comments say" % place, "there is no %s" % wrong if wrong else None
+        yield "Python, %s: the title is whole" % place, None if title == "one;two" else "it is %r" % title
 
 
 def lookup_cases():
@@ -96,6 +149,10 @@ def lookup_cases():
             words = b"ImportError: the library that ANSI_LIBRARY names cannot be loaded: %s: " % place.encode()
             name = os.path.basename(os.path.dirname(place))
             yield "Python: where %s is no library, that is said" % name, unsaid(done, words)
+        shutil.copy(room + "/elsewhere/libansi.so", room + "/beside/ansi/libansi.so")
+        done = run(command, cwd=room, env=dict(found, PYTHONPATH=room + "/beside"))
+        words = b"ImportError: the library cannot be loaded: %s/beside/ansi/libansi.so: " % room.encode()
+        yield "Python: where what stands beside it is no library, that is said", unsaid(done, words)
         run([compiler("cc", "gcc", "clang"), "-shared", "-x", "c", "/dev/null", "-o", room + "/older.so"])
         done = run(command, env=dict(alone, ANSI_LIBRARY=room + "/older.so"))
         words = b"ImportError: the library %s/older.so has no " % room.encode()

@@ -13,7 +13,7 @@ r"""Strips terminal output of its escapes, shows it as HTML, or reads it as even
         match event:
             case ansi.Text(text):
                 ..
-            case ansi.Osc((b"0" | b"2", title, *_)):
+            case ansi.Osc((b"0" | b"2", *title)):  # b";".join(title) is the title
                 ..
             case ansi.Csi(parameters, "", False, "m"):  # ((1,), (31,))
                 ..
@@ -36,5 +36,6 @@ from .event import Csi, Esc, Execute, Hook, Osc, Put, Text, Unhook, events
 from .html import STYLINGS, html_of, to_html
 from .text import strip, text_of
 
+__version__ = "0.1.0"
 __all__ = ["STYLINGS", "html_of", "strip", "text_of", "to_html"]
 __all__ += ["events", "Csi", "Esc", "Execute", "Hook", "Osc", "Put", "Text", "Unhook"]

@@ -64,7 +64,8 @@ class Unhook(NamedTuple):
 
 
 class Osc(NamedTuple):
-    """An operating system command: its parts, and whether BEL ended it."""
+    """An operating system command: its first 16 parts, of 1,024 bytes in all, and whether BEL ended it. That more came
+    is not told."""
 
     parts: tuple
     bell: bool

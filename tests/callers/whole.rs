@@ -1,6 +1,8 @@
-// Writes what the package makes of the whole input: its text, its HTML in a styling, or the text of its events.
+// Writes what the package makes of the whole input: its text, its HTML in a styling, the text of its events, or its text
+// by a clone that was made on the way.
 
 use ansi::{Converter, Event, Events, Sequence, Stripper, Styling, events, strip, to_html};
+use std::cell::Cell;
 use std::io::{Read, Write, stdin, stdout};
 
 /// What the package names that is not called below.
@@ -14,6 +16,27 @@ fn printed(stream: &[u8]) -> String {
     texts.collect()
 }
 
+/// The text of a stream by a clone of the stripper that has taken one half, beside which that goes on elsewhere.
+fn cloned(stream: &[u8]) -> Vec<u8> {
+    let (first, second) = stream.split_at(stream.len() / 2);
+    let (mut text, mut stripper) = (Vec::new(), Stripper::default());
+    let mut write = |part: &[u8]| Ok::<(), ()>(text.extend_from_slice(part));
+    stripper.strip(first, &mut write).expect("the writer takes all");
+    let mut clone = stripper.clone();
+    stripper.strip(b"\x1bPelsewhere", |_| Ok::<(), ()>(())).expect("the writer takes all");
+    clone.strip(second, &mut write).expect("the writer takes all");
+    text
+}
+
+/// How many pieces are asked for before the first event is there: the first piece alone, where it has one.
+fn asked(stream: &[u8]) -> usize {
+    let asked = Cell::new(0);
+    let pieces = stream.chunks(1).inspect(|_| asked.set(asked.get() + 1));
+    let first = events(pieces).next();
+    assert!(first.is_some());
+    asked.get()
+}
+
 fn main() {
     assert!(std::mem::size_of::<Named>() > 0);
     let mut stream = Vec::new();
@@ -22,6 +45,8 @@ fn main() {
     let written = match word.as_str() {
         "strip" => strip(&stream),
         "events" => printed(&stream),
+        "cloned" => String::from_utf8(cloned(&stream)).expect("each part is UTF-8"),
+        "asked" => asked(&stream).to_string(),
         "both" => to_html(&stream, Styling::Both),
         "light" => to_html(&stream, Styling::Light),
         "dark" => to_html(&stream, Styling::Dark),

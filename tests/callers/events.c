@@ -74,6 +74,20 @@ static bool is(const ansi_event *event, int kind, int byte, int flag, size_t len
            && event->start + event->length <= used;
 }
 
+/* What its kind does not speak of is 0, a flag is 0 or 1; so are the bytes behind its fields, which the package in
+ * Python reads with them. */
+static bool is_bare(const ansi_event *event)
+{
+    bool has_header = event->kind == ANSI_EVENTS_HOOK || event->kind == ANSI_EVENTS_CSI || event->kind == ANSI_EVENTS_ESC;
+    bool has_byte = has_header || event->kind == ANSI_EVENTS_EXECUTE || event->kind == ANSI_EVENTS_PUT;
+    bool has_flag = has_header || event->kind == ANSI_EVENTS_OSC;
+    bool has_bytes = event->kind != ANSI_EVENTS_ESC && (!has_byte || has_header) && event->kind != ANSI_EVENTS_UNHOOK;
+    size_t count = has_header ? event->intermediate_count : 0, at = offsetof(ansi_event, intermediates) + count;
+
+    return (has_byte || event->byte == 0) && event->flag <= (has_flag ? 1 : 0) && (has_bytes || event->length == 0)
+           && event->intermediate_count == count && are((const unsigned char *)event + at, sizeof *event - at, 0);
+}
+
 static void events_have_their_fields(void)
 {
     memset(&it, 0xA5, sizeof it);
@@ -236,12 +250,14 @@ static int print_all(size_t piece, size_t most, size_t size, bool quiet)
             if (!feed(&state, bytes + at, count - at, events, most, room, size, &taken, &written, &used))
                 return 1;
             all += written;
-            for (event = 0; event < written && !quiet; event++)
+            for (event = 0; event < written && !quiet; event++) {
+                expect(is_bare(&events[event]), "what an event does not speak of is 0");
                 print_event(&events[event]);
+            }
         }
     if (quiet)
         printf("%lu\n", (unsigned long)all);
-    return 0;
+    return failures != 0;
 }
 
 int main(int count, char **words)

@@ -156,6 +156,23 @@ static void any_bytes_are_a_state(void)
     expect(goes_on("y", SIZE) && is_written("y"), "a link that is no link is none");
 }
 
+/* Of a large room a part is used, and of a long piece a part is taken. */
+static void much_is_taken_in_parts(void)
+{
+    static unsigned char large[1 << 17], piece[100000];
+    static const char text[] = "x<\t";
+    size_t turn;
+
+    for (turn = 0; turn < 3; turn++) {
+        memset(&it, 0, sizeof it);
+        memset(large, 0x7E, sizeof large);
+        memset(piece, text[turn], sizeof piece);
+        expect(feed(&it.state, piece, sizeof piece, large, sizeof large, &taken, &written), "there is room");
+        expect(taken > 0 && taken <= 4096 && written >= taken && written <= 16384, "a part is taken");
+        expect(are(large + 16384, sizeof large - 16384, 0x7E), "no more of the room is used");
+    }
+}
+
 int main(void)
 {
     init_begins_a_stream();
@@ -163,5 +180,6 @@ int main(void)
     little_room_is_refused();
     long_link_stays_in_the_state();
     any_bytes_are_a_state();
+    much_is_taken_in_parts();
     return failures != 0;
 }

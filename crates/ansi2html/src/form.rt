@@ -1,7 +1,6 @@
 //! What stands around the text.
-ghost use Rattle.std.specs.Prelude.{◌≡◌, IfOk};
-ghost use Rattle.anstyle_parse.specs.Io.Output.{Writes};
-ghost use Rattle.anstyle_parse.specs.Io.Output.{Adds};
+ghost use Rattle.std.specs.Prelude.{◌≡◌, IfOk, OnOk};
+ghost use Rattle.anstyle_parse.specs.Io.Output.{Adds, Causes, Writes};
 ghost use Rattle.ansi2html.specs.Page.{page_colors, page_rules, page_head, head_of, tail_of};
 ghost use Rattle.ansi_html.specs.Stylesheet.{stylesheet};
 
@@ -122,6 +121,12 @@ impl Form {
 /// a write or of the flush that failed.
 pub fn write_stylesheet<W: Sink>(scheme: Scheme, writer: W) -> (W, Result<(), Fault>)
     ensures written { Writes (stylesheet scheme) (W.contents writer) (W.contents result.0) result.1 }
+
+    // With Ok nothing of it is held back.
+    ensures handed_on { OnOk result.1 (W.holds_nothing result.0) }
+
+    // Only a writer that fails is a reason for a fault.
+    ensures causes { Causes (W.has_failed writer) (W.has_failed result.0) result.1 }
 {
     let mut output = Output::new(writer);
     put_stylesheet(&mut output, scheme);

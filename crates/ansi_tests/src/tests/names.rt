@@ -487,3 +487,13 @@ pub fn names_of_options(rt: &(impl Env + AllocGlobal + Print + Eprint)) -> io::R
     let request = asked_of(words.as_slice(), &["--title="]).unwrap_or(Request::Unknown(value));
     Ok(answered(rt, "", "", request))
 }
+
+// Two requests are equal where what they ask for is, the word that is none of the options among it.
+#[test]
+fn requests(rt: HostRuntime) -> Result<(), Fail> {
+    let word = Request::Unknown("--pages");
+    assert!(rt; word == word.clone()?);
+    assert!(rt; word != Request::Unknown("--page"));
+    assert!(rt; Request::Help != Request::Version);
+    Ok(())
+}

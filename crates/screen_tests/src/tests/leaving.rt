@@ -54,6 +54,14 @@ fn counting(alloc: Global) -> Result<Scrolling<Counter>, AllocError> {
     Ok(Scrolling::new(Screen::new(alloc, 3, 1)?, counter))
 }
 
+// What is left out at the end of a row is copied and compared as what it is.
+#[test]
+fn what_is_left_out(rt: HostRuntime) -> Result<(), Fail> {
+    assert!(rt; LeftOut::Unprinted.clone()? == LeftOut::Unprinted);
+    assert!(rt; LeftOut::Unprinted != LeftOut::Blanks);
+    Ok(())
+}
+
 // The row that a character wraps from goes on.
 #[test]
 fn rows_that_leave(rt: HostRuntime) -> Result<(), Fail> {

@@ -23,7 +23,7 @@ SHARED = crates/ansi/out/libansi.so
 EXTENSION = crates/ansi/out/_events.abi3.so
 PYTHON_HEADERS := $(shell $(PYTHON) -c 'import os, sysconfig as it; at = it.get_path("include"); \
     print(at if os.path.exists(at + "/Python.h") and not it.get_config_var("Py_GIL_DISABLED") else "")' 2>/dev/null)
-PACKAGE = $(notdir $(wildcard examples/ansi/*.py))
+PACKAGE = $(notdir $(wildcard examples/ansi/*.py examples/ansi/*.pyi examples/ansi/py.typed))
 
 BIN = $(DESTDIR)$(PREFIX)/bin
 LIB = $(DESTDIR)$(PREFIX)/lib

@@ -2,6 +2,7 @@
 that Cargo's hands on."""
 
 import ast
+import inspect
 import os
 import re
 import shutil
@@ -117,6 +118,28 @@ def shown_cases():
         wrong = [value for _, value in cases if value and ast.literal_eval(value) not in fields]
         yield "Python, %s: with what its comments say" % place, "there is no %s" % wrong if wrong else None
         yield "Python, %s: the title is whole" % place, None if title == "one;two" else "it is %r" % title
+
+
+def stub_cases():
+    """The types that the package is told to have, beside what it has."""
+    import ansi
+
+    told = ast.parse(read("examples/ansi/__init__.pyi")).body
+    functions = [it for it in told if isinstance(it, ast.FunctionDef)]
+    classes = [it for it in told if isinstance(it, ast.ClassDef)]
+    names = {it.name for it in functions + classes} | {it.target.id for it in told if isinstance(it, ast.AnnAssign)}
+    wrong = names ^ {*ansi.__all__, "__version__"}
+    yield "Python: types are told of each public name", "not so of %s" % sorted(wrong) if wrong else None
+    for it in functions:
+        defaults = [None] * (len(it.args.args) - len(it.args.defaults)) + [default.value for default in it.args.defaults]
+        found = inspect.signature(getattr(ansi, it.name)).parameters.values()
+        found = [(of.name, None if of.default is of.empty else of.default) for of in found]
+        is_so = found == list(zip((arg.arg for arg in it.args.args), defaults))
+        yield "Python: what is told to be given to %s" % it.name, None if is_so else "it takes %s" % found
+    for it in classes:
+        fields = tuple(line.target.id for line in it.body if isinstance(line, ast.AnnAssign))
+        found = getattr(ansi, it.name)._fields
+        yield "Python: the fields that are told of %s" % it.name, None if fields == found else "they are %s" % (found,)
 
 
 def lookup_cases():

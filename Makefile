@@ -29,7 +29,7 @@ BIN = $(DESTDIR)$(PREFIX)/bin
 LIB = $(DESTDIR)$(PREFIX)/lib
 HEADERS = $(DESTDIR)$(PREFIX)/include
 MAN = $(DESTDIR)$(PREFIX)/share/man
-# the folder below PREFIX in which this Python looks for modules (Debian's has names of its own), or else Python's usual one
+# the folder below PREFIX in which this Python looks for modules (Debian's has folders of its own), or else the usual one
 LOOKS_IN = import site, sys, sysconfig as it; given, known = sys.argv[1], [*sys.path, site.getusersitepackages()];
 MODULES_IN = $(shell $(PYTHON) -c '$(LOOKS_IN) \
     ways = [way for way in ("posix_local", "deb_system", "posix_prefix") if way in it.get_scheme_names()]; \

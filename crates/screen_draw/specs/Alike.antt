@@ -60,7 +60,7 @@ has_same_frame a b =
 abbrev pub has_same_margins : Display → Display → Bool
 has_same_margins a b = a.top == b.top && a.bottom == b.bottom
 
--- DECAWM and DECTCEM
+-- DECAWM, IRM and DECTCEM
 abbrev pub has_same_modes : Display → Display → Bool
 has_same_modes a b = beq a.wraps b.wraps && (beq a.inserts b.inserts && beq a.is_visible b.is_visible)
 

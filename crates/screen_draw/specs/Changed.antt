@@ -6,7 +6,7 @@ use Rattle.ansi_screen.specs.Display.{Display, row_cells, row_end}
 use Rattle.ansi_screen.specs.After.{State, displayed}
 use Rattle.screen_draw.specs.declared.changed.Changed.{Changed}
 
--- The same alternate screen or main one, with what it covers, what is saved, margins and tabs.
+-- The frame of `Alike` and the margins: the same alternate screen or main one, what it covers, what is saved, tabs.
 pub record KeepsFrame (old new : Display) : Type 0 where
   pub alternate : new.is_alternate ≡ old.is_alternate
   pub hidden : new.hidden ≡ old.hidden

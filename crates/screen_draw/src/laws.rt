@@ -35,8 +35,8 @@ pub fn selected()
         → (after_all (drawn_calls drawn) old).display.cursor.charsets ≡ drawn.cursor.charsets }
 {}
 
-/// The same screen shows: the calls that draw a screen lead every screen of its size to it, all of it but what REP
-/// repeats, whether a row goes on, and whether a space was printed or nothing stands there.
+/// The same screen shows: the calls that draw a screen lead every screen of its size to it, all of it but links, what
+/// REP repeats, whether a row goes on, and whether a space was printed or nothing stands there.
 pub fn redrawn()
     ensures { (drawn : Display) (old : State) → IsScreen drawn → HasContents drawn
         → old.display.width ≡ drawn.width → old.display.height ≡ drawn.height

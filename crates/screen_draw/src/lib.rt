@@ -51,7 +51,7 @@ use whole::{put_all, put_update};
 /// The terminal is reset first. All is drawn: cells with their styles, what the alternate screen covers,
 /// what is saved, tabs, margins, modes, and the cursor with its style. No memory is taken.
 ///
-/// Not drawn are what REP would repeat, and whether a row goes on in the next. A space stands as a printed one
+/// Not drawn are links, what REP would repeat, and whether a row goes on in the next. A space stands as a printed one
 /// where nothing was printed: where half of a wide character was lost, where marks came behind nothing, and in
 /// the last column, where a wrap is pending.
 pub fn draw<W: Sink>(screen: &Screen, output: &mut Output<W>)
@@ -80,7 +80,9 @@ pub fn draw<W: Sink>(screen: &Screen, output: &mut Output<W>)
 /// Writes the bytes that make a terminal which shows one screen show another, of the same size.
 ///
 /// Of cells only those are drawn that differ. Where more differs than cells, margins, the cursor with its style, DECAWM
-/// and DECTCEM, as where the alternate screen comes, all is drawn, without a reset. No memory is taken.
+/// and DECTCEM, as where the alternate screen comes, all is drawn, without a reset; so it is, unless nothing differs,
+/// where one of them has origin mode, IRM or line drawing, or in the shown one a wrap is pending behind what is erased.
+/// No memory is taken.
 ///
 /// Not drawn is what [`draw`] doesn't draw.
 pub fn update<W: Sink>(shown: &Screen, wanted: &Screen, output: &mut Output<W>)

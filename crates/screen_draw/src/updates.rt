@@ -14,8 +14,8 @@ use anstyle_parse::{Parser, Utf8Parser};
 const PIECE: usize = 65_536;
 
 /// Draws a screen, and after each read of at most 65,536 bytes the update to the screen that all bytes so far lead
-/// to, until the reader ends or fails or a write fails. What was written is handed on before the next read. At
-/// most 2^64 - 1 reads are made. No memory is taken.
+/// to, until the reader ends or fails or a write fails, of which none has before. What was written is handed on before
+/// the next read. At most 2^64 - 1 reads are made. No memory is taken.
 ///
 /// Of the rows only those are compared that the bytes of a read can have changed.
 ///

@@ -16,7 +16,7 @@ use Rattle.ansi_html.specs.Stylesheet.{vocabulary}
 use Rattle.ansi_html.specs.Html.{attribute_text}
 use Rattle.ansi_html.specs.Links.{has_scheme, is_visible}
 
--- A byte of text: 20 and above, 09 or 0A; and none with a meaning in HTML, as 0D has one too.
+-- A byte with a meaning in HTML, as 0D has one too.
 unfoldable pub is_special : ℕ → Bool
 is_special b = b == 0x26 || (b == 0x3C || (b == 0x3E || (b == 0x22 || (b == 0x27 || b == 0x0D))))
 
@@ -27,6 +27,7 @@ AreClear bytes = AllByRecursion (λ b. is_special b ≡ false) bytes
 abbrev pub BeginWithClear : List ℕ → (left : List ℕ) → Type 0
 BeginWithClear bytes left = (clear : List ℕ) × AreClear clear × (bytes ≡ clear ++ left)
 
+-- A byte of text: 20 and above, 09 or 0A; and none with a meaning in HTML.
 unfoldable pub is_text_byte : ℕ → Bool
 is_text_byte b = (nat_le 0x20 b || (b == 0x09 || b == 0x0A)) && not (is_special b)
 
@@ -94,7 +95,7 @@ pub record IsHref (href : List ℕ) : Type 0 where
   pub bytes : IsTrue (list_all is_href_byte href)
 
 -- What the attribute of a span says: colours and declarations, or names of classes that have a rule in the
--- stylesheet. A link has a colour for all pages before these, or a class of its own.
+-- stylesheet. A link has `color:inherit` before these, or a class of its own.
 pub data IsSpanValue : Styling → List ℕ → Type 0 where
   declarations : (scheme : Scheme) (colors others : List ℕ) → AreColors scheme colors → AreDeclarations others
       → IsSpanValue (Inline scheme) (colors ++ others)

@@ -66,8 +66,8 @@ abbrev pub link_after : Call → List ℕ → List ℕ
 link_after (osc_dispatch parts bell_terminated) link = if is_link_command parts then link_of parts else link
 link_after call link = link
 
--- The bytes of a link at most: of 1,023 that the parser stores the `8` is none, and twelve separators stand
--- between thirteen parts.
+-- One more than the bytes that a link has at most: 1,023 that the parser stores, the `8` among them, and twelve
+-- separators between thirteen parts.
 abbrev pub max_link : ℕ
 max_link = 1035
 

@@ -8,7 +8,7 @@
 -- What a fragment needs of its page, so that a browser reads it as this reader does: it stands in a
 -- `<pre>`, right after a newline of the page's own, since a browser drops the 0A that begins a `<pre>`
 -- (13.2.6.4.7); and the page is UTF-8. Colours for both kinds of pages want a page that has a
--- `color-styling`, or that is light.
+-- `color-scheme`, or that is light.
 use Rattle.std.specs.Prelude.{ℕ, Bool, true, false, ◌&&◌, ◌==◌, bytes_eq, List, [], ◌∷◌, ◌++◌, codes, map, if◌then◌else◌}
 use Rattle.std.specs.List.{flat_map}
 use Rattle.anstyle_parse.specs.Stream.Call.{Call}

@@ -14,7 +14,7 @@ use Rattle.ansi_html.specs.Html.{Element, element, Standing, at_start, escaped, 
 use Rattle.ansi_html.specs.declared.link.Links.{Links}
 use Rattle.ansi_html.specs.ShownLinks.{shown_link, selected_link}
 
--- the output that it writes to; the styling of its colours
+-- the output that it writes to; how it says a style
 abbrev pub output_of : {W : Type 0} → HtmlWriter W → Output W
 output_of performer = performer.output
 
@@ -65,7 +65,7 @@ kept at = record {
 abbrev pub in_element : Element → (returned : Bool) → Standing
 in_element it returned = record { shown = it; selected = it; returned = returned }
 
--- at the start, in colours of this styling
+-- at the start, in this styling
 pub record IsNew {W : Type 0} (wanted : Styling) (performer : HtmlWriter W) : Type 0 where
   pub styling : styling_of performer ≡ wanted
   pub standing : standing_of performer ≡ at_start

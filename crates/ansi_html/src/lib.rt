@@ -140,8 +140,9 @@ pub fn convert<R: Source, W: Sink>(
     write_calls_by(HtmlWriter::new(styling, output), reader, tail)
 }
 
-/// Writes the stylesheet for HTML by [`Styling::Classes`], for the pages of `scheme`: for each class that
-/// a style can have a rule with its declarations, which are those of [`Styling::Inline`].
+/// Writes the stylesheet for HTML by [`Styling::Classes`], for the pages of `scheme`: for each class that a style can
+/// have a rule. Together they declare what [`Styling::Inline`] does of the style, its colours snapped to the 256 and,
+/// where both are selected, not dim.
 pub fn put_stylesheet<W: Sink>(output: &mut Output<W>, scheme: Scheme)
     ensures added { Adds W.Sink (stylesheet scheme) output.old output.new }
 

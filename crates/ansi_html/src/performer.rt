@@ -25,7 +25,7 @@ use std::simd::prelude::*;
 /// Each printed character, and of the controls tab (09), line feed (0A) and carriage return
 /// (0D), is text; `& < > " '` and 0D are written as character references, and text behind 0D
 /// that is not 0A begins with `<br>`. Text that is not plain stands in `<span style="…">…</span>`,
-/// and text of a link in `<a href="…" style="…">…</a>`, one for each run of equal style and link; by
+/// and text of a link in `<a … href="…" style="…">…</a>`, one for each run of equal style and link; by
 /// classes the attribute is `class`. An element is opened only before text, and closed before text of
 /// another one or at the end. All other calls write nothing.
 ///

@@ -12,7 +12,7 @@ use ansi_style::Style;
 use anstyle_parse::canon::{Output, Sink};
 
 /// Writes texts that have styles and links, such as the cells of a screen, as HTML: text that is not plain stands
-/// in `<span style="…">…</span>`, and text of a link in `<a href="…" style="…">…</a>`, one for each run of equal
+/// in `<span style="…">…</span>`, and text of a link in `<a … href="…" style="…">…</a>`, one for each run of equal
 /// style and link; by classes the attribute is `class`.
 /// `& < > " '` and a carriage return are written as character references.
 ///

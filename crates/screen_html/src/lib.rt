@@ -46,7 +46,7 @@ pub use table::LinkMemory;
 /// [`screen_text::write_shown`], each character in the style of its cell, said as `styling` has it. `head` is
 /// written before it and `tail` after it, as they are.
 ///
-/// Text that is not plain stands in a span, and text of a link (OSC 8) in one, one for each run of equal style and
+/// Text that is not plain stands in a `span`, and text of a link (OSC 8) in an `a`, one for each run of equal style and
 /// link in a line; a space that was passed over has the background of its cell. `& < > " '` are written as character
 /// references. Nothing else is written, so no input brings in markup. The fragment wants of its page what that of
 /// [`ansi_html::convert`] wants. A cell has the link that was in force as it was printed, where it is one that is

@@ -4,7 +4,7 @@ import ctypes
 import re
 from functools import partial
 
-from .library import FEW, Counts, Idle, Room, address_of, decoded, function, joined, pieces_of, whole_of
+from .library import FEW, Counts, Idle, Room, address_of, decoded, exact, function, joined, pieces_of, whole_of
 
 MOST = 4096  # bytes that one call takes at most
 CALL_ROOM, END_ROOM = 16384, 7  # bytes of HTML that one call, and the end, write at most
@@ -118,6 +118,7 @@ def to_html(text, styling="both"):
     Of a str it is a str, of bytes, a bytearray or a memoryview bytes."""
     number = _number_of(styling)
     if isinstance(text, str):
+        text = exact(text)
         # What it begins with that is plain is its own HTML, after which all is as at the start: tested, not proved.
         count = PLAIN.match(text).end()
         if count == len(text):

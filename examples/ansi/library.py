@@ -69,6 +69,11 @@ def pieces_of(stream):
     return map(bytes_of, iter(stream))
 
 
+def exact(text):
+    """The characters of a str alone, where it is of a type derived from str, whose operators may do otherwise."""
+    return text if type(text) is str else str.__str__(text)
+
+
 def whole_of(text):
     """The bytes of a whole text, and whether it is a str."""
     if isinstance(text, str):

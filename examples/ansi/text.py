@@ -3,7 +3,7 @@
 import ctypes
 import re
 
-from .library import FEW, Counts, Idle, Room, address_of, decoded, function, joined, pieces_of, whole_of
+from .library import FEW, Counts, Idle, Room, address_of, decoded, exact, function, joined, pieces_of, whole_of
 
 MOST = 64 << 10  # bytes that one call is given at most
 SHORT = 256  # characters of a str that is looked through sooner than it is stripped
@@ -94,8 +94,10 @@ def is_clean(text):
 
 def strip(text):
     """The text of terminal output: of a str a str, of bytes, a bytearray or a memoryview bytes."""
-    if isinstance(text, str) and is_clean(text):
-        return text  # (clean text is left as it is: laws::clean_text of ansi_strip)
+    if isinstance(text, str):
+        text = exact(text)
+        if is_clean(text):
+            return text  # (clean text is left as it is: laws::clean_text of ansi_strip)
     piece, is_str = whole_of(text)
     if len(piece) > FEW:
         return joined(lambda made: Stripper().texts(piece, made), is_str)

@@ -60,7 +60,7 @@ class Put(NamedTuple):
 
 
 class Unhook(NamedTuple):
-    """It ends."""
+    """It ends. With no field it is an empty tuple, and so false."""
 
 
 class Osc(NamedTuple):

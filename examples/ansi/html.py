@@ -118,7 +118,8 @@ def to_html(text, styling="both"):
     Of a str it is a str, of bytes, a bytearray or a memoryview bytes."""
     number = _number_of(styling)
     if isinstance(text, str):
-        text = exact(text)
+        if type(text) is not str:
+            text = exact(text)
         # What it begins with that is plain is its own HTML, after which all is as at the start: tested, not proved.
         count = PLAIN.match(text).end()
         if count == len(text):

@@ -70,8 +70,8 @@ def pieces_of(stream):
 
 
 def exact(text):
-    """The characters of a str alone, where it is of a type derived from str, whose operators may do otherwise."""
-    return text if type(text) is str else str.__str__(text)
+    """The characters alone of what is of a type derived from str, whose operators may do otherwise."""
+    return str.__str__(text)
 
 
 def whole_of(text):

@@ -95,7 +95,8 @@ def is_clean(text):
 def strip(text):
     """The text of terminal output: of a str a str, of bytes, a bytearray or a memoryview bytes."""
     if isinstance(text, str):
-        text = exact(text)
+        if type(text) is not str:
+            text = exact(text)
         if is_clean(text):
             return text  # (clean text is left as it is: laws::clean_text of ansi_strip)
     piece, is_str = whole_of(text)

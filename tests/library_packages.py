@@ -120,14 +120,21 @@ def shown_cases():
         yield "Python, %s: the title is whole" % place, None if title == "one;two" else "it is %r" % title
 
 
+FIELDS = {
+    **{"Text": "text", "Execute": "byte", "Put": "byte", "Unhook": "", "Osc": "parts bell"},
+    **{"Hook": "parameters intermediates ignored final", "Csi": "parameters intermediates ignored final"},
+    "Esc": "intermediates ignored final",
+}
+
+
 def stub_cases():
     """The types that the package is told to have, beside what it has."""
     import ansi
 
     told = ast.parse(read("examples/ansi/__init__.pyi")).body
     functions = [it for it in told if isinstance(it, ast.FunctionDef)]
-    classes = [it for it in told if isinstance(it, ast.ClassDef)]
-    names = {it.name for it in functions + classes} | {it.target.id for it in told if isinstance(it, ast.AnnAssign)}
+    events = {name.asname for it in told if isinstance(it, ast.ImportFrom) and it.module == "event" for name in it.names}
+    names = {it.name for it in functions} | {it.target.id for it in told if isinstance(it, ast.AnnAssign)} | events
     wrong = names ^ {*ansi.__all__, "__version__"}
     yield "Python: types are told of each public name", "not so of %s" % sorted(wrong) if wrong else None
     for it in functions:
@@ -136,10 +143,11 @@ def stub_cases():
         found = [(of.name, None if of.default is of.empty else of.default) for of in found]
         is_so = found == list(zip((arg.arg for arg in it.args.args), defaults))
         yield "Python: what is told to be given to %s" % it.name, None if is_so else "it takes %s" % found
-    for it in classes:
-        fields = tuple(line.target.id for line in it.body if isinstance(line, ast.AnnAssign))
-        found = getattr(ansi, it.name)._fields
-        yield "Python: the fields that are told of %s" % it.name, None if fields == found else "they are %s" % (found,)
+    wrong = events ^ set(FIELDS)
+    yield "Python: events are told by their own classes", "not so of %s" % sorted(wrong) if wrong else None
+    for name, fields in FIELDS.items():
+        found = getattr(ansi, name)._fields
+        yield "Python: the fields of %s" % name, None if tuple(fields.split()) == found else "they are %s" % (found,)
 
 
 def lookup_cases():

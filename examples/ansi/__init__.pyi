@@ -1,6 +1,9 @@
 """The types of this package, for type checkers and editors."""
 
-from typing import Dict, Iterable, Iterator, NamedTuple, Tuple, Union, overload
+from typing import Dict, Iterable, Iterator, Union, overload
+
+from .event import Csi as Csi, Esc as Esc, Execute as Execute, Hook as Hook, Osc as Osc, Put as Put, Text as Text
+from .event import Unhook as Unhook
 
 _Bytes = Union[bytes, bytearray, memoryview]
 
@@ -17,38 +20,6 @@ def to_html(text: str, styling: str = "both") -> str: ...
 @overload
 def to_html(text: _Bytes, styling: str = "both") -> bytes: ...
 def html_of(stream: Iterable[_Bytes], styling: str = "both") -> Iterator[bytes]: ...
-
-class Text(NamedTuple):
-    text: str
-
-class Execute(NamedTuple):
-    byte: int
-
-class Hook(NamedTuple):
-    parameters: Tuple[Tuple[int, ...], ...]
-    intermediates: str
-    ignored: bool
-    final: str
-
-class Put(NamedTuple):
-    byte: int
-
-class Unhook(NamedTuple): ...
-
-class Osc(NamedTuple):
-    parts: Tuple[bytes, ...]
-    bell: bool
-
-class Csi(NamedTuple):
-    parameters: Tuple[Tuple[int, ...], ...]
-    intermediates: str
-    ignored: bool
-    final: str
-
-class Esc(NamedTuple):
-    intermediates: str
-    ignored: bool
-    final: str
 
 _Event = Union[Text, Execute, Hook, Put, Unhook, Osc, Csi, Esc]
 

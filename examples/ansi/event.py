@@ -8,7 +8,7 @@ import sys
 from importlib.machinery import ExtensionFileLoader
 from importlib.util import module_from_spec, spec_from_loader
 from itertools import chain
-from typing import NamedTuple
+from typing import NamedTuple, Tuple
 
 from .library import FEW, Idle, _here, address_of, bytes_of, function
 from .text import State
@@ -47,7 +47,7 @@ class Execute(NamedTuple):
 class Hook(NamedTuple):
     """A device control string begins."""
 
-    parameters: tuple
+    parameters: Tuple[Tuple[int, ...], ...]
     intermediates: str
     ignored: bool
     final: str
@@ -67,7 +67,7 @@ class Osc(NamedTuple):
     """An operating system command: its first 16 parts, of 1,024 bytes in all, and whether BEL ended it. That more came
     is not told."""
 
-    parts: tuple
+    parts: Tuple[bytes, ...]
     bell: bool
 
 
@@ -75,7 +75,7 @@ class Csi(NamedTuple):
     """A control sequence: groups of fields, as ((38, 2, 9), (1,)) of 38:2:9;1; a marker and intermediates;
     whether more came than is shown; the final character."""
 
-    parameters: tuple
+    parameters: Tuple[Tuple[int, ...], ...]
     intermediates: str
     ignored: bool
     final: str

@@ -78,10 +78,12 @@ static bool is(const ansi_event *event, int kind, int byte, int flag, size_t len
  * Python reads with them. */
 static bool is_bare(const ansi_event *event)
 {
-    bool has_header = event->kind == ANSI_EVENTS_HOOK || event->kind == ANSI_EVENTS_CSI || event->kind == ANSI_EVENTS_ESC;
-    bool has_byte = has_header || event->kind == ANSI_EVENTS_EXECUTE || event->kind == ANSI_EVENTS_PUT;
-    bool has_flag = has_header || event->kind == ANSI_EVENTS_OSC;
-    bool has_bytes = event->kind != ANSI_EVENTS_ESC && (!has_byte || has_header) && event->kind != ANSI_EVENTS_UNHOOK;
+    int kind = event->kind;
+    bool has_header = kind == ANSI_EVENTS_HOOK || kind == ANSI_EVENTS_CSI || kind == ANSI_EVENTS_ESC;
+    bool has_byte = has_header || kind == ANSI_EVENTS_EXECUTE || kind == ANSI_EVENTS_PUT;
+    bool has_flag = has_header || kind == ANSI_EVENTS_OSC;
+    bool has_fields = kind == ANSI_EVENTS_HOOK || kind == ANSI_EVENTS_CSI;
+    bool has_bytes = has_fields || kind == ANSI_EVENTS_TEXT || kind == ANSI_EVENTS_OSC;
     size_t count = has_header ? event->intermediate_count : 0, at = offsetof(ansi_event, intermediates) + count;
 
     return (has_byte || event->byte == 0) && event->flag <= (has_flag ? 1 : 0) && (has_bytes || event->length == 0)

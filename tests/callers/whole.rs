@@ -28,7 +28,7 @@ fn cloned(stream: &[u8]) -> Vec<u8> {
     text
 }
 
-/// How many pieces are asked for before the first event is there: the first piece alone, where it has one.
+/// How many pieces of one byte are asked for before the first event is there.
 fn asked(stream: &[u8]) -> usize {
     let asked = Cell::new(0);
     let pieces = stream.chunks(1).inspect(|_| asked.set(asked.get() + 1));

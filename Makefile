@@ -1,7 +1,10 @@
 # Proves, builds and installs the programs and the library.
 #
 #   make            proves and builds all of it
-#   make check      the gate: every proof and test, but for what it has passed here before
+#   make library    the library alone, in C's forms and for bindings/python
+#   make wheel      a wheel of the Python package, for each CPython from 3.8, in bindings/python/dist
+#   make check      proves and tests all, but for the proofs that have passed on this machine before
+#   make mutants    tries the wrong bodies that make check leaves out; CRATE='NAME ..' those of these crates alone
 #   make install    to PREFIX (/usr/local), below DESTDIR where that is set
 #   make uninstall  takes away what install has put there
 
@@ -12,6 +15,10 @@ PYTHON = python3
 INSTALL = install
 
 PROGRAMS = ansi2text ansi2html ansi2screen parselog
+# those that shells complete the options of
+COMPLETED = ansi2text ansi2html ansi2screen
+# the scripts of tests/
+TESTS = asked browser cells classes contrast costs documents install library links packages programs screen_twin vectors
 # what the library does: each has a header and a manual page of its own
 INTERFACES = ansi_events ansi_html ansi_strip
 VERSION := $(shell sed -n 's/^pub const VERSION: &str = "\(.*\)";$$/\1/p' crates/standard_streams/src/options.rt)
@@ -19,32 +26,43 @@ MAJOR := $(firstword $(subst ., ,$(VERSION)))
 
 ARCHIVE = crates/ansi/out/libansi.a
 SHARED = crates/ansi/out/libansi.so
-# what makes the events of the Python package in C, where this Python can be built for
-EXTENSION = crates/ansi/out/_events.abi3.so
+# the Python package; the library that it loads, which stands beside its modules; and what makes its events in C,
+# where this Python can be built for
+PACKAGE = bindings/python/src/ansi_proved
+LOADED = $(PACKAGE)/libansi.so
+EXTENSION = $(PACKAGE)/_events.abi3.so
 PYTHON_HEADERS := $(shell $(PYTHON) -c 'import os, sysconfig as it; at = it.get_path("include"); \
     print(at if os.path.exists(at + "/Python.h") and not it.get_config_var("Py_GIL_DISABLED") else "")' 2>/dev/null)
-PACKAGE = $(notdir $(wildcard examples/ansi/*.py examples/ansi/*.pyi examples/ansi/py.typed))
+SOURCES_OF_PACKAGE = $(notdir $(wildcard $(PACKAGE)/*.py $(PACKAGE)/*.pyi $(PACKAGE)/py.typed))
+# the oldest C library that the wheel is for: manylinux2014 says 2.17
+WHEEL_FOR = manylinux2014_x86_64
+# (pip takes what builds a wheel from this Python where that has it, and else from its index)
+WHEEL_BY = $(shell $(PYTHON) -c 'import setuptools as it; it.Distribution().get_command_class("bdist_wheel")' \
+    2>/dev/null && echo --no-build-isolation)
 
 BIN = $(DESTDIR)$(PREFIX)/bin
 LIB = $(DESTDIR)$(PREFIX)/lib
 HEADERS = $(DESTDIR)$(PREFIX)/include
 MAN = $(DESTDIR)$(PREFIX)/share/man
+BASH = $(DESTDIR)$(PREFIX)/share/bash-completion/completions
+ZSH = $(DESTDIR)$(PREFIX)/share/zsh/site-functions
+FISH = $(DESTDIR)$(PREFIX)/share/fish/vendor_completions.d
 # the folder below PREFIX in which this Python looks for modules (Debian's has folders of its own), or else the usual one
 LOOKS_IN = import site, sys, sysconfig as it; given, known = sys.argv[1], [*sys.path, site.getusersitepackages()];
 MODULES_IN = $(shell $(PYTHON) -c '$(LOOKS_IN) \
     ways = [way for way in ("posix_local", "deb_system", "posix_prefix") if way in it.get_scheme_names()]; \
     found = [it.get_path("purelib", way, vars={"base": given}).replace("/local/local/", "/local/") for way in ways]; \
     print(*[at for at in found if at.startswith(given + "/lib/") and at in known][:1] or found[-1:])' $(PREFIX))
-MODULES = $(DESTDIR)$(MODULES_IN)
+MODULES = $(DESTDIR)$(MODULES_IN)/$(notdir $(PACKAGE))
 
 BUILT = $(foreach name,$(PROGRAMS),crates/$(name)/out/$(name))
-SOURCES := crates.txt $(shell find crates -path '*/out' -prune -o -path '*/must-fail' -prune -o -type f -print)
+SOURCES := crates.txt $(shell find crates -path '*/out' -prune -o -path '*/must-fail' -prune -o -type f ! -name README.md -print)
 
 all: programs library
 
 programs: $(BUILT)
 
-library: $(SHARED) $(if $(PYTHON_HEADERS),$(EXTENSION))
+library: $(SHARED) $(LOADED) $(PACKAGE)/ansi_events.h $(if $(PYTHON_HEADERS),$(EXTENSION))
 
 ifeq ($(PYTHON_HEADERS),)
 ifneq ($(filter all library install,$(or $(MAKECMDGOALS),all)),)
@@ -62,23 +80,43 @@ $(ARCHIVE): $(SOURCES)
 	cd crates/ansi && rt lib
 	touch $@
 
-# (rt writes to no folder with links, so here the name has no version; the Python package finds it so.)
+# (rt writes to no folder with links, so here the name has no version. Two makes may build one file at once.)
 $(SHARED): $(ARCHIVE)
-	$(CC) -shared -Wl,-soname,libansi.so.$(MAJOR) -o $@ \
-	    -Wl,--whole-archive $(ARCHIVE) -Wl,--no-whole-archive
+	$(CC) -shared -Wl,-soname,libansi.so.$(MAJOR) -o $@.$$$$ \
+	    -Wl,--whole-archive $(ARCHIVE) -Wl,--no-whole-archive && mv $@.$$$$ $@
 
-# (two makes may build it at once)
-$(EXTENSION): examples/ansi/_events.c include/ansi_events.h
-	$(CC) -std=c99 -O2 -fPIC -shared -Iinclude -isystem $(PYTHON_HEADERS) -o $@.$$$$ $< && mv $@.$$$$ $@
+$(LOADED): $(SHARED)
+	cp $< $@.$$$$ && mv $@.$$$$ $@
+
+# (beside the extension, so that setuptools finds it wherever the package's folder goes)
+$(PACKAGE)/ansi_events.h: include/ansi_events.h
+	cp $< $@.$$$$ && mv $@.$$$$ $@
+
+$(EXTENSION): $(PACKAGE)/_events.c $(PACKAGE)/ansi_events.h
+	$(CC) -std=c99 -O2 -fPIC -shared -isystem $(PYTHON_HEADERS) -o $@.$$$$ $< && mv $@.$$$$ $@
+
+# (what an earlier wheel was made of would go into this one too)
+wheel: library
+	rm -rf bindings/python/build
+	$(PYTHON) -m pip wheel --no-deps $(WHEEL_BY) --config-settings=--build-option=--plat-name=$(WHEEL_FOR) \
+	    --wheel-dir bindings/python/dist ./bindings/python
 
 check:
-	sh .ci/run
+	$(PYTHON) tests/side_by_side.py 'rt ci' $(TESTS)
+
+mutants:
+	$(PYTHON) mutants/try $(CRATE)
 
 install: all
-	$(INSTALL) -d $(BIN) $(LIB)/pkgconfig $(HEADERS) $(MAN)/man1 $(MAN)/man3 $(MODULES)/ansi
+	$(INSTALL) -d $(BIN) $(LIB)/pkgconfig $(HEADERS) $(MAN)/man1 $(MAN)/man3 $(MODULES) $(BASH) $(ZSH) $(FISH)
 	for name in $(PROGRAMS); do \
 	    $(INSTALL) crates/$$name/out/$$name $(BIN)/$$name && \
 	    $(INSTALL) -m 644 man/$$name.1 $(MAN)/man1/$$name.1 || exit 1; \
+	done
+	for name in $(COMPLETED); do \
+	    $(INSTALL) -m 644 completions/$$name.bash $(BASH)/$$name && \
+	    $(INSTALL) -m 644 completions/$$name.zsh $(ZSH)/_$$name && \
+	    $(INSTALL) -m 644 completions/$$name.fish $(FISH)/$$name.fish || exit 1; \
 	done
 	for name in $(INTERFACES); do \
 	    $(INSTALL) -m 644 include/$$name.h $(HEADERS)/$$name.h && \
@@ -89,24 +127,21 @@ install: all
 	ln -sf libansi.so.$(VERSION) $(LIB)/libansi.so.$(MAJOR)
 	ln -sf libansi.so.$(MAJOR) $(LIB)/libansi.so
 	sed 's|@PREFIX@|$(PREFIX)|; s|@VERSION@|$(VERSION)|' include/ansi.pc.in > $(LIB)/pkgconfig/ansi.pc
-	for name in $(PACKAGE); do \
-	    sed -e 's|^PLACES = .*|PLACES = ["$(PREFIX)/lib/libansi.so.$(MAJOR)"]|' \
-	        -e 's|^COMPILED = .*|COMPILED = [os.path.join(_here, "$(notdir $(EXTENSION))")]|' \
-	        examples/ansi/$$name > $(MODULES)/ansi/$$name && chmod 644 $(MODULES)/ansi/$$name || exit 1; \
-	done
-	$(if $(PYTHON_HEADERS),$(INSTALL) $(EXTENSION) $(MODULES)/ansi/$(notdir $(EXTENSION)))
+	for name in $(SOURCES_OF_PACKAGE); do $(INSTALL) -m 644 $(PACKAGE)/$$name $(MODULES)/$$name || exit 1; done
+	ln -sf "$$(realpath --relative-to=$(MODULES) $(LIB))/libansi.so.$(MAJOR)" $(MODULES)/$(notdir $(LOADED))
+	$(if $(PYTHON_HEADERS),$(INSTALL) $(EXTENSION) $(MODULES)/$(notdir $(EXTENSION)))
 	chmod 644 $(LIB)/pkgconfig/ansi.pc
 	@$(PYTHON) -c '$(LOOKS_IN) \
 	    given in known or print("$(PYTHON) does not look in %s: PYTHONPATH has to name it." % given)' $(MODULES_IN)
 
 uninstall:
 	for name in $(PROGRAMS); do rm -f $(BIN)/$$name $(MAN)/man1/$$name.1; done
+	for name in $(COMPLETED); do rm -f $(BASH)/$$name $(ZSH)/_$$name $(FISH)/$$name.fish; done
 	for name in $(INTERFACES); do rm -f $(HEADERS)/$$name.h $(MAN)/man3/$$name.3; done
 	rm -f $(LIB)/libansi.a $(LIB)/pkgconfig/ansi.pc
 	rm -f $(LIB)/libansi.so $(LIB)/libansi.so.$(MAJOR) $(LIB)/libansi.so.$(VERSION)
-	for name in $(PACKAGE); do rm -f $(MODULES)/ansi/$$name; done
-	rm -f $(MODULES)/ansi/$(notdir $(EXTENSION))
-	rm -rf $(MODULES)/ansi/__pycache__
-	if [ -d $(MODULES)/ansi ]; then rmdir --ignore-fail-on-non-empty $(MODULES)/ansi; fi
+	for name in $(SOURCES_OF_PACKAGE) $(notdir $(LOADED) $(EXTENSION)); do rm -f $(MODULES)/$$name; done
+	rm -rf $(MODULES)/__pycache__
+	if [ -d $(MODULES) ]; then rmdir --ignore-fail-on-non-empty $(MODULES); fi
 
-.PHONY: all programs library check install uninstall
+.PHONY: all programs library wheel check mutants install uninstall

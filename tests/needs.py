@@ -1,0 +1,8 @@
+"""What scripts of this folder do where a program that they need is not there."""
+
+import os
+
+
+def left_out(name, why="it is not there"):
+    """A case that is left out, and says why: where the variable CI is true that is a failure."""
+    return "%s: left out, %s" % (name, why), "it must be there" if os.environ.get("CI") == "true" else None

@@ -409,8 +409,8 @@ static PyType_Slot slots[] = {
     {0, NULL},
 };
 
-static PyType_Spec reader_spec = {"ansi._events.Reader", sizeof(Reader), 0, Py_TPFLAGS_DEFAULT | Py_TPFLAGS_HAVE_GC,
-                                  slots};
+static PyType_Spec reader_spec = {"ansi_proved._events.Reader", sizeof(Reader), 0,
+                                  Py_TPFLAGS_DEFAULT | Py_TPFLAGS_HAVE_GC, slots};
 
 static int add_reader(PyObject *module)
 {

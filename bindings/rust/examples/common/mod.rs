@@ -1,15 +1,7 @@
-//! Writes standard input as HTML, to standard output: a fragment for a `<pre>`.
-//!
-//! Usage: page [BYTES]     takes 1 to 4096 bytes at once, 4096 with no word
-//!
-//! What comes is handed on before more is waited for, so a line is seen when it is written. Ends
-//! with status 1 where reading or writing fails, with 2 for other words, and says so.
+//! What filter and page share: the word that they are given, and a loop that reads, converts and writes.
 
-mod ansi;
-
-use ansi::{Converter, Styling};
 use std::env;
-use std::io::{self, ErrorKind, Read, Write};
+use std::io::{self, ErrorKind, Read, StdoutLock, Write};
 use std::process::ExitCode;
 
 const MOST: usize = 4096;
@@ -24,8 +16,10 @@ fn most() -> Option<usize> {
     (words.next().is_none() && (1..=MOST).contains(&most)).then_some(most)
 }
 
-fn convert(most: usize) -> io::Result<()> {
-    let mut converter = Converter::new(Styling::Both);
+/// What writes to standard output, of a piece that was read or, of `None`, of the end.
+pub type Convert<'a> = &'a mut dyn FnMut(Option<&[u8]>, &mut StdoutLock) -> io::Result<()>;
+
+fn convert_all(most: usize, convert: Convert) -> io::Result<()> {
     let mut bytes = [0; MOST];
     let (mut input, mut output) = (io::stdin().lock(), io::stdout().lock());
     loop {
@@ -35,22 +29,23 @@ fn convert(most: usize) -> io::Result<()> {
             Err(error) if error.kind() == ErrorKind::Interrupted => continue,
             Err(error) => return Err(error),
         };
-        converter.convert(&bytes[..count], |html| output.write_all(html))?;
+        convert(Some(&bytes[..count]), &mut output)?;
         output.flush()?;
     }
-    converter.end(|html| output.write_all(html))?;
+    convert(None, &mut output)?;
     output.flush()
 }
 
-fn main() -> ExitCode {
+/// Converts standard input piece by piece, each before more is waited for; answers the status, and says why it is not 0.
+pub fn run(name: &str, convert: Convert) -> ExitCode {
     let Some(most) = most() else {
-        eprintln!("usage: page [BYTES]     BYTES is 1 to {MOST}");
+        eprintln!("usage: {name} [BYTES]     BYTES is 1 to {MOST}");
         return ExitCode::from(2);
     };
-    match convert(most) {
+    match convert_all(most, convert) {
         Ok(()) => ExitCode::SUCCESS,
         Err(error) => {
-            eprintln!("page: {error}");
+            eprintln!("{name}: {error}");
             ExitCode::FAILURE
         }
     }

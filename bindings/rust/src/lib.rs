@@ -2,10 +2,30 @@
 //!
 //! [`strip`] and [`to_html`] take the whole, [`Stripper`] and [`Converter`] a stream that comes in pieces;
 //! [`events`] takes pieces, and is an iterator.
-//! What is not called is not linked.
-#![allow(dead_code)] // (a program may use one of them alone)
+//!
+//! ```
+//! use ansi_proved::{strip, to_html, Event, Styling};
+//!
+//! assert_eq!(strip("\x1b[31mred\x1b[0m <b>"), "red <b>");
+//! assert_eq!(
+//!     to_html("\x1b[1mred\x1b[0m <b>", Styling::Both),
+//!     "<span style=\"font-weight:bold;\">red</span> &lt;b&gt;",
+//! );
+//! let titles = ansi_proved::events([b"\x1b]0;ti".as_slice(), b"tle\x07"]).filter_map(|event| match event {
+//!     Event::Osc(parts, _) if parts[0] == b"0" => Some(parts[1..].join(&b';')),
+//!     _ => None,
+//! });
+//! assert_eq!(titles.collect::<Vec<_>>(), [b"title"]);
+//! ```
+//!
+//! What is not called is not linked. No `std` is needed, but an allocator: `Stripper` and `Converter` take no memory.
+#![no_std]
 
-use std::convert::Infallible;
+extern crate alloc;
+
+use alloc::string::String;
+use alloc::vec::{self, Vec};
+use core::convert::Infallible;
 
 #[derive(Clone, Debug)]
 #[repr(C)]
@@ -85,6 +105,46 @@ const END_ROOM: usize = 7;
 const EVENTS: usize = 1024;
 const EVENTS_ROOM: usize = 16384;
 
+/// A call of the library that takes bytes from the front of a piece, by a stream's state, and writes into a room.
+type Feed<State> = unsafe extern "C" fn(
+    state: *mut State,
+    piece: *const u8,
+    count: usize,
+    room: *mut u8,
+    size: usize,
+    taken: *mut usize,
+    written: *mut usize,
+) -> bool;
+
+/// Feeds all of the piece, and hands on what each call writes.
+fn feed_all<State, E>(
+    feed: Feed<State>,
+    state: &mut State,
+    mut piece: &[u8],
+    room: &mut [u8],
+    mut write: impl FnMut(&[u8]) -> Result<(), E>,
+) -> Result<(), E> {
+    while !piece.is_empty() {
+        let (mut taken, mut written) = (0, 0);
+        // The references are to memory of their own, and none of them is kept.
+        let is_fed = unsafe {
+            feed(
+                state,
+                piece.as_ptr(),
+                piece.len(),
+                room.as_mut_ptr(),
+                room.len(),
+                &mut taken,
+                &mut written,
+            )
+        };
+        assert!(is_fed, "the room is too small for any byte");
+        piece = &piece[taken..];
+        write(&room[..written])?;
+    }
+    Ok(())
+}
+
 /// A stream that is stripped, which goes on with each piece. A clone goes on from where it was cloned.
 #[derive(Clone, Debug)]
 pub struct Stripper(StripState);
@@ -108,29 +168,10 @@ impl Stripper {
     /// fails, what was not handed on is lost, and the stream goes on after it.
     pub fn strip<E>(
         &mut self,
-        mut piece: &[u8],
-        mut write: impl FnMut(&[u8]) -> Result<(), E>,
+        piece: &[u8],
+        write: impl FnMut(&[u8]) -> Result<(), E>,
     ) -> Result<(), E> {
-        let mut room = [0; STRIP_ROOM];
-        while !piece.is_empty() {
-            let (mut taken, mut written) = (0, 0);
-            // The references are to memory of their own, and none of them is kept.
-            let is_fed = unsafe {
-                ansi_strip_feed(
-                    &mut self.0,
-                    piece.as_ptr(),
-                    piece.len(),
-                    room.as_mut_ptr(),
-                    room.len(),
-                    &mut taken,
-                    &mut written,
-                )
-            };
-            assert!(is_fed, "the room is too small for any byte");
-            piece = &piece[taken..];
-            write(&room[..written])?;
-        }
-        Ok(())
+        feed_all(ansi_strip_feed, &mut self.0, piece, &mut [0; STRIP_ROOM], write)
     }
 }
 
@@ -164,29 +205,10 @@ impl Converter {
     /// fails, what was not handed on is lost, and the stream goes on after it.
     pub fn convert<E>(
         &mut self,
-        mut piece: &[u8],
-        mut write: impl FnMut(&[u8]) -> Result<(), E>,
+        piece: &[u8],
+        write: impl FnMut(&[u8]) -> Result<(), E>,
     ) -> Result<(), E> {
-        let mut room = [0; HTML_ROOM];
-        while !piece.is_empty() {
-            let (mut taken, mut written) = (0, 0);
-            // The references are to memory of their own, and none of them is kept.
-            let is_fed = unsafe {
-                ansi_html_feed(
-                    &mut self.0,
-                    piece.as_ptr(),
-                    piece.len(),
-                    room.as_mut_ptr(),
-                    room.len(),
-                    &mut taken,
-                    &mut written,
-                )
-            };
-            assert!(is_fed, "the room is too small for any byte");
-            piece = &piece[taken..];
-            write(&room[..written])?;
-        }
-        Ok(())
+        feed_all(ansi_html_feed, &mut self.0, piece, &mut [0; HTML_ROOM], write)
     }
 
     /// Hands on what closes the HTML. Then a stream begins, in the same styling.
@@ -263,7 +285,7 @@ pub struct Sequence {
 pub struct Events<I> {
     pieces: I,
     state: StripState,
-    ready: std::vec::IntoIter<Event>,
+    ready: vec::IntoIter<Event>,
 }
 
 /// The events of a stream in pieces. Those of a piece come before the next piece is asked for, and are the same
@@ -356,7 +378,7 @@ fn groups(bytes: &[u8]) -> Vec<Vec<u16>> {
     for field in bytes.chunks_exact(3) {
         group.push(u16::from_le_bytes([field[0], field[1]]));
         if field[2] == 0 {
-            groups.push(std::mem::take(&mut group));
+            groups.push(core::mem::take(&mut group));
         }
     }
     groups

@@ -4,21 +4,17 @@ import ctypes
 import os
 
 FEW = 1024  # bytes of a whole that goes through what an earlier one went through
-VARIABLE = "ANSI_LIBRARY"  # names the library, in place of PLACES
-_here = os.path.dirname(os.path.abspath(__file__))
-# `make install` puts the place where it installs the library here.
-PLACES = [os.path.join(_here, "libansi.so"), os.path.normpath(_here + "/../../crates/ansi/out/libansi.so")]
+VARIABLE = "ANSI_LIBRARY"  # names another library in place of this
+PLACE = os.path.join(os.path.dirname(os.path.abspath(__file__)), "libansi.so")
 
 
 def load():
-    """The library, or an ImportError in words."""
+    """The library that stands beside this file, or that the variable names; or an ImportError in words."""
     named = os.environ.get(VARIABLE)
-    place = named or next(filter(os.path.exists, PLACES), None)
-    if place is None:
-        words = " and ".join(PLACES), VARIABLE
-        raise ImportError("libansi.so is not at %s: `make library` builds it, or %s names it" % words)
+    if not named and not os.path.exists(PLACE):
+        raise ImportError("libansi.so is not at %s: `make library` puts it there, or %s names it" % (PLACE, VARIABLE))
     try:
-        return ctypes.CDLL(place)
+        return ctypes.CDLL(named or PLACE)
     except OSError as error:
         which = "the library that %s names" % VARIABLE if named else "the library"
         raise ImportError("%s cannot be loaded: %s" % (which, error)) from error
@@ -62,11 +58,19 @@ def address_of(piece):
     return ctypes.c_void_p.from_buffer(ctypes.c_char_p(piece)).value
 
 
+def iterated(stream):
+    """The pieces of a stream one after another, as they are."""
+    try:
+        return iter(stream)
+    except TypeError as error:
+        raise TypeError("the pieces are a list or a file, and not " + type(stream).__name__) from error
+
+
 def pieces_of(stream):
     """The bytes of each piece of a stream."""
     if isinstance(stream, (bytes, bytearray, memoryview, str)):
         raise TypeError("the pieces are a list or a file, and not one " + type(stream).__name__)
-    return map(bytes_of, iter(stream))
+    return map(bytes_of, iterated(stream))
 
 
 def exact(text):

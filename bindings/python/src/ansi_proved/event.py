@@ -1,16 +1,13 @@
 """Terminal output as events: ansi_events.h, for Python."""
 
 import ctypes
-import os
 import re
 import struct
 import sys
-from importlib.machinery import ExtensionFileLoader
-from importlib.util import module_from_spec, spec_from_loader
 from itertools import chain
 from typing import NamedTuple, Tuple
 
-from .library import FEW, Idle, _here, address_of, bytes_of, function
+from .library import FEW, Idle, address_of, bytes_of, function, iterated
 from .text import State
 
 MOST = 16384  # bytes that one call is given at most
@@ -245,26 +242,11 @@ def _bytes_of(piece):
     return piece.encode("utf-8", "surrogatepass") if isinstance(piece, str) else bytes_of(piece)
 
 
-# What makes the same events in C (_events.c): beside this file, or where `make library` leaves it; `make install` takes
-# the latter away.
-COMPILED = [os.path.join(_here, "_events.abi3.so"), os.path.normpath(_here + "/../../crates/ansi/out/_events.abi3.so")]
+try:  # what makes the same events in C, where it was built
+    from ._events import Reader as _CompiledReader
+except ImportError:
+    _CompiledReader = None
 
-
-def _compiled():
-    """The iterator that is compiled, or None where it is not there or cannot be loaded."""
-    place = next(filter(os.path.exists, COMPILED), None)
-    if place is None:
-        return None
-    loader = ExtensionFileLoader(__package__ + "._events", place)
-    try:
-        module = module_from_spec(spec_from_loader(loader.name, loader))
-        loader.exec_module(module)
-    except ImportError:
-        return None
-    return getattr(module, "Reader", None)
-
-
-_CompiledReader = _compiled()
 IS_COMPILED = _CompiledReader is not None  # whether events are made by it
 # What it takes behind the pieces: the address of the function, and for each kind a class or the events that there are.
 _MADE = Text, tuple(map(Execute, range(256))), Hook, PUTS, Unhook(), Osc, Csi, Esc
@@ -280,9 +262,9 @@ def events(stream):
     """
     if IS_COMPILED:
         is_whole = isinstance(stream, (str, bytes, bytearray, memoryview))
-        return _CompiledReader(iter((_bytes_of(stream),)) if is_whole else map(_bytes_of, iter(stream)), *_REST)
+        return _CompiledReader(iter((_bytes_of(stream),)) if is_whole else map(_bytes_of, iterated(stream)), *_REST)
     if not isinstance(stream, (str, bytes, bytearray, memoryview)):
-        return chain.from_iterable(_events_of(iter(stream)))
+        return chain.from_iterable(_events_of(iterated(stream)))
     piece = _bytes_of(stream)
     if len(piece) > FEW:
         return chain.from_iterable(_events_of([piece]))

@@ -1,0 +1,125 @@
+//! The calls of the package, as a user makes them: of wholes, of streams in pieces, and where a writer fails.
+
+use ansi_proved::{events, strip, to_html, Converter, Event, Sequence, Stripper, Styling};
+use std::convert::Infallible;
+
+const STREAM: &[u8] = b"\x1b[31mhi\x1b[0m \xe2\x82\xac<b>\x07\n";
+const LIGHT: &str = "<span style=\"color:#cf222e;\">hi</span> \u{20ac}&lt;b&gt;\n";
+
+/// A writer that takes all.
+fn into(all: &mut Vec<u8>) -> impl FnMut(&[u8]) -> Result<(), Infallible> + '_ {
+    |part| {
+        all.extend_from_slice(part);
+        Ok(())
+    }
+}
+
+/// A writer that takes nothing and is content.
+fn nowhere(_: &[u8]) -> Result<(), Infallible> {
+    Ok(())
+}
+
+fn csi(parameters: &[&[u16]], action: u8) -> Event {
+    Event::Csi(Sequence {
+        parameters: parameters.iter().map(|group| group.to_vec()).collect(),
+        intermediates: Vec::new(),
+        ignored: false,
+        action,
+    })
+}
+
+#[test]
+fn wholes() {
+    assert_eq!(strip(STREAM), "hi \u{20ac}<b>\n");
+    assert_eq!(strip("\x1b[1mplain"), "plain");
+    assert_eq!(to_html(STREAM, Styling::Light), LIGHT);
+}
+
+#[test]
+fn stylings_are_others() {
+    let made = [Styling::Both, Styling::Light, Styling::Dark, Styling::Classes].map(|it| to_html("\x1b[31ma", it));
+    assert_eq!(made[0], "<span style=\"color:#cf222e;color:light-dark(#cf222e,#ff7b72);\">a</span>");
+    assert_eq!(made[1], "<span style=\"color:#cf222e;\">a</span>");
+    assert!(made[2].contains("color:#ff7b72"), "{}", made[2]);
+    assert!(made[3].contains("class="), "{}", made[3]);
+}
+
+#[test]
+fn pieces_are_one_stream() {
+    for size in 1..STREAM.len() {
+        let (mut text, mut page) = (Vec::new(), Vec::new());
+        let (mut stripper, mut converter) = (Stripper::new(), Converter::new(Styling::Light));
+        for piece in STREAM.chunks(size) {
+            stripper.strip(piece, into(&mut text)).unwrap();
+            converter.convert(piece, into(&mut page)).unwrap();
+        }
+        converter.end(into(&mut page)).unwrap();
+        assert_eq!(text, "hi \u{20ac}<b>\n".as_bytes());
+        assert_eq!(page, LIGHT.as_bytes());
+    }
+}
+
+#[test]
+fn behind_an_end_a_stream_begins_in_the_same_styling() {
+    let mut converter = Converter::new(Styling::Light);
+    for _ in 0..2 {
+        let mut page = Vec::new();
+        converter.convert(b"1m\x1b[31mhi\x1b[3", into(&mut page)).unwrap();
+        converter.end(into(&mut page)).unwrap();
+        assert_eq!(String::from_utf8(page).unwrap(), "1m<span style=\"color:#cf222e;\">hi</span>");
+    }
+}
+
+#[test]
+fn a_clone_goes_on_from_where_it_was_cloned() {
+    let mut stripper = Stripper::default();
+    stripper.strip(b"\x1b]0;ti", nowhere).unwrap();
+    let (mut clone, mut text) = (stripper.clone(), Vec::new());
+    stripper.strip(b"\x18\x1bP", nowhere).unwrap();
+    clone.strip(b"tle\x07text", into(&mut text)).unwrap();
+    assert_eq!(text, b"text");
+}
+
+#[test]
+fn the_error_of_a_writer_comes_back_and_the_stream_goes_on() {
+    let mut stripper = Stripper::new();
+    assert_eq!(stripper.strip(b"lost\x1b[3", |_| Err("full")), Err("full"));
+    let mut text = Vec::new();
+    stripper.strip(b"1mkept", into(&mut text)).unwrap();
+    assert_eq!(text, b"kept");
+}
+
+#[test]
+fn events_of_each_kind() {
+    let stream = b"a\n\x1b[38:2:9;1m\x1b(B\x1b]0;one;two\x07\x1bP1qx\x1b\\".as_slice();
+    let sequence = |intermediates: &[u8], action| Sequence {
+        parameters: Vec::new(),
+        intermediates: intermediates.to_vec(),
+        ignored: false,
+        action,
+    };
+    let hook = Sequence { parameters: vec![vec![1]], ..sequence(b"", b'q') };
+    let wanted = [
+        Event::Text("a".into()),
+        Event::Execute(b'\n'),
+        csi(&[&[38, 2, 9], &[1]], b'm'),
+        Event::Esc(sequence(b"(", b'B')),
+        Event::Osc(vec![b"0".to_vec(), b"one".to_vec(), b"two".to_vec()], true),
+        Event::Hook(hook),
+        Event::Put(b'x'),
+        Event::Unhook,
+        Event::Esc(sequence(b"", b'\\')),
+    ];
+    assert_eq!(events([stream]).collect::<Vec<_>>(), wanted);
+    assert_eq!(events(stream.chunks(1)).collect::<Vec<_>>(), wanted);
+}
+
+#[test]
+fn events_come_before_more_is_asked_for() {
+    let mut asked = 0;
+    let mut found = events([b"\x1b[1".as_slice(), b"mA", b"B"].into_iter().inspect(|_| asked += 1));
+    assert_eq!(found.next(), Some(csi(&[&[1]], b'm')));
+    assert_eq!(found.next(), Some(Event::Text("A".into())));
+    drop(found);
+    assert_eq!(asked, 2);
+}

@@ -1,0 +1,11 @@
+# The options and files of ansi2html, for fish.
+complete -c ansi2html -l page -d 'write a whole page'
+complete -c ansi2html -l title -x -d 'write a whole page with this title'
+complete -c ansi2html -l light -d 'colours for light pages alone'
+complete -c ansi2html -l dark -d 'colours for dark pages alone'
+complete -c ansi2html -l classes -d 'attributes class in place of style'
+complete -c ansi2html -l stylesheet -d 'write the stylesheet of these classes'
+complete -c ansi2html -l shown -d 'write what a terminal of 80x24 showed'
+complete -c ansi2html -s o -l output -r -F -d 'write to this file in place of standard output'
+complete -c ansi2html -s h -l help -d 'say what it does'
+complete -c ansi2html -l version -d 'say which version it is'

@@ -1,4 +1,4 @@
--- The calls of bytes print characters, so what is left of them is UTF-8.
+-- Lawful calls print characters, so what is left of them is UTF-8.
 use Rattle.std.proofs.Common.{◌≡◌, ◌<◌, ℕ, Bool, true, false, ltb, leb, le-leb, List, [], ◌∷◌, ◌++◌, refl, ⊎_elim, arith}
 use Rattle.std.specs.Prelude.{if◌then◌else◌}
 use Rattle.std.specs.Char.{IsScalar}
@@ -8,14 +8,9 @@ use Rattle.std.proofs.lemmas.Bool.{or_cases, lt-ltb, le-ltb}
 use Rattle.std.proofs.lemmas.Str.{IsUtf8-append, IsUtf8-nil, IsUtf8-encode}
 use Rattle.anstyle_parse.specs.Stream.Bytes.{is_within}
 use Rattle.anstyle_parse.specs.Stream.Call.{Call, print, execute, hook, put, unhook, osc_dispatch, csi_dispatch, esc_dispatch}
-use Rattle.anstyle_parse.specs.Stream.Calls.{AreCalls, Continues}
-use Rattle.anstyle_parse.specs.Machine.Decoder.{decoded}
-use Rattle.anstyle_parse.specs.Machine.Step.{new_machine, machine_calls}
-use Rattle.anstyle_parse.specs.Laws.Lawful.{is_character, AreLawfulFrom}
+use Rattle.anstyle_parse.specs.Laws.Lawful.{is_character, AreLawful, AreLawfulFrom}
 use Rattle.anstyle_parse.proofs.Characters.Encoding.{within_parts}
 use Rattle.anstyle_parse.proofs.Characters.Layout.{IsUtf8-layout}
-use Rattle.anstyle_parse.proofs.Lawful.Calls.{lawful}
-use Rattle.anstyle_parse.proofs.Agreement.Whole.{AreCalls-machine}
 use Rattle.ansi_strip.specs.Strip.{is_layout, stripped_call, stripped}
 
 -- a call whose text can be shown: a printed character is one
@@ -89,14 +84,12 @@ AreShowable-after : (first calls : List Call) → AreShowable (first ++ calls) �
 AreShowable-after [] calls are = are
 AreShowable-after (call ∷ first) calls are = AreShowable-after first calls are.1
 
--- the text of bytes, and of those that continue others
-pub IsUtf8-calls : (bytes : List ℕ) (calls : List Call) → AreCalls bytes calls → IsUtf8 (stripped calls)
-IsUtf8-calls bytes calls are = IsUtf8-stripped calls (AreShowable-lawful false calls (lawful bytes calls are))
+-- the text of lawful calls, and of the later of them
+pub IsUtf8-lawful : (calls : List Call) → AreLawful calls → IsUtf8 (stripped calls)
+IsUtf8-lawful calls lawful = IsUtf8-stripped calls (AreShowable-lawful false calls lawful)
 
-pub AreShowable-continued : (before bytes : List ℕ) (calls : List Call) → Continues before bytes calls → AreShowable calls
-AreShowable-continued before bytes calls continues =
-    let first = machine_calls decoded before (new_machine []) in
-    AreShowable-after first calls (AreShowable-lawful false (first ++ calls) (lawful (before ++ bytes) (first ++ calls) (continues first (AreCalls-machine before))))
+pub AreShowable-later : (first calls : List Call) → AreLawful (first ++ calls) → AreShowable calls
+AreShowable-later first calls lawful = AreShowable-after first calls (AreShowable-lawful false (first ++ calls) lawful)
 
-pub IsUtf8-continued : (before bytes : List ℕ) (calls : List Call) → Continues before bytes calls → IsUtf8 (stripped calls)
-IsUtf8-continued before bytes calls continues = IsUtf8-stripped calls (AreShowable-continued before bytes calls continues)
+pub IsUtf8-later : (first calls : List Call) → AreLawful (first ++ calls) → IsUtf8 (stripped calls)
+IsUtf8-later first calls lawful = IsUtf8-stripped calls (AreShowable-later first calls lawful)

@@ -5,7 +5,7 @@ ghost use Rattle.anstyle_parse.specs.Stream.Call.{Call};
 ghost use Rattle.anstyle_parse.specs.Stream.Calls.{AreCalls, Continues};
 ghost use Rattle.ansi_strip.specs.Strip.{is_left, IsClean, stripped};
 
-use anstyle_parse::laws::{bounds, calls_are_lawful, replay};
+use anstyle_parse::laws::{bounds, calls_are_lawful, calls_of_bytes, replay};
 
 /// Nothing but text is left: a parser that reads stripped text makes exactly those calls that
 /// were left, and so no other.
@@ -36,7 +36,10 @@ pub fn stripped_utf8()
         → IsUtf8 (stripped calls) }
     ensures piece { (before bytes : List ℕ) (calls : List Call) → Continues before bytes calls
         → IsUtf8 (stripped calls) }
-{}
+{
+    calls_are_lawful();
+    calls_of_bytes();
+}
 
 /// No text is lost: well-formed UTF-8 with no C0 control but tab, line feed and carriage return is
 /// left as it is, byte for byte.
@@ -50,7 +53,9 @@ pub fn clean_text()
 pub fn piece_length()
     ensures { (before bytes : List ℕ) (calls : List Call) → Continues before bytes calls
         → length (stripped calls) ≤ 3 * length bytes + 1 }
-{}
+{
+    bounds();
+}
 
 /// A stream may be cut before any ESC byte, and its parts stripped apart: what is left of the
 /// first part with an ESC after it, and then what is left of the rest, which begins with that ESC,
@@ -62,4 +67,6 @@ pub fn cut_before_escape()
         → AreCalls (before ++ escape_byte ∷ []) first → AreCalls (escape_byte ∷ bytes) rest
         → AreCalls (before ++ escape_byte ∷ bytes) whole
         → stripped whole ≡ stripped first ++ stripped rest }
-{}
+{
+    calls_of_bytes();
+}

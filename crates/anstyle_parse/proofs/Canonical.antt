@@ -8,6 +8,7 @@ pub mod Twice
 pub mod Bounds
 pub mod FieldsBound
 pub mod Length
+pub mod TextLength
 pub mod Bytes
 pub mod DebugText
 pub mod Written

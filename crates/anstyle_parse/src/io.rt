@@ -4,6 +4,7 @@ mod buffer;
 mod devices;
 mod engine;
 mod output;
+mod texts;
 
 pub use buffer::Buffer;
 pub use devices::{FromRead, FromWrite, Sink, Source};
@@ -12,6 +13,7 @@ pub use engine::{
     write_calls_by,
 };
 pub use output::Output;
+pub use texts::perform_texts_to_end;
 
 /// What went wrong with a reader or a writer.
 #[derive(Debug, Clone, Copy, PartialEq, Eq)]

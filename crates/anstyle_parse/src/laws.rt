@@ -14,6 +14,7 @@ ghost use Rattle.anstyle_parse.specs.Views.CanonWriter.{output_of};
 ghost use Rattle.anstyle_parse.specs.Stream.Characters.{is_proper_front, IsProperFront};
 ghost use Rattle.anstyle_parse.specs.Stream.Items.{Item, IsDivision};
 ghost use Rattle.anstyle_parse.specs.Laws.Lawful.{AreLawful, AreMade};
+ghost use Rattle.anstyle_parse.specs.Laws.TextLength.{text_length};
 ghost use Rattle.anstyle_parse.specs.Io.Output.{Adds};
 ghost use Rattle.anstyle_parse.specs.Machine.Step.{machine_calls};
 ghost use Rattle.anstyle_parse.specs.Views.Parser.{machine_of, IsAfter, IsAfterAscii};
@@ -94,6 +95,13 @@ pub fn counted<P: Perform>()
         → count last ≡ min limit (count first + length calls) }
 {}
 
+/// Bytes make one list of calls, and no other.
+pub fn calls_of_bytes()
+    ensures some { (bytes : List ℕ) → (calls : List Call) × AreCalls bytes calls }
+    ensures only { (bytes : List ℕ) (calls others : List Call) → AreCalls bytes calls
+        → AreCalls bytes others → others ≡ calls }
+{}
+
 /// Lawful exactly: the calls that bytes make are a lawful list, and every lawful list is made
 /// by some bytes.
 pub fn lawful_exactly()
@@ -130,11 +138,16 @@ pub fn canonical_again()
 
 /// Bounds: bytes make at most as many calls as they are, and the canonical text of these is at
 /// most three times as long.
+///
+/// A piece, whatever bytes came before it, leads to at most three bytes of text for each of its
+/// own, and one more: where its first byte ends a character of four that was begun before.
 pub fn bounds()
     ensures calls { (bytes : List ℕ) (calls : List Call) → AreCalls bytes calls
         → length calls ≤ length bytes }
     ensures text { (bytes : List ℕ) (calls : List Call) → AreCalls bytes calls
         → length (canon calls) ≤ 3 * length bytes }
+    ensures piece { (before bytes : List ℕ) (calls : List Call) → Continues before bytes calls
+        → sum_by text_length calls ≤ 3 * length bytes + 1 }
 {}
 
 /// By a list of calls a canonical writer adds their canonical text: all of it, or where the

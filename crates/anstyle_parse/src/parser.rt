@@ -6,7 +6,6 @@ mod command;
 mod header;
 mod runs;
 mod step;
-mod stored;
 mod texts;
 
 ghost use Rattle.std.specs.Prelude.{◌≡◌, ◌≤◌, ◌<◌, ℕ, List, false, length};

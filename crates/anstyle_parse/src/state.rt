@@ -1,6 +1,8 @@
 //! The states and actions of the parser, and its transition table.
 mod definitions;
 mod table;
+#[cfg(test)]
+mod tests;
 
 ghost use Rattle.std.specs.Prelude.{◌≡◌, ◌<◌};
 ghost use Rattle.anstyle_parse.specs.Machine.State.{state_number, action_number};
@@ -20,9 +22,17 @@ pub fn state_change(state: State, byte: u8) -> (State, Action)
     ensures state { result.0 ≡ (change_at state byte).state }
     ensures action { result.1 ≡ (change_at state byte).action }
 {
-    let cell = table::row(state)[byte as usize];
+    let anywhere = table::row(State::Anywhere)[byte as usize];
+    let cell = if anywhere == NO_CHANGE {
+        table::row(state)[byte as usize]
+    } else {
+        anywhere
+    };
     unpack(cell)
 }
+
+/// The cell of a byte that a row does not name.
+const NO_CHANGE: u8 = 0x00;
 
 /// The new state and the action of a cell.
 #[inline(always)]

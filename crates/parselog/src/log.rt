@@ -1,19 +1,18 @@
 //! One line for each call of the parser.
 ghost use Rattle.std.specs.Prelude.{◌≡◌, ◌++◌, [], ◌∷◌, ◌<◌, ℕ, List, ⊤, None, OnOk, map, refl};
-ghost use Rattle.parselog.specs.Lines.{line, lines, hex_digit, hex_list, truth, parts_text, end_text, line_header, newline};
+ghost use Rattle.parselog.specs.Lines.{line, lines, hex_digit, hex_byte, hex_list, four_digits, character_number, truth, parts_text, end_text, line_header, newline};
 ghost use Rattle.anstyle_parse.specs.Stream.Call.{Call, print, execute, hook, put, unhook, osc_dispatch, csi_dispatch, esc_dispatch};
 ghost use Rattle.anstyle_parse.specs.declared.io.output.Output.{Output as AnOutput};
 ghost use Rattle.anstyle_parse.specs.Io.Output.{Adds, Finishes, writer_in, fault_in};
 
 use anstyle_parse::canon::{CallWriter, Fault, Output, Sink, WritingPerformer};
 use anstyle_parse::{Params, Perform, PerformText};
-use arrayvec::ArrayVec;
 
 /// Writes a line for each call.
 ///
-/// Nothing is collected and no memory is taken: what a call says goes straight to the writer,
-/// in several writes, which a [`Buffer`](anstyle_parse::canon::Buffer) before it makes few. A
-/// write that fails stops the log: nothing more is written, and the fault is kept.
+/// Nothing is collected and no memory is taken: each part of a line goes to the writer as it is
+/// made, in several writes, which a [`Buffer`](anstyle_parse::canon::Buffer) before it makes few.
+/// A write that fails stops the log: nothing more is written, and the fault is kept.
 #[derive(Drop)]
 pub struct LogWriter<W> {
     output: Output<W>,
@@ -61,18 +60,18 @@ fn digit(number: u32) -> u8
     DIGITS[(number % 16) as usize]
 }
 
-/// The line of a character whose number has four digits.
+/// The last four hexadecimal digits of a number, and the end of a line.
 #[inline(always)]
-fn four_digit_line(n: u32) -> [u8; 13]
-    requires { n < 0x10000 }
-    ensures { result ≡ line (print n) }
+fn last_digits(number: u32) -> [u8; 5]
+    ensures { result ≡ four_digits number ++ newline ∷ [] }
 {
-    let mut line = *b"print U+0000\n";
-    line[8] = digit(n / 0x1000);
-    line[9] = digit(n / 0x100);
-    line[10] = digit(n / 0x10);
-    line[11] = digit(n);
-    line
+    [
+        digit(number / 0x1000),
+        digit(number / 0x100),
+        digit(number / 0x10),
+        digit(number),
+        b'\n',
+    ]
 }
 
 impl<W: Sink> Perform for LogWriter<W> {
@@ -81,35 +80,13 @@ impl<W: Sink> Perform for LogWriter<W> {
     ghost means = { λ old call new. Adds W.Sink (line call) (output_of old) (output_of new) };
 
     fn print(&mut self, c: char) {
-        let n = u32::from(c);
-        if n < 0x1_0000 {
-            self.output.put(&four_digit_line(n));
-        } else if n < 0x10_0000 {
-            let mut line = *b"print U+00000\n";
-            line[8] = digit(n / 0x1_0000);
-            line[9] = digit(n / 0x1000);
-            line[10] = digit(n / 0x100);
-            line[11] = digit(n / 0x10);
-            line[12] = digit(n);
-            self.output.put(&line);
-        } else {
-            let mut line = *b"print U+000000\n";
-            line[8] = digit(n / 0x10_0000);
-            line[9] = digit(n / 0x1_0000);
-            line[10] = digit(n / 0x1000);
-            line[11] = digit(n / 0x100);
-            line[12] = digit(n / 0x10);
-            line[13] = digit(n);
-            self.output.put(&line);
-        }
+        self.output.put(b"print U+");
+        put_number(&mut self.output, c);
     }
 
     fn execute(&mut self, byte: u8) {
-        let n = u32::from(byte);
-        let mut line = *b"execute 00\n";
-        line[8] = digit(n / 16);
-        line[9] = digit(n);
-        self.output.put(&line);
+        self.output.put(b"execute ");
+        put_last_byte(&mut self.output, byte);
     }
 
     fn hook(&mut self, params: &Params, intermediates: &[u8], ignore: bool, action: u8) {
@@ -117,11 +94,8 @@ impl<W: Sink> Perform for LogWriter<W> {
     }
 
     fn put(&mut self, byte: u8) {
-        let n = u32::from(byte);
-        let mut line = *b"put 00\n";
-        line[4] = digit(n / 16);
-        line[5] = digit(n);
-        self.output.put(&line);
+        self.output.put(b"put ");
+        put_last_byte(&mut self.output, byte);
     }
 
     fn unhook(&mut self) {
@@ -145,22 +119,7 @@ impl<W: Sink> Perform for LogWriter<W> {
     }
 }
 
-/// The bytes of lines that are put together at most.
-const TOGETHER: usize = 256;
-
-/// The line of an ASCII character.
-#[inline(always)]
-fn ascii_line(n: u32) -> [u8; 13]
-    requires { n < 0x80 }
-    ensures { result ≡ line (print n) }
-{
-    let mut line = *b"print U+0000\n";
-    line[10] = digit(n / 0x10);
-    line[11] = digit(n);
-    line
-}
-
-/// The lines of a text's characters are put together and then written, several at once.
+/// A text is a line for each of its characters.
 impl<W: Sink> PerformText for LogWriter<W> {
     ghost use Rattle.anstyle_parse.specs.Io.Output.{AddsTexts};
     ghost use Rattle.anstyle_parse.specs.Io.AddingProof.{AddsTexts-none, AddsTexts-one, AddsTexts-more};
@@ -168,45 +127,11 @@ impl<W: Sink> PerformText for LogWriter<W> {
 
     ghost receives = { AddsTexts W.Sink output_of line };
 
-    fn print_text(&mut self, text: &str) {
-        let mut lines = ArrayVec::<u8, TOGETHER>::new();
-        for c in text.chars() {
-            let n = u32::from(c);
-            if n < 0x80 {
-                self.put_together(&mut lines, &ascii_line(n));
-            } else if n < 0x1_0000 {
-                self.put_together(&mut lines, &four_digit_line(n));
-            } else {
-                self.output.put(lines.as_slice());
-                lines.clear();
-                self.print(c);
-            }
-        }
-        self.output.put(lines.as_slice());
-    }
-
     ghost receives_none = { AddsTexts-none W.Sink output_of line };
 
     ghost receives_one = { AddsTexts-one W.Sink output_of line };
 
     ghost receives_more = { AddsTexts-more W.Sink output_of line };
-}
-
-impl<W: Sink> LogWriter<W> {
-    ghost use Rattle.parselog.specs.Log.{Holds, output_of};
-
-    /// A line more, behind those that are put together. Where it finds no room they are written.
-    #[inline(always)]
-    fn put_together(&mut self, lines: &mut ArrayVec<u8, TOGETHER>, line: &[u8; 13])
-        ensures { (before : AnOutput W) (text : List ℕ) → Holds W.Sink before text (output_of self.old) lines.old.items
-            → Holds W.Sink before (text ++ line.now) (output_of self.new) lines.new.items }
-    {
-        if lines.try_extend_from_slice(line).is_err() {
-            self.output.put(lines.as_slice());
-            lines.clear();
-            let _ = lines.try_extend_from_slice(line);
-        }
-    }
 }
 
 /// The lines have no ending.
@@ -283,6 +208,27 @@ fn truth_text(value: bool) -> &'static [u8]
     ensures { result.now ≡ truth value }
 {
     if value { b"true" } else { b"false" }
+}
+
+/// A character's number, in at least four digits, and the end of a line.
+fn put_number<W: Sink>(output: &mut Output<W>, c: char)
+    ensures { Adds W.Sink (character_number c ++ newline ∷ []) output.old output.new }
+{
+    let n = u32::from(c);
+    if n >= 0x10_0000 {
+        output.put(&[digit(n / 0x10_0000), digit(n / 0x1_0000)]);
+    } else if n >= 0x1_0000 {
+        output.put_byte(digit(n / 0x1_0000));
+    }
+    output.put(&last_digits(n));
+}
+
+/// A byte in two digits, and the end of a line.
+fn put_last_byte<W: Sink>(output: &mut Output<W>, byte: u8)
+    ensures { Adds W.Sink (hex_byte byte ++ newline ∷ []) output.old output.new }
+{
+    let n = u32::from(byte);
+    output.put(&[digit(n / 16), digit(n), b'\n']);
 }
 
 /// Bytes in hexadecimal, with nothing between them, and `-` where there are none.

@@ -1,8 +1,9 @@
-//! The words of the program: the modes that its arguments name.
+//! The words of the program: the modes that its arguments name, and what it says of faults.
 ghost use Rattle.std.specs.Prelude.{◌≡◌, option_copied};
-ghost use Rattle.parselog.specs.Words.{mode_of};
+ghost use Rattle.parselog.specs.Words.{mode_of, message_of};
 
 use crate::run::Mode;
+use anstyle_parse::canon::Fault;
 
 /// The mode that the arguments name: `first` is the first, and `more` says whether a second
 /// came. No argument means [`Mode::Log`], as the one argument `log` does, and the one
@@ -24,5 +25,16 @@ pub fn mode(first: Option<&str>, more: bool) -> Option<Mode>
                 None
             }
         }
+    }
+}
+
+/// What the program says of a fault, as a whole line without its line feed.
+pub fn message(fault: Fault) -> &'static str
+    ensures { result.now ≡ message_of fault }
+{
+    match fault {
+        Fault::Read => "parselog: read failed",
+        Fault::Write => "parselog: write failed",
+        Fault::Flush => "parselog: flush failed",
     }
 }

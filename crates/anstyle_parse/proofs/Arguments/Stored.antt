@@ -1,6 +1,7 @@
 -- The text of an operating system command, stored at once.
 use Rattle.std.proofs.Common.{◌≡◌, ℕ, ◌+◌, ◌<◌, ◌≤◌, IsTrue, List, [], ◌∷◌, ◌++◌, length, take, drop, ⊎_elim, inl, inr, ap, sym, ◌∙◌, arith, append_assoc, length-append}
-use Rattle.std.specs.Prelude.{nat_le, not, ◌==◌}
+use Rattle.std.specs.Prelude.{nat_le, not, ◌==◌, Result, Ok, Err}
+use Rattle.std.specs.Result.{IsOk, OnOk}
 use Rattle.std.proofs.lemmas.Bool.{and_parts, leb-true, eqb-false, not-true}
 use Rattle.std.proofs.lemmas.List.{append-nil, take-append-le, drop-append-le}
 use Rattle.anstyle_parse.specs.declared.state.definitions.State.TheVariants.{OscString}
@@ -14,6 +15,11 @@ use Rattle.anstyle_parse.specs.Stream.Items.{EachIs}
 use Rattle.anstyle_parse.proofs.Arguments.Lengths.{cut_same}
 use Rattle.anstyle_parse.proofs.Machine.Steps.{storing-other}
 use Rattle.anstyle_parse.proofs.Machine.Runs.{step-stored}
+
+-- what holds with an Ok holds where there is one
+pub on_ok : {T E : Type 0} (P : Type 0) (result : Result T E) → IsOk result → OnOk result P → P
+on_ok P (Ok x) ok holds = holds
+on_ok P (Err e) ok holds = absurd (cc)
 
 -- a text with more after it is cut as before
 module _ (text lengths more : List ℕ) (parts closed : ℕ) (summed : total (take parts lengths) ≡ closed) (within : closed ≤ length text) where

@@ -40,7 +40,7 @@ same_header h k =
 
 abbrev same_command : Command → Command → Bool
 same_command c d =
-    bytes_eq c.text d.text && (bytes_eq c.lengths d.lengths && (eqb c.parts d.parts && eqb c.closed d.closed))
+    bytes_eq c.text.items d.text.items && (bytes_eq c.lengths d.lengths && (eqb c.parts d.parts && eqb c.closed d.closed))
 
 abbrev pub same_fields : Parser Utf8Parser → Parser Utf8Parser → Bool
 same_fields a b =
@@ -101,7 +101,7 @@ texting_of-same c d same =
     let c0 = and_parts _ _ same in
     let c1 = and_parts _ _ c0.1 in
     let c2 = and_parts _ _ c1.1 in
-    let text : c.text ≡ d.text = (bytes_eq-Decides c.text d.text).0 c0.0 in
+    let text : c.text.items ≡ d.text.items = (bytes_eq-Decides c.text.items d.text.items).0 c0.0 in
     let lengths : c.lengths ≡ d.lengths = (bytes_eq-Decides c.lengths d.lengths).0 c1.0 in
     let parts : c.parts ≡ d.parts = eqb-true _ _ c2.0 in
     let closed : c.closed ≡ d.closed = eqb-true _ _ c2.1 in

@@ -163,6 +163,6 @@ IsWithinLimits-parser p numbers =
     record {
       fields = omega (arith, h.params.in_range, field_total h.params.open_fields h.params.len h.params.starts h.params.numbers h.params.open_within (omega (arith, h.params.in_range, numbers)) h.params.first_starts);
       collected = omega (arith, length-take h.intermediate_count h.intermediates, h.few_intermediates);
-      stored = omega (arith, t.text_fits, stored_total t.text t.lengths t.parts t.closed t.closed_parts t.parts_in_text);
-      parts = omega (arith, length-cut (take t.parts t.lengths) t.text, length-take t.parts t.lengths, t.few_parts);
+      stored = omega (arith, t.text_fits, stored_total t.text.items t.lengths t.parts t.closed t.closed_parts t.parts_in_text);
+      parts = omega (arith, length-cut (take t.parts t.lengths) t.text.items, length-take t.parts t.lengths, t.few_parts);
     }

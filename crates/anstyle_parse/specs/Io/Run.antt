@@ -10,6 +10,7 @@ use Rattle.anstyle_parse.specs.declared.io.output.Output.{Output}
 use Rattle.anstyle_parse.specs.declared.io.engine.Stop.TheVariants.{AtEnd, AtFault, AtRead}
 use Rattle.anstyle_parse.specs.Stream.Call.{Call}
 use Rattle.anstyle_parse.specs.Stream.Calls.{AreCalls, HasReceived}
+use Rattle.anstyle_parse.specs.Stream.Texts.{HasReceivedTexts}
 use Rattle.anstyle_parse.specs.Io.Output.{AppendsPrefix, fault_in}
 
 -- the reads of one run at most
@@ -36,6 +37,14 @@ pub record PerformsToEnd {R P T : Type 0} (source : SourceOf R) (means : P → C
   pub read : List ℕ
   pub consumed : Consumes (source.remaining reader) (source.remaining reader_after) read
   pub received : HasReceived means performer read performer_after
+  pub ends : EndsAs answer (IsTrue source.zero_is_end → IsAtEnd (source.remaining reader_after)) (source.has_failed reader) (source.has_failed reader_after) (length read)
+
+-- The same by what lists of calls do to the performer.
+pub record PerformsTextsToEnd {R P T : Type 0} (source : SourceOf R) (receives : P → List Call → P → Type 0)
+    (reader reader_after : R) (performer performer_after : P) (answer : Result T Fault) : Type 0 where
+  pub read : List ℕ
+  pub consumed : Consumes (source.remaining reader) (source.remaining reader_after) read
+  pub received : HasReceivedTexts receives performer read performer_after
   pub ends : EndsAs answer (IsTrue source.zero_is_end → IsAtEnd (source.remaining reader_after)) (source.has_failed reader) (source.has_failed reader_after) (length read)
 
 -- A new parser was given what the reader gave, and its performer received the calls.

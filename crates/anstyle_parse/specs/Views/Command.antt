@@ -9,8 +9,8 @@ use Rattle.anstyle_parse.specs.Machine.Step.{Machine, new_machine, stored_count}
 
 abbrev pub texting_of : Command → Machine ⊤
 texting_of command = record (new_machine tt) {
-  closed_parts = cut (take command.parts command.lengths) command.text;
-  open_part = drop command.closed command.text;
+  closed_parts = cut (take command.parts command.lengths) command.text.items;
+  open_part = drop command.closed command.text.items;
 }
 
 -- Plain text from the front of the bytes, for which there is room, is stored behind the open part.

@@ -11,7 +11,7 @@ use crate::parser::Parser;
 use crate::perform::{Perform, PerformText};
 
 /// The bytes that one read is asked for.
-const PIECE: usize = 4096;
+pub(super) const PIECE: usize = 4096;
 
 /// Why no more was read.
 #[derive(Debug, Clone, Copy, PartialEq, Eq)]

@@ -4,13 +4,16 @@ ghost use Rattle.anstyle_parse.specs.Stream.Groups.{total, cut};
 ghost use Rattle.anstyle_parse.specs.Stream.Arguments.{max_osc_bytes, max_osc_parts};
 ghost use Rattle.anstyle_parse.specs.Stream.Items.{EachIs};
 ghost use Rattle.anstyle_parse.specs.Stream.Bytes.{is_plain_text};
+ghost use Rattle.arrayvec.specs.ArrayVec.{array_vec_len};
 
-use super::stored::Stored;
 use crate::chunks::{CHUNK, unplain};
 use crate::controls::SPACE;
+use arrayvec::ArrayVec;
 use std::alloc::AllocError;
 use std::simd::prelude::*;
 
+/// The bytes of a command that are stored at most.
+const MAX_OSC_RAW: usize = 1024;
 /// The parts of a command at most.
 pub(super) const MAX_OSC_PARTS: usize = 16;
 
@@ -18,7 +21,7 @@ pub(super) const MAX_OSC_PARTS: usize = 16;
 #[derive(Debug, PartialEq, Eq, Drop)]
 pub(super) struct Command {
     /// The text, without its separators.
-    text: Stored,
+    text: ArrayVec<u8, MAX_OSC_RAW>,
     /// How long each closed part of it is.
     lengths: [usize; MAX_OSC_PARTS],
     /// How many parts are closed, and how many bytes those have.
@@ -26,8 +29,8 @@ pub(super) struct Command {
     closed: usize,
     ghost few_parts: { parts ≤ max_osc_parts },
     ghost closed_parts: { total (take parts lengths) ≡ closed },
-    ghost parts_in_text: { closed ≤ length text },
-    ghost text_fits: { length text ≤ max_osc_bytes },
+    ghost parts_in_text: { closed ≤ array_vec_len text },
+    ghost text_fits: { array_vec_len text ≤ max_osc_bytes },
 }
 
 impl Command {
@@ -39,7 +42,7 @@ impl Command {
         ensures { texting_of result ≡ new_machine tt }
     {
         Command {
-            text: Stored::new(),
+            text: ArrayVec::new(),
             lengths: [0; MAX_OSC_PARTS],
             parts: 0,
             closed: 0,
@@ -54,8 +57,10 @@ impl Clone for Command {
 
     /// The same value; it never fails.
     fn clone(&self) -> Result<Command, AllocError> {
+        let mut text = ArrayVec::new();
+        let _ = text.try_extend_from_slice(self.text.as_slice());
         Ok(Command {
-            text: self.text.clone()?,
+            text,
             lengths: self.lengths,
             parts: self.parts,
             closed: self.closed,
@@ -117,7 +122,7 @@ impl Command {
         let room = self.text.remaining_capacity().min(bytes.len());
         let (near, _) = bytes.split_at(room);
         let (plain, rest) = bytes.split_at(plain_length(near));
-        self.text.extend(near, plain.len());
+        let _ = self.text.try_extend_from_slice(plain);
         rest
     }
 }

@@ -12,9 +12,6 @@ use crate::controls::BELL;
 use crate::perform::Perform;
 use crate::state::{Action, State, state_change};
 
-/// A command has mostly no more parts: such as a title has two, and a link three.
-const FEW_PARTS: usize = 4;
-
 /// One byte, inside a character or outside.
 impl<C: CharAccumulator> Parser<C> {
     ghost use Rattle.std.specs.Prelude.{IsTrue, ◌↔◌};
@@ -85,9 +82,14 @@ impl<C: CharAccumulator> Parser<C> {
         ensures calls { Goes P.means performer.old
             (step_calls_from C.taken state byte (machine_of self.old)) performer.new }
     {
+        let (next, action) = state_change(state, byte);
+        // Mostly the state is kept: only where it is left is it asked what is done on the way out.
+        if next == State::Anywhere {
+            self.perform_action(performer, action, byte);
+            return;
+        }
         let exit = exit_action(state);
-        let (state, action) = state_change(state, byte);
-        self.change_state(performer, exit, state, action, byte);
+        self.change_state(performer, exit, next, action, byte);
     }
 
     /// A byte outside a character, of which the table's answer is known, in a state that is left
@@ -233,11 +235,7 @@ impl<C: CharAccumulator> Parser<C> {
     {
         self.command.close_part();
         let (text, lengths) = self.command.text();
-        if lengths.len() <= FEW_PARTS {
-            dispatch_few(performer, text, lengths, byte == BELL);
-        } else {
-            dispatch_many(performer, text, lengths, byte == BELL);
-        }
+        dispatch(performer, text, lengths, byte == BELL);
     }
 
     /// The first byte of a character.
@@ -255,31 +253,9 @@ impl<C: CharAccumulator> Parser<C> {
     }
 }
 
-/// Dispatches the few parts of a command.
+/// Dispatches the parts of a command, from an array that has room for as many as there may be.
 #[inline(always)]
-fn dispatch_few<P: Perform>(
-    performer: &mut P,
-    text: &[u8],
-    lengths: &[usize],
-    bell_terminated: bool,
-)
-    requires few { length lengths.now ≤ 4 }
-    requires within { total lengths.now ≤ length text.now }
-    ensures { Goes P.means performer.old (osc_dispatch (cut lengths.now text.now) bell_terminated ∷ []) performer.new }
-{
-    let mut parts: [&[u8]; FEW_PARTS] = [&[]; FEW_PARTS];
-    set_parts(&mut parts, text, lengths);
-    performer.osc_dispatch(&parts[..lengths.len()], bell_terminated);
-}
-
-/// The same with up to sixteen parts. It is out of line: a function pays for the size of its locals at each entry.
-#[inline(never)]
-fn dispatch_many<P: Perform>(
-    performer: &mut P,
-    text: &[u8],
-    lengths: &[usize],
-    bell_terminated: bool,
-)
+fn dispatch<P: Perform>(performer: &mut P, text: &[u8], lengths: &[usize], bell_terminated: bool)
     requires few { length lengths.now ≤ max_osc_parts }
     requires within { total lengths.now ≤ length text.now }
     ensures { Goes P.means performer.old (osc_dispatch (cut lengths.now text.now) bell_terminated ∷ []) performer.new }

@@ -4,10 +4,13 @@ use super::failing::Failing;
 use super::lines::{lines_of, parser_after};
 use anstyle_parse::canon::{Fault, FromWrite, MAX_CHECKPOINT, checkpoint};
 use arrayvec::ArrayVec;
+use std::io::ErrorKind;
 use std::process::Abort;
+use test_streams::{Paper, TROUBLES};
 
-// Where a writer has no more room, what went there is the front of the text, and nothing is flushed.
-fn assert_cut_off(rt: &impl Abort, history: &[u8], text: &[u8], room: usize) {
+// Where a writer has no more room, what went there is the front of the text, and nothing is flushed:
+// so it is with a writer of std that has an error of either kind then, or takes 0.
+fn assert_cut_off(rt: &(impl Abort + AllocGlobal), history: &[u8], text: &[u8], room: usize) {
     let parser = parser_after(history);
     let (sink, answer) = checkpoint(&parser, Failing::new(room, 7, false));
     assert!(rt;
@@ -18,16 +21,32 @@ fn assert_cut_off(rt: &impl Abort, history: &[u8], text: &[u8], room: usize) {
         Some(sink.taken.as_slice()) == text.get(..room),
         "{history:?}, room {room}"
     );
-    let (sink, answer) = checkpoint(&parser, FromWrite::new(Failing::new(room, 7, false)));
-    let sink = sink.into_inner();
+    for trouble in TROUBLES {
+        let paper = Paper::narrow(rt.alloc(), room, trouble);
+        let (writer, answer) = checkpoint(&parser, FromWrite::new(paper));
+        let paper = writer.into_inner();
+        assert!(rt;
+            answer == Err(Fault::Write) && paper.flushes == 0,
+            "{history:?}, room {room}, {trouble:?}"
+        );
+        assert!(rt;
+            Some(paper.text.as_slice()) == text.get(..room),
+            "{history:?}, room {room}, {trouble:?}"
+        );
+    }
+}
+
+// Where a flush of std fails all of the text is written, and it is flushed once.
+fn assert_flush_fails(rt: &(impl Abort + AllocGlobal), history: &[u8], text: &[u8]) {
+    let mut paper = Paper::new(rt.alloc());
+    paper.flush_error = Some(ErrorKind::Other);
+    let (writer, answer) = checkpoint(&parser_after(history), FromWrite::new(paper));
+    let paper = writer.into_inner();
     assert!(rt;
-        answer == Err(Fault::Write) && sink.flushes == 0,
-        "{history:?}, room {room}"
+        answer == Err(Fault::Flush) && paper.flushes == 1,
+        "{history:?}"
     );
-    assert!(rt;
-        Some(sink.taken.as_slice()) == text.get(..room),
-        "{history:?}, room {room}"
-    );
+    assert!(rt; paper.text.as_slice() == text, "{history:?}");
 }
 
 // The checkpoint of a parser, by a writer whose flush goes well or fails: flushed once.
@@ -46,7 +65,12 @@ fn checkpoint_of(rt: &impl Abort, history: &[u8], flush_fails: bool) -> ArrayVec
 
 // What the parser of a history, and one that is resumed from its checkpoint, make of further
 // bytes. Answers how long the checkpoint is.
-fn assert_resumed(rt: &impl Abort, history: &[u8], then: &[u8], lines: &str) -> usize {
+fn assert_resumed(
+    rt: &(impl Abort + AllocGlobal),
+    history: &[u8],
+    then: &[u8],
+    lines: &str,
+) -> usize {
     let text = checkpoint_of(rt, history, false);
     let text = text.as_slice();
     assert!(rt; text.len() <= MAX_CHECKPOINT, "{history:?}");
@@ -54,6 +78,7 @@ fn assert_resumed(rt: &impl Abort, history: &[u8], then: &[u8], lines: &str) -> 
         checkpoint_of(rt, history, true).as_slice() == text,
         "{history:?}"
     );
+    assert_flush_fails(rt, history, text);
     for room in 0..text.len() {
         assert_cut_off(rt, history, text, room);
     }

@@ -3,9 +3,8 @@ ghost use Rattle.std.specs.Prelude.{None};
 
 use anstyle_parse::canon::Sink;
 use arrayvec::ArrayVec;
-use std::io::{self, Write};
 
-/// Takes at most `step` bytes a write, and none past `room`, where it fails or takes 0; its
+/// Takes at most `step` bytes a write, and none past `room`, where it fails; its
 /// flushes go well or fail, and are counted.
 #[derive(Drop)]
 pub struct Failing {
@@ -53,25 +52,5 @@ impl Sink for Failing {
             self.failed = true;
         }
         !self.flush_fails
-    }
-}
-
-// As a writer of std: without room a write takes 0, and only a flush fails.
-impl Write for Failing {
-    fn write(&mut self, bytes: &[u8]) -> io::Result<usize> {
-        let count = bytes.len().min(self.step).min(self.room);
-        if self.taken.try_extend_from_slice(&bytes[..count]).is_err() {
-            return Ok(0);
-        }
-        self.room -= count;
-        Ok(count)
-    }
-
-    fn flush(&mut self) -> io::Result<()> {
-        self.flushes = self.flushes.saturating_add(1);
-        if self.flush_fails {
-            return Err(io::Error::from(io::ErrorKind::Other));
-        }
-        Ok(())
     }
 }

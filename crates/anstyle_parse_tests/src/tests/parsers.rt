@@ -116,17 +116,23 @@ fn ascii_alone(rt: HostRuntime) {
     assert!(rt; lines.text.as_str() == "csi_dispatch [0] - false 6D\n");
 }
 
-// After ESC nothing counts that came before, and yet `==` tells these parsers apart, since
-// the one still stores the text of a command.
+// After ESC nothing counts that came before, once or twice, and yet `==` tells these parsers apart,
+// since the one still stores the text of a command.
 #[test]
 fn unequal_parsers_with_equal_calls(rt: HostRuntime) {
-    let mut character = parser_after(b"\xC3\x1B");
-    let mut command = parser_after(b"\x1B]a\x1B");
-    assert!(rt; character == parser_after(b"\xC3\x1B"));
-    assert!(rt; character != command);
-    let want = "csi_dispatch [0] - false 6D\n";
-    assert!(rt; lines_of(&mut character, b"[m").as_str() == want);
-    assert!(rt; lines_of(&mut command, b"[m").as_str() == want);
+    let histories: [(&[u8], &[u8]); 2] = [
+        (b"\xC3\x1B", b"\x1B]a\x1B"),
+        (b"\xC3\x1B\x1B", b"\x1B]a\x1B\x1B"),
+    ];
+    for (one, other) in histories {
+        let mut character = parser_after(one);
+        let mut command = parser_after(other);
+        assert!(rt; character == parser_after(one));
+        assert!(rt; character != command);
+        let want = "csi_dispatch [0] - false 6D\n";
+        assert!(rt; lines_of(&mut character, b"[m").as_str() == want);
+        assert!(rt; lines_of(&mut command, b"[m").as_str() == want);
+    }
 }
 
 // A clone goes on as the parser that it is of.

@@ -13,7 +13,7 @@ invariant_of-self c =
     record {
       few_parts = omega arith;
       closed_parts = ap (λ n. total (take (p.parts + 1) (set p.lengths p.parts (n - p.closed)))) c.len-end.ensures.value
-          ∙ total_closed p.text p.lengths p.parts p.closed p.closed_parts p.parts_in_text (omega arith) ∙ sym c.len-end.ensures.value;
+          ∙ total_closed p.text.items p.lengths p.parts p.closed p.closed_parts p.parts_in_text (omega arith) ∙ sym c.len-end.ensures.value;
       parts_in_text = omega arith;
       text_fits = p.text_fits;
     }
@@ -22,10 +22,10 @@ pub returns-then-self-lt-MAX_OSC_PARTS : goal.returns-then-self-lt-MAX_OSC_PARTS
 returns-then-self-lt-MAX_OSC_PARTS c =
     let p = c.args.self.now in
     let m = texting_of p in
-    let count : length (cut (take p.parts p.lengths) p.text) ≡ p.parts
-    = parts_count p.text p.lengths p.parts p.closed p.closed_parts p.parts_in_text (omega arith) in
+    let count : length (cut (take p.parts p.lengths) p.text.items) ≡ p.parts
+    = parts_count p.text.items p.lengths p.parts p.closed p.closed_parts p.parts_in_text (omega arith) in
     same_parts m
-    (ap (λ n. cut (take (p.parts + 1) (set p.lengths p.parts (n - p.closed))) p.text) c.len-end.ensures.value
-    ∙ cut_closed p.text p.lengths p.parts p.closed p.closed_parts p.parts_in_text (omega arith))
-    (drop_all c.len-end.result p.text (omega (arith, c.len-end.ensures.value)))
+    (ap (λ n. cut (take (p.parts + 1) (set p.lengths p.parts (n - p.closed))) p.text.items) c.len-end.ensures.value
+    ∙ cut_closed p.text.items p.lengths p.parts p.closed p.closed_parts p.parts_in_text (omega arith))
+    (drop_all c.len-end.result p.text.items (omega (arith, c.len-end.ensures.value)))
     ∙ sym (with_part-room m (λ h. omega (arith, count, h)))

@@ -1,2 +1,4 @@
 pub mod Words
 pub mod Page
+pub mod Sizes
+pub mod Streams

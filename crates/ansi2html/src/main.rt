@@ -1,58 +1,76 @@
-//! Writes the text of standard input, or what a screen showed of it, as HTML, in its colours: a fragment, or a
-//! whole page.
+//! Writes the text of files, or of standard input, or what a screen showed of each, as HTML, in its colours: a
+//! fragment, or a whole page.
 #![tactic(auto)]
 
 mod form;
+mod streams;
 mod words;
 
-use ansi_html::convert;
-use ansi_screen::Screen;
-use anstyle_parse::canon::FromRead;
+use ansi_html::Scheme;
+use each_source::{Stopped, write_each};
 use form::write_stylesheet;
-use screen_html::{LinkMemory, convert_shown};
 use screen_text::{SHOWN, screen_size};
 use standard_streams::{
-    answered, asked_of, buffered, ended_with_reason, failed, given_words, value_of, wrong_size,
+    OUTPUT, Target, answered, asked_of, buffered, failed, given_line, have_failed, inputs, misused,
+    value_of, wrong_size,
 };
 use std::process::ExitCode;
-use words::{HELP, OPTIONS, asks_for_stylesheet, form, scheme, styling, title};
+use streams::{Converting, Showing};
+use words::{HELP, NO_FILES, OPTIONS, asks_for_stylesheet, form, scheme, styling, title};
 
 /// The name at the front of what the program says of failures.
 const PROGRAM: &str = "ansi2html";
 
 fn main(rt: HostRuntime) -> ExitCode {
-    let Ok(words) = given_words(&rt) else {
-        return failed(&rt, PROGRAM, "arguments not read");
+    let line = match given_line(&rt, PROGRAM, OPTIONS) {
+        Ok(line) => line,
+        Err(status) => return status,
     };
-    if let Some(request) = asked_of(words.as_slice(), OPTIONS) {
+    let options = line.options.as_slice();
+    if let Some(request) = asked_of(options, OPTIONS) {
         return answered(&rt, PROGRAM, HELP, request);
     }
-    let Ok(size) = screen_size(value_of(words.as_slice(), SHOWN)) else {
+    let Ok(size) = screen_size(value_of(options, SHOWN)) else {
         return wrong_size(&rt, PROGRAM);
     };
-    let scheme = scheme(words.as_slice());
-    let mut reader = FromRead::new(rt.stdin());
-    let output = buffered(rt.stdout());
-    if asks_for_stylesheet(words.as_slice()) {
-        return ended_with_reason(&rt, PROGRAM, reader, write_stylesheet(scheme, output));
+    let scheme = scheme(options);
+    if asks_for_stylesheet(options) {
+        if !line.files.is_empty() {
+            return misused(&rt, NO_FILES);
+        }
+        return stylesheet(rt, options, scheme);
     }
-    let form = form(words.as_slice());
-    let styling = styling(words.as_slice(), scheme);
-    let Ok(head) = form.head(rt.alloc(), styling, scheme, title(words.as_slice())) else {
+    let styling = styling(options, scheme);
+    let form = form(options);
+    let Ok(head) = form.head(rt.alloc(), styling, scheme, title(options)) else {
         return failed(&rt, PROGRAM, "out of memory");
     };
     let (head, tail) = (head.as_slice(), form.tail());
+    let Ok(mut inputs) = inputs(rt, PROGRAM, line.files.as_slice()) else {
+        return failed(&rt, PROGRAM, "out of memory");
+    };
+    let (target, output) = match Target::open(rt, PROGRAM, value_of(options, OUTPUT)) {
+        Ok(opened) => opened,
+        Err(status) => return status,
+    };
+    let (readers, output) = (inputs.as_mut_slice(), buffered(output));
     let ran = match size {
-        None => convert(styling, head, &mut reader, output, tail),
+        None => write_each(&Converting { styling }, head, readers, output, tail),
         Some(size) => {
-            let Ok(screen) = Screen::new(rt.alloc(), size.columns, size.rows) else {
-                return failed(&rt, PROGRAM, "out of memory");
-            };
-            let Ok(memory) = LinkMemory::new(rt.alloc()) else {
-                return failed(&rt, PROGRAM, "out of memory");
-            };
-            convert_shown(screen, memory, styling, head, &mut reader, output, tail)
+            let showing = Showing::new(rt.alloc(), size, styling);
+            write_each(&showing, head, readers, output, tail)
         }
     };
-    ended_with_reason(&rt, PROGRAM, reader, ran)
+    target.ended(have_failed(inputs.as_slice()), ran)
+}
+
+/// Writes the stylesheet.
+fn stylesheet(rt: HostRuntime, options: &[String], scheme: Scheme) -> ExitCode {
+    match Target::open(rt, PROGRAM, value_of(options, OUTPUT)) {
+        Ok((target, output)) => {
+            let (output, answer) = write_stylesheet(scheme, buffered(output));
+            target.ended(false, (output, answer.map_err(Stopped::AtFault)))
+        }
+        Err(status) => status,
+    }
 }

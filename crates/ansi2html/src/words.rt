@@ -6,7 +6,7 @@ ghost use Rattle.ansi2html.specs.Words.{asks_for_page, form_of, scheme_after, sc
 use crate::form::{Form, TITLE};
 use ansi_html::{Scheme, Styling};
 use screen_text::SHOWN;
-use standard_streams::{has_word, value_of};
+use standard_streams::{OUTPUT, has_word, value_of};
 
 /// The options: `page` is the word of earlier versions.
 pub const OPTIONS: &[&str] = &[
@@ -19,20 +19,25 @@ pub const OPTIONS: &[&str] = &[
     "--stylesheet",
     SHOWN,
     "--shown=",
+    OUTPUT,
 ];
+
+/// What is said where files are named beside `--stylesheet`.
+pub const NO_FILES: &str = "ansi2html: --stylesheet reads no file (see ansi2html --help)";
 
 /// What `--help` says.
 pub const HELP: &str = "\
 usage: ansi2html [--page] [--title=TEXT] [--light | --dark] [--classes]
-                 [--shown | --shown=COLUMNSxROWS] < FILE
-       ansi2html --stylesheet [--light | --dark]
+                 [--shown | --shown=COLUMNSxROWS] [-o FILE] [FILE]..
+       ansi2html --stylesheet [--light | --dark] [-o FILE]
 
-Writes the text of standard input to standard output as HTML, in its colours:
-a fragment, to be put into a <pre> of a page in UTF-8, or a whole page.
-Input is UTF-8. No file is opened: one is given by <.
+Writes the text of files as HTML, in its colours: a fragment, to be put into a <pre>
+of a page in UTF-8, or a whole page. Input is UTF-8. Each file is a stream of its own.
+With no FILE, or for -, standard input is read. Words behind -- name files, whatever
+they begin with.
 
   --page                  write a whole page, light or dark as its reader has it;
-                          so does the word page
+                          so does the word page (a file of that name is ./page)
   --title=TEXT            write a whole page with this title
   --light                 colours for light pages alone
   --dark                  colours for dark pages alone, no lighter than #1e1e1e
@@ -43,12 +48,15 @@ Input is UTF-8. No file is opened: one is given by <.
                           that scrolled off, and what stands there at the end;
                           of its links the last 1,024 that began are kept
   --shown=COLUMNSxROWS    the same of this size, from 2x1 to 1000x1000
-  --help                  say this
+  -o FILE, --output=FILE  write to FILE, in its place once all went well: it is
+                          whole or as it was, and may be one that is read
+  -h, --help              say this
   --version               say which version it is
 
-Examples, a listing as a page, and a build with its progress bars as they ended:
-  ls --color=always | ansi2html --page --title=Files > listing.html
-  ansi2html --page --shown < recording > build.html
+Examples, a log as a page, a listing, and a build with its progress bars as they ended:
+  ansi2html --page -o log.html log
+  ls --color=always | ansi2html --title=Files > listing.html
+  ansi2html --page --shown recording > build.html
 ";
 
 /// The form that the words ask for: a page by `--page`, `page` or a title, and else a fragment.

@@ -1,5 +1,5 @@
 -- The words of the program.
-use Rattle.std.specs.Prelude.{ℕ, Bool, List, codes}
+use Rattle.std.specs.Prelude.{ℕ, Bool, List, [], ◌∷◌, Option, None, Some, codes}
 use Rattle.standard_streams.specs.Options.{has_word}
 
 -- the bytes that draw the screen are asked for where some word is --draw
@@ -9,3 +9,9 @@ asks_to_draw words = has_word (codes "--draw") words
 -- and the updates where some word is --updates
 abbrev pub asks_for_updates : (words : List (List ℕ)) → Bool
 asks_for_updates words = has_word (codes "--updates") words
+
+-- the file that is read: standard input's where none is named, and none where more than one is
+abbrev pub file_of : (files : List (List ℕ)) → Option (List ℕ)
+file_of [] = Some (codes "-")
+file_of (file ∷ []) = Some file
+file_of (file ∷ other ∷ files) = None

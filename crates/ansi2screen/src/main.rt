@@ -1,50 +1,65 @@
-//! Writes what a terminal's screen shows at the end of standard input, as text
+//! Writes what a terminal's screen shows at the end of a file, or of standard input, as text
 //! or as the bytes that draw it; or as input comes, what updates it.
 #![tactic(auto)]
 
 mod words;
 
 use ansi_screen::Screen;
-use anstyle_parse::io::{FromRead, Output, perform_to_end};
+use anstyle_parse::io::{Output, perform_texts_to_end};
+use each_source::Stopped;
 use screen_draw::{Noting, draw, update_to_end};
 use standard_streams::{
-    answered, asked_of, buffered, ended_with_reason, failed, given_words, misused, value_of,
+    Input, OUTPUT, Target, answered, asked_of, buffered, failed, given_line, misused, value_of,
     wrong_size,
 };
 use std::process::ExitCode;
-use words::{BOTH, HELP, OPTIONS, SIZE, asks_for_updates, asks_to_draw, named_size};
+use words::{
+    BOTH, HELP, MORE_FILES, OPTIONS, SIZE, asks_for_updates, asks_to_draw, named_file, named_size,
+};
 
 /// The name at the front of what the program says of failures.
 const PROGRAM: &str = "ansi2screen";
 
 fn main(rt: HostRuntime) -> ExitCode {
-    let Ok(words) = given_words(&rt) else {
-        return failed(&rt, PROGRAM, "arguments not read");
+    let line = match given_line(&rt, PROGRAM, OPTIONS) {
+        Ok(line) => line,
+        Err(status) => return status,
     };
-    if let Some(request) = asked_of(words.as_slice(), OPTIONS) {
+    let options = line.options.as_slice();
+    if let Some(request) = asked_of(options, OPTIONS) {
         return answered(&rt, PROGRAM, HELP, request);
     }
-    let Some(size) = named_size(value_of(words.as_slice(), SIZE)) else {
+    let Some(size) = named_size(value_of(options, SIZE)) else {
         return wrong_size(&rt, PROGRAM);
     };
-    let draws = asks_to_draw(words.as_slice());
-    let updates = asks_for_updates(words.as_slice());
+    let draws = asks_to_draw(options);
+    let updates = asks_for_updates(options);
     if draws && updates {
         return misused(&rt, BOTH);
     }
+    let Some(name) = named_file(line.files.as_slice()) else {
+        return misused(&rt, MORE_FILES);
+    };
     let Ok(mut screen) = Screen::new(rt.alloc(), size.columns, size.rows) else {
         return failed(&rt, PROGRAM, "out of memory");
     };
-    let mut reader = FromRead::new(rt.stdin());
-    let mut output = Output::new(buffered(rt.stdout()));
-    let read = if updates {
-        let Ok(wanted) = Screen::new(rt.alloc(), size.columns, size.rows) else {
+    let mut reader = Input::new(rt, PROGRAM, name);
+    // (of the screen that updates lead to)
+    let mut wanted = None;
+    if updates {
+        let Ok(other) = Screen::new(rt.alloc(), size.columns, size.rows) else {
             return failed(&rt, PROGRAM, "out of memory");
         };
-        let mut wanted = Noting::new(wanted);
-        update_to_end(&mut reader, &mut screen, &mut wanted, &mut output)
-    } else {
-        perform_to_end(&mut reader, &mut screen)
+        wanted = Some(Noting::new(other));
+    }
+    let (target, output) = match Target::open(rt, PROGRAM, value_of(options, OUTPUT)) {
+        Ok(opened) => opened,
+        Err(status) => return status,
+    };
+    let mut output = Output::new(buffered(output));
+    let read = match &mut wanted {
+        Some(wanted) => update_to_end(&mut reader, &mut screen, wanted, &mut output),
+        None => perform_texts_to_end(&mut reader, &mut screen),
     };
     if draws {
         draw(&screen, &mut output);
@@ -52,5 +67,8 @@ fn main(rt: HostRuntime) -> ExitCode {
         screen.write_text(&mut output);
     }
     let (writer, answer) = output.finish();
-    ended_with_reason(&rt, PROGRAM, reader, (writer, read.and(answer)))
+    target.ended(
+        reader.has_failed(),
+        (writer, read.and(answer).map_err(Stopped::AtFault)),
+    )
 }

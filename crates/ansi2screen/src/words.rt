@@ -1,13 +1,13 @@
 //! The words of the program: the size that its options name, and what it says of itself.
 ghost use Rattle.std.specs.Prelude.{◌≡◌, IfSome, map, option_copied, string_bytes};
-ghost use Rattle.ansi2screen.specs.Words.{asks_to_draw, asks_for_updates};
+ghost use Rattle.ansi2screen.specs.Words.{asks_to_draw, asks_for_updates, file_of};
 ghost use Rattle.ansi_screen.specs.Size.{IsNamed, IsTaken};
 
 use ansi_screen::Size;
-use standard_streams::has_word;
+use standard_streams::{OUTPUT, has_word};
 
 /// The options.
-pub const OPTIONS: &[&str] = &[SIZE, DRAW, UPDATES];
+pub const OPTIONS: &[&str] = &[SIZE, DRAW, UPDATES, OUTPUT];
 
 /// What stands before a size.
 pub const SIZE: &str = "--size=";
@@ -22,21 +22,27 @@ const UPDATES: &str = "--updates";
 pub const BOTH: &str =
     "ansi2screen: --draw and --updates are not taken together (see ansi2screen --help)";
 
+/// What is said where more than one file is named.
+pub const MORE_FILES: &str = "ansi2screen: a screen is that of one file (see ansi2screen --help)";
+
 /// What `--help` says.
 pub const HELP: &str = "\
-usage: ansi2screen [--size=COLUMNSxROWS] [--draw | --updates] < FILE
+usage: ansi2screen [--size=COLUMNSxROWS] [--draw | --updates] [-o FILE] [FILE]
 
-Writes what a terminal's screen shows at the end of standard input, as text.
-Input is UTF-8. No file is opened: one is given by <.
+Writes what a terminal's screen shows at the end of a file, as text. Input is UTF-8.
+With no FILE, or for -, standard input is read. A word behind -- names a file,
+whatever it begins with.
 
-  --size=COLUMNSxROWS    the screen's size, from 2x1 to 1000x1000 (80x24)
-  --draw                 write the sequences that make a terminal show it instead
-  --updates              write these as input comes, of what differs alone
-  --help                 say this
-  --version              say which version it is
+  --size=COLUMNSxROWS     the screen's size, from 2x1 to 1000x1000 (80x24)
+  --draw                  write the sequences that make a terminal show it instead
+  --updates               write these as input comes, of what differs alone
+  -o FILE, --output=FILE  write to FILE, in its place once all went well: it is
+                          whole or as it was, and may be the one that is read
+  -h, --help              say this
+  --version               say which version it is
 
 Example, the last screen of a recording:
-  ansi2screen --size=120x40 < recording
+  ansi2screen --size=120x40 recording
 ";
 
 /// Whether the words ask for the bytes that draw the screen.
@@ -61,5 +67,16 @@ pub fn named_size(text: Option<&str>) -> Option<Size>
     match text {
         None => Some(Size::of_a_terminal()),
         Some(text) => Size::parse(text),
+    }
+}
+
+/// The file that is read: standard input where none is named. `None` where more than one is.
+pub fn named_file(files: &[String]) -> Option<&str>
+    ensures { option_copied result ≡ file_of (map string_bytes files.now) }
+{
+    match files {
+        [] => Some("-"),
+        [name] => Some(name.as_str()),
+        _ => None,
     }
 }

@@ -1,41 +1,45 @@
-//! Strips standard input of its escapes, to standard output, or writes what a screen showed of it.
+//! Strips files, or standard input, of their escapes, or writes what a screen showed of each.
 #![tactic(auto)]
 
+mod streams;
 mod words;
 
-use ansi_screen::Screen;
-use ansi_strip::strip;
-use anstyle_parse::io::FromRead;
-use screen_text::{SHOWN, screen_size, write_shown};
+use each_source::write_each;
+use screen_text::{SHOWN, screen_size};
 use standard_streams::{
-    answered, asked_of, buffered, ended_with_reason, failed, given_words, value_of, wrong_size,
+    OUTPUT, Target, answered, asked_of, buffered, failed, given_line, have_failed, inputs,
+    value_of, wrong_size,
 };
 use std::process::ExitCode;
+use streams::{Showing, Stripping};
 use words::{HELP, OPTIONS};
 
 /// The name at the front of what the program says of failures.
 const PROGRAM: &str = "ansi2text";
 
 fn main(rt: HostRuntime) -> ExitCode {
-    let Ok(words) = given_words(&rt) else {
-        return failed(&rt, PROGRAM, "arguments not read");
+    let line = match given_line(&rt, PROGRAM, OPTIONS) {
+        Ok(line) => line,
+        Err(status) => return status,
     };
-    if let Some(request) = asked_of(words.as_slice(), OPTIONS) {
+    let options = line.options.as_slice();
+    if let Some(request) = asked_of(options, OPTIONS) {
         return answered(&rt, PROGRAM, HELP, request);
     }
-    let Ok(size) = screen_size(value_of(words.as_slice(), SHOWN)) else {
+    let Ok(size) = screen_size(value_of(options, SHOWN)) else {
         return wrong_size(&rt, PROGRAM);
     };
-    let mut reader = FromRead::new(rt.stdin());
-    let output = buffered(rt.stdout());
-    let ran = match size {
-        None => strip(&mut reader, output),
-        Some(size) => {
-            let Ok(screen) = Screen::new(rt.alloc(), size.columns, size.rows) else {
-                return failed(&rt, PROGRAM, "out of memory");
-            };
-            write_shown(screen, &mut reader, output)
-        }
+    let Ok(mut inputs) = inputs(rt, PROGRAM, line.files.as_slice()) else {
+        return failed(&rt, PROGRAM, "out of memory");
     };
-    ended_with_reason(&rt, PROGRAM, reader, ran)
+    let (target, output) = match Target::open(rt, PROGRAM, value_of(options, OUTPUT)) {
+        Ok(opened) => opened,
+        Err(status) => return status,
+    };
+    let (readers, output) = (inputs.as_mut_slice(), buffered(output));
+    let ran = match size {
+        None => write_each(&Stripping, b"", readers, output, b""),
+        Some(size) => write_each(&Showing::new(rt.alloc(), size), b"", readers, output, b""),
+    };
+    target.ended(have_failed(inputs.as_slice()), ran)
 }

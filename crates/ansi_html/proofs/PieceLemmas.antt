@@ -21,8 +21,8 @@ use Rattle.anstyle_parse.proofs.Division.Only.{AreCalls-only}
 use Rattle.anstyle_parse.proofs.Machine.Counted.{step_calls_at, answer_calls_at, step_calls-class, counted-step}
 use Rattle.anstyle_parse.proofs.Agreement.Values.{body_value, value_at}
 use Rattle.anstyle_parse.proofs.Agreement.Whole.{value_at-step, counted-counted, machine-division, machine_calls-append, AreCalls-machine}
+use Rattle.anstyle_parse.proofs.Canonical.TextLength.{is_inside, body-inside}
 use Rattle.ansi_strip.specs.Strip.{stripped_call}
-use Rattle.ansi_strip.proofs.PieceLength.{is_inside, body-inside}
 use Rattle.ansi_html.specs.declared.scheme.Styling.{Styling}
 use Rattle.ansi_html.specs.AddingProof.{html_from-append}
 use Rattle.ansi_html.specs.Html.{escaped_text, Standing, is_executed, text_html, call_html, standing_after, html_from, standing_at_end, line_break, beginning, change}

@@ -1,8 +1,8 @@
 -- Cutting wide characters, and characters that are put into a list of cells.
-use Rattle.std.proofs.Common.{◌≡◌, ℕ, suc, ◌+◌, ◌-◌, ◌<◌, ◌≤◌, Bool, true, false, ◌&&◌, List, [], ◌∷◌, length, get_or, take, drop, set, refl, ap, sym, ◌∙◌, arith}
-use Rattle.std.specs.Prelude.{nat_lt}
+use Rattle.std.proofs.Common.{◌≡◌, ℕ, suc, ◌+◌, ◌-◌, ◌<◌, ◌≤◌, Bool, true, false, ◌&&◌, List, [], ◌∷◌, ◌++◌, length, get_or, take, drop, set, refl, ap, sym, ◌∙◌, arith}
+use Rattle.std.specs.Prelude.{nat_lt, replicate}
 use Rattle.std.proofs.lemmas.Bool.{lt-ltb, le-ltb, and_left, and_right}
-use Rattle.std.proofs.lemmas.List.{get_or_default, get_or_past, set_split, drop-drop, drop-set-lt, take_more_set, append_assoc, length-set}
+use Rattle.std.proofs.lemmas.List.{take_at, length-append, length-drop, length-replicate, take-replicate, replicate-append-replicate, get_or_default, get_or_past, set_split, drop-drop, drop-set-lt, take_more_set, append_assoc, length-set}
 use Rattle.ansi_style.specs.Style.{plain}
 use Rattle.ansi_screen.specs.declared.cell.Cell.{Cell}
 use Rattle.ansi_screen.specs.Cells.{blank, emptied, is_right, cell_at, cut, within}
@@ -70,3 +70,18 @@ cut-set-one cells first second place cell e f inside = rw (← e, ← f) (set-on
 pub cut-set-two : (cells first second : List Cell) (place : ℕ) (l r : Cell) → first ≡ cut (place + 2) cells → second ≡ cut place first
     → place + 1 < length second → set (set second place l) (place + 1) r ≡ within place (place + 2) (λ run. l ∷ r ∷ []) (cut place (cut (place + 2) cells))
 cut-set-two cells first second place l r e f inside = rw (← e, ← f) (set-two second place l r inside)
+
+-- where the first cells are blanks, as many more that are copied from these
+pub cleared-more : (n k : ℕ) (space : Cell) (front rest new : List Cell) → k ≤ n → front ≡ replicate n space → new ≡ take k front
+    → take (n + k) (front ++ (new ++ drop k rest)) ≡ replicate (n + k) space
+cleared-more n k space front rest new few blank copied =
+    let more : new ≡ replicate k space = copied ∙ (ap (take k) blank ∙ take-replicate k n space few) in
+    let whole : front ++ new ≡ replicate (n + k) space =
+    ap (λ l. l ++ new) blank ∙ (ap (λ l. replicate n space ++ l) more ∙ replicate-append-replicate n k space) in
+    let long : length (front ++ new) ≡ n + k = ap length whole ∙ length-replicate (n + k) space in
+    ap (take (n + k)) (sym (append_assoc front new (drop k rest))) ∙ (take_at (front ++ new) (drop k rest) (n + k) long ∙ whole)
+
+pub length-copied : (k : ℕ) (cells front rest new : List Cell) → cells ≡ front ++ rest → length new ≡ k → k ≤ length rest
+    → length (front ++ (new ++ drop k rest)) ≡ length cells
+length-copied k cells front rest new parts long few =
+    omega (arith, ap length parts, length-append front rest, length-append front (new ++ drop k rest), length-append new (drop k rest), length-drop k rest, long, few)

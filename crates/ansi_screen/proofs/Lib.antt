@@ -1,4 +1,7 @@
 pub mod CellLemmas
+pub mod RunLemmas
+pub mod PrintedLemmas
+pub mod PartLemmas
 pub mod GridLemmas
 pub mod PairLemmas
 pub mod WholeLemmas

@@ -4,7 +4,7 @@ use Rattle.std.proofs.lemmas.Bool.{and_parts, leb-true, lt-leb, le-leb}
 use Rattle.std.specs.Prelude.{nat_le}
 use Rattle.std.proofs.lemmas.List.{drop_more, drop_all}
 use Rattle.ansi_screen.specs.Ranges.{no_column, two_columns}
-use Rattle.ansi_screen.specs.Widths.{is_among, ends_from}
+use Rattle.ansi_screen.specs.Widths.{is_among, ends_from, columns}
 
 -- each ends past the number from which they ascend
 pub ends-le : (from : ℕ) (ranges : List (ℕ × ℕ)) (k : ℕ) (d : ℕ × ℕ) → ends_from from ranges ≡ true → k < length ranges → from ≤ (get_or ranges k d).1
@@ -58,3 +58,41 @@ no_column-below n small = rw (le-leb n 0x36F (omega arith), lt-leb 0x300 n small
 pub two_columns-below : (n : ℕ) → n < 0x1100 → is_among n two_columns ≡ false
 unfolding is_among
 two_columns-below n small = rw (le-leb n 0x115F (omega arith), lt-leb 0x1100 n small) refl
+
+-- behind one range, and not behind the next
+behind : (n : ℕ) (ranges : List (ℕ × ℕ)) (k : ℕ) → ends_from 0 ranges ≡ true → suc k < length ranges → (get_or ranges k (0, 0)).1 < n
+    → n ≤ (get_or ranges (suc k) (0, 0)).1 → is_among n ranges ≡ nat_le (get_or ranges (suc k) (0, 0)).0 n
+behind n ranges k ascend inside before reached =
+    is_among-drop n 0 ranges k (0, 0) ascend (omega arith) before
+    ∙ is_among-at n ranges (suc k) (suc k) (0, 0) refl inside (λ _. reached)
+
+columns-one : (n : ℕ) → is_among n no_column ≡ false → is_among n two_columns ≡ false → columns n ≡ 1
+unfolding columns
+columns-one n none two = rw (none, two) refl
+
+columns-two : (n : ℕ) → is_among n no_column ≡ false → is_among n two_columns ≡ true → columns n ≡ 2
+unfolding columns
+columns-two n none two = rw (none, two) refl
+
+pub columns-latin : (n : ℕ) → n < 0x300 → columns n ≡ 1
+columns-latin n small = columns-one n (no_column-below n small) (two_columns-below n (omega arith))
+
+pub columns-lines : (n : ℕ) → 0x2500 ≤ n → n ≤ 0x25FC → columns n ≡ 1
+columns-lines n low high =
+    columns-one n (behind n no_column 172 refl (omega arith) (omega arith) (omega arith) ∙ lt-leb 0x2CEF n (omega arith))
+    (behind n two_columns 5 refl (omega arith) (omega arith) (omega arith) ∙ lt-leb 0x25FD n (omega arith))
+
+pub columns-chinese : (n : ℕ) → 0x4E00 ≤ n → n ≤ 0x9FFF → columns n ≡ 2
+columns-chinese n low high =
+    columns-two n (behind n no_column 177 refl (omega arith) (omega arith) (omega arith) ∙ lt-leb 0xA66F n (omega arith))
+    (behind n two_columns 48 refl (omega arith) (omega arith) (omega arith) ∙ le-leb 0x4E00 n low)
+
+pub columns-korean : (n : ℕ) → 0xAC00 ≤ n → n ≤ 0xD7A3 → columns n ≡ 2
+columns-korean n low high =
+    columns-two n (behind n no_column 212 refl (omega arith) (omega arith) (omega arith) ∙ lt-leb 0xFB1E n (omega arith))
+    (behind n two_columns 51 refl (omega arith) (omega arith) (omega arith) ∙ le-leb 0xAC00 n low)
+
+pub columns-faces : (n : ℕ) → 0x1F600 ≤ n → n ≤ 0x1F64F → columns n ≡ 2
+columns-faces n low high =
+    columns-two n (behind n no_column 353 refl (omega arith) (omega arith) (omega arith) ∙ lt-leb 0xE0001 n (omega arith))
+    (behind n two_columns 99 refl (omega arith) (omega arith) (omega arith) ∙ le-leb 0x1F5FB n (omega arith))

@@ -1,8 +1,9 @@
 -- The text of rows, cell by cell and row by row.
-use Rattle.std.proofs.Common.{◌≡◌, ℕ, suc, ◌+◌, ◌<◌, Bool, true, false, List, [], ◌∷◌, ◌++◌, length, get_or, take, refl, ap, sym, ◌∙◌, subst, arith, add-one}
+use Rattle.std.proofs.Common.{◌≡◌, ℕ, suc, ◌+◌, ◌-◌, ◌<◌, ◌≤◌, Bool, true, false, List, [], ◌∷◌, ◌++◌, length, get_or, take, refl, ap, sym, ◌∙◌, subst, arith, add-one}
 use Rattle.std.specs.Prelude.{◌==◌}
 use Rattle.std.specs.List.{flat_map}
 use Rattle.std.proofs.lemmas.Bool.{ne_eqb}
+use Rattle.std.proofs.lemmas.Grind.{flat_map-append}
 use Rattle.std.proofs.lemmas.List.{take_more, length-take-le, flat_map_more, append_assoc}
 use Rattle.anstyle_parse.specs.declared.io.devices.Sink.{Ghosts as SinkOf}
 use Rattle.anstyle_parse.specs.declared.io.output.Output.{Output}
@@ -34,7 +35,27 @@ module _ (is_left_out : Cell → Bool) where
       let front : length (take i cells) ≡ i = length-take-le i cells (omega arith) in
       rw (take_more cells i d inside) (used-push_other (take i cells) (get_or cells i d) other ∙ (ap suc front ∙ sym (add-one i)))
 
+  -- from the end: one cell less, or no less
+  pub used-less : (cells : List Cell) (n : ℕ) (d : Cell) → 0 < n → n ≤ length cells → used is_left_out (take n cells) ≡ used is_left_out cells
+      → is_left_out (get_or cells (n - 1) d) ≡ true → used is_left_out (take (n - 1) cells) ≡ used is_left_out cells
+  used-less cells n d some inside same blank =
+      let back : n - 1 + 1 ≡ n = omega arith in
+      sym (used-more_blank cells (n - 1) d (omega arith) blank) ∙ (ap (λ k. used is_left_out (take k cells)) back ∙ same)
+
+  pub used-end : (cells : List Cell) (n : ℕ) (d : Cell) → 0 < n → n ≤ length cells → used is_left_out (take n cells) ≡ used is_left_out cells
+      → is_left_out (get_or cells (n - 1) d) ≡ false → n ≡ used is_left_out cells
+  used-end cells n d some inside same other =
+      let back : n - 1 + 1 ≡ n = omega arith in
+      sym back ∙ (sym (used-more_other cells (n - 1) d (omega arith) other) ∙ (ap (λ k. used is_left_out (take k cells)) back ∙ same))
+
 module _ {W : Type 0} (sink : SinkOf W) where
+  -- some cells more are written
+  pub Adds-cells : (passed run : List Cell) (text : List ℕ) (a b c : Output W) → Adds sink (flat_map cell_text passed) a b
+      → Adds sink text b c → text ≡ flat_map cell_text run → Adds sink (flat_map cell_text (passed ++ run)) a c
+  Adds-cells passed run text a b c first second is =
+      subst (λ t. Adds sink t a c) (ap (λ t. flat_map cell_text passed ++ t) is ∙ sym (flat_map-append cell_text passed run))
+      (Adds-append sink (flat_map cell_text passed) text a b c first second)
+
   -- one cell more is written
   pub Adds-cell : (run : List Cell) (i : ℕ) (d : Cell) (a b c : Output W) → i < length run
       → Adds sink (flat_map cell_text (take i run)) a b → Adds sink (cell_text (get_or run i d)) b c

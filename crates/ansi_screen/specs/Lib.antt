@@ -6,6 +6,7 @@ pub mod Links
 pub mod Ranges
 pub mod Widths
 pub mod Print
+pub mod Runs
 pub mod Modes
 pub mod Reachable
 pub mod After
@@ -14,3 +15,4 @@ pub mod Size
 pub mod Text
 pub mod Laws
 pub mod Alone
+pub mod TextsProof

@@ -3,6 +3,7 @@ ghost use Rattle.std.specs.Prelude.{◌≡◌, ◌+◌, ◌<◌, ◌≤◌, leng
 ghost use Rattle.ansi_style.specs.Style.{plain};
 ghost use Rattle.ansi_screen.specs.Cells.{blank, marked_before, going_on, within, change, erased, moved_back, moved_on, deleted, inserted};
 ghost use Rattle.ansi_screen.specs.Print.{glyph};
+ghost use Rattle.ansi_screen.specs.Runs.{with_glyphs};
 
 use crate::cell::Cell;
 use crate::runs;
@@ -10,10 +11,14 @@ use ansi_style::Style;
 use std::alloc::{AllocError, Global};
 use std::marker::Model;
 
+/// How many cells there are beside those of two windows: the window of a small screen moves through them, and seldom
+/// goes back to the front.
+const SPARE: usize = 16384;
+
 /// Cells, of which a window is shown. Where all rows scroll up, the window moves instead of them.
 #[derive(Drop)]
 pub(crate) struct Grid {
-    /// Twice as many as are shown.
+    /// Twice as many as are shown, and `SPARE` more.
     memory: Vec<Cell>,
     /// Where those that are shown begin.
     start: usize,
@@ -45,7 +50,7 @@ impl Grid {
         ensures { IfOk result (λ grid. grid ≡ replicate size (blank plain)) }
     {
         let blank = Cell::blank(Style::default());
-        let memory = Vec::from_elem(alloc, blank, 2 * size)?;
+        let memory = Vec::from_elem(alloc, blank, 2 * size + SPARE)?;
         Ok(Grid {
             memory,
             start: 0,
@@ -142,6 +147,19 @@ impl Grid {
         runs::put(shown, place, columns, c, style, link);
     }
 
+    /// Printed ASCII, a character in each cell from `place` on, in a link or in none.
+    #[inline]
+    pub(crate) fn put_run(&mut self, place: usize, run: &[u8], style: Style, link: u32)
+        requires some { 0 < length run.now }
+        requires within { place + length run.now ≤ length self.old }
+        ensures cells { self.new ≡ with_glyphs place run.now style link self.old }
+        ensures length { length self.new ≡ length self.old }
+    {
+        self.is_written = true;
+        let shown = &mut self.memory.as_mut_slice()[self.start..self.start + self.size];
+        runs::put_run(shown, place, run, style, link);
+    }
+
     /// A mark of the character that stands before `place`.
     pub(crate) fn mark_before(&mut self, place: usize, mark: char)
         requires some { 0 < place }
@@ -234,5 +252,5 @@ fn clear(cells: &mut [Cell], start: usize, end: usize, blank: Cell)
     requires within { end ≤ length cells.old }
     ensures { cells.new ≡ within start end (erased blank) cells.old }
 {
-    cells[start..end].fill(blank);
+    runs::clear(&mut cells[start..end], blank);
 }

@@ -6,7 +6,8 @@ ghost use Rattle.ansi_screen.specs.Leaving.{TakesRows, first_rows};
 use crate::cell::Cell;
 use crate::display::Display;
 use crate::screen::Screen;
-use anstyle_parse::{Params, Perform};
+use crate::texts::{PutRuns, print_by_runs};
+use anstyle_parse::{Params, Perform, PerformText};
 
 /// Takes rows, one after another.
 pub trait TakeRow {
@@ -175,4 +176,40 @@ impl<R: TakeRow> Perform for Scrolling<R> {
         }
         self.screen.esc_dispatch(intermediates, ignore, byte);
     }
+}
+
+/// No row leaves by what comes into its cells at once.
+impl<R: TakeRow> PutRuns for Scrolling<R> {
+    ghost use Rattle.ansi_screen.specs.Leaving.{ScrollsAll};
+    ghost use Rattle.ansi_screen.specs.TextsProof.{scrolls-none, scrolls-one, scrolls-more};
+
+    ghost receives = { ScrollsAll R.takes };
+
+    fn put_front(&mut self, run: &[u8]) -> usize {
+        self.screen.put_run(run)
+    }
+
+    ghost receives_none = { scrolls-none R.takes };
+
+    ghost receives_one = { scrolls-one R.takes };
+
+    ghost receives_more = { scrolls-more R.takes };
+}
+
+/// A text comes into its cells at once, as far as it is printed ASCII and rows have room for it.
+impl<R: TakeRow> PerformText for Scrolling<R> {
+    ghost use Rattle.ansi_screen.specs.Leaving.{ScrollsAll};
+    ghost use Rattle.ansi_screen.specs.TextsProof.{scrolls-none, scrolls-one, scrolls-more};
+
+    ghost receives = { ScrollsAll R.takes };
+
+    fn print_text(&mut self, text: &str) {
+        print_by_runs(self, text);
+    }
+
+    ghost receives_none = { scrolls-none R.takes };
+
+    ghost receives_one = { scrolls-one R.takes };
+
+    ghost receives_more = { scrolls-more R.takes };
 }

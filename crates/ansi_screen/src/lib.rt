@@ -13,11 +13,13 @@ pub mod laws;
 mod leaving;
 mod parts;
 mod place;
+mod printed;
 mod runs;
 mod screen;
 mod size;
 mod tabs;
 mod text;
+mod texts;
 mod width;
 
 pub use cell::{Cell, Marks, Part};

@@ -2,6 +2,7 @@
 ghost use Rattle.std.specs.Prelude.{◌≡◌, ◌+◌, ◌<◌, ◌≤◌, length};
 ghost use Rattle.ansi_screen.specs.Cells.{cut, marked_before, going_on, change, erased, moved_back, moved_on, deleted, inserted};
 ghost use Rattle.ansi_screen.specs.Print.{glyph};
+ghost use Rattle.ansi_screen.specs.Runs.{glyphs, with_glyphs};
 
 use crate::cell::{Cell, Part};
 use ansi_style::Style;
@@ -15,6 +16,24 @@ pub(crate) fn cut(cells: &mut [Cell], place: usize)
         let (left, right) = (cells[place - 1], cells[place]);
         cells[place - 1] = left.emptied();
         cells[place] = right.emptied();
+    }
+}
+
+/// How many cells are cleared one by one, before they are copied.
+const FEW: usize = 8;
+
+/// Clears all of these cells, without a look at halves of wide characters: a few one by one, and then as many as are
+/// cleared by a copy of these, again and again.
+pub(crate) fn clear(cells: &mut [Cell], blank: Cell)
+    ensures { cells.new ≡ erased blank cells.old }
+{
+    let mut cleared = cells.len().min(FEW);
+    cells[..cleared].fill(blank);
+    'copies: while cleared < cells.len() {
+        let count = cleared.min(cells.len() - cleared);
+        let (front, rest) = cells.split_at_mut(cleared);
+        rest[..count].copy_from_slice(&front[..count]);
+        cleared += count;
     }
 }
 
@@ -134,4 +153,27 @@ fn put_wide(cells: &mut [Cell], place: usize, c: char, style: Style, link: u32)
     cut(cells, place);
     cells[place] = Cell::printed(c, style, link, Part::Left);
     cells[place + 1] = Cell::printed(' ', style, link, Part::Right);
+}
+
+/// Printed ASCII, a character in each cell from `place` on: as if each were put by itself. What that leaves of wide
+/// characters, three cuts leave too: at the two ends, and after the first cell, where a right half may follow another.
+pub(crate) fn put_run(cells: &mut [Cell], place: usize, run: &[u8], style: Style, link: u32)
+    requires some { 0 < length run.now }
+    requires within { place + length run.now ≤ length cells.old }
+    ensures { cells.new ≡ with_glyphs place run.now style link cells.old }
+{
+    cut(cells, place + 1);
+    cut(cells, place);
+    cut(cells, place + run.len());
+    fill(&mut cells[place..place + run.len()], run, style, link);
+}
+
+/// Fills the cells with these characters.
+fn fill(cells: &mut [Cell], run: &[u8], style: Style, link: u32)
+    requires { length cells.old ≡ length run.now }
+    ensures { cells.new ≡ glyphs run.now style link }
+{
+    for (i, byte) in run.iter().enumerate() {
+        cells[i] = Cell::printed(char::from(*byte), style, link, Part::Whole);
+    }
 }

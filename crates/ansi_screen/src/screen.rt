@@ -1,12 +1,13 @@
 //! A screen as a performer.
-ghost use Rattle.std.specs.Prelude.{◌≡◌, ◌<◌, ◌≤◌, length, IfOk};
+ghost use Rattle.std.specs.Prelude.{◌≡◌, ◌<◌, ◌≤◌, [], length, take, IfOk};
 ghost use Rattle.ansi_screen.specs.After.{repeatable, is_repeat};
 
 use crate::cell::Cell;
 use crate::display::{Display, first_of};
 use crate::place::Place;
+use crate::texts::{PutRuns, print_by_runs};
 use crate::width::{columns, is_shown};
-use anstyle_parse::{Params, Perform};
+use anstyle_parse::{Params, Perform, PerformText};
 use std::alloc::{AllocError, Global};
 use std::marker::Model;
 
@@ -64,8 +65,11 @@ fn is_repeat(intermediates: &[u8], final_byte: u8) -> bool
 impl Screen {
     ghost use Rattle.ansi_screen.specs.Display.{IsSized, row_cells};
     ghost use Rattle.anstyle_parse.specs.Stream.Call.{print};
-    ghost use Rattle.ansi_screen.specs.After.{new_state};
-    ghost use Rattle.ansi_screen.specs.Leaving.{before_scroll, leaving};
+    ghost use Rattle.anstyle_parse.specs.Stream.Items.{EachIs};
+    ghost use Rattle.ansi_screen.specs.After.{new_state, after_all};
+    ghost use Rattle.ansi_screen.specs.Runs.{is_printed_ascii};
+    ghost use Rattle.ansi_screen.specs.Laws.{printing};
+    ghost use Rattle.ansi_screen.specs.Leaving.{before_scroll, leaving, all_left};
 
     /// A blank screen of so many columns and rows, with the cursor at its top left. `Err` means
     /// that memory is wanting.
@@ -139,6 +143,23 @@ impl Screen {
         self.display.begin_print(c)
     }
 
+    /// Puts so much of this printed ASCII into the cursor's row as it has room for, and answers how much that
+    /// is. No row leaves by it, and REP then repeats its last character.
+    #[inline]
+    pub(crate) fn put_run(&mut self, run: &[u8]) -> usize
+        requires { EachIs is_printed_ascii run.now }
+        ensures put { self.new ≡ after_all (printing (take result run.now)) self.old }
+        ensures stays { all_left (printing (take result run.now)) self.old ≡ [] }
+        ensures within { result ≤ length run.now }
+    {
+        let count = self.display.room().min(run.len());
+        if count > 0 {
+            self.display.put_run(&run[..count]);
+            self.last = repeatable(char::from(run[count - 1]));
+        }
+        count
+    }
+
     /// What it shows.
     pub(crate) fn display(&self) -> &Display
         ensures { result.now ≡ self.now.display }
@@ -196,4 +217,37 @@ impl Perform for Screen {
         }
         self.last = None;
     }
+}
+
+impl PutRuns for Screen {
+    ghost use Rattle.ansi_screen.specs.TextsProof.{Becomes, becomes-none, becomes-one, becomes-more};
+
+    ghost receives = { Becomes };
+
+    fn put_front(&mut self, run: &[u8]) -> usize {
+        self.put_run(run)
+    }
+
+    ghost receives_none = { becomes-none };
+
+    ghost receives_one = { becomes-one };
+
+    ghost receives_more = { becomes-more };
+}
+
+/// A text comes into its cells at once, as far as it is printed ASCII and rows have room for it.
+impl PerformText for Screen {
+    ghost use Rattle.ansi_screen.specs.TextsProof.{Becomes, becomes-none, becomes-one, becomes-more};
+
+    ghost receives = { Becomes };
+
+    fn print_text(&mut self, text: &str) {
+        print_by_runs(self, text);
+    }
+
+    ghost receives_none = { becomes-none };
+
+    ghost receives_one = { becomes-one };
+
+    ghost receives_more = { becomes-more };
 }

@@ -1,5 +1,5 @@
 //! What a screen shows, as text.
-ghost use Rattle.std.specs.Prelude.{◌≡◌, ◌≤◌, ◌<◌, length};
+ghost use Rattle.std.specs.Prelude.{◌≡◌, ◌≤◌, ◌<◌, [], ◌∷◌, length, take, IsTrue};
 ghost use Rattle.std.specs.List.{flat_map};
 ghost use Rattle.anstyle_parse.specs.Io.Output.{Adds};
 ghost use Rattle.ansi_screen.specs.Text.{is_blank, is_unprinted, left_out, used, goes_on, cell_text, row_text, used_rows, rows_text, text_of, marks_text};
@@ -8,6 +8,9 @@ use crate::cell::{Cell, Marks, Part};
 use crate::display::Display;
 use crate::screen::Screen;
 use anstyle_parse::io::{Output, Sink};
+
+/// How many cells are written at once, at most.
+const BLOCK: usize = 64;
 
 /// Whether the cell is a space without marks, in whatever style.
 #[tactic(auto, unfolding(crate::specs::Text::is_blank))]
@@ -51,13 +54,14 @@ pub fn used(cells: &[Cell], ends: LeftOut) -> usize
     ensures used { result ≡ used (left_out ends) cells.now }
     ensures within { result ≤ length cells.now }
 {
-    let mut used = 0;
-    for (column, cell) in cells.iter().enumerate() {
-        if !ends.has(*cell) {
-            used = column + 1;
+    let mut end = cells.len();
+    'end: while end > 0 {
+        if !ends.has(cells[end - 1]) {
+            break;
         }
+        end -= 1;
     }
-    used
+    end
 }
 
 /// Whether a row and the next are one line.
@@ -96,9 +100,48 @@ fn put_cell<W: Sink>(output: &mut Output<W>, cell: Cell)
 pub fn put_cells<W: Sink>(output: &mut Output<W>, cells: &[Cell])
     ensures { Adds W.Sink (flat_map cell_text cells.now) output.old output.new }
 {
-    for cell in cells {
-        put_cell(output, *cell);
+    let mut block = [0; BLOCK];
+    let mut rest = cells;
+    'rest: while let Some((first, further)) = rest.split_first() {
+        let count = copy_ascii(rest, &mut block);
+        if count == 0 {
+            put_cell(output, *first);
+            rest = further;
+        } else {
+            output.put(&block[..count]);
+            let (_, others) = rest.split_at(count);
+            rest = others;
+        }
     }
+}
+
+/// Whether a cell's text is its character alone, in one byte.
+#[inline(always)]
+#[tactic(auto, unfolding(crate::specs::Text::cell_text))]
+fn is_ascii_alone(cell: &Cell) -> bool
+    ensures text { IsTrue result → cell_text cell.now ≡ cell.now.character ∷ [] }
+    ensures low { IsTrue result → cell.now.character < 0x80 }
+{
+    cell.character.is_ascii() && !cell.is_right() && matches!(cell.marks, Marks::Unmarked)
+}
+
+/// Copies the text of the cells at the front that have one byte each into the block, as far as it has room, and answers
+/// how many there are.
+#[inline]
+fn copy_ascii(cells: &[Cell], block: &mut [u8; BLOCK]) -> usize
+    ensures text { take result block.new ≡ flat_map cell_text (take result cells.now) }
+    ensures within { result ≤ length cells.now }
+    ensures room { result ≤ BLOCK }
+{
+    let count = cells.len().min(BLOCK);
+    for i in 0..count {
+        let cell = &cells[i];
+        if !is_ascii_alone(cell) {
+            return i;
+        }
+        block[i] = cell.character as u8;
+    }
+    count
 }
 
 /// Writes the row, without the blanks at its end.

@@ -56,13 +56,21 @@ fn takes_two_columns(number: u32) -> bool
     is_among(&TWO_COLUMNS, number)
 }
 
-/// How many columns a character takes.
+/// Whether a number is in a range, both ends included.
+#[inline(always)]
+fn is_between(low: u32, high: u32, number: u32) -> bool
+    ensures low { IsTrue result → low ≤ number }
+    ensures high { IsTrue result → number ≤ high }
+{
+    low <= number && number <= high
+}
+
+/// How many columns a character takes, by a search of both tables.
 #[tactic(auto, unfolding(crate::specs::Widths::columns))]
-pub(crate) fn columns(c: char) -> u16
-    ensures columns { result ≡ columns c }
+fn searched_columns(number: u32) -> u16
+    ensures columns { result ≡ columns number }
     ensures few { result ≤ 2 }
 {
-    let number = u32::from(c);
     if takes_no_column(number) {
         0
     } else if takes_two_columns(number) {
@@ -70,4 +78,29 @@ pub(crate) fn columns(c: char) -> u16
     } else {
         1
     }
+}
+
+/// How many columns a character takes. Those that are printed most need no search: Latin ones, lines and blocks,
+/// Chinese and Korean ones, and faces.
+pub(crate) fn columns(c: char) -> u16
+    ensures columns { result ≡ columns c }
+    ensures few { result ≤ 2 }
+{
+    let number = u32::from(c);
+    if number < 0x300 {
+        return 1;
+    }
+    if is_between(0x2500, 0x25FC, number) {
+        return 1;
+    }
+    if is_between(0x4E00, 0x9FFF, number) {
+        return 2;
+    }
+    if is_between(0xAC00, 0xD7A3, number) {
+        return 2;
+    }
+    if is_between(0x1F600, 0x1F64F, number) {
+        return 2;
+    }
+    searched_columns(number)
 }

@@ -1,6 +1,5 @@
-//! Streams in pieces, streams that fail, the examples, and every public item but those of the
+//! Streams that fail, the examples, and every public item but those of the
 //! screen, by its name.
 mod example_runs;
 mod faults;
 mod names;
-mod pieces;

@@ -5,7 +5,8 @@ use Rattle.anstyle_parse.specs.Machine.Decoder.{decoded}
 use Rattle.anstyle_parse.specs.Machine.Step.{new_machine, machine_calls}
 use Rattle.anstyle_parse.proofs.Division.Only.{AreCalls-only}
 use Rattle.anstyle_parse.proofs.Agreement.Whole.{AreCalls-machine}
-use Rattle.ansi_strip.proofs.Showable.{AreShowable-continued}
+use Rattle.anstyle_parse.proofs.Lawful.Calls.{lawful}
+use Rattle.ansi_strip.proofs.Showable.{AreShowable-later}
 use Rattle.strip_pieces.specs.State.{pending_of}
 use Rattle.ansi_html.specs.Html.{Standing, at_start, html_from, standing_at_end}
 use Rattle.ansi_html.specs.AddingProof.{standing_at_end-append}
@@ -36,8 +37,9 @@ module _ (old new : HtmlState) (piece room room_after : List ℕ) (written : ℕ
 
   utf8-taken : IsUtf8 (take written room_after)
   utf8-taken =
-      subst IsUtf8 (sym takes.html)
-      (IsUtf8-html_from (styling_in old) (standing_of old) takes.calls (AreSound-kept _) (AreShowable-continued held piece takes.calls (takes.continues held refl)))
+      let own = machine_calls decoded held (new_machine []) in
+      let shown = AreShowable-later own takes.calls (lawful (held ++ piece) (own ++ takes.calls) (takes.continues held refl own (AreCalls-machine held))) in
+      subst IsUtf8 (sym takes.html) (IsUtf8-html_from (styling_in old) (standing_of old) takes.calls (AreSound-kept _) shown)
 
   bounded-taken : written ≤ 6550 * length piece
   bounded-taken =

@@ -1,5 +1,5 @@
 -- The rows among what a screen hands on; and the links that are kept, which may stand in the HTML.
-use Rattle.std.proofs.Common.{◌≡◌, ℕ, zero, suc, Bool, true, false, List, [], ◌∷◌, ◌++◌, map, take, set, append_assoc, refl, ap, ap₂, ◌∙◌}
+use Rattle.std.proofs.Common.{◌≡◌, ℕ, zero, suc, Bool, true, false, List, [], ◌∷◌, ◌++◌, map, take, set, append_assoc, refl, ap, ◌∙◌}
 use Rattle.std.specs.Prelude.{◌%◌, ◌==◌, ◌&&◌, not, slice_index_or, if◌then◌else◌, replicate}
 use Rattle.std.specs.List.{AllByRecursion}
 use Rattle.anstyle_parse.specs.Stream.Call.{Call, print, execute, hook, put, unhook, osc_dispatch, csi_dispatch, esc_dispatch}
@@ -12,7 +12,7 @@ use Rattle.ansi_screen.specs.After.{State, after, after_all}
 use Rattle.ansi_screen.specs.Leaving.{rows_left, all_left}
 use Rattle.ansi_screen.specs.Text.{used, is_unprinted, goes_on}
 use Rattle.screen_text.specs.Lines.{open_after, showing}
-use Rattle.screen_text.specs.Rows.{Handed, leaving, command, commands, handed, all_handed}
+use Rattle.screen_text.specs.Rows.{Handed, leaving, command, commands, all_handed}
 use Rattle.screen_text.specs.Shown.{given_all}
 use Rattle.screen_html.specs.Links.{Kept, kept, no_links, most_kept, place_of, link_at, links_after}
 use Rattle.screen_html.specs.Shown.{cell_styled, line_feed, row_styled, rows_styled, handed_styled, links_behind, closing_styled, shown_styled}

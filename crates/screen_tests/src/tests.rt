@@ -2,7 +2,6 @@
 mod html;
 mod leaving;
 mod screen;
-mod style;
 
 use anstyle_parse::io::Fault;
 use std::process::Abort;

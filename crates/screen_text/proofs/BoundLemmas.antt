@@ -18,11 +18,11 @@ use Rattle.ansi_screen.specs.After.{State, new_state, after, after_all}
 use Rattle.ansi_screen.specs.Text.{marks_text, cell_text, used, used_rows, is_unprinted, goes_on}
 use Rattle.ansi_screen.specs.Leaving.{leaving, is_wrapping, before_scroll, first_rows, rows_left, all_left}
 use Rattle.ansi_screen.specs.Laws.{carriage_return, line_feed}
+use Rattle.ansi_screen.specs.TextsProof.{all_left-append}
 use Rattle.ansi_screen.proofs.SizeLemmas.{HasSize, sized-after, sized-after_all, few-leave}
 use Rattle.screen_text.specs.Lines.{row_text, showing}
 use Rattle.screen_text.specs.Shown.{given, given_all, shown_text}
 use Rattle.screen_text.specs.Laws.{most_cell_bytes}
-use Rattle.screen_text.specs.ShowingProof.{all_left-append}
 use Rattle.screen_text.proofs.EndLemmas.{closed_text, closed-row, shown-closed}
 use Rattle.screen_text.proofs.RewrittenLemmas.{return-left}
 

@@ -13,6 +13,7 @@ use Rattle.ansi_screen.specs.After.{State, function_of, is_known, edited, contro
 use Rattle.ansi_screen.specs.Leaving.{is_wrapping, leaving_by_control, leaving_by_function, leaving_by_sequence, rows_left, all_left}
 use Rattle.ansi_screen.specs.Reachable.{IsScreen}
 use Rattle.ansi_screen.specs.Laws.{carriage_return, line_feed, erase_rest, printing, text_columns}
+use Rattle.ansi_screen.specs.TextsProof.{all_left-append}
 use Rattle.ansi_screen.proofs.LawLemmas.{after_all-append}
 use Rattle.ansi_screen.proofs.KeptCalls.{kept-after, kept-after_all}
 use Rattle.ansi_screen.proofs.RowLemmas.{Wrote, printed-wrote, written-anew}
@@ -20,7 +21,6 @@ use Rattle.screen_text.specs.Lines.{rows_text}
 use Rattle.screen_text.specs.Laws.{erase_line}
 use Rattle.screen_text.specs.Shown.{given, given_all, still_text, shown_text}
 use Rattle.screen_text.specs.Lines.{open_after}
-use Rattle.screen_text.specs.ShowingProof.{all_left-append}
 
 -- A character that has room moves no row off.
 pub fits-wraps : (c : ℕ) (d : Display) → d.cursor.column + columns c ≤ d.width → is_wrapping c d ≡ false

@@ -3,6 +3,7 @@ use Rattle.std.specs.Prelude.{◌==◌}
 use Rattle.std.specs.List.{flat_map}
 use Rattle.std.proofs.Common.{◌≡◌, ℕ, Bool, true, false, List, [], ◌∷◌, ◌++◌, take, map, refl, sym, ap, ap₂, ◌∙◌, subst, append-nil, append_assoc}
 use Rattle.std.proofs.lemmas.Bool.{ne_eqb}
+use Rattle.std.proofs.lemmas.List.{map-append}
 use Rattle.std.proofs.lemmas.Grind.{flat_map-append}
 use Rattle.anstyle_parse.specs.declared.io.devices.Sink.{Ghosts as SinkOf}
 use Rattle.anstyle_parse.specs.declared.io.output.Output.{Output}
@@ -13,7 +14,7 @@ use Rattle.ansi_screen.specs.declared.cell.Cell.{Cell}
 use Rattle.ansi_screen.specs.Display.{Display}
 use Rattle.ansi_screen.specs.After.{State, after, after_all}
 use Rattle.ansi_screen.specs.Text.{cell_text, used, used_rows, is_unprinted, goes_on}
-use Rattle.ansi_screen.specs.Leaving.{all_left, first_rows, rows_left, TakesRows, Scrolls}
+use Rattle.ansi_screen.specs.Leaving.{all_left, first_rows, rows_left, TakesRows, Scrolls, ScrollsAll}
 use Rattle.screen_text.specs.declared.performer.ShownWriter.{ShownWriter}
 use Rattle.screen_text.specs.Lines.{row_text, rows_text, open_after, closing, showing, row_text_at, after_row as after_line, after_command}
 use Rattle.screen_text.specs.Rows.{Handed, leaving, commands, handed, all_handed, rows_from, after_rows, last_rows_from, WritesRow, WritesCommand, WritesNothing, Took, none, row, told, passed}
@@ -38,6 +39,27 @@ module _ {R : Type 0} (takes : R → List Cell → R → Type 0) (takes_command 
         taken = subst (λ l. Took takes takes_command passes_on (rows_of old) l (rows_of new)) all
             (took-rows rows (rows_of old) (rows_of new) scrolls.taken);
       }
+
+  -- a text
+  printing-given : (text : List ℕ) → given_all (map print text) ≡ map print text
+  printing-given [] = refl
+  printing-given (c ∷ text) = ap (λ l. print c ∷ l) (printing-given text)
+
+  printing-handed : (text : List ℕ) (s : State) → all_handed (map print text) s ≡ map leaving (all_left (map print text) s)
+  printing-handed [] s = refl
+  printing-handed (c ∷ text) s =
+      let rows : List (List Cell) = rows_left (print c) s.display in
+      ap₂ (λ a b. a ++ b) (append-nil (map leaving rows)) (printing-handed text (after (print c) s))
+      ∙ sym (map-append leaving rows (all_left (map print text) (after (print c) s)))
+
+  pub text-shows : (text : List ℕ) (old new : ShownWriter R) → ScrollsAll takes old.scrolling (map print text) new.scrolling
+      → Shows takes takes_command passes_on old (given_all (map print text)) new
+  text-shows text old new scrolls =
+      subst (λ l. Shows takes takes_command passes_on old l new) (sym (printing-given text)) (record {
+        screen = scrolls.screen;
+        taken = subst (λ l. Took takes takes_command passes_on (rows_of old) l (rows_of new)) (sym (printing-handed text (screen_of old)))
+            (took-rows (all_left (map print text) (screen_of old)) (rows_of old) (rows_of new) scrolls.taken);
+      })
 
   -- a command, of which what takes the rows is told
   pub tells-shows : (parts : List (List ℕ)) (bell : Bool) (old middle new : ShownWriter R)

@@ -14,6 +14,7 @@ use Rattle.ansi_screen.specs.After.{State, after, after_all}
 use Rattle.ansi_screen.specs.Text.{cell_text, used, is_unprinted}
 use Rattle.ansi_screen.specs.Leaving.{rows_left, all_left}
 use Rattle.ansi_screen.specs.Laws.{carriage_return, line_feed, printing}
+use Rattle.ansi_screen.specs.TextsProof.{all_left-append}
 use Rattle.ansi_screen.proofs.PlainLemmas.{plain}
 use Rattle.ansi_screen.proofs.LawLemmas.{after_all-append}
 use Rattle.ansi_screen.proofs.KeptCalls.{columns-few}
@@ -21,7 +22,6 @@ use Rattle.ansi_screen.proofs.WholeLemmas.{length-glyph}
 use Rattle.screen_text.specs.Lines.{row_text, rows_text, open_after, closing, showing}
 use Rattle.screen_text.specs.Shown.{given, given_all, shown_text}
 use Rattle.screen_text.specs.Laws.{IsPlain, ArePlain, LastIsNotEmpty, line_bytes, lines_bytes, empty_lines}
-use Rattle.screen_text.specs.ShowingProof.{all_left-append}
 use Rattle.screen_text.proofs.EndLemmas.{shown-closed}
 use Rattle.screen_text.proofs.RewrittenLemmas.{given-printing}
 use Rattle.screen_text.proofs.RowTextLemmas.{spaces, mark, used-printed, goes_on-printed, text-ended, text-marked, text-glyph}

@@ -13,11 +13,11 @@ use Rattle.ansi_strip.specs.Strip.{stripped_call, stripped}
 use Rattle.ansi_screen.specs.After.{State, new_state, after_all}
 use Rattle.ansi_screen.specs.Leaving.{all_left}
 use Rattle.ansi_screen.specs.Laws.{carriage_return, line_feed, printing}
+use Rattle.ansi_screen.specs.TextsProof.{all_left-append}
 use Rattle.ansi_screen.proofs.LawLemmas.{after_all-append}
 use Rattle.ansi_screen.proofs.PlainLemmas.{canon-line, executed-both}
 use Rattle.screen_text.specs.Shown.{given, given_all, shown_text}
 use Rattle.screen_text.specs.Laws.{IsPlain, ArePlain, LastIsNotEmpty, line_bytes, lines_bytes, recorded_line, recorded_bytes, empty_lines}
-use Rattle.screen_text.specs.ShowingProof.{all_left-append}
 use Rattle.screen_text.proofs.RewrittenLemmas.{given-printing, returned-shown}
 use Rattle.screen_text.proofs.TextLemmas.{line_calls, lines_calls, Line, Ended, ended-same, line-same, print-lines, print-some, end-lines, feed-blanks, new-typed, shown-line, shown-ended}
 

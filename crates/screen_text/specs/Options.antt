@@ -1,7 +1,7 @@
 -- The option by which a program writes what a screen showed.
 use Rattle.std.specs.Prelude.{◌≡◌, ℕ, List, [], ◌∷◌, Option, None, Some, Result, Ok, MatchResult, IsSome}
 use Rattle.ansi_screen.specs.declared.size.Size.{Size}
-use Rattle.ansi_screen.specs.Size.{a_terminal, IsTaken, IsSaid, Says}
+use Rattle.ansi_screen.specs.Size.{a_terminal, IsSaid}
 use Rattle.screen_text.specs.declared.option.NoSize.{NoSize}
 
 -- The size of the screen that is asked for, by the text behind the option: with no option no screen is; with

@@ -9,22 +9,12 @@ use Rattle.anstyle_parse.specs.Io.Output.{Adds}
 use Rattle.anstyle_parse.specs.Io.AddingProof.{Adds-nil, Adds-append}
 use Rattle.ansi_screen.specs.declared.cell.Cell.{Cell}
 use Rattle.ansi_screen.specs.After.{State, after, after_all}
-use Rattle.ansi_screen.specs.Leaving.{rows_left, all_left}
+use Rattle.ansi_screen.specs.TextsProof.{after_all-append}
 use Rattle.screen_text.specs.declared.performer.ShownWriter.{ShownWriter}
 use Rattle.screen_text.specs.Lines.{showing}
 use Rattle.screen_text.specs.Rows.{Handed, leaving, handed, all_handed, rows_from, after_rows, last_rows_from, WritesRow, WritesCommand, WritesNothing, Took, none, row, told, passed}
 use Rattle.screen_text.specs.Shown.{given, given_all}
 use Rattle.screen_text.specs.Writer.{rows_of, screen_of, text_from, ending_from, Shows}
-
-after_all-append : (first second : List Call) (s : State) → after_all (first ++ second) s ≡ after_all second (after_all first s)
-after_all-append [] second s = refl
-after_all-append (call ∷ calls) second s = after_all-append calls second (after call s)
-
-pub all_left-append : (calls more : List Call) (s : State) → all_left (calls ++ more) s ≡ all_left calls s ++ all_left more (after_all calls s)
-all_left-append [] more s = refl
-all_left-append (call ∷ calls) more s =
-    ap (λ rows. rows_left call s.display ++ rows) (all_left-append calls more (after call s))
-    ∙ sym (append_assoc (rows_left call s.display) (all_left calls (after call s)) (all_left more (after_all calls (after call s))))
 
 pub all_handed-append : (calls more : List Call) (s : State) → all_handed (calls ++ more) s ≡ all_handed calls s ++ all_handed more (after_all calls s)
 all_handed-append [] more s = refl

@@ -6,7 +6,7 @@ use Rattle.ansi_screen.specs.After.{State, after_all}
 use Rattle.ansi_screen.specs.Leaving.{taker_of, screen_of as scrolling_screen}
 use Rattle.screen_text.specs.declared.performer.ShownWriter.{ShownWriter}
 use Rattle.screen_text.specs.Lines.{showing}
-use Rattle.screen_text.specs.Rows.{Handed, leaving, all_handed, rows_from, after_rows, last_rows_from, Took}
+use Rattle.screen_text.specs.Rows.{leaving, all_handed, rows_from, after_rows, last_rows_from, Took}
 use Rattle.screen_text.specs.Shown.{given_all}
 
 -- what writes the rows; its screen

@@ -74,6 +74,10 @@ impl<R: TakeCommand> Perform for ShownWriter<R> {
 impl<R: TakeCommand> PerformText for ShownWriter<R> {
     ghost use Rattle.screen_text.specs.ShowingProof.{receives-none, receives-one, receives-more};
 
+    fn print_text(&mut self, text: &str) {
+        self.scrolling.print_text(text);
+    }
+
     ghost receives = { λ old calls new. Shows R.takes R.takes_command R.passes_on old (given_all calls) new };
 
     ghost receives_none = { receives-none R.takes R.takes_command R.passes_on };

@@ -1,2 +1,5 @@
 pub mod Options
+pub mod Line
+pub mod Inputs
+pub mod Outputs
 pub mod Words

@@ -30,9 +30,10 @@ has_word wanted words = list_any (λ word. bytes_eq word wanted) words
 
 -- What a word asks for that is no option of the program's own.
 abbrev pub Means : List ℕ → Request → Type 0
-Means word Help = word ≡ codes "--help"
+Means word Help = (word ≡ codes "--help") ⊎ (word ≡ codes "-h")
 Means word Version = word ≡ codes "--version"
-Means word (Unknown given) = (given.now ≡ word) × (word ≢ codes "--help") × (word ≢ codes "--version")
+Means word (Unknown given) =
+    (given.now ≡ word) × (word ≢ codes "--help") × (word ≢ codes "-h") × (word ≢ codes "--version")
 
 -- What the words ask for: nothing, where each is an option of the program's own, or what the first
 -- that is none says.

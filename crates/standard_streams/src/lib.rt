@@ -7,10 +7,16 @@ ghost use Rattle.anstyle_parse.specs.Io.Buffer.{writer_behind, held_back, is_by_
 ghost use Rattle.anstyle_parse.specs.Io.Devices.{writer_of, writer_error, writer_failed};
 ghost use Rattle.standard_streams.specs.Words.{message_of, is_broken_pipe, answer_behind, status_of, status_after};
 
+mod input_files;
+mod line;
 mod options;
+mod output_file;
 
 use anstyle_parse::io::{Buffer, Fault, FromRead, FromWrite, Sink};
-pub use options::{Request, VERSION, answered, asked_of, given_words, has_word, value_of};
+pub use input_files::{Input, have_failed, inputs};
+pub use line::{Line, Place, given_line, line_of};
+pub use options::{OUTPUT, Request, VERSION, answered, asked_of, given_words, has_word, value_of};
+pub use output_file::{Destination, Target};
 use std::io;
 use std::io::{ErrorKind, IsTerminal, Read, Write};
 use std::process::ExitCode;

@@ -12,10 +12,13 @@ use std::rt::Env;
 /// The version of the programs and of the library.
 pub const VERSION: &str = "0.1.0";
 
+/// What stands before the name of the file that is written to, as [`Line`](crate::Line) has it.
+pub const OUTPUT: &str = "--output=";
+
 /// What words ask for that are none of a program's own options.
 #[derive(Debug, Clone, Copy, PartialEq, Eq)]
 pub enum Request<'a> {
-    /// To say what it does, `--help`.
+    /// To say what it does, `--help` or `-h`.
     Help,
     /// To say which version it is, `--version`.
     Version,
@@ -44,7 +47,7 @@ pub fn asked_of<'a>(words: &'a [String], options: &[&str]) -> Option<Request<'a>
 fn meaning(word: &str) -> Request<'_>
     ensures { Means word.now result }
 {
-    if word == "--help" {
+    if word == "--help" || word == "-h" {
         Request::Help
     } else if word == "--version" {
         Request::Version
@@ -54,7 +57,7 @@ fn meaning(word: &str) -> Request<'_>
 }
 
 /// Whether a word is one of the options.
-fn is_one_of(word: &str, options: &[&str]) -> bool
+pub(crate) fn is_one_of(word: &str, options: &[&str]) -> bool
     ensures { result ≡ is_one_of (texts options.now) word.now }
 {
     options.iter().any(|option| is_option(word, option))
@@ -123,7 +126,9 @@ pub fn answered(
 fn unknown(rt: &impl Eprint, program: &str, word: &str) -> ExitCode
     ensures { exit_status result ≡ 2 }
 {
-    let _ = if word.starts_with('-') {
+    let _ = if word == "-o" {
+        eprintln!(rt; "{program}: -o wants the name of a file (see {program} --help)")
+    } else if word.starts_with('-') {
         eprintln!(rt; "{program}: unknown option {word:?} (see {program} --help)")
     } else {
         eprintln!(rt;

@@ -1,9 +1,15 @@
 -- Pieces of a stream one after another, and how much text they lead to.
-use Rattle.std.proofs.Common.{◌≡◌, ◌<◌, ◌≤◌, ◌+◌, ℕ, List, [], ◌++◌, length, take, drop, refl, sym, ap, ◌∙◌, subst, append_assoc, append-nil, arith, zero, suc}
+use Rattle.std.proofs.Common.{◌≡◌, ◌<◌, ◌≤◌, ◌+◌, ◌*◌, ℕ, List, [], ◌++◌, length, take, drop, refl, sym, ap, ◌∙◌, subst, append_assoc, append-nil, arith, zero, suc}
 use Rattle.anstyle_parse.specs.Stream.Call.{Call}
 use Rattle.anstyle_parse.specs.Stream.Calls.{AreCalls, Continues}
 use Rattle.std.specs.Str.{IsUtf8}
-use Rattle.ansi_strip.proofs.Showable.{IsUtf8-continued}
+use Rattle.anstyle_parse.specs.Machine.Decoder.{decoded}
+use Rattle.anstyle_parse.specs.Machine.Step.{new_machine, machine_calls}
+use Rattle.anstyle_parse.proofs.Agreement.Whole.{AreCalls-machine}
+use Rattle.anstyle_parse.proofs.Canonical.TextLength.{text_length-continued}
+use Rattle.anstyle_parse.proofs.Lawful.Calls.{lawful}
+use Rattle.ansi_strip.proofs.PieceLength.{length-stripped_text}
+use Rattle.ansi_strip.proofs.Showable.{IsUtf8-later}
 use Rattle.ansi_strip.specs.Strip.{stripped}
 use Rattle.anstyle_parse.specs.declared.accumulator.Utf8Parser.{Utf8Parser}
 use Rattle.anstyle_parse.specs.declared.parser.Parser.{Parser}
@@ -21,6 +27,15 @@ pub Continues-append : (before first second : List ℕ) (calls more : List Call)
 Continues-append before first second calls more one two = λ own are.
     subst (λ (l : List ℕ). AreCalls l (own ++ (calls ++ more))) (append_assoc before first second)
     (subst (λ (l : List Call). AreCalls ((before ++ first) ++ second) l) (append_assoc own calls more) (two (own ++ calls) (one own are)))
+
+-- what is left of the calls that continue others: it is UTF-8, and not long
+IsUtf8-continued : (before bytes : List ℕ) (calls : List Call) → Continues before bytes calls → IsUtf8 (stripped calls)
+IsUtf8-continued before bytes calls continues =
+    let first = machine_calls decoded before (new_machine []) in
+    IsUtf8-later first calls (lawful (before ++ bytes) (first ++ calls) (continues first (AreCalls-machine before)))
+
+pub length-continued : (before bytes : List ℕ) (calls : List Call) → Continues before bytes calls → length (stripped calls) ≤ 3 * length bytes + 1
+length-continued before bytes calls continues = omega (arith, length-stripped_text calls, text_length-continued before bytes calls continues)
 
 -- no bytes make no calls
 pub Continues-nil : (before : List ℕ) → Continues before [] []

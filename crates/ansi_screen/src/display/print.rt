@@ -1,7 +1,9 @@
 //! Printing a character.
-ghost use Rattle.std.specs.Prelude.{◌≡◌, ◌+◌, ◌<◌, ◌≤◌, min};
+ghost use Rattle.std.specs.Prelude.{◌≡◌, ◌+◌, ◌<◌, ◌≤◌, min, length};
 ghost use Rattle.std.specs.Fn.{iterate};
+ghost use Rattle.anstyle_parse.specs.Stream.Items.{EachIs};
 ghost use Rattle.ansi_screen.specs.Print.{drawn, wrapped, with_room, with_glyph, put, marked, shown, printed, printed_again};
+ghost use Rattle.ansi_screen.specs.Runs.{HasRoom, is_printed_ascii, printed_all};
 ghost use Rattle.ansi_screen.specs.After.{repeated};
 
 use super::Display;
@@ -146,5 +148,32 @@ impl Display {
         let style = self.cursor.style;
         self.cells.put(here, columns, c, style, self.link);
         self.cursor.column += usize::from(columns);
+    }
+
+    /// How many characters of one column each the cursor's row has room for, each of which comes into a cell as it
+    /// is: none in insert mode, and none while lines are drawn.
+    #[inline]
+    pub(crate) fn room(&self) -> usize
+        ensures { 0 < result → HasRoom result self.now }
+    {
+        if self.inserts || self.cursor.charsets.draws() {
+            0
+        } else {
+            self.width - self.cursor.column
+        }
+    }
+
+    /// Puts printed ASCII for which there is room, and the cursor after it: as if each character had been printed.
+    #[inline]
+    pub(crate) fn put_run(&mut self, run: &[u8])
+        requires some { 0 < length run.now }
+        requires ascii { EachIs is_printed_ascii run.now }
+        requires room { HasRoom (length run.now) self.old }
+        ensures { self.new ≡ printed_all run.now self.old }
+    {
+        let here = self.here();
+        let style = self.cursor.style;
+        self.cells.put_run(here, run, style, self.link);
+        self.cursor.column += run.len();
     }
 }

@@ -1,33 +1,20 @@
 //! Each read, write and flush of std fails in turn, over bytes that come one a read: no clause says
 //! what an adapter does where the stream within fails. What the programs say then, and that their
 //! text stands as far as it went, is in tests/programs.
-use ansi_html::{Scheme, Styling, convert};
-use ansi_screen::Screen;
 use ansi_strip::strip;
 use anstyle_parse::canon::{CanonWriter, Fault, FromRead, FromWrite, write_calls};
-use screen_text::write_shown;
 use std::io::ErrorKind;
 use std::process::Abort;
 use test_streams::{Paper, TROUBLES, Tape};
 
-/// What is written of the calls; of HTML between `a` and `z`, and what a screen of three columns and one row
-/// showed.
+/// What is written of the calls. (Of HTML, of a screen and of the calls' lines the programs show it.)
 #[derive(Debug, Clone, Copy, PartialEq, Eq)]
 enum Form {
     Canon,
     Stripped,
-    Html,
-    Shown,
 }
 
-const FORMS: [Form; 4] = [Form::Canon, Form::Stripped, Form::Html, Form::Shown];
-
-/// The HTML of the first six bytes, and of all: the span is still open where they end.
-const RED: &[u8] = b"a<span style=\"color:#cf222e;color:light-dark(#cf222e,#ff7b72);\">h</span>z";
-
-const BOLD_RED: &[u8] =
-    b"a<span style=\"color:#cf222e;color:light-dark(#cf222e,#ff7b72);\">h</span>\
-<span style=\"color:#cf222e;color:light-dark(#cf222e,#ff7b72);font-weight:bold;\">i</span>z";
+const FORMS: [Form; 2] = [Form::Canon, Form::Stripped];
 
 impl Form {
     /// The bytes of a row.
@@ -35,8 +22,6 @@ impl Form {
         match self {
             Form::Canon => b"\x1b]0;x\x1b\\",
             Form::Stripped => b"\x1b[31mhi\x07\x1b[0m\n",
-            Form::Html => b"\x1b[31mh\x1b[1mi",
-            Form::Shown => b"ab\ncd",
         }
     }
 
@@ -50,20 +35,10 @@ impl Form {
             (Form::Stripped, 6) => b"h",
             (Form::Stripped, 7..=12) => b"hi",
             (Form::Stripped, _) => b"hi\n",
-            (Form::Html, 0..=5) => b"az",
-            (Form::Html, 6..=10) => RED,
-            (Form::Html, _) => BOLD_RED,
-            (Form::Shown, 0) => b"",
-            (Form::Shown, 1) => b"a\n",
-            (Form::Shown, 2..=3) => b"ab\n",
-            (Form::Shown, 4) => b"ab\nc\n",
-            (Form::Shown, _) => b"ab\ncd\n",
         }
     }
 
-    /// How many reads are made where a write fails after so many bytes. Before the head is
-    /// written nothing is read; what closes a span is written before further text or at the end. A row is
-    /// written when it scrolls off or at the end.
+    /// How many reads are made where a write fails after so many bytes.
     fn reads(self, room: usize) -> u64 {
         match (self, room) {
             (Form::Canon, 0..=7) => 6,
@@ -71,12 +46,6 @@ impl Form {
             (Form::Stripped, 0) => 6,
             (Form::Stripped, 1) => 7,
             (Form::Stripped, _) => 13,
-            (Form::Html, 0) => 0,
-            (Form::Html, 1..=64) => 6,
-            (Form::Html, 65..=152) => 11,
-            (Form::Html, _) => 12,
-            (Form::Shown, 0..=2) => 3,
-            (Form::Shown, _) => 6,
         }
     }
 }
@@ -87,7 +56,6 @@ type Writer = FromWrite<Paper>;
 
 /// What a run answers, and its reader and writer afterwards.
 fn run_over<'a>(
-    rt: &impl AllocGlobal,
     form: Form,
     tape: Tape<'a>,
     paper: Paper,
@@ -97,17 +65,6 @@ fn run_over<'a>(
     let (writer, answer) = match form {
         Form::Canon => write_calls::<CanonWriter<Writer>, Reader<'a>, Writer>(&mut reader, writer),
         Form::Stripped => strip(&mut reader, writer),
-        Form::Html => convert(
-            Styling::Inline(Scheme::Both),
-            b"a",
-            &mut reader,
-            writer,
-            b"z",
-        ),
-        Form::Shown => match Screen::new(rt.alloc(), 3, 1) {
-            Ok(screen) => write_shown(screen, &mut reader, writer),
-            Err(_) => (writer, Err(Fault::Read)),
-        },
     };
     (reader, writer, answer)
 }
@@ -122,7 +79,7 @@ fn assert_run(
     text: &[u8],
     calls: [u64; 2],
 ) -> u64 {
-    let (reader, writer, answered) = run_over(rt, form, tape, paper);
+    let (reader, writer, answered) = run_over(form, tape, paper);
     let (tape, paper) = (reader.into_inner(), writer.into_inner());
     assert!(rt;
         answered == answer,
@@ -284,12 +241,9 @@ fn assert_letter(rt: &(impl Abort + AllocGlobal), form: Form, text: &[u8], error
 fn two_rows(rt: HostRuntime) {
     for trouble in TROUBLES {
         assert_line(&rt, Form::Stripped, b"a\n", trouble);
-        assert_line(&rt, Form::Html, b"aa\n", trouble);
     }
     for error in [ErrorKind::Other, ErrorKind::Interrupted] {
         assert_letter(&rt, Form::Stripped, b"a", error);
-        assert_letter(&rt, Form::Html, b"aaz", error);
-        assert_letter(&rt, Form::Shown, b"a\n", error);
     }
 }
 
@@ -301,7 +255,7 @@ fn assert_errors(
     read_error: Option<ErrorKind>,
     write_error: Option<ErrorKind>,
 ) {
-    let (reader, writer, _) = run_over(rt, Form::Stripped, tape, paper);
+    let (reader, writer, _) = run_over(Form::Stripped, tape, paper);
     assert!(rt; reader.error().map(|it| it.kind()) == read_error);
     assert!(rt; writer.error().map(|it| it.kind()) == write_error);
 }

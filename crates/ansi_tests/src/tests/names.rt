@@ -47,6 +47,7 @@ use anstyle_parse::io::Source;
 use anstyle_parse::io::Stop;
 use anstyle_parse::io::WritingPerformer;
 use anstyle_parse::io::drive;
+use anstyle_parse::io::perform_texts_to_end;
 use anstyle_parse::io::perform_to_end;
 use anstyle_parse::io::write_calls;
 use anstyle_parse::io::write_calls_between;
@@ -54,6 +55,7 @@ use anstyle_parse::io::write_calls_by;
 use anstyle_parse::laws::action_as_number;
 use anstyle_parse::laws::bounds;
 use anstyle_parse::laws::calls_are_lawful;
+use anstyle_parse::laws::calls_of_bytes;
 use anstyle_parse::laws::cancelled;
 use anstyle_parse::laws::canonical_again;
 use anstyle_parse::laws::canonical_text;
@@ -182,6 +184,7 @@ fn names_of_the_laws(rt: HostRuntime) {
     front_of_a_character();
     lawful_exactly();
     calls_are_lawful();
+    calls_of_bytes();
     replay();
     equal_texts();
     canonical_again();
@@ -353,7 +356,9 @@ fn names_of_runs(rt: HostRuntime) {
 
 #[test]
 fn names_of_writers(rt: HostRuntime) {
-    writes_calls(&Stripper::over(Output::new(memory(rt.alloc()))));
+    let mut stripper = Stripper::over(Output::new(memory(rt.alloc())));
+    writes_calls(&stripper);
+    assert_eq!(rt; perform_texts_to_end(&mut reader(), &mut stripper), Ok(()));
     let writer = HtmlWriter::new(
         Styling::Inline(Scheme::Dark),
         Output::new(memory(rt.alloc())),

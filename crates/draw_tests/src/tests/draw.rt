@@ -130,25 +130,6 @@ fn an_update_of_a_cell(rt: HostRuntime) -> Result<(), Fail> {
     Ok(())
 }
 
-/// DECSTBM leads the cursor home, from where the cell is reached, and the cursor's place.
-#[test]
-fn an_update_of_margins(rt: HostRuntime) -> Result<(), Fail> {
-    let written = update_of(&rt, b"abc\x1b[1;2r\x1b[3;2H", b"abX\x1b[2;3r\x1b[3;2H")?;
-    let wanted = b"\x1b[2;3r\x1b[3GX\x1b[3;2H";
-    assert_eq!(rt; written.as_slice(), wanted.as_slice());
-    Ok(())
-}
-
-#[test]
-fn an_update_of_all(rt: HostRuntime) -> Result<(), Fail> {
-    let written = update_of(&rt, b"abc", PARTS)?;
-    let mut again = shown(rt.alloc(), b"abc")?;
-    let mut parser = Parser::<Utf8Parser>::new();
-    parser.advance_all(&mut again, written.as_slice());
-    assert_has_parts(&rt, &again, &shown(rt.alloc(), PARTS)?);
-    Ok(())
-}
-
 /// What is written of a stream, a drawing of the first screen and updates, and the last screen.
 fn updates_of(
     rt: &(impl Abort + AllocGlobal),

@@ -1,5 +1,5 @@
 -- What a new writer writes, and the theorems.
-use Rattle.std.proofs.Common.{◌++◌, false, ℕ, List, sym, subst, ap, ◌∙◌}
+use Rattle.std.proofs.Common.{◌++◌, ℕ, List, sym, subst, ap, ◌∙◌}
 use Rattle.anstyle_parse.specs.Stream.Call.{Call}
 use Rattle.anstyle_parse.specs.Io.Output.{Adds}
 use Rattle.anstyle_parse.specs.Io.Run.{RunsToEnding}

@@ -30,19 +30,6 @@ fn a_page(rt: HostRuntime) -> Result<(), Fail> {
     Ok(())
 }
 
-// A link over text, printed over in part, and erased; one to a script; a quote in a URI.
-#[test]
-fn links(rt: HostRuntime) -> Result<(), Fail> {
-    let log =
-        b"\x1b]8;;http://a\x07abc\x1b]8;;\x07\rX\n\x1b]8;;http://b\x07de\x1b[1D\x1b[K\n\x1b]8;;javascript:f\x07g\x1b]8;;mailto:'\x07h\n";
-    let wanted =
-        "<pre>X<a rel=\"nofollow noreferrer\" href=\"http://a\" style=\"color:inherit;\">bc</a>\n\
-        <a rel=\"nofollow noreferrer\" href=\"http://b\" style=\"color:inherit;\">d</a>\n\
-        g<a rel=\"nofollow noreferrer\" href=\"mailto:&#39;\" style=\"color:inherit;\">h</a>\n</pre>";
-    assert_written(&rt, shown(rt.alloc(), log)?, wanted.as_bytes());
-    Ok(())
-}
-
 fn writes_rows<T: WriteRows<Memory> + Drop>(_: &T) {}
 
 // A wide character that wraps, and a mark; no line feed between rows of a line.

@@ -1,4 +1,4 @@
-//! What the text of a screen does not say: styles, halves, the cursor. Rows of text stand in
+//! What the text of a screen does not say: cells with their styles, the cursor. Rows of text stand in
 //! tests/screen_twin.
 use ansi_screen::laws::{
     clones, contents, determined, enclosed, equality, plain_text, reachable, reset, rewritten,
@@ -76,55 +76,6 @@ fn styles(rt: HostRuntime) -> Result<(), Fail> {
     assert_cell(&rt, row, 0, cell('a', selected, Part::Whole));
     assert_cell(&rt, row, 1, cell('b', Style::default(), Part::Whole));
     assert_cell(&rt, row, 7, cell(' ', erased, Part::Empty));
-    Ok(())
-}
-
-#[test]
-fn halves(rt: HostRuntime) -> Result<(), Fail> {
-    let screen = shown(rt.alloc(), "a漢\x1b[2;1H漢\x1b[2;2Hx".as_bytes())?;
-    assert!(rt; screen.rows() == 4 && screen.columns() == 8);
-    let plain = Style::default();
-    assert_cell(&rt, screen.row(0), 1, cell('漢', plain, Part::Left));
-    assert_cell(&rt, screen.row(0), 2, cell(' ', plain, Part::Right));
-    assert_cell(&rt, screen.row(1), 0, cell(' ', plain, Part::Empty));
-    assert_cell(&rt, screen.row(1), 1, cell('x', plain, Part::Whole));
-    Ok(())
-}
-
-/// Where the cursor is after the bytes.
-fn cursor_after(alloc: Global, bytes: &[u8]) -> Result<Place, AllocError> {
-    Ok(shown(alloc, bytes)?.cursor())
-}
-
-#[test]
-fn places(rt: HostRuntime) -> Result<(), Fail> {
-    let rows: [(&[u8], usize, usize); 5] = [
-        (b"abcdefgh", 0, 8),
-        (b"abcdefgh\x1b7\r\x1b8", 0, 8),
-        (b"abcdefgh\n", 1, 7),
-        (b"\x1b[65535;65535H", 3, 7),
-        (b"\x1b[3;3H\x1bc", 0, 0),
-    ];
-    for (bytes, row, column) in rows {
-        let cursor = cursor_after(rt.alloc(), bytes)?;
-        assert!(rt; cursor == place(row, column), "{bytes:?}");
-    }
-    // In origin mode a row past the margin is the last row within.
-    let cursor = cursor_after(rt.alloc(), b"\x1b[2;3r\x1b[?6h\x1b[9;9H")?;
-    assert_eq!(rt; cursor.row, 2);
-    Ok(())
-}
-
-/// Whether the cursor is visible after the bytes.
-fn is_visible_after(alloc: Global, bytes: &[u8]) -> Result<bool, AllocError> {
-    Ok(shown(alloc, bytes)?.is_cursor_visible())
-}
-
-#[test]
-fn cursor_is_hidden(rt: HostRuntime) -> Result<(), Fail> {
-    let is_hidden = !is_visible_after(rt.alloc(), b"\x1b[?25l")?;
-    let is_back = is_visible_after(rt.alloc(), b"\x1b[?25l\x1b[!p")?;
-    assert!(rt; is_hidden && is_back);
     Ok(())
 }
 

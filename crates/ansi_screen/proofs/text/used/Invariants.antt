@@ -1,7 +1,10 @@
--- The cells so far that are used.
-use Rattle.std.proofs.Common.{◌≡◌, ◌≤◌, take}
+-- What stands after them is left out.
+use Rattle.std.proofs.Common.{◌≡◌, ◌≤◌, length, take}
 use Rattle.ansi_screen.specs.Text.{left_out, used}
 use Rattle.ansi_screen.proofs.text.used.Given as goal
 
-abbrev pub invariant-loop-column : goal.invariant-loop-column
-invariant-loop-column l = (l.used ≡ used (left_out l.ends) (take l.column l.cells)) × (l.used ≤ l.column)
+abbrev pub invariant-end : goal.invariant-end
+invariant-end l = (used (left_out l.ends) (take l.end l.cells) ≡ used (left_out l.ends) l.cells) × (l.end ≤ length l.cells)
+
+abbrev pub decreases-end : goal.decreases-end
+decreases-end l = l.end

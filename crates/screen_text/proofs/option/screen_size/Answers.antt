@@ -1,6 +1,6 @@
 -- A text that says no size is refused.
-use Rattle.std.proofs.Common.{◌≡◌, ℕ, ◌+◌, List, [], ◌∷◌, drop, length, refl, sym, subst, ap, ◌∙◌, arith}
-use Rattle.std.specs.Prelude.{Option, None, Some, Err, option_copied, codes}
+use Rattle.std.proofs.Common.{◌≡◌, ℕ, List, [], ◌∷◌, drop, sym, subst, ap, ◌∙◌, arith}
+use Rattle.std.specs.Prelude.{None, Some, Err, codes}
 use Rattle.std.specs.Str.Pattern.{FindsTextPrefix, StripsPrefix}
 use Rattle.ansi_screen.specs.Size.{IsSaid}
 use Rattle.screen_text.specs.Options.{IsAsked}

@@ -10,9 +10,8 @@ use Rattle.ansi_strip.specs.Strip.{stripped_call, stripped}
 use Rattle.strip_pieces.specs.SliceWriter.{Puts}
 use Rattle.strip_pieces.specs.PuttingProof.{Puts-nil, Puts-append}
 use Rattle.strip_pieces.proofs.SliceWriterLemmas.{Puts-length}
-use Rattle.strip_pieces.proofs.FeedLemmas.{Continues-append, Continues-nil}
+use Rattle.strip_pieces.proofs.FeedLemmas.{Continues-append, Continues-nil, length-continued}
 use Rattle.std.proofs.lemmas.Grind.{flat_map-append}
-use Rattle.ansi_strip.proofs.PieceLength.{length-continued}
 use Rattle.strip_pieces.proofs.feeding.take.Goals as goal
 
 pub loop-taken-init : goal.loop-taken-init

@@ -1,0 +1,105 @@
+//! The performer of each stream: what writes its text as HTML, or what a screen of its own showed.
+ghost use Rattle.std.specs.Prelude.{◌≡◌, List, IfOk, IfErr};
+ghost use Rattle.anstyle_parse.specs.Stream.Call.{Call};
+ghost use Rattle.ansi_html.specs.Html.{html_text, html_ending};
+ghost use Rattle.ansi_screen.specs.Size.{IsTaken};
+ghost use Rattle.screen_html.specs.Shown.{left_html, ending_html};
+ghost use Rattle.ansi2html.specs.Sizes.{screen_of};
+
+use ansi_html::{HtmlWriter, Styling};
+use ansi_screen::{Screen, Size};
+use anstyle_parse::io::{Output, Sink};
+use each_source::Begin;
+use screen_html::{HtmlRows, LinkMemory};
+use screen_text::ShownWriter;
+use std::alloc::{AllocError, Global};
+
+/// Each stream is written with its styles said in this way.
+#[derive(Debug, Clone, Copy, PartialEq, Eq)]
+pub struct Converting {
+    pub styling: Styling,
+}
+
+impl<W: Sink> Begin<HtmlWriter<W>, W> for Converting {
+    ghost use Rattle.ansi_html.specs.Writer.{output_of, text_from, ending_from};
+    ghost use Rattle.ansi2html.specs.Streams.{said_as};
+
+    ghost text = { λ converting. html_text (said_as converting) };
+
+    ghost ending = { λ _. html_ending };
+
+    fn begin(&self, output: Output<W>) -> Result<HtmlWriter<W>, Output<W>>
+        ensures output { IfOk result (λ performer. output_of performer ≡ output) }
+        ensures text { IfOk result (λ performer. (calls : List Call)
+            → text_from performer calls ≡ html_text (said_as self.now) calls) }
+        ensures ending { IfOk result (λ performer. (calls : List Call)
+            → ending_from performer calls ≡ html_ending calls) }
+        ensures kept { IfErr result (λ kept. kept ≡ output) }
+    {
+        Ok(HtmlWriter::new(self.styling, output))
+    }
+}
+
+/// Each stream is shown by a screen of this size, and that written with its styles said in this way.
+#[derive(Drop)]
+pub struct Showing {
+    alloc: Global,
+    size: Size,
+    styling: Styling,
+    ghost taken: { IsTaken size },
+}
+
+impl Showing {
+    ghost use Rattle.ansi2html.specs.Streams.{size_of, shown_as};
+
+    /// For screens of a size that screens can have.
+    pub fn new(alloc: Global, size: Size, styling: Styling) -> Showing
+        requires { IsTaken size }
+        ensures size { size_of result ≡ size }
+        ensures styling { shown_as result ≡ styling }
+    {
+        Showing {
+            alloc,
+            size,
+            styling,
+        }
+    }
+
+    /// A blank screen, and memory for links.
+    fn parts(&self) -> Result<(Screen, LinkMemory), AllocError>
+        ensures { IfOk result (λ parts. parts.0 ≡ screen_of (size_of self.now)) }
+    {
+        let screen = Screen::new(self.alloc, self.size.columns, self.size.rows)?;
+        let memory = LinkMemory::new(self.alloc)?;
+        Ok((screen, memory))
+    }
+}
+
+impl<W: Sink> Begin<ShownWriter<HtmlRows<W>>, W> for Showing {
+    ghost use Rattle.screen_html.specs.Writer.{output_of, standing_of, row_html, after_row, after_command, closing_html};
+    ghost use Rattle.screen_text.specs.Writer.{rows_of, text_from, ending_from};
+    ghost use Rattle.ansi2html.specs.Streams.{size_of, shown_as};
+
+    ghost text = { λ showing. left_html (shown_as showing) (screen_of (size_of showing)) };
+
+    ghost ending = { λ showing. ending_html (shown_as showing) (screen_of (size_of showing)) };
+
+    fn begin(&self, output: Output<W>) -> Result<ShownWriter<HtmlRows<W>>, Output<W>>
+        ensures output { IfOk result (λ performer. output_of (rows_of performer) ≡ output) }
+        ensures text { IfOk result (λ performer. (calls : List Call)
+            → text_from standing_of row_html after_row after_command performer calls
+            ≡ left_html (shown_as self.now) (screen_of (size_of self.now)) calls) }
+        ensures ending { IfOk result (λ performer. (calls : List Call)
+            → ending_from standing_of row_html after_row after_command closing_html performer calls
+            ≡ ending_html (shown_as self.now) (screen_of (size_of self.now)) calls) }
+        ensures kept { IfErr result (λ kept. kept ≡ output) }
+    {
+        match self.parts() {
+            Ok((screen, memory)) => {
+                let rows = HtmlRows::new(self.styling, memory, output);
+                Ok(ShownWriter::new(screen, rows))
+            }
+            Err(_) => Err(output),
+        }
+    }
+}

@@ -1,0 +1,81 @@
+//! The performer of each stream: what strips it, or what follows a screen of its own.
+ghost use Rattle.std.specs.Prelude.{◌≡◌, List, IfOk, IfErr};
+ghost use Rattle.anstyle_parse.specs.Stream.Call.{Call};
+ghost use Rattle.ansi_strip.specs.Strip.{stripped};
+ghost use Rattle.ansi_screen.specs.Size.{IsTaken};
+ghost use Rattle.ansi2text.specs.Sizes.{screen_of, no_text};
+ghost use Rattle.screen_text.specs.Shown.{left_text, ending_text};
+
+use ansi_screen::{Screen, Size};
+use ansi_strip::Stripper;
+use anstyle_parse::io::{CallWriter, Output, Sink};
+use each_source::Begin;
+use screen_text::{ShownWriter, TextRows};
+use std::alloc::Global;
+
+/// Each stream is stripped.
+#[derive(Debug, Clone, Copy, PartialEq, Eq)]
+pub struct Stripping;
+
+impl<W: Sink> Begin<Stripper<W>, W> for Stripping {
+    ghost use Rattle.ansi_strip.specs.Stripper.{output_of};
+
+    ghost text = { λ _. stripped };
+
+    ghost ending = { λ _ _. no_text };
+
+    fn begin(&self, output: Output<W>) -> Result<Stripper<W>, Output<W>>
+        ensures output { IfOk result (λ performer. output_of performer ≡ output) }
+        ensures text { IfOk result (λ performer. (calls : List Call) → stripped calls ≡ stripped calls) }
+        ensures ending { IfOk result (λ performer. (calls : List Call) → no_text ≡ no_text) }
+        ensures kept { IfErr result (λ kept. kept ≡ output) }
+    {
+        Ok(Stripper::over(output))
+    }
+}
+
+/// Each stream is shown by a screen of this size.
+#[derive(Drop)]
+pub struct Showing {
+    alloc: Global,
+    size: Size,
+    ghost taken: { IsTaken size },
+}
+
+impl Showing {
+    ghost use Rattle.ansi2text.specs.Streams.{size_of};
+
+    /// For screens of a size that screens can have.
+    pub fn new(alloc: Global, size: Size) -> Showing
+        requires { IsTaken size }
+        ensures { size_of result ≡ size }
+    {
+        Showing { alloc, size }
+    }
+}
+
+impl<W: Sink> Begin<ShownWriter<TextRows<W>>, W> for Showing {
+    ghost use Rattle.screen_text.specs.Lines.{output_of, is_open, row_text_at, after_row, after_command, closing};
+    ghost use Rattle.screen_text.specs.Writer.{rows_of, text_from, ending_from};
+    ghost use Rattle.ansi2text.specs.Streams.{size_of};
+
+    ghost text = { λ showing. left_text (screen_of (size_of showing)) };
+
+    ghost ending = { λ showing. ending_text (screen_of (size_of showing)) };
+
+    fn begin(&self, output: Output<W>) -> Result<ShownWriter<TextRows<W>>, Output<W>>
+        ensures output { IfOk result (λ performer. output_of (rows_of performer) ≡ output) }
+        ensures text { IfOk result (λ performer. (calls : List Call)
+            → text_from is_open row_text_at after_row after_command performer calls
+            ≡ left_text (screen_of (size_of self.now)) calls) }
+        ensures ending { IfOk result (λ performer. (calls : List Call)
+            → ending_from is_open row_text_at after_row after_command closing performer calls
+            ≡ ending_text (screen_of (size_of self.now)) calls) }
+        ensures kept { IfErr result (λ kept. kept ≡ output) }
+    {
+        match Screen::new(self.alloc, self.size.columns, self.size.rows) {
+            Ok(screen) => Ok(ShownWriter::new(screen, TextRows::new(output))),
+            Err(_) => Err(output),
+        }
+    }
+}

@@ -1,0 +1,161 @@
+-- Texts that come into their cells at once.
+use Rattle.std.proofs.Common.{◌≡◌, ℕ, zero, suc, ◌+◌, ◌-◌, ◌<◌, ◌≤◌, Bool, true, false, ◌&&◌, List, [], ◌∷◌, ◌++◌, length, get_or, take, refl, ap, ap₂, sym, ◌∙◌, subst, arith}
+use Rattle.std.specs.Prelude.{nat_lt, nat_le, not, ◌==◌, Option}
+use Rattle.std.proofs.lemmas.Bool.{le-ltb, lt-leb, and_parts, leb-true}
+use Rattle.std.specs.Prelude.{min}
+use Rattle.std.proofs.lemmas.List.{length-take-le, map-append}
+use Rattle.anstyle_parse.proofs.Lists.Parts.{AllByRecursion-take}
+use Rattle.anstyle_parse.specs.Stream.Bytes.{is_within}
+use Rattle.anstyle_parse.specs.Stream.Call.{print}
+use Rattle.anstyle_parse.specs.Stream.Items.{EachIs}
+use Rattle.ansi_screen.specs.declared.cell.Cell.{Cell}
+use Rattle.ansi_screen.specs.Cells.{change}
+use Rattle.ansi_screen.specs.Display.{Display, here}
+use Rattle.ansi_screen.specs.Widths.{is_shown, columns}
+use Rattle.ansi_screen.specs.Print.{glyph, wrapped, with_room, with_glyph, put, shown, draws, printed}
+use Rattle.ansi_screen.specs.Runs.{is_printed_ascii, with_glyphs, printed_all, HasRoom}
+use Rattle.ansi_screen.specs.After.{State, repeatable, after, after_all}
+use Rattle.ansi_screen.specs.Leaving.{is_wrapping, leaving, all_left}
+use Rattle.ansi_screen.specs.Laws.{printing}
+use Rattle.ansi_screen.specs.TextsProof.{after_all-append}
+use Rattle.ansi_screen.proofs.RangeLemmas.{no_column-below, two_columns-below}
+
+-- the display with a text put into the cursor's row, and the cursor after it
+abbrev pub with_run : List ℕ → Display → Display
+with_run text d = record d {
+  cells = with_glyphs (here d) text d.cursor.style d.link d.cells;
+  cursor = record d.cursor { column = d.cursor.column + length text };
+}
+
+-- printed ASCII is shown in one column
+within-parts : (c : ℕ) → is_printed_ascii c ≡ true → (0x20 ≤ c) × (c ≤ 0x7E)
+unfolding is_within
+within-parts c is = let both = and_parts (nat_le 0x20 c) (nat_le c 0x7E) is in (leb-true 0x20 c both.0, leb-true c 0x7E both.1)
+
+shown-ascii : (c : ℕ) → 0x20 ≤ c → c ≤ 0x7E → is_shown c ≡ true
+unfolding is_shown is_within
+shown-ascii c low high =
+    let above : nat_lt c 0x20 ≡ false = le-ltb c 0x20 low in
+    let below : nat_le 0x7F c ≡ false = lt-leb 0x7F c (omega arith) in
+    rw (above, below) refl
+
+columns-ascii : (c : ℕ) → c ≤ 0x7E → columns c ≡ 1
+unfolding columns
+columns-ascii c high = rw (no_column-below c (omega arith), two_columns-below c (omega arith)) refl
+
+-- a character of one column, where the row has room
+one-printed : (c : ℕ) (d : Display) → is_shown c ≡ true → columns c ≡ 1 → d.inserts ≡ false → draws d.cursor.charsets ≡ false
+    → d.cursor.column + 1 ≤ d.width → printed c d ≡ with_run (c ∷ []) d
+unfolding printed shown put wrapped with_room with_glyph
+one-printed c d is one stays letters room =
+    let fits : nat_lt d.width (d.cursor.column + 1) ≡ false = le-ltb d.width (d.cursor.column + 1) room in
+    rw (is, letters, one, fits, fits, stays) refl
+
+module _ (c : ℕ) (text : List ℕ) (d : Display) (ascii : is_printed_ascii c ≡ true) (room : HasRoom (length (c ∷ text)) d) where
+  first-printed : printed c d ≡ with_run (c ∷ []) d
+  first-printed =
+      let parts = within-parts c ascii in
+      one-printed c d (shown-ascii c parts.0 parts.1) (columns-ascii c parts.1) room.stays room.letters (omega (arith, room.fits))
+
+  first-room : HasRoom (length text) (printed c d)
+  first-room =
+      subst (HasRoom (length text)) (sym first-printed) (record { fits = omega (arith, room.fits); stays = room.stays; letters = room.letters })
+
+-- and a text of them
+pub run-printed : (text : List ℕ) (d : Display) → EachIs is_printed_ascii text → HasRoom (length text) d → printed_all text d ≡ with_run text d
+run-printed [] d are room =
+    let none : d.cursor.column ≡ d.cursor.column + length {A = ℕ} [] = omega arith in
+    ap (λ k. record d { cursor = record d.cursor { column = k } }) none
+run-printed (c ∷ text) d are room =
+    let x : Display = with_run (c ∷ []) d in
+    let place : here x ≡ here d + 1 = omega arith in
+    let columns_then : x.cursor.column + length text ≡ d.cursor.column + length (c ∷ text) = omega arith in
+    run-printed text (printed c d) are.1 (first-room c text d are.0 room)
+    ∙ (ap (with_run text) (first-printed c text d are.0 room)
+    ∙ ap₂ (λ n k. record d {
+      cells = with_glyphs n text d.cursor.style d.link (change (here d) (here d + 1) (λ run. glyph 1 c d.cursor.style d.link) d.cells);
+      cursor = record d.cursor { column = k };
+    }) place columns_then)
+
+-- of which no row leaves
+not-full : (a b e : Bool) → (a && b && false && e) ≡ false
+not-full true true e = refl
+not-full true false e = refl
+not-full false b e = refl
+
+none-leaves : (c : ℕ) (d : Display) → columns c ≡ 1 → d.cursor.column + 1 ≤ d.width → leaving (print c) d ≡ 0
+unfolding is_wrapping
+none-leaves c d one room =
+    let fits : nat_lt d.width (d.cursor.column + columns c) ≡ false = le-ltb d.width (d.cursor.column + columns c) (omega (arith, one)) in
+    rw (fits, not-full (is_shown c) (not (columns c == 0)) d.wraps) refl
+
+pub run-stays : (text : List ℕ) (s : State) → EachIs is_printed_ascii text → HasRoom (length text) s.display → all_left (printing text) s ≡ []
+run-stays [] s are room = refl
+run-stays (c ∷ text) s are room =
+    let parts = within-parts c are.0 in
+    let stays : leaving (print c) s.display ≡ 0 = none-leaves c s.display (columns-ascii c parts.1) (omega (arith, room.fits)) in
+    rw stays (run-stays text (after (print c) s) are.1 (first-room c text s.display are.0 room))
+
+-- what REP repeats after a text
+abbrev pub last_after : List ℕ → Option ℕ → Option ℕ
+last_after [] last = last
+last_after (c ∷ text) last = last_after text (repeatable c)
+
+pub after-printing : (text : List ℕ) (s : State) → after_all (printing text) s ≡ record { display = printed_all text s.display; last = last_after text s.last }
+after-printing [] s = refl
+after-printing (c ∷ text) s = after-printing text (after (print c) s)
+
+pub last_after-at : (text : List ℕ) (n : ℕ) (last : Option ℕ) → n < length text → last_after (take (suc n) text) last ≡ repeatable (get_or text n 0)
+last_after-at [] n last inside = absurd (omega arith)
+last_after-at (c ∷ text) zero last inside = refl
+last_after-at (c ∷ text) (suc n) last inside = last_after-at text n (repeatable c) (omega arith)
+
+-- what a display and a screen are once a run is put
+pub put-display : (text : List ℕ) (v d : Display) (place : ℕ) (cells : List Cell) → v ≡ d → EachIs is_printed_ascii text → HasRoom (length text) d
+    → place ≡ here d → cells ≡ with_glyphs place text v.cursor.style v.link v.cells
+    → record v { cells = cells; cursor = record v.cursor { column = v.cursor.column + length text } } ≡ printed_all text d
+put-display text v d place cells same are room there put =
+    let at : place ≡ here v = there ∙ ap here (sym same) in
+    ap (λ l. record v { cells = l; cursor = record v.cursor { column = v.cursor.column + length text } })
+    (put ∙ ap (λ n. with_glyphs n text v.cursor.style v.link v.cells) at)
+    ∙ (sym (run-printed text v are (subst (HasRoom (length text)) (sym same) room)) ∙ ap (printed_all text) same)
+
+pub put-state : (run : List ℕ) (n : ℕ) (v s : State) (d : Display) (last : Option ℕ) (x : ℕ) → v ≡ s → 0 < n → n ≤ length run
+    → d ≡ printed_all (take n run) v.display → last ≡ repeatable x → x ≡ get_or run (n - 1) 0
+    → record { display = d; last = last } ≡ after_all (printing (take n run)) s
+put-state run n v s d last x same some inside put repeats from =
+    let back : n ≡ suc (n - 1) = omega arith in
+    let is : last_after (take n run) v.last ≡ repeatable (get_or run (n - 1) 0) =
+    ap (λ k. last_after (take k run) v.last) back ∙ last_after-at run (n - 1) v.last (omega arith) in
+    let shape : Display → Option ℕ → State = λ e l. record { display = e; last = l } in
+    ap₂ shape put (repeats ∙ (ap repeatable from ∙ sym is))
+    ∙ (sym (after-printing (take n run) v) ∙ ap (after_all (printing (take n run))) same)
+
+-- for less than there is room for, there is room
+pub put-stays : (run : List ℕ) (n room : ℕ) (v s : State) → v ≡ s → EachIs is_printed_ascii run → n ≡ min room (length run) → 0 < n
+    → (0 < room → HasRoom room v.display) → all_left (printing (take n run)) s ≡ []
+put-stays run n room v s same are least some has =
+    let there : HasRoom room v.display = has (omega arith) in
+    let long : length (take n run) ≡ n = length-take-le n run (omega arith) in
+    let less : HasRoom (length (take n run)) v.display =
+    record { fits = omega (arith, there.fits, long, least); stays = there.stays; letters = there.letters } in
+    ap (all_left (printing (take n run))) (sym same)
+    ∙ run-stays (take n run) v (AllByRecursion-take _ n run are) less
+
+pub put-room : (run : List ℕ) (n room : ℕ) (d : Display) → n ≡ min room (length run) → 0 < n → (0 < room → HasRoom room d) → HasRoom (length (take n run)) d
+put-room run n room d least some has =
+    let there : HasRoom room d = has (omega arith) in
+    let long : length (take n run) ≡ n = length-take-le n run (omega arith) in
+    record { fits = omega (arith, there.fits, long, least); stays = there.stays; letters = there.letters }
+
+-- texts, one after another
+pub printing-append : (a b : List ℕ) → printing (a ++ b) ≡ printing a ++ printing b
+printing-append a b = map-append print a b
+
+pub after-more : (passed more : List ℕ) (first middle last : State) → middle ≡ after_all (printing passed) first → last ≡ after_all (printing more) middle
+    → last ≡ after_all (printing (passed ++ more)) first
+after-more passed more first middle last before then_more =
+    then_more
+    ∙ (ap (after_all (printing more)) before
+    ∙ (sym (after_all-append (printing passed) (printing more) first)
+    ∙ ap (λ calls. after_all calls first) (sym (printing-append passed more))))

@@ -1,0 +1,44 @@
+-- A run more, and what stands after it.
+use Rattle.std.proofs.Common.{◌≡◌, ◌++◌, [], map, length, eqb-true, refl, sym, ap, ◌∙◌, subst}
+use Rattle.std.proofs.lemmas.List.{nil_from_length}
+use Rattle.std.proofs.lemmas.Str.{chars-nil, IsUtf8-nil, IsUtf8-append}
+use Rattle.anstyle_parse.specs.Stream.Call.{print}
+use Rattle.ansi_screen.proofs.PartLemmas.{run-utf8, text-parted, text-ended, text-more, text-run}
+use Rattle.ansi_screen.proofs.texts.print_by_runs.Goals as goal
+
+pub rest-init : goal.rest-init
+rest-init g c =
+    let first = c.args.performer.now in
+    record {
+      passed = [];
+      utf8 = IsUtf8-nil;
+      rest_utf8 = c.utf8.text;
+      joined = refl;
+      printed = subst (λ calls. g.P.PutRuns.receives first calls first) (sym (ap (map print) chars-nil)) (g.met.P.PutRuns.receives_none first);
+    }
+
+pub rest-preserved : goal.rest-preserved
+rest-preserved g c =
+    let before = c.rest.invariant in
+    let run = c.split_run.result.0.now in
+    let others = c.split_others.result.0.now in
+    let ascii = c.split_run.ensures.ascii in
+    record {
+      passed = before.passed ++ (run ++ others);
+      utf8 = IsUtf8-append before.passed (run ++ others) before.utf8 (IsUtf8-append run others (run-utf8 run ascii) c.split_others.ensures.front);
+      rest_utf8 = c.split_others.ensures.back;
+      joined = text-parted c.args.text.now before.passed c.rest.rest.now run c.split_run.result.1.now others c.split_others.result.1.now
+          before.joined c.split_run.ensures.joined c.split_others.ensures.joined;
+      printed = text-more g.P.PutRuns.receives g.met.P.PutRuns.receives_more before.passed run others c.args.performer.now c.rest.performer
+          c.print_run.new.performer c.print_each.new.performer before.utf8 ascii before.printed c.print_run.ensures c.print_each.ensures;
+    }
+
+pub returns-then-is_empty : goal.returns-then-is_empty
+returns-then-is_empty g c =
+    let before = c.rest.invariant in
+    let run = c.split_run.result.0.now in
+    let behind = c.split_run.result.1.now in
+    let none : behind ≡ [] = nil_from_length behind (eqb-true (length behind) 0 (sym c.is_empty-in-rest.ensures ∙ c.if-is_empty.true)) in
+    text-run g.P.PutRuns.receives g.met.P.PutRuns.receives_more c.args.text.now before.passed run c.args.performer.now c.rest.performer
+    c.print_run.new.performer (text-ended c.args.text.now before.passed c.rest.rest.now run behind before.joined c.split_run.ensures.joined none)
+    before.utf8 c.split_run.ensures.ascii before.printed c.print_run.ensures

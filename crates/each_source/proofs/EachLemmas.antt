@@ -1,0 +1,113 @@
+-- Sources that were read, one after another.
+use Rattle.std.proofs.Common.{◌≡◌, ℕ, ◌≤◌, Bool, true, false, List, [], ◌∷◌, ◌++◌, Option, None, Some, is_some, Result, Ok, Err, ◌⊎◌, inl, inr, length, set, get_or, ◌<◌, IsTrue, refl, sym, ap, ◌∙◌, subst, arith}
+use Rattle.std.specs.List.{flat_map}
+use Rattle.std.specs.Io.KnownBytes.{Appends}
+use Rattle.std.proofs.KnownBytes.{Appends-kept}
+use Rattle.anstyle_parse.specs.declared.io.Fault.{Fault}
+use Rattle.anstyle_parse.specs.declared.io.Fault.TheVariants.{Read, Write, Flush}
+use Rattle.anstyle_parse.specs.declared.io.devices.Sink.{Ghosts as SinkOf}
+use Rattle.anstyle_parse.specs.declared.io.output.Output.{Output}
+use Rattle.anstyle_parse.specs.Io.AddingProof.{AddsAt, FinishesAt}
+use Rattle.anstyle_parse.specs.Io.Output.{writer_in, fault_in, Adds, Finishes, Writes, Causes}
+use Rattle.anstyle_parse.specs.declared.io.devices.Source.{Ghosts as SourceOf}
+use Rattle.anstyle_parse.specs.declared.io.engine.Stop.{Stop}
+use Rattle.anstyle_parse.specs.declared.io.engine.Stop.TheVariants.{AtEnd, AtFault, AtRead}
+use Rattle.anstyle_parse.specs.Stream.Call.{Call}
+use Rattle.anstyle_parse.specs.Io.Run.{most_reads, StopsAs}
+use Rattle.each_source.specs.Each.{IsRead, AreRead, WritesEach, stopped_by}
+
+-- where no fault is kept, the source has ended
+pub ended-stops : (stop : Stop) (at_end : Type 0) (fault : Option Fault) (failed failed_after : Bool) (count : ℕ) → fault ≡ None
+    → StopsAs stop at_end fault failed failed_after count → at_end ⊎ (IsTrue failed_after ⊎ (most_reads ≤ count))
+ended-stops AtEnd at_end fault failed failed_after count none stops = inl stops.0
+ended-stops AtFault at_end fault failed failed_after count none stops = absurd (let clash : false ≡ true = sym (ap is_some none) ∙ stops.0 in cc)
+ended-stops AtRead at_end fault failed failed_after count none stops = inr stops.1
+
+module _ {R : Type 0} (source : SourceOf R) where
+  -- what is known of sources that were read whole is known where less is
+  IsRead-when : {A B : Type 0} (reader after : R) (calls : List Call) → (B → A) → IsRead source A reader after calls → IsRead source B reader after calls
+  IsRead-when reader after calls narrows is = record {
+    read = is.read;
+    consumed = is.consumed;
+    are_calls = is.are_calls;
+    ended = λ b. is.ended (narrows b);
+  }
+
+  pub AreRead-when : {A B : Type 0} (readers readers_after : List R) (calls : List (List Call)) → (B → A)
+      → AreRead source A readers readers_after calls → AreRead source B readers readers_after calls
+  AreRead-when readers readers_after [] narrows are = are
+  AreRead-when [] readers_after (calls ∷ others) narrows are = absurd are
+  AreRead-when (reader ∷ readers) [] (calls ∷ others) narrows are = absurd are
+  AreRead-when (reader ∷ readers) (after ∷ readers_after) (calls ∷ others) narrows are =
+      (IsRead-when reader after calls narrows are.0, AreRead-when readers readers_after others narrows are.1)
+
+  -- the next source is read too
+  AreRead-push : {A : Type 0} (readers readers_after : List R) (calls : List (List Call)) (more : List Call) (d after : R)
+      → length calls < length readers_after → AreRead source A readers readers_after calls → IsRead source A (get_or readers_after (length calls) d) after more
+      → AreRead source A readers (set readers_after (length calls) after) (calls ++ more ∷ [])
+  AreRead-push {A = A} readers (reader ∷ readers_after) [] more d after below same is =
+      subst (λ rs. AreRead source A rs (after ∷ readers_after) (more ∷ [])) same (is, refl)
+  AreRead-push {A = A} readers [] calls more d after below are is = absurd (omega arith)
+  AreRead-push [] (reader_after ∷ readers_after) (calls ∷ others) more d after below are is = absurd are
+  AreRead-push (reader ∷ readers) (reader_after ∷ readers_after) (calls ∷ others) more d after below are is =
+      (are.0, AreRead-push readers readers_after others more d after (omega arith) are.1 is)
+
+  pub AreRead-push_at : {A : Type 0} (readers readers_after : List R) (calls : List (List Call)) (more : List Call) (d reader after : R) (i : ℕ)
+      → length calls ≡ i → i < length readers_after → reader ≡ get_or readers_after i d → AreRead source A readers readers_after calls → IsRead source A reader after more
+      → AreRead source A readers (set readers_after i after) (calls ++ more ∷ [])
+  AreRead-push_at {A = A} readers readers_after calls more d reader after i e below its are is =
+      let there : length calls < length readers_after = omega (arith, e, below) in
+      let read = subst (λ k. IsRead source A (get_or readers_after k d) after more) (sym e) (subst (λ r. IsRead source A r after more) its is) in
+      subst (λ k. AreRead source A readers (set readers_after k after) (calls ++ more ∷ [])) e
+      (AreRead-push readers readers_after calls more d after there are read)
+
+module _ {W T : Type 0} (sink : SinkOf W) where
+  -- a text that is written whole stays, however the output ends
+  pub written_whole : (text : List ℕ) (start final : Output W) (new : W) (answer : Result T Fault) → fault_in start ≡ None → fault_in final ≡ None
+      → Adds sink text start final → Finishes sink final new answer → Appends (sink.contents (writer_in start)) (sink.contents new) text
+  written_whole text start final new answer none clear added finishes =
+      by_added (subst (λ f. AddsAt f sink text start final) none added) (subst (λ f. FinishesAt f sink (writer_in final) new answer) clear finishes)
+    where
+      by_added : AddsAt None sink text start final → FinishesAt None sink (writer_in final) new answer → Appends (sink.contents (writer_in start)) (sink.contents new) text
+      by_added (inl all) end = Appends-kept _ _ _ _ all.written end.0
+      by_added (inr part) end = absurd (let clash : Some Write ≡ None = sym part.fault ∙ clear in cc)
+
+  -- unless a write failed the output has no fault
+  pub clear_or_written : (text : List ℕ) (start final : Output W) (new : W) (answer : Result T Fault) → fault_in start ≡ None
+      → Adds sink text start final → Finishes sink final new answer → (answer ≡ Err Write) ⊎ (fault_in final ≡ None)
+  clear_or_written text start final new answer none added finishes = by_added (subst (λ f. AddsAt f sink text start final) none added)
+    where
+      by_added : AddsAt None sink text start final → (answer ≡ Err Write) ⊎ (fault_in final ≡ None)
+      by_added (inl all) = inr all.no_fault
+      by_added (inr part) = let end = subst (λ f. FinishesAt f sink (writer_in final) new answer) part.fault finishes in inl end.1
+
+  -- a run from what was read, what was written and why
+  pub WritesEach-from : {R : Type 0} (source : SourceOf R) (text : List Call → List ℕ) (head tail : List ℕ) (readers readers_after : List R) (writer new : W)
+      (middle final : Output W) (answer : Result T Fault) (calls : List (List Call)) → (fault_in final ≡ None → fault_in middle ≡ None)
+      → AreRead source (fault_in middle ≡ None) readers readers_after calls → (fault_in middle ≡ None → length calls ≡ length readers)
+      → (answer ≡ Err Write) ⊎ (fault_in final ≡ None) → Writes (head ++ (flat_map text calls ++ tail)) (sink.contents writer) (sink.contents new) answer
+      → Causes (sink.has_failed writer) (sink.has_failed new) answer
+      → WritesEach source sink text head tail readers readers_after writer new (stopped_by answer)
+  WritesEach-from source text head tail readers readers_after writer new middle final (Ok done) calls before are all (inl e) written causes =
+      absurd (let clash : Ok done ≡ Err Write = e in cc)
+  WritesEach-from source text head tail readers readers_after writer new middle final (Ok done) calls before are all (inr clear) written causes = record {
+    calls = calls;
+    are_read = AreRead-when source readers readers_after calls (λ _. before clear) are;
+    written = (written, all (before clear));
+    causes = causes;
+  }
+  WritesEach-from source text head tail readers readers_after writer new middle final (Err Flush) calls before are all (inl e) written causes =
+      absurd (let clash : Err Flush ≡ Err Write = e in cc)
+  WritesEach-from source text head tail readers readers_after writer new middle final (Err Flush) calls before are all (inr clear) written causes = record {
+    calls = calls;
+    are_read = AreRead-when source readers readers_after calls (λ _. before clear) are;
+    written = (written, all (before clear));
+    causes = causes;
+  }
+  WritesEach-from source text head tail readers readers_after writer new middle final (Err Write) calls before are all which written causes = record {
+    calls = calls;
+    are_read = AreRead-when source readers readers_after calls (λ never. absurd never) are;
+    written = written;
+    causes = causes;
+  }
+  WritesEach-from source text head tail readers readers_after writer new middle final (Err Read) calls before are all which written causes = absurd written

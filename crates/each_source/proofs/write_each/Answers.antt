@@ -1,0 +1,60 @@
+-- The head, the texts of the sources, and the tail.
+use Rattle.std.proofs.Common.{◌++◌, ℕ, List, sym, subst}
+use Rattle.std.specs.List.{flat_map}
+use Rattle.std.specs.Io.KnownBytes.{Appends}
+use Rattle.anstyle_parse.specs.Stream.Call.{Call}
+use Rattle.anstyle_parse.proofs.Written.Run.{Adds-no_fault}
+use Rattle.anstyle_parse.proofs.Written.Output.{Adds-append, Writes-finish, Causes-finish}
+use Rattle.each_source.specs.Each.{WritesEach, stopped_by}
+use Rattle.each_source.specs.declared.Stopped.{Stopped}
+use Rattle.std.specs.Prelude.{Result}
+use Rattle.each_source.proofs.EachLemmas.{AreRead-when, written_whole, clear_or_written, WritesEach-from}
+use Rattle.each_source.proofs.write_each.Goals as goal
+
+pub returns-then-not-has_memory-clause-joined : goal.returns-then-not-has_memory-clause-joined
+returns-then-not-has_memory-clause-joined g c =
+    let sink = g.W.Sink in
+    let d = c.add_each-output.ensures in
+    let text : List Call → List ℕ = λ calls. g.B.Begin.text c.args.begin.now calls ++ g.B.Begin.ending c.args.begin.now calls in
+    let texts = flat_map text d.calls in
+    let head = c.args.head.now in
+    let start = c.new-output.result in
+    let first = c.put.new.self in
+    let middle = c.add_each-output.result.0 in
+    let some = d.some c.if-not-has_memory.true in
+    let both = Adds-append sink head texts start first middle c.put.ensures d.added in
+    let whole = written_whole sink (head ++ texts) start middle c.finish-writer.result.0 c.finish-writer.result.1 c.new-output.ensures.no_fault some.0 both c.finish-writer.ensures.finishes in
+    record {
+      calls = d.calls;
+      are_read = AreRead-when g.R.Source c.args.readers.now c.add_each-output.new.readers d.calls (λ _. some.0) d.are_read;
+      written = (subst (λ w. Appends (sink.contents w) (sink.contents c.finish-writer.result.0) (head ++ texts)) c.new-output.ensures.writer whole, some.1);
+      causes = tt;
+    }
+
+pub returns-clause-joined : goal.returns-clause-joined
+returns-clause-joined g c =
+    let R = g.row.R.Denot in
+    let W = g.row.W.Denot in
+    let sink = g.W.Sink in
+    let d = c.add_each-output.ensures in
+    let text : List Call → List ℕ = λ calls. g.B.Begin.text c.args.begin.now calls ++ g.B.Begin.ending c.args.begin.now calls in
+    let texts = flat_map text d.calls in
+    let head = c.args.head.now in
+    let tail = c.args.tail.now in
+    let start = c.new-output.result in
+    let first = c.put.new.self in
+    let middle = c.add_each-output.result.0 in
+    let final = c.put-2.new.self in
+    let new = c.finish-writer-2.result.0 in
+    let answer = c.finish-writer-2.result.1 in
+    let none = c.new-output.ensures.no_fault in
+    let finishes = c.finish-writer-2.ensures.finishes in
+    let added = Adds-append sink head (texts ++ tail) start first final c.put.ensures (Adds-append sink texts tail first middle final d.added c.put-2.ensures) in
+    let all = d.all c.if-not-has_memory.false in
+    let Ran : W → Result (Unit {0}) Stopped → Type 0 = λ w a. WritesEach g.R.Source sink text head tail c.args.readers.now c.add_each-output.new.readers w new a in
+    let ran = WritesEach-from sink g.R.Source text head tail c.args.readers.now c.add_each-output.new.readers start.writer new middle final answer d.calls
+    (Adds-no_fault R W (Unit {0}) g.R.Source sink tail middle final c.put-2.ensures) d.are_read all
+    (clear_or_written sink (head ++ (texts ++ tail)) start final new answer none added finishes)
+    (Writes-finish sink (head ++ (texts ++ tail)) start final new answer none added finishes)
+    (Causes-finish sink (head ++ (texts ++ tail)) start final new answer none added finishes) in
+    subst (λ a. Ran c.args.writer a) (sym c.stopped_by.ensures) (subst (λ w. Ran w (stopped_by answer)) c.new-output.ensures.writer ran)

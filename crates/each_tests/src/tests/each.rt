@@ -1,0 +1,118 @@
+//! Sources one after another.
+ghost use Rattle.std.specs.Prelude.{◌≡◌, List, IfOk, IfErr};
+ghost use Rattle.anstyle_parse.specs.Stream.Call.{Call};
+ghost use Rattle.ansi_strip.specs.Strip.{stripped};
+ghost use Rattle.each_tests.specs.Ending.{no_text};
+
+use ansi_strip::Stripper;
+use anstyle_parse::io::{Buffer, CallWriter, Fault, FromRead, FromWrite, Output, Sink};
+use each_source::{Begin, Stopped, write_each};
+use standard_streams::{
+    Destination, Input, Line, OUTPUT, Place, Target, given_line, have_failed, inputs, line_of,
+};
+use std::process::{Abort, ExitCode};
+use std::test::Fail;
+use test_streams::{Paper, Tape};
+
+/// Each stream is stripped.
+struct Stripping;
+
+impl<W: Sink> Begin<Stripper<W>, W> for Stripping {
+    ghost use Rattle.ansi_strip.specs.Stripper.{output_of};
+
+    ghost text = { λ _. stripped };
+
+    ghost ending = { λ _ _. no_text };
+
+    fn begin(&self, output: Output<W>) -> Result<Stripper<W>, Output<W>>
+        ensures output { IfOk result (λ performer. output_of performer ≡ output) }
+        ensures text { IfOk result (λ performer. (calls : List Call) → stripped calls ≡ stripped calls) }
+        ensures ending { IfOk result (λ performer. (calls : List Call) → no_text ≡ no_text) }
+        ensures kept { IfErr result (λ kept. kept ≡ output) }
+    {
+        Ok(Stripper::over(output))
+    }
+}
+
+/// Three tapes: a sequence and a character that are cut off by the ends of the first two.
+fn tapes() -> [FromRead<Tape<'static>>; 3] {
+    [
+        FromRead::new(Tape::new(b"A\x1b[3")),
+        FromRead::new(Tape::new(b"1mB\xe2\x82")),
+        FromRead::new(Tape::by_byte(b"\xacC\x1b[m")),
+    ]
+}
+
+#[test]
+fn each_has_a_parser_of_its_own(rt: HostRuntime) -> Result<(), Fail> {
+    let mut readers = tapes();
+    let writer = FromWrite::new(Vec::new(rt.alloc()));
+    let (writer, answer) = write_each(&Stripping, b"<", readers.as_mut_slice(), writer, b">");
+    assert_eq!(rt; writer.into_inner().as_slice(), b"<A1mBC>".as_slice());
+    assert_eq!(rt; answer, Ok(()));
+    Ok(())
+}
+
+#[test]
+fn a_read_that_fails_ends_its_stream_alone(rt: HostRuntime) -> Result<(), Fail> {
+    let mut failing = Tape::by_byte(b"BBBB");
+    failing.fails_at = 3;
+    let mut readers = [
+        FromRead::new(Tape::new(b"A")),
+        FromRead::new(failing),
+        FromRead::new(Tape::new(b"C")),
+    ];
+    let writer = FromWrite::new(Vec::new(rt.alloc()));
+    let (writer, answer) = write_each(&Stripping, b"", readers.as_mut_slice(), writer, b"");
+    assert_eq!(rt; writer.into_inner().as_slice(), b"ABBC".as_slice());
+    assert_eq!(rt; answer, Ok(()));
+    assert!(rt; readers[0].error().is_none() && readers[2].error().is_none());
+    assert!(rt; readers[1].error().is_some());
+    Ok(())
+}
+
+#[test]
+fn after_a_write_that_fails_nothing_is_read(rt: HostRuntime) -> Result<(), Fail> {
+    let mut readers = tapes();
+    let mut paper = Paper::new(rt.alloc());
+    paper.room = 2;
+    let writer = FromWrite::new(paper);
+    let (_writer, answer) = write_each(&Stripping, b"<", readers.as_mut_slice(), writer, b">");
+    assert_eq!(rt; answer, Err(Stopped::AtFault(Fault::Write)));
+    let [first, second, third] = readers;
+    assert!(rt; first.into_inner().reads > 0 && second.into_inner().reads > 0);
+    assert_eq!(rt; third.into_inner().reads, 0);
+    Ok(())
+}
+
+#[test]
+fn the_words_of_a_line(rt: HostRuntime) -> Result<(), Fail> {
+    let alloc = rt.alloc();
+    let given = ["a", "-x", "-o", "-y", "-", "--", "-z"];
+    let mut words = Vec::new(alloc);
+    for word in given {
+        words.push(String::from_str(alloc, word)?)?;
+    }
+    let line: Line = line_of(alloc, words.as_slice(), &["page"])?;
+    assert_eq!(rt; line.options.len(), 2);
+    assert_eq!(rt; line.options[0].as_str(), "-x");
+    assert_eq!(rt; line.options[1].as_str(), "--output=-y");
+    assert_eq!(rt; line.files.len(), 3);
+    assert_eq!(rt; line.files[1].as_str(), "-");
+    assert_eq!(rt; line.files[2].as_str(), "-z");
+    assert!(rt; Place::Words != Place::Files);
+    Ok(())
+}
+
+/// What programs share to read files and to write one, which no test runs here.
+pub fn names_of_files(rt: HostRuntime) -> Result<ExitCode, ExitCode> {
+    let line = given_line(&rt, "", &[OUTPUT])?;
+    let Ok(mut inputs) = inputs(rt, "", line.files.as_slice()) else {
+        return Err(ExitCode::SUCCESS);
+    };
+    let readers: &mut [Input<'_>] = inputs.as_mut_slice();
+    let (target, output): (Target<'_>, Destination) = Target::open(rt, "", None)?;
+    let writer = Buffer::new(FromWrite::new(output));
+    let ran = write_each(&Stripping, b"", readers, writer, b"");
+    Ok(target.ended(have_failed(inputs.as_slice()), ran))
+}

@@ -3,14 +3,14 @@
 
 Usage: bench/python.py [--events | --short] [--bytes N] [--rounds N]
 
-`make library` must have built the shared library, or ANSI_LIBRARY names it. `ansi.strip` is given a str and
-bytes, beside the expression of strip-ansi over the same, in one `re.sub`; `ansi.to_html` a str, beside
+`make library` must have built the shared library, or ANSI_LIBRARY names it. `strip` is given a str and bytes,
+beside the expression of strip-ansi over the same, in one `re.sub`; `to_html` a str, beside
 bench/converter.py, a loop in Python over regular expressions. Each figure is the least wall time of some rounds
 (5), in seconds, ours and the peer's by turns; a ratio is how many times as long the peer takes. That the peer
 of the HTML shows the same text of a megabyte is checked, but for carriage returns.
 
-With --events it is `ansi.events` alone, of bytes, beside `ByteStream` of pyte (Debian's python3-pyte; run this by
-the Python that has it) whose listener does nothing, and beside the calls of the library that `ansi.events` makes,
+With --events it is `events` alone, of bytes, beside `ByteStream` of pyte (Debian's python3-pyte; run this by
+the Python that has it) whose listener does nothing, and beside the calls of the library that `events` makes,
 with nothing read of what they write. Beside the times stand those for one event, in nanoseconds.
 
 With --short it is what a call takes of a str of 20 characters, in microseconds: a clean one, and one with two
@@ -31,7 +31,7 @@ import converter
 import measure
 
 ROOT = os.path.dirname(measure.HERE)
-sys.path.insert(0, "%s/examples" % ROOT)
+sys.path.insert(0, "%s/bindings/python/src" % ROOT)
 EXPRESSION = (
     r"[\x1b\x9b][\[\]()#;?]*(?:(?:(?:(?:;[-a-zA-Z\d/#&.:=?%@~_]+)*"
     r"|[a-zA-Z\d]+(?:;[-a-zA-Z\d/#&.:=?%@~_]*)*)?(?:\x07|\x1b\\|\x9c))"
@@ -72,8 +72,8 @@ def main():
 
 
 def time_texts(options):
-    """A row for each corpus: `ansi.strip` of a str and of bytes, and `ansi.to_html`."""
-    import ansi
+    """A row for each corpus: `strip` of a str and of bytes, and `to_html`."""
+    from ansi_proved import strip, to_html
 
     heading = "".join("  %8s %8s %6s" % (name, "peer", "ratio") for name in ("str", "bytes", "to_html"))
     print("%-12s" % "seconds" + heading)
@@ -81,13 +81,13 @@ def time_texts(options):
         stream = measure.corpus(make_line, options.bytes)
         text = stream.decode(errors="ignore")
         some = text[: text.rindex("\n" if "\n" in text[:1000] else "\x1b", 0, 1_000_000)]
-        if shown(ansi.to_html(some)) != shown(converter.to_html(some)):
+        if shown(to_html(some)) != shown(converter.to_html(some)):
             sys.exit("python.py: the pages show another text on " + make_line.__name__)
         row = "%-12s" % make_line.__name__
         for ours, theirs in [
-            (lambda: ansi.strip(text), lambda: OF_STR.sub("", text)),
-            (lambda: ansi.strip(stream), lambda: OF_BYTES.sub(b"", stream)),
-            (lambda: ansi.to_html(text), lambda: converter.to_html(text)),
+            (lambda: strip(text), lambda: OF_STR.sub("", text)),
+            (lambda: strip(stream), lambda: OF_BYTES.sub(b"", stream)),
+            (lambda: to_html(text), lambda: converter.to_html(text)),
         ]:
             times = least((ours, theirs), options.rounds)
             row += "  %8.4f %8.4f %6.1f" % (*times, times[1] / times[0])
@@ -95,11 +95,11 @@ def time_texts(options):
 
 
 def time_short(options):
-    """A row for each str: `ansi.strip`, `ansi.to_html` and `ansi.events`, and the peers of the first two."""
-    import ansi
+    """A row for each str: `strip`, `to_html` and `events`, and the peers of the first two."""
+    from ansi_proved import events, strip, to_html
 
     names = "strip", "expression", "to_html", "loop", "events"
-    calls = ansi.strip, lambda it: OF_STR.sub("", it), ansi.to_html, converter.to_html, lambda it: list(ansi.events(it))
+    calls = strip, lambda it: OF_STR.sub("", it), to_html, converter.to_html, lambda it: list(events(it))
     print("%-12s" % "microseconds" + "".join("  %10s" % it for it in names))
     for name, text in [("clean", "twenty letters clean"), ("two colours", "\x1b[31mred\x1b[0m, plain.")]:
         actions = [lambda call=call: [call(text) for _ in range(1000)] for call in calls]
@@ -118,15 +118,15 @@ class Listener:
 
 
 def time_events(options):
-    """A row for each corpus: `ansi.events`, pyte, and the library alone."""
-    import ansi
+    """A row for each corpus: `events`, pyte, and the library alone."""
     import pyte
+    from ansi_proved import events
 
     print("%-12s  %8s  %8s  %6s  %8s  %6s" % ("seconds", "events", "pyte", "ratio", "library", "ns"))
     for make_line in measure.CORPORA:
         stream = measure.corpus(make_line, options.bytes)
         actions = [
-            lambda: read_all(ansi.events(stream)),
+            lambda: read_all(events(stream)),
             lambda: pyte.ByteStream(Listener()).feed(stream),
             lambda: call_all(stream),
         ]
@@ -141,9 +141,9 @@ def read_all(events):
 
 
 def call_all(stream):
-    """Makes the calls of `ansi.events`, and answers how many events they write."""
-    from ansi.event import EVENTS, MOST, NUMBERS_AT, ROOM, SIZE, Numbers, State, _feed
-    from ansi.library import address_of
+    """Makes the calls of `events`, and answers how many events they write."""
+    from ansi_proved.event import EVENTS, MOST, NUMBERS_AT, ROOM, SIZE, Numbers, State, _feed
+    from ansi_proved.library import address_of
 
     state, numbers, count = State(), Numbers(), 0
     buffers = state, ctypes.create_string_buffer(EVENTS * SIZE), ctypes.create_string_buffer(ROOM), numbers

@@ -10,11 +10,12 @@ BLOCK = 1 << 20
 class Program:
     """A filter of standard input: the words that it refuses, each with the line that it says then;
     its modes; its own options, where it has options; the words with which it writes fragments
-    or a whole page of HTML, if it does; and those by which it writes a text of its own, and reads nothing."""
+    or a whole page of HTML, if it does; those by which it writes a text of its own, and reads nothing; and with which
+    words it is given files, each beside those by which it writes a text alone, with nothing around it."""
 
-    def __init__(self, name, refused, modes, options=None, fragments=(), page=None, written=()):
+    def __init__(self, name, refused, modes, options=None, fragments=(), page=None, written=(), files=()):
         self.name, self.refused, self.modes, self.options = name, refused, modes, options
-        self.fragments, self.page, self.written = fragments, page, written
+        self.fragments, self.page, self.written, self.files = fragments, page, written, files
 
 
 class Mode:
@@ -681,17 +682,16 @@ DARK_TITLED_HEAD = TITLED_HEAD.replace(ROOT, b":root { color-scheme: dark; color
 
 
 def unknown(name, words, shown=None):
-    """Words of which the first is no option, and what is said then."""
-    is_option, shown = words[0].startswith("-"), shown or '"%s"' % words[0]
-    what = "unknown option %s" if is_option else "unknown word %s: a file is given by <"
-    return words, ("%s: %s (see %s --help)" % (name, what % shown, name)).encode()
+    """Words of which one is no option, the first that begins with a dash, and what is said then."""
+    shown = shown or '"%s"' % next(word for word in words if word.startswith("-"))
+    return words, ("%s: unknown option %s (see %s --help)" % (name, shown, name)).encode()
 
 
 def refused_by(name, *more):
-    """What no program with options takes: names of files, other options, words that are none."""
-    rows = [["log.txt"], [""], ["-"], ["--"], ["-h"], ["--Help"], ["--help="], ["--version=1"], ["help"]]
-    rows += [["a", "--help"], ["--no", "--version"], ["--helpme"]]
-    shown = [unknown(name, ["\x1b[31m\n"], '"\\u{1b}[31m\\n"')]
+    """What no program with options takes: other options, also where files stand before them or behind."""
+    rows = [["--Help"], ["--help="], ["--version=1"], ["-H"], ["-hh"], ["-ofile"], ["--output"], ["---"]]
+    rows += [["a", "--no"], ["--no", "--version"], ["--no", "--", "a"], ["--helpme"]]
+    shown = [unknown(name, ["-\x1b[31m\n"], '"-\\u{1b}[31m\\n"')]
     return [unknown(name, words) for words in [*rows, *more]] + shown
 
 
@@ -726,7 +726,7 @@ PROGRAMS = [
     ),
     Program(
         "ansi2text",
-        refused_by("ansi2text", ["--page"], ["text"], ["--Shown"], ["--shown80x24"], ["shown"])
+        refused_by("ansi2text", ["--page"], ["--Shown"], ["--shown80x24"])
         + [([word], wrong_size(b"ansi2text")) for word in ("--shown=", "--shown=1x1", "--shown=80", "--shown=80x1001", "--shown==80x24")]
         + [(["--shown", "--shown=0x0"], wrong_size(b"ansi2text"))],
         [
@@ -734,16 +734,21 @@ PROGRAMS = [
             Mode(["--shown"], SHOWN_ROWS, (b"\x1b[1mA\n", b"A\n"), SHOWN_HOSTILE, stays=True, waits=True),
             Mode(["--shown=9x9", "--shown=80x24"], SHOWN_ROWS[-3:], (b"A\b\n", b"A\n"), [], stays=True, waits=True),
         ],
-        options=["--shown", "--shown=COLUMNSxROWS"],
+        options=["--shown", "--shown=COLUMNSxROWS", "--output=FILE"],
+        files=[([], []), (["--shown"], ["--shown"])],
     ),
     Program(
         "ansi2html",
         refused_by(
             "ansi2html",
-            *(["--title"], ["--titles=x"], ["--Page"], ["pages"], ["--page="], ["--light=1"], ["dark"], ["fragment"], ["--class"]),
+            *(["--title"], ["--titles=x"], ["--Page"], ["--page="], ["--light=1"], ["--class"]),
         )
         + [(["--page", word], wrong_size(b"ansi2html")) for word in ("--shown=", "--shown=1x1", "--shown=1001x24")]
-        + [(["--stylesheet", "--shown=0x0"], wrong_size(b"ansi2html"))],
+        + [(["--stylesheet", "--shown=0x0"], wrong_size(b"ansi2html"))]
+        + [
+            (words, b"ansi2html: --stylesheet reads no file (see ansi2html --help)")
+            for words in (["--stylesheet", "log"], ["-", "--stylesheet"])
+        ],
         [
             Mode(words, html_rows(scheme) if scheme else CLASS_ROWS, (b"\x1b[mA\n", b"A\n"), hostile, head, tail, cut=cut)
             for words, scheme, hostile, head, tail, cut in (
@@ -771,10 +776,25 @@ PROGRAMS = [
         ],
         options=[
             *("--page", "--title=TEXT", "--light", "--dark", "--classes", "--stylesheet"),
-            *("--shown", "--shown=COLUMNSxROWS"),
+            *("--shown", "--shown=COLUMNSxROWS", "--output=FILE"),
         ],
+        files=[([], []), (["--page"], []), (["--shown", "--page"], ["--shown"])],
         fragments=[[], ["--classes"]],
         page=["--page"],
         written=["--stylesheet"],
+    ),
+    # (what its screens are tests/screen_twin tries)
+    Program(
+        "ansi2screen",
+        refused_by("ansi2screen", ["--size"], ["--draw=x"], ["--shown"])
+        + [([word], wrong_size(b"ansi2screen")) for word in ("--size=", "--size=1x1", "--size=80")]
+        + [(words, b"ansi2screen: a screen is that of one file (see ansi2screen --help)") for words in (["a", "b"], ["-", "-"], ["a", "--", "-b"])]
+        + [
+            (words, b"ansi2screen: --draw and --updates are not taken together (see ansi2screen --help)")
+            for words in (["--draw", "--updates"], ["--updates", "a", "--draw"])
+        ],
+        [],
+        options=["--size=COLUMNSxROWS", "--draw", "--updates", "--output=FILE"],
+        files=[([], [])],
     ),
 ]

@@ -26,7 +26,7 @@ STREAMS = 30_000
 def extension_cases(room):
     """Makes two packages in the room, one with the extension beside it and one without; says whether it is built."""
     for name in ("compiled", "pure"):
-        shutil.copytree("%s/ansi" % EXAMPLES, "%s/%s" % (room, name), ignore=shutil.ignore_patterns("__pycache__"))
+        copy_unbuilt("%s/ansi_proved" % PYTHON, "%s/%s" % (room, name))
     path = "%s/compiled/%s" % (room, NAME)
     done = run(["make", "-C", ROOT, "PYTHON=" + sys.executable, "EXTENSION=" + path, path])
     if not os.path.exists(path):
@@ -40,22 +40,20 @@ def extension_cases(room):
         if not shutil.which(cc):
             yield left_out("Python: the extension by " + cc)
             continue
-        done = run([*command, "%s/ansi/_events.c" % EXAMPLES, "-o", room + "/warned.so"])
+        done = run([*command, "%s/ansi_proved/_events.c" % PYTHON, "-o", room + "/warned.so"])
         yield "Python: the extension is compiled by %s with no warning" % cc, failure(done)
     yield from place_cases(room, path)
 
 
 def place_cases(room, path):
-    """Where it is looked for, and that what is no extension leads to events all the same."""
-    shutil.copytree(room + "/pure", room + "/repository/examples/ansi")
-    os.makedirs(room + "/repository/crates/ansi/out")
-    shutil.copy(path, room + "/repository/crates/ansi/out")
-    for name in ("empty", "library"):
-        shutil.copytree(room + "/pure", "%s/%s/ansi" % (room, name))
-    open("%s/empty/ansi/%s" % (room, NAME), "w").close()
-    shutil.copy(os.environ["ANSI_LIBRARY"], "%s/library/ansi/%s" % (room, NAME))
-    code = "import ansi; print(ansi.event.IS_COMPILED, list(ansi.events('\\x1b[1mA')) == [(((1,),), '', False, 'm'), ('A',)])"
-    for folder, wanted in [("repository/examples", b"True True\n"), ("empty", b"False True\n"), ("library", b"False True\n")]:
+    """That what is no extension leads to events all the same."""
+    for name in ("beside", "empty", "library"):
+        shutil.copytree(room + "/pure", "%s/%s/ansi_proved" % (room, name))
+    shutil.copy(path, room + "/beside/ansi_proved")
+    open("%s/empty/ansi_proved/%s" % (room, NAME), "w").close()
+    shutil.copy(os.environ["ANSI_LIBRARY"], "%s/library/ansi_proved/%s" % (room, NAME))
+    code = "import ansi_proved as ansi; print(ansi.event.IS_COMPILED, list(ansi.events('\\x1b[1mA')) == [(((1,),), '', False, 'm'), ('A',)])"
+    for folder, wanted in [("beside", b"True True\n"), ("empty", b"False True\n"), ("library", b"False True\n")]:
         known = dict(os.environ, PYTHONPATH="%s/%s" % (room, folder), PYTHONDONTWRITEBYTECODE="1")
         done = run([sys.executable, "-c", code], env=known, cwd=room)
         why = failure(done) or (None if done.stdout == wanted else "it writes %r" % done.stdout)

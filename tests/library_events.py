@@ -8,6 +8,7 @@ import shutil
 import subprocess
 
 from library_shared import *
+import needs
 
 EVENT_SIZES = [(1, 2, 6258), (2, 3, 6300), (3, 4096, 65536), (7, 5, 6264), (4096, 4096, 65536)]  # piece, events, room
 
@@ -36,7 +37,9 @@ def event_cases(room):
     yield "five million events take less than 20 MB", failure(done) or (None if few else "it says %r" % done.stdout)
     yield from title_cases(room, cc)
     yield from rust_cases(room)
-    if shutil.which("valgrind"):
+    if not shutil.which("valgrind"):
+        yield needs.left_out("valgrind")
+    else:
         command = ["valgrind", "-q", "--error-exitcode=9", path, "3", "5", "6300"]
         for kind, stream in list(streams())[:2]:
             yield "events under valgrind: %s" % kind, failure(run(command, stream[:3000]))
@@ -63,12 +66,12 @@ def title_cases(room, cc):
 
 
 def rust_cases(room):
-    """tests/callers/events.rs: the events of the module in Rust, which is an iterator."""
-    rustc, path = compiler("rustc"), room + "/events in Rust"
-    if rustc is None:
+    """tests/callers/events.rs: the events of the package in Rust, which is an iterator."""
+    path = room + "/events in Rust"
+    if compiler("rustc") is None:
         yield left_out("Rust: events")
         return
-    command = [rustc, *STRICT, "-L", os.path.dirname(ARCHIVE), "%s/tests/callers/events.rs" % ROOT]
+    command = by_rust("%s/tests/callers/events.rs" % ROOT, room)
     yield "events.rs is compiled with no warning", failure(run([*command, "-o", path]))
     rows = importlib.machinery.SourceFileLoader("vectors", "%s/tests/vectors" % ROOT).load_module().answers()
     for size in ("1", "4096"):

@@ -15,9 +15,9 @@ from library_shared import *
 
 # Says which names of the package `import *` lacks.
 LACKING = """
-import ansi, types
-from ansi import *
-public = {name for name, it in vars(ansi).items() if name[0] != "_" and not isinstance(it, types.ModuleType)}
+import ansi_proved, types
+from ansi_proved import *
+public = {name for name, it in vars(ansi_proved).items() if name[0] != "_" and not isinstance(it, types.ModuleType)}
 print(*sorted(public - set(globals())))
 """
 
@@ -29,30 +29,30 @@ def unsaid(done, words):
 
 
 def cargo_cases(room):
-    """examples/rust, a package, built and used by another package, which names all that it hands on."""
+    """bindings/rust, built and used by another package, which names all that it hands on."""
     if not shutil.which("cargo"):
         yield left_out("cargo")
         return
-    shutil.copytree(EXAMPLES, room + "/examples", ignore=shutil.ignore_patterns("target", "__pycache__"))
+    copy_unbuilt(RUST, room + "/bindings/rust")
     os.makedirs(room + "/user/src/bin")
     os.mkdir(room + "/archive")
     shutil.copy(ARCHIVE, room + "/archive")
     with open(room + "/user/Cargo.toml", "w") as file:
         file.write('[package]\nname = "user"\nversion = "0.0.0"\nedition = "2021"\n')
-        file.write('[dependencies]\nansi = { path = "../examples/rust" }\n')
-    with open(room + "/user/src/main.rs", "w") as file:
-        file.write(read("examples/filter.rs").replace("mod ansi;\n", ""))
+        file.write('[dependencies]\nansi-proved = { path = "../bindings/rust" }\n')
+    shutil.copy(RUST + "/examples/filter.rs", room + "/user/src/main.rs")
+    shutil.copytree(RUST + "/examples/common", room + "/user/src/common")
     shutil.copy("%s/tests/callers/whole.rs" % ROOT, room + "/user/src/bin")
     known = dict(os.environ, ANSI_LIB=room + "/archive", CARGO_TARGET_DIR=room + "/target")
     command, options = ["cargo", "build", "--offline", "--verbose"], {"cwd": room + "/user", "env": known}
     done = run(command, patience=10 * PATIENCE, **options)
-    yield "cargo: a package that depends on examples/rust is built", failure(done)
+    yield "cargo: a package that depends on bindings/rust is built", failure(done)
     if done.returncode == 0:
         yield from built_cases(room + "/target/debug/")
         newer = time.time() + 10
         os.utime(room + "/archive/libansi.a", (newer, newer))
         done = run(command, patience=10 * PATIENCE, **options)
-        is_new = b"Fresh ansi" not in done.stderr
+        is_new = b"Fresh ansi-proved" not in done.stderr
         yield "cargo: it is built again over a new archive", failure(done) or (None if is_new else "it is not")
         # (where no variable says so, it is where `rt lib` leaves it)
         os.makedirs(room + "/crates/ansi/out")
@@ -84,26 +84,29 @@ TOLD = "print(repr([type(it).__name__ for it in took]), repr([*map(tuple, took)]
 
 
 def shown_python():
-    """The lines of Python that docs/USING.md and the package itself show."""
-    yield "docs/USING.md", re.search(r"(?m)^    import ansi\n(?:    .*\n)+", read("docs/USING.md"))[0]
-    package = ast.get_docstring(ast.parse(read("examples/ansi/__init__.py")))
+    """The lines of Python that docs/USING.md, the package's README and the package itself show."""
+    yield "README", re.search(r"(?m)^    import ansi_proved\n(?:    .*\n|\n)+", read("bindings/python/README.md"))[0]
+    yield "docs/USING.md", re.search(r"(?m)^    import ansi_proved\n(?:    .*\n)+", read("docs/USING.md"))[0]
+    package = ast.get_docstring(ast.parse(read("bindings/python/src/ansi_proved/__init__.py")))
     yield "the package", "".join(re.findall(r"(?m)^    .*\n", package))
 
 
 def shown_cases():
     """What they show, run over a log: what comments say of a line or a case is so, and each case is met."""
-    known = dict(os.environ, PYTHONPATH=EXAMPLES, PYTHONDONTWRITEBYTECODE="1")
+    known = dict(os.environ, PYTHONPATH=PYTHON, PYTHONDONTWRITEBYTECODE="1")
     for place, lines in shown_python():
-        said = re.findall(r"(?m)^    (ansi\..*?)  +# (.*)$", lines)
+        said = re.findall(r"(?m)^    (ansi_proved\..*?)  +# (.*)$", lines)
         for code, value in said:
-            done = run([sys.executable, "-c", "import ansi; print(repr(%s))" % code], env=known)
+            done = run([sys.executable, "-c", "import ansi_proved; print(repr(%s))" % code], env=known)
             is_so = re.fullmatch(re.escape(value).replace(r"\.\.", ".*") + "\n", done.stdout.decode())
             yield "Python, %s: %s" % (place, code), failure(done) or (None if is_so else "it is %r" % done.stdout)
+        if "case " not in lines:
+            continue
         if sys.version_info < (3, 10):
             yield "Python, %s: left out, it wants Python 3.10" % place, None
             continue
-        cases = re.findall(r"(?m)^ +case ansi\.(\w+)\(.*?\):(?:  # (\(.*\)))?", lines)
-        text = re.sub(r"ansi\.events\(.*?\):", "ansi.events(stream):", textwrap.dedent(lines))
+        cases = re.findall(r"(?m)^ +case ansi_proved\.(\w+)\(.*?\):(?:  # (\(.*\)))?", lines)
+        text = re.sub(r"ansi_proved\.events\(.*?\):", "ansi_proved.events(stream):", textwrap.dedent(lines))
         text = re.sub(r"(?m)^    \.\.$", "    pass", text)
         text = re.sub(r"(?m)^ +\.\.$", lambda it: it[0].replace("..", "took.append(event)"), text)
         script = "import sys\ntook, log, stream = [], [], [%r]\n%s\n%s" % (LOG, text, TOLD)
@@ -127,11 +130,24 @@ FIELDS = {
 }
 
 
+WHOLES = [b"\x1b[1mA<", bytearray(b"A"), memoryview(b"A"), 2000 * b"\x1b[1mA"]
+STREAMS = [WHOLES, iter(WHOLES), []]
+TYPES = {  # what type checkers are told that each function takes and gives, with what it is then given
+    ("strip", "str", "str"): ["A", "\x1b[1mA", 2000 * "\x1b[1mA"],
+    ("strip", "_Bytes", "bytes"): WHOLES,
+    ("text_of", "Iterable[_Bytes]", "Iterator[bytes]"): STREAMS,
+    ("to_html", "str", "str", "str"): ["A", "\x1b[1mA", 2000 * "\x1b[1mA"],
+    ("to_html", "_Bytes", "str", "bytes"): WHOLES,
+    ("html_of", "Iterable[_Bytes]", "str", "Iterator[bytes]"): [WHOLES, iter(WHOLES), []],
+    ("events", "Union[str, _Bytes, Iterable[Union[str, _Bytes]]]", "Iterator[_Event]"): ["A\n", *WHOLES, WHOLES, ["A", b"B"]],
+}
+
+
 def stub_cases():
     """The types that the package is told to have, beside what it has."""
-    import ansi
+    import ansi_proved as ansi
 
-    told = ast.parse(read("examples/ansi/__init__.pyi")).body
+    told = ast.parse(read("bindings/python/src/ansi_proved/__init__.pyi")).body
     functions = [it for it in told if isinstance(it, ast.FunctionDef)]
     events = {name.asname for it in told if isinstance(it, ast.ImportFrom) and it.module == "event" for name in it.names}
     names = {it.name for it in functions} | {it.target.id for it in told if isinstance(it, ast.AnnAssign)} | events
@@ -143,6 +159,23 @@ def stub_cases():
         found = [(of.name, None if of.default is of.empty else of.default) for of in found]
         is_so = found == list(zip((arg.arg for arg in it.args.args), defaults))
         yield "Python: what is told to be given to %s" % it.name, None if is_so else "it takes %s" % found
+    unions = {it.targets[0].id: ast.unparse(it.value) for it in told if isinstance(it, ast.Assign)}
+    for name, of in (("_Bytes", ["bytes", "bytearray", "memoryview"]), ("_Event", FIELDS)):
+        found = re.fullmatch(r"Union\[(.*)\]", unions.get(name, ""))
+        is_so = found and set(found[1].split(", ")) == set(of)
+        yield "Python: what %s is" % name, None if is_so else "it is %s" % unions.get(name)
+    found = [tuple(ast.unparse(it) for it in (*(arg.annotation for arg in of.args.args), of.returns)) for of in functions]
+    found = [(of.name, *types) for of, types in zip(functions, found)]
+    yield "Python: what is told to come of what", None if found == list(TYPES) else "it is %s" % found
+    for (name, kind, *_, answer), given in TYPES.items():
+        answers = [getattr(ansi, name)(it) for it in given]
+        if answer.startswith("Iterator"):
+            is_so = all(iter(it) is it for it in answers)
+            types = {type(it).__name__ for parts in answers for it in parts}
+            is_so = is_so and set() != types <= ({"bytes"} if answer == "Iterator[bytes]" else set(FIELDS))
+        else:
+            is_so = {type(it).__name__ for it in answers} == {answer}
+        yield "Python: %s of %s is %s" % (name, kind, answer), None if is_so else "it is %r" % answers
     wrong = events ^ set(FIELDS)
     yield "Python: events are told by their own classes", "not so of %s" % sorted(wrong) if wrong else None
     for name, fields in FIELDS.items():
@@ -151,13 +184,13 @@ def stub_cases():
 
 
 def lookup_cases():
-    """Where the package looks for the library: beside itself, in the repository, or where the variable says."""
+    """Where the package finds the library: beside itself, or where the variable says, and nowhere else."""
     library = os.environ["ANSI_LIBRARY"]
-    script = "import ansi; assert ansi.strip(b'\\x1b[1mA') == b'A'"
+    script = "import ansi_proved; assert ansi_proved.strip(b'\\x1b[1mA') == b'A'"
     with tempfile.TemporaryDirectory() as room:
-        for name in ("beside", "alone", "repository/examples"):
-            shutil.copytree("%s/ansi" % EXAMPLES, "%s/%s/ansi" % (room, name), ignore=shutil.ignore_patterns("__pycache__"))
-        for name in ("beside/ansi", "repository/crates/ansi/out", "library"):
+        for name in ("beside", "alone"):
+            copy_unbuilt("%s/ansi_proved" % PYTHON, "%s/%s/ansi_proved" % (room, name))
+        for name in ("beside/ansi_proved", "library"):
             os.makedirs("%s/%s" % (room, name), exist_ok=True)
             shutil.copy(library, "%s/%s/libansi.so" % (room, name))
         os.mkdir(room + "/elsewhere")
@@ -166,29 +199,30 @@ def lookup_cases():
         found = {name: value for name, value in os.environ.items() if name != "ANSI_LIBRARY"}
         found.update(PYTHONDONTWRITEBYTECODE="1")
         command = [sys.executable, "-c", script]
-        for name, folder in [("beside the package", "beside"), ("in the repository", "repository/examples")]:
-            done = run(command, cwd=room + "/elsewhere", env=dict(found, PYTHONPATH="%s/%s" % (room, folder)))
-            yield "Python: the library is found %s" % name, failure(done)
+        beside = dict(found, PYTHONPATH=room + "/beside")
+        for name, variables in [("", {}), (", where the variable is empty", {"ANSI_LIBRARY": ""})]:
+            done = run(command, cwd=room + "/elsewhere", env=dict(beside, **variables))
+            yield "Python: the library is found beside the package" + name, failure(done)
         alone = dict(found, PYTHONPATH=room + "/alone")
         done = run(command, cwd=room + "/elsewhere", env=dict(alone, ANSI_LIBRARY=library))
         yield "Python: the library is found where the variable says", failure(done)
         done = run(command, cwd=room + "/library", env=dict(alone, LD_LIBRARY_PATH=room + "/library"))
-        words = b"ImportError: libansi.so is not at %s/alone/ansi/libansi.so and " % room.encode()
+        words = b"ImportError: libansi.so is not at %s/alone/ansi_proved/libansi.so: " % room.encode()
         yield "Python: it is not looked for elsewhere, and that is said", unsaid(done, words)
         for place in ("/nowhere/libansi.so", room + "/elsewhere/libansi.so"):
-            done = run(command, env=dict(alone, ANSI_LIBRARY=place))
+            done = run(command, env=dict(beside, ANSI_LIBRARY=place))
             words = b"ImportError: the library that ANSI_LIBRARY names cannot be loaded: %s: " % place.encode()
             name = os.path.basename(os.path.dirname(place))
             yield "Python: where %s is no library, that is said" % name, unsaid(done, words)
-        shutil.copy(room + "/elsewhere/libansi.so", room + "/beside/ansi/libansi.so")
-        done = run(command, cwd=room, env=dict(found, PYTHONPATH=room + "/beside"))
-        words = b"ImportError: the library cannot be loaded: %s/beside/ansi/libansi.so: " % room.encode()
+        shutil.copy(room + "/elsewhere/libansi.so", room + "/beside/ansi_proved/libansi.so")
+        done = run(command, cwd=room, env=beside)
+        words = b"ImportError: the library cannot be loaded: %s/beside/ansi_proved/libansi.so: " % room.encode()
         yield "Python: where what stands beside it is no library, that is said", unsaid(done, words)
         run([compiler("cc", "gcc", "clang"), "-shared", "-x", "c", "/dev/null", "-o", room + "/older.so"])
         done = run(command, env=dict(alone, ANSI_LIBRARY=room + "/older.so"))
         words = b"ImportError: the library %s/older.so has no " % room.encode()
         yield "Python: where it lacks a function, it is said to be an older one", unsaid(done, words)
-        found.update(PYTHONPATH=EXAMPLES, ANSI_LIBRARY=library)
+        found.update(PYTHONPATH=PYTHON, ANSI_LIBRARY=library)
         done = run([sys.executable, "-c", LACKING], env=found)
         yield "Python: all its names are public", failure(done) or done.stdout.decode().strip() or None
         done = run([sys.executable, "%s/tests/callers/threads.py" % ROOT], env=found)

@@ -10,6 +10,8 @@ import sys
 ROOT = os.path.dirname(os.path.dirname(os.path.realpath(__file__)))
 ARCHIVE = "%s/crates/ansi/out/libansi.a" % ROOT
 EXAMPLES = "%s/examples" % ROOT
+PYTHON = "%s/bindings/python/src" % ROOT  # the folder of the package
+RUST = "%s/bindings/rust" % ROOT
 INCLUDE = "-I%s/include" % ROOT
 WARNINGS = ["-Wall", "-Wextra", "-Werror", INCLUDE]
 STRICT = ["-O", "-D", "warnings", "--edition", "2021"]
@@ -17,14 +19,24 @@ SANITIZERS = ["-g", "-fsanitize=address,undefined", "-fno-sanitize-recover=all"]
 PATIENCE = 60  # seconds that a program has
 
 
-for folder in ("bench", "examples"):
-    sys.path.insert(0, "%s/%s" % (ROOT, folder))
+sys.path[:0] = [PYTHON, "%s/bench" % ROOT]
 import measure
+import needs
+from stand_ins import copy_unbuilt
 
 
 def compiler(name, *others):
     """The first of these compilers that is there."""
     return next((it for it in (name, *others) if shutil.which(it)), None)
+
+
+def by_rust(source, room):
+    """The command that compiles a program over the package in Rust, which it compiles first where the room has it not."""
+    package = room + "/libansi_proved.rlib"
+    if not os.path.exists(package):
+        words = ["--crate-type", "rlib", "--crate-name", "ansi_proved", "-L", os.path.dirname(ARCHIVE)]
+        subprocess.run(["rustc", *STRICT, *words, RUST + "/src/lib.rs", "-o", package], check=True)
+    return ["rustc", *STRICT, "--extern", "ansi_proved=" + package, source]
 
 
 def run(command, given=b"", patience=PATIENCE, **options):
@@ -42,8 +54,7 @@ def read(path):
 
 def left_out(name):
     """A case for a compiler that is not there."""
-    in_ci = os.environ.get("CI") == "true"
-    return "%s: left out, its compiler is not there" % name, "it must be there" if in_ci else None
+    return needs.left_out(name, "its compiler is not there")
 
 
 def failure(done):

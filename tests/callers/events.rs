@@ -1,9 +1,6 @@
 //! Writes the events of standard input, in pieces of so many bytes as its argument says, as `parselog` writes
 //! calls.
-#[path = "../../examples/ansi.rs"]
-mod ansi;
-
-use ansi::{Event, Sequence};
+use ansi_proved::{Event, Sequence};
 use std::io::Read;
 
 fn hex(bytes: &[u8]) -> String {
@@ -28,7 +25,7 @@ fn main() {
     let size: usize = std::env::args().nth(1).and_then(|word| word.parse().ok()).expect("a size");
     let mut stream = Vec::new();
     std::io::stdin().read_to_end(&mut stream).expect("standard input is read");
-    for event in ansi::events(stream.chunks(size)) {
+    for event in ansi_proved::events(stream.chunks(size)) {
         match event {
             Event::Text(text) => text.chars().for_each(|c| println!("print U+{:04X}", c as u32)),
             Event::Execute(byte) => println!("execute {byte:02X}"),

@@ -89,6 +89,9 @@ static void stylings_are_told_apart(void)
         expect(goes_on("y", SIZE) && is_written("y"), "it is open in the next piece");
         expect(ends(ANSI_HTML_END_ROOM) && is_written("</span>"), "it is closed at the end");
         expect(goes_on("z", SIZE) && is_written("z"), "then a stream begins");
+        expect(goes_on("\033[31mx", SIZE) && is_written(begins[styling]), "it begins in the same styling");
+        expect(goes_on("\033[3", SIZE) && ends(SIZE) && goes_on("1mz", SIZE), "an end in a sequence");
+        expect(is_written("1mz"), "the sequence does not go on");
     }
 }
 

@@ -1,11 +1,11 @@
-"""Streams in eight threads at once, each by the package ansi: each has its own text and HTML, and the
+"""Streams in eight threads at once, each by the package ansi_proved: each has its own text and HTML, and the
 process takes no more memory for more calls. ANSI_LIBRARY and PYTHONPATH say where they are."""
 
 import resource
 import sys
 import threading
 
-import ansi
+from ansi_proved import Csi, Execute, Osc, Text, events, strip, to_html
 
 CALLS = 2_000
 PIECE = 30 << 10  # bytes: the calls have 1.4 GB of rooms
@@ -19,12 +19,12 @@ def convert_lines(letter):
     line = b"\x1b[1m" + text[:100] + b"\x1b]0;title\x07" + text[100:]
     page = b'<span style="font-weight:bold;">' + text + b"</span>"
     long, stripped = line * (PIECE // len(line)), text * (PIECE // len(line))
-    bold, title = ansi.Csi(((1,),), "", False, "m"), ansi.Osc((b"0", b"title"), True)
-    events = [bold, ansi.Text(100 * chr(letter[0])), title, ansi.Text(100 * chr(letter[0])), ansi.Execute(10)]
+    bold, title = Csi(((1,),), "", False, "m"), Osc((b"0", b"title"), True)
+    wanted = [bold, Text(100 * chr(letter[0])), title, Text(100 * chr(letter[0])), Execute(10)]
     for _ in range(CALLS):
-        if ansi.strip(long) != stripped or ansi.strip(line) != text or ansi.to_html(line) != page:
+        if strip(long) != stripped or strip(line) != text or to_html(line) != page:
             wrong.append(letter)
-        if list(ansi.events(line)) != events:
+        if list(events(line)) != wanted:
             wrong.append(letter)
 
 

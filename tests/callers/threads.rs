@@ -1,9 +1,6 @@
-//! Streams in eight threads at once, each by `Stripper` of examples/ansi.rs: each has its own
+//! Streams in eight threads at once, each by `Stripper` of bindings/rust: each has its own
 //! text, and the program takes no more memory for more calls.
-#[path = "../../examples/ansi.rs"]
-mod ansi;
-
-use ansi::Stripper;
+use ansi_proved::Stripper;
 use std::convert::Infallible;
 use std::thread;
 

@@ -1,7 +1,7 @@
 // Writes what the package makes of the whole input: its text, its HTML in a styling, the text of its events, its text by
 // a clone that was made on the way, or how many pieces are asked for before the first event.
 
-use ansi::{Converter, Event, Events, Sequence, Stripper, Styling, events, strip, to_html};
+use ansi_proved::{Converter, Event, Events, Sequence, Stripper, Styling, events, strip, to_html};
 use std::cell::Cell;
 use std::io::{Read, Write, stdin, stdout};
 

@@ -18,14 +18,14 @@ Usage: tests/screen/compare.py [--count N] [--seed N] [--program PROGRAM] [--xte
     --size .. RECORDING ..  files with the bytes of a stream, and the screen that they were made for, as
                        those of bench/record.py for 120x40
 
-For xterm streams have every operation, in every state that they come to, but for what docs/DECISIONS.md
+For xterm streams have every operation, in every state that they come to, but for what crates/ansi_screen/README.md
 decides otherwise than xterm 379: REP past the end of the row, CBT at a pending wrap, DECRC in origin mode,
 1049 where it shows already or a wrap is pending, CSI 0 T, fields with a colon, wide characters in the last
 column without autowrap, ICH and IRM beside wide characters; and but for marks, which its checksums of cells
 do not tell. It has faults, which they leave out too: DCH in a row with wide characters can lose the last
 cell, and SU of a whole region clears the screen where it scrolls row by row, as it is asked to here, since
 else it leaves halves of wide characters standing in rows that have yet to be drawn. For tmux they leave out
-where docs/DECISIONS.md decides otherwise than tmux 3.3a does, and its faults: CHT and HPR, which it has
+where crates/ansi_screen/README.md decides otherwise than tmux 3.3a does, and its faults: CHT and HPR, which it has
 not; edits, line feeds and moves at a pending wrap; BS in the first column behind a row that was wrapped;
 halves of wide characters; IL and DL outside the margins, and the column behind them; ICH of the whole rest
 of a row, and IRM behind a wrap; where DECSTBM leaves the cursor in origin mode; DECSTR; 1049. tmux writes

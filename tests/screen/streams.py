@@ -3,6 +3,7 @@ redrawn.py ask.
 
     mixed(draw)                     text, controls and sequences of each kind
     varied(draw, codes)             the same with more styles, of these codes, margins and saved places
+    unusual(draw)                   the same with sequences that do nothing, or are cut
     tmux(draw, width, height)       operations on which tmux agrees, of those of tests/screen/twin.py
     xterm(draw, width, height)      the same for xterm, in whatever state they come to
     libvterm(draw, width, height)   every operation, but where vterm_differences.py has a row for libvterm
@@ -113,6 +114,26 @@ def number(draw):
     return draw.choice(["", str(draw.randint(0, 12)), str(draw.randint(0, 12)), "65535"])
 
 
+# Sequences that do nothing: with > or =, with two intermediates or three, with more than 32 fields, and malformed ones.
+NOTHING = ["\x1b[>4;1m", "\x1b[>4m", "\x1b[>1;2H", "\x1b[>1J", "\x1b[>4h", "\x1b[=4h", "\x1b[<7m", "\x1b((0", "\x1b))0"]
+NOTHING += ["\x1b( 0", "\x1b  c", "\x1b(((0", "\x1b[1  m", "\x1b[?!6h", "\x1b[?7!l", "\x1b[!!p", "\x1b[1   K", "\x1b[?>7l"]
+NOTHING += ["\x1b[3%s%s" % (";" * 32, final) for final in "mJHChbr"] + ["\x1b[3%sC" % (":1" * 32), "\x1b[1?m", "\x1b[1 2C"]
+# Sequences that CAN, SUB or another sequence cuts, or that have a control in them, which does what it does elsewhere.
+CUT = ["\x1b[3\x18", "\x1b[2\x1a", "\x1b[2\x1b[1C", "\x1b[1\n2C", "\x1b[\r2;\b3H", "\x1b(\x18", "\x1b(\x1b7", "\x1b\x1b[A", "\x1b\n8"]
+CUT += ["\x1b]0;t\x18", "\x1b]0;t\x1b[B", "\x1bP1$qm\x1a", "\x1bP1$q\n\x1b[1;31m", "\x1b_a\x18", "\x1b^a\x07\x1b\\"]
+ENDS = ["\x1b", "\x1b[", "\x1b[2", "\x1b[1;", "\x1b[?7", "\x1b(", "\x1b]0;t"]  # what a stream may break off in
+
+
+def unusual_piece(draw):
+    """A piece that does nothing, or is cut."""
+    return draw.choice(draw.choice([NOTHING, CUT]))
+
+
+def broken_off(draw, text):
+    """The stream, or one that breaks off in a sequence."""
+    return text + draw.choice(ENDS) if draw.random() < 0.2 else text
+
+
 def mixed_piece(draw):
     """A piece of a stream: text, a control, or a sequence."""
     kind = draw.random()
@@ -133,11 +154,17 @@ def mixed_piece(draw):
 
 
 def mixed(draw):
-    return "".join(mixed_piece(draw) for _ in range(draw.randint(3, 40)))
+    pieces = (draw.choice([mixed_piece] * 9 + [unusual_piece])(draw) for _ in range(draw.randint(3, 40)))
+    return broken_off(draw, "".join(pieces))
 
 
-def varied(draw, codes=STYLES):
-    """A stream with more styles, margins and places that are saved, on either screen."""
+def unusual(draw):
+    """A stream as `varied`, with pieces that do nothing or are cut, which terminals may read otherwise."""
+    return broken_off(draw, varied(draw, others=[unusual_piece] * 2))
+
+
+def varied(draw, codes=STYLES, others=()):
+    """A stream with more styles, margins and places that are saved, on either screen; and some pieces by others."""
     places = ["\x1b7", "\x1b[2J\x1b8", "\x1b7\x1b[K\x1b8", "\x1b7\x1b[?6h", "漢\x1b7\b\x1b[X\x1b8\u0301"]
     pieces = []
     for _ in range(draw.randint(1, 25)):
@@ -145,4 +172,5 @@ def varied(draw, codes=STYLES):
         full = draw.choice("x漢") * draw.randint(1, 20)
         style = "\x1b[%sm" % draw.choice(codes)
         pieces += [mixed_piece(draw), draw.choice([style, style, margins, full + draw.choice(places), "\x1b[?1049h", ""])]
+        pieces += [it(draw) for it in others if draw.random() < 0.1]
     return "".join(pieces)

@@ -4,10 +4,11 @@
     showed(bytes, width, height)    the text that ansi2text --shown must write
     showed_styles(bytes, width, height)    the style of each of its characters, for ansi2html --shown
 
-It has a parser of its own, for streams that are well formed. Widths come from Unicode's data as
+It has a parser of its own, for streams of UTF-8 without 9C in a string. Widths come from Unicode's data as
 Python has it, not from the repository's table; styles from tests/screen/styles.py.
 """
 
+import re
 import unicodedata
 
 import styles
@@ -394,43 +395,75 @@ def line(cells):
     return shown, cells[-1][3]
 
 
+# A sequence that begins at ESC, behind it and without the controls in it, once it is whole; strings are not.
+WHOLE = re.compile(r"\[[ -?]*[@-~]|[ -/]+[0-~]|[0-OQ-WYZ\\`-~]")
+# A control sequence: a marker, fields, intermediates and the final. With anything else in it, it is none.
+CONTROL = re.compile(r"\[([<-?]?)([0-;]*)([ -/]*)([@-~])")
+STRINGS = "]PX^_"  # what opens a string behind ESC
+FIELDS, INTERMEDIATES = 32, 2  # a sequence with more does nothing
+
+
+def sequence(text, at):
+    """The sequence that begins at an ESC, without the controls in it; these; and where it ends. CAN, SUB or another
+    ESC cuts it, and then it is empty. None, where the text ends before."""
+    body, controls = "", ""
+    for end in range(at + 1, len(text)):
+        c = text[end]
+        if c in "\x18\x1a\x1b":
+            return body if body[:1] in ("]", "P") else "", controls + c.strip("\x1b"), end + (c != "\x1b")
+        if body[:1] and body[0] in STRINGS:
+            if c == "\x07" and body[0] == "]":
+                return body, controls, end + 1
+        elif c < " ":
+            controls += c
+        elif c <= "~":
+            body += c
+            if WHOLE.fullmatch(body):
+                return body, controls, end + 1
+    return None
+
+
+def dispatch(display, body):
+    """Whether a sequence makes a call, which the display takes."""
+    found = CONTROL.fullmatch(body)
+    if found:
+        marker, groups, marks, final = found.groups()
+        groups = [[int(field or 0) for field in group.split(":")] for group in groups.split(";")]
+        if sum(map(len, groups)) <= FIELDS and len(marker + marks) <= INTERMEDIATES:
+            display.control(marker + marks, groups, final)
+    elif body[0] not in "[" + STRINGS:
+        if len(body) == 1:
+            display.escape(body)
+        elif len(body) <= INTERMEDIATES + 1:
+            display.designate(body[:-1], body[-1])
+    return found is not None or body[0] in "]P" or body[0] not in "[" + STRINGS
+
+
 def feed(display, data):
-    """Gives a display the calls of a well-formed stream."""
+    """Gives a display the calls of a stream of UTF-8, and answers the sequence that has not ended, which has no control
+    in it: what comes next belongs to it."""
     text = data.decode()
     at = 0
     while at < len(text):
         c = text[at]
+        if c == "\x1b":
+            found = sequence(text, at)
+            if found is None:
+                return text[at:].encode()
+            body, controls, at = found
+            for control in controls:
+                display.execute(ord(control))
+                display.last = None
+            if body and dispatch(display, body):
+                display.last = None
+            continue
         at += 1
-        last = None
-        if c == "\x1b" and text[at] == "[":
-            end = at + 1
-            while not "@" <= text[end] <= "~":
-                end += 1
-            body, final, at = text[at + 1 : end], text[end], end + 1
-            marker = body[:1] if body[:1] in ("<", "=", ">", "?") else ""
-            body = body[len(marker) :]
-            marker += "".join(b for b in body if " " <= b <= "/")
-            groups = "".join(b for b in body if b >= "0").split(";")
-            display.control(marker, [[int(field or 0) for field in group.split(":")] for group in groups], final)
-        elif c == "\x1b" and text[at] == "]":
-            at = text.index("\x07", at) + 1
-        elif c == "\x1b" and text[at] == "P":
-            at = text.index("\x1b\\", at) + 2
-        elif c == "\x1b":
-            mark = ""
-            while " " <= text[at] <= "/":
-                mark, at = mark + text[at], at + 1
-            if not mark:
-                display.escape(text[at])
-            else:
-                display.designate(mark, text[at])
-            at += 1
-        elif c < " ":
+        if c < " ":
             display.execute(ord(c))
         else:
             display.print(c)
-            last = c if columns(c) else None
-        display.last = last
+        display.last = c if c >= " " and columns(c) else None
+    return b""
 
 
 def show(data, width, height):

@@ -3,7 +3,7 @@
     agreed(operations, width, height)   a stream of these operations, on which both must show the same
 
 DIFFERENCES has a row for each: what libvterm does, a smallest stream that shows it, where an operation
-does it, and what is given in the operation's place. docs/DECISIONS.md has the same rows.
+does it, and what is given in the operation's place. docs/COMPARED.md has the same rows.
 """
 
 import copy

@@ -1,0 +1,265 @@
+"""How the programs read files and write one: rows for tests/programs.
+
+What is written of several files is what the program writes of each alone, from standard input, one after the
+other; so no text stands here twice.
+"""
+
+import errno
+import functools
+import os
+import resource
+import shutil
+import signal
+import stat
+import subprocess
+import tempfile
+
+NOBODY = 65534
+PARTS = [b"\x1b[1mone\x1b[0m\n", b"tw\xe2\x82", b"\xaco\n\x1b[3", b"1mthree\r\n", b""]
+
+
+class Rows:
+    """The rows of a program with certain words. `alone` are those by which it writes a text with nothing around it."""
+
+    def __init__(self, name, path, words, alone, run, differs):
+        self.name, self.words, self.alone, self.run, self.differs = name, words, alone, run, differs
+        self.takes_many = name != "ansi2screen"
+        self.room = os.path.realpath(tempfile.mkdtemp())
+        os.chmod(self.room, 0o755)
+        # (for a user who may not look into this repository)
+        self.path = os.path.join(self.room, name)
+        shutil.copy(path, self.path)
+        os.chmod(self.path, 0o755)
+        # the names of two files, or of the one that is taken, and their texts
+        self.two = ["part0", "part3"][: 1 + self.takes_many]
+        self.texts = [PARTS[0], PARTS[3]][: 1 + self.takes_many]
+        for number, part in enumerate(PARTS):
+            self.put("part%d" % number, part)
+        os.mkdir(self.at("folder"))
+        os.symlink("loop", self.at("loop"))
+
+    def at(self, name):
+        return os.path.join(self.room, name)
+
+    def put(self, name, data, mode=0o644):
+        with open(self.at(name), "wb") as file:
+            file.write(data)
+        os.chmod(self.at(name), mode)
+
+    def read(self, name):
+        with open(self.at(name), "rb") as file:
+            return file.read()
+
+    def ran(self, *words, given=b"", before=None, **how):
+        """Runs the program in the folder of the files."""
+
+        def begin():
+            os.chdir(self.room)
+            if before:
+                before()
+
+        return self.run([self.path, *self.words, *words], given, before=begin, **how)
+
+    def of_each(self, *parts):
+        """What is written of these texts, one after another."""
+        around = self.run([self.path, *self.words], b"").out
+        empty = self.run([self.path, *self.alone], b"").out
+        texts = b"".join(self.run([self.path, *self.alone], part).out for part in parts)
+        if self.words == self.alone:
+            return texts
+        # (what stands around the text of nothing is the head and the tail)
+        assert not empty, empty
+        at = around.index(b"<pre>\n") + len(b"<pre>\n")
+        return around[:at] + texts + around[at:]
+
+    def said(self, *lines):
+        """What stands on standard error: for each name its reason."""
+        return b"".join(b"%s: %s: %s\n" % (self.name.encode(), at, os.strerror(why).encode()) for at, why in lines)
+
+    def left(self):
+        return sorted(os.listdir(self.room))
+
+
+def drop_rights():
+    """Goes on as a user whom no file is for, where root runs the tests."""
+    if os.geteuid() == 0:
+        os.setgroups([])
+        os.setgid(NOBODY)
+        os.setuid(NOBODY)
+
+
+def limit(size):
+    signal.signal(signal.SIGXFSZ, signal.SIG_IGN)
+    resource.setrlimit(resource.RLIMIT_FSIZE, (size, size))
+
+
+def file_cases(name, path, words, alone, run, differs):
+    """Files that are read, and those that can't be."""
+    rows = Rows(name, path, words, alone, run, differs)
+    try:
+        yield from read_cases(rows)
+        yield from name_cases(rows)
+        yield from growing_cases(rows)
+        yield from written_cases(rows)
+        yield from kept_cases(rows)
+    finally:
+        shutil.rmtree(rows.room)
+
+
+def read_cases(rows):
+    names = ["part%d" % it for it in range(len(PARTS))]
+    for count in (1, 2, len(PARTS)) if rows.takes_many else (1,):
+        ended = rows.ran(*names[:count])
+        yield "%d files" % count, rows.differs(ended, out=rows.of_each(*PARTS[:count]))
+    given = b"\x1b[3mfrom standard input"
+    rows_of_words = [(["-"], [given]), (["--", "-"], [given]), (["--"], [given])]
+    if rows.takes_many:
+        rows_of_words += [
+            (["part1", "part1"], [PARTS[1], PARTS[1]]),
+            (["part0", "-", "part3"], [PARTS[0], given, PARTS[3]]),
+            (["-", "part0", "-"], [given, PARTS[0], b""]),
+        ]
+    for words, parts in rows_of_words:
+        yield "the words %s" % " ".join(words), rows.differs(rows.ran(*words, given=given), out=rows.of_each(*parts))
+    faults = [("missing", errno.ENOENT), ("folder", errno.EISDIR), ("part0/below", errno.ENOTDIR), ("loop", errno.ELOOP)]
+    faults.append(("a" * 300, errno.ENAMETOOLONG))
+    for at, why in faults:
+        said, words = rows.said((at.encode(), why)), (["part0", at, "part3"] if rows.takes_many else [at])
+        parts = [PARTS[0], b"", PARTS[3]] if rows.takes_many else [b""]
+        ended = rows.ran(*words)
+        yield "%s: %s" % (" ".join(words)[:30], os.strerror(why)), rows.differs(ended, status=1, err=said, out=rows.of_each(*parts))
+    if rows.takes_many:
+        ended = rows.ran("missing", "folder", "missing")
+        said = rows.said((b"missing", errno.ENOENT), (b"folder", errno.EISDIR), (b"missing", errno.ENOENT))
+        yield "faults alone", rows.differs(ended, status=1, err=said, out=rows.of_each(b""))
+    rows.put("secret", b"secret\n", 0o600 if os.geteuid() == 0 else 0)
+    names = ["secret", "part0"][: 1 + rows.takes_many]
+    ended = rows.ran(*names, before=drop_rights)
+    wanted = {"status": 1, "err": rows.said((b"secret", errno.EACCES)), "out": rows.of_each(b"", PARTS[0]) if rows.takes_many else rows.of_each(b"")}
+    yield "a file that it may not read", rows.differs(ended, **wanted)
+    os.remove(rows.at("secret"))
+    with open("/dev/full", "wb") as full:
+        why = b"%s: write failed: No space left on device (os error 28)\n" % rows.name.encode()
+        ended = rows.ran(*rows.two, out=full)
+        yield "files onto a full disk", rows.differs(ended, status=1, err=why)
+        yield "a fault that cannot be said", rows.differs(rows.ran("missing", err=full), status=1, out=rows.of_each(b""))
+    reading, writing = os.pipe()
+    os.close(reading)
+    yield "files into a closed pipe", rows.differs(rows.ran(*rows.two, out=writing), status=141)
+    os.close(writing)
+
+
+def name_cases(rows):
+    for at in ("-dash", "--shown", "-h", "a b", "ä€😀", "two\nlines"):
+        rows.put(at, PARTS[0])
+        yield "-- and the name %r" % at, rows.differs(rows.ran("--", at), out=rows.of_each(PARTS[0]))
+        yield "the name ./%r" % at, rows.differs(rows.ran("./" + at), out=rows.of_each(PARTS[0]))
+        os.remove(rows.at(at))
+    for at, shown in (("", b'""'), ("no\x1b[31m", b'"no\\u{1b}[31m"'), ("no\x9b", b'"no\\u{9b}"')):
+        ended = rows.ran("--", at)
+        yield "the name %r is said as text" % at, rows.differs(ended, status=1, err=rows.said((shown, errno.ENOENT)), out=rows.of_each(b""))
+    why = "%s: a word is no UTF-8: a file with such a name is given by < (see %s --help)\n" % (rows.name, rows.name)
+    rows.put(b"\xff".decode("utf-8", "surrogateescape"), PARTS[0])
+    for words in ([b"\xff"], [b"--", b"\xff"], [b"-o", b"\xff"], [b"--output=\xff"], [b"part0", b"\xff"], [b"--help", b"\xff"]):
+        before = rows.left()
+        why_not = rows.differs(rows.ran(*words), status=2, err=why.encode())
+        yield "the words %s, no UTF-8" % words, why_not or (rows.left() != before and "it makes files")
+    os.remove(rows.at(b"\xff".decode("utf-8", "surrogateescape")))
+    help = rows.run([rows.path, "--help"])
+    for words in (["-h"], ["missing", "-h"], ["-o", "missing/x", "-h"]):
+        yield " ".join([*words, "says what --help says"]), rows.differs(rows.ran(*words), out=help.out)
+    why = b"%s: -o wants the name of a file (see %s --help)\n" % (2 * (rows.name.encode(),))
+    yield "-o and nothing behind it", rows.differs(rows.ran("part0", "-o"), status=2, err=why)
+
+
+def growing_cases(rows):
+    """A file that grows while it is read: what was added before its end was met is read too."""
+    rows.put("log", b"a line\n" * 100_000)
+    program = subprocess.Popen([rows.path, *rows.words, rows.at("log")], bufsize=0, stdout=subprocess.PIPE, stderr=subprocess.PIPE)
+    first = program.stdout.read(1) if rows.takes_many else b""  # (it has begun, and waits for its reader)
+    with open(rows.at("log"), "ab") as file:
+        file.write(b"another line\n" * 1000)
+    out, err = program.communicate(timeout=60)
+    wanted = [rows.of_each(rows.read("log"))] + ([] if first else [rows.of_each(b"a line\n" * 100_000)])
+    why = None if first + out in wanted and (program.returncode, err) == (0, b"") else "it writes %d bytes" % len(out)
+    yield "a file that grows", why
+    os.remove(rows.at("log"))
+
+
+def written_cases(rows):
+    """A file that is written."""
+    whole = rows.of_each(*rows.texts)
+    before = rows.left()
+    for words in (["-o", "out"], ["--output=out"], ["-o", "other", "--output=out"], ["--output=other", "-o", "out"], ["-o", "--", "-o", "out"], ["-o", "./out"]):
+        why = rows.differs(rows.ran(rows.two[0], *words, *rows.two[1:]))
+        found = rows.read("out") if os.path.exists(rows.at("out")) else None
+        why = why or (found != whole and "it has %r" % found) or (rows.left() != sorted([*before, "out"]) and "there are %s" % rows.left())
+        yield " ".join([*words, "makes the file"]), why
+        umask = os.umask(0)
+        os.umask(umask)
+        mode = stat.S_IMODE(os.stat(rows.at("out")).st_mode)
+        yield "its rights are the usual ones", mode != 0o666 & ~umask and "they are %o" % mode
+        os.remove(rows.at("out"))
+    for mode in (0o640, 0o444, 0o777):
+        rows.put("out", b"old\n", mode)
+        why = rows.differs(rows.ran("-o", "out", *rows.two)) or (rows.read("out") != whole and "it has %r" % rows.read("out"))
+        found = stat.S_IMODE(os.stat(rows.at("out")).st_mode)
+        yield "-o over a file with rights %o" % mode, why or (found != mode and "they are %o" % found)
+        os.remove(rows.at("out"))
+    rows.put("log", PARTS[0])
+    why = rows.differs(rows.ran("-o", "log", "log")) or (rows.read("log") != rows.of_each(PARTS[0]) and "it has %r" % rows.read("log"))
+    yield "the output is the input", why
+    os.symlink("log", rows.at("link"))
+    rows.put("log", b"old\n")
+    why = rows.differs(rows.ran("-o", "link", "part0")) or (rows.read("log") != rows.of_each(PARTS[0]) and "it has %r" % rows.read("log"))
+    yield "-o by the name of a link", why or (not os.path.islink(rows.at("link")) and "the link is gone")
+    os.remove(rows.at("link"))
+    os.remove(rows.at("log"))
+    rows.put("out.0.new", b"of another\n")
+    why = rows.differs(rows.ran("-o", "out", "part0"))
+    yield "-o beside a file out.0.new", why or (rows.read("out.0.new") != b"of another\n" and "that is gone")
+    os.remove(rows.at("out"))
+    os.remove(rows.at("out.0.new"))
+    yield "-o - is standard output", rows.differs(rows.ran("-o", "-", "part0"), out=rows.of_each(PARTS[0]))
+    yield "-o /dev/null", rows.differs(rows.ran("-o", "/dev/null", "part0")) or (not stat.S_ISCHR(os.stat("/dev/null").st_mode) and "it is gone")
+    yield "no other file is left", rows.left() != before and "there are %s" % rows.left()
+
+
+def kept_cases(rows):
+    """Where not all goes well, what stood there stays, and the new file is gone."""
+    made = [("no/out", errno.ENOENT), ("part0/out", errno.ENOTDIR), ("folder", errno.EISDIR), ("loop", errno.ELOOP)]
+    made.append(("folder/" + "a" * 255, errno.ENAMETOOLONG))
+    for at, why in made:
+        ended = rows.ran("-o", at, "missing")
+        yield "-o %s can't be made" % at[:20], rows.differs(ended, status=1, err=rows.said((at.encode(), why)))
+    os.mkdir(rows.at("locked"))
+    rows.put("locked/out", b"old\n", 0o644)
+    os.chmod(rows.at("locked"), 0o555)
+    ended = rows.ran("-o", "locked/out", "part0", before=drop_rights)
+    yield "-o in a folder where it may make no file", rows.differs(ended, status=1, err=rows.said((b"locked/out", errno.EACCES)))
+    os.chmod(rows.at("locked"), 0o755)
+    shutil.rmtree(rows.at("locked"))
+    yield "-o /dev/full", rows.differs(rows.ran("-o", "/dev/full", "part0"), status=1, err=rows.said((b"/dev/full", errno.ENOSPC)))
+    rows.put("much", b"a line\n" * 20_000)
+    for old in (None, b"old\n"):
+        before = rows.left()
+        if old is not None:
+            rows.put("out", old, 0o640)
+        beside, much = ["part0"] * rows.takes_many, len(rows.of_each(rows.read("much")))
+        faults = [
+            ("an input that is not there", [*beside, "missing"], (b"missing", errno.ENOENT), None),
+            ("an input that is not there, first", ["missing", *beside], (b"missing", errno.ENOENT), None),
+            ("an input that is a folder", [*beside, "folder"], (b"folder", errno.EISDIR), None),
+        ]
+        for room in (0, much // 2, much - 1):
+            faults.append(("a disk with room for %d bytes" % room, ["much"], (b"out", errno.EFBIG), functools.partial(limit, room)))
+        for name, names, said, first in faults:
+            why = rows.differs(rows.ran("-o", "out", *names, before=first), status=1, err=rows.said(said))
+            found = rows.read("out") if os.path.exists(rows.at("out")) else None
+            why = why or (found != old and "it has %r" % found) or (set(rows.left()) - set(before) - {"out"} and "there are %s" % rows.left())
+            yield "-o, %s: %s" % (name, "no file is made" if old is None else "the old one stays"), why
+        ended = rows.ran("-o", "out", "much", before=functools.partial(limit, much))
+        why = rows.differs(ended) or (rows.read("out") != rows.of_each(rows.read("much")) and "it has another text")
+        yield "-o on a disk with room for all", why
+        os.remove(rows.at("out"))
+    os.remove(rows.at("much"))

@@ -3,6 +3,7 @@
 #   make            proves and builds all of it
 #   make library    the library alone, in C's forms and for bindings/python
 #   make wheel      a wheel of the Python package, for each CPython from 3.8, in bindings/python/dist
+#   make dist       what is handed out, in dist: source, programs and library, a Debian package, the wheel
 #   make check      proves and tests all, but for the proofs that have passed on this machine before
 #   make mutants    tries the wrong bodies that make check leaves out; CRATE='NAME ..' those of these crates alone
 #   make install    to PREFIX (/usr/local), below DESTDIR where that is set
@@ -18,7 +19,7 @@ PROGRAMS = ansi2text ansi2html ansi2screen parselog
 # those that shells complete the options of
 COMPLETED = ansi2text ansi2html ansi2screen
 # the scripts of tests/
-TESTS = asked browser cells classes contrast costs documents install library links packages programs screen_twin vectors
+TESTS = asked browser cells classes contrast costs dist documents install library links packages programs screen_twin vectors
 # what the library does: each has a header and a manual page of its own
 INTERFACES = ansi_events ansi_html ansi_strip
 VERSION := $(shell sed -n 's/^pub const VERSION: &str = "\(.*\)";$$/\1/p' crates/standard_streams/src/options.rt)
@@ -98,8 +99,13 @@ $(EXTENSION): $(PACKAGE)/_events.c $(PACKAGE)/ansi_events.h
 # (what an earlier wheel was made of would go into this one too)
 wheel: library
 	rm -rf bindings/python/build
+	rt version > $(PACKAGE)/KIT
 	$(PYTHON) -m pip wheel --no-deps $(WHEEL_BY) --config-settings=--build-option=--plat-name=$(WHEEL_FOR) \
 	    --wheel-dir bindings/python/dist ./bindings/python
+
+# (a script of its own, which builds by this Makefile, installs into a folder and packs that)
+dist:
+	VERSION=$(VERSION) packaging/dist
 
 check:
 	$(PYTHON) tests/side_by_side.py 'rt ci' $(TESTS)
@@ -107,8 +113,9 @@ check:
 mutants:
 	$(PYTHON) mutants/try $(CRATE)
 
-install: all
-	$(INSTALL) -d $(BIN) $(LIB)/pkgconfig $(HEADERS) $(MAN)/man1 $(MAN)/man3 $(MODULES) $(BASH) $(ZSH) $(FISH)
+# what is installed for no language in particular
+install-native: programs $(SHARED)
+	$(INSTALL) -d $(BIN) $(LIB)/pkgconfig $(HEADERS) $(MAN)/man1 $(MAN)/man3 $(BASH) $(ZSH) $(FISH)
 	for name in $(PROGRAMS); do \
 	    $(INSTALL) crates/$$name/out/$$name $(BIN)/$$name && \
 	    $(INSTALL) -m 644 man/$$name.1 $(MAN)/man1/$$name.1 || exit 1; \
@@ -127,10 +134,13 @@ install: all
 	ln -sf libansi.so.$(VERSION) $(LIB)/libansi.so.$(MAJOR)
 	ln -sf libansi.so.$(MAJOR) $(LIB)/libansi.so
 	sed 's|@PREFIX@|$(PREFIX)|; s|@VERSION@|$(VERSION)|' include/ansi.pc.in > $(LIB)/pkgconfig/ansi.pc
+	chmod 644 $(LIB)/pkgconfig/ansi.pc
+
+install: all install-native
+	$(INSTALL) -d $(MODULES)
 	for name in $(SOURCES_OF_PACKAGE); do $(INSTALL) -m 644 $(PACKAGE)/$$name $(MODULES)/$$name || exit 1; done
 	ln -sf "$$(realpath --relative-to=$(MODULES) $(LIB))/libansi.so.$(MAJOR)" $(MODULES)/$(notdir $(LOADED))
 	$(if $(PYTHON_HEADERS),$(INSTALL) $(EXTENSION) $(MODULES)/$(notdir $(EXTENSION)))
-	chmod 644 $(LIB)/pkgconfig/ansi.pc
 	@$(PYTHON) -c '$(LOOKS_IN) \
 	    given in known or print("$(PYTHON) does not look in %s: PYTHONPATH has to name it." % given)' $(MODULES_IN)
 
@@ -144,4 +154,4 @@ uninstall:
 	rm -rf $(MODULES)/__pycache__
 	if [ -d $(MODULES) ]; then rmdir --ignore-fail-on-non-empty $(MODULES); fi
 
-.PHONY: all programs library wheel check mutants install uninstall
+.PHONY: all programs library wheel dist check mutants install install-native uninstall

@@ -24,7 +24,7 @@ events = Extension(
     "ansi_proved._events",
     ["src/ansi_proved/_events.c"],
     depends=["src/ansi_proved/ansi_events.h"],
-    extra_compile_args=["-std=c99", "-O2"],
+    extra_compile_args=["-std=c99", "-O2", "-g0"],  # (what is for debuggers names the folder)
     py_limited_api=True,  # (of 3.8: _events.c says so)
 )
 setup(

@@ -1,6 +1,8 @@
 # The options and files of ansi2html, for fish.
 complete -c ansi2html -l page -d 'write a whole page'
 complete -c ansi2html -l title -x -d 'write a whole page with this title'
+complete -c ansi2html -l css -x -d 'write a whole page with the stylesheet at this address'
+complete -c ansi2html -l lang -x -d 'write a whole page in this language'
 complete -c ansi2html -l light -d 'colours for light pages alone'
 complete -c ansi2html -l dark -d 'colours for dark pages alone'
 complete -c ansi2html -l classes -d 'attributes class in place of style'

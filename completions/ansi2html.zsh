@@ -2,13 +2,15 @@
 # The options and files of ansi2html, for zsh.
 _arguments \
     '--page[write a whole page]' \
-    '--title=-[write a whole page with this title]:TEXT' \
+    '--title=[write a whole page with this title]:TEXT' \
+    '--css=[write a whole page with the stylesheet at this address]:ADDRESS' \
+    '--lang=[write a whole page in this language]:TAG' \
     '--light[colours for light pages alone]' \
     '--dark[colours for dark pages alone]' \
     '--classes[attributes class in place of style]' \
     '--stylesheet[write the stylesheet of these classes]' \
     '--shown=-[write what a terminal of 80x24, or of this size, showed]::COLUMNSxROWS:' \
-    '(-o --output)'{-o+,--output=-}'[write to this file in place of standard output]:FILE:_files' \
+    '(-o --output)'{-o,--output=}'[write to this file in place of standard output]:FILE:_files' \
     '(- *)'{-h,--help}'[say what it does]' \
     '(- *)--version[say which version it is]' \
     '*:FILE:_files'

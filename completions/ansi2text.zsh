@@ -2,7 +2,7 @@
 # The options and files of ansi2text, for zsh.
 _arguments \
     '--shown=-[write what a terminal of 80x24, or of this size, showed]::COLUMNSxROWS:' \
-    '(-o --output)'{-o+,--output=-}'[write to this file in place of standard output]:FILE:_files' \
+    '(-o --output)'{-o,--output=}'[write to this file in place of standard output]:FILE:_files' \
     '(- *)'{-h,--help}'[say what it does]' \
     '(- *)--version[say which version it is]' \
     '*:FILE:_files'

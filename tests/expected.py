@@ -675,6 +675,23 @@ PAGE_TAIL = b"""\
 TITLE = "a<b>&\"' </title><script>"
 TITLED_HEAD = PAGE_HEAD.replace(b"Terminal output", b"a&lt;b&gt;&amp;&quot;&#39; &lt;/title&gt;&lt;script&gt;")
 
+# A page whose rules are in a stylesheet elsewhere.
+ADDRESS = "a.css?b=\"><'&c"
+LINKED_HEAD = b"""\
+<!DOCTYPE html>
+<html lang="en">
+<head>
+<meta charset="utf-8">
+<meta name="viewport" content="width=device-width">
+<title>Terminal output</title>
+<meta name="color-scheme" content="light dark">
+<link rel="stylesheet" href="a.css?b=&quot;&gt;&lt;&#39;&amp;c">
+</head>
+<body>
+<pre>
+"""
+NO_LANGUAGE = b"ansi2html: a language is a tag of letters, digits and hyphens, as en or pt-BR, 64 at most (see ansi2html --help)"
+
 # The same for light pages alone, and for dark ones: black on white, and white on Chromium's dark ground.
 ROOT = b":root { color-scheme: light dark; }"
 LIGHT_HEAD = PAGE_HEAD.replace(ROOT, b":root { color-scheme: light; color: #000000; background-color: #ffffff; }")
@@ -689,10 +706,16 @@ def unknown(name, words, shown=None):
 
 def refused_by(name, *more):
     """What no program with options takes: other options, also where files stand before them or behind."""
-    rows = [["--Help"], ["--help="], ["--version=1"], ["-H"], ["-hh"], ["-ofile"], ["--output"], ["---"]]
+    rows = [["--Help"], ["--help="], ["--version=1"], ["-H"], ["-hh"], ["-ofile"], ["---"]]
     rows += [["a", "--no"], ["--no", "--version"], ["--no", "--", "a"], ["--helpme"]]
     shown = [unknown(name, ["-\x1b[31m\n"], '"-\\u{1b}[31m\\n"')]
-    return [unknown(name, words) for words in [*rows, *more]] + shown
+    wanting = [(words, wants(name, "--output", "the name of a file")) for words in (["--output"], ["a", "--output"])]
+    return [unknown(name, words) for words in [*rows, *more]] + shown + wanting
+
+
+def wants(name, option, what="a value"):
+    """What is said of an option that has no value."""
+    return ("%s: %s wants %s (see %s --help)" % (name, option, what, name)).encode()
 
 
 def wrong_size(name):
@@ -741,8 +764,10 @@ PROGRAMS = [
         "ansi2html",
         refused_by(
             "ansi2html",
-            *(["--title"], ["--titles=x"], ["--Page"], ["--page="], ["--light=1"], ["--class"]),
+            *(["--titles=x"], ["--title", "x", "--titles", "y"], ["--Page"], ["--page="], ["--light=1"], ["--class"]),
         )
+        + [([*before, word], wants("ansi2html", word)) for word in ("--title", "--css", "--lang") for before in ([], ["--page"], [word, word])]
+        + [(words, NO_LANGUAGE) for words in (["--lang="], ["--lang", "e n"], ["--lang=en", "--lang=\"x"], ["--lang=" + 65 * "a"], ["--lang=\xe9"], ["--page", "--lang", "en_GB"])]
         + [(["--page", word], wrong_size(b"ansi2html")) for word in ("--shown=", "--shown=1x1", "--shown=1001x24")]
         + [(["--stylesheet", "--shown=0x0"], wrong_size(b"ansi2html"))]
         + [
@@ -756,6 +781,13 @@ PROGRAMS = [
                 (["page"], BOTH, HTML_HOSTILE, PAGE_HEAD, PAGE_TAIL, None),
                 (["--page"], BOTH, [], PAGE_HEAD, PAGE_TAIL, HTML_CUT),
                 (["--title=" + TITLE, "--page"], BOTH, [], TITLED_HEAD, PAGE_TAIL, None),
+                (["--title", "--page", "--title", TITLE], BOTH, [], TITLED_HEAD, PAGE_TAIL, None),
+                (["--lang", "en", "--title=" + TITLE], BOTH, [], TITLED_HEAD, PAGE_TAIL, None),
+                (["--lang=de", "--lang=pt-BR"], BOTH, [], PAGE_HEAD.replace(b'"en"', b'"pt-BR"'), PAGE_TAIL, None),
+                (["--css=a.css", "--css", ADDRESS], BOTH, [], LINKED_HEAD, PAGE_TAIL, None),
+                (["--css=" + ADDRESS, "--classes"], None, [], LINKED_HEAD, PAGE_TAIL, None),
+                (["--light", "--css", ADDRESS], LIGHT, [], LINKED_HEAD.replace(b"light dark", b"light"), PAGE_TAIL, None),
+                (["--css=" + ADDRESS, "--page", "--dark"], DARK, [], LINKED_HEAD.replace(b"light dark", b"dark"), PAGE_TAIL, None),
                 (["--title=first", "page", "--title=" + TITLE], BOTH, [], TITLED_HEAD, PAGE_TAIL, None),
                 (["--dark", "--light"], LIGHT, [], b"", b"", None),
                 (["--dark", "--page", "--light"], LIGHT, [], LIGHT_HEAD, PAGE_TAIL, None),
@@ -775,7 +807,7 @@ PROGRAMS = [
             )
         ],
         options=[
-            *("--page", "--title=TEXT", "--light", "--dark", "--classes", "--stylesheet"),
+            *("--page", "--title=TEXT", "--css=ADDRESS", "--lang=TAG", "--light", "--dark", "--classes", "--stylesheet"),
             *("--shown", "--shown=COLUMNSxROWS", "--output=FILE"),
         ],
         files=[([], []), (["--page"], []), (["--shown", "--page"], ["--shown"])],
@@ -786,7 +818,9 @@ PROGRAMS = [
     # (what its screens are tests/screen_twin tries)
     Program(
         "ansi2screen",
-        refused_by("ansi2screen", ["--size"], ["--draw=x"], ["--shown"])
+        refused_by("ansi2screen", ["--draw=x"], ["--shown"], ["--size", "9x9", "--sizes"])
+        + [([*before, "--size"], wants("ansi2screen", "--size")) for before in ([], ["a"], ["--size", "--size"])]
+        + [(["--size", word], wrong_size(b"ansi2screen")) for word in ("--draw", "1x1", "")]
         + [([word], wrong_size(b"ansi2screen")) for word in ("--size=", "--size=1x1", "--size=80")]
         + [(words, b"ansi2screen: a screen is that of one file (see ansi2screen --help)") for words in (["a", "b"], ["-", "-"], ["a", "--", "-b"])]
         + [

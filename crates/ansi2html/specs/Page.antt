@@ -3,8 +3,9 @@
 -- Sources: the HTML standard, 13.1 (the syntax of a page), 3.2.6.2 (`lang`, by which a page is
 -- read aloud), 4.2.5.4 (its charset, within the first 1,024 bytes) and 4.4.3 (`pre`); CSS Color
 -- Adjustment, 2.1 (a page that is drawn light or dark, as its reader has it); CSS Text, 3 and 5.5
--- (long lines are wrapped, spaces are kept); CSS Viewport, 3 (a phone draws it at its own width).
-use Rattle.std.specs.Prelude.{ℕ, List, [], ◌∷◌, ◌++◌, codes}
+-- (long lines are wrapped, spaces are kept); CSS Viewport, 3 (a phone draws it at its own width); HTML, 4.2.4 (a
+-- stylesheet of another file), for which Content Security Policy, 6.1.14, wants no leave for rules of the page's own.
+use Rattle.std.specs.Prelude.{ℕ, List, [], ◌∷◌, ◌++◌, codes, Option, None, Some, option_copied}
 use Rattle.std.specs.List.{flat_map}
 use Rattle.ansi_html.specs.declared.scheme.Scheme.{Scheme}
 use Rattle.ansi_html.specs.declared.scheme.Scheme.TheVariants.{Light, Dark, Both}
@@ -13,6 +14,7 @@ use Rattle.ansi_html.specs.declared.scheme.Styling.TheVariants.{Inline, Classes}
 use Rattle.ansi_html.specs.Html.{escaped_text}
 use Rattle.ansi_html.specs.Stylesheet.{stylesheet}
 use Rattle.ansi2html.specs.declared.form.Form.{Form}
+use Rattle.ansi2html.specs.declared.form.Said.{Said}
 use Rattle.ansi2html.specs.declared.form.Form.TheVariants.{Fragment, Page}
 
 -- lines, each with the line feed that ends it
@@ -26,50 +28,70 @@ page_colors Light = codes ":root { color-scheme: light; color: #000000; backgrou
 page_colors Dark = codes ":root { color-scheme: dark; color: #ffffff; background-color: #121212; }\n"
 page_colors Both = codes ":root { color-scheme: light dark; }\n"
 
--- The page up to its title, from there to its colours, and from there to its text. It asks for
--- nothing from elsewhere, and a reader drops the line feed after <pre>.
+-- the same of a page without rules, as its head names the scheme (HTML, 4.2.5.1)
+abbrev pub named_scheme : Scheme → List ℕ
+named_scheme Light = lines (codes "<meta name=\"color-scheme\" content=\"light\">" ∷ [])
+named_scheme Dark = lines (codes "<meta name=\"color-scheme\" content=\"dark\">" ∷ [])
+named_scheme Both = lines (codes "<meta name=\"color-scheme\" content=\"light dark\">" ∷ [])
+
+-- The page up to its language, from there to its title, and from what says how it looks to its text. A reader drops
+-- the line feed after <pre>.
+abbrev pub before_language : List ℕ
+before_language = lines (codes "<!DOCTYPE html>" ∷ []) ++ codes "<html lang=\""
+
 abbrev pub before_title : List ℕ
 before_title =
     lines
-    (codes "<!DOCTYPE html>" ∷
-    codes "<html lang=\"en\">" ∷
+    (codes "\">" ∷
     codes "<head>" ∷
     codes "<meta charset=\"utf-8\">" ∷
     codes "<meta name=\"viewport\" content=\"width=device-width\">" ∷ [])
     ++ codes "<title>"
 
 abbrev pub after_title : List ℕ
-after_title = lines (codes "</title>" ∷ codes "<style>" ∷ [])
+after_title = lines (codes "</title>" ∷ [])
 
-abbrev pub after_colors : List ℕ
-after_colors =
-    lines
-    (codes "pre { white-space: pre-wrap; overflow-wrap: anywhere; }" ∷
-    codes "</style>" ∷
-    codes "</head>" ∷
-    codes "<body>" ∷
-    codes "<pre>" ∷ [])
+abbrev pub before_text : List ℕ
+before_text = lines (codes "</head>" ∷ codes "<body>" ∷ codes "<pre>" ∷ [])
 
 -- the rules of the classes, where there are any
 abbrev pub page_rules : Styling → Scheme → List ℕ
 page_rules (Inline inline) scheme = []
 page_rules Classes scheme = stylesheet scheme
 
--- The page as far as its text, with this title, of which the bytes with a meaning in HTML are
+-- How a page looks, by its own rules: it asks for nothing from elsewhere.
+abbrev pub page_style : Styling → Scheme → List ℕ
+page_style styling scheme =
+    lines (codes "<style>" ∷ [])
+    ++ (page_colors scheme ++ (page_rules styling scheme
+    ++ lines (codes "pre { white-space: pre-wrap; overflow-wrap: anywhere; }" ∷ codes "</style>" ∷ [])))
+
+-- By the stylesheet at an address, of which the bytes with a meaning in HTML are references.
+abbrev pub page_link : Scheme → (address : List ℕ) → List ℕ
+page_link scheme address =
+    named_scheme scheme
+    ++ (codes "<link rel=\"stylesheet\" href=\"" ++ (escaped_text address ++ lines (codes "\">" ∷ [])))
+
+abbrev pub page_looks : Styling → Scheme → (address : Option (List ℕ)) → List ℕ
+page_looks styling scheme None = page_style styling scheme
+page_looks styling scheme (Some address) = page_link scheme address
+
+-- The page as far as its text, with what is said of it, of which the bytes with a meaning in HTML are
 -- references.
-abbrev pub page_head : Styling → Scheme → (title : List ℕ) → List ℕ
-page_head styling scheme title =
-    before_title ++ (escaped_text title ++ (after_title
-    ++ (page_colors scheme ++ (page_rules styling scheme ++ after_colors))))
+abbrev pub page_head : Styling → Scheme → Said → List ℕ
+page_head styling scheme said =
+    before_language ++ (escaped_text said.language.now ++ (before_title
+    ++ (escaped_text said.title.now ++ (after_title
+    ++ (page_looks styling scheme (option_copied said.stylesheet) ++ before_text)))))
 
 -- the page after its text
 abbrev pub page_tail : List ℕ
 page_tail = lines (codes "</pre>" ∷ codes "</body>" ∷ codes "</html>" ∷ [])
 
 -- a fragment stands alone; a page has a head and a tail
-abbrev pub head_of : Form → Styling → Scheme → (title : List ℕ) → List ℕ
-head_of Fragment styling scheme title = []
-head_of Page styling scheme title = page_head styling scheme title
+abbrev pub head_of : Form → Styling → Scheme → Said → List ℕ
+head_of Fragment styling scheme said = []
+head_of Page styling scheme said = page_head styling scheme said
 
 abbrev pub tail_of : Form → List ℕ
 tail_of Fragment = []

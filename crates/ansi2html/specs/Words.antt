@@ -1,7 +1,7 @@
 -- The words of the program.
-use Rattle.std.specs.Prelude.{ℕ, Bool, ◌||◌, nat_eq, List, [], ◌∷◌, codes, bytes_eq, if◌then◌else◌}
-use Rattle.std.specs.List.{list_any, starts_with}
-use Rattle.standard_streams.specs.Options.{has_word}
+use Rattle.std.specs.Prelude.{ℕ, Bool, ◌||◌, ◌&&◌, nat_eq, nat_le, nat_lt, List, [], ◌∷◌, length, codes, bytes_eq, Option, None, Some, unwrap_or, if◌then◌else◌}
+use Rattle.std.specs.List.{list_all, list_any, starts_with}
+use Rattle.standard_streams.specs.Options.{has_word, last_value}
 use Rattle.ansi_html.specs.declared.scheme.Scheme.{Scheme}
 use Rattle.ansi_html.specs.declared.scheme.Scheme.TheVariants.{Light, Dark, Both}
 use Rattle.ansi_html.specs.declared.scheme.Styling.{Styling}
@@ -9,10 +9,11 @@ use Rattle.ansi_html.specs.declared.scheme.Styling.TheVariants.{Inline, Classes}
 use Rattle.ansi2html.specs.declared.form.Form.{Form}
 use Rattle.ansi2html.specs.declared.form.Form.TheVariants.{Fragment, Page}
 
--- a word asks for a page: --page, the word page, or a title
+-- a word asks for a page: --page, the word page, or what is said of a page
 abbrev pub asks_for_page : (word : List ℕ) → Bool
 asks_for_page word =
-    bytes_eq word (codes "--page") || (bytes_eq word (codes "page") || starts_with nat_eq word (codes "--title="))
+    bytes_eq word (codes "--page") || (bytes_eq word (codes "page") || (starts_with nat_eq word (codes "--title=")
+    || (starts_with nat_eq word (codes "--css=") || starts_with nat_eq word (codes "--lang="))))
 
 -- a page where some word asks for it
 abbrev pub form_of : (words : List (List ℕ)) → Form
@@ -41,3 +42,23 @@ asks_for_stylesheet words = has_word (codes "--stylesheet") words
 -- the title of a page that is given none
 abbrev pub default_title : List ℕ
 default_title = codes "Terminal output"
+
+-- A tag of a language: letters, digits and hyphens, 64 at most, so that the page's charset, which follows it, stands
+-- within the first 1,024 bytes (RFC 5646, 2.1 and 4.4.1, by which no registered tag needs more than 35).
+abbrev pub is_tag_byte : ℕ → Bool
+is_tag_byte b =
+    (nat_le 0x30 b && nat_le b 0x39)
+    || ((nat_le 0x41 b && nat_le b 0x5A) || ((nat_le 0x61 b && nat_le b 0x7A) || nat_eq b 0x2D))
+
+abbrev pub is_tag : (text : List ℕ) → Bool
+is_tag text = nat_lt 0 (length text) && (nat_le (length text) 64 && list_all is_tag_byte text)
+
+-- the language of a page that is given none
+abbrev pub default_language : List ℕ
+default_language = codes "en"
+
+-- the language that is given last, where it is a tag
+abbrev pub language_of : (words : List (List ℕ)) → Option (List ℕ)
+language_of words =
+    let tag = unwrap_or (last_value (codes "--lang=") words) default_language in
+    if is_tag tag then Some tag else None

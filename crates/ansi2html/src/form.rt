@@ -1,7 +1,9 @@
 //! What stands around the text.
-ghost use Rattle.std.specs.Prelude.{◌≡◌, IfOk, OnOk};
+ghost use Rattle.std.specs.Prelude.{◌≡◌, ◌++◌, ℕ, List, option_copied, IfOk, OnOk};
 ghost use Rattle.anstyle_parse.specs.Io.Output.{Adds, Causes, Writes};
-ghost use Rattle.ansi2html.specs.Page.{page_colors, page_rules, page_head, head_of, tail_of};
+ghost use Rattle.ansi2html.specs.Page.{page_colors, named_scheme, page_rules, page_style, page_link, page_looks, page_head, head_of, tail_of};
+ghost use Rattle.ansi_html.specs.Html.{escaped_text};
+ghost use Rattle.ansi_html.specs.Reader.{Attributes, Place, in_value, seen_from};
 ghost use Rattle.ansi_html.specs.Stylesheet.{stylesheet};
 
 use ansi_html::{Scheme, Styling, put_stylesheet, put_text};
@@ -17,27 +19,54 @@ pub enum Form {
     Page,
 }
 
+/// What is said of a page, for its head.
+#[derive(Debug, Clone, Copy)]
+pub struct Said<'a> {
+    /// The language, a tag such as `en`.
+    pub language: &'a str,
+    /// The title.
+    pub title: &'a str,
+    /// Where its stylesheet is, in place of rules of its own.
+    pub stylesheet: Option<&'a str>,
+}
+
 /// The title of a page that is given none.
 pub const TITLE: &str = "Terminal output";
 
-/// The page before its title.
-const BEFORE_TITLE: &[u8] = br#"<!DOCTYPE html>
-<html lang="en">
+/// The language of a page that is given none.
+pub const LANGUAGE: &str = "en";
+
+/// The page before its language.
+const BEFORE_LANGUAGE: &[u8] = br#"<!DOCTYPE html>
+<html lang=""#;
+
+/// The page from its language to its title.
+const BEFORE_TITLE: &[u8] = br#"">
 <head>
 <meta charset="utf-8">
 <meta name="viewport" content="width=device-width">
 <title>"#;
 
-/// The page from its title to its colours.
-const AFTER_TITLE: &[u8] = br#"</title>
-<style>
+/// The page from its title to what says how it looks.
+const AFTER_TITLE: &[u8] = b"</title>\n";
+
+/// What stands before the rules of a page that has them.
+const BEFORE_RULES: &[u8] = b"<style>\n";
+
+/// What stands behind its colours and rules.
+const AFTER_RULES: &[u8] = br#"pre { white-space: pre-wrap; overflow-wrap: anywhere; }
+</style>
 "#;
 
-/// The page from its colours to the text. Browsers drop the newline after `<pre>`, so that one
+/// What stands before the address of a stylesheet, behind the colours of the page.
+const BEFORE_ADDRESS: &[u8] = br#"<link rel="stylesheet" href=""#;
+
+/// What stands behind the address.
+const AFTER_ADDRESS: &[u8] = b"\">\n";
+
+/// The end of the head, to the text. Browsers drop the newline after `<pre>`, so that one
 /// which begins the text stays.
-const AFTER_COLORS: &[u8] = br#"pre { white-space: pre-wrap; overflow-wrap: anywhere; }
-</style>
-</head>
+const BEFORE_TEXT: &[u8] = br#"</head>
 <body>
 <pre>
 "#;
@@ -70,34 +99,95 @@ fn put_rules<W: Sink>(output: &mut Output<W>, styling: Styling, scheme: Scheme)
     }
 }
 
-/// Writes the page as far as its text.
-fn put_head<W: Sink>(output: &mut Output<W>, styling: Styling, scheme: Scheme, title: &str)
-    ensures { Adds W.Sink (page_head styling scheme title.now) output.old output.new }
+/// The same colours, for a page without rules: as its reader has it, or light, or dark.
+fn color_scheme(scheme: Scheme) -> &'static [u8]
+    ensures { result.now ≡ named_scheme scheme }
 {
-    output.put(BEFORE_TITLE);
-    put_text(output, title);
-    output.put(AFTER_TITLE);
+    match scheme {
+        Scheme::Light => b"<meta name=\"color-scheme\" content=\"light\">\n",
+        Scheme::Dark => b"<meta name=\"color-scheme\" content=\"dark\">\n",
+        Scheme::Both => b"<meta name=\"color-scheme\" content=\"light dark\">\n",
+    }
+}
+
+/// Writes a text into the quoted value of an attribute, `& < > " '` and carriage returns as references.
+fn put_value<W: Sink>(output: &mut Output<W>, text: &str)
+    ensures added { Adds W.Sink (escaped_text text.now) output.old output.new }
+
+    // The text can't end its attribute: a reader in any attribute of any tag reads exactly this text more of the
+    // value, and is then in that value still.
+    ensures stays_within { (tag : Attributes) (name value rest : List ℕ) →
+        seen_from (in_value tag name value) (escaped_text text.now ++ rest)
+        ≡ seen_from (in_value tag name (value ++ text.now)) rest }
+{
+    put_text(output, text);
+}
+
+/// Writes the rules of a page, in its head.
+fn put_style<W: Sink>(output: &mut Output<W>, styling: Styling, scheme: Scheme)
+    ensures { Adds W.Sink (page_style styling scheme) output.old output.new }
+{
+    output.put(BEFORE_RULES);
     output.put(colors(scheme));
     put_rules(output, styling, scheme);
-    output.put(AFTER_COLORS);
+    output.put(AFTER_RULES);
+}
+
+/// Writes what leads to the stylesheet at an address, in place of rules.
+fn put_link<W: Sink>(output: &mut Output<W>, scheme: Scheme, address: &str)
+    ensures { Adds W.Sink (page_link scheme address.now) output.old output.new }
+{
+    output.put(color_scheme(scheme));
+    output.put(BEFORE_ADDRESS);
+    put_value(output, address);
+    output.put(AFTER_ADDRESS);
+}
+
+/// Writes what says how a page looks: its rules, or where a stylesheet is.
+fn put_looks<W: Sink>(
+    output: &mut Output<W>,
+    styling: Styling,
+    scheme: Scheme,
+    address: Option<&str>,
+)
+    ensures { Adds W.Sink (page_looks styling scheme (option_copied address.entry)) output.old output.new }
+{
+    match address {
+        None => put_style(output, styling, scheme),
+        Some(address) => put_link(output, scheme, address),
+    }
+}
+
+/// Writes the page as far as its text.
+fn put_head<W: Sink>(output: &mut Output<W>, styling: Styling, scheme: Scheme, said: Said<'_>)
+    ensures { Adds W.Sink (page_head styling scheme said.entry) output.old output.new }
+{
+    output.put(BEFORE_LANGUAGE);
+    put_value(output, said.language);
+    output.put(BEFORE_TITLE);
+    put_text(output, said.title);
+    output.put(AFTER_TITLE);
+    put_looks(output, styling, scheme, said.stylesheet);
+    output.put(BEFORE_TEXT);
 }
 
 impl Form {
-    /// What is written before the text: of a page, its head with this title, in which `& < > " '` and
-    /// carriage returns are character references, and with the colours of the scheme, and their rules
-    /// where styles are said by classes. A page's takes memory.
+    /// What is written before the text: of a page, its head with these words, in which `& < > " '` and
+    /// carriage returns are character references, and with the colours of the scheme. Where no stylesheet is
+    /// named, the rules are in the head, with those of the classes where styles are said by classes. A page's
+    /// takes memory.
     pub fn head(
         self,
         alloc: Global,
         styling: Styling,
         scheme: Scheme,
-        title: &str,
+        said: Said<'_>,
     ) -> Result<Vec<u8>, AllocError>
-        ensures { IfOk result (λ head. head.items ≡ head_of self styling scheme title.now) }
+        ensures { IfOk result (λ head. head.items ≡ head_of self styling scheme said.entry) }
     {
         let mut output = Output::new(FromWrite::new(Vec::new(alloc)));
         if self == Form::Page {
-            put_head(&mut output, styling, scheme, title);
+            put_head(&mut output, styling, scheme, said);
         }
         let (writer, answer) = output.finish();
         match answer {

@@ -8,7 +8,7 @@ mod words;
 
 use ansi_html::Scheme;
 use each_source::{Stopped, write_each};
-use form::write_stylesheet;
+use form::{Said, write_stylesheet};
 use screen_text::{SHOWN, screen_size};
 use standard_streams::{
     OUTPUT, Target, answered, asked_of, buffered, failed, given_line, have_failed, inputs, misused,
@@ -16,7 +16,10 @@ use standard_streams::{
 };
 use std::process::ExitCode;
 use streams::{Converting, Showing};
-use words::{HELP, NO_FILES, OPTIONS, asks_for_stylesheet, form, scheme, styling, title};
+use words::{
+    HELP, NO_FILES, NO_LANGUAGE, OPTIONS, asks_for_stylesheet, form, language, scheme,
+    stylesheet_address, styling, title,
+};
 
 /// The name at the front of what the program says of failures.
 const PROGRAM: &str = "ansi2html";
@@ -42,7 +45,15 @@ fn main(rt: HostRuntime) -> ExitCode {
     }
     let styling = styling(options, scheme);
     let form = form(options);
-    let Ok(head) = form.head(rt.alloc(), styling, scheme, title(options)) else {
+    let Some(language) = language(options) else {
+        return misused(&rt, NO_LANGUAGE);
+    };
+    let said = Said {
+        language,
+        title: title(options),
+        stylesheet: stylesheet_address(options),
+    };
+    let Ok(head) = form.head(rt.alloc(), styling, scheme, said) else {
         return failed(&rt, PROGRAM, "out of memory");
     };
     let (head, tail) = (head.as_slice(), form.tail());

@@ -1,9 +1,10 @@
 //! The words of the program: what its options say.
-ghost use Rattle.std.specs.Prelude.{◌≡◌, codes, map, string_bytes, unwrap_or};
+ghost use Rattle.std.specs.Prelude.{◌≡◌, codes, map, string_bytes, option_copied, unwrap_or};
+ghost use Rattle.std.specs.List.{list_all};
 ghost use Rattle.standard_streams.specs.Options.{last_value};
-ghost use Rattle.ansi2html.specs.Words.{asks_for_page, form_of, scheme_after, scheme_of, styling_of, asks_for_stylesheet, default_title};
+ghost use Rattle.ansi2html.specs.Words.{asks_for_page, form_of, scheme_after, scheme_of, styling_of, asks_for_stylesheet, default_title, is_tag_byte, is_tag, language_of};
 
-use crate::form::{Form, TITLE};
+use crate::form::{Form, LANGUAGE, TITLE};
 use ansi_html::{Scheme, Styling};
 use screen_text::SHOWN;
 use standard_streams::{OUTPUT, has_word, value_of};
@@ -12,7 +13,9 @@ use standard_streams::{OUTPUT, has_word, value_of};
 pub const OPTIONS: &[&str] = &[
     "--page",
     "page",
-    "--title=",
+    TITLED,
+    STYLED_BY,
+    IN_LANGUAGE,
     "--light",
     "--dark",
     "--classes",
@@ -22,23 +25,44 @@ pub const OPTIONS: &[&str] = &[
     OUTPUT,
 ];
 
+/// What stands before a title.
+const TITLED: &str = "--title=";
+
+/// What stands before the address of a stylesheet.
+const STYLED_BY: &str = "--css=";
+
+/// What stands before a language.
+const IN_LANGUAGE: &str = "--lang=";
+
+/// The greatest length of the tag of a language.
+const MOST_OF_A_TAG: usize = 64;
+
+/// What is said of a language that is no tag.
+pub const NO_LANGUAGE: &str =
+    "ansi2html: a language is a tag of letters, digits and hyphens, as en or pt-BR, 64 at most (see ansi2html --help)";
+
 /// What is said where files are named beside `--stylesheet`.
 pub const NO_FILES: &str = "ansi2html: --stylesheet reads no file (see ansi2html --help)";
 
 /// What `--help` says.
 pub const HELP: &str = "\
-usage: ansi2html [--page] [--title=TEXT] [--light | --dark] [--classes]
-                 [--shown | --shown=COLUMNSxROWS] [-o FILE] [FILE]..
+usage: ansi2html [--page] [--title=TEXT] [--css=ADDRESS] [--lang=TAG]
+                 [--light | --dark] [--classes] [--shown | --shown=COLUMNSxROWS]
+                 [-o FILE] [FILE]..
        ansi2html --stylesheet [--light | --dark] [-o FILE]
 
 Writes the text of files as HTML, in its colours: a fragment, to be put into a <pre>
 of a page in UTF-8, or a whole page. Input is UTF-8. Each file is a stream of its own.
 With no FILE, or for -, standard input is read. Words behind -- name files, whatever
-they begin with.
+they begin with. A title may also be the next word, as in --title TEXT, and so may
+all values but a size.
 
   --page                  write a whole page, light or dark as its reader has it;
                           so does the word page (a file of that name is ./page)
   --title=TEXT            write a whole page with this title
+  --css=ADDRESS           write a whole page with no rules of its own, but the
+                          stylesheet at this address
+  --lang=TAG              write a whole page in this language (en)
   --light                 colours for light pages alone
   --dark                  colours for dark pages alone, no lighter than #1e1e1e
   --classes               attributes class in place of style, for sites that
@@ -55,11 +79,11 @@ they begin with.
 
 Examples, a log as a page, a listing, and a build with its progress bars as they ended:
   ansi2html --page -o log.html log
-  ls --color=always | ansi2html --title=Files > listing.html
+  ls --color=always | ansi2html --title 'My files' > listing.html
   ansi2html --page --shown recording > build.html
 ";
 
-/// The form that the words ask for: a page by `--page`, `page` or a title, and else a fragment.
+/// The form that the words ask for: a page by `--page`, `page` or what is said of a page, and else a fragment.
 pub fn form(words: &[String]) -> Form
     ensures { result ≡ form_of (map string_bytes words.now) }
 {
@@ -74,7 +98,11 @@ pub fn form(words: &[String]) -> Form
 fn asks_for_page(word: &str) -> bool
     ensures { result ≡ asks_for_page word.now }
 {
-    word == "--page" || word == "page" || word.starts_with("--title=")
+    word == "--page"
+        || word == "page"
+        || word.starts_with(TITLED)
+        || word.starts_with(STYLED_BY)
+        || word.starts_with(IN_LANGUAGE)
 }
 
 /// The pages that the colours are for: by the last of `--light` and `--dark`, and else both.
@@ -123,5 +151,41 @@ pub fn asks_for_stylesheet(words: &[String]) -> bool
 pub fn title(words: &[String]) -> &str
     ensures { result.now ≡ unwrap_or (last_value (codes "--title=") (map string_bytes words.now)) default_title }
 {
-    value_of(words, "--title=").unwrap_or(TITLE)
+    value_of(words, TITLED).unwrap_or(TITLE)
+}
+
+/// The address of the stylesheet that a page has in place of rules: the last that the words say, if any.
+pub fn stylesheet_address(words: &[String]) -> Option<&str>
+    ensures { option_copied result ≡ last_value (codes "--css=") (map string_bytes words.now) }
+{
+    value_of(words, STYLED_BY)
+}
+
+/// The language of the page: the last that the words say. `None` where that is no tag.
+pub fn language(words: &[String]) -> Option<&str>
+    ensures { option_copied result ≡ language_of (map string_bytes words.now) }
+{
+    let tag = value_of(words, IN_LANGUAGE).unwrap_or(LANGUAGE);
+    if is_tag(tag) { Some(tag) } else { None }
+}
+
+/// Whether a text is a tag of a language.
+fn is_tag(text: &str) -> bool
+    ensures { result ≡ is_tag text.now }
+{
+    !text.is_empty() && text.len() <= MOST_OF_A_TAG && are_tag_bytes(text.as_bytes())
+}
+
+/// Whether all are bytes of tags.
+fn are_tag_bytes(bytes: &[u8]) -> bool
+    ensures { result ≡ list_all is_tag_byte bytes.now }
+{
+    bytes.iter().all(|byte| is_tag_byte(*byte))
+}
+
+/// Whether a byte may stand in a tag.
+fn is_tag_byte(byte: u8) -> bool
+    ensures { result ≡ is_tag_byte byte }
+{
+    matches!(byte, b'0'..=b'9' | b'A'..=b'Z' | b'a'..=b'z' | b'-')
 }

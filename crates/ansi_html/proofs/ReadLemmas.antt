@@ -109,7 +109,7 @@ module _ (so_far : Attributes) (name value rest : List ℕ) where
       by_case false is = valued_clear b is
 
 -- a value that was escaped
-seen-escaped_value : (so_far : Attributes) (name value bytes rest : List ℕ)
+pub seen-escaped_value : (so_far : Attributes) (name value bytes rest : List ℕ)
     → seen_from (in_value so_far name value) (escaped_text bytes ++ rest) ≡ seen_from (in_value so_far name (value ++ bytes)) rest
 unfolding ValuedAs
 seen-escaped_value so_far name value [] rest = ap (λ v. seen_from (in_value so_far name v) rest) (sym (append-nil value))

@@ -1,9 +1,12 @@
 -- Lists of words that are looked through.
-use Rattle.std.proofs.Common.{◌≡◌, ℕ, Bool, true, false, cond, ◌||◌, List, [], ◌∷◌, ◌++◌, map, Bor, refl, sym, ap, ◌∙◌}
-use Rattle.std.specs.Prelude.{Option, None, Some, option_map, option_copied}
+use Rattle.std.proofs.Common.{◌≡◌, ℕ, Bool, true, false, cond, ◌||◌, List, [], ◌∷◌, ◌++◌, map, Bor, codes, refl, sym, ap, ◌∙◌}
+use Rattle.std.specs.Prelude.{◌≢◌, bytes_eq, Option, None, Some, option_map, option_copied}
+use Rattle.std.proofs.lemmas.List.{append_cancel_right}
+use Rattle.std.proofs.lemmas.Bool.Decides.{same_from_decides}
+use Rattle.std.proofs.lemmas.Slice.Eq.{bytes_eq-Decides}
 use Rattle.std.specs.Option.{option_or}
 use Rattle.std.specs.List.{list_any, find}
-use Rattle.standard_streams.specs.Options.{after_option, last_value}
+use Rattle.standard_streams.specs.Options.{after_option, last_value, is_valued}
 
 -- a test of what is shown of each
 pub list_any-map : {A B : Type 0} (test : B → Bool) (shown : A → B) (xs : List A) → list_any test (map shown xs) ≡ list_any (λ x. test (shown x)) xs
@@ -41,3 +44,18 @@ last_value-push option [] word = sym (option_or-none (after_option option word))
 last_value-push option (first ∷ words) word =
     ap (λ o. option_or o (after_option option first)) (last_value-push option words word)
     ∙ option_or-assoc (after_option option word) (last_value option words) (after_option option first)
+
+-- an option is a word and =, where what stands before its = is that word
+pub valued-some : (word option name : List ℕ) → option ≡ name ++ 0x3D ∷ [] → bytes_eq name word ≡ is_valued word option
+valued-some word option name is =
+    let both = bytes_eq-Decides option (word ++ codes "=") in
+    same_from_decides (bytes_eq name word) (bytes_eq option (word ++ codes "=")) (bytes_eq-Decides name word)
+    ((λ e. append_cancel_right name word (0x3D ∷ []) (sym is ∙ both.0 e)), (λ same. both.1 (is ∙ ap (λ w. w ++ 0x3D ∷ []) same)))
+
+-- and none where it has no = at its end
+pub valued-none : (word option : List ℕ) → ((front : List ℕ) → option ≢ front ++ 0x3D ∷ []) → false ≡ is_valued word option
+valued-none word option lacks = by_case (bytes_eq option (word ++ codes "=")) refl
+  where
+    by_case : (same : Bool) → bytes_eq option (word ++ codes "=") ≡ same → false ≡ same
+    by_case true e = absurd (lacks word ((bytes_eq-Decides option (word ++ codes "=")).0 e))
+    by_case false e = refl

@@ -1,9 +1,9 @@
 //! The words of a line: which are options, and which name files.
 ghost use Rattle.std.specs.Prelude.{◌≡◌, ◌++◌, ◌∷◌, [], map, string_bytes, OnOk, IfOk};
 ghost use Rattle.standard_streams.specs.Options.{texts};
-ghost use Rattle.standard_streams.specs.Line.{is_file, place_after, options_of, files_of, options_in, files_in};
+ghost use Rattle.standard_streams.specs.Line.{is_file, place_after, options_of, files_of, options_in, files_in, before_value};
 
-use crate::options::{given_words, is_one_of};
+use crate::options::{OUTPUT, SHORT_OUTPUT, given_words, is_one_of, wants_value};
 use crate::{FAILED, MISUSED};
 use std::alloc::{AllocError, Global};
 use std::io::ErrorKind;
@@ -13,7 +13,7 @@ use std::rt::Env;
 /// The options and the files of a line.
 #[derive(Drop)]
 pub struct Line {
-    /// The options, in their order; `-o FILE` is here `--output=FILE`.
+    /// The options, in their order; `--title TEXT` is here `--title=TEXT`, and `-o FILE` is `--output=FILE`.
     pub options: Vec<String>,
     /// The names of files, in their order; `-` is one of them.
     pub files: Vec<String>,
@@ -24,7 +24,7 @@ pub struct Line {
 pub enum Place {
     /// An option, or the name of a file.
     Words,
-    /// The name behind `-o`.
+    /// The value of the option that stands before it, as after `-o` or `--title`.
     Value,
     /// The name of a file: it stands behind `--`.
     Files,
@@ -61,7 +61,7 @@ fn not_text(rt: &impl Eprint, program: &str) -> ExitCode {
     ExitCode::from(MISUSED)
 }
 
-/// The line of these words. An `-o` with nothing behind it stays as it is.
+/// The line of these words. An option whose value may stand after it, and that is the last word, stays as it is.
 pub fn line_of(alloc: Global, words: &[String], options: &[&str]) -> Result<Line, AllocError>
     ensures options { IfOk result (λ line. map string_bytes line.options.items
         ≡ options_in (texts options.now) Place.Words (map string_bytes words.now)) }
@@ -73,51 +73,55 @@ pub fn line_of(alloc: Global, words: &[String], options: &[&str]) -> Result<Line
         files: Vec::new(alloc),
     };
     let mut place = Place::Words;
+    let mut before = "";
     for word in words {
-        place = line.add(alloc, place, word.as_str(), options)?;
+        place = line.add(alloc, place, before, word.as_str(), options)?;
+        before = word.as_str();
     }
     if place == Place::Value {
-        push(&mut line.options, alloc, "-o")?;
+        push(&mut line.options, alloc, before)?;
     }
     Ok(line)
 }
 
 impl Line {
-    /// Takes one word more, which stands at this place, and answers the place of the next.
+    /// Takes one word more, which stands at this place, with the word before it, and answers the place of the next.
     fn add(
         &mut self,
         alloc: Global,
         place: Place,
+        before: &str,
         word: &str,
         options: &[&str],
     ) -> Result<Place, AllocError>
-        ensures place { IfOk result (λ next. next ≡ place_after place word.now) }
+        ensures place { IfOk result (λ next. next ≡ place_after (texts options.now) place word.now) }
         ensures options { OnOk result (map string_bytes self.new.options.items
-            ≡ map string_bytes self.old.options.items ++ options_of (texts options.now) place word.now) }
+            ≡ map string_bytes self.old.options.items
+            ++ options_of (texts options.now) place before.now word.now) }
         ensures files { OnOk result (map string_bytes self.new.files.items
             ≡ map string_bytes self.old.files.items ++ files_of (texts options.now) place word.now) }
     {
         match place {
             Place::Files => push(&mut self.files, alloc, word)?,
-            Place::Value => push_joined(&mut self.options, alloc, "--output=", word)?,
-            Place::Words if word == "--" || word == "-o" => {}
+            Place::Value => push_valued(&mut self.options, alloc, before, word)?,
+            Place::Words if word == "--" || wants_value(word, options) => {}
             Place::Words if is_file(word, options) => push(&mut self.files, alloc, word)?,
             Place::Words => push(&mut self.options, alloc, word)?,
         }
-        Ok(place.after(word))
+        Ok(place.after(word, options))
     }
 }
 
 impl Place {
     /// The place of the next word.
-    fn after(self, word: &str) -> Place
-        ensures { result ≡ place_after self word.now }
+    fn after(self, word: &str, options: &[&str]) -> Place
+        ensures { result ≡ place_after (texts options.now) self word.now }
     {
         match self {
             Place::Files => Place::Files,
             Place::Value => Place::Words,
             Place::Words if word == "--" => Place::Files,
-            Place::Words if word == "-o" => Place::Value,
+            Place::Words if wants_value(word, options) => Place::Value,
             Place::Words => Place::Words,
         }
     }
@@ -140,18 +144,30 @@ fn push(texts: &mut Vec<String>, alloc: Global, text: &str) -> Result<(), AllocE
     Ok(())
 }
 
-/// Adds a copy of two texts, joined.
-fn push_joined(
+/// Adds an option with its value, which stood after it.
+fn push_valued(
     texts: &mut Vec<String>,
     alloc: Global,
-    first: &str,
-    second: &str,
+    option: &str,
+    value: &str,
 ) -> Result<(), AllocError>
     ensures { OnOk result (map string_bytes texts.new.items
-        ≡ map string_bytes texts.old.items ++ (first.now ++ second.now) ∷ []) }
+        ≡ map string_bytes texts.old.items ++ (before_value option.now ++ value.now) ∷ []) }
 {
-    let mut joined = String::from_str(alloc, first)?;
-    joined.push_str(second)?;
+    let mut joined = before_value(alloc, option)?;
+    joined.push_str(value)?;
     texts.push(joined)?;
     Ok(())
+}
+
+/// What stands before the value, where it is joined to the option.
+fn before_value(alloc: Global, option: &str) -> Result<String, AllocError>
+    ensures { IfOk result (λ text. string_bytes text ≡ before_value option.now) }
+{
+    if option == SHORT_OUTPUT {
+        return String::from_str(alloc, OUTPUT);
+    }
+    let mut text = String::from_str(alloc, option)?;
+    text.push_str("=")?;
+    Ok(text)
 }

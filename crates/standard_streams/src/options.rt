@@ -1,7 +1,8 @@
 //! The words that a program is given: its own options, and those that every program has.
 ghost use Rattle.std.specs.Prelude.{◌≡◌, map, string_bytes, option_copied};
+ghost use Rattle.std.specs.List.{list_any};
 ghost use Rattle.std.specs.Process.{exit_status};
-ghost use Rattle.standard_streams.specs.Options.{texts, is_option, is_one_of, has_word, Asks, Means, AnswersWith, after_option, last_value};
+ghost use Rattle.standard_streams.specs.Options.{texts, is_option, is_one_of, is_valued, wants_value, has_word, Asks, Means, AnswersWith, after_option, last_value};
 
 use crate::{MISUSED, message, output_failed};
 use anstyle_parse::io::Fault;
@@ -15,6 +16,9 @@ pub const VERSION: &str = "0.1.0";
 /// What stands before the name of the file that is written to, as [`Line`](crate::Line) has it.
 pub const OUTPUT: &str = "--output=";
 
+/// The same option in one letter: the name is the next word.
+pub(crate) const SHORT_OUTPUT: &str = "-o";
+
 /// What words ask for that are none of a program's own options.
 #[derive(Debug, Clone, Copy, PartialEq, Eq)]
 pub enum Request<'a> {
@@ -22,6 +26,8 @@ pub enum Request<'a> {
     Help,
     /// To say which version it is, `--version`.
     Version,
+    /// Nothing so far: this option is the last word, and its value is wanting.
+    Unvalued(&'a str),
     /// Nothing that it knows: this word is no option.
     Unknown(&'a str),
 }
@@ -39,18 +45,20 @@ pub fn asked_of<'a>(words: &'a [String], options: &[&str]) -> Option<Request<'a>
 {
     match words.iter().find(|word| !is_one_of(word.as_str(), options)) {
         None => None,
-        Some(word) => Some(meaning(word.as_str())),
+        Some(word) => Some(meaning(word.as_str(), options)),
     }
 }
 
 /// What a word asks for that is none of the program's own options.
-fn meaning(word: &str) -> Request<'_>
-    ensures { Means word.now result }
+fn meaning<'a>(word: &'a str, options: &[&str]) -> Request<'a>
+    ensures { Means (texts options.now) word.now result }
 {
     if word == "--help" || word == "-h" {
         Request::Help
     } else if word == "--version" {
         Request::Version
+    } else if wants_value(word, options) {
+        Request::Unvalued(word)
     } else {
         Request::Unknown(word)
     }
@@ -71,6 +79,31 @@ fn is_option(word: &str, option: &str) -> bool
         word.starts_with(option)
     } else {
         word == option
+    }
+}
+
+/// Whether the next word is the value of this one: it is `-o`, or one of the options without its `=`, and none of
+/// them as it stands.
+pub(crate) fn wants_value(word: &str, options: &[&str]) -> bool
+    ensures { result ≡ wants_value (texts options.now) word.now }
+{
+    word == SHORT_OUTPUT || (is_valued_one(word, options) && !is_one_of(word, options))
+}
+
+/// Whether a word is one of the options without its `=`.
+fn is_valued_one(word: &str, options: &[&str]) -> bool
+    ensures { result ≡ list_any (is_valued word.now) (texts options.now) }
+{
+    options.iter().any(|option| is_valued(word, option))
+}
+
+/// Whether a word is this option without the `=` at its end.
+fn is_valued(word: &str, option: &str) -> bool
+    ensures { result ≡ is_valued word.now option.now }
+{
+    match option.strip_suffix('=') {
+        Some(name) => name == word,
+        None => false,
     }
 }
 
@@ -102,7 +135,7 @@ fn after<'a>(word: &'a str, option: &str) -> Option<&'a str>
 /// The end of a program whose words ask for this: `help` is what it says of itself. Standard input
 /// is not read. The status is 0, or where standard output does not take the answer as
 /// [`ended_with_reason`](crate::ended_with_reason) has it, and 2 for a word that the program
-/// doesn't know, which a line on standard error shows.
+/// doesn't know or an option without its value, which a line on standard error shows.
 pub fn answered(
     rt: &(impl Print + Eprint),
     program: &str,
@@ -114,6 +147,7 @@ pub fn answered(
     let printed = match request {
         Request::Help => rt.print(help),
         Request::Version => println!(rt; "{program} {VERSION}"),
+        Request::Unvalued(word) => return unvalued(rt, program, word),
         Request::Unknown(word) => return unknown(rt, program, word),
     };
     match printed {
@@ -122,13 +156,24 @@ pub fn answered(
     }
 }
 
+/// Says that an option has no value, on standard error, and how to ask for help, and answers status 2.
+fn unvalued(rt: &impl Eprint, program: &str, word: &str) -> ExitCode
+    ensures { exit_status result ≡ 2 }
+{
+    let what = if word == SHORT_OUTPUT || word == "--output" {
+        "the name of a file"
+    } else {
+        "a value"
+    };
+    let _ = eprintln!(rt; "{program}: {word} wants {what} (see {program} --help)");
+    ExitCode::from(MISUSED)
+}
+
 /// Says that a word is no option, on standard error, and how to ask for help, and answers status 2.
 fn unknown(rt: &impl Eprint, program: &str, word: &str) -> ExitCode
     ensures { exit_status result ≡ 2 }
 {
-    let _ = if word == "-o" {
-        eprintln!(rt; "{program}: -o wants the name of a file (see {program} --help)")
-    } else if word.starts_with('-') {
+    let _ = if word.starts_with('-') {
         eprintln!(rt; "{program}: unknown option {word:?} (see {program} --help)")
     } else {
         eprintln!(rt;

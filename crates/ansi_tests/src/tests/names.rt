@@ -500,5 +500,6 @@ fn requests(rt: HostRuntime) -> Result<(), Fail> {
     assert!(rt; word == word.clone()?);
     assert!(rt; word != Request::Unknown("--page"));
     assert!(rt; Request::Help != Request::Version);
+    assert!(rt; Request::Unvalued("--title") != Request::Unknown("--title"));
     Ok(())
 }

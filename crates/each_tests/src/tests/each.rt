@@ -104,6 +104,25 @@ fn the_words_of_a_line(rt: HostRuntime) -> Result<(), Fail> {
     Ok(())
 }
 
+#[test]
+fn values_that_are_words(rt: HostRuntime) -> Result<(), Fail> {
+    let alloc = rt.alloc();
+    let given = ["--title", "--", "--shown", "a", "--size", "--size"];
+    let mut words = Vec::new(alloc);
+    for word in given {
+        words.push(String::from_str(alloc, word)?)?;
+    }
+    let options = ["--title=", "--shown", "--shown=", "--size="];
+    let line = line_of(alloc, words.as_slice(), &options)?;
+    assert_eq!(rt; line.options.len(), 3);
+    assert_eq!(rt; line.options[0].as_str(), "--title=--");
+    assert_eq!(rt; line.options[1].as_str(), "--shown");
+    assert_eq!(rt; line.options[2].as_str(), "--size=--size");
+    assert_eq!(rt; line.files.len(), 1);
+    assert_eq!(rt; line.files[0].as_str(), "a");
+    Ok(())
+}
+
 /// What programs share to read files and to write one, which no test runs here.
 pub fn names_of_files(rt: HostRuntime) -> Result<ExitCode, ExitCode> {
     let line = given_line(&rt, "", &[OUTPUT])?;

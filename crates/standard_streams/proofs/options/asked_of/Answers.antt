@@ -8,15 +8,15 @@ use Rattle.standard_streams.specs.Options.{texts, is_one_of, Means}
 use Rattle.standard_streams.proofs.WordLemmas.{find-map}
 use Rattle.standard_streams.proofs.options.asked_of.Goals as goal
 
-abbrev Answers : Option Request → Option (List ℕ) → Type 0
-Answers asked first = MatchOption first (asked ≡ None) (λ word. (request : Request) × (asked ≡ Some request) × Means word request)
+abbrev Answers : (options : List (List ℕ)) → Option Request → Option (List ℕ) → Type 0
+Answers options asked first = MatchOption first (asked ≡ None) (λ word. (request : Request) × (asked ≡ Some request) × Means options word request)
 
 pub returns-in-None : goal.returns-in-None
 returns-in-None c =
     let is_other : List ℕ → Bool = λ word. not (is_one_of (texts c.args.options.now) word) in
     let first = find_from_yields_List (λ word. is_other (string_bytes word)) _ _ _ c.find.ensures.ran (YieldsList-from_slice c.args.words.now cc) (λ x b q k. search (rules, tests)) in
     let is = find-map is_other string_bytes c.args.words.now ∙ ap (option_map string_bytes) (sym first) ∙ ap (λ r. option_map string_bytes (option_copied r)) c.in-None.is in
-    subst (λ o. Answers None o) (sym is) refl
+    subst (λ o. Answers (texts c.args.options.now) None o) (sym is) refl
 
 pub returns-in-Some : goal.returns-in-Some
 returns-in-Some c =
@@ -24,4 +24,4 @@ returns-in-Some c =
     let first = find_from_yields_List (λ word. is_other (string_bytes word)) _ _ _ c.find.ensures.ran (YieldsList-from_slice c.args.words.now cc) (λ x b q k. search (rules, tests)) in
     let is = find-map is_other string_bytes c.args.words.now ∙ ap (option_map string_bytes) (sym first) ∙ ap (λ r. option_map string_bytes (option_copied r)) c.in-Some.is in
     let answer = c.meaning.result in
-    subst (λ o. Answers (Some answer) o) (sym is) (answer, refl, subst (λ word. Means word answer) c.as_str.ensures.value c.meaning.ensures)
+    subst (λ o. Answers (texts c.args.options.now) (Some answer) o) (sym is) (answer, refl, subst (λ word. Means (texts c.args.options.now) word answer) c.as_str.ensures.value c.meaning.ensures)

@@ -21,6 +21,12 @@ def read(browser, page):
         at = os.path.join(folder, "page.html")
         with open(at, "w", encoding="utf-8") as it:
             it.write(page)
-        command = [browser, *WORDS, "--user-data-dir=%s/user" % folder, "file://" + at]
+        return read_at(browser, "file://" + at)
+
+
+def read_at(browser, address):
+    """The page at an address, likewise."""
+    with tempfile.TemporaryDirectory() as folder:
+        command = [browser, *WORDS, "--user-data-dir=%s/user" % folder, address]
         ran = subprocess.run(command, stdout=subprocess.PIPE, stderr=subprocess.DEVNULL, timeout=SECONDS)
     return ran.stdout.decode("utf-8", "replace")

@@ -2,8 +2,8 @@
  * system sequences, each with its parameters.
  *
  * The events are the calls that Paul Williams' parser makes (vt100.net/emu/dec_ansi_parser), as the Rust crate
- * anstyle-parse makes them, but for text: characters that are printed one after another are one event, or a
- * few. A character that is broken is U+FFFD.
+ * anstyle-parse makes them, but for text: characters that are printed one after another are one event, as far as
+ * one call takes them. A character that is broken is U+FFFD.
  *
  * A stream comes in pieces of any size, cut anywhere: its events say the same, with a text cut between two
  * characters where a piece ends. There is nothing to allocate or to free, no input is refused, and no call
@@ -90,6 +90,7 @@ typedef struct ansi_event {
     unsigned char flag;
     unsigned char intermediate_count; /* at most 2; what is behind them is 0 */
     unsigned char intermediates[2];
+    unsigned char padding[2]; /* each 0 */
 } ansi_event;
 
 /* Where a stream stands between two pieces: 1,056 bytes, which belong to the caller.

@@ -28,6 +28,7 @@ static_assert(offsetof(ansi_event, length) == 8 && offsetof(ansi_event, kind) ==
 static_assert(offsetof(ansi_event, byte) == 17 && offsetof(ansi_event, flag) == 18, "and so do these");
 static_assert(offsetof(ansi_event, intermediate_count) == 19, "and so does the count");
 static_assert(offsetof(ansi_event, intermediates) == 20, "and so do the intermediates");
+static_assert(offsetof(ansi_event, padding) == 22, "and so does what fills an event");
 static_assert(ANSI_EVENTS_LEAST_EVENTS == 2 && ANSI_EVENTS_LEAST_ROOM == 6258, "what one byte may need");
 static_assert(ANSI_EVENTS_EVENTS(1) == ANSI_EVENTS_LEAST_EVENTS, "so many for one");
 static_assert(ANSI_EVENTS_ROOM(1) == ANSI_EVENTS_LEAST_ROOM, "so much for one");
@@ -109,6 +110,17 @@ static void events_have_their_fields(void)
     expect(are(it.after, AFTER, 0xA5), "what follows the state is as it was");
 }
 
+/* Characters that are printed one after another are one event, whatever the parser hands on at once. */
+static void a_run_is_one_event(void)
+{
+    memset(&it, 0, sizeof it);
+    expect(goes_on("a\303\251\303b\342\202\254\355\240\200c\nd", MOST, SIZE) && written == 5, "runs, and what stands between them");
+    expect(is(&events[0], ANSI_EVENTS_TEXT, 0, 0, 13) && memcmp(room, "a\303\251\357\277\275b\342\202\254\357\277\275", 13) == 0, "a broken character is in the run");
+    expect(is(&events[1], ANSI_EVENTS_EXECUTE, 0x80, 0, 0), "which a control ends");
+    expect(is(&events[2], ANSI_EVENTS_TEXT, 0, 0, 1) && is(&events[4], ANSI_EVENTS_TEXT, 0, 0, 1), "and others follow");
+    expect(events[3].start == events[2].start + 1 && events[4].start == used - 1, "each stands right behind the one before");
+}
+
 static void little_is_refused(void)
 {
     ansi_events before;
@@ -158,6 +170,7 @@ static void longest_command_has_room(void)
 static int try_all(void)
 {
     events_have_their_fields();
+    a_run_is_one_event();
     little_is_refused();
     any_bytes_are_a_state();
     longest_command_has_room();

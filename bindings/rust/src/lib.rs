@@ -52,6 +52,7 @@ struct Record {
     flag: u8,
     intermediate_count: u8,
     intermediates: [u8; 2],
+    _padding: [u8; 2],
 }
 
 #[link(name = "ansi", kind = "static")]
@@ -325,6 +326,7 @@ fn taken(state: &mut StripState, mut piece: &[u8]) -> Vec<Event> {
         flag: 0,
         intermediate_count: 0,
         intermediates: [0; 2],
+        _padding: [0; 2],
     };
     let (mut records, mut room, mut all) = ([none; EVENTS], [0; EVENTS_ROOM], Vec::new());
     while !piece.is_empty() {

@@ -24,6 +24,7 @@ use Rattle.anstyle_parse.proofs.Lists.Parts.{spaced, length-join_with_byte}
 use Rattle.anstyle_parse.proofs.Lists.Passing.{AllByRecursion-weaker}
 use Rattle.anstyle_parse.proofs.Machine.CallCounts.{step_calls-few}
 use Rattle.anstyle_parse.proofs.Resume.Whole.{checkpoint_stands, length-checkpoint}
+use Rattle.ansi_strip.proofs.Showable.{IsScalar-character}
 use Rattle.event_pieces.specs.Event.{group_bytes, groups_bytes, call_bytes, calls_bytes}
 use Rattle.event_pieces.specs.Feed.{most_events, most_room}
 use Rattle.event_pieces.specs.Writer.{IsPlain, ArePlain}
@@ -95,7 +96,7 @@ short-parts parts bell are = record {
 
 AreShort-lawful : (hooked : Bool) (calls : List Call) → AreLawfulFrom hooked calls → AllByRecursion IsShort calls
 AreShort-lawful hooked [] h = tt
-AreShort-lawful false (print c ∷ calls) h = (record { plain = tt; short = omega arith }, AreShort-lawful false calls h.1)
+AreShort-lawful false (print c ∷ calls) h = (record { plain = IsScalar-character c h.0; short = omega arith }, AreShort-lawful false calls h.1)
 AreShort-lawful false (execute b ∷ calls) h = (record { plain = tt; short = omega arith }, AreShort-lawful false calls h.1)
 AreShort-lawful false (hook gs is ig f ∷ calls) h =
     (record { plain = (have-fields gs h.0.groups_fit, h.0.collected_fit); short = long-header 0x50 f gs is ig h.0.groups_fit }, AreShort-lawful true calls h.1)

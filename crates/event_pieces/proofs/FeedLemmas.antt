@@ -1,5 +1,5 @@
 -- What a parser took and its calls added is what a state is fed.
-use Rattle.std.proofs.Common.{◌≡◌, ◌<◌, ◌≤◌, ◌+◌, ℕ, zero, suc, List, [], ◌++◌, length, take, drop, refl, sym, ap, ◌∙◌, subst, append-nil, arith}
+use Rattle.std.proofs.Common.{◌≡◌, ◌<◌, ◌≤◌, ◌+◌, ℕ, zero, suc, List, [], ◌++◌, length, take, drop, refl, sym, ap, ◌∙◌, subst, arith}
 use Rattle.std.proofs.Math.Seq.{take-append_seam, drop-append_seam}
 use Rattle.anstyle_parse.specs.declared.accumulator.Utf8Parser.{Utf8Parser}
 use Rattle.anstyle_parse.specs.declared.parser.Parser.{Parser}
@@ -11,23 +11,22 @@ use Rattle.strip_pieces.specs.State.{StandsFor}
 use Rattle.event_pieces.specs.declared.event.Event.{Event}
 use Rattle.event_pieces.specs.declared.feeding.Fed.{Fed}
 use Rattle.event_pieces.specs.declared.writer.EventWriter.{EventWriter}
-use Rattle.event_pieces.specs.Event.{calls_bytes, Reads}
+use Rattle.event_pieces.specs.Event.{records_of, calls_bytes, AreRecords}
 use Rattle.event_pieces.specs.Feed.{least_events, least_room, most_events, most_room, AreEventsOf, Feeds, IsTaken}
-use Rattle.event_pieces.specs.Writer.{with_items, StandsAt, IsAdded}
+use Rattle.event_pieces.specs.Writer.{with_items, Has}
 use Rattle.event_pieces.specs.AddingProof.{with_items-nil, same_events_length, same_room_length}
+use Rattle.event_pieces.proofs.Says.{are-records}
 
--- no calls add nothing
-pub IsAdded-nil : (writer : EventWriter) → writer.written ≤ length writer.events.now → writer.used ≤ length writer.room.now → IsAdded [] writer writer
-IsAdded-nil writer events_fit room_fits = record {
-  records = [];
-  few = omega arith;
-  events_fit = events_fit;
-  room_fits = room_fits;
-  written = omega arith;
-  events = sym (with_items-nil writer.written writer.events.now);
-  used = omega arith;
-  room = sym (with_items-nil writer.used writer.room.now);
-  reads = λ room there. record { same = refl; sound = tt };
+-- a writer that has written nothing
+pub Has-nothing : (events : List Event) (room : List ℕ) (writer : EventWriter) → writer.written ≡ 0 → writer.used ≡ 0 → writer.events.now ≡ events → writer.room.now ≡ room
+    → Has [] events room writer
+Has-nothing events room writer empty unused events_begin room_begins = record {
+  written = empty;
+  used = unused;
+  events_fit = omega arith;
+  room_fits = omega arith;
+  records_are = events_begin ∙ sym (with_items-nil 0 events);
+  room_is = room_begins ∙ sym (with_items-nil 0 room);
 }
 
 -- items at the front, and what stands after them
@@ -57,22 +56,28 @@ module _ (old new : StreamState) (parser parser_after : Parser Utf8Parser) (piec
     (counted : fed.written ≡ writer_after.written) (counted_room : fed.used ≡ writer_after.used)
     (took : IsTaken parser parser_after piece writer writer_after fed.taken) where
   abbrev records : List Event
-  records = took.added.records
+  records = records_of 0 took.calls
 
   abbrev bytes : List ℕ
   bytes = calls_bytes took.calls
 
+  begun : Has [] events room writer
+  begun = Has-nothing events room writer empty unused events_begin room_begins
+
+  has : Has took.calls events room writer_after
+  has = took.added [] events room begun
+
   written_is : fed.written ≡ length records
-  written_is = omega (arith, counted, took.added.written, empty)
+  written_is = counted ∙ has.written
 
   used_is : fed.used ≡ length bytes
-  used_is = omega (arith, counted_room, took.added.used, unused)
+  used_is = counted_room ∙ has.used
 
   shown_events : events_after ≡ with_items 0 records events
-  shown_events = events_end ∙ took.added.events ∙ ap (λ n. with_items n records writer.events.now) empty ∙ ap (λ l. with_items 0 records l) events_begin
+  shown_events = events_end ∙ has.records_are
 
   shown_room : room_after ≡ with_items 0 bytes room
-  shown_room = room_ends ∙ took.added.room ∙ ap (λ n. with_items n bytes writer.room.now) unused ∙ ap (λ l. with_items 0 bytes l) room_begins
+  shown_room = room_ends ∙ has.room_is
 
   events_front : take fed.written events_after ≡ records
   events_front = ap (λ n. take n events_after) written_is ∙ ap (λ l. take (length records) l) shown_events ∙ with_items-front records events
@@ -80,38 +85,35 @@ module _ (old new : StreamState) (parser parser_after : Parser Utf8Parser) (piec
   room_front : take fed.used room_after ≡ bytes
   room_front = ap (λ n. take n room_after) used_is ∙ ap (λ l. take (length bytes) l) shown_room ∙ with_items-front bytes room
 
-  there : StandsAt writer.used bytes (take fed.used room_after)
-  there = record { before = []; after = []; whole = room_front ∙ sym (append-nil bytes); at = sym unused }
-
   pub none_written : fed.taken ≡ 0 → fed.written ≡ 0
-  none_written e = omega (arith, written_is, took.added.few, ap length (took.nothing e))
+  none_written e = written_is ∙ ap (λ (l : List Call). length (records_of 0 l)) (took.nothing e)
 
   pub none_used : fed.taken ≡ 0 → fed.used ≡ 0
   none_used e = used_is ∙ ap (λ (l : List Call). length (calls_bytes l)) (took.nothing e)
 
+  are : AreRecords (take fed.used room_after) (take fed.written events_after) took.calls
+  are = subst (λ (l : List ℕ). AreRecords l (take fed.written events_after) took.calls) (sym room_front)
+      (subst (λ (l : List Event). AreRecords bytes l took.calls) (sym events_front) (are-records took.calls took.plain))
+
   said : (before : List ℕ) → StandsFor old before → AreEventsOf before (take fed.taken piece) (take fed.used room_after) (take fed.written events_after)
-  said before is = (
-    took.calls,
-    took.continues before (resumed before is),
-    subst (λ (l : List Event). Reads (take fed.used room_after) l took.calls) (sym events_front) (took.added.reads (take fed.used room_after) there),
-  )
+  said before is = (took.calls, took.continues before (resumed before is), are)
 
   module _ (all : writer_after.written + least_events ≤ length writer_after.events.now → writer_after.used + least_room ≤ length writer_after.room.now → fed.taken ≡ length piece)
       (at_once : writer.written + most_events (length piece) ≤ length writer.events.now → writer.used + most_room (length piece) ≤ length writer.room.now → fed.taken ≡ length piece)
       (enough_events : 0 < length piece → least_events ≤ length events) (enough_room : 0 < length piece → least_room ≤ length room) where
     all_taken : fed.written + least_events ≤ length events → fed.used + least_room ≤ length room → fed.taken ≡ length piece
     all_taken more_events more_room =
-        let as_many = same_events_length took.calls [] writer writer_after writer_after took.added in
-        let as_long = same_room_length took.calls [] writer writer_after writer_after took.added in
-        all (omega (arith, counted, more_events, as_many, ap length events_begin)) (omega (arith, counted_room, more_room, as_long, ap length room_begins))
+        let as_many = same_events_length took.calls events room writer_after has in
+        let as_long = same_room_length took.calls events room writer_after has in
+        all (omega (arith, counted, more_events, as_many)) (omega (arith, counted_room, more_room, as_long))
 
     pub Feeds-taken : Feeds old new piece events events_after room room_after fed
     Feeds-taken = record {
       enough_events = enough_events;
       enough_room = enough_room;
       taken_fits = took.taken_fits;
-      written_fits = omega (arith, counted, took.added.events_fit, ap length events_begin);
-      used_fits = omega (arith, counted_room, took.added.room_fits, ap length room_begins);
+      written_fits = omega (arith, written_is, has.events_fit);
+      used_fits = omega (arith, used_is, has.room_fits);
       stands = λ before is. saved (before ++ take fed.taken piece) (took.stands before (resumed before is));
       said = said;
       untouched_events = ap (λ n. drop n events_after) written_is ∙ ap (λ l. drop (length records) l) shown_events ∙ with_items-rest records events ∙ ap (λ n. drop n events) (sym written_is);
@@ -119,7 +121,7 @@ module _ (old new : StreamState) (parser parser_after : Parser Utf8Parser) (piec
       some_taken = λ some. taken-some fed.taken fed.written fed.used (length piece) (length events) (length room) some (enough_events some) (enough_room some) none_written none_used all_taken;
       all_taken = all_taken;
       taken_at_once = λ more_events more_room. at_once (omega (arith, more_events, empty, ap length events_begin)) (omega (arith, more_room, unused, ap length room_begins));
-      bounded_events = omega (arith, written_is, took.added.few, took.bounded);
+      bounded_events = omega (arith, counted, empty, took.few, took.bounded);
       none_written = none_written;
       none_used = none_used;
     }

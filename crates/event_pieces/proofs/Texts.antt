@@ -1,13 +1,14 @@
 -- Texts and the calls of their characters.
-use Rattle.std.proofs.Common.{◌≡◌, ◌<◌, ℕ, List, [], ◌∷◌, length, map, refl, sym, ap, append-nil, arith}
+use Rattle.std.proofs.Common.{◌≡◌, ◌<◌, ◌+◌, ℕ, false, List, [], ◌∷◌, length, map, refl, sym, ap, ◌∙◌, append-nil, length-append, arith}
 use Rattle.std.specs.Prelude.{encode_utf8}
 use Rattle.std.specs.Char.{IsScalar}
-use Rattle.std.specs.Str.{IsUtf8}
+use Rattle.std.specs.Str.{IsUtf8, chars}
 use Rattle.std.proofs.lemmas.Str.{chars_from_encodes, IsUtf8-encode, IsUtf8-nil}
 use Rattle.anstyle_parse.specs.Stream.Call.{Call, print}
 use Rattle.anstyle_parse.specs.Stream.Texts.{text_calls}
 use Rattle.anstyle_parse.proofs.Written.Texts.{flat_map-text_calls}
-use Rattle.event_pieces.specs.Event.{call_bytes, calls_bytes}
+use Rattle.event_pieces.specs.Event.{text_kind, joined, record_with, record_of, records_of, call_bytes, calls_bytes}
+use Rattle.event_pieces.specs.Writer.{text_from}
 
 -- a text has its own bytes in the room
 pub text-bytes : (text : List ℕ) → IsUtf8 text → calls_bytes (text_calls text) ≡ text
@@ -24,6 +25,22 @@ text-some text utf8 some = some-calls (text_calls text) text (text-bytes text ut
 -- an empty text has none
 pub text-none : text_calls [] ≡ []
 text-none = ap (map print) (sym (chars_from_encodes [] [] IsUtf8-nil refl))
+
+-- and one record
+records-print : (start : ℕ) (c : ℕ) (cs : List ℕ)
+    → records_of start (map print (c ∷ cs)) ≡ record_with start (length (calls_bytes (map print (c ∷ cs)))) text_kind 0 false [] ∷ []
+records-print start c [] = ap (λ (l : List ℕ). record_with start (length l) text_kind 0 false [] ∷ []) (sym (append-nil (encode_utf8 c)))
+records-print start c (d ∷ cs) =
+    ap (λ es. joined (record_of start (print c)) es) (records-print (start + length (encode_utf8 c)) d cs)
+    ∙ ap (λ n. record_with start n text_kind 0 false [] ∷ []) (sym (length-append (encode_utf8 c) (calls_bytes (map print (d ∷ cs)))))
+
+records-prints : (start : ℕ) (cs text : List ℕ) → calls_bytes (map print cs) ≡ text → 0 < length text → records_of start (map print cs) ≡ text_from start (start + length text) ∷ []
+records-prints start [] text have some = absurd (omega (arith, ap length have, some))
+records-prints start (c ∷ cs) text have some =
+    records-print start c cs ∙ ap (λ n. record_with start n text_kind 0 false [] ∷ []) (let long = ap length have in omega (arith, long))
+
+pub text-record : (text : List ℕ) → IsUtf8 text → 0 < length text → (start : ℕ) → records_of start (text_calls text) ≡ text_from start (start + length text) ∷ []
+text-record text utf8 some start = records-prints start (chars text) text (text-bytes text utf8) some
 
 -- one character is printed
 pub text-one : (character : ℕ) → IsScalar character → text_calls (encode_utf8 character) ≡ print character ∷ []

@@ -8,8 +8,8 @@ use Rattle.std.proofs.lemmas.Slice.{drop-append-drop}
 use Rattle.anstyle_parse.specs.Stream.Call.{Call}
 use Rattle.event_pieces.specs.declared.event.Event.{Event}
 use Rattle.event_pieces.specs.declared.writer.EventWriter.{EventWriter}
-use Rattle.event_pieces.specs.Event.{IsSound, Reads, read_event, read_events, call_bytes, calls_bytes}
-use Rattle.event_pieces.specs.Writer.{with_items, IsPlain, Suits, StandsAt, IsAdded, Adds}
+use Rattle.event_pieces.specs.Event.{records_of, call_bytes, calls_bytes}
+use Rattle.event_pieces.specs.Writer.{with_items, Suits, Has, Adds}
 
 module _ {A : Type 0} where
   -- no items
@@ -54,106 +54,53 @@ module _ {A : Type 0} (P : A → Type 0) where
   AllByRecursion-back [] ys all = all
   AllByRecursion-back (x ∷ xs) ys all = AllByRecursion-back xs ys all.1
 
--- the front and the back of bytes that stand in a room stand there too
-module _ (place : ℕ) (first second room : List ℕ) (there : StandsAt place (first ++ second) room) where
-  regrouped : room ≡ there.before ++ (first ++ (second ++ there.after))
-  regrouped = there.whole ∙ ap (λ l. there.before ++ l) (append_assoc first second there.after)
-
-  pub StandsAt-front : StandsAt place first room
-  StandsAt-front = record { before = there.before; after = second ++ there.after; whole = regrouped; at = there.at }
-
-  pub StandsAt-back : StandsAt (place + length first) second room
-  StandsAt-back = record {
-    before = there.before ++ first;
-    after = there.after;
-    whole = regrouped ∙ sym (append_assoc there.before first (second ++ there.after));
-    at = length-append there.before first ∙ ap (λ n. n + length first) there.at;
-  }
-
 -- the bytes of two lists of calls
 pub calls_bytes-append : (calls more : List Call) → calls_bytes (calls ++ more) ≡ calls_bytes calls ++ calls_bytes more
 calls_bytes-append calls more = flat_map-append call_bytes calls more
 
-pub Reads-append : (room : List ℕ) (events others : List Event) (calls more : List Call) → Reads room events calls → Reads room others more → Reads room (events ++ others) (calls ++ more)
-Reads-append room events others calls more first second = record {
-  same = flat_map-append (read_event room) events others ∙ ap (λ l. l ++ read_events room others) first.same ∙ ap (λ l. calls ++ l) second.same;
-  sound = AllByRecursion-append (IsSound room) events others first.sound second.sound;
-}
+pub length-calls_bytes-append : (calls more : List Call) → length (calls_bytes (calls ++ more)) ≡ length (calls_bytes calls) + length (calls_bytes more)
+length-calls_bytes-append calls more = ap length (calls_bytes-append calls more) ∙ length-append (calls_bytes calls) (calls_bytes more)
 
--- what is added by calls and then by others is added by both
-module _ (calls more : List Call) (a b c : EventWriter) (one : IsAdded calls a b) where
-  joined : length (calls_bytes (calls ++ more)) ≡ length (calls_bytes calls) + length (calls_bytes more)
-  joined = ap length (calls_bytes-append calls more) ∙ length-append (calls_bytes calls) (calls_bytes more)
+-- as many records and as much room as before
+module _ (calls : List Call) (events : List Event) (room : List ℕ) (writer : EventWriter) (has : Has calls events room writer) where
+  pub same_events_length : length writer.events.now ≡ length events
+  same_events_length = ap length has.records_are ∙ with_items-length 0 (records_of 0 calls) events (omega (arith, has.events_fit))
 
-  pub same_events_length : length b.events.now ≡ length a.events.now
-  same_events_length = ap length one.events ∙ with_items-length a.written one.records a.events.now (omega (arith, one.written, one.events_fit))
-
-  pub same_room_length : length b.room.now ≡ length a.room.now
-  same_room_length = ap length one.room ∙ with_items-length a.used (calls_bytes calls) a.room.now (omega (arith, one.used, one.room_fits))
-
-  module _ (two : IsAdded more b c) where
-    pub IsAdded-append : IsAdded (calls ++ more) a c
-    IsAdded-append =
-        let records = length-append one.records two.records in
-        let bytes = calls_bytes-append calls more in record {
-          records = one.records ++ two.records;
-          few = omega (arith, records, length-append calls more, one.few, two.few);
-          events_fit = omega (arith, two.events_fit, same_events_length);
-          room_fits = omega (arith, two.room_fits, same_room_length);
-          written = omega (arith, records, one.written, two.written);
-          events = two.events ∙ ap (λ n. with_items n two.records b.events.now) one.written ∙ ap (λ l. with_items (a.written + length one.records) two.records l) one.events
-              ∙ with_items-twice a.written one.records two.records a.events.now (omega (arith, records, one.written, two.written, two.events_fit, same_events_length));
-          used = omega (arith, joined, one.used, two.used);
-          room = two.room ∙ ap (λ n. with_items n (calls_bytes more) b.room.now) one.used ∙ ap (λ l. with_items (a.used + length (calls_bytes calls)) (calls_bytes more) l) one.room
-              ∙ with_items-twice a.used (calls_bytes calls) (calls_bytes more) a.room.now (omega (arith, ap length bytes, joined, one.used, two.used, two.room_fits, same_room_length))
-              ∙ ap (λ l. with_items a.used l a.room.now) (sym bytes);
-          reads = λ room there.
-              let all = subst (λ l. StandsAt a.used l room) bytes there in
-              Reads-append room one.records two.records calls more
-              (one.reads room (StandsAt-front a.used (calls_bytes calls) (calls_bytes more) room all))
-              (two.reads room (subst (λ n. StandsAt n (calls_bytes more) room) (sym one.used) (StandsAt-back a.used (calls_bytes calls) (calls_bytes more) room all)));
-        }
+  pub same_room_length : length writer.room.now ≡ length room
+  same_room_length = ap length has.room_is ∙ with_items-length 0 (calls_bytes calls) room (omega (arith, has.room_fits))
 
 -- where there is room for all calls, there is for the first, and after them for the others
-module _ (calls more : List Call) (a b c : EventWriter) (suits : Suits (calls ++ more) a) (first : Adds calls a b) where
-  bytes_joined : length (calls_bytes (calls ++ more)) ≡ length (calls_bytes calls) + length (calls_bytes more)
-  bytes_joined = ap length (calls_bytes-append calls more) ∙ length-append (calls_bytes calls) (calls_bytes more)
-
-  suits_first : Suits calls a
+module _ (old middle new : EventWriter) (calls more : List Call) (first : Adds calls old middle) (second : Adds more middle new)
+    (suits : Suits (calls ++ more) old) (before : List Call) (events : List Event) (room : List ℕ) (has : Has before events room old) where
+  suits_first : Suits calls old
   suits_first = record {
-    plain = AllByRecursion-front IsPlain calls more suits.plain;
     events_fit = omega (arith, length-append calls more, suits.events_fit);
-    room_fits = omega (arith, bytes_joined, suits.room_fits);
+    room_fits = omega (arith, length-calls_bytes-append calls more, suits.room_fits);
   }
 
-  suits_second : IsAdded calls a b → Suits more b
-  suits_second one = record {
-    plain = AllByRecursion-back IsPlain calls more suits.plain;
-    events_fit = omega (arith, length-append calls more, suits.events_fit, one.few, one.written, same_events_length calls more a b c one);
-    room_fits = omega (arith, bytes_joined, suits.room_fits, one.used, same_room_length calls more a b c one);
-  }
+  has_first : Has (before ++ calls) events room middle
+  has_first = first.added suits_first before events room has
 
-  added_both : Adds more b c → IsAdded (calls ++ more) a c
-  added_both second =
-      let one = first.added suits_first in
-      IsAdded-append calls more a b c one (second.added (suits_second one))
+  suits_second : Suits more middle
+  suits_second =
+      let as_many = same_events_length before events room old has in
+      let as_long = same_room_length before events room old has in
+      let as_many_then = same_events_length (before ++ calls) events room middle has_first in
+      let as_long_then = same_room_length (before ++ calls) events room middle has_first in record {
+        events_fit = omega (arith, length-append calls more, suits.events_fit, first.few, as_many, as_many_then);
+        room_fits = omega (arith, length-calls_bytes-append calls more, length-calls_bytes-append before calls, suits.room_fits, has.used, has_first.used, as_long, as_long_then);
+      }
+
+  has_both : Has (before ++ (calls ++ more)) events room new
+  has_both = subst (λ (l : List Call). Has l events room new) (append_assoc before calls more) (second.added suits_second (before ++ calls) events room has_first)
 
 -- the laws of what a writer receives
 pub Adds-none : (writer : EventWriter) → Adds [] writer writer
 Adds-none writer = record {
   same_events = refl;
   same_room = refl;
-  added = λ suits. record {
-    records = [];
-    few = omega arith;
-    events_fit = omega (arith, suits.events_fit);
-    room_fits = omega (arith, suits.room_fits);
-    written = omega arith;
-    events = sym (with_items-nil writer.written writer.events.now);
-    used = omega arith;
-    room = sym (with_items-nil writer.used writer.room.now);
-    reads = λ room there. record { same = refl; sound = tt };
-  };
+  few = omega arith;
+  added = λ suits before events room has. subst (λ (l : List Call). Has l events room writer) (sym (append-nil before)) has;
 }
 
 pub Adds-one : (old : EventWriter) (call : Call) (new : EventWriter) → Adds (call ∷ []) old new → Adds (call ∷ []) old new
@@ -163,5 +110,6 @@ pub Adds-more : (old middle new : EventWriter) (calls more : List Call) → Adds
 Adds-more old middle new calls more first second = record {
   same_events = second.same_events ∙ first.same_events;
   same_room = second.same_room ∙ first.same_room;
-  added = λ suits. added_both calls more old middle new suits first second;
+  few = omega (arith, length-append calls more, first.few, second.few);
+  added = has_both old middle new calls more first second;
 }

@@ -1,5 +1,5 @@
--- What a record of a call says, read with the bytes that it stands for.
-use Rattle.std.specs.Prelude.{◌≡◌, ◌+◌, ◌*◌, ◌%◌, ◌/◌, ◌≤◌, ◌==◌, ℕ, Bool, not, List, [], ◌∷◌, length, take, drop, encode_utf8, if◌then◌else◌}
+-- The records of calls, and what a record says, read with the bytes that it stands for.
+use Rattle.std.specs.Prelude.{◌≡◌, false, ◌+◌, ◌*◌, ◌%◌, ◌/◌, ◌<◌, ◌≤◌, ◌==◌, ◌&&◌, ℕ, Bool, not, List, [], ◌∷◌, ◌++◌, length, take, drop, encode_utf8, if◌then◌else◌}
 use Rattle.std.specs.List.{AllByRecursion, flat_map, slice_split, join_with_byte}
 use Rattle.std.specs.Str.{IsUtf8}
 use Rattle.anstyle_parse.specs.Stream.Bytes.{semicolon}
@@ -96,11 +96,15 @@ read_event room event =
 abbrev pub read_events : (room : List ℕ) → List Event → List Call
 read_events room events = flat_map (read_event room) events
 
--- A record's bytes are there, those of a text are UTF-8 by themselves, and its intermediates few.
+-- A record's bytes are there, those of a text are UTF-8 by themselves and some, and its intermediates few; its
+-- kind is one of the eight, and its flag 0 or 1.
 pub record IsSound (room : List ℕ) (event : Event) : Type 0 where
   pub within : event.start + event.length ≤ length room
   pub utf8 : event.kind ≡ text_kind → IsUtf8 (bytes_in room event)
+  pub some_text : event.kind ≡ text_kind → 0 < event.length
   pub few : event.intermediate_count ≤ max_intermediates
+  pub one_of_eight : event.kind ≤ esc_kind
+  pub one_or_none : event.flag ≤ 1
 
 -- Records that say these calls, of which each is sound.
 pub record Reads (room : List ℕ) (events : List Event) (calls : List Call) : Type 0 where
@@ -118,3 +122,93 @@ call_bytes _ = []
 
 abbrev pub calls_bytes : List Call → List ℕ
 calls_bytes calls = flat_map call_bytes calls
+
+-- What the record of a call has: its kind,
+abbrev pub kind_of : Call → ℕ
+kind_of (print character) = text_kind
+kind_of (execute byte) = execute_kind
+kind_of (hook groups intermediates ignore final) = hook_kind
+kind_of (put byte) = put_kind
+kind_of unhook = unhook_kind
+kind_of (osc_dispatch parts bell_terminated) = osc_kind
+kind_of (csi_dispatch groups intermediates ignore final) = csi_kind
+kind_of (esc_dispatch intermediates ignore final) = esc_kind
+
+-- its byte: the control, the byte of a string or the final byte, else 0,
+abbrev pub byte_of : Call → ℕ
+byte_of (execute byte) = byte
+byte_of (hook groups intermediates ignore final) = final
+byte_of (put byte) = byte
+byte_of (csi_dispatch groups intermediates ignore final) = final
+byte_of (esc_dispatch intermediates ignore final) = final
+byte_of _ = 0
+
+-- its flag: more came than is shown, or BEL ended it; else it is not set,
+abbrev pub flag_of : Call → Bool
+flag_of (hook groups intermediates ignore final) = ignore
+flag_of (osc_dispatch parts bell_terminated) = bell_terminated
+flag_of (csi_dispatch groups intermediates ignore final) = ignore
+flag_of (esc_dispatch intermediates ignore final) = ignore
+flag_of _ = false
+
+-- and its intermediates.
+abbrev pub intermediates_of : Call → List ℕ
+intermediates_of (hook groups intermediates ignore final) = intermediates
+intermediates_of (csi_dispatch groups intermediates ignore final) = intermediates
+intermediates_of (esc_dispatch intermediates ignore final) = intermediates
+intermediates_of _ = []
+
+-- The record of so many bytes of the room from a place on. A flag is 0 or 1; behind the intermediates stands 0,
+-- and so it does in the bytes that only fill the record.
+abbrev pub record_with : (start size kind byte : ℕ) (flag : Bool) (intermediates : List ℕ) → Event
+record_with start size kind byte flag intermediates = record {
+  start = start;
+  length = size;
+  kind = kind;
+  byte = byte;
+  flag = if flag then 1 else 0;
+  intermediate_count = length (take max_intermediates intermediates);
+  intermediates = take max_intermediates (intermediates ++ 0 ∷ 0 ∷ []);
+  padding = 0 ∷ 0 ∷ [];
+}
+
+-- The record of a call whose bytes stand in the room from a place on.
+abbrev pub record_of : (start : ℕ) → Call → Event
+record_of start call =
+    record_with start (length (call_bytes call)) (kind_of call) (byte_of call) (flag_of call) (intermediates_of call)
+
+-- a record that stands for so many bytes of the room instead
+abbrev pub with_length : Event → ℕ → Event
+with_length event size = record {
+  start = event.start;
+  length = size;
+  kind = event.kind;
+  byte = event.byte;
+  flag = event.flag;
+  intermediate_count = event.intermediate_count;
+  intermediates = event.intermediates;
+  padding = event.padding;
+}
+
+abbrev pub is_text : Event → Bool
+is_text event = event.kind == text_kind
+
+-- A record before others. A text and the text behind it are one record.
+abbrev pub joined : Event → List Event → List Event
+joined event [] = event ∷ []
+joined event (next ∷ events) =
+    if is_text event && is_text next then with_length event (event.length + next.length) ∷ events
+    else event ∷ next ∷ events
+
+-- The records of calls whose bytes stand in the room, one after another, from a place on: one for each call, and
+-- one for each run of printed characters.
+abbrev pub records_of : (start : ℕ) → List Call → List Event
+records_of start [] = []
+records_of start (call ∷ calls) =
+    joined (record_of start call) (records_of (start + length (call_bytes call)) calls)
+
+-- The records and the room are those of the calls, and nothing else; so they say the calls.
+pub record AreRecords (room : List ℕ) (events : List Event) (calls : List Call) : Type 0 where
+  pub records : events ≡ records_of 0 calls
+  pub bytes : room ≡ calls_bytes calls
+  pub reads : Reads room events calls

@@ -12,8 +12,8 @@ use Rattle.strip_pieces.specs.State.{StandsFor}
 use Rattle.event_pieces.specs.declared.event.Event.{Event}
 use Rattle.event_pieces.specs.declared.feeding.Fed.{Fed}
 use Rattle.event_pieces.specs.declared.writer.EventWriter.{EventWriter}
-use Rattle.event_pieces.specs.Event.{Reads}
-use Rattle.event_pieces.specs.Writer.{IsAdded}
+use Rattle.event_pieces.specs.Event.{AreRecords}
+use Rattle.event_pieces.specs.Writer.{ArePlain, Has}
 
 -- The records at most that so many bytes of a stream lead to: two for each, as where 18 ends a command.
 abbrev pub most_events : ℕ → ℕ
@@ -31,9 +31,9 @@ least_events = most_events 1
 abbrev pub least_room : ℕ
 least_room = most_room 1
 
--- The records say the calls by which the bytes continue those before.
+-- The records and the room are those of the calls by which the bytes continue those before.
 abbrev pub AreEventsOf : (before bytes room : List ℕ) (events : List Event) → Type 0
-AreEventsOf before bytes room events = (calls : List Call) × Continues before bytes calls × Reads room events calls
+AreEventsOf before bytes room events = (calls : List Call) × Continues before bytes calls × AreRecords room events calls
 
 -- Bytes were taken from the front of the piece, and their calls are written to the front of the records and
 -- of the room.
@@ -47,7 +47,7 @@ pub record Feeds (old new : StreamState) (piece : List ℕ) (events events_after
   pub used_fits : fed.used ≤ length room
   -- whatever bytes the state stood for, it stands for these too,
   pub stands : (before : List ℕ) → StandsFor old before → StandsFor new (before ++ take fed.taken piece)
-  -- and what is written says their calls, all of them
+  -- and what is written are the records of their calls, all of them, and their bytes, which say these calls
   pub said : (before : List ℕ) → StandsFor old before
       → AreEventsOf before (take fed.taken piece) (take fed.used room_after) (take fed.written events_after)
   -- after that the records and the room are as they were
@@ -84,6 +84,9 @@ pub record IsTaken (old new : Parser Utf8Parser) (piece : List ℕ) (writer writ
   pub continues : (before : List ℕ) → IsAfter front_of old before → Continues before (take taken piece) calls
   pub same_events : writer_after.events.ghost_name ≡ writer.events.ghost_name
   pub same_room : writer_after.room.ghost_name ≡ writer.room.ghost_name
-  pub added : IsAdded calls writer writer_after
+  pub added : (before : List Call) (events : List Event) (room : List ℕ)
+      → Has before events room writer → Has (before ++ calls) events room writer_after
+  pub plain : ArePlain calls
+  pub few : writer_after.written ≤ writer.written + length calls
   pub bounded : length calls ≤ most_events taken
   pub nothing : taken ≡ 0 → calls ≡ []

@@ -1,13 +1,14 @@
 -- What is put into a room, and what a writer of records has written.
-use Rattle.std.specs.Prelude.{◌≡◌, ◌<◌, ◌≤◌, ◌+◌, ◌-◌, ◌==◌, ℕ, Bool, not, List, [], ◌∷◌, ◌++◌, length, take, drop, ⊤}
+use Rattle.std.specs.Prelude.{◌≡◌, ◌<◌, ◌≤◌, ◌+◌, ◌-◌, ◌==◌, ℕ, true, false, not, List, [], ◌∷◌, ◌++◌, length, take, drop, ⊤}
+use Rattle.std.specs.Char.{IsScalar}
 use Rattle.std.specs.List.{AllByRecursion}
 use Rattle.anstyle_parse.specs.Stream.Bytes.{semicolon}
-use Rattle.anstyle_parse.specs.Stream.Call.{Call, hook, osc_dispatch, csi_dispatch, esc_dispatch}
+use Rattle.anstyle_parse.specs.Stream.Call.{Call, print, hook, osc_dispatch, csi_dispatch, esc_dispatch}
 use Rattle.anstyle_parse.specs.Stream.Groups.{HaveFields}
 use Rattle.anstyle_parse.specs.Stream.Items.{EachIs}
 use Rattle.event_pieces.specs.declared.event.Event.{Event}
 use Rattle.event_pieces.specs.declared.writer.EventWriter.{EventWriter}
-use Rattle.event_pieces.specs.Event.{is_set, max_intermediates, intermediates_in, Reads, calls_bytes}
+use Rattle.event_pieces.specs.Event.{text_kind, max_intermediates, record_with, with_length, is_text, records_of, calls_bytes}
 
 -- the list with items put over it at a place
 abbrev pub with_items : {A : Type 0} → ℕ → List A → List A → List A
@@ -27,25 +28,33 @@ pub record Pushes (event : Event) (old new : EventWriter) : Type 0 where
   pub same_reference : new.events.ghost_name ≡ old.events.ghost_name
   pub same_room : new.room ≡ old.room
   pub same_used : new.used ≡ old.used
+  pub few : new.written ≤ old.written + 1
   pub written : old.written < length old.events.now → new.written ≡ old.written + 1
   pub events : old.written < length old.events.now
       → new.events.now ≡ with_items old.written (event ∷ []) old.events.now
 
--- A record of this is added, which stands for the bytes of the room from a place on.
-pub record Notes (start kind byte : ℕ) (flag : Bool) (intermediates : List ℕ) (old new : EventWriter) : Type 0 where
-  pub event : Event
-  pub pushes : Pushes event old new
-  pub starts : event.start ≡ start
-  pub lasts : event.length ≡ old.used - start
-  pub is_kind : event.kind ≡ kind
-  pub is_byte : event.byte ≡ byte
-  pub is_flag : is_set event.flag ≡ flag
-  pub few : event.intermediate_count ≤ max_intermediates
-  pub has_intermediates : length intermediates ≤ max_intermediates → intermediates_in event ≡ intermediates
+-- the record of a text that stands in the room between two places
+abbrev pub text_from : (start end : ℕ) → Event
+text_from start end = record_with start (end - start) text_kind 0 false []
 
--- A call whose arguments a record can say, as each is that a parser makes: groups have fields, parts are
--- some and have no separator, intermediates are few.
+-- The room from a place on is a text. Where the last record is one too, it goes on until there; else a record is
+-- added.
+pub record NotesText (start : ℕ) (old new : EventWriter) : Type 0 where
+  pub same_reference : new.events.ghost_name ≡ old.events.ghost_name
+  pub same_room : new.room ≡ old.room
+  pub same_used : new.used ≡ old.used
+  pub few : new.written ≤ old.written + 1
+  pub first : old.written ≡ 0 → Pushes (text_from start old.used) old new
+  pub behind : (events : List Event) (last : Event) (rest : List Event) → old.events.now ≡ events ++ last ∷ rest
+      → old.written ≡ length events + 1 → is_text last ≡ false → Pushes (text_from start old.used) old new
+  pub longer : (events : List Event) (last : Event) (rest : List Event) → old.events.now ≡ events ++ last ∷ rest
+      → old.written ≡ length events + 1 → is_text last ≡ true
+      → (new.written ≡ old.written) × (new.events.now ≡ events ++ with_length last (old.used - last.start) ∷ rest)
+
+-- A call whose arguments a record can say, as each is that a parser makes: a character is one, groups have
+-- fields, parts are some and have no separator, intermediates are few.
 abbrev pub IsPlain : Call → Type 0
+IsPlain (print character) = IsScalar character
 IsPlain (hook groups intermediates ignore final) = HaveFields groups × (length intermediates ≤ max_intermediates)
 IsPlain (csi_dispatch groups intermediates ignore final) =
     HaveFields groups × (length intermediates ≤ max_intermediates)
@@ -57,34 +66,24 @@ IsPlain _ = ⊤
 abbrev pub ArePlain : List Call → Type 0
 ArePlain calls = AllByRecursion IsPlain calls
 
--- There is room for the calls, of which records can say each.
+-- There is room for the calls.
 pub record Suits (calls : List Call) (writer : EventWriter) : Type 0 where
-  pub plain : ArePlain calls
   pub events_fit : writer.written + length calls ≤ length writer.events.now
   pub room_fits : writer.used + length (calls_bytes calls) ≤ length writer.room.now
 
--- the bytes stand in a room at a place
-pub record StandsAt (place : ℕ) (bytes room : List ℕ) : Type 0 where
-  pub before : List ℕ
-  pub after : List ℕ
-  pub whole : room ≡ before ++ (bytes ++ after)
-  pub at : length before ≡ place
+-- A writer over these records and this room has written those of the calls. Behind them both are as they were.
+pub record Has (calls : List Call) (events : List Event) (room : List ℕ) (writer : EventWriter) : Type 0 where
+  pub written : writer.written ≡ length (records_of 0 calls)
+  pub used : writer.used ≡ length (calls_bytes calls)
+  pub events_fit : length (records_of 0 calls) ≤ length events
+  pub room_fits : length (calls_bytes calls) ≤ length room
+  pub records_are : writer.events.now ≡ with_items 0 (records_of 0 calls) events
+  pub room_is : writer.room.now ≡ with_items 0 (calls_bytes calls) room
 
--- Records of the calls are added, at most one for each, and what they stand for is put into the room. In
--- any room that has these bytes there, they say the calls.
-pub record IsAdded (calls : List Call) (old new : EventWriter) : Type 0 where
-  pub records : List Event
-  pub few : length records ≤ length calls
-  pub events_fit : new.written ≤ length old.events.now
-  pub room_fits : new.used ≤ length old.room.now
-  pub written : new.written ≡ old.written + length records
-  pub events : new.events.now ≡ with_items old.written records old.events.now
-  pub used : new.used ≡ old.used + length (calls_bytes calls)
-  pub room : new.room.now ≡ with_items old.used (calls_bytes calls) old.room.now
-  pub reads : (room : List ℕ) → StandsAt old.used (calls_bytes calls) room → Reads room records calls
-
--- That is what the calls do to a writer, where there is room for them.
+-- What calls do to a writer that has written others: where there is room for them, it has written these too.
 pub record Adds (calls : List Call) (old new : EventWriter) : Type 0 where
   pub same_events : new.events.ghost_name ≡ old.events.ghost_name
   pub same_room : new.room.ghost_name ≡ old.room.ghost_name
-  pub added : Suits calls old → IsAdded calls old new
+  pub few : new.written ≤ old.written + length calls
+  pub added : Suits calls old → (before : List Call) (events : List Event) (room : List ℕ)
+      → Has before events room old → Has (before ++ calls) events room new

@@ -27,8 +27,12 @@ pub const ESC: u8 = 7;
 /// The intermediates that a record holds at most.
 pub(crate) const MAX_INTERMEDIATES: usize = 2;
 
+/// The bytes that fill a record up to its size.
+pub(crate) const PADDING: usize = 2;
+
 /// A call, or the calls of a run of printed characters.
 ///
+/// Two texts never follow one another in what one call of `feed` writes. What a kind does not speak of is 0.
 /// What it holds beyond its own fields stands in the room at `start..start + length`:
 ///
 /// | Kind | Bytes in the room | `byte` | `flag` |
@@ -59,4 +63,6 @@ pub struct Event {
     pub intermediate_count: u8,
     /// The intermediates; behind them 0.
     pub intermediates: [u8; MAX_INTERMEDIATES],
+    /// Nothing: each is 0.
+    pub padding: [u8; PADDING],
 }

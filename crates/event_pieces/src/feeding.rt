@@ -75,8 +75,8 @@ pub fn feed(
 /// Gives bytes of the piece to the parser for as long as there are records and room for what they may lead
 /// to, and answers how many.
 fn take(parser: &mut Parser, piece: &[u8], writer: &mut EventWriter) -> usize
-    requires events { writer.old.written ≤ length writer.old.events.now }
-    requires room { writer.old.used ≤ length writer.old.room.now }
+    requires none_written { writer.old.written ≡ 0 }
+    requires none_used { writer.old.used ≡ 0 }
     requires stands { (before : List ℕ) × IsAfter front_of parser.old before }
     ensures same_events { writer.new.events.ghost_name ≡ writer.old.events.ghost_name }
     ensures same_room { writer.new.room.ghost_name ≡ writer.old.room.ghost_name }

@@ -1,11 +1,14 @@
 //! The performer that writes a record of each call.
-ghost use Rattle.std.specs.Prelude.{◌≡◌, ◌-◌, ◌≤◌, ◌∷◌, [], false, length, map, take, if◌then◌else◌};
+ghost use Rattle.std.specs.Prelude.{◌≡◌, ◌<◌, ◌≤◌, ◌+◌, ◌-◌, List, ◌∷◌, ◌++◌, [], false, length, map, take, if◌then◌else◌};
+ghost use Rattle.std.specs.Bool.{OnTrue};
 ghost use Rattle.std.specs.List.{join_with_byte};
 ghost use Rattle.anstyle_parse.specs.Stream.Bytes.{semicolon};
 ghost use Rattle.anstyle_parse.specs.Stream.Texts.{text_calls};
-ghost use Rattle.event_pieces.specs.Event.{group_bytes, groups_bytes, max_intermediates};
+ghost use Rattle.event_pieces.specs.Event.{group_bytes, groups_bytes, is_text, max_intermediates, record_with};
 
-use crate::event::{CSI, ESC, EXECUTE, Event, HOOK, MAX_INTERMEDIATES, OSC, PUT, TEXT, UNHOOK};
+use crate::event::{
+    CSI, ESC, EXECUTE, Event, HOOK, MAX_INTERMEDIATES, OSC, PADDING, PUT, TEXT, UNHOOK,
+};
 use anstyle_parse::{Params, Perform, PerformText};
 
 /// Writes records of calls after those that are written, as far as there is room for them.
@@ -19,7 +22,7 @@ pub(crate) struct EventWriter<'a> {
 
 impl<'a> EventWriter<'a> {
     ghost use Rattle.anstyle_parse.specs.Views.Params.{groups_shown};
-    ghost use Rattle.event_pieces.specs.Writer.{Notes, Puts, Pushes, Adds};
+    ghost use Rattle.event_pieces.specs.Writer.{NotesText, Puts, Pushes, Adds};
 
     pub(crate) fn new(events: &'a mut [Event], room: &'a mut [u8]) -> EventWriter<'a>
         ensures same_events { result.events.ghost_name ≡ events.entry.ghost_name }
@@ -133,7 +136,7 @@ impl<'a> EventWriter<'a> {
     /// One record more, of this, which stands for what the room has from a place on.
     #[inline(always)]
     fn note(&mut self, start: usize, kind: u8, byte: u8, flag: bool, intermediates: &[u8])
-        ensures { Notes start kind byte flag intermediates.now self.old self.new }
+        ensures { Pushes (record_with start (self.old.used - start) kind byte flag intermediates.now) self.old self.new }
     {
         let (intermediates, intermediate_count) = first_two(intermediates);
         let length = self.used.saturating_sub(start);
@@ -145,13 +148,14 @@ impl<'a> EventWriter<'a> {
             flag: u8::from(flag),
             intermediate_count,
             intermediates,
+            padding: [0; PADDING],
         });
     }
 
     /// A record that stands for nothing in the room.
     #[inline(always)]
     fn note_byte(&mut self, kind: u8, byte: u8)
-        ensures { Notes self.old.used kind byte false [] self.old self.new }
+        ensures { Pushes (record_with self.old.used 0 kind byte false []) self.old self.new }
     {
         let start = self.used;
         self.note(start, kind, byte, false, b"");
@@ -167,15 +171,41 @@ impl<'a> EventWriter<'a> {
         }
         let start = self.used;
         self.put_bytes(text.as_bytes());
-        self.note(start, TEXT, 0, false, b"");
+        self.note_text(start);
+    }
+
+    /// Whether the last record is a text.
+    #[inline(always)]
+    fn ends_with_text(&self) -> bool
+        ensures some { OnTrue result (0 < self.now.written) }
+        ensures within { OnTrue result (self.now.written ≤ length self.now.events.now) }
+        ensures text { (events : List Event) (last : Event) (rest : List Event) → self.now.events.now ≡ events ++ last ∷ rest
+            → self.now.written ≡ length events + 1 → result ≡ is_text last }
+    {
+        self.written > 0
+            && self.written <= self.events.len()
+            && self.events[self.written - 1].kind == TEXT
+    }
+
+    /// What the room has from a place on is a text: behind another one it belongs to that one's record.
+    #[inline(always)]
+    fn note_text(&mut self, start: usize)
+        ensures { NotesText start self.old self.new }
+    {
+        if self.ends_with_text() {
+            let last = self.written - 1;
+            self.events[last].length = self.used.saturating_sub(self.events[last].start);
+        } else {
+            self.note(start, TEXT, 0, false, b"");
+        }
     }
 }
 
 /// The first two bytes, with 0 for those that are not there, and how many are there.
 #[inline(always)]
 fn first_two(bytes: &[u8]) -> ([u8; MAX_INTERMEDIATES], u8)
-    ensures few { result.1 ≤ max_intermediates }
-    ensures same { length bytes.now ≤ max_intermediates → take result.1 result.0 ≡ bytes.now }
+    ensures bytes { result.0 ≡ take max_intermediates (bytes.now ++ 0 ∷ 0 ∷ []) }
+    ensures count { result.1 ≡ length (take max_intermediates bytes.now) }
 {
     match bytes {
         [] => ([0, 0], 0),

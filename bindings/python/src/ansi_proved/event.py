@@ -13,7 +13,7 @@ from .text import State
 MOST = 16384  # bytes that one call is given at most
 EVENTS, ROOM = 4096, 65536  # records and bytes of room that one call writes at most
 # A record is three numbers: start and length of its bytes in the room; and its key, which is all else of it, in
-# bytes kind, byte, flag, how many intermediates, two of these, and two that are 0.
+# bytes kind, byte, flag, how many intermediates, two of these, and padding, two that are 0.
 NUMBERS, SIZE, KEY = 3, 24, 16  # its numbers, its bytes, and where among these its key begins
 TEXT, EXECUTE, HOOK, PUT, UNHOOK, OSC, CSI, ESC = range(8)  # the kinds; the key of a text is TEXT
 PUTS_AT_ONCE = re.compile(b"\x03\x03*")  # kinds PUT, one after another (by "\x03+" they are found in twice the time)

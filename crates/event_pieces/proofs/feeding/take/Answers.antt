@@ -9,10 +9,10 @@ use Rattle.anstyle_parse.specs.Stream.Calls.{Continues}
 use Rattle.anstyle_parse.specs.Views.Parser.{IsAfter, machine_of}
 use Rattle.strip_pieces.proofs.FeedLemmas.{Continues-append, Continues-nil}
 use Rattle.event_pieces.specs.Event.{calls_bytes}
-use Rattle.event_pieces.specs.Writer.{Suits}
-use Rattle.event_pieces.specs.AddingProof.{IsAdded-append, same_events_length, same_room_length}
+use Rattle.event_pieces.specs.Writer.{IsPlain, Suits, Has}
+use Rattle.event_pieces.specs.AddingProof.{AllByRecursion-append, same_events_length, same_room_length}
 use Rattle.event_pieces.proofs.Bounds.{length-calls, plain-continued, room-continued}
-use Rattle.event_pieces.proofs.FeedLemmas.{IsAdded-nil}
+use Rattle.event_pieces.proofs.FeedLemmas.{Has-nothing}
 use Rattle.event_pieces.proofs.feeding.take.Goals as goal
 
 pub loop-taken-init : goal.loop-taken-init
@@ -24,7 +24,9 @@ loop-taken-init c = (
     continues = λ before is. Continues-nil before;
     same_events = refl;
     same_room = refl;
-    added = IsAdded-nil c.args.writer.now c.requires.events c.requires.room;
+    added = λ before events room has. subst (λ (l : List Call). Has l events room c.args.writer.now) (sym (append-nil before)) has;
+    plain = tt;
+    few = omega arith;
     bounded = omega arith;
     nothing = λ e. refl;
   },
@@ -51,7 +53,6 @@ loop-taken-preserved c =
     let room = room-continued (before ++ take done piece) bytes more machine stands c.advance_texts.ensures.stream in
     let few = length-calls parser_after bytes (machine_of c.loop-taken.parser) in
     let suits : Suits more c.loop-taken.writer = record {
-      plain = plain;
       events_fit = omega (arith, few, some_bytes, c.sure_bytes-sure.ensures.events, c.events_left-in-loop-taken.ensures, c.loop-taken-test.true);
       room_fits = omega (arith, room, some_bytes, c.sure_bytes-sure.ensures.room, c.room_left-in-loop-taken.ensures);
     } in
@@ -70,7 +71,11 @@ loop-taken-preserved c =
             (c.advance_texts.ensures.stream (before ++ take done piece) (so_far.stands before is)));
         same_events = adds.same_events ∙ so_far.same_events;
         same_room = adds.same_room ∙ so_far.same_room;
-        added = IsAdded-append so_far.calls more c.args.writer.now c.loop-taken.writer c.advance_texts.new.performer so_far.added (adds.added suits);
+        added = λ before events room has.
+            subst (λ (l : List Call). Has l events room c.advance_texts.new.performer) (append_assoc before so_far.calls more)
+            (adds.added suits (before ++ so_far.calls) events room (so_far.added before events room has));
+        plain = AllByRecursion-append IsPlain so_far.calls more so_far.plain plain;
+        few = omega (arith, length-append so_far.calls more, so_far.few, adds.few);
         bounded = omega (arith, length-append so_far.calls more, few, so_far.bounded, counted, c.min-count.ensures);
         nothing = λ e. absurd (omega (arith, e, c.min-count.ensures, c.sure_bytes-sure.ensures.some));
       },
@@ -79,18 +84,34 @@ loop-taken-preserved c =
           let nothing = so_far.nothing none in
           let no_calls = ap length nothing in
           let no_bytes = ap (λ (l : List Call). length (calls_bytes l)) nothing in
-          let as_many = same_events_length so_far.calls more c.args.writer.now c.loop-taken.writer c.advance_texts.new.performer so_far.added in
-          let as_long = same_room_length so_far.calls more c.args.writer.now c.loop-taken.writer c.advance_texts.new.performer so_far.added in
+          let first = c.args.writer.now in
+          let has = so_far.added [] first.events.now first.room.now (Has-nothing first.events.now first.room.now first c.requires.none_written c.requires.none_used refl refl) in
+          let as_many = same_events_length so_far.calls first.events.now first.room.now c.loop-taken.writer has in
+          let as_long = same_room_length so_far.calls first.events.now first.room.now c.loop-taken.writer has in
           let all : length piece ≤ c.sure_bytes-sure.result =
           c.sure_bytes-sure.ensures.all (length piece)
-          (omega (arith, events, no_calls, as_many, so_far.added.few, so_far.added.written, c.events_left-in-loop-taken.ensures))
-          (omega (arith, room, no_bytes, as_long, so_far.added.used, c.room_left-in-loop-taken.ensures)) in
+          (omega (arith, events, no_calls, as_many, so_far.few, c.events_left-in-loop-taken.ensures))
+          (omega (arith, room, no_bytes, as_long, has.used, c.room_left-in-loop-taken.ensures)) in
           omega (arith, none, all, c.min-count.ensures))
           (λ (all : c.loop-taken.taken ≡ length piece). absurd (omega (arith, all)))
           (c.loop-taken.invariant.1 events room)),
     )
 
--- where nothing is taken there is room for all, and there is some room left
+-- where nothing is taken there are records and room for all, and some are left
+pub returns-else-events_left-ge-LEAST_EVENTS-clause-at_once :
+    goal.returns-else-events_left-ge-LEAST_EVENTS-clause-at_once
+returns-else-events_left-ge-LEAST_EVENTS-clause-at_once c = λ events room.
+    let so_far = c.loop-taken.invariant.0 in
+    ⊎_elim
+    (λ (none : c.loop-taken.taken ≡ 0).
+    let no_calls = ap length (so_far.nothing none) in
+    let first = c.args.writer.now in
+    let has = so_far.added [] first.events.now first.room.now (Has-nothing first.events.now first.room.now first c.requires.none_written c.requires.none_used refl refl) in
+    let as_many = same_events_length so_far.calls first.events.now first.room.now c.loop-taken.writer has in
+    absurd (omega (arith, none, events, no_calls, as_many, so_far.few, c.events_left.ensures, c.if-events_left-ge-LEAST_EVENTS.false, c.loop-taken-test.true)))
+    (λ (all : c.loop-taken.taken ≡ length c.args.piece.now). all)
+    (c.loop-taken.invariant.1 events room)
+
 pub returns-else-room_left-ge-LEAST_ROOM-clause-at_once :
     goal.returns-else-room_left-ge-LEAST_ROOM-clause-at_once
 returns-else-room_left-ge-LEAST_ROOM-clause-at_once c = λ events room.
@@ -99,7 +120,9 @@ returns-else-room_left-ge-LEAST_ROOM-clause-at_once c = λ events room.
     (λ (none : c.loop-taken.taken ≡ 0).
     let nothing = so_far.nothing none in
     let no_bytes = ap (λ (l : List Call). length (calls_bytes l)) nothing in
-    let as_long = same_room_length so_far.calls [] c.args.writer.now c.loop-taken.writer c.loop-taken.writer so_far.added in
-    absurd (omega (arith, none, room, no_bytes, as_long, so_far.added.used, c.room_left.ensures, c.if-room_left-ge-LEAST_ROOM.false, c.loop-taken-test.true)))
+    let first = c.args.writer.now in
+    let has = so_far.added [] first.events.now first.room.now (Has-nothing first.events.now first.room.now first c.requires.none_written c.requires.none_used refl refl) in
+    let as_long = same_room_length so_far.calls first.events.now first.room.now c.loop-taken.writer has in
+    absurd (omega (arith, none, room, no_bytes, as_long, has.used, c.room_left.ensures, c.if-room_left-ge-LEAST_ROOM.false, c.loop-taken-test.true)))
     (λ (all : c.loop-taken.taken ≡ length c.args.piece.now). all)
     (c.loop-taken.invariant.1 events room)

@@ -8,11 +8,11 @@ use Rattle.event_pieces.specs.Event.{read_events}
 use Rattle.event_pieces.proofs.laws.events_joined.Goals as goal
 
 pub returns-clause-pieces : goal.returns-clause-pieces
-returns-clause-pieces c = λ before bytes more room more_room events others (calls, continues, says) (next, then, also).
+returns-clause-pieces c = λ before bytes more room more_room events others (calls, continues, are) (next, then, also).
     Continues-append before bytes more (read_events room events) (read_events more_room others)
-    (subst (λ (l : List Call). Continues before bytes l) (sym says.same) continues)
-    (subst (λ (l : List Call). Continues (before ++ bytes) more l) (sym also.same) then)
+    (subst (λ (l : List Call). Continues before bytes l) (sym are.reads.same) continues)
+    (subst (λ (l : List Call). Continues (before ++ bytes) more l) (sym also.reads.same) then)
 
 pub returns-clause-whole : goal.returns-clause-whole
-returns-clause-whole c = λ bytes room events (calls, continues, says).
-    subst (λ (l : List Call). AreCalls bytes l) (sym says.same) (continues [] AreCalls-nil)
+returns-clause-whole c = λ bytes room events (calls, continues, are).
+    subst (λ (l : List Call). AreCalls bytes l) (sym are.reads.same) (continues [] AreCalls-nil)

@@ -16,8 +16,8 @@ PYTHON = python3
 INSTALL = install
 
 PROGRAMS = ansi2text ansi2html ansi2screen parselog
-# those that shells complete the options of
-COMPLETED = ansi2text ansi2html ansi2screen
+# those that shells complete the words of
+COMPLETED = $(PROGRAMS)
 # the scripts of tests/
 TESTS = asked browser cells classes contrast costs dist documents install library links packages programs screen_twin vectors
 # what the library does: each has a header and a manual page of its own

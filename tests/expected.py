@@ -737,8 +737,9 @@ PROGRAMS = [
                 ["log", ""],
                 [""],
                 ["Log"],
-                ["--help"],
-                ["--version"],
+                ["log", "--help"],
+                ["--Help"],
+                ["--version=1"],
             )
         ],
         [

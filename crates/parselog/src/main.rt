@@ -1,10 +1,11 @@
 //! Shows which calls a parser of ANSI escape sequences makes of standard input.
 #![tactic(auto)]
 
-ghost use Rattle.std.specs.Prelude.{◌≡◌, [], false, OnOk, OnErr};
+ghost use Rattle.std.specs.Prelude.{◌≡◌, [], false, OnOk, IfErr};
 ghost use Rattle.std.specs.Process.{exit_status};
 ghost use Rattle.anstyle_parse.specs.Io.Buffer.{writer_behind, held_back};
-ghost use Rattle.anstyle_parse.specs.Io.Devices.{writer_of, writer_failed};
+ghost use Rattle.anstyle_parse.specs.Io.Devices.{writer_of, writer_error, writer_failed};
+ghost use Rattle.parselog.specs.Words.{status_of, status_after};
 
 mod log;
 mod run;
@@ -12,37 +13,56 @@ mod run;
 mod tests;
 mod words;
 
-use anstyle_parse::canon::{Buffer, Fault, FromRead, FromWrite, Sink};
+use anstyle_parse::canon::{Buffer, Fault, FromRead, FromWrite};
 use run::{Mode, run};
 use std::io::{self, IsTerminal, Write};
 use std::process::ExitCode;
 use std::rt::Env;
-use words::{message, mode};
+use words::{HELP, Request, VERSION, asked_of, is_broken_pipe, message, mode};
 
 /// The status of a program that failed.
 const FAILED: u8 = 1;
+
+/// The status of a program whose output nobody reads any more: 128 and the number of SIGPIPE.
+const READER_GONE: u8 = 141;
 
 /// The status of a program whose arguments say nothing that it knows.
 const MISUSED: u8 = 2;
 
 fn main(rt: HostRuntime) -> ExitCode {
-    let Ok(mode) = chosen_mode(&rt) else {
+    let Ok((first, more)) = given_words(&rt) else {
         return said(&rt, "parselog: arguments not read", FAILED);
     };
-    let Some(mode) = mode else {
+    let first = first.as_ref().map(|word| word.as_str());
+    if let Some(request) = asked_of(first) {
+        return answered(&rt, request);
+    }
+    let Some(mode) = mode(first, more) else {
         return said(&rt, "usage: parselog [log|canon]", MISUSED);
     };
     let mut reader = FromRead::new(rt.stdin());
     ended(&rt, run(mode, &mut reader, buffered(rt.stdout())))
 }
 
-/// The mode that the arguments name.
-fn chosen_mode(rt: &(impl Env + Alloc)) -> io::Result<Option<Mode>> {
+/// The first word that the program was given, and whether a second came.
+fn given_words(rt: &(impl Env + AllocGlobal)) -> io::Result<(Option<String>, bool)> {
     let mut arguments = std::env::args(rt)?;
     let _program = arguments.next();
     let first = arguments.next();
     let more = arguments.next().is_some();
-    Ok(mode(first.as_ref().map(|word| word.as_str()), more))
+    Ok((first, more))
+}
+
+/// Says what a word asks for, on standard output.
+fn answered(rt: &(impl Print + Eprint), request: Request) -> ExitCode {
+    let text = match request {
+        Request::Help => HELP,
+        Request::Version => VERSION,
+    };
+    match rt.print(text) {
+        Ok(()) => ExitCode::SUCCESS,
+        Err(error) => output_failed(rt, Fault::Write, Some(error)),
+    }
 }
 
 /// The output behind a buffer, which holds nothing: on a terminal each line is handed on when it
@@ -62,14 +82,33 @@ fn buffered<W: Write + IsTerminal>(output: W) -> Buffer<FromWrite<W>>
 }
 
 /// The end of the program after a run. A fault is what it was at the output behind the buffer.
-fn ended<W: Sink + Drop>(rt: &impl Eprint, ran: (Buffer<W>, Result<(), Fault>)) -> ExitCode
+fn ended<W: Write + Drop>(
+    rt: &impl Eprint,
+    ran: (Buffer<FromWrite<W>>, Result<(), Fault>),
+) -> ExitCode
     ensures went_well { OnOk ran.1 (exit_status result ≡ 0) }
-    ensures fault { OnErr ran.1 (exit_status result ≡ 1) }
+    ensures fault { IfErr ran.1
+        (λ fault. exit_status result ≡ status_after fault (writer_error (writer_behind ran.0))) }
 {
     let (output, answer) = ran;
     match answer {
         Ok(()) => ExitCode::SUCCESS,
-        Err(fault) => said(rt, message(output.fault_behind(fault)), FAILED),
+        Err(Fault::Read) => said(rt, message(Fault::Read), FAILED),
+        Err(fault) => {
+            let fault = output.fault_behind(fault);
+            output_failed(rt, fault, output.into_inner().error())
+        }
+    }
+}
+
+/// The end of the program after its output failed, with this error, if it is known: where nobody reads
+/// it any more nothing is said.
+fn output_failed(rt: &impl Eprint, fault: Fault, error: Option<io::Error>) -> ExitCode
+    ensures { exit_status result ≡ status_of error }
+{
+    match error {
+        Some(error) if is_broken_pipe(error.kind()) => ExitCode::from(READER_GONE),
+        _ => said(rt, message(fault), FAILED),
     }
 }
 

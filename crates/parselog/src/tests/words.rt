@@ -1,7 +1,7 @@
 //! The words of the program, one by one.
 use super::check;
 use crate::run::Mode;
-use crate::words::{message, mode};
+use crate::words::{Request, asked_of, message, mode};
 use anstyle_parse::canon::Fault;
 
 #[test]
@@ -26,6 +26,24 @@ fn modes(rt: HostRuntime) {
             first.unwrap_or("no word"),
             more as usize,
         );
+    }
+}
+
+#[test]
+fn requests(rt: HostRuntime) {
+    let rows: [(Option<&str>, Option<Request>); 9] = [
+        (Some("--help"), Some(Request::Help)),
+        (Some("-h"), Some(Request::Help)),
+        (Some("--version"), Some(Request::Version)),
+        (None, None),
+        (Some("log"), None),
+        (Some("--Help"), None),
+        (Some("--helpme"), None),
+        (Some("-V"), None),
+        (Some(""), None),
+    ];
+    for (first, want) in rows {
+        check(&rt, asked_of(first) == want, first.unwrap_or("no word"), 1);
     }
 }
 

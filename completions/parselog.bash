@@ -1,0 +1,7 @@
+# The words of parselog, for bash. It takes one.
+_parselog() {
+    COMPREPLY=()
+    [[ $COMP_CWORD -le 1 ]] || return
+    mapfile -t COMPREPLY < <(compgen -W 'log canon --help --version' -- "$2")
+}
+complete -F _parselog parselog

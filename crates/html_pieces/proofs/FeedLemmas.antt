@@ -1,6 +1,7 @@
 -- A state is fed where a piece was taken.
-use Rattle.std.proofs.Common.{◌<◌, ◌≤◌, ◌*◌, ℕ, List, [], ◌++◌, length, take, refl, sym, ap, ◌∙◌, subst, arith, length-take}
+use Rattle.std.proofs.Common.{◌≡◌, ◌<◌, ◌≤◌, ◌*◌, ◌/◌, ℕ, List, [], ◌++◌, length, take, min, refl, sym, ap, ◌∙◌, subst, arith, length-take}
 use Rattle.std.specs.Prelude.{IsUtf8}
+use Rattle.std.proofs.lemmas.List.{take-take, length-take-le}
 use Rattle.anstyle_parse.specs.Machine.Decoder.{decoded}
 use Rattle.anstyle_parse.specs.Machine.Step.{new_machine, machine_calls}
 use Rattle.anstyle_parse.proofs.Division.Only.{AreCalls-only}
@@ -13,7 +14,7 @@ use Rattle.ansi_html.specs.AddingProof.{standing_at_end-append}
 use Rattle.ansi_html.proofs.TextLemmas.{IsUtf8-html_from}
 use Rattle.ansi_html.proofs.PieceLemmas.{length-html_continued}
 use Rattle.html_pieces.specs.declared.state.HtmlState.{HtmlState}
-use Rattle.html_pieces.specs.Sizes.{least_room}
+use Rattle.html_pieces.specs.Sizes.{most_html, least_room, most_taken, capacity}
 use Rattle.html_pieces.specs.State.{styling_in, standing_of, StandsFor}
 use Rattle.html_pieces.specs.Feed.{Takes, Feeds}
 use Rattle.html_pieces.proofs.StateLemmas.{AreSound-kept}
@@ -54,8 +55,9 @@ module _ (old new : HtmlState) (piece room room_after : List ℕ) (written : ℕ
 
 pub Feeds-taken : (old new : HtmlState) (piece room room_after : List ℕ) (taken written : ℕ)
     → (0 < length piece → least_room ≤ length room) → taken ≤ length piece → (0 < length piece → 0 < taken)
+    → (most_html (length piece) ≤ length room → most_html (length piece) ≤ capacity → taken ≡ length piece) → taken ≤ most_taken → written ≤ capacity
     → Takes old new (take taken piece) room room_after written → Feeds old new piece room room_after taken written
-Feeds-taken old new piece room room_after taken written enough fits some takes =
+Feeds-taken old new piece room room_after taken written enough fits some at_once few_taken few_written takes =
     let bytes = take taken piece in
     record {
       enough_room = enough;
@@ -66,5 +68,27 @@ Feeds-taken old new piece room room_after taken written enough fits some takes =
       html = λ before is. (takes.calls, takes.continues before is.stream, λ own are. takes.html ∙ ap (λ at. html_from (styling_in old) at takes.calls) (is.standing own are));
       utf8 = utf8-taken old new bytes room room_after written takes;
       some_taken = some;
+      taken_at_once = at_once;
+      few_taken = few_taken;
+      few_written = few_written;
       bounded = omega (arith, bounded-taken old new bytes room room_after written takes, length-take taken piece);
     }
+
+-- the same of the front of a piece, as long as one call takes at most
+pub Feeds-front : (old new : HtmlState) (piece room room_after : List ℕ) (size count taken written : ℕ) → size ≡ min (length room) capacity → count ≡ min (length piece) (min size most_taken)
+    → (0 < length piece → least_room ≤ length room) → taken ≤ length (take count piece) → (0 < length (take count piece) → 0 < taken)
+    → (length (take count piece) ≤ size / least_room → taken ≡ length (take count piece)) → written ≤ capacity
+    → Takes old new (take taken (take count piece)) room room_after written → Feeds old new piece room room_after taken written
+Feeds-front old new piece room room_after size count taken written sized counted enough fits some sure few takes =
+    let long : length (take count piece) ≡ count = length-take-le count piece (omega (arith, counted)) in
+    let within : taken ≤ count = omega (arith, fits, long) in
+    Feeds-taken old new piece room room_after taken written enough (omega (arith, within, counted)) (λ bytes. some (omega (arith, bytes, enough bytes, long, counted, sized)))
+    (λ roomy small.
+    let all : count ≡ length piece = omega (arith, counted, sized, roomy, small) in
+    sure (omega (arith, long, all, sized, roomy, small)) ∙ long ∙ all)
+    (omega (arith, within, counted)) few
+    (subst (λ bytes. Takes old new bytes room room_after written) (take-take taken count piece within) takes)
+
+-- the front of a piece
+pub few-front : (count : ℕ) (piece : List ℕ) → length (take count piece) ≤ count
+few-front count piece = omega (arith, length-take count piece)

@@ -6,7 +6,7 @@ use Rattle.strip_pieces.specs.State.{StandsFor as StreamStandsFor}
 use Rattle.ansi_html.specs.declared.scheme.Styling.{Styling}
 use Rattle.ansi_html.specs.Html.{at_start, html_from, standing_at_end, element_end, html_ending}
 use Rattle.html_pieces.specs.declared.state.HtmlState.{HtmlState}
-use Rattle.html_pieces.specs.Sizes.{most_html, least_room, end_room}
+use Rattle.html_pieces.specs.Sizes.{most_html, least_room, end_room, most_taken, capacity}
 use Rattle.html_pieces.specs.State.{styling_in, standing_of, StandsFor}
 
 -- The HTML is what the calls write by which the bytes continue those before, from where it stands after
@@ -50,6 +50,11 @@ pub record Feeds (old new : HtmlState) (piece room room_after : List ℕ) (taken
   pub utf8 : IsUtf8 (take written room_after)
   -- of some bytes at least one was taken
   pub some_taken : 0 < length piece → 0 < taken
+  -- all are taken where there is room for what they may lead to, also in one call
+  pub taken_at_once : most_html (length piece) ≤ length room → most_html (length piece) ≤ capacity → taken ≡ length piece
+  -- one call takes no more than that, and writes no more
+  pub few_taken : taken ≤ most_taken
+  pub few_written : written ≤ capacity
   -- no bytes lead to more HTML than that, and none to none
   pub bounded : written ≤ most_html taken
 

@@ -15,6 +15,10 @@ least_room = most_html 1
 abbrev pub end_room : ℕ
 end_room = 7
 
+-- the bytes that one call takes at most
+abbrev pub most_taken : ℕ
+most_taken = 4096
+
 -- the bytes that one call writes at most
 abbrev pub capacity : ℕ
 capacity = 16384

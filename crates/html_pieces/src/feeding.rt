@@ -1,5 +1,5 @@
 //! A piece of a stream, and its end.
-ghost use Rattle.std.specs.Prelude.{◌≡◌, ◌<◌, ◌≤◌, ◌++◌, length, take, drop, min, IfSome, IfNone};
+ghost use Rattle.std.specs.Prelude.{◌≡◌, ◌<◌, ◌≤◌, ◌++◌, ℕ, List, length, take, drop, min, IfSome, IfNone};
 ghost use Rattle.html_pieces.specs.Sizes.{most_html, capacity};
 ghost use Rattle.html_pieces.specs.Feed.{Takes, Feeds, Refuses, Ends, RefusesEnd};
 
@@ -17,11 +17,17 @@ pub const LEAST_ROOM: usize = 6550;
 /// The bytes of room that the end of a stream needs.
 pub const END_ROOM: usize = 7;
 
-/// The bytes of HTML for each byte of a piece with which it is tried: few lead to so many.
-const HTML_OF_A_BYTE: usize = 4;
+/// The bytes of a piece that a call takes at most.
+const MOST_TAKEN: usize = 4096;
+
+/// So many bytes are tried first. What they lead to says how many of the others are tried at once.
+const FIRST_TRY: usize = 128;
 
 /// How much less is tried where that did not suffice.
 const SHARE: usize = 4;
+
+/// Fewer bytes than these are not tried at the end of a room.
+const LEAST_TRY: usize = 32;
 
 /// A piece of so many bytes is short, and its HTML is tried in so many: fewer are cleared.
 const SHORT_PIECE: usize = 256;
@@ -32,7 +38,8 @@ impl HtmlState {
     /// Takes bytes from the front of the piece, and writes their HTML to the front of the room.
     ///
     /// With `Some` all of their HTML is written, and the state stands after all bytes so far. Of some bytes
-    /// at least one is taken; mostly as many as a quarter of the room, and at most 4,096. The HTML is
+    /// at least one is taken; at most 4,096 are, and at most 16,384 bytes are written. What it costs is in proportion to
+    /// both: bytes whose HTML finds no room are few beside those that were taken. The HTML is
     /// UTF-8 by itself. Past it the room is as it was.
     ///
     /// With `None` the piece is not empty and the room is below [`LEAST_ROOM`]: then nothing
@@ -46,20 +53,18 @@ impl HtmlState {
         }
         let size = room.len().min(CAPACITY);
         let sure = size / LEAST_ROOM;
-        let most = piece.len().min(sure.max(size / HTML_OF_A_BYTE));
-        if let Some(taken) = self.take_verbatim(&piece[..most], room) {
+        let piece = &piece[..piece.len().min(size.min(MOST_TAKEN))];
+        if let Some(taken) = self.take_verbatim(piece, sure, room) {
             return Some(Fed {
                 taken,
                 written: taken,
             });
         }
-        let mut taken = most;
-        loop {
-            if let Some(written) = self.take(&piece[..taken], room) {
-                return Some(Fed { taken, written });
-            }
-            taken = sure.max(taken / SHARE);
+        let first = self.take_first(piece, sure, room);
+        if first.taken == piece.len() {
+            return Some(first);
         }
+        Some(self.take_others(piece, first, room))
     }
 
     /// Ends the stream: writes what closes the element that is open, if one is, to the front of the room, and
@@ -82,12 +87,13 @@ impl HtmlState {
         Some(put_front(room, buffer.html()))
     }
 
-    /// Takes the verbatim text at the front of the piece, if that is more than half of it and is its own HTML. It goes
-    /// to the room as it is, with no parser.
-    fn take_verbatim(&self, piece: &[u8], room: &mut [u8]) -> Option<usize>
+    /// Takes the verbatim text at the front of the piece, if that is all of it, or more than half of it and more than what
+    /// surely fits, and is its own HTML. It goes to the room as it is, with no parser.
+    fn take_verbatim(&self, piece: &[u8], sure: usize, room: &mut [u8]) -> Option<usize>
         requires { length piece.now ≤ length room.old }
         ensures within { IfSome result (λ taken. taken ≤ length piece.now) }
-        ensures some { IfSome result (λ taken. 0 < taken) }
+        ensures some { IfSome result (λ taken. 0 < length piece.now → 0 < taken) }
+        ensures sure { IfSome result (λ taken. length piece.now ≤ sure → taken ≡ length piece.now) }
         ensures taken { IfSome result (λ taken.
             Takes self.now self.now (take taken piece.now) room.old room.new taken) }
         ensures same_room { IfNone result (room.new ≡ room.old) }
@@ -96,14 +102,91 @@ impl HtmlState {
             return None;
         }
         let taken = verbatim_length(piece);
-        if taken <= piece.len() / 2 {
+        if taken < piece.len() && taken <= sure.max(piece.len() / 2) {
             return None;
         }
         Some(put_front(room, &piece[..taken]))
     }
 
+    /// Takes bytes from the front of the piece: those that are tried first, or as many of them as find room.
+    fn take_first(&mut self, piece: &[u8], sure: usize, room: &mut [u8]) -> Fed
+        requires surely { most_html sure ≤ min (length room.old) capacity }
+        requires some { 0 < length piece.now → 0 < sure }
+        ensures within { result.taken ≤ length piece.now }
+        ensures some { 0 < length piece.now → 0 < result.taken }
+        ensures sure { length piece.now ≤ sure → result.taken ≡ length piece.now }
+        ensures few { result.written ≤ capacity }
+        ensures taken { Takes self.old self.new (take result.taken piece.now) room.old room.new result.written }
+    {
+        let mut taken = piece.len().min(sure.max(FIRST_TRY));
+        loop {
+            if let Some(written) = self.take(&piece[..taken], room) {
+                return Fed { taken, written };
+            }
+            taken = sure.max(taken / SHARE);
+        }
+    }
+
+    /// Takes more of the piece, of which some bytes were taken, as far as it finds room. Apart, since a call clears its own
+    /// arrays, used or not.
+    #[inline(never)]
+    fn take_others(&mut self, piece: &[u8], first: Fed, room: &mut [u8]) -> Fed
+        requires taken { first.taken ≤ length piece.now }
+        requires some { 0 < first.taken }
+        requires written { first.written ≤ length room.old }
+        requires few { first.written ≤ capacity }
+        ensures within { result.taken ≤ length piece.now }
+        ensures some { first.taken ≤ result.taken }
+        ensures few { result.written ≤ capacity }
+        ensures taken { (begun : HtmlState) (clean : List ℕ)
+            → Takes begun self.old (take first.taken piece.now) clean room.old first.written
+            → Takes begun self.new (take result.taken piece.now) clean room.new result.written }
+    {
+        let mut lent = [0; CAPACITY];
+        let others = self.take_through_tries(
+            &mut lent[first.written..],
+            &piece[first.taken..],
+            first.written / first.taken,
+            &mut room[first.written..],
+        );
+        Fed {
+            taken: first.taken + others.taken,
+            written: first.written + others.written,
+        }
+    }
+
+    /// Takes bytes of the piece, as many at once as surely or probably find room by what those before led to.
+    fn take_through_tries(
+        &mut self,
+        lent: &mut [u8],
+        piece: &[u8],
+        html_of_a_byte: usize,
+        room: &mut [u8],
+    ) -> Fed
+        ensures within { result.taken ≤ length piece.now }
+        ensures few { result.written ≤ length lent.old }
+        ensures taken { Takes self.old self.new (take result.taken piece.now) room.old room.new result.written }
+    {
+        let size = room.len().min(lent.len());
+        let mut taken = 0;
+        let mut written = 0;
+        let mut count = next_try(piece.len(), size, html_of_a_byte);
+        while count > 0 {
+            let bytes = &piece[taken..taken + count];
+            let Some(more) = self.take_through(&mut lent[written..], bytes, &mut room[written..])
+            else {
+                break;
+            };
+            taken += count;
+            written += more;
+            count = next_try(piece.len() - taken, size - written, more / count);
+        }
+        Fed { taken, written }
+    }
+
     /// Takes all bytes of the piece, if there is room for their HTML.
     fn take(&mut self, piece: &[u8], room: &mut [u8]) -> Option<usize>
+        ensures few { IfSome result (λ written. written ≤ capacity) }
         ensures taken { IfSome result (λ written. Takes self.old self.new piece.now room.old room.new written) }
         ensures same_state { IfNone result (self.new ≡ self.old) }
         ensures same_room { IfNone result (room.new ≡ room.old) }
@@ -120,6 +203,7 @@ impl HtmlState {
     /// The same, if there are few bytes of HTML. Apart, since a call clears its own arrays, used or not.
     #[inline(never)]
     fn take_short(&mut self, piece: &[u8], room: &mut [u8]) -> Option<usize>
+        ensures few { IfSome result (λ written. written ≤ capacity) }
         ensures taken { IfSome result (λ written. Takes self.old self.new piece.now room.old room.new written) }
         ensures same_state { IfNone result (self.new ≡ self.old) }
         ensures same_room { IfNone result (room.new ≡ room.old) }
@@ -130,6 +214,7 @@ impl HtmlState {
     /// The same with lent bytes, where the HTML stands before it goes to the room.
     #[inline(never)]
     fn take_through(&mut self, lent: &mut [u8], piece: &[u8], room: &mut [u8]) -> Option<usize>
+        ensures few { IfSome result (λ written. written ≤ length lent.old) }
         ensures taken { IfSome result (λ written. Takes self.old self.new piece.now room.old room.new written) }
         ensures same_state { IfNone result (self.new ≡ self.old) }
         ensures same_room { IfNone result (room.new ≡ room.old) }
@@ -150,6 +235,18 @@ impl HtmlState {
         let (buffer, _) = writer.suspend().finish();
         Some(put_front(room, buffer.html()))
     }
+}
+
+/// How many of so many bytes are tried next, in so much room, where those before led to so much HTML each: as many as
+/// would fill three quarters of it. None where that would be few and not all.
+fn next_try(bytes: usize, room: usize, html_of_a_byte: usize) -> usize
+    ensures { result ≤ bytes }
+{
+    let count = bytes.min((room - room / SHARE) / html_of_a_byte.saturating_add(1));
+    if count < bytes.min(LEAST_TRY) {
+        return 0;
+    }
+    count
 }
 
 /// Writes HTML to the front of the room, and answers how long it is.

@@ -82,8 +82,9 @@ void ansi_html_init(ansi_html *state, unsigned char styling);
  *
  * Answers true where bytes were taken, or where there were none. Then all of their HTML is
  * written, which is UTF-8 by itself, and what follows `written` bytes of room is as it was. At least one
- * byte was taken; mostly as many as a quarter of the room, and at most 4,096: of a room no more than
- * 16,384 bytes are used. Hand on what is written, and call again with the bytes from `taken` on.
+ * byte was taken, and at most 4,096: as many as find room, or nearly so; of a room no more than 16,384
+ * bytes are used. What a call costs is in proportion to the bytes that it takes and writes. Hand on what is
+ * written, and call again with the bytes from `taken` on.
  *
  * Answers false where `count` is not 0 and `size` is below ANSI_HTML_LEAST_ROOM. Then nothing
  * is taken or written, `taken` and `written` become 0, and the state and the room are as

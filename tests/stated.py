@@ -11,7 +11,7 @@ SAID = {
         "answers true where bytes were taken, or where there were none",
         "answers false where count is not 0 and size is below ansi_html_least_room",
         "answers false where size is below ansi_html_end_room",
-        "mostly as many as a quarter of the room, and at most {QUARTER}",
+        "at least one byte was taken, and at most {MOST_TAKEN}",
         "of a room no more than {CAPACITY} bytes are used",
     ],
     "ansi_events": [

@@ -20,19 +20,20 @@ pub const END_ROOM: usize = 7;
 /// The bytes of a piece that a call takes at most.
 const MOST_TAKEN: usize = 4096;
 
-/// So many bytes are tried first. What they lead to says how many of the others are tried at once.
-const FIRST_TRY: usize = 128;
-
 /// How much less is tried where that did not suffice.
 const SHARE: usize = 4;
+
+/// A try is to leave so much of the room: an eighth.
+const LEFT: usize = 8;
 
 /// Fewer bytes than these are not tried at the end of a room.
 const LEAST_TRY: usize = 32;
 
-/// A piece of so many bytes is short, and its HTML is tried in so many: fewer are cleared.
-const SHORT_PIECE: usize = 256;
-
+/// So many bytes of HTML are tried in a shorter buffer, where fewer bytes are cleared.
 const SHORT_CAPACITY: usize = 4096;
+
+/// So many bytes of HTML for each byte of a piece are thought of for a shorter buffer.
+const SHORT_SHARE: usize = 16;
 
 impl HtmlState {
     /// Takes bytes from the front of the piece, and writes their HTML to the front of the room.
@@ -118,7 +119,12 @@ impl HtmlState {
         ensures few { result.written ≤ capacity }
         ensures taken { Takes self.old self.new (take result.taken piece.now) room.old room.new result.written }
     {
-        let mut taken = piece.len().min(sure.max(FIRST_TRY));
+        let wanted = next_try(
+            piece.len(),
+            room.len().min(CAPACITY),
+            self.html_of_a_byte as usize,
+        );
+        let mut taken = piece.len().min(sure.max(wanted));
         loop {
             if let Some(written) = self.take(&piece[..taken], room) {
                 return Fed { taken, written };
@@ -132,7 +138,6 @@ impl HtmlState {
     #[inline(never)]
     fn take_others(&mut self, piece: &[u8], first: Fed, room: &mut [u8]) -> Fed
         requires taken { first.taken ≤ length piece.now }
-        requires some { 0 < first.taken }
         requires written { first.written ≤ length room.old }
         requires few { first.written ≤ capacity }
         ensures within { result.taken ≤ length piece.now }
@@ -146,7 +151,6 @@ impl HtmlState {
         let others = self.take_through_tries(
             &mut lent[first.written..],
             &piece[first.taken..],
-            first.written / first.taken,
             &mut room[first.written..],
         );
         Fed {
@@ -156,13 +160,7 @@ impl HtmlState {
     }
 
     /// Takes bytes of the piece, as many at once as surely or probably find room by what those before led to.
-    fn take_through_tries(
-        &mut self,
-        lent: &mut [u8],
-        piece: &[u8],
-        html_of_a_byte: usize,
-        room: &mut [u8],
-    ) -> Fed
+    fn take_through_tries(&mut self, lent: &mut [u8], piece: &[u8], room: &mut [u8]) -> Fed
         ensures within { result.taken ≤ length piece.now }
         ensures few { result.written ≤ length lent.old }
         ensures taken { Takes self.old self.new (take result.taken piece.now) room.old room.new result.written }
@@ -170,7 +168,7 @@ impl HtmlState {
         let size = room.len().min(lent.len());
         let mut taken = 0;
         let mut written = 0;
-        let mut count = next_try(piece.len(), size, html_of_a_byte);
+        let mut count = next_try(piece.len(), size, self.html_of_a_byte as usize);
         while count > 0 {
             let bytes = &piece[taken..taken + count];
             let Some(more) = self.take_through(&mut lent[written..], bytes, &mut room[written..])
@@ -179,7 +177,11 @@ impl HtmlState {
             };
             taken += count;
             written += more;
-            count = next_try(piece.len() - taken, size - written, more / count);
+            count = next_try(
+                piece.len() - taken,
+                size - written,
+                self.html_of_a_byte as usize,
+            );
         }
         Fed { taken, written }
     }
@@ -192,7 +194,7 @@ impl HtmlState {
         ensures same_room { IfNone result (room.new ≡ room.old) }
         ensures little_room { IfNone result (min (length room.old) capacity < most_html (length piece.now)) }
     {
-        if piece.len() <= SHORT_PIECE {
+        if piece.len() <= SHORT_CAPACITY / SHORT_SHARE.max(self.html_of_a_byte as usize + 1) {
             if let Some(written) = self.take_short(piece, room) {
                 return Some(written);
             }
@@ -233,16 +235,18 @@ impl HtmlState {
         self.stream.save(&parser);
         self.save(writer.standing());
         let (buffer, _) = writer.suspend().finish();
-        Some(put_front(room, buffer.html()))
+        let html = buffer.html();
+        self.html_of_a_byte = (html.len() / piece.len().max(1)).min(255) as u8;
+        Some(put_front(room, html))
     }
 }
 
 /// How many of so many bytes are tried next, in so much room, where those before led to so much HTML each: as many as
-/// would fill three quarters of it. None where that would be few and not all.
+/// would leave an eighth of it. None where that would be few and not all.
 fn next_try(bytes: usize, room: usize, html_of_a_byte: usize) -> usize
     ensures { result ≤ bytes }
 {
-    let count = bytes.min((room - room / SHARE) / html_of_a_byte.saturating_add(1));
+    let count = bytes.min((room - room / LEFT) / html_of_a_byte.saturating_add(1));
     if count < bytes.min(LEAST_TRY) {
         return 0;
     }

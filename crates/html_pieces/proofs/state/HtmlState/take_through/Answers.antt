@@ -72,14 +72,14 @@ returns-clause-taken c =
     (ap writer_in (c.go_on.ensures.output ∙ c.new-writer.ensures.output) ∙ c.new-output.ensures.writer) c.new.ensures.nothing
     (ap fault_in (c.go_on.ensures.output ∙ c.new-writer.ensures.output) ∙ c.new-output.ensures.no_fault) taken.added buffer c.finish-buffer.result.1 no_fault
     (subst (λ output. Finishes ghosts output buffer c.finish-buffer.result.1) c.suspend.ensures c.finish-buffer.ensures.finishes) in
-    let html = c.html.ensures ∙ ap behind whole in
+    let html = c.html-html.ensures ∙ ap behind whole in
     let stands = taken.standing ∙ ap (λ (s : Standing). standing_at_end s calls) at in
     let is_sound : AreSound (standing_at_end (standing_of state) calls) = AreSound-at_end calls (standing_of state) (AreSound-kept _) in
-    let rest = drop (length c.html.result.now) c.args.room.now in
-    let fits : length c.html.result.now ≤ length c.args.room.now = omega (arith, ap length c.html.ensures, length-take buffer.written buffer.into.now, buffer.within, ap first_of whole, c.new.ensures.limit) in
+    let rest = drop (length c.html-html.result.now) c.args.room.now in
+    let fits : length c.html-html.result.now ≤ length c.args.room.now = omega (arith, ap length c.html-html.ensures, length-take buffer.written buffer.into.now, buffer.within, ap first_of whole, c.new.ensures.limit) in
     record {
       calls = calls;
-      same_length = omega (arith, fits, ap length c.put_front.ensures.written, length-append c.html.result.now rest, length-drop (length c.html.result.now) c.args.room.now);
+      same_length = omega (arith, fits, ap length c.put_front.ensures.written, length-append c.html-html.result.now rest, length-drop (length c.html-html.result.now) c.args.room.now);
       continues = λ before is. c.advance_texts.ensures.stream before (c.resume_in.ensures before c.new-parser.ensures.stands is);
       stream = λ before is.
           subst (λ (stream : StreamState). StreamStandsFor stream (before ++ piece)) (sym c.save-2.ensures.stream)
@@ -87,8 +87,8 @@ returns-clause-taken c =
       styling = c.save-2.ensures.styling;
       standing = ap kept (c.save-2.ensures.standing ∙ c.standing-2.ensures ∙ stands) ∙ kept-sound _ is_sound;
       written_fits = omega (arith, c.put_front.ensures.length, fits);
-      html = ap₂ (λ n (l : List ℕ). take n l) c.put_front.ensures.length c.put_front.ensures.written ∙ take-append_seam c.html.result.now rest ∙ html ∙ ap₂ (λ it s. html_from it s calls) styling at;
+      html = ap₂ (λ n (l : List ℕ). take n l) c.put_front.ensures.length c.put_front.ensures.written ∙ take-append_seam c.html-html.result.now rest ∙ html ∙ ap₂ (λ it s. html_from it s calls) styling at;
       untouched = ap₂ (λ n (l : List ℕ). drop n l) c.put_front.ensures.length c.put_front.ensures.written
-          ∙ drop-append_seam c.html.result.now rest
+          ∙ drop-append_seam c.html-html.result.now rest
           ∙ ap (λ n. drop n c.args.room.now) (sym c.put_front.ensures.length);
     }

@@ -765,10 +765,12 @@ PROGRAMS = [
         "ansi2html",
         refused_by(
             "ansi2html",
-            *(["--titles=x"], ["--title", "x", "--titles", "y"], ["--Page"], ["--page="], ["--light=1"], ["--class"]),
+            *(["--titles=x"], ["--Page"], ["--page="], ["--light=1"], ["--class"]),
         )
+        + [unknown("ansi2html", ["--title", "x", "--titles", "y"], '"--titles"')]
         + [([*before, word], wants("ansi2html", word)) for word in ("--title", "--css", "--lang") for before in ([], ["--page"], [word, word])]
-        + [(words, NO_LANGUAGE) for words in (["--lang="], ["--lang", "e n"], ["--lang=en", "--lang=\"x"], ["--lang=" + 65 * "a"], ["--lang=\xe9"], ["--page", "--lang", "en_GB"])]
+        + [(words, NO_LANGUAGE) for words in (["--lang="], ["--lang", "e n"], ["--lang=en", "--lang=\"x"], ["--lang=" + 65 * "a"])]
+        + [(words, NO_LANGUAGE) for words in (["--lang=\xe9"], ["--page", "--lang", "en_GB"])]
         + [(["--page", word], wrong_size(b"ansi2html")) for word in ("--shown=", "--shown=1x1", "--shown=1001x24")]
         + [(["--stylesheet", "--shown=0x0"], wrong_size(b"ansi2html"))]
         + [
@@ -819,7 +821,8 @@ PROGRAMS = [
     # (what its screens are tests/screen_twin tries)
     Program(
         "ansi2screen",
-        refused_by("ansi2screen", ["--draw=x"], ["--shown"], ["--size", "9x9", "--sizes"])
+        refused_by("ansi2screen", ["--draw=x"], ["--shown"])
+        + [unknown("ansi2screen", ["--size", "9x9", "--sizes"], '"--sizes"')]
         + [([*before, "--size"], wants("ansi2screen", "--size")) for before in ([], ["a"], ["--size", "--size"])]
         + [(["--size", word], wrong_size(b"ansi2screen")) for word in ("--draw", "1x1", "")]
         + [([word], wrong_size(b"ansi2screen")) for word in ("--size=", "--size=1x1", "--size=80")]

@@ -1,0 +1,9 @@
+pub mod RangeLemmas
+pub mod MaskLemmas
+pub mod PartLemmas
+pub mod VisibleLemmas
+pub mod WriterLemmas
+pub mod PlainLemmas
+pub mod WholeLemmas
+pub mod ReadLemmas
+pub mod CallLemmas

@@ -1,0 +1,10 @@
+-- The characters of lawful calls are scalar values.
+use Rattle.std.proofs.Common.{false}
+use Rattle.safe_text.specs.Safe.{characters}
+use Rattle.safe_text.proofs.CallLemmas.{scalars-lawful}
+use Rattle.safe_text.proofs.WholeLemmas.{safe-utf8}
+use Rattle.safe_text.proofs.laws.safe_utf8.Goals as goal
+
+pub returns : goal.returns
+returns c = λ bytes calls are.
+    safe-utf8 0 (characters calls) (scalars-lawful false calls (c.calls_are_lawful.ensures bytes calls are))

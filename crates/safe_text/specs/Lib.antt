@@ -1,0 +1,9 @@
+pub mod Ranges
+pub mod Classes
+pub mod Safe
+pub mod Reading
+pub mod Decided
+pub mod Held
+pub mod Plain
+pub mod Writer
+pub mod TakingProof

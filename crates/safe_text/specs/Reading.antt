@@ -1,0 +1,34 @@
+-- Reading safe text: which characters it names.
+use Rattle.std.specs.Prelude.{ℕ, ◌+◌, ◌-◌, ◌*◌, Bool, true, false, ◌&&◌, ◌==◌, nat_lt, not, List, [], ◌∷◌, ◌++◌, if◌then◌else◌}
+use Rattle.safe_text.specs.Safe.{begins_mark, rest_of, is_line_end, is_of_line_end}
+
+-- the value of a digit of base 16
+unfoldable pub hex_value : ℕ → ℕ
+hex_value c = if nat_lt c 0x41 then c - 0x30 else c - 0x37
+
+-- the number whose digits come up to `>`, after those of `n`
+abbrev pub number_from : (n : ℕ) → List ℕ → ℕ
+number_from n [] = n
+number_from n (c ∷ cs) = if c == 0x3E then n else number_from (n * 16 + hex_value c) cs
+
+-- The characters of a text, where `<U+`, digits and `>` are the one with that number: in the midst of such a one up
+-- to its `>` nothing more.
+abbrev pub read_from : (within : Bool) → List ℕ → List ℕ
+read_from within [] = []
+read_from true (c ∷ cs) = read_from (not (c == 0x3E)) cs
+read_from false (c ∷ cs) =
+    if c == 0x3C && begins_mark cs then number_from 0 (rest_of (rest_of cs)) ∷ read_from true cs
+    else c ∷ read_from false cs
+
+abbrev pub read_back : List ℕ → List ℕ
+read_back text = read_from false text
+
+-- characters with each end of a line, LF, VT, FF or CR LF, as one line feed
+abbrev pub ended_as : (line_end of_line_end : Bool) → ℕ → List ℕ
+ended_as true _ c = 0x0A ∷ []
+ended_as false true c = []
+ended_as false false c = c ∷ []
+
+abbrev pub with_line_feeds : List ℕ → List ℕ
+with_line_feeds [] = []
+with_line_feeds (c ∷ cs) = ended_as (is_line_end c) (is_of_line_end c cs) c ++ with_line_feeds cs

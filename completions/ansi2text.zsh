@@ -1,6 +1,7 @@
 #compdef ansi2text
 # The options and files of ansi2text, for zsh.
 _arguments \
+    '--safe[write text that hides nothing and keeps its order]' \
     '--shown=-[write what a terminal of 80x24, or of this size, showed]::COLUMNSxROWS:' \
     '(-o --output)'{-o,--output=}'[write to this file in place of standard output]:FILE:_files' \
     '(- *)'{-h,--help}'[say what it does]' \

@@ -3,6 +3,8 @@ each digest of a random stream comes from the sources of the Rust crate (docs/DE
 
 import hashlib
 
+from safe_rows import SAFE_ROWS
+
 SIZE = 100_000_000  # the bytes of a hostile stream
 BLOCK = 1 << 20
 
@@ -101,11 +103,7 @@ LOG_ROWS = [
         b"\x1b[38:2:255:0:255;1m",
         lines(b"csi_dispatch [38:2:255:0:255;1] - false 6D"),
     ),
-    (
-        "an operating system command",
-        b"\x1b]0;x\x1b\\",
-        lines(b"osc_dispatch false 30 78", b"esc_dispatch - false 5C"),
-    ),
+    ("an operating system command", b"\x1b]0;x\x1b\\", lines(b"osc_dispatch false 30 78", b"esc_dispatch - false 5C")),
     (
         "a device control string",
         b"\x1bP1$qm\x1b\\",
@@ -752,14 +750,16 @@ PROGRAMS = [
         "ansi2text",
         refused_by("ansi2text", ["--page"], ["--Shown"], ["--shown80x24"])
         + [([word], wrong_size(b"ansi2text")) for word in ("--shown=", "--shown=1x1", "--shown=80", "--shown=80x1001", "--shown==80x24")]
-        + [(["--shown", "--shown=0x0"], wrong_size(b"ansi2text"))],
+        + [(["--shown", "--shown=0x0"], wrong_size(b"ansi2text"))]
+        + [(it, b"ansi2text: --safe and --shown are not taken together (see ansi2text --help)") for it in (["--safe", "--shown"], ["--shown=9x9", "--safe"])],
         [
             Mode([], STRIP_ROWS, (b"\x1b[1mA\n", b"A\n"), STRIP_HOSTILE, stays=True, cut=STRIP_CUT),
+            Mode(["--safe"], SAFE_ROWS, (b"\x1b[1mA<\r\n", b"A<\n"), []),
             Mode(["--shown"], SHOWN_ROWS, (b"\x1b[1mA\n", b"A\n"), SHOWN_HOSTILE, stays=True, waits=True),
             Mode(["--shown=9x9", "--shown=80x24"], SHOWN_ROWS[-3:], (b"A\b\n", b"A\n"), [], stays=True, waits=True),
         ],
-        options=["--shown", "--shown=COLUMNSxROWS", "--output=FILE"],
-        files=[([], []), (["--shown"], ["--shown"])],
+        options=["--safe", "--shown", "--shown=COLUMNSxROWS", "--output=FILE"],
+        files=[([], []), (["--safe"], ["--safe"]), (["--shown"], ["--shown"])],
     ),
     Program(
         "ansi2html",
@@ -773,10 +773,7 @@ PROGRAMS = [
         + [(words, NO_LANGUAGE) for words in (["--lang=\xe9"], ["--page", "--lang", "en_GB"])]
         + [(["--page", word], wrong_size(b"ansi2html")) for word in ("--shown=", "--shown=1x1", "--shown=1001x24")]
         + [(["--stylesheet", "--shown=0x0"], wrong_size(b"ansi2html"))]
-        + [
-            (words, b"ansi2html: --stylesheet reads no file (see ansi2html --help)")
-            for words in (["--stylesheet", "log"], ["-", "--stylesheet"])
-        ],
+        + [(words, b"ansi2html: --stylesheet reads no file (see ansi2html --help)") for words in (["--stylesheet", "log"], ["-", "--stylesheet"])],
         [
             Mode(words, html_rows(scheme) if scheme else CLASS_ROWS, (b"\x1b[mA\n", b"A\n"), hostile, head, tail, cut=cut)
             for words, scheme, hostile, head, tail, cut in (

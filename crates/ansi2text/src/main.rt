@@ -1,4 +1,5 @@
-//! Strips files, or standard input, of their escapes, or writes what a screen showed of each.
+//! Strips files, or standard input, of their escapes, or makes text of them that is safe to show, or writes what a
+//! screen showed of each.
 #![tactic(auto)]
 
 mod streams;
@@ -7,12 +8,12 @@ mod words;
 use each_source::write_each;
 use screen_text::{SHOWN, screen_size};
 use standard_streams::{
-    OUTPUT, Target, answered, asked_of, buffered, failed, given_line, have_failed, inputs,
+    OUTPUT, Target, answered, asked_of, buffered, failed, given_line, have_failed, inputs, misused,
     value_of, wrong_size,
 };
 use std::process::ExitCode;
-use streams::{Showing, Stripping};
-use words::{HELP, OPTIONS};
+use streams::{MakingSafe, Showing, Stripping};
+use words::{BOTH, HELP, OPTIONS, asks_for_safe};
 
 /// The name at the front of what the program says of failures.
 const PROGRAM: &str = "ansi2text";
@@ -29,6 +30,10 @@ fn main(rt: HostRuntime) -> ExitCode {
     let Ok(size) = screen_size(value_of(options, SHOWN)) else {
         return wrong_size(&rt, PROGRAM);
     };
+    let safe = asks_for_safe(options);
+    if safe && size.is_some() {
+        return misused(&rt, BOTH);
+    }
     let Ok(mut inputs) = inputs(rt, PROGRAM, line.files.as_slice()) else {
         return failed(&rt, PROGRAM, "out of memory");
     };
@@ -38,6 +43,7 @@ fn main(rt: HostRuntime) -> ExitCode {
     };
     let (readers, output) = (inputs.as_mut_slice(), buffered(output));
     let ran = match size {
+        None if safe => write_each(&MakingSafe, b"", readers, output, b""),
         None => write_each(&Stripping, b"", readers, output, b""),
         Some(size) => write_each(&Showing::new(rt.alloc(), size), b"", readers, output, b""),
     };

@@ -1,15 +1,17 @@
-//! The performer of each stream: what strips it, or what follows a screen of its own.
+//! The performer of each stream: what strips it or makes it safe, or what follows a screen of its own.
 ghost use Rattle.std.specs.Prelude.{◌≡◌, List, IfOk, IfErr};
 ghost use Rattle.anstyle_parse.specs.Stream.Call.{Call};
 ghost use Rattle.ansi_strip.specs.Strip.{stripped};
 ghost use Rattle.ansi_screen.specs.Size.{IsTaken};
 ghost use Rattle.ansi2text.specs.Sizes.{screen_of, no_text};
+ghost use Rattle.safe_text.specs.Decided.{decided, undecided};
 ghost use Rattle.screen_text.specs.Shown.{left_text, ending_text};
 
 use ansi_screen::{Screen, Size};
 use ansi_strip::Stripper;
 use anstyle_parse::io::{CallWriter, Output, Sink};
 use each_source::Begin;
+use safe_text::SafeWriter;
 use screen_text::{ShownWriter, TextRows};
 use std::alloc::Global;
 
@@ -31,6 +33,28 @@ impl<W: Sink> Begin<Stripper<W>, W> for Stripping {
         ensures kept { IfErr result (λ kept. kept ≡ output) }
     {
         Ok(Stripper::over(output))
+    }
+}
+
+/// Of each stream safe text is made.
+#[derive(Debug, Clone, Copy, PartialEq, Eq)]
+pub struct MakingSafe;
+
+impl<W: Sink> Begin<SafeWriter<W>, W> for MakingSafe {
+    ghost use Rattle.safe_text.specs.Writer.{output_of, text_from, ending_from};
+
+    ghost text = { λ _. decided };
+
+    ghost ending = { λ _. undecided };
+
+    fn begin(&self, output: Output<W>) -> Result<SafeWriter<W>, Output<W>>
+        ensures output { IfOk result (λ performer. output_of performer ≡ output) }
+        ensures text { IfOk result (λ performer. (calls : List Call) → text_from performer calls ≡ decided calls) }
+        ensures ending { IfOk result (λ performer. (calls : List Call)
+            → ending_from performer calls ≡ undecided calls) }
+        ensures kept { IfErr result (λ kept. kept ≡ output) }
+    {
+        Ok(SafeWriter::over(output))
     }
 }
 

@@ -1,18 +1,31 @@
 //! The words of the program: its options, and what it says of itself.
+ghost use Rattle.std.specs.Prelude.{◌≡◌, map, string_bytes};
+ghost use Rattle.ansi2text.specs.Words.{asks_for_safe};
+
 use screen_text::SHOWN;
-use standard_streams::OUTPUT;
+use standard_streams::{OUTPUT, has_word};
 
 /// The options.
-pub const OPTIONS: &[&str] = &[SHOWN, "--shown=", OUTPUT];
+pub const OPTIONS: &[&str] = &[SAFE, SHOWN, "--shown=", OUTPUT];
+
+/// What asks for safe text.
+const SAFE: &str = "--safe";
+
+/// What is said where a screen is asked for too.
+pub const BOTH: &str =
+    "ansi2text: --safe and --shown are not taken together (see ansi2text --help)";
 
 /// What `--help` says.
 pub const HELP: &str = "\
-usage: ansi2text [--shown | --shown=COLUMNSxROWS] [-o FILE] [FILE]..
+usage: ansi2text [--safe | --shown | --shown=COLUMNSxROWS] [-o FILE] [FILE]..
 
 Writes the text of files without the escapes of terminals: colours, cursor moves,
 titles and the like. Input is UTF-8. Each file is a stream of its own. With no FILE,
 or for -, standard input is read. Words behind -- name files, whatever they begin with.
 
+  --safe                  write text that hides nothing and keeps its order, to
+                          review: controls and characters that show nothing or
+                          turn text round are written as <U+202E>
   --shown                 write what a terminal of 80x24 showed instead: the lines
                           that scrolled off, and what stands there at the end
   --shown=COLUMNSxROWS    the same of this size, from 2x1 to 1000x1000
@@ -21,8 +34,17 @@ or for -, standard input is read. Words behind -- name files, whatever they begi
   -h, --help              say this
   --version               say which version it is
 
-Examples, a log as text, the text of a build as it runs, and what a terminal showed:
+Examples, a log as text, the text of a build as it runs, what a terminal showed, and
+a stranger's text to review:
   ansi2text log > log.txt
   make 2>&1 | ansi2text -o build.log
   ansi2text --shown recording
+  ansi2text --safe report
 ";
+
+/// Whether the words ask for safe text.
+pub fn asks_for_safe(words: &[String]) -> bool
+    ensures { result ≡ asks_for_safe (map string_bytes words.now) }
+{
+    has_word(words, SAFE)
+}

@@ -1,0 +1,7 @@
+-- The words of the program.
+use Rattle.std.specs.Prelude.{ℕ, Bool, List, codes}
+use Rattle.standard_streams.specs.Options.{has_word}
+
+-- safe text is asked for where some word is --safe
+abbrev pub asks_for_safe : (words : List (List ℕ)) → Bool
+asks_for_safe words = has_word (codes "--safe") words

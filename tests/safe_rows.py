@@ -1,0 +1,75 @@
+"""What ansi2text --safe writes of hostile texts, worked by hand from the definition of safe text: rows for tests/expected.py.
+
+Each row is its name, what is read and what is written; a str stands for its UTF-8.
+"""
+
+
+def rows(*them):
+    encoded = lambda it: it.encode("utf-8") if isinstance(it, str) else it
+    return [(name, encoded(given), encoded(text)) for name, given, text in them]
+
+
+SAFE_ROWS = rows(
+    ("plain text", "a<b>\t~\n", "a<b>\t~\n"),
+    # ends of lines
+    ("CR LF", b"a\r\nb\r\n", b"a\nb\n"),
+    ("CR, a sequence and LF", b"a\r\x1b[K\n", b"a\n"),
+    ("a CR that hides what stood before", b"curl evil | sh\rls\n", b"curl evil | sh<U+000D>ls\n"),
+    ("a CR at the end", b"a\r", b"a<U+000D>"),
+    ("CR CR LF", b"a\r\r\n", b"a<U+000D>\n"),
+    ("VT and FF", b"a\x0bb\x0cc", b"a\nb\nc"),
+    ("CR before VT", b"a\r\x0bb", b"a<U+000D>\nb"),
+    # controls
+    ("NUL, BEL, backspace and SUB", b"a\0b\x07c\x08d\x1ae", b"a<U+0000>b<U+0007>c<U+0008>d<U+001A>e"),
+    ("DEL", b"rm\x7f\x7fls", b"rm<U+007F><U+007F>ls"),
+    ("CSI and OSC as characters", "\u009b8mx\u009d0;t", "<U+009B>8mx<U+009D>0;t"),
+    ("a C1 control as a byte", b"a\x84b\x85", b"a<U+0084>b<U+0085>"),
+    ("sequences, a title and a device control string", b"\x1b[8ma\x1b]0;t\x07\x1bPq#\x1b\\b", b"ab"),
+    ("a broken character", b"a\xe2\x80(", "a\ufffd("),
+    # the order of text
+    ("an override", "if (a\u202e } \u2066// b\u2069", "if (a<U+202E> } <U+2066>// b<U+2069>"),
+    ("embeddings and marks", "\u202aa\u202bb\u202cc\u202dd\u200ee\u200ff\u061c", "<U+202A>a<U+202B>b<U+202C>c<U+202D>d<U+200E>e<U+200F>f<U+061C>"),
+    ("isolates", "\u2067a\u2068b\u2069", "<U+2067>a<U+2068>b<U+2069>"),
+    ("Hebrew without controls", "\u05d0\u05d1 a", "\u05d0\u05d1 a"),
+    # what shows nothing
+    ("tags", "ok\U000e0072\U000e006d\U000e007f\U000e0001", "ok<U+E0072><U+E006D><U+E007F><U+E0001>"),
+    ("a flag of tags", "\U0001f3f4\U000e0067\U000e0062\U000e007f", "\U0001f3f4<U+E0067><U+E0062><U+E007F>"),
+    ("line and paragraph separator", "a\u2028b\u2029c", "a<U+2028>b<U+2029>c"),
+    ("interlinear annotation", "\ufff9a\ufffab\ufffb", "<U+FFF9>a<U+FFFA>b<U+FFFB>"),
+    ("unassigned ones that show nothing", "\ufff0\u2065\U000e0002\U000e0fff", "<U+FFF0><U+2065><U+E0002><U+E0FFF>"),
+    ("a byte order mark", "\ufeffa\ufeff", "<U+FEFF>a<U+FEFF>"),
+    ("word joiner and invisible operators", "a\u2060b\u2061c\u2064", "a<U+2060>b<U+2061>c<U+2064>"),
+    ("a soft hyphen", "pass\u00adword", "pass<U+00AD>word"),
+    ("Hangul fillers", "a\u115f\u1160\u3164\uffa0b", "a<U+115F><U+1160><U+3164><U+FFA0>b"),
+    ("a grapheme joiner, and a mark that shows", "e\u034f\u0301", "e<U+034F>\u0301"),
+    ("controls of music and shorthand", "\U0001d173\U0001bca0", "<U+1D173><U+1BCA0>"),
+    ("blanks, private use and what no font has", "\u00a0\u2003\u3000\u2800\ue0b0\U0010fffd\u0378", "\u00a0\u2003\u3000\u2800\ue0b0\U0010fffd\u0378"),
+    # joiners
+    ("joiners among letters", "a\u200bb\u200cc\u200dd", "a<U+200B>b<U+200C>c<U+200D>d"),
+    ("joiners at the start and the end", "\u200da\u200d", "<U+200D>a<U+200D>"),
+    ("a family", "\U0001f468\u200d\U0001f469\u200d\U0001f467", "\U0001f468\u200d\U0001f469\u200d\U0001f467"),
+    ("a heart on fire", "\u2764\ufe0f\u200d\U0001f525", "\u2764\ufe0f\u200d\U0001f525"),
+    ("a skin tone and a joiner", "\U0001f469\U0001f3fd\u200d\U0001f680", "\U0001f469\U0001f3fd\u200d\U0001f680"),
+    ("two joiners between emoji", "\U0001f468\u200d\u200d\U0001f469", "\U0001f468<U+200D><U+200D>\U0001f469"),
+    ("a joiner behind an emoji alone", "\U0001f468\u200dx", "\U0001f468<U+200D>x"),
+    ("a joiner, a sequence, an emoji", b"\xf0\x9f\x91\xa8\xe2\x80\x8d\x1b[m\xf0\x9f\x91\xa9", "\U0001f468\u200d\U0001f469"),
+    ("selectors", "\u2764\ufe0e\u2764\ufe0fa\ufe0f\ufe00", "\u2764\ufe0e\u2764\ufe0fa<U+FE0F><U+FE00>"),
+    ("a selector behind a selector", "\u2764\ufe0f\ufe0f\u200d\U0001f525", "\u2764\ufe0f<U+FE0F><U+200D>\U0001f525"),
+    ("bytes in selectors", "\U0001f600\U000e0101\U000e01ef", "\U0001f600<U+E0101><U+E01EF>"),
+    ("a keycap, and a digit with a selector", "1\ufe0f\u20e32\ufe0f3", "1\ufe0f\u20e32<U+FE0F>3"),
+    ("Persian", "\u0645\u06cc\u200c\u0634\u0648\u062f", "\u0645\u06cc\u200c\u0634\u0648\u062f"),
+    ("a non-joiner behind a letter that joins none", "\u0627\u200c\u0628", "\u0627<U+200C>\u0628"),
+    ("Devanagari", "\u0915\u094d\u200d\u0937\u094d\u200c\u0915", "\u0915\u094d\u200d\u0937\u094d\u200c\u0915"),
+    ("two joiners behind a virama", "\u094d\u200d\u200d", "\u094d\u200d<U+200D>"),
+    ("Thai", "\u0e01\u200b\u0e02\u200ba", "\u0e01\u200b\u0e02<U+200B>a"),
+    ("Mongolian selectors", "\u1820\u180b\u180e", "\u1820<U+180B><U+180E>"),
+    # what looks as a character that is written visibly
+    ("a forged mark", "<U+202E>", "<U+003C>U+202E>"),
+    ("a mark that is no character", "<U+>", "<U+003C>U+>"),
+    ("a forged mark, in pieces", b"<\x1b[mU\x1b[m+0041>", b"<U+003C>U+0041>"),
+    ("less signs before a mark", "<<U+<U<U+", "<<U+003C>U+<U<U+003C>U+"),
+    ("less signs at the end", "<UL><U", "<UL><U"),
+    ("a less sign before one that shows nothing", "<\u200bU+", "<<U+200B>U+"),
+    ("a less sign before a line feed", b"<\r\nU+", b"<\nU+"),
+    ("a less sign before a joiner that stays", "\u0915\u094d\u200d<U\u094d\u200d", "\u0915\u094d\u200d<U\u094d\u200d"),
+)

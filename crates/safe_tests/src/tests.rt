@@ -1,0 +1,2 @@
+//! Texts, and every public item by its name.
+mod texts;

@@ -1,0 +1,69 @@
+//! Rows that were worked by hand; and reads and writes that fail.
+use anstyle_parse::canon::{CallWriter, Fault, FromRead, FromWrite, Output};
+use anstyle_parse::io::perform_texts_to_end;
+use safe_text::laws::{of_the_class, read_back, safe_length, safe_stays, safe_utf8, whole};
+use safe_text::{SafeWriter, is_shown, write_safe};
+use std::process::Abort;
+use std::test::Fail;
+use test_streams::Tape;
+
+/// What is read, and its safe text. (Many more are rows of tests/safe_rows.py.)
+const ROWS: [(&str, &str); 7] = [
+    ("a<b\t\n", "a<b\t\n"),
+    ("a\r\nb\rc\x07", "a\nb<U+000D>c<U+0007>"),
+    ("a\u{202E}b\u{E0041}", "a<U+202E>b<U+E0041>"),
+    ("<U+0041><U", "<U+003C>U+0041><U"),
+    ("\u{1F468}\u{200D}\u{1F469}a\u{200D}", "\u{1F468}\u{200D}\u{1F469}a<U+200D>"),
+    ("\u{94D}\u{200C}\u{E01}\u{200B}\u{E01}", "\u{94D}\u{200C}\u{E01}\u{200B}\u{E01}"),
+    ("1\u{FE0F}\u{20E3}2\u{FE0E}", "1\u{FE0F}\u{20E3}2<U+FE0E>"),
+];
+
+#[test]
+fn texts(rt: HostRuntime) -> Result<(), Fail> {
+    for (given, text) in ROWS {
+        let mut reader = FromRead::new(Tape::new(given.as_bytes()));
+        let writer = FromWrite::new(Vec::new(rt.alloc()));
+        let (writer, answer) = write_safe(&mut reader, writer);
+        assert_eq!(rt; writer.into_inner().as_slice(), text.as_bytes());
+        assert_eq!(rt; answer, Ok(()));
+    }
+    Ok(())
+}
+
+#[test]
+fn texts_that_come_byte_by_byte(rt: HostRuntime) -> Result<(), Fail> {
+    for (given, text) in ROWS {
+        let mut reader = FromRead::new(Tape::by_byte(given.as_bytes()));
+        let writer = FromWrite::new(Vec::new(rt.alloc()));
+        let (writer, answer) = write_safe(&mut reader, writer);
+        assert_eq!(rt; writer.into_inner().as_slice(), text.as_bytes());
+        assert_eq!(rt; answer, Ok(()));
+    }
+    Ok(())
+}
+
+#[test]
+fn what_waits_is_written_where_a_read_fails(rt: HostRuntime) -> Result<(), Fail> {
+    let mut tape = Tape::by_byte(b"a\rb");
+    tape.fails_at = 3;
+    let mut reader = FromRead::new(tape);
+    let (writer, answer) = write_safe(&mut reader, FromWrite::new(Vec::new(rt.alloc())));
+    assert_eq!(rt; writer.into_inner().as_slice(), b"a<U+000D>".as_slice());
+    assert_eq!(rt; answer, Err(Fault::Read));
+    Ok(())
+}
+
+#[test]
+fn names(rt: HostRuntime) -> Result<(), Fail> {
+    assert!(rt; is_shown('a') && is_shown('\t') && !is_shown('\u{202E}') && !is_shown('\r'));
+    let mut reader = FromRead::new(Tape::new(b"a"));
+    let mut writer = SafeWriter::over(Output::new(FromWrite::new(Vec::new(rt.alloc()))));
+    assert_eq!(rt; perform_texts_to_end(&mut reader, &mut writer), Ok(()));
+    whole();
+    of_the_class();
+    safe_utf8();
+    read_back();
+    safe_stays();
+    safe_length();
+    Ok(())
+}

@@ -39,7 +39,7 @@ a stranger's text to review:
   ansi2text log > log.txt
   make 2>&1 | ansi2text -o build.log
   ansi2text --shown recording
-  ansi2text --safe report
+  ansi2text --safe log
 ";
 
 /// Whether the words ask for safe text.

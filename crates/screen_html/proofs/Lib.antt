@@ -3,3 +3,4 @@ pub mod ShownLemmas
 pub mod HandedLemmas
 pub mod CellLemmas
 pub mod WholeLemmas
+pub mod LastLemmas

@@ -1,6 +1,7 @@
 -- Which URI the number of a link stands for: the screen gives each link of a stream a number, and a table keeps the
 -- URIs of the last 1,024.
-use Rattle.std.specs.Prelude.{ℕ, ◌%◌, ◌&&◌, ◌==◌, not, List, [], replicate, slice_index_or, slice_set, if◌then◌else◌}
+use Rattle.std.specs.Prelude.{◌≡◌, ℕ, ◌+◌, ◌%◌, true, ◌&&◌, ◌==◌, not, List, [], ◌∷◌, replicate, slice_index_or, slice_set, if◌then◌else◌}
+use Rattle.std.specs.List.{AllByRecursion}
 use Rattle.ansi_html.specs.Links.{is_link_command, link_of}
 
 -- a number and its link; the empty list is none
@@ -31,3 +32,11 @@ links_after number parts links =
     if is_link_command parts && not (number == 0)
     then slice_set links (number % most_kept) (kept number (link_of parts))
     else links
+
+-- Commands that each begin a link, and get the numbers from one on, as a screen gives them since its last reset.
+abbrev pub numbered : (first : ℕ) → List (List (List ℕ)) → List Kept → List Kept
+numbered first [] links = links
+numbered first (parts ∷ others) links = numbered (first + 1) others (links_after first parts links)
+
+abbrev pub AreLinkCommands : List (List (List ℕ)) → Type 0
+AreLinkCommands commands = AllByRecursion (λ parts. is_link_command parts ≡ true) commands

@@ -9,3 +9,4 @@ pub mod KeptRowsLemmas
 pub mod TextLemmas
 pub mod ThroughLemmas
 pub mod BoundLemmas
+pub mod PageLemmas

@@ -47,3 +47,9 @@ empty_lines n = replicate n []
 -- EL as ESC [ 2 K makes it
 abbrev pub erase_line : Call
 erase_line = csi_dispatch ((2 ∷ []) ∷ []) [] false 0x4B
+
+-- a line that does not end with a space, which a screen's text leaves out
+abbrev pub HasNoBlankEnd : List ℕ → Type 0
+HasNoBlankEnd [] = ⊤
+HasNoBlankEnd (c ∷ []) = c ≢ 0x20
+HasNoBlankEnd (c ∷ next ∷ line) = HasNoBlankEnd (next ∷ line)

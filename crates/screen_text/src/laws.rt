@@ -5,11 +5,12 @@ ghost use Rattle.anstyle_parse.specs.Stream.Call.{Call};
 ghost use Rattle.anstyle_parse.specs.Stream.Calls.{AreCalls};
 ghost use Rattle.ansi_strip.specs.Strip.{IsClean, stripped};
 ghost use Rattle.ansi_screen.specs.Display.{Display};
-ghost use Rattle.ansi_screen.specs.After.{State, new_state, after_all};
+ghost use Rattle.ansi_screen.specs.After.{State, new_state, after_all, Shows};
 ghost use Rattle.ansi_screen.specs.Reachable.{IsScreen};
-ghost use Rattle.ansi_screen.specs.Laws.{carriage_return, line_feed, erase_rest, printing, text_columns};
+ghost use Rattle.ansi_screen.specs.Laws.{carriage_return, line_feed, erase_rest, printing, text_columns, lines_text, FitsIn};
+ghost use Rattle.ansi_screen.specs.Text.{text_of};
 ghost use Rattle.screen_text.specs.Shown.{given_all, shown_text};
-ghost use Rattle.screen_text.specs.Laws.{most_cell_bytes, erase_line, IsEnded, IsPlain, ArePlain, LastIsNotEmpty, lines_bytes, recorded_bytes, empty_lines};
+ghost use Rattle.screen_text.specs.Laws.{most_cell_bytes, erase_line, IsEnded, IsPlain, ArePlain, LastIsNotEmpty, HasNoBlankEnd, lines_bytes, recorded_bytes, empty_lines};
 
 /// What a new screen showed of any bytes is clean text: UTF-8 with no C0 control but line feeds, and so
 /// without escapes; `ansi_strip` leaves it as it is (`ansi_strip::laws::clean_text`).
@@ -45,6 +46,15 @@ pub fn plain_text()
         → 2 ≤ columns → 1 ≤ rows → ArePlain lines → AllByRecursion IsPlain line → line ≢ []
         → AreCalls (lines_bytes lines ++ flat_map encode_utf8 line) calls
         → shown_text (new_state columns rows) calls ≡ lines_bytes (lines ++ line ∷ []) }
+{}
+
+/// Plain text that has room comes through a screen, as `ansi2screen` writes it: lines with CR LF between them, of
+/// characters of one column each, that end with no space, of which the last is not empty, no longer than the rows of a
+/// new screen and no more than these, are its text, each with a line feed (`ansi_screen::laws::plain_text`).
+pub fn plain_screen()
+    ensures { (columns rows : ℕ) (lines : List (List ℕ)) (new : State) → length lines ≤ rows
+        → AllByRecursion (FitsIn columns) lines → AllByRecursion HasNoBlankEnd lines → LastIsNotEmpty lines
+        → Shows (new_state columns rows) (lines_text lines) new → text_of new.display ≡ lines_bytes lines }
 {}
 
 /// A carriage return before a line feed changes nothing: a stream that was recorded on a terminal shows what the

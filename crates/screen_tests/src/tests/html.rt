@@ -3,6 +3,7 @@ use super::assert_written;
 use ansi_html::{Scheme, Styling};
 use ansi_screen::Screen;
 use anstyle_parse::io::{Fault, FromRead, FromWrite, Output, write_calls_by};
+use screen_html::laws::last_links;
 use screen_html::{HtmlRows, LinkMemory, convert_shown};
 use screen_text::{ShownWriter, WriteRows};
 use std::alloc::{AllocError, Global};
@@ -44,4 +45,10 @@ fn by_classes(rt: HostRuntime) -> Result<(), Fail> {
     let wanted = "<span class=\"ansi-italic\">a&lt;\u{301}\u{6F22}</span>!\n.";
     assert_written(&rt, (writer.into_inner(), answer), wanted.as_bytes());
     Ok(())
+}
+
+// The name of the law.
+#[test]
+fn laws(_rt: HostRuntime) {
+    last_links();
 }

@@ -6,7 +6,7 @@ use ansi_screen::{
 };
 use ansi_style::Style;
 use anstyle_parse::io::{FromRead, FromWrite, Output, write_calls_by};
-use screen_text::laws::{bound, clean, lines, plain_text, returned, rewritten};
+use screen_text::laws::{bound, clean, lines, plain_screen, plain_text, returned, rewritten};
 use screen_text::{NoSize, SHOWN, ShownWriter, TextRows, screen_size, write_shown};
 use std::alloc::{AllocError, Global};
 use std::test::Fail;
@@ -120,6 +120,7 @@ fn laws(_rt: HostRuntime) {
     clean();
     lines();
     plain_text();
+    plain_screen();
     returned();
     rewritten();
     bound();

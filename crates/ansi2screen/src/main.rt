@@ -5,9 +5,9 @@
 mod words;
 
 use ansi_screen::Screen;
-use anstyle_parse::io::{Output, perform_texts_to_end};
+use anstyle_parse::io::Output;
 use each_source::Stopped;
-use screen_draw::{Noting, draw, update_to_end};
+use screen_draw::{Form, Noting, show_to_end, update_to_end};
 use standard_streams::{
     Input, OUTPUT, Target, answered, asked_of, buffered, failed, given_line, misused, value_of,
     wrong_size,
@@ -32,9 +32,13 @@ fn main(rt: HostRuntime) -> ExitCode {
     let Some(size) = named_size(value_of(options, SIZE)) else {
         return wrong_size(&rt, PROGRAM);
     };
-    let draws = asks_to_draw(options);
+    let form = if asks_to_draw(options) {
+        Form::Drawing
+    } else {
+        Form::Text
+    };
     let updates = asks_for_updates(options);
-    if draws && updates {
+    if updates && form == Form::Drawing {
         return misused(&rt, BOTH);
     }
     let Some(name) = named_file(line.files.as_slice()) else {
@@ -59,13 +63,8 @@ fn main(rt: HostRuntime) -> ExitCode {
     let mut output = Output::new(buffered(output));
     let read = match &mut wanted {
         Some(wanted) => update_to_end(&mut reader, &mut screen, wanted, &mut output),
-        None => perform_texts_to_end(&mut reader, &mut screen),
+        None => show_to_end(&mut reader, &mut screen, form, &mut output),
     };
-    if draws {
-        draw(&screen, &mut output);
-    } else if !updates {
-        screen.write_text(&mut output);
-    }
     let (writer, answer) = output.finish();
     target.ended(
         reader.has_failed(),

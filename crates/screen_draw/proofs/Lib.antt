@@ -16,6 +16,8 @@ pub mod RowLemmas
 pub mod NoResetLemmas
 pub mod BoundLemmas
 pub mod UnchangedLemmas
+pub mod CountLemmas
+pub mod TextLemmas
 pub mod UpdatedLemmas
 pub mod ClearedLemmas
 pub mod FrameLemmas

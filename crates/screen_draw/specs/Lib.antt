@@ -8,3 +8,4 @@ pub mod Noting
 pub mod Redrawn
 pub mod Update
 pub mod Updates
+pub mod Showing

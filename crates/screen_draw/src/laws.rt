@@ -1,9 +1,11 @@
 //! Laws of drawing. Each is the contract of a function that does nothing.
-ghost use Rattle.std.specs.Prelude.{◌≡◌, ◌<◌, ℕ, true, List, []};
+ghost use Rattle.std.specs.Prelude.{◌≡◌, ◌<◌, ◌≤◌, ◌+◌, ◌*◌, ℕ, true, List, [], length};
 ghost use Rattle.ansi_screen.specs.After.{State, after_all, Shows};
 ghost use Rattle.ansi_screen.specs.Display.{Display};
 ghost use Rattle.ansi_screen.specs.Reachable.{IsScreen, HasContents};
+ghost use Rattle.ansi_screen.specs.Text.{text_of};
 ghost use Rattle.ansi_style.specs.Style.{HasBytes};
+ghost use Rattle.screen_draw.specs.Bound.{differing_cells, calls_of_cell, calls_of_rest};
 ghost use Rattle.screen_draw.specs.Draw.{drawn_calls};
 ghost use Rattle.screen_draw.specs.Laws.{HasModes};
 ghost use Rattle.screen_draw.specs.Noting.{screen_of, HasNoted, Notes};
@@ -63,6 +65,21 @@ pub fn followed()
         → AreScreens first [] pieces screens → Shows first (joined pieces) (last_of first screens) }
 {}
 
+/// The text of a drawing is the text of the screen (`drawn`): what a drawing can't tell is no part of it. So a terminal
+/// that follows a stream shows the text of the screen that the stream leads to (`followed`): what `--updates` writes of
+/// a stream has the text of the stream.
+pub fn same_text()
+    ensures shown { (d : Display) → text_of (as_shown d) ≡ text_of d }
+    ensures drawn { (drawn : Display) (old : State) → IsScreen drawn → HasContents drawn
+        → old.display.width ≡ drawn.width → old.display.height ≡ drawn.height
+        → text_of (after_all (drawn_calls drawn) old).display ≡ text_of drawn }
+    ensures followed { (first old : State) (pieces : List (List ℕ)) (screens : List State)
+        → IsScreen first.display → HasContents first.display
+        → old.display.width ≡ first.display.width → old.display.height ≡ first.display.height
+        → AreScreens first [] pieces screens
+        → text_of (after_all (followed_calls first screens) old).display ≡ text_of (last_of first screens).display }
+{}
+
 /// What differs from a screen that is shown stays noted: behind calls a `Noting` has the screen that they lead to, and
 /// where all was noted before them in which it differs from what is shown, all is noted behind them.
 pub fn noted()
@@ -72,11 +89,15 @@ pub fn noted()
         → HasNoted old shown → HasNoted new shown }
 {}
 
-/// What is the same is not drawn: nothing of a screen that shows, and no cell that is like the one that stands there.
+/// What is the same is not drawn: nothing of a screen that shows, and no cell that is like the one that stands there,
+/// but for the last character of the cursor's row where a wrap is pending. So where no more differs than cells, the
+/// cursor, margins, DECAWM and DECTCEM, an update has five calls at most for each cell that differs, and nine more.
 pub fn unchanged()
     ensures screen { (shown : Display) → update_calls shown shown ≡ [] }
     ensures cell { (row column : ℕ) (brush : Brush) (old new : Cell) (olds news : List Cell) → are_alike old new ≡ true
         → change_calls row column brush old new olds news ≡ [] }
+    ensures few { (shown wanted : Display) → is_steady shown wanted ≡ true
+        → length (update_calls shown wanted) ≤ calls_of_cell * differing_cells shown wanted + calls_of_rest }
     ensures cursor { (shown : Display) (row column : ℕ)
         → is_steady (record shown { cursor = record shown.cursor { row = row; column = column } }) shown ≡ true
         → shown.cursor.column < shown.width

@@ -20,6 +20,7 @@ pub mod laws;
 mod noting;
 mod places;
 mod rest;
+mod showing;
 mod updates;
 mod whole;
 
@@ -43,6 +44,7 @@ use ansi_screen::Screen;
 use anstyle_parse::io::{Output, Sink};
 use changed::Changed;
 pub use noting::Noting;
+pub use showing::{Form, show_to_end};
 pub use updates::update_to_end;
 use whole::{put_all, put_update};
 
@@ -79,10 +81,11 @@ pub fn draw<W: Sink>(screen: &Screen, output: &mut Output<W>)
 
 /// Writes the bytes that make a terminal which shows one screen show another, of the same size.
 ///
-/// Of cells only those are drawn that differ. Where more differs than cells, margins, the cursor with its style, DECAWM
-/// and DECTCEM, as where the alternate screen comes, all is drawn, without a reset; so it is, unless nothing differs,
-/// where one of them has origin mode, IRM or line drawing, or in the shown one a wrap is pending behind what is erased.
-/// No memory is taken.
+/// Of cells only those are drawn that differ; and where a wrap is to be pending, the last character of the cursor's row
+/// once more, unless the cursor stands there already. Where more differs than cells, margins, the cursor with its
+/// style, DECAWM and DECTCEM, as where the alternate screen comes, all is drawn, without a reset; so it is, unless
+/// nothing differs, where one of them has origin mode, IRM or line drawing, or in the shown one a wrap is pending behind
+/// what is erased. No memory is taken.
 ///
 /// Not drawn is what [`draw`] doesn't draw.
 pub fn update<W: Sink>(shown: &Screen, wanted: &Screen, output: &mut Output<W>)

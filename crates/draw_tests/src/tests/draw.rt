@@ -9,8 +9,10 @@ ghost use Rattle.std.specs.Prelude.{◌≡◌};
 use ansi_screen::{Place, Screen, edits_cells, edits_row, is_shown, moves_alone};
 use anstyle_parse::io::{FromRead, FromWrite, Output, Sink};
 use anstyle_parse::{Parser, Utf8Parser};
-use screen_draw::laws::{followed, forgets, noted, redrawn, selected, unchanged, updated};
-use screen_draw::{Noting, draw, update, update_noted, update_to_end};
+use screen_draw::laws::{
+    followed, forgets, noted, redrawn, same_text, selected, unchanged, updated,
+};
+use screen_draw::{Form, Noting, draw, show_to_end, update, update_noted, update_to_end};
 use std::alloc::{AllocError, AllocGlobal, Global};
 use std::process::Abort;
 use std::test::Fail;
@@ -159,6 +161,41 @@ fn updates_of_a_stream(rt: HostRuntime) -> Result<(), Fail> {
     Ok(())
 }
 
+/// One read is one piece: what a later byte of it writes over is not drawn.
+#[test]
+fn an_update_for_a_read(rt: HostRuntime) -> Result<(), Fail> {
+    let (written, _) = updates_of(&rt, b"X\rY")?;
+    assert!(rt; written.as_slice().ends_with(b"\x1b[?25hY"));
+    Ok(())
+}
+
+/// What a screen shows at the end of a stream.
+fn shown_of(
+    rt: &(impl Abort + AllocGlobal),
+    stream: &[u8],
+    form: Form,
+) -> Result<Vec<u8>, AllocError> {
+    let mut screen = Screen::new(rt.alloc(), 9, 3)?;
+    let mut reader = FromRead::new(stream);
+    let mut output = Output::new(FromWrite::new(Vec::new(rt.alloc())));
+    let read = show_to_end(&mut reader, &mut screen, form, &mut output);
+    assert!(rt; read.is_ok());
+    Ok(bytes_of(rt, output))
+}
+
+/// Its rows as text; and a drawing, which begins with RIS and shows the same rows again.
+#[test]
+fn a_screen_at_the_end(rt: HostRuntime) -> Result<(), Fail> {
+    let stream = b"ab\x08\x1b[1mX\r\nc".as_slice();
+    let text = shown_of(&rt, stream, Form::Text)?;
+    assert_eq!(rt; text.as_slice(), b"aX\nc\n".as_slice());
+    let drawn = shown_of(&rt, stream, Form::Drawing)?;
+    assert!(rt; drawn.as_slice().starts_with(b"\x1bc"));
+    let again = shown_of(&rt, drawn.as_slice(), Form::Text)?;
+    assert_eq!(rt; again.as_slice(), b"aX\nc\n".as_slice());
+    Ok(())
+}
+
 // The names of the laws.
 #[test]
 fn laws(_rt: HostRuntime) {
@@ -169,6 +206,7 @@ fn laws(_rt: HostRuntime) {
     unchanged();
     followed();
     noted();
+    same_text();
 }
 
 /// Writes what a piece of a stream changes, as the page of the crate `screen_draw` shows it: before and behind it both

@@ -19,18 +19,23 @@ PROGRAMS = ansi2text ansi2html ansi2screen parselog
 # those that shells complete the words of
 COMPLETED = $(PROGRAMS)
 # the scripts of tests/
-TESTS = asked browser cells classes contrast costs dist documents install library links packages programs screen_twin vectors
+TESTS = asked browser cells classes contrast costs dist documents install library links packages programs screen_library screen_twin vectors
 # what the library does: each has a header and a manual page of its own
-INTERFACES = ansi_events ansi_html ansi_strip
+INTERFACES = ansi_events ansi_html ansi_screen ansi_strip
 VERSION := $(shell sed -n 's/^pub const VERSION: &str = "\(.*\)";$$/\1/p' crates/standard_streams/src/options.rt)
 MAJOR := $(firstword $(subst ., ,$(VERSION)))
 
 ARCHIVE = crates/ansi/out/libansi.a
 SHARED = crates/ansi/out/libansi.so
+# the screen, a library of its own, since it takes memory; and over malloc and free what it takes memory by, of the kit
+SCREEN_ARCHIVE = crates/ansi_screen_c/out/libansi_screen.a
+SCREEN_SHARED = crates/ansi_screen_c/out/libansi_screen.so
+HEAP = $(dir $(realpath $(shell command -v rt)))../c/liblibc_c.a
 # the Python package; the library that it loads, which stands beside its modules; and what makes its events in C,
 # where this Python can be built for
 PACKAGE = bindings/python/src/ansi_proved
 LOADED = $(PACKAGE)/libansi.so
+SCREEN_LOADED = $(PACKAGE)/libansi_screen.so
 EXTENSION = $(PACKAGE)/_events.abi3.so
 PYTHON_HEADERS := $(shell $(PYTHON) -c 'import os, sysconfig as it; at = it.get_path("include"); \
     print(at if os.path.exists(at + "/Python.h") and not it.get_config_var("Py_GIL_DISABLED") else "")' 2>/dev/null)
@@ -63,7 +68,7 @@ all: programs library
 
 programs: $(BUILT)
 
-library: $(SHARED) $(LOADED) $(PACKAGE)/ansi_events.h $(if $(PYTHON_HEADERS),$(EXTENSION))
+library: $(SHARED) $(LOADED) $(SCREEN_SHARED) $(SCREEN_LOADED) $(PACKAGE)/ansi_events.h $(if $(PYTHON_HEADERS),$(EXTENSION))
 
 ifeq ($(PYTHON_HEADERS),)
 ifneq ($(filter all library install,$(or $(MAKECMDGOALS),all)),)
@@ -86,7 +91,21 @@ $(SHARED): $(ARCHIVE)
 	$(CC) -shared -Wl,-soname,libansi.so.$(MAJOR) -o $@.$$$$ \
 	    -Wl,--whole-archive $(ARCHIVE) -Wl,--no-whole-archive && mv $@.$$$$ $@
 
+# (one object, of which other libraries see the functions of the header alone)
+$(SCREEN_ARCHIVE): $(SOURCES)
+	cd crates/ansi_screen_c && rt lib
+	room=$@.$$$$ && mkdir -p $$room && cd $$room && ar x ../libansi_screen_c.a && ar x $(HEAP) heap.pic.o && ld -r -o made *.o && \
+	    objcopy --wildcard --keep-global-symbol='ansi_screen_*' made screen.o && rm -f made.a && ar rcs made.a screen.o && \
+	    cd $(CURDIR) && mv $$room/made.a $@ && rm -r $$room
+
+$(SCREEN_SHARED): $(SCREEN_ARCHIVE)
+	$(CC) -shared -Wl,-soname,libansi_screen.so.$(MAJOR) -o $@.$$$$ \
+	    -Wl,--whole-archive $(SCREEN_ARCHIVE) -Wl,--no-whole-archive && mv $@.$$$$ $@
+
 $(LOADED): $(SHARED)
+	cp $< $@.$$$$ && mv $@.$$$$ $@
+
+$(SCREEN_LOADED): $(SCREEN_SHARED)
 	cp $< $@.$$$$ && mv $@.$$$$ $@
 
 # (beside the extension, so that setuptools finds it wherever the package's folder goes)
@@ -114,7 +133,7 @@ mutants:
 	$(PYTHON) mutants/try $(CRATE)
 
 # what is installed for no language in particular
-install-native: programs $(SHARED)
+install-native: programs $(SHARED) $(SCREEN_SHARED)
 	$(INSTALL) -d $(BIN) $(LIB)/pkgconfig $(HEADERS) $(MAN)/man1 $(MAN)/man3 $(BASH) $(ZSH) $(FISH)
 	for name in $(PROGRAMS); do \
 	    $(INSTALL) crates/$$name/out/$$name $(BIN)/$$name && \
@@ -133,13 +152,20 @@ install-native: programs $(SHARED)
 	$(INSTALL) $(SHARED) $(LIB)/libansi.so.$(VERSION)
 	ln -sf libansi.so.$(VERSION) $(LIB)/libansi.so.$(MAJOR)
 	ln -sf libansi.so.$(MAJOR) $(LIB)/libansi.so
+	$(INSTALL) -m 644 $(SCREEN_ARCHIVE) $(LIB)/libansi_screen.a
+	$(INSTALL) $(SCREEN_SHARED) $(LIB)/libansi_screen.so.$(VERSION)
+	ln -sf libansi_screen.so.$(VERSION) $(LIB)/libansi_screen.so.$(MAJOR)
+	ln -sf libansi_screen.so.$(MAJOR) $(LIB)/libansi_screen.so
 	sed 's|@PREFIX@|$(PREFIX)|; s|@VERSION@|$(VERSION)|' include/ansi.pc.in > $(LIB)/pkgconfig/ansi.pc
-	chmod 644 $(LIB)/pkgconfig/ansi.pc
+	sed 's|@PREFIX@|$(PREFIX)|; s|@VERSION@|$(VERSION)|' include/ansi_screen.pc.in > $(LIB)/pkgconfig/ansi_screen.pc
+	chmod 644 $(LIB)/pkgconfig/ansi.pc $(LIB)/pkgconfig/ansi_screen.pc
 
 install: all install-native
 	$(INSTALL) -d $(MODULES)
 	for name in $(SOURCES_OF_PACKAGE); do $(INSTALL) -m 644 $(PACKAGE)/$$name $(MODULES)/$$name || exit 1; done
-	ln -sf "$$(realpath --relative-to=$(MODULES) $(LIB))/libansi.so.$(MAJOR)" $(MODULES)/$(notdir $(LOADED))
+	for name in ansi ansi_screen; do \
+	    ln -sf "$$(realpath --relative-to=$(MODULES) $(LIB))/lib$$name.so.$(MAJOR)" $(MODULES)/lib$$name.so || exit 1; \
+	done
 	$(if $(PYTHON_HEADERS),$(INSTALL) $(EXTENSION) $(MODULES)/$(notdir $(EXTENSION)))
 	@$(PYTHON) -c '$(LOOKS_IN) \
 	    given in known or print("$(PYTHON) does not look in %s: PYTHONPATH has to name it." % given)' $(MODULES_IN)
@@ -148,9 +174,11 @@ uninstall:
 	for name in $(PROGRAMS); do rm -f $(BIN)/$$name $(MAN)/man1/$$name.1; done
 	for name in $(COMPLETED); do rm -f $(BASH)/$$name $(ZSH)/_$$name $(FISH)/$$name.fish; done
 	for name in $(INTERFACES); do rm -f $(HEADERS)/$$name.h $(MAN)/man3/$$name.3; done
-	rm -f $(LIB)/libansi.a $(LIB)/pkgconfig/ansi.pc
-	rm -f $(LIB)/libansi.so $(LIB)/libansi.so.$(MAJOR) $(LIB)/libansi.so.$(VERSION)
-	for name in $(SOURCES_OF_PACKAGE) $(notdir $(LOADED) $(EXTENSION)); do rm -f $(MODULES)/$$name; done
+	for name in ansi ansi_screen; do \
+	    rm -f $(LIB)/lib$$name.a $(LIB)/pkgconfig/$$name.pc $(LIB)/lib$$name.so $(LIB)/lib$$name.so.$(MAJOR); \
+	    rm -f $(LIB)/lib$$name.so.$(VERSION); \
+	done
+	for name in $(SOURCES_OF_PACKAGE) $(notdir $(LOADED) $(SCREEN_LOADED) $(EXTENSION)); do rm -f $(MODULES)/$$name; done
 	rm -rf $(MODULES)/__pycache__
 	if [ -d $(MODULES) ]; then rmdir --ignore-fail-on-non-empty $(MODULES); fi
 

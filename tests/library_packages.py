@@ -151,6 +151,7 @@ def stub_cases():
     functions = [it for it in told if isinstance(it, ast.FunctionDef)]
     events = {name.asname for it in told if isinstance(it, ast.ImportFrom) and it.module == "event" for name in it.names}
     names = {it.name for it in functions} | {it.target.id for it in told if isinstance(it, ast.AnnAssign)} | events
+    names |= {name.asname for it in told if isinstance(it, ast.ImportFrom) and it.module == "screen" for name in it.names}
     wrong = names ^ {*ansi.__all__, "__version__"}
     yield "Python: types are told of each public name", "not so of %s" % sorted(wrong) if wrong else None
     for it in functions:

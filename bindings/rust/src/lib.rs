@@ -18,6 +18,8 @@
 //! assert_eq!(titles.collect::<Vec<_>>(), [b"title"]);
 //! ```
 //!
+//! With the feature `screen` there is a screen of a terminal too: `screen::Screen`, of a library of its own.
+//!
 //! What is not called is not linked. No `std` is needed, but an allocator: `Stripper` and `Converter` take no memory.
 #![no_std]
 
@@ -26,6 +28,9 @@ extern crate alloc;
 use alloc::string::String;
 use alloc::vec::{self, Vec};
 use core::convert::Infallible;
+
+#[cfg(feature = "screen")]
+pub mod screen;
 
 #[derive(Clone, Debug)]
 #[repr(C)]

@@ -4,6 +4,7 @@ from typing import Dict, Iterable, Iterator, Union, overload
 
 from .event import Csi as Csi, Esc as Esc, Execute as Execute, Hook as Hook, Osc as Osc, Put as Put, Text as Text
 from .event import Unhook as Unhook
+from .screen import Screen as Screen
 
 _Bytes = Union[bytes, bytearray, memoryview]
 

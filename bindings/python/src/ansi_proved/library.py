@@ -1,33 +1,32 @@
-"""The shared library: where it is, how its functions are called, and what may be given to them."""
+"""The shared libraries: where they are, how its functions are called, and what may be given to them."""
 
 import ctypes
 import os
 
 FEW = 1024  # bytes of a whole that goes through what an earlier one went through
-VARIABLE = "ANSI_LIBRARY"  # names another library in place of this
-PLACE = os.path.join(os.path.dirname(os.path.abspath(__file__)), "libansi.so")
+FOLDER = os.path.dirname(os.path.abspath(__file__))
 
 
-def load():
-    """The library that stands beside this file, or that the variable names; or an ImportError in words."""
-    named = os.environ.get(VARIABLE)
-    if not named and not os.path.exists(PLACE):
-        raise ImportError("libansi.so is not at %s: `make library` puts it there, or %s names it" % (PLACE, VARIABLE))
+def load(file, variable):
+    """The library that stands beside this module, or that the variable names; or an ImportError in words."""
+    named, place = os.environ.get(variable), os.path.join(FOLDER, file)
+    if not named and not os.path.exists(place):
+        raise ImportError("%s is not at %s: `make library` puts it there, or %s names it" % (file, place, variable))
     try:
-        return ctypes.CDLL(named or PLACE)
+        return ctypes.CDLL(named or place)
     except OSError as error:
-        which = "the library that %s names" % VARIABLE if named else "the library"
+        which = "the library that %s names" % variable if named else "the library"
         raise ImportError("%s cannot be loaded: %s" % (which, error)) from error
 
 
-LIBRARY = load()
+LIBRARY = load("libansi.so", "ANSI_LIBRARY")
 
 
-def function(name, answer, *kinds):
-    """A function of the library, with the types of its answer and of what it takes."""
-    found = getattr(LIBRARY, name, None)
+def function(name, answer, *kinds, library=LIBRARY):
+    """A function of a library, with the types of its answer and of what it takes."""
+    found = getattr(library, name, None)
     if found is None:
-        raise ImportError("the library %s has no %s: it is an older one" % (LIBRARY._name, name))
+        raise ImportError("the library %s has no %s: it is an older one" % (library._name, name))
     found.restype, found.argtypes = answer, kinds
     return found
 

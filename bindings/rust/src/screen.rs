@@ -1,0 +1,397 @@
+//! A terminal's screen: what xterm shows after any bytes, as far as cells, styles, the cursor and modes go.
+//!
+//! ```
+//! use ansi_proved::screen::Screen;
+//!
+//! let mut screen = Screen::new(80, 24).unwrap();
+//! screen.feed(b"one\r\n\x1b[1mtw");
+//! screen.feed(b"o");
+//! assert_eq!(screen.text(), "one\ntwo\n");
+//! assert!(screen.cell(1, 0).unwrap().style.bold);
+//! ```
+//!
+//! Its library takes memory by `malloc`, in [`Screen::new`] alone.
+
+use alloc::string::String;
+use alloc::vec::{self, Vec};
+use core::ffi::c_void;
+use core::fmt;
+
+#[repr(C)]
+struct Handle {
+    held: *mut c_void,
+}
+
+#[repr(C)]
+#[derive(Clone, Copy, Default)]
+struct ColorBytes {
+    kind: u8,
+    values: [u8; 3],
+}
+
+#[repr(C)]
+#[derive(Clone, Copy, Default)]
+struct StyleBytes {
+    foreground: ColorBytes,
+    background: ColorBytes,
+    underline: u8,
+    attributes: [u8; 8],
+}
+
+#[repr(C)]
+#[derive(Clone, Copy, Default)]
+struct CellBytes {
+    character: u32,
+    marks: [u32; 2],
+    link: u32,
+    style: StyleBytes,
+    mark_count: u8,
+    part: u8,
+    goes_on: u8,
+}
+
+#[repr(C)]
+#[derive(Default)]
+struct ModeBytes {
+    modes: [u8; 5],
+    reserved: [u8; 11],
+}
+
+#[link(name = "ansi_screen", kind = "static")]
+unsafe extern "C" {
+    fn ansi_screen_open(screen: *mut Handle, columns: usize, rows: usize) -> bool;
+
+    fn ansi_screen_close(screen: *mut Handle);
+
+    fn ansi_screen_reset(screen: *mut Handle) -> bool;
+
+    fn ansi_screen_feed(screen: *mut Handle, piece: *const u8, count: usize) -> bool;
+
+    fn ansi_screen_cursor(screen: *mut Handle, row: *mut usize, column: *mut usize) -> bool;
+
+    fn ansi_screen_style(screen: *mut Handle, style: *mut StyleBytes) -> bool;
+
+    fn ansi_screen_modes(screen: *mut Handle, modes: *mut ModeBytes) -> bool;
+
+    fn ansi_screen_row(
+        screen: *mut Handle,
+        row: usize,
+        cells: *mut CellBytes,
+        count: usize,
+    ) -> bool;
+
+    fn ansi_screen_row_text(
+        screen: *mut Handle,
+        row: usize,
+        room: *mut u8,
+        size: usize,
+        written: *mut usize,
+    ) -> bool;
+
+    fn ansi_screen_text(
+        screen: *mut Handle,
+        room: *mut u8,
+        size: usize,
+        written: *mut usize,
+    ) -> bool;
+
+    fn ansi_screen_cell(
+        screen: *mut Handle,
+        row: usize,
+        column: usize,
+        cell: *mut CellBytes,
+    ) -> bool;
+}
+
+/// A colour.
+#[derive(Clone, Copy, Debug, Default, PartialEq, Eq, Hash)]
+pub enum Color {
+    /// The terminal's own.
+    #[default]
+    Default,
+    /// One of the eight, by its number: black, red, green, yellow, blue, magenta, cyan, white.
+    Named(u8),
+    /// The same in bright.
+    Bright(u8),
+    /// One of xterm's 256.
+    Indexed(u8),
+    /// By its red, green and blue.
+    Direct(u8, u8, u8),
+}
+
+/// How text is underlined.
+#[derive(Clone, Copy, Debug, Default, PartialEq, Eq, Hash)]
+pub enum Underline {
+    #[default]
+    Off,
+    Single,
+    Double,
+    Curly,
+    Dotted,
+    Dashed,
+}
+
+/// How text is shown.
+#[derive(Clone, Copy, Debug, Default, PartialEq, Eq, Hash)]
+#[non_exhaustive]
+pub struct Style {
+    pub foreground: Color,
+    pub background: Color,
+    pub underline: Underline,
+    pub bold: bool,
+    pub dim: bool,
+    pub italic: bool,
+    pub blink: bool,
+    /// Foreground and background change places.
+    pub reverse: bool,
+    pub hidden: bool,
+    pub struck_out: bool,
+    pub overlined: bool,
+}
+
+/// How much of a character a cell has.
+#[derive(Clone, Copy, Debug, Default, PartialEq, Eq, Hash)]
+pub enum Part {
+    /// Nothing was printed there, or it is erased: the character is a space.
+    #[default]
+    Empty,
+    Whole,
+    /// The left half of a wide character, which has it.
+    Left,
+    /// Its right half, whose character is a space.
+    Right,
+}
+
+/// What one place of a screen shows.
+#[derive(Clone, Copy, Debug, Default, PartialEq, Eq, Hash)]
+#[non_exhaustive]
+pub struct Cell {
+    pub character: char,
+    /// The characters of no column that came after it, from the first on.
+    pub marks: [Option<char>; 2],
+    pub style: Style,
+    pub part: Part,
+    /// A number for each link (OSC 8) since the last reset; 0 for none.
+    pub link: u32,
+    /// Autowrap went on from this cell, the last of its row, to the next row: both are one line.
+    pub goes_on: bool,
+}
+
+/// Where the cursor is, counted from 0. Its column is the number of columns where a wrap is pending.
+#[derive(Clone, Copy, Debug, PartialEq, Eq, Hash)]
+pub struct Place {
+    pub row: usize,
+    pub column: usize,
+}
+
+/// Modes of the screen.
+#[derive(Clone, Copy, Debug, PartialEq, Eq, Hash)]
+#[non_exhaustive]
+pub struct Modes {
+    pub cursor_shown: bool,
+    pub alternate_screen: bool,
+    pub autowrap: bool,
+    pub insert: bool,
+    pub origin: bool,
+}
+
+/// There is no screen of that size, or no memory for it.
+#[derive(Clone, Copy, Debug, PartialEq, Eq)]
+pub struct CannotOpen;
+
+impl fmt::Display for CannotOpen {
+    fn fmt(&self, formatter: &mut fmt::Formatter<'_>) -> fmt::Result {
+        formatter.write_str("a screen has 2 to 1000 columns and 1 to 1000 rows, and needs memory")
+    }
+}
+
+impl core::error::Error for CannotOpen {}
+
+/// A terminal's screen, which shows what the bytes lead to that it is fed.
+pub struct Screen {
+    handle: Handle,
+    columns: usize,
+    rows: usize,
+}
+
+// What it holds is its own, and no call keeps anything elsewhere. (Reading writes to the handle, so that two threads may
+// not read it at once: it is not `Sync`, and each method takes `&mut self`.)
+unsafe impl Send for Screen {}
+
+impl Screen {
+    /// A blank one of so many columns (2 to 1000) and rows (1 to 1000).
+    pub fn new(columns: usize, rows: usize) -> Result<Screen, CannotOpen> {
+        let mut handle = Handle {
+            held: core::ptr::null_mut(),
+        };
+        if !unsafe { ansi_screen_open(&mut handle, columns, rows) } {
+            return Err(CannotOpen);
+        }
+        Ok(Screen {
+            handle,
+            columns,
+            rows,
+        })
+    }
+
+    pub fn columns(&self) -> usize {
+        self.columns
+    }
+
+    pub fn rows(&self) -> usize {
+        self.rows
+    }
+
+    /// Takes the next bytes of the stream, cut anywhere.
+    pub fn feed(&mut self, piece: &[u8]) {
+        unsafe { ansi_screen_feed(&mut self.handle, piece.as_ptr(), piece.len()) };
+    }
+
+    /// Makes it a blank screen of its size, at the beginning of a stream.
+    pub fn reset(&mut self) {
+        unsafe { ansi_screen_reset(&mut self.handle) };
+    }
+
+    pub fn cursor(&mut self) -> Place {
+        let (mut row, mut column) = (0, 0);
+        unsafe { ansi_screen_cursor(&mut self.handle, &mut row, &mut column) };
+        Place { row, column }
+    }
+
+    /// The style of the character that comes next.
+    pub fn style(&mut self) -> Style {
+        let mut bytes = StyleBytes::default();
+        unsafe { ansi_screen_style(&mut self.handle, &mut bytes) };
+        style_of(bytes)
+    }
+
+    pub fn modes(&mut self) -> Modes {
+        let mut bytes = ModeBytes::default();
+        unsafe { ansi_screen_modes(&mut self.handle, &mut bytes) };
+        let [cursor_shown, alternate_screen, autowrap, insert, origin] =
+            bytes.modes.map(|mode| mode != 0);
+        Modes {
+            cursor_shown,
+            alternate_screen,
+            autowrap,
+            insert,
+            origin,
+        }
+    }
+
+    /// The cell of a row and a column, counted from 0; `None` outside of the screen.
+    pub fn cell(&mut self, row: usize, column: usize) -> Option<Cell> {
+        let mut bytes = CellBytes::default();
+        let is_there = unsafe { ansi_screen_cell(&mut self.handle, row, column, &mut bytes) };
+        is_there.then(|| cell_of(bytes))
+    }
+
+    /// The cells of a row, counted from 0. There are none where there is no such row.
+    pub fn row(&mut self, row: usize) -> impl Iterator<Item = Cell> {
+        let mut cells: Vec<CellBytes> = vec::from_elem(CellBytes::default(), self.columns);
+        let is_there =
+            unsafe { ansi_screen_row(&mut self.handle, row, cells.as_mut_ptr(), cells.len()) };
+        if !is_there {
+            cells.clear();
+        }
+        cells.into_iter().map(cell_of)
+    }
+
+    /// The text of a row, counted from 0, without the blanks at its end; empty where there is no such row.
+    pub fn row_text(&mut self, row: usize) -> String {
+        self.read(|handle, room, written| unsafe {
+            ansi_screen_row_text(handle, row, room.as_mut_ptr(), room.len(), written)
+        })
+    }
+
+    /// All text: each row without the blanks at its end, and a line feed, without the blank rows at the end.
+    pub fn text(&mut self) -> String {
+        self.read(|handle, room, written| unsafe {
+            ansi_screen_text(handle, room.as_mut_ptr(), room.len(), written)
+        })
+    }
+
+    /// Reads text by a call, which says how many bytes there are where the room has too few.
+    fn read(&mut self, call: impl Fn(*mut Handle, &mut [u8], &mut usize) -> bool) -> String {
+        let mut room = Vec::new();
+        let mut written = 0;
+        while !call(&mut self.handle, &mut room, &mut written) && written > 0 {
+            room.resize(written, 0);
+        }
+        room.truncate(written);
+        // (what the library writes is UTF-8)
+        String::from_utf8(room).unwrap_or_default()
+    }
+}
+
+impl Drop for Screen {
+    fn drop(&mut self) {
+        unsafe { ansi_screen_close(&mut self.handle) };
+    }
+}
+
+impl fmt::Debug for Screen {
+    fn fmt(&self, formatter: &mut fmt::Formatter<'_>) -> fmt::Result {
+        write!(formatter, "Screen({}x{})", self.columns, self.rows)
+    }
+}
+
+fn color_of(bytes: ColorBytes) -> Color {
+    let [first, second, third] = bytes.values;
+    match bytes.kind {
+        1 => Color::Named(first),
+        2 => Color::Bright(first),
+        3 => Color::Indexed(first),
+        4 => Color::Direct(first, second, third),
+        _ => Color::Default,
+    }
+}
+
+fn style_of(bytes: StyleBytes) -> Style {
+    let [bold, dim, italic, blink, reverse, hidden, struck_out, overlined] =
+        bytes.attributes.map(|attribute| attribute != 0);
+    Style {
+        foreground: color_of(bytes.foreground),
+        background: color_of(bytes.background),
+        underline: match bytes.underline {
+            1 => Underline::Single,
+            2 => Underline::Double,
+            3 => Underline::Curly,
+            4 => Underline::Dotted,
+            5 => Underline::Dashed,
+            _ => Underline::Off,
+        },
+        bold,
+        dim,
+        italic,
+        blink,
+        reverse,
+        hidden,
+        struck_out,
+        overlined,
+    }
+}
+
+fn cell_of(bytes: CellBytes) -> Cell {
+    let mark = |place: u8| {
+        (place < bytes.mark_count).then(|| char_of(bytes.marks[usize::from(place)]))
+    };
+    Cell {
+        character: char_of(bytes.character),
+        marks: [mark(0), mark(1)],
+        style: style_of(bytes.style),
+        part: match bytes.part {
+            1 => Part::Whole,
+            2 => Part::Left,
+            3 => Part::Right,
+            _ => Part::Empty,
+        },
+        link: bytes.link,
+        goes_on: bytes.goes_on != 0,
+    }
+}
+
+/// (What the library writes is a character.)
+fn char_of(number: u32) -> char {
+    char::from_u32(number).unwrap_or(char::REPLACEMENT_CHARACTER)
+}

@@ -1,0 +1,4 @@
+pub mod Styles
+pub mod Cells
+pub mod Text
+pub mod Terminal

@@ -1,0 +1,61 @@
+-- What the bytes of a style say. Any bytes are a style.
+use Rattle.std.specs.Prelude.{ℕ, Bool, not, List, [], ◌∷◌, ◌==◌, if◌then◌else◌}
+use Rattle.ansi_style.specs.declared.style.Color.{Color}
+use Rattle.ansi_style.specs.declared.style.Color.TheVariants.{Default, Named, Bright, Indexed, Direct}
+use Rattle.ansi_style.specs.declared.style.Underline.{Underline}
+use Rattle.ansi_style.specs.declared.style.Underline.TheVariants.{Off, Single, Double, Curly, Dotted, Dashed}
+use Rattle.ansi_style.specs.declared.style.Style.{Style}
+use Rattle.ansi_style.specs.Style.{hue_at}
+use Rattle.screen_pieces.specs.declared.style.ColorBytes.{ColorBytes}
+use Rattle.screen_pieces.specs.declared.style.StyleBytes.{StyleBytes}
+
+-- the first byte of a list, and what is behind it
+abbrev pub first_of : List ℕ → ℕ
+first_of [] = 0
+first_of (b ∷ bytes) = b
+
+abbrev pub behind : List ℕ → List ℕ
+behind [] = []
+behind (b ∷ bytes) = bytes
+
+-- a colour by its kind and its numbers; any other kind is the terminal's own
+abbrev pub color_by : (kind : ℕ) → (first second third : ℕ) → Color
+color_by kind first second third =
+    if kind == 1 then Named (hue_at first)
+    else if kind == 2 then Bright (hue_at first)
+    else if kind == 3 then Indexed first
+    else if kind == 4 then Direct first second third
+    else Default
+
+abbrev pub color_of : ColorBytes → Color
+color_of bytes =
+    color_by bytes.kind (first_of bytes.values) (first_of (behind bytes.values)) (first_of (behind (behind bytes.values)))
+
+-- any other number is none
+abbrev pub underline_of : ℕ → Underline
+underline_of number =
+    if number == 1 then Single
+    else if number == 2 then Double
+    else if number == 3 then Curly
+    else if number == 4 then Dotted
+    else if number == 5 then Dashed
+    else Off
+
+-- 0 is not, any other number is
+abbrev pub is_set : ℕ → Bool
+is_set number = not (number == 0)
+
+abbrev pub style_of : StyleBytes → Style
+style_of bytes = record {
+  foreground = color_of bytes.foreground;
+  background = color_of bytes.background;
+  underline = underline_of bytes.underline;
+  bold = is_set bytes.bold;
+  dim = is_set bytes.dim;
+  italic = is_set bytes.italic;
+  blink = is_set bytes.blink;
+  reverse = is_set bytes.reverse;
+  hidden = is_set bytes.hidden;
+  struck_out = is_set bytes.struck_out;
+  overlined = is_set bytes.overlined;
+}

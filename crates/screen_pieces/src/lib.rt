@@ -1,0 +1,17 @@
+//! A terminal's screen that takes its stream in pieces, and its cells as plain records.
+//!
+//! A [`Terminal`] is a parser and the screen that it leads to. [`Terminal::feed`] takes the next bytes, cut anywhere.
+//! What it shows is read as records of plain bytes, of which any are valid, and as text.
+#![tactic(auto)]
+
+mod cell;
+mod modes;
+mod reading;
+mod style;
+mod terminal;
+mod text;
+
+pub use cell::CellBytes;
+pub use modes::{ModeBytes, RESERVED_MODES};
+pub use style::{ColorBytes, StyleBytes};
+pub use terminal::Terminal;

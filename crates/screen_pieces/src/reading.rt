@@ -1,0 +1,121 @@
+//! What a screen shows, as plain records and as text.
+ghost use Rattle.std.specs.Prelude.{◌≡◌, ◌≤◌, ◌⊎◌, IfOk, IfErr, IfSome, IfNone};
+ghost use Rattle.std.specs.Bool.{OnTrue, OnFalse};
+ghost use Rattle.ansi_screen.specs.Text.{text_of};
+ghost use Rattle.screen_pieces.specs.Styles.{style_of};
+ghost use Rattle.screen_pieces.specs.Text.{HasText, LacksRoom, text_of_row, text_of_part};
+
+use crate::cell::{CellBytes, put_cells};
+use crate::modes::ModeBytes;
+use crate::style::StyleBytes;
+use crate::terminal::Terminal;
+use crate::text::TextWriter;
+
+impl Terminal {
+    ghost use Rattle.screen_pieces.specs.Terminal.{display_of, HasCell, HasRow, HasModes};
+
+    /// How many columns and rows it has.
+    pub fn size(&self) -> (usize, usize)
+        ensures columns { result.0 ≡ (display_of self.now).width }
+        ensures rows { result.1 ≡ (display_of self.now).height }
+    {
+        (self.screen.columns(), self.screen.rows())
+    }
+
+    /// The row and the column of the cursor, counted from 0. The column is the number of columns where the last one was
+    /// printed and a wrap is pending.
+    pub fn cursor(&self) -> (usize, usize)
+        ensures row { result.0 ≡ (display_of self.now).cursor.row }
+        ensures column { result.1 ≡ (display_of self.now).cursor.column }
+    {
+        let place = self.screen.cursor();
+        (place.row, place.column)
+    }
+
+    /// The style of what comes next.
+    pub fn style(&self) -> StyleBytes
+        ensures { style_of result ≡ (display_of self.now).cursor.style }
+    {
+        StyleBytes::of(self.screen.cursor().style)
+    }
+
+    /// Its modes.
+    pub fn modes(&self) -> ModeBytes
+        ensures { HasModes result (display_of self.now) }
+    {
+        ModeBytes::of(&self.screen)
+    }
+
+    /// The cell of a row and a column, counted from 0; `None` outside of the screen.
+    pub fn cell(&self, row: usize, column: usize) -> Option<CellBytes>
+        ensures none { IfNone result (((display_of self.now).height ≤ row) ⊎ ((display_of self.now).width ≤ column)) }
+        ensures cell { IfSome result (λ bytes. HasCell row column bytes self.now) }
+    {
+        if self.screen.rows() <= row || self.screen.columns() <= column {
+            return None;
+        }
+        let cells = self.screen.row(row);
+        Some(CellBytes::of(cells[column]))
+    }
+
+    /// Writes the cells of a row, counted from 0, to the front of the room; false, where there is no such row or
+    /// the room has fewer cells than the screen columns, and nothing is written.
+    pub fn put_row(&self, row: usize, room: &mut [CellBytes]) -> bool
+        ensures row { OnTrue result (HasRow row room.old room.new self.now) }
+        ensures refused { OnFalse result (room.new ≡ room.old) }
+    {
+        if self.screen.rows() <= row || room.len() < self.screen.columns() {
+            return false;
+        }
+        put_cells(self.screen.row(row), room);
+        true
+    }
+
+    /// Writes the text of a row, counted from 0, without the blanks at its end to the front of the room, and answers how
+    /// many bytes it has. `Err` has 0 where there is no such row, and else how many bytes the text has, which the room
+    /// has not; then what stands in the room does not count.
+    pub fn row_text(&self, row: usize, room: &mut [u8]) -> Result<usize, usize>
+        ensures text { IfOk result (HasText (text_of_row row (display_of self.now)) room.old room.new) }
+        ensures refused { IfErr result
+            (λ needed. (needed ≡ 0) ⊎ LacksRoom (text_of_row row (display_of self.now)) room.old needed) }
+    {
+        if self.screen.rows() <= row {
+            return Err(0);
+        }
+        let mut writer = TextWriter::new(room);
+        writer.put_row(self.screen.row(row));
+        writer.answer()
+    }
+
+    /// The same with the cells of a row from the column `start` up to the column `end`, blanks too. `Err` also has 0 where
+    /// there are no such columns.
+    pub fn part_text(
+        &self,
+        row: usize,
+        start: usize,
+        end: usize,
+        room: &mut [u8],
+    ) -> Result<usize, usize>
+        ensures text { IfOk result (HasText (text_of_part row start end (display_of self.now)) room.old room.new) }
+        ensures refused { IfErr result
+            (λ needed. (needed ≡ 0) ⊎ LacksRoom (text_of_part row start end (display_of self.now)) room.old needed) }
+    {
+        if self.screen.rows() <= row || end < start || self.screen.columns() < end {
+            return Err(0);
+        }
+        let mut writer = TextWriter::new(room);
+        writer.put_cells(&self.screen.row(row)[start..end]);
+        writer.answer()
+    }
+
+    /// The same with all of the screen: each row without the blanks at its end, and a line feed, without the blank rows at
+    /// the end.
+    pub fn text(&self, room: &mut [u8]) -> Result<usize, usize>
+        ensures text { IfOk result (HasText (text_of (display_of self.now)) room.old room.new) }
+        ensures refused { IfErr result (LacksRoom (text_of (display_of self.now)) room.old) }
+    {
+        let mut writer = TextWriter::new(room);
+        writer.put_screen(&self.screen);
+        writer.answer()
+    }
+}

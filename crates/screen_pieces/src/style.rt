@@ -1,0 +1,91 @@
+//! Styles in plain bytes, of which any are valid.
+ghost use Rattle.std.specs.Prelude.{◌≡◌};
+ghost use Rattle.screen_pieces.specs.Styles.{color_of, underline_of, is_set, style_of};
+
+use ansi_style::{Color, Style, Underline};
+
+/// A colour.
+#[repr(C)]
+#[derive(Clone, Copy)]
+pub struct ColorBytes {
+    /// 1 one of the eight, 2 the same in bright, 3 one of the 256, 4 by its red, green and blue;
+    /// any other number is the terminal's own.
+    pub kind: u8,
+    /// Its number, or its red, green and blue. A number above 7 of one of the eight is 7.
+    pub values: [u8; 3],
+}
+
+/// A style.
+#[repr(C)]
+#[derive(Clone, Copy)]
+pub struct StyleBytes {
+    pub foreground: ColorBytes,
+    pub background: ColorBytes,
+    /// 1 single, 2 double, 3 curly, 4 dotted, 5 dashed; any other number is none.
+    pub underline: u8,
+    /// 0 is not, and any other number is, here and below.
+    pub bold: u8,
+    pub dim: u8,
+    pub italic: u8,
+    pub blink: u8,
+    pub reverse: u8,
+    pub hidden: u8,
+    pub struck_out: u8,
+    pub overlined: u8,
+}
+
+impl ColorBytes {
+    pub(crate) fn of(color: Color) -> ColorBytes
+        ensures { color_of result ≡ color }
+    {
+        let (kind, values) = match color {
+            Color::Default => (0, [0, 0, 0]),
+            Color::Named(hue) => (1, [hue as u8, 0, 0]),
+            Color::Bright(hue) => (2, [hue as u8, 0, 0]),
+            Color::Indexed(number) => (3, [number, 0, 0]),
+            Color::Direct(red, green, blue) => (4, [red, green, blue]),
+        };
+        ColorBytes { kind, values }
+    }
+}
+
+/// The number of an underline.
+fn underline_number(underline: Underline) -> u8
+    ensures { underline_of result ≡ underline }
+{
+    match underline {
+        Underline::Off => 0,
+        Underline::Single => 1,
+        Underline::Double => 2,
+        Underline::Curly => 3,
+        Underline::Dotted => 4,
+        Underline::Dashed => 5,
+    }
+}
+
+/// The number of an attribute.
+pub(crate) fn flag(is: bool) -> u8
+    ensures { is_set result ≡ is }
+{
+    u8::from(is)
+}
+
+impl StyleBytes {
+    pub(crate) fn of(style: Style) -> StyleBytes
+        ensures { style_of result ≡ style }
+    {
+        StyleBytes {
+            foreground: ColorBytes::of(style.foreground),
+            background: ColorBytes::of(style.background),
+            underline: underline_number(style.underline),
+            bold: flag(style.bold),
+            dim: flag(style.dim),
+            italic: flag(style.italic),
+            blink: flag(style.blink),
+            reverse: flag(style.reverse),
+            hidden: flag(style.hidden),
+            struck_out: flag(style.struck_out),
+            overlined: flag(style.overlined),
+        }
+    }
+}

@@ -1,0 +1,141 @@
+//! The text of cells, in the caller's room.
+ghost use Rattle.std.specs.Prelude.{◌≡◌, ◌<◌, ◌≤◌, ◌⊎◌, ◌∷◌, [], length, encode_utf8, IfOk, IfErr};
+ghost use Rattle.std.specs.List.{flat_map};
+ghost use Rattle.ansi_screen.specs.Text.{cell_text, marks_text, row_text, text_of};
+
+use ansi_screen::{Cell, LeftOut, Marks, Screen, used};
+
+/// Puts text into a room that is lent to it, as far as it fits, and counts all of it.
+#[derive(Drop)]
+pub(crate) struct TextWriter<'a> {
+    into: &'a mut [u8],
+    needed: usize,
+}
+
+impl<'a> TextWriter<'a> {
+    ghost use Rattle.screen_pieces.specs.Text.{most_length, Puts};
+
+    pub(crate) fn new(into: &'a mut [u8]) -> TextWriter<'a>
+        ensures same_reference { result.into.ghost_name ≡ into.entry.ghost_name }
+        ensures bytes { result.into.now ≡ into.old }
+        ensures nothing { result.needed ≡ 0 }
+    {
+        TextWriter { into, needed: 0 }
+    }
+
+    /// How many bytes all of it takes: as an error, where it does not fit.
+    pub(crate) fn answer(&self) -> Result<usize, usize>
+        ensures told { IfOk result (λ told. told ≡ self.now.needed) }
+        ensures low { IfOk result (λ told. told < most_length) }
+        ensures fits { IfOk result (λ told. told ≤ length self.now.into.now) }
+        ensures lacking { IfErr result (λ told. told ≡ self.now.needed) }
+        ensures little_room { IfErr result (λ told. (length self.now.into.now < told) ⊎ (most_length ≤ told)) }
+    {
+        if self.needed == usize::MAX || self.into.len() < self.needed {
+            Err(self.needed)
+        } else {
+            Ok(self.needed)
+        }
+    }
+
+    /// One byte more.
+    #[inline]
+    fn put_byte(&mut self, byte: u8)
+        ensures { Puts (byte ∷ []) self.old self.new }
+    {
+        if self.needed < self.into.len() {
+            self.into[self.needed] = byte;
+        }
+        self.needed = self.needed.saturating_add(1);
+    }
+
+    /// Several bytes more.
+    fn put_bytes(&mut self, bytes: &[u8])
+        ensures { Puts bytes.now self.old self.new }
+    {
+        let end = self.needed.saturating_add(bytes.len());
+        if end <= self.into.len() {
+            self.into[self.needed..end].copy_from_slice(bytes);
+        }
+        self.needed = end;
+    }
+
+    /// A character more, in UTF-8.
+    #[inline]
+    fn put_char(&mut self, c: char)
+        ensures { Puts (encode_utf8 c) self.old self.new }
+    {
+        if c.is_ascii() {
+            self.put_byte(c as u8);
+        } else {
+            self.put_encoded(c);
+        }
+    }
+
+    /// The same with a character of several bytes.
+    #[inline(never)]
+    fn put_encoded(&mut self, c: char)
+        ensures { Puts (encode_utf8 c) self.old self.new }
+    {
+        let mut bytes = [0; 4];
+        self.put_bytes(c.encode_utf8(&mut bytes).as_bytes());
+    }
+
+    /// The marks of a cell.
+    #[inline]
+    fn put_marks(&mut self, marks: Marks)
+        ensures { Puts (marks_text marks) self.old self.new }
+    {
+        match marks {
+            Marks::Unmarked => {}
+            Marks::One(first) => self.put_char(first),
+            Marks::Two(first, second) => {
+                self.put_char(first);
+                self.put_char(second);
+            }
+        }
+    }
+
+    /// The character of a cell, unless it is a right half, and its marks.
+    #[inline]
+    #[tactic(auto, unfolding(ansi_screen::specs::Text::cell_text))]
+    fn put_cell(&mut self, cell: &Cell)
+        ensures { Puts (cell_text cell.now) self.old self.new }
+    {
+        if !cell.is_right() {
+            self.put_char(cell.character);
+            self.put_marks(cell.marks);
+        }
+    }
+
+    /// The characters of the cells, each with its marks.
+    pub(crate) fn put_cells(&mut self, cells: &[Cell])
+        ensures { Puts (flat_map cell_text cells.now) self.old self.new }
+    {
+        let mut rest = cells;
+        'rest: while let Some((first, further)) = rest.split_first() {
+            self.put_cell(first);
+            rest = further;
+        }
+    }
+
+    /// A row, without the blanks at its end.
+    pub(crate) fn put_row(&mut self, cells: &[Cell])
+        ensures { Puts (row_text cells.now) self.old self.new }
+    {
+        let end = used(cells, LeftOut::Blanks);
+        self.put_cells(&cells[..end]);
+    }
+
+    /// What a screen shows: each row without the blanks at its end, and a line feed, without the blank rows at
+    /// the end.
+    pub(crate) fn put_screen(&mut self, screen: &Screen)
+        ensures { Puts (text_of screen.now.display) self.old self.new }
+    {
+        let end = screen.used_rows(LeftOut::Blanks);
+        for row in 0..end {
+            self.put_row(screen.row(row));
+            self.put_byte(b'\n');
+        }
+    }
+}

@@ -1,0 +1,2 @@
+//! Rows that were worked by hand.
+mod terminal;

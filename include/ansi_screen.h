@@ -1,0 +1,169 @@
+/* A terminal's screen: what xterm shows after any bytes, as far as cells, styles, the cursor and modes go.
+ *
+ * A stream comes in pieces of any size, cut anywhere: the screen after it is the same. No input is refused. Memory is
+ * taken by ansi_screen_open alone (malloc), and given back by ansi_screen_close (free). The library has no data of its
+ * own: threads may call it at the same time, each with a screen of its own.
+ *
+ *     ansi_screen screen = {0};
+ *     unsigned char text[ANSI_SCREEN_ROW_ROOM(80)];
+ *     size_t written;
+ *
+ *     if (ansi_screen_open(&screen, 80, 24)) {
+ *         ansi_screen_feed(&screen, bytes, count);
+ *         ansi_screen_row_text(&screen, 0, text, sizeof text, &written);
+ *         ansi_screen_close(&screen);
+ *     }
+ *
+ * What the caller owes to every function: the screen is one of zero bytes, or what a function made of it. Each pointer
+ * is to memory of its own that lives as long as the call; it is not null, also where the size beside it is 0; and no two
+ * of the pieces of memory overlap. Nothing is kept of a pointer after the call.
+ *
+ * Not there: changing a screen's size, titles, answers to the host, and the targets of links.
+ */
+#ifndef ANSI_SCREEN_H
+#define ANSI_SCREEN_H
+
+#include <stdbool.h>
+#include <stddef.h>
+#include <stdint.h>
+
+#ifdef __cplusplus
+extern "C" {
+#endif
+
+/* The version of this header, and of the library and the programs beside it. */
+#define ANSI_SCREEN_VERSION "0.1.0"
+
+/* The sizes that a screen can have. */
+#define ANSI_SCREEN_MIN_COLUMNS 2
+#define ANSI_SCREEN_MAX_COLUMNS 1000
+#define ANSI_SCREEN_MIN_ROWS 1
+#define ANSI_SCREEN_MAX_ROWS 1000
+
+/* The room in which the text of so many cells, or of a whole screen, always fits: a cell has a character and two marks,
+ * of four bytes each at most. */
+#define ANSI_SCREEN_ROW_ROOM(columns) (12 * (size_t)(columns))
+#define ANSI_SCREEN_TEXT_ROOM(columns, rows) ((12 * (size_t)(columns) + 1) * (size_t)(rows))
+
+/* A screen, or none, in 8 bytes: zero bytes are none (`= {0}` in C, `= {}` in C++). It may be moved in memory, but is not copied: of
+ * two copies one is used, and closed. It is passed to one call at a time: calls that read it write to it too. */
+typedef struct ansi_screen {
+    void *held;
+} ansi_screen;
+
+/* The kinds of a colour. Any other number is 0. */
+enum {
+    ANSI_COLOR_DEFAULT = 0, /* the terminal's own */
+    ANSI_COLOR_NAMED = 1,   /* one of the eight, by its number: black, red, green, yellow, blue, magenta, cyan, white */
+    ANSI_COLOR_BRIGHT = 2,  /* the same in bright */
+    ANSI_COLOR_INDEXED = 3, /* one of xterm's 256, by its number */
+    ANSI_COLOR_DIRECT = 4   /* by its red, green and blue */
+};
+
+/* A colour, in 4 bytes. */
+typedef struct ansi_color {
+    uint8_t kind;
+    uint8_t values[3];
+} ansi_color;
+
+/* How text is underlined. */
+enum {
+    ANSI_UNDERLINE_OFF = 0,
+    ANSI_UNDERLINE_SINGLE = 1,
+    ANSI_UNDERLINE_DOUBLE = 2,
+    ANSI_UNDERLINE_CURLY = 3,
+    ANSI_UNDERLINE_DOTTED = 4,
+    ANSI_UNDERLINE_DASHED = 5
+};
+
+/* How text is shown, in 17 bytes. From `bold` on each is 1 or 0. */
+typedef struct ansi_style {
+    ansi_color foreground, background;
+    uint8_t underline;
+    uint8_t bold, dim, italic, blink, reverse, hidden, struck_out, overlined;
+} ansi_style;
+
+/* How much of a character a cell has. */
+enum {
+    ANSI_PART_EMPTY = 0, /* nothing was printed there, or it is erased: the character is a space */
+    ANSI_PART_WHOLE = 1,
+    ANSI_PART_LEFT = 2, /* the left half of a wide character, which has it */
+    ANSI_PART_RIGHT = 3 /* its right half, whose character is a space */
+};
+
+/* What one place of a screen shows, in 36 bytes. */
+typedef struct ansi_cell {
+    uint32_t character; /* its code point */
+    uint32_t marks[2];  /* the characters of no column that came after it: `mark_count` of them */
+    uint32_t link;      /* a number for each link (OSC 8) since the last reset; 0 for none */
+    ansi_style style;
+    uint8_t mark_count;
+    uint8_t part;
+    uint8_t goes_on; /* 1 in the last cell of a row from which autowrap went on to the next: both are one line */
+} ansi_cell;
+
+/* Modes, in 16 bytes: each is 1 where it is on, else 0. */
+typedef struct ansi_modes {
+    uint8_t cursor_shown;     /* DECTCEM */
+    uint8_t alternate_screen; /* 1049 */
+    uint8_t autowrap;         /* DECAWM */
+    uint8_t insert;           /* IRM */
+    uint8_t origin;           /* DECOM */
+    uint8_t reserved[11];     /* 0 */
+} ansi_modes;
+
+/* Holds a new screen of so many columns and rows, blank, at the beginning of a stream. What it held is freed. Answers
+ * false, and holds none, where that is no size, or where there is no memory. */
+bool ansi_screen_open(ansi_screen *screen, size_t columns, size_t rows);
+
+/* Frees the screen: then none is held. Closing it again does nothing. */
+void ansi_screen_close(ansi_screen *screen);
+
+/* All functions from here on answer false where no screen is held. Then, and wherever else they answer false, the screen
+ * is as it was, and nothing is written but where that is said. */
+
+/* Makes the screen a blank one of its size, at the beginning of a stream. */
+bool ansi_screen_reset(ansi_screen *screen);
+
+/* Takes the next bytes of the stream, all of them. */
+bool ansi_screen_feed(ansi_screen *screen, const unsigned char *piece, size_t count);
+
+/* Writes how many columns and rows it has. */
+bool ansi_screen_size(ansi_screen *screen, size_t *columns, size_t *rows);
+
+/* Writes where the cursor is, counted from 0. The column is the number of columns where the last one was printed: then
+ * the next character goes to the next row. */
+bool ansi_screen_cursor(ansi_screen *screen, size_t *row, size_t *column);
+
+/* Writes the style of the character that comes next. */
+bool ansi_screen_style(ansi_screen *screen, ansi_style *style);
+
+/* Writes the modes. */
+bool ansi_screen_modes(ansi_screen *screen, ansi_modes *modes);
+
+/* Writes a cell, by its row and its column, counted from 0. Answers false outside of the screen. */
+bool ansi_screen_cell(ansi_screen *screen, size_t row, size_t column, ansi_cell *cell);
+
+/* Writes the cells of a row, counted from 0, to the front of `cells`, which has room for `count`. Answers false where there
+ * is no such row, and where `count` is less than the number of columns. */
+bool ansi_screen_row(ansi_screen *screen, size_t row, ansi_cell *cells, size_t count);
+
+/* The three that follow write text, in UTF-8, to the front of `room`, which has `size` bytes, and how many bytes it has
+ * to `written`. They answer false where there is no such row or column, and `written` is 0; and where the text has more
+ * than `size` bytes: then `written` says how many, and what stands in the room does not count. */
+
+/* A row, counted from 0, without the blanks at its end. */
+bool ansi_screen_row_text(ansi_screen *screen, size_t row, unsigned char *room, size_t size, size_t *written);
+
+/* The cells of a row from the column `start` up to the column `end`, which is not among them; blanks too. */
+bool ansi_screen_part_text(ansi_screen *screen, size_t row, size_t start, size_t end,
+                           unsigned char *room, size_t size, size_t *written);
+
+/* All of the screen: each row without the blanks at its end, and a line feed; without the blank rows at the end. */
+bool ansi_screen_text(ansi_screen *screen, unsigned char *room, size_t size, size_t *written);
+
+#ifdef __cplusplus
+}
+#endif
+
+#endif

@@ -1,0 +1,355 @@
+/* What include/ansi_screen.h declares, and what a caller rests on: sizes, types, rows of cells and of text worked by
+ * hand, answers that are false, and memory. tests/screen_library compiles it as C and as C++, with the sanitizers, and
+ * runs it by valgrind. With a number it opens and closes so many screens. Says what is wrong on standard error and ends
+ * with status 1. */
+#include "ansi_screen.h"
+#include "ansi_screen.h" /* (a second time: it guards itself) */
+#include "ansi_strip.h"  /* (and these stand beside it) */
+#include "ansi_html.h"
+#include "ansi_events.h"
+
+#define CALLER "screen.c"
+#include "expect.h"
+
+#include <assert.h>
+#include <stdio.h>
+#include <stdlib.h>
+#include <string.h>
+
+static_assert(sizeof(ansi_screen) == 8, "a screen is a pointer");
+static_assert(sizeof(ansi_color) == 4, "a colour is bytes");
+static_assert(sizeof(ansi_style) == 17, "and so is a style");
+static_assert(offsetof(ansi_style, background) == 4 && offsetof(ansi_style, underline) == 8, "colours are first");
+static_assert(offsetof(ansi_style, bold) == 9 && offsetof(ansi_style, overlined) == 16, "attributes stand in order");
+static_assert(sizeof(ansi_cell) == 36, "a cell has 36 bytes");
+static_assert(offsetof(ansi_cell, style) == 16, "of which its style stands after its numbers");
+static_assert(offsetof(ansi_cell, marks) == 4 && offsetof(ansi_cell, link) == 12, "numbers are first");
+static_assert(offsetof(ansi_cell, mark_count) == 33 && offsetof(ansi_cell, goes_on) == 35, "bytes are last");
+static_assert(sizeof(ansi_modes) == 16, "modes have 16 bytes");
+static_assert(offsetof(ansi_modes, reserved) == 5, "of which five are used");
+static_assert(ANSI_SCREEN_ROW_ROOM(1 + 1) == 24 && ANSI_SCREEN_TEXT_ROOM(80, 24) == 23064, "rooms are as they are said");
+static_assert(ANSI_SCREEN_TEXT_ROOM(1 + 1, 1 + 1) == 50, "arguments stand in brackets");
+
+/* The types: with another one this is a warning, and warnings are errors. */
+static bool (*const open_screen)(ansi_screen *, size_t, size_t) = ansi_screen_open;
+static void (*const close_screen)(ansi_screen *) = ansi_screen_close;
+static bool (*const reset)(ansi_screen *) = ansi_screen_reset;
+static bool (*const feed)(ansi_screen *, const unsigned char *, size_t) = ansi_screen_feed;
+static bool (*const size_of)(ansi_screen *, size_t *, size_t *) = ansi_screen_size;
+static bool (*const cursor_of)(ansi_screen *, size_t *, size_t *) = ansi_screen_cursor;
+static bool (*const style_of)(ansi_screen *, ansi_style *) = ansi_screen_style;
+static bool (*const modes_of)(ansi_screen *, ansi_modes *) = ansi_screen_modes;
+static bool (*const cell_of)(ansi_screen *, size_t, size_t, ansi_cell *) = ansi_screen_cell;
+static bool (*const row_of)(ansi_screen *, size_t, ansi_cell *, size_t) = ansi_screen_row;
+static bool (*const row_text)(ansi_screen *, size_t, unsigned char *, size_t, size_t *) = ansi_screen_row_text;
+static bool (*const part_text)(ansi_screen *, size_t, size_t, size_t, unsigned char *, size_t,
+                               size_t *) = ansi_screen_part_text;
+static bool (*const text_of)(ansi_screen *, unsigned char *, size_t, size_t *) = ansi_screen_text;
+
+enum { ROOM = 4096, GUARD = 0xA5 };
+
+static ansi_screen opened(size_t columns, size_t rows)
+{
+    ansi_screen it = {0};
+
+    expect(open_screen(&it, columns, rows), "a screen opens");
+    return it;
+}
+
+static void feed_text(ansi_screen *screen, const char *text)
+{
+    expect(feed(screen, (const unsigned char *)text, strlen(text)), "bytes are taken");
+}
+
+/* All text is this, also by one byte at a time, and in a room of just so many bytes; one less is refused. */
+static void shows(ansi_screen *screen, const char *wanted, const char *what)
+{
+    unsigned char room[ROOM];
+    size_t length = strlen(wanted), written = 7;
+
+    memset(room, GUARD, sizeof room);
+    expect(text_of(screen, room, length, &written) && written == length && !memcmp(room, wanted, length), what);
+    expect(are(room + length, sizeof room - length, GUARD), "past the text the room is as it was");
+    if (length) {
+        expect(!text_of(screen, room, length - 1, &written) && written == length, "a byte less is told, with what it takes");
+        expect(room[length] == GUARD, "and nothing stands past the room");
+        expect(!text_of(screen, room, 0, &written) && written == length, "no room at all too");
+    }
+}
+
+static void row_is(ansi_screen *screen, size_t row, const char *wanted, const char *what)
+{
+    unsigned char room[ROOM];
+    size_t length = strlen(wanted), written = 7;
+
+    memset(room, GUARD, sizeof room);
+    expect(row_text(screen, row, room, length, &written) && written == length && !memcmp(room, wanted, length), what);
+    expect(are(room + length, sizeof room - length, GUARD), "past the row's text the room is as it was");
+    if (length)
+        expect(!row_text(screen, row, room, length - 1, &written) && written == length, "a byte less is told of a row too");
+}
+
+static void part_is(ansi_screen *screen, size_t row, size_t start, size_t end, const char *wanted)
+{
+    unsigned char room[ROOM];
+    size_t length = strlen(wanted), written = 7;
+
+    memset(room, GUARD, sizeof room);
+    expect(part_text(screen, row, start, end, room, length, &written), "a part of a row fits its own length");
+    expect(written == length && !memcmp(room, wanted, length), wanted);
+    expect(are(room + length, sizeof room - length, GUARD), "past a part the room is as it was");
+    if (length)
+        expect(!part_text(screen, row, start, end, room, length - 1, &written) && written == length, "a byte less is told");
+}
+
+static bool at(ansi_screen *screen, size_t row, size_t column)
+{
+    size_t found_row = 77, found_column = 77;
+
+    return cursor_of(screen, &found_row, &found_column) && found_row == row && found_column == column;
+}
+
+static ansi_cell cell(ansi_screen *screen, size_t row, size_t column)
+{
+    ansi_cell it;
+
+    memset(&it, GUARD, sizeof it);
+    expect(cell_of(screen, row, column, &it), "a cell is there");
+    return it;
+}
+
+static bool is_color(ansi_color color, unsigned kind, unsigned first, unsigned second, unsigned third)
+{
+    return color.kind == kind && color.values[0] == first && color.values[1] == second && color.values[2] == third;
+}
+
+static void sizes(void)
+{
+    static const size_t refused[][2] = {{0, 0}, {1, 1}, {2, 0}, {1001, 1}, {2, 1001}, {(size_t)-1, 2}, {2, (size_t)-1}};
+    static const size_t taken[][2] = {{2, 1}, {80, 24}, {1000, 1}, {2, 1000}, {1000, 1000}};
+    size_t i, columns, rows;
+
+    for (i = 0; i < sizeof refused / sizeof *refused; i++) {
+        ansi_screen it = {0};
+        expect(!open_screen(&it, refused[i][0], refused[i][1]) && !it.held, "no such size opens");
+    }
+    for (i = 0; i < sizeof taken / sizeof *taken; i++) {
+        ansi_screen it = opened(taken[i][0], taken[i][1]);
+        expect(size_of(&it, &columns, &rows) && columns == taken[i][0] && rows == taken[i][1], "it has the size asked for");
+        close_screen(&it);
+        expect(!it.held, "a screen that is closed is none");
+        close_screen(&it);
+    }
+}
+
+static void none_is_held(void)
+{
+    ansi_screen it = {0};
+    unsigned char room[8];
+    ansi_cell cells[4];
+    ansi_style style;
+    ansi_modes modes;
+    size_t one = 7, two = 8;
+
+    memset(room, GUARD, sizeof room);
+    memset(cells, GUARD, sizeof cells);
+    memset(&style, GUARD, sizeof style);
+    memset(&modes, GUARD, sizeof modes);
+    expect(!reset(&it) && !feed(&it, room, sizeof room), "no screen takes bytes");
+    expect(!size_of(&it, &one, &two) && one == 7 && two == 8, "no screen has a size");
+    expect(!cursor_of(&it, &one, &two) && one == 7 && two == 8, "no screen has a cursor");
+    expect(!style_of(&it, &style) && are((unsigned char *)&style, sizeof style, GUARD), "no screen has a style");
+    expect(!modes_of(&it, &modes) && are((unsigned char *)&modes, sizeof modes, GUARD), "no screen has modes");
+    expect(!cell_of(&it, 0, 0, cells) && !row_of(&it, 0, cells, 4), "no screen has cells");
+    expect(are((unsigned char *)cells, sizeof cells, GUARD), "and none is written");
+    expect(!text_of(&it, room, sizeof room, &one) && one == 0, "no screen has text");
+    one = 7;
+    expect(!row_text(&it, 0, room, sizeof room, &one) && one == 0, "nor has a row");
+    one = 7;
+    expect(!part_text(&it, 0, 0, 1, room, sizeof room, &one) && one == 0, "nor has a part");
+    expect(are(room, sizeof room, GUARD) && !it.held, "and nothing is written");
+    close_screen(&it);
+}
+
+static void rows_of_text(void)
+{
+    ansi_screen it = opened(8, 4);
+
+    shows(&it, "", "a new screen shows nothing");
+    expect(at(&it, 0, 0), "its cursor is at the top left");
+    feed_text(&it, "one\r\n  two  \033[4;7Hx");
+    shows(&it, "one\n  two\n\n      x\n", "rows have no blanks at their ends");
+    row_is(&it, 1, "  two", "a row has none");
+    row_is(&it, 2, "", "a blank row is empty");
+    expect(at(&it, 3, 7), "the cursor is past what was printed");
+    part_is(&it, 1, 0, 8, "  two   ");
+    part_is(&it, 1, 3, 5, "wo");
+    part_is(&it, 1, 8, 8, "");
+    part_is(&it, 0, 0, 1, "o");
+    close_screen(&it);
+}
+
+static void outside(void)
+{
+    ansi_screen it = opened(8, 4);
+    unsigned char room[ROOM];
+    ansi_cell cells[8];
+    size_t written = 7;
+
+    memset(room, GUARD, sizeof room);
+    memset(cells, GUARD, sizeof cells);
+    expect(!row_text(&it, 4, room, sizeof room, &written) && written == 0, "there is no fifth row");
+    written = 7;
+    expect(!part_text(&it, 4, 0, 1, room, sizeof room, &written) && written == 0, "nor a part of it");
+    expect(!part_text(&it, 0, 0, 9, room, sizeof room, &written), "nor a ninth column");
+    expect(!part_text(&it, 0, 3, 2, room, sizeof room, &written), "no part ends before it starts");
+    expect(!part_text(&it, (size_t)-1, 0, 0, room, sizeof room, &written), "nor in the last row of all");
+    expect(!cell_of(&it, 4, 0, cells) && !cell_of(&it, 0, 8, cells), "no cell stands outside");
+    expect(!row_of(&it, 4, cells, 8) && !row_of(&it, 0, cells, 7), "no row either, nor one without room");
+    expect(are(room, sizeof room, GUARD) && are((unsigned char *)cells, sizeof cells, GUARD), "nothing is written");
+    expect(row_of(&it, 3, cells, 8), "a row has its room");
+    close_screen(&it);
+}
+
+static void cells_and_styles(void)
+{
+    ansi_screen it = opened(6, 3);
+    ansi_cell one, row[8];
+    ansi_style style;
+
+    feed_text(&it, "\033[1;3;31;48;5;7;4:3mh\033[0;2;5;7;8;9;53;96;48;2;1;2;3mi\033[21me\xcc\x81\xcc\xa8\033[0m\xe4\xb8\xad");
+    one = cell(&it, 0, 0);
+    expect(one.character == 'h' && one.part == ANSI_PART_WHOLE && !one.mark_count && !one.goes_on && !one.link, "h is h");
+    expect(is_color(one.style.foreground, ANSI_COLOR_NAMED, 1, 0, 0), "31 is red");
+    expect(is_color(one.style.background, ANSI_COLOR_INDEXED, 7, 0, 0), "48;5;7 is the eighth of the 256");
+    expect(one.style.bold == 1 && one.style.italic == 1 && one.style.underline == ANSI_UNDERLINE_CURLY, "1;3;4:3");
+    expect(!one.style.dim && !one.style.blink && !one.style.reverse && !one.style.hidden, "and nothing else");
+    expect(!one.style.struck_out && !one.style.overlined, "and nothing else");
+    one = cell(&it, 0, 1);
+    expect(one.character == 'i' && is_color(one.style.foreground, ANSI_COLOR_BRIGHT, 6, 0, 0), "96 is bright cyan");
+    expect(is_color(one.style.background, ANSI_COLOR_DIRECT, 1, 2, 3), "48;2 is by red, green and blue");
+    expect(one.style.dim == 1 && one.style.blink == 1 && one.style.reverse == 1 && one.style.hidden == 1, "2;5;7;8");
+    expect(one.style.struck_out == 1 && one.style.overlined == 1 && !one.style.bold && !one.style.italic, "9;53");
+    expect(one.style.underline == ANSI_UNDERLINE_OFF, "0 ends underlining");
+    one = cell(&it, 0, 2);
+    expect(one.mark_count == 2 && one.marks[0] == 0x301 && one.marks[1] == 0x328, "marks stand on their character");
+    expect(one.style.underline == ANSI_UNDERLINE_DOUBLE, "21 is a double underline");
+    one = cell(&it, 0, 3);
+    expect(one.character == 0x4E2D && one.part == ANSI_PART_LEFT, "a wide character has a left half");
+    one = cell(&it, 0, 4);
+    expect(one.character == ' ' && one.part == ANSI_PART_RIGHT, "and a right one");
+    one = cell(&it, 0, 5);
+    expect(one.character == ' ' && one.part == ANSI_PART_EMPTY && is_color(one.style.foreground, 0, 0, 0, 0), "a blank");
+    row_is(&it, 0, "hie\xcc\x81\xcc\xa8\xe4\xb8\xad", "a row has marks and wide characters once");
+    part_is(&it, 0, 4, 5, "");
+    memset(row, GUARD, sizeof row);
+    expect(row_of(&it, 0, row, 8), "a row is written");
+    expect(row[3].character == 0x4E2D && row[1].character == 'i' && row[5].part == ANSI_PART_EMPTY, "as its cells");
+    expect(are((unsigned char *)(row + 6), 2 * sizeof *row, GUARD), "and no further");
+    feed_text(&it, "\033[3;94;45m");
+    expect(style_of(&it, &style) && style.italic == 1 && is_color(style.foreground, ANSI_COLOR_BRIGHT, 4, 0, 0), "94");
+    expect(is_color(style.background, ANSI_COLOR_NAMED, 5, 0, 0) && !style.bold, "45");
+    close_screen(&it);
+}
+
+static void wraps_and_links(void)
+{
+    ansi_screen it = opened(4, 3);
+
+    feed_text(&it, "abcd");
+    expect(at(&it, 0, 4), "past the last column a wrap is pending");
+    expect(!cell(&it, 0, 3).goes_on, "which nothing has settled yet");
+    feed_text(&it, "e\033]8;;http://a/\033\\f\033]8;;\033\\g\033]8;;http://a/\007h");
+    expect(cell(&it, 0, 3).goes_on == 1 && !cell(&it, 1, 0).goes_on, "a row goes on");
+    expect(cell(&it, 1, 0).link == 0 && cell(&it, 1, 1).link == 1 && cell(&it, 1, 2).link == 0, "a link has a number");
+    expect(cell(&it, 1, 3).link == 2, "the next has the next");
+    shows(&it, "abcd\nefgh\n", "rows that go on stand each by itself");
+    close_screen(&it);
+}
+
+static void modes(void)
+{
+    ansi_screen it = opened(4, 3);
+    ansi_modes on;
+
+    memset(&on, GUARD, sizeof on);
+    expect(modes_of(&it, &on), "a screen has modes");
+    expect(on.cursor_shown == 1 && on.autowrap == 1, "at first the cursor is shown and autowrap is on");
+    expect(!on.alternate_screen && !on.insert && !on.origin && are(on.reserved, 11, 0), "and nothing else");
+    feed_text(&it, "\033[?25l");
+    expect(modes_of(&it, &on) && !on.cursor_shown && on.autowrap == 1, "?25l hides the cursor");
+    feed_text(&it, "\033[?25h\033[?7l");
+    expect(modes_of(&it, &on) && on.cursor_shown == 1 && !on.autowrap, "?7l ends autowrap");
+    feed_text(&it, "\033[4h");
+    expect(modes_of(&it, &on) && on.insert == 1 && !on.origin, "4h inserts");
+    feed_text(&it, "\033[?6h");
+    expect(modes_of(&it, &on) && on.origin == 1 && !on.alternate_screen, "?6h counts from the margin");
+    feed_text(&it, "x\033[?1049h");
+    expect(modes_of(&it, &on) && on.alternate_screen == 1, "1049 shows the alternate screen");
+    shows(&it, "", "which is blank");
+    close_screen(&it);
+}
+
+/* Cut anywhere, a stream leads to the same. */
+static void pieces(void)
+{
+    static const char stream[] = "\033[31mred\033[0m\xe4\xb8\xad\r\n\033]0;title\007\033[2;3Hx\033[38;2;1;2;3my\xcc\x81";
+    unsigned char room[ROOM], other[ROOM];
+    size_t cut, i, written, as_much;
+    ansi_cell row[10], same[10];
+    ansi_screen whole = opened(10, 4);
+
+    feed_text(&whole, stream);
+    expect(text_of(&whole, room, sizeof room, &written), "the whole has text");
+    for (cut = 0; cut < sizeof stream; cut++) {
+        ansi_screen it = opened(10, 4);
+
+        expect(feed(&it, (const unsigned char *)stream, cut), "a piece is taken");
+        expect(feed(&it, (const unsigned char *)stream + cut, sizeof stream - 1 - cut), "and the next");
+        expect(text_of(&it, other, sizeof other, &as_much) && as_much == written && !memcmp(room, other, written),
+               "two pieces show what the whole shows");
+        for (i = 0; i < 4; i++)
+            expect(row_of(&whole, i, row, 10) && row_of(&it, i, same, 10) && !memcmp(row, same, sizeof row), "in its cells");
+        close_screen(&it);
+    }
+    close_screen(&whole);
+}
+
+static void resets(void)
+{
+    ansi_screen it = opened(6, 3);
+    ansi_modes on;
+
+    feed_text(&it, "\033[?25l\033[31mabc\033[?1049hxyz\033[2;3r\033[4;");
+    expect(reset(&it), "a screen is reset");
+    feed_text(&it, "7mx");
+    shows(&it, "7mx\n", "what was begun is forgotten, and all that showed");
+    expect(is_color(cell(&it, 0, 0).style.foreground, 0, 0, 0, 0), "the style too");
+    expect(modes_of(&it, &on) && on.cursor_shown && !on.alternate_screen, "modes are those of a new screen");
+    close_screen(&it);
+    it = opened(6, 3);
+    feed_text(&it, "old");
+    expect(open_screen(&it, 10, 2), "one that is open may be opened again");
+    shows(&it, "", "and is new");
+    expect(!open_screen(&it, 1, 1) && !it.held, "where that fails it is closed");
+}
+
+int main(int count, char **words)
+{
+    long left = count > 1 ? atol(words[1]) : 0;
+
+    for (; left > 0; left--) {
+        ansi_screen it = opened(2, 1);
+        close_screen(&it);
+    }
+    sizes();
+    none_is_held();
+    rows_of_text();
+    outside();
+    cells_and_styles();
+    wraps_and_links();
+    modes();
+    pieces();
+    resets();
+    return failures ? 1 : 0;
+}

@@ -54,6 +54,7 @@ class Handle(ctypes.Structure):
     _fields_ = [("held", ctypes.c_void_p)]
 
 
+BLANK = bytes(CellBytes(character=0x20))  # a cell of a new screen
 _WIDTHS = [1, 1, 2, 0]  # of a part: empty, whole, left, right
 _SIZE, _AT = ctypes.c_size_t, ctypes.c_void_p
 _COUNTS = [1, 1, 1, 3]  # the numbers that count of a kind, but for the default, which has none
@@ -117,6 +118,7 @@ class Screen:
         self._room = ctypes.create_string_buffer(CELL_BYTES * columns)
         self._view = memoryview(self._room)
         self._numbers = (_SIZE * 2)()
+        self._known = [BLANK * columns] * rows  # the cells of each row, as `changed` knew them last
         self._rest = ctypes.addressof(self._room), len(self._room), ctypes.addressof(self._numbers)
 
     columns = property(lambda self: self._columns, doc="How many columns it has.")
@@ -198,6 +200,11 @@ class Screen:
         self._row_within(row)
         styles = {}
         return [_cell_of(cell, styles) for cell in self._row_bytes(row)]
+
+    def changed(self):
+        """The numbers of the rows whose cells are others than when this was asked before, or than on a new screen."""
+        before, self._known = self._known, [bytes(self._row_bytes(row)) for row in range(self._rows)]
+        return [row for row in range(self._rows) if self._known[row] != before[row]]
 
     @property
     def cells(self):

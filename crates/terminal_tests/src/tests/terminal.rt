@@ -29,19 +29,48 @@ fn cell(terminal: &Terminal, row: usize, column: usize) -> (u32, u8, u8) {
     }
 }
 
+/// The text of the screen, in eight bytes of room and in seven.
+fn text(terminal: &Terminal) -> (Result<usize, usize>, [u8; 8]) {
+    let mut room = [0; 8];
+    let answer = terminal.text(&mut room);
+    (answer, room)
+}
+
+fn text_in_seven(terminal: &Terminal) -> Result<usize, usize> {
+    let mut room = [0; 7];
+    terminal.text(&mut room)
+}
+
+/// The text of a row, in two bytes of room.
+fn row_text(terminal: &Terminal, row: usize) -> (Result<usize, usize>, [u8; 2]) {
+    let mut room = [0; 2];
+    let answer = terminal.row_text(row, &mut room);
+    (answer, room)
+}
+
+/// The text of a part of the second row, in five bytes of room.
+fn part_text(terminal: &Terminal, start: usize, end: usize) -> (Result<usize, usize>, [u8; 5]) {
+    let mut room = [0; 5];
+    let answer = terminal.part_text(1, start, end, &mut room);
+    (answer, room)
+}
+
 // A sequence and a character are cut.
 #[test]
 fn pieces(rt: HostRuntime) -> Result<(), Fail> {
     let terminal = shown(rt.alloc(), b"\x1b[3", b"1mhi\r\n\xE4\xB8\xADx")?;
-    let mut room = [0; 8];
-    assert_eq!(rt; terminal.text(&mut room), Ok(8));
-    assert_eq!(rt; room, *b"hi\n\xE4\xB8\xADx\n");
-    assert_eq!(rt; terminal.text(&mut room[..7]), Err(8));
-    assert_eq!(rt; terminal.row_text(0, &mut room), Ok(2));
-    assert_eq!(rt; terminal.row_text(3, &mut room), Err(0));
-    assert_eq!(rt; terminal.part_text(1, 0, 4, &mut room), Ok(5));
-    assert_eq!(rt; &room[..5], b"\xE4\xB8\xADx ".as_slice());
-    assert_eq!(rt; terminal.part_text(1, 3, 5, &mut room), Err(0));
+    assert_eq!(rt; text(&terminal), (Ok(8), *b"hi\n\xE4\xB8\xADx\n"));
+    assert_eq!(rt; text_in_seven(&terminal), Err(8));
+    Ok(())
+}
+
+#[test]
+fn rows(rt: HostRuntime) -> Result<(), Fail> {
+    let terminal = shown(rt.alloc(), b"hi\r\n\xE4", b"\xB8\xADx")?;
+    assert_eq!(rt; row_text(&terminal, 0), (Ok(2), *b"hi"));
+    assert_eq!(rt; row_text(&terminal, 3), (Err(0), [0, 0]));
+    assert_eq!(rt; part_text(&terminal, 0, 4), (Ok(5), *b"\xE4\xB8\xADx "));
+    assert_eq!(rt; part_text(&terminal, 3, 5), (Err(0), [0; 5]));
     Ok(())
 }
 

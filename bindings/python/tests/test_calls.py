@@ -80,9 +80,18 @@ class Calls(unittest.TestCase):
             for given in (None, 5, 1.5):
                 self.assertRaisesRegex(TypeError, "^(a text is|the pieces are) .* and not %s$" % type(given).__name__, call, given)
 
+    def test_a_screen(self):
+        with ansi_proved.Screen(10, 3) as screen:
+            for piece in (b"\x1b[3", b"1mone\r", "\ntwo\x1b[H1"):
+                screen.feed(piece)
+            self.assertEqual((screen.text(), screen.display[1]), ("1ne\ntwo\n", "two       "))
+            self.assertEqual((screen.cell(0, 0).style.foreground, screen.cursor), (("named", (1,)), (0, 1, True)))
+            self.assertEqual((screen.changed(), screen.changed()), ([0, 1], []))
+        self.assertRaises(ValueError, screen.feed, b"x")
+
     def test_files(self):
         folder = os.path.dirname(ansi_proved.__file__)
-        for name in ("py.typed", "__init__.pyi", "libansi.so"):
+        for name in ("py.typed", "__init__.pyi", "libansi.so", "libansi_screen.so"):
             self.assertTrue(os.path.exists(os.path.join(folder, name)), name)
 
 

@@ -1,6 +1,6 @@
 -- The text of a screen that shows lines, each in a row.
 use Rattle.std.proofs.Common.{◌≡◌, ◌≢◌, ◌<◌, ◌≤◌, ◌+◌, ◌-◌, ◌*◌, ℕ, zero, suc, Bool, true, false, List, [], ◌∷◌, ◌++◌, length, map, take, drop, get_or, refl, sym, ap, ap₂, ◌∙◌, subst, arith, append_assoc, append-nil, length-append}
-use Rattle.std.specs.Prelude.{◌==◌, ◌&&◌, not, replicate, encode_utf8, if◌then◌else◌}
+use Rattle.std.specs.Prelude.{◌==◌, ◌&&◌, replicate, encode_utf8, if◌then◌else◌}
 use Rattle.std.specs.List.{AllByRecursion, flat_map}
 use Rattle.std.proofs.Math.Dec.{eqb-suc-zero}
 use Rattle.std.proofs.Math.Nat.{suc-mul}
@@ -11,8 +11,8 @@ use Rattle.std.proofs.lemmas.List.{length-map, length-replicate}
 use Rattle.ansi_screen.specs.declared.cell.Cell.{Cell}
 use Rattle.ansi_screen.specs.declared.cell.Part.TheVariants.{Whole}
 use Rattle.ansi_screen.specs.Cells.{plain_cell, blank}
-use Rattle.ansi_screen.specs.Display.{Display, row_cells, blanks}
-use Rattle.ansi_screen.specs.After.{State, new_state, after_all, Shows}
+use Rattle.ansi_screen.specs.Display.{Display, row_cells}
+use Rattle.ansi_screen.specs.After.{State, new_state, Shows}
 use Rattle.ansi_screen.specs.Laws.{lines_text, FitsIn, line_cells, page}
 use Rattle.ansi_screen.specs.Text.{is_blank, cell_text, used, row_text, used_rows, rows_text, text_of}
 use Rattle.ansi_screen.proofs.PlainLemmas.{plain, text-shown}

@@ -18,6 +18,7 @@ pub mod BoundLemmas
 pub mod UnchangedLemmas
 pub mod CountLemmas
 pub mod TextLemmas
+pub mod AnywhereLemmas
 pub mod UpdatedLemmas
 pub mod ClearedLemmas
 pub mod FrameLemmas

@@ -37,7 +37,7 @@ ghost use Rattle.screen_draw.specs.Update.{update_calls};
 ghost use Rattle.ansi_screen.specs.After.{State, Shows};
 ghost use Rattle.ansi_screen.specs.Display.{IsSized};
 ghost use Rattle.ansi_screen.specs.Reachable.{IsScreen, HasContents};
-ghost use Rattle.std.specs.Prelude.{◌≡◌, ◌≤◌, length};
+ghost use Rattle.std.specs.Prelude.{◌≡◌, ◌≤◌, ◌++◌, ℕ, List, length};
 ghost use Rattle.std.specs.List.{AllByRecursion};
 
 use ansi_screen::Screen;
@@ -69,6 +69,12 @@ pub fn draw<W: Sink>(screen: &Screen, output: &mut Output<W>)
     ensures redrawn { (old new : State) → IsScreen screen.now.display → HasContents screen.now.display
         → old.display.width ≡ screen.now.display.width → old.display.height ≡ screen.now.display.height
         → Shows old (canon (drawn_calls screen.now.display)) new → new ≡ drawn_state screen.now.display }
+
+    // So it does behind any bytes, also where these have begun a string or a character.
+    ensures anywhere { (before : List ℕ) (old new : State) → IsScreen screen.now.display
+        → HasContents screen.now.display → IsScreen old.display
+        → old.display.width ≡ screen.now.display.width → old.display.height ≡ screen.now.display.height
+        → Shows old (before ++ canon (drawn_calls screen.now.display)) new → new ≡ drawn_state screen.now.display }
 
     // They print what is shown, and have no controls but SO and SI, and no strings.
     ensures only { AllByRecursion IsDrawing (drawn_calls screen.now.display) }

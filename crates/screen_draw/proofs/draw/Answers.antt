@@ -5,6 +5,7 @@ use Rattle.anstyle_parse.specs.Stream.Canon.{canon}
 use Rattle.ansi_screen.proofs.LawLemmas.{Shows-only}
 use Rattle.screen_draw.specs.Draw.{drawn_calls}
 use Rattle.screen_draw.specs.Redrawn.{drawn_state}
+use Rattle.screen_draw.proofs.AnywhereLemmas.{drawn-anywhere}
 use Rattle.screen_draw.proofs.RedrawnLemmas.{redrawn-is}
 use Rattle.screen_draw.proofs.BoundLemmas.{drawn-bound}
 use Rattle.screen_draw.proofs.DrawLemmas.{drawing-lawful}
@@ -21,6 +22,11 @@ returns-clause-redrawn g c = λ old new is holds width height shows.
     let d = c.args.screen.now.display in
     Shows-only (canon (drawn_calls d)) old new (drawn_state d) shows
     (drawn_calls d, replay (drawn_calls d) (drawing-lawful (drawn_calls d) c.put_all.ensures.drawing), sym (redrawn-is d old is holds width height))
+
+pub returns-clause-anywhere : goal.returns-clause-anywhere
+returns-clause-anywhere g c = λ before old new is holds old_is width height shows.
+    let d = c.args.screen.now.display in
+    drawn-anywhere d before old new (replay (drawn_calls d) (drawing-lawful (drawn_calls d) c.put_all.ensures.drawing)) is holds old_is width height shows
 
 pub returns-clause-bound : goal.returns-clause-bound
 returns-clause-bound g c = drawn-bound c.args.screen.now.display c.put_all.ensures.drawing

@@ -3,9 +3,10 @@
  *
  * The text is that of ansi_strip.h: each printed character in UTF-8, tab, line feed and carriage return.
  * The bytes & < > " ' and a carriage return are written as character references. Text that is not plain
- * stands in <span style="..">, and where it has a link (OSC 8) to https://, http:// or mailto: in
- * <a rel="nofollow noreferrer" href=".." style="..">; with ANSI_HTML_CLASSES the attribute is class. A link
- * that is shown was not cut. Before what is printed behind a carriage return stands <br>, unless it is a line
+ * stands in <span style="..">, and what has a link (OSC 8) to https://, http:// or mailto: in
+ * <a rel="nofollow noreferrer" href=".." style="..">, which is opened where the link begins and closed where it
+ * ends; with ANSI_HTML_CLASSES the attribute is class. A link that is shown was not cut. The HTML is at most 74
+ * times as long as the stream, by classes 35 times, and 11 bytes. Before what is printed behind a carriage return stands <br>, unless it is a line
  * feed. No markup comes in from the stream.
  *
  * The HTML is a fragment for a <pre> of a page in UTF-8, right after a newline there. For classes the page
@@ -48,10 +49,10 @@ extern "C" {
 
 /* The bytes of room with which ansi_html_feed always goes on: what one byte may lead to, where it opens
  * a link of 1,035 bytes. */
-#define ANSI_HTML_LEAST_ROOM 6550
+#define ANSI_HTML_LEAST_ROOM 6534
 
 /* The bytes of room that ansi_html_end needs. */
-#define ANSI_HTML_END_ROOM 7
+#define ANSI_HTML_END_ROOM 11
 
 /* How styles are written: colours for light and dark pages, as the reader has it (a dark page has a
  * color-scheme); for light ones; for dark ones; or by classes. Any other number is for both. */

@@ -413,7 +413,8 @@ def span(style, text=b"x"):
 
 
 def link(href, style=b"", text=b"x"):
-    return b'<a rel="nofollow noreferrer" href="%s" style="color:inherit;%s">%s</a>' % (href, style, text)
+    inner = span(style, text) if style else text
+    return b'<a rel="nofollow noreferrer" href="%s" style="color:inherit;">%s</a>' % (href, inner)
 
 
 def linked(uri, text=b"x", params=b""):
@@ -494,7 +495,7 @@ def html_rows(scheme):
         (
             "a link of two styles",
             linked(b"http://a", b"x\x1b[31my"),
-            link(b"http://a") + link(b"http://a", shades(b"#cf222e", b"#ff7b72"), b"y"),
+            link(b"http://a", b"", b"x" + span(shades(b"#cf222e", b"#ff7b72"), b"y")),
         ),
         ("the same link twice", linked(b"http://a") + linked(b"http://a", b"y"), link(b"http://a", b"", b"xy")),
         ("links of no text", b"\x1b]8;;http://a\x07\x1b]8;;\x07" + linked(b"http://b", b"\x1b[1m"), b""),
@@ -582,7 +583,7 @@ CLASS_ROWS = [
         "links",
         linked(b"http://a/&") + b"\x1b[1;31m" + linked(b"http://b"),
         b'<a rel="nofollow noreferrer" href="http://a/&amp;" class="ansi-link">x</a>'
-        b'<a rel="nofollow noreferrer" href="http://b" class="ansi-link ansi-f1 ansi-bold">x</a>',
+        b'<a rel="nofollow noreferrer" href="http://b" class="ansi-link"><span class="ansi-f1 ansi-bold">x</span></a>',
     ),
 ]
 

@@ -53,8 +53,9 @@ class Reader(html.parser.HTMLParser):
         self.is_page, self.open, self.text, self.faults = is_page, [], "", []
         self.declared, self.language, self.metas, self.style, self.title = [], [], [], "", ""
         self.lines = ""  # the text as its lines are drawn: 0A at each line break, and no 0D
-        self.link, self.links = "", []  # what each character of the text leads to
-        self.style_of, self.styles = "", []  # the attribute style under which it stands
+        self.links = []  # what each character of the text leads to
+        self.styles = []  # the attributes style under which it stands, that of a link before that of its span
+        self.around = []  # the link and the style of each span or link that is open
 
     def handle_starttag(self, tag, attributes):
         if tag == "br":
@@ -63,12 +64,11 @@ class Reader(html.parser.HTMLParser):
                 self.faults.append("a line break with %s behind %r" % (attributes, self.text[-1:]))
             return
         if tag in ("span", "a"):
-            if "span" in self.open or "a" in self.open:
+            if "span" in self.open or tag == "a" and "a" in self.open:
                 self.faults.append("an element %s stands in %s" % (tag, self.open))
             if not is_of(tag, attributes):
                 self.faults.append("an element %s has the attributes %s" % (tag, attributes))
-            self.link = dict(attributes).get("href", "")
-            self.style_of = dict(attributes).get("style", "")
+            self.around.append((dict(attributes).get("href", ""), dict(attributes).get("style", "")))
         elif not self.is_page or tag not in OF_A_PAGE or "pre" in self.open:
             self.faults.append("an element %s" % tag)
         elif tag == "meta":
@@ -85,13 +85,14 @@ class Reader(html.parser.HTMLParser):
             self.faults.append("%s is ended, with %s open" % (tag, self.open))
         else:
             self.open.pop()
-            self.link = self.style_of = ""
+            if tag in ("span", "a"):
+                self.around.pop()
 
     def handle_data(self, data):
         if not self.is_page or "pre" in self.open:
             self.text += data
-            self.links += [self.link] * len(data)
-            self.styles += [self.style_of] * len(data)
+            self.links += ["".join(link for link, _ in self.around)] * len(data)
+            self.styles += ["".join(style for _, style in self.around)] * len(data)
             self.lines += data.replace("\r", "")
         elif "style" in self.open:
             self.style += data
@@ -108,13 +109,13 @@ class Reader(html.parser.HTMLParser):
 
 
 def is_of(tag, attributes):
-    """Whether a span, or a link, has these attributes: a link's colour is that of the text around it, or its own."""
+    """Whether a span, or a link, has these attributes: a link's colour is that of the text around it, or its span's."""
     if tag == "span":
         return [name for name, _ in attributes] in (["style"], ["class"])
     names, values = zip(*attributes)
     is_link = names[:2] == ("rel", "href") and values[0] == "nofollow noreferrer"
-    begins = {"style": "color:inherit;", "class": "ansi-link"}.get(names[2], None) if len(names) == 3 else None
-    return is_link and HREF.fullmatch(values[1]) is not None and begins is not None and values[2].startswith(begins)
+    said = {"style": "color:inherit;", "class": "ansi-link"}.get(names[2], None) if len(names) == 3 else None
+    return is_link and HREF.fullmatch(values[1]) is not None and said is not None and values[2] == said
 
 
 def normalized(text):

@@ -18,7 +18,7 @@ static_assert(sizeof(struct ansi_html) == 3192, "a state has 3,192 bytes");
 static_assert(offsetof(ansi_html, others) == sizeof(size_t), "nothing stands between");
 static_assert(ANSI_HTML_BOTH == 0 && ANSI_HTML_LIGHT == 1, "stylings have the numbers that are told apart below");
 static_assert(ANSI_HTML_DARK == 2 && ANSI_HTML_CLASSES == 3, "stylings have the numbers that are told apart below");
-static_assert(ANSI_HTML_LEAST_ROOM == 6550 && ANSI_HTML_END_ROOM == 7, "what one byte and an end may need");
+static_assert(ANSI_HTML_LEAST_ROOM == 6534 && ANSI_HTML_END_ROOM == 11, "what one byte and an end may need");
 
 /* The types: with another one this is a warning, and warnings are errors. */
 static void (*const init)(ansi_html *, unsigned char) = ansi_html_init;
@@ -59,7 +59,7 @@ static bool ends(size_t size)
     return end(&it.state, room, size, &written);
 }
 
-/* The styling is the last byte that is used of a state. */
+/* The styling is the last byte but one that is used of a state. */
 static void init_begins_a_stream(void)
 {
     unsigned char styling;
@@ -115,8 +115,8 @@ static void little_room_is_refused(void)
     }
     expect(goes_on("", 0) && taken == 0 && written == 0, "no bytes need no room");
     expect(goes_on("x", ANSI_HTML_LEAST_ROOM) && taken == 1, "the least room suffices");
-    expect(written > 7 && memcmp(room, "</a><a ", 7) == 0, "one link is closed, and another opened");
-    expect(ends(SIZE) && is_written("</a>"), "a link is closed");
+    expect(written > 6 && memcmp(room, "<span ", 6) == 0, "a span is opened in the link");
+    expect(ends(SIZE) && is_written("</span></a>"), "a span and its link are closed");
 }
 
 /* The longest link, of which each byte becomes a reference. */

@@ -107,7 +107,7 @@ unsafe extern "C" {
 
 const STRIP_ROOM: usize = 4096;
 const HTML_ROOM: usize = 16384;
-const END_ROOM: usize = 7;
+const END_ROOM: usize = 11;
 const EVENTS: usize = 1024;
 const EVENTS_ROOM: usize = 16384;
 

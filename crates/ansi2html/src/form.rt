@@ -114,11 +114,11 @@ fn color_scheme(scheme: Scheme) -> &'static [u8]
 fn put_value<W: Sink>(output: &mut Output<W>, text: &str)
     ensures added { Adds W.Sink (escaped_text text.now) output.old output.new }
 
-    // The text can't end its attribute: a reader in any attribute of any tag reads exactly this text more of the
-    // value, and is then in that value still.
-    ensures stays_within { (tag : Attributes) (name value rest : List ℕ) →
-        seen_from (in_value tag name value) (escaped_text text.now ++ rest)
-        ≡ seen_from (in_value tag name (value ++ text.now)) rest }
+    // The text can't end its attribute: a reader in any attribute of any tag, in any elements, reads exactly this
+    // text more of the value, and is then in that value still.
+    ensures stays_within { (elements : List Attributes) (tag : Attributes) (name value rest : List ℕ) →
+        seen_from (in_value elements tag name value) (escaped_text text.now ++ rest)
+        ≡ seen_from (in_value elements tag name (value ++ text.now)) rest }
 {
     put_text(output, text);
 }

@@ -5,15 +5,17 @@ use Rattle.std.proofs.lemmas.Bool.{and_from, or_cases, eqb-true}
 use Rattle.anstyle_parse.specs.Stream.Call.{Call}
 use Rattle.ansi_strip.specs.Strip.{stripped_call}
 use Rattle.ansi_style.specs.declared.style.Style.{Style}
-use Rattle.ansi_style.specs.Style.{plain}
+use Rattle.ansi_style.specs.Style.{plain as plain_style}
+use Rattle.std.specs.Str.{bytes_eq}
+use Rattle.std.proofs.lemmas.Slice.Eq.{bytes_eq-Decides}
 use Rattle.ansi_style.proofs.EqualityLemmas.{are_equal-refl}
 use Rattle.ansi_html.specs.declared.scheme.Styling.{Styling}
 use Rattle.ansi_html.specs.declared.scheme.Styling.TheVariants.{Inline, Classes}
 use Rattle.ansi_html.specs.Css.{colors_css, others_css}
 use Rattle.ansi_html.specs.Classes.{classes_of}
 use Rattle.ansi_html.specs.Links.{is_linkable, IsLink, is_none}
-use Rattle.ansi_html.specs.Grammar.{is_special, is_text_byte, ampersand, less_than, greater_than, quotation_mark, apostrophe, carriage_return, IsText, nothing, byte, reference, line_break as broken, IsSpanValue, IsLinkValue, declarations, classes, IsFragment, end, text, span, link}
-use Rattle.ansi_html.specs.Html.{escaped, escaped_text, is_plain, span_begin, span_end, Element, are_same, value_of, attribute_text, link_begin, element_begin, element_end, change, Standing, at_start, line_break, after_text, is_executed, text_html, call_html, standing_after, html_from, standing_at_end, html}
+use Rattle.ansi_html.specs.Grammar.{is_special, is_text_byte, ampersand, less_than, greater_than, quotation_mark, apostrophe, carriage_return, IsText, nothing, byte, reference, line_break as broken, IsSpanValue, link_value, declarations, classes, IsStyled, nothing_more, plain, span, IsFragment, end, styled, link}
+use Rattle.ansi_html.specs.Html.{escaped, escaped_text, is_plain, span_begin, span_end, Element, no_element, are_same, value_of, attribute_text, link_begin, link_end, element_begin, element_end, change, Standing, at_start, line_break, after_text, is_executed, text_html, call_html, standing_after, html_from, standing_at_end, html}
 use Rattle.ansi_html.proofs.HtmlLemmas.{escaped-clear, not_return-clear, are_same-same}
 use Rattle.ansi_html.proofs.SoundLemmas.{IsHref-escaped, AreSound, AreSound-start, AreSound-after}
 use Rattle.ansi_html.proofs.DeclarationLemmas.{AreDeclarations-others}
@@ -53,131 +55,201 @@ IsText-escaped [] rest are more = more
 IsText-escaped (b ∷ bytes) rest are more =
     subst IsText (sym (append_assoc (escaped b) (escaped_text bytes) rest)) (IsText-byte b (escaped_text bytes ++ rest) are.0 (IsText-escaped bytes rest are.1 more))
 
--- what may follow inside an element of this end, which is empty where there is none: text, the end,
--- and a fragment
-pub record IsInside (styling : Styling) (close : List ℕ) (all : List ℕ) : Type 0 where
+-- What may follow inside a span of this end and a link of that one, each of which is empty where there is none: text, the
+-- end of the span, text and spans, the end of the link, and a fragment.
+pub record IsInside (styling : Styling) (close close_link : List ℕ) (all : List ℕ) : Type 0 where
   pub inside : List ℕ
+  pub others : List ℕ
   pub rest : List ℕ
-  pub whole : all ≡ inside ++ (close ++ rest)
+  pub whole : all ≡ inside ++ (close ++ (others ++ (close_link ++ rest)))
   pub is_text : IsText inside
+  pub are_styled : IsStyled styling others
   pub fragment : IsFragment styling rest
 
 -- text, which before any text is text, goes on as what follows it does
-IsInside-prefix : (styling : Styling) (close bytes rest : List ℕ) → ((more : List ℕ) → IsText more → IsText (bytes ++ more))
-    → IsInside styling close rest → IsInside styling close (bytes ++ rest)
-IsInside-prefix styling close bytes rest is more = record {
+IsInside-prefix : (styling : Styling) (close close_link bytes rest : List ℕ) → ((more : List ℕ) → IsText more → IsText (bytes ++ more))
+    → IsInside styling close close_link rest → IsInside styling close close_link (bytes ++ rest)
+IsInside-prefix styling close close_link bytes rest is more = record {
   inside = bytes ++ more.inside;
+  others = more.others;
   rest = more.rest;
-  whole = ap (λ l. bytes ++ l) more.whole ∙ sym (append_assoc bytes more.inside (close ++ more.rest));
+  whole = ap (λ l. bytes ++ l) more.whole ∙ sym (append_assoc bytes more.inside (close ++ (more.others ++ (close_link ++ more.rest))));
   is_text = is more.inside more.is_text;
+  are_styled = more.are_styled;
   fragment = more.fragment;
 }
 
-IsInside-text : (styling : Styling) (close bytes rest : List ℕ) → AreTextual bytes → IsInside styling close rest → IsInside styling close (escaped_text bytes ++ rest)
-IsInside-text styling close bytes rest are more = IsInside-prefix styling close (escaped_text bytes) rest (λ after is. IsText-escaped bytes after are is) more
+IsInside-text : (styling : Styling) (close close_link bytes rest : List ℕ) → AreTextual bytes → IsInside styling close close_link rest
+    → IsInside styling close close_link (escaped_text bytes ++ rest)
+IsInside-text styling close close_link bytes rest are more = IsInside-prefix styling close close_link (escaped_text bytes) rest (λ after is. IsText-escaped bytes after are is) more
 
--- outside an element that is a fragment
-pub IsFragment-plain : (styling : Styling) (all : List ℕ) → IsInside styling [] all → IsFragment styling all
-IsFragment-plain styling all within = subst (IsFragment styling) (sym within.whole) (text within.inside within.rest within.is_text within.fragment)
+-- outside all elements that is a fragment
+pub IsFragment-plain : (styling : Styling) (all : List ℕ) → IsInside styling [] [] all → IsFragment styling all
+IsFragment-plain styling all within =
+    subst (IsFragment styling) (append_assoc within.inside within.others within.rest ∙ sym within.whole)
+    (styled (within.inside ++ within.others) within.rest (plain within.inside within.others within.is_text within.are_styled) within.fragment)
 
 -- what the attribute of a style says
 IsSpanValue-style : (styling : Styling) (style : Style) → IsSpanValue styling (value_of styling false style)
 IsSpanValue-style (Inline scheme) style = declarations scheme (colors_css scheme style) (others_css style) (AreColors-css scheme style) (AreDeclarations-others style)
 IsSpanValue-style Classes style = classes (classes_of false style) (AreKnown-style false style)
 
-IsLinkValue-style : (styling : Styling) (style : Style) → IsLinkValue styling (value_of styling true style)
-unfolding classes_of
-IsLinkValue-style (Inline scheme) style = declarations scheme (colors_css scheme style) (others_css style) (AreColors-css scheme style) (AreDeclarations-others style)
-IsLinkValue-style Classes style = classes (classes_of false style) (AreKnown-style false style)
+-- and that of a link
+link_value-is : (styling : Styling) → value_of styling true plain_style ≡ link_value styling
+unfolding colors_css classes_of
+link_value-is (Inline scheme) = refl
+link_value-is Classes = refl
 
--- the beginning of a span, and what follows it, is a fragment
-IsFragment-span : (styling : Styling) (style : Style) (all : List ℕ) → IsInside styling (span_end style) all → IsFragment styling (span_begin styling style ++ all)
-IsFragment-span styling style all more = by_case (is_plain style) more
+-- the beginning of a span, what follows it in the span, and what follows that in the link
+IsStyled-span : (styling : Styling) (style : Style) (inside others : List ℕ) → IsText inside → IsStyled styling others
+    → IsStyled styling (span_begin styling style ++ (inside ++ (span_end style ++ others)))
+IsStyled-span styling style inside others is are = by_case (is_plain style)
   where
     tag : List ℕ
     tag = attribute_text styling (value_of styling false style)
 
-    by_case : (plain_is : Bool) → IsInside styling (if plain_is then [] else codes "</span>") all
-        → IsFragment styling ((if plain_is then [] else codes "<span" ++ tag) ++ all)
-    by_case true within = IsFragment-plain styling all within
-    by_case false within =
-        subst (IsFragment styling) (ap (λ l. codes "<span" ++ (tag ++ l)) (sym within.whole))
-        (span (value_of styling false style) within.inside within.rest (IsSpanValue-style styling style) within.is_text within.fragment)
+    by_case : (plain_is : Bool)
+        → IsStyled styling ((if plain_is then [] else codes "<span" ++ tag) ++ (inside ++ ((if plain_is then [] else codes "</span>") ++ others)))
+    by_case true = plain inside others is are
+    by_case false = span (value_of styling false style) inside others (IsSpanValue-style styling style) is are
 
--- the same of a link
-IsFragment-link : (styling : Styling) (uri : List ℕ) (style : Style) (all : List ℕ) → is_linkable uri ≡ true → IsInside styling (codes "</a>") all
-    → IsFragment styling (link_begin styling uri (value_of styling true style) ++ all)
-IsFragment-link styling uri style all is within =
-    let tag = attribute_text styling (value_of styling true style) in
-    let before : List ℕ → List ℕ = λ l. codes "<a rel=\"nofollow noreferrer\" href=\"" ++ l in
-    subst (IsFragment styling)
-    (ap (λ l. before (escaped_text uri ++ (codes "\"" ++ (tag ++ l)))) (sym within.whole)
-    ∙ ap before (sym (append_assoc (escaped_text uri) (codes "\"" ++ tag) all)))
-    (link (escaped_text uri) (value_of styling true style) within.inside within.rest (IsHref-escaped uri is) (IsLinkValue-style styling style) within.is_text within.fragment)
+-- five texts, of which the first four belong together
+regrouped : (begin inside close others rest : List ℕ) → begin ++ (inside ++ (close ++ (others ++ rest))) ≡ (begin ++ (inside ++ (close ++ others))) ++ rest
+regrouped begin inside close others rest =
+    ap (λ l. begin ++ (inside ++ l)) (sym (append_assoc close others rest)) ∙ ap (λ l. begin ++ l) (sym (append_assoc inside (close ++ others) rest))
+    ∙ sym (append_assoc begin (inside ++ (close ++ others)) rest)
 
 -- a link that is there is a URI
 linkable : (uri : List ℕ) → is_none uri ≡ false → IsLink uri → is_linkable uri ≡ true
 linkable uri some (inl none) = cc (some, none)
 linkable uri some (inr is) = is
 
-IsFragment-begin : (styling : Styling) (element : Element) (all : List ℕ) → IsLink element.link → IsInside styling (element_end element) all
-    → IsFragment styling (element_begin styling element ++ all)
-IsFragment-begin styling element all is more = by_case (is_none element.link) refl more
+-- the beginning of a link, text and spans, its end, and what follows it
+IsFragment-link : (styling : Styling) (link linked rest : List ℕ) → IsLink link → IsStyled styling linked → IsFragment styling rest
+    → IsFragment styling (link_begin styling link ++ (linked ++ (link_end link ++ rest)))
+IsFragment-link styling uri linked rest is are more = by_case (is_none uri) refl
   where
-    by_case : (none : Bool) → is_none element.link ≡ none → IsInside styling (if none then span_end element.style else codes "</a>") all
-        → IsFragment styling ((if none then span_begin styling element.style
-        else link_begin styling element.link (if none then value_of styling false element.style else value_of styling true element.style)) ++ all)
-    by_case true e within = IsFragment-span styling element.style all within
-    by_case false e within = IsFragment-link styling element.link element.style all (linkable element.link e is) within
+    tag : List ℕ
+    tag = attribute_text styling (value_of styling true plain_style)
+
+    by_case : (none : Bool) → is_none uri ≡ none
+        → IsFragment styling
+        ((if none then [] else codes "<a rel=\"nofollow noreferrer\" href=\"" ++ (escaped_text uri ++ (codes "\"" ++ tag)))
+        ++ (linked ++ ((if none then [] else codes "</a>") ++ rest)))
+    by_case true none = styled linked rest are more
+    by_case false some =
+        let all = linked ++ (codes "</a>" ++ rest) in
+        let before : List ℕ → List ℕ = λ l. codes "<a rel=\"nofollow noreferrer\" href=\"" ++ l in
+        subst (IsFragment styling)
+        (ap (λ value. before (escaped_text uri ++ (codes "\"" ++ (attribute_text styling value ++ all)))) (sym (link_value-is styling))
+        ∙ ap before (sym (append_assoc (escaped_text uri) (codes "\"" ++ tag) all)))
+        (link (escaped_text uri) linked rest (IsHref-escaped uri (linkable uri some is)) are more)
+
+-- the beginning of an element, and what follows it, is a fragment
+IsFragment-begin : (styling : Styling) (element : Element) (all : List ℕ) → IsLink element.link → IsInside styling (span_end element.style) (link_end element.link) all
+    → IsFragment styling (element_begin styling element ++ all)
+IsFragment-begin styling element all is more =
+    let begin = span_begin styling element.style in
+    let close = span_end element.style in
+    let close_link = link_end element.link in
+    let linked = begin ++ (more.inside ++ (close ++ more.others)) in
+    subst (IsFragment styling)
+    (ap (λ l. link_begin styling element.link ++ l)
+    (sym (regrouped begin more.inside close more.others (close_link ++ more.rest)) ∙ ap (λ l. begin ++ l) (sym more.whole))
+    ∙ sym (append_assoc (link_begin styling element.link) begin all))
+    (IsFragment-link styling element.link linked more.rest is (IsStyled-span styling element.style more.inside more.others more.is_text more.are_styled) more.fragment)
 
 -- the end of an element, and a fragment after it, goes on inside it
-pub IsInside-end : (styling : Styling) (close rest : List ℕ) → IsFragment styling rest → IsInside styling close (close ++ rest)
-IsInside-end styling close rest fragment = record { inside = []; rest = rest; whole = refl; is_text = nothing; fragment = fragment }
+pub IsInside-end : (styling : Styling) (shown : Element) (rest : List ℕ) → IsFragment styling rest
+    → IsInside styling (span_end shown.style) (link_end shown.link) (element_end shown ++ rest)
+IsInside-end styling shown rest fragment = record {
+  inside = [];
+  others = [];
+  rest = rest;
+  whole = append_assoc (span_end shown.style) (link_end shown.link) rest;
+  is_text = nothing;
+  are_styled = nothing_more;
+  fragment = fragment;
+}
 
-IsInside-change : (styling : Styling) (shown next : Element) (all : List ℕ) → IsLink next.link → IsInside styling (element_end next) all
-    → IsInside styling (element_end shown) (change styling shown next ++ all)
-IsInside-change styling shown next all is more = by_case (are_same shown next) refl
-  where
-    by_case : (same : Bool) → are_same shown next ≡ same → IsInside styling (element_end shown) ((if same then [] else element_end shown ++ element_begin styling next) ++ all)
-    by_case true e = subst (λ (it : Element). IsInside styling (element_end it) all) (sym (are_same-same shown next e)) more
-    by_case false e =
-        subst (IsInside styling (element_end shown)) (sym (append_assoc (element_end shown) (element_begin styling next) all))
-        (IsInside-end styling (element_end shown) (element_begin styling next ++ all) (IsFragment-begin styling next all is more))
+-- the end of a span and the beginning of another one in the same link
+IsInside-spans : (styling : Styling) (shown next : Style) (close_link all : List ℕ) → IsInside styling (span_end next) close_link all
+    → IsInside styling (span_end shown) close_link ((span_end shown ++ span_begin styling next) ++ all)
+IsInside-spans styling shown next close_link all more =
+    let begin = span_begin styling next in
+    record {
+      inside = [];
+      others = begin ++ (more.inside ++ (span_end next ++ more.others));
+      rest = more.rest;
+      whole = append_assoc (span_end shown) begin all ∙ ap (λ l. span_end shown ++ (begin ++ l)) more.whole
+          ∙ ap (λ l. span_end shown ++ l) (regrouped begin more.inside (span_end next) more.others (close_link ++ more.rest));
+      is_text = nothing;
+      are_styled = IsStyled-span styling next more.inside more.others more.is_text more.are_styled;
+      fragment = more.fragment;
+    }
 
-IsInside-break : (styling : Styling) (close : List ℕ) (returned is_line_feed : Bool) (all : List ℕ) → IsInside styling close all → IsInside styling close (line_break returned is_line_feed ++ all)
-IsInside-break styling close returned is_line_feed all more = by_case (returned && not is_line_feed)
+IsInside-change : (styling : Styling) (shown next : Element) (all : List ℕ) → IsLink next.link → IsInside styling (span_end next.style) (link_end next.link) all
+    → IsInside styling (span_end shown.style) (link_end shown.link) (change styling shown next ++ all)
+IsInside-change styling shown next all is more = by_case (are_same shown next) (bytes_eq shown.link next.link) refl refl
   where
-    by_case : (wanted : Bool) → IsInside styling close ((if wanted then codes "<br>" else []) ++ all)
-    by_case true = IsInside-prefix styling close (codes "<br>") all (λ rest is. broken rest is) more
+    by_case : (same linked_so : Bool) → are_same shown next ≡ same → bytes_eq shown.link next.link ≡ linked_so
+        → IsInside styling (span_end shown.style) (link_end shown.link)
+        ((if same then [] else if linked_so then span_end shown.style ++ span_begin styling next.style else element_end shown ++ element_begin styling next) ++ all)
+    by_case true linked_so e links = subst (λ (it : Element). IsInside styling (span_end it.style) (link_end it.link) all) (sym (are_same-same shown next e)) more
+    by_case false true e links =
+        IsInside-spans styling shown.style next.style (link_end shown.link) all
+        (subst (λ link. IsInside styling (span_end next.style) (link_end link) all) (sym ((bytes_eq-Decides shown.link next.link).0 links)) more)
+    by_case false false e links =
+        subst (IsInside styling (span_end shown.style) (link_end shown.link)) (sym (append_assoc (element_end shown) (element_begin styling next) all))
+        (IsInside-end styling shown (element_begin styling next ++ all) (IsFragment-begin styling next all is more))
+
+IsInside-break : (styling : Styling) (close close_link : List ℕ) (returned is_line_feed : Bool) (all : List ℕ) → IsInside styling close close_link all
+    → IsInside styling close close_link (line_break returned is_line_feed ++ all)
+IsInside-break styling close close_link returned is_line_feed all more = by_case (returned && not is_line_feed)
+  where
+    by_case : (wanted : Bool) → IsInside styling close close_link ((if wanted then codes "<br>" else []) ++ all)
+    by_case true = IsInside-prefix styling close close_link (codes "<br>") all (λ rest is. broken rest is) more
     by_case false = more
 
+-- what may follow inside an element
+abbrev pub IsInElement : Styling → Element → List ℕ → Type 0
+IsInElement styling element all = IsInside styling (span_end element.style) (link_end element.link) all
+
 pub IsInside-text_html : (styling : Styling) (at : Standing) (is_line_feed : Bool) (bytes rest : List ℕ) → AreSound at → AreTextual bytes
-    → IsInside styling (element_end (after_text at.shown at.selected bytes)) rest → IsInside styling (element_end at.shown) (text_html styling at is_line_feed bytes ++ rest)
+    → IsInElement styling (after_text at.shown at.selected bytes) rest → IsInElement styling at.shown (text_html styling at is_line_feed bytes ++ rest)
 unfolding text_html
 IsInside-text_html styling at is_line_feed [] rest sound are more = more
 IsInside-text_html styling at is_line_feed (b ∷ bytes) rest sound are more =
     let changed = change styling at.shown at.selected in
     let break = line_break at.returned is_line_feed in
     let escaped_bytes = escaped_text (b ∷ bytes) in
-    subst (IsInside styling (element_end at.shown)) (sym (append_assoc (changed ++ break) escaped_bytes rest ∙ append_assoc changed break (escaped_bytes ++ rest)))
+    let close = span_end at.selected.style in
+    let close_link = link_end at.selected.link in
+    subst (IsInElement styling at.shown) (sym (append_assoc (changed ++ break) escaped_bytes rest ∙ append_assoc changed break (escaped_bytes ++ rest)))
     (IsInside-change styling at.shown at.selected (break ++ (escaped_bytes ++ rest)) sound.selected.is_link
-    (IsInside-break styling (element_end at.selected) at.returned is_line_feed (escaped_bytes ++ rest)
-    (IsInside-text styling (element_end at.selected) (b ∷ bytes) rest are more)))
+    (IsInside-break styling close close_link at.returned is_line_feed (escaped_bytes ++ rest)
+    (IsInside-text styling close close_link (b ∷ bytes) rest are more)))
+
+-- at the end of all text
+pub IsInside-nothing : (styling : Styling) (shown : Element) → IsInElement styling shown (element_end shown)
+IsInside-nothing styling shown = subst (IsInElement styling shown) (append-nil (element_end shown)) (IsInside-end styling shown [] end)
 
 IsInside-html_from : (styling : Styling) (at : Standing) (calls : List Call) → AreSound at → AreShowable calls
-    → IsInside styling (element_end at.shown) (html_from styling at calls ++ element_end (standing_at_end at calls).shown)
-IsInside-html_from styling at [] sound are = subst (IsInside styling (element_end at.shown)) (append-nil (element_end at.shown)) (IsInside-end styling (element_end at.shown) [] end)
+    → IsInElement styling at.shown (html_from styling at calls ++ element_end (standing_at_end at calls).shown)
+IsInside-html_from styling at [] sound are = IsInside-nothing styling at.shown
 IsInside-html_from styling at (call ∷ calls) sound are =
     let bytes = stripped_call call in
     let after = standing_after call at in
     let last = element_end (standing_at_end after calls).shown in
-    subst (IsInside styling (element_end at.shown)) (sym (append_assoc (call_html styling at call) (html_from styling after calls) last))
+    subst (IsInElement styling at.shown) (sym (append_assoc (call_html styling at call) (html_from styling after calls) last))
     (IsInside-text_html styling at (is_executed 0x0A call) bytes (html_from styling after calls ++ last) sound (AreTextual-stripped call are.0)
     (IsInside-html_from styling after calls (AreSound-after call at sound) are.1))
 
+-- what may follow in no element is a fragment
+pub IsFragment-outside : (styling : Styling) (all : List ℕ) → IsInElement styling no_element all → IsFragment styling all
+IsFragment-outside styling all within =
+    IsFragment-plain styling all (subst (λ (none : Bool). IsInside styling (if none then [] else codes "</span>") [] all) (are_equal-refl plain_style) within)
+
 -- The HTML of calls that can be shown is a fragment.
 pub IsFragment-html : (styling : Styling) → (calls : List Call) → AreShowable calls → IsFragment styling (html styling calls)
-IsFragment-html styling calls are =
-    let all = html styling calls in
-    IsFragment-plain styling all
-    (subst (λ (none : Bool). IsInside styling (if none then [] else codes "</span>") all) (are_equal-refl plain) (IsInside-html_from styling at_start calls AreSound-start are))
+IsFragment-html styling calls are = IsFragment-outside styling (html styling calls) (IsInside-html_from styling at_start calls AreSound-start are)

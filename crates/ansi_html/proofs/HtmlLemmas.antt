@@ -14,7 +14,7 @@ use Rattle.ansi_style.specs.Style.{are_equal}
 use Rattle.ansi_style.proofs.EqualityLemmas.{are_equal-refl, are_equal-same}
 use Rattle.ansi_html.specs.declared.scheme.Styling.{Styling}
 use Rattle.anstyle_parse.specs.Stream.Call.{print, execute}
-use Rattle.ansi_html.specs.Html.{escaped, escaped_text, Element, element, are_same, Standing, beginning, element_begin, element_end, after_text, text_html, call_html, standing_after, change}
+use Rattle.ansi_html.specs.Html.{escaped, escaped_text, Element, element, are_same, Standing, beginning, span_begin, span_end, element_begin, element_end, after_text, text_html, call_html, standing_after, change}
 use Rattle.ansi_html.specs.Writer.{in_element}
 use Rattle.ansi_html.specs.Grammar.{is_special, AreClear, BeginWithClear}
 
@@ -176,4 +176,29 @@ are_same-same one other same =
 
 -- where the element stays nothing changes
 pub change-same : (styling : Styling) → (element : Element) → change styling element element ≡ []
-change-same styling element = ap (λ (same : Bool). if same then [] else element_end element ++ element_begin styling element) (are_same-refl element)
+change-same styling element =
+    ap (λ (same : Bool). if same then [] else if bytes_eq element.link element.link then span_end element.style ++ span_begin styling element.style else element_end element ++ element_begin styling element)
+    (are_same-refl element)
+
+-- What a change of links writes, what one of styles in a link does, and what no change does.
+and_false : (first : Bool) → (first && false) ≡ false
+and_false true = refl
+and_false false = refl
+
+module _ (styling : Styling) (shown next : Element) where
+  abbrev changed_by : (same linked : Bool) → List ℕ
+  changed_by same linked =
+      if same then []
+      else if linked then span_end shown.style ++ span_begin styling next.style
+      else element_end shown ++ element_begin styling next
+
+  pub change-link : bytes_eq shown.link next.link ≡ false → change styling shown next ≡ element_end shown ++ element_begin styling next
+  change-link other =
+      ap (λ (linked : Bool). changed_by (are_equal shown.style next.style && linked) linked) other
+      ∙ ap (λ (same : Bool). changed_by same false) (and_false (are_equal shown.style next.style))
+
+  pub change-style : bytes_eq shown.link next.link ≡ true → are_equal shown.style next.style ≡ false → change styling shown next ≡ span_end shown.style ++ span_begin styling next.style
+  change-style same other = ap₂ (λ (equal linked : Bool). changed_by (equal && linked) linked) other same
+
+  pub change-none : bytes_eq shown.link next.link ≡ true → are_equal shown.style next.style ≡ true → change styling shown next ≡ []
+  change-none same equal = ap₂ (λ (equal linked : Bool). changed_by (equal && linked) linked) equal same

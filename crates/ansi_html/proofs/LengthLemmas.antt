@@ -1,11 +1,18 @@
 -- How long the HTML can be.
-use Rattle.std.proofs.Common.{◌≤◌, ◌<◌, ℕ, ◌+◌, ◌*◌, Bool, true, false, ◌||◌, ◌&&◌, eqb, ⊎_elim, ap, List, [], ◌∷◌, ◌++◌, codes, length, arith, length-append}
-use Rattle.std.specs.Prelude.{not, encode_utf8}
+use Rattle.std.proofs.Common.{◌≡◌, ◌≤◌, ◌<◌, ℕ, ◌+◌, ◌*◌, Bool, true, false, ◌||◌, ◌&&◌, eqb, ⊎_elim, ap, List, [], ◌∷◌, ◌++◌, codes, length, drop, refl, arith, length-append}
+use Rattle.std.specs.Prelude.{not, encode_utf8, nat_eq, if◌then◌else◌}
+use Rattle.std.specs.List.{list_all, starts_with}
+use Rattle.std.proofs.lemmas.Bool.{and_parts, or_cases}
+use Rattle.std.proofs.lemmas.Bool.Decides.{Decides-eqb}
+use Rattle.std.proofs.lemmas.Slice.Eq.{starts_is}
+use Rattle.std.proofs.lemmas.Grind.{flat_map-append}
 use Rattle.std.proofs.lemmas.Bool.{cases_lt}
 use Rattle.std.proofs.lemmas.Str.{length-encode, len_utf8_bounds}
 use Rattle.anstyle_parse.specs.Stream.Call.{Call, print, execute, hook, put, unhook, osc_dispatch, csi_dispatch, esc_dispatch}
 use Rattle.ansi_strip.specs.Strip.{is_layout, stripped_call}
+use Rattle.std.specs.Str.{bytes_eq}
 use Rattle.ansi_style.specs.declared.style.Style.{Style}
+use Rattle.ansi_style.specs.Style.{plain}
 use Rattle.ansi_style.specs.declared.style.Underline.{Underline}
 use Rattle.ansi_style.specs.declared.style.Underline.TheVariants.{Off, Single, Double, Curly, Dotted, Dashed}
 use Rattle.ansi_html.specs.declared.contrast.Rgb.{Rgb}
@@ -16,13 +23,14 @@ use Rattle.ansi_html.specs.declared.scheme.Styling.TheVariants.{Inline, Classes}
 use Rattle.ansi_html.specs.Contrast.{black, white}
 use Rattle.ansi_html.specs.Palette.{hex}
 use Rattle.ansi_html.specs.Css.{declared, light_dark, themed, colors_css, text_if, is_underlined, lines_css, underline_css, css}
+use Rattle.ansi_html.specs.Classes.{classes_of}
 use Rattle.ansi_html.specs.Grammar.{AreReadable, of_page, on_page, on_reversed, on_color, AreColors, readable, chosen}
-use Rattle.ansi_html.specs.Html.{escaped, escaped_text, is_plain, span_begin, span_end, Element, are_same, value_of, element_value, attribute_text, link_begin, element_begin, element_end, change, Standing, at_start, line_break, beginning, is_executed, text_html, call_html, standing_after, html_from, standing_at_end, html}
+use Rattle.ansi_html.specs.Html.{escaped, escaped_text, is_plain, span_begin, span_end, Element, are_same, value_of, attribute_text, link_begin, link_end, element_begin, element_end, change, Standing, line_break, beginning, text_html}
 use Rattle.ansi_html.proofs.HtmlLemmas.{escaped_one, escaped_ascii, escaped_high}
 use Rattle.ansi_html.proofs.ColorLemmas.{choose, AreColors-css}
 use Rattle.ansi_html.proofs.ClassLemmas.{length-class_names}
-use Rattle.ansi_html.specs.Links.{is_none}
-use Rattle.ansi_html.proofs.SoundLemmas.{AreSound, AreSound-start, AreSound-after}
+use Rattle.ansi_html.specs.Links.{has_scheme, is_visible, is_linkable, is_none}
+use Rattle.ansi_html.proofs.SoundLemmas.{IsSound, AreSound}
 
 -- a test that a text is at most so long
 unfoldable pub AtMost : ℕ → List ℕ → Type 0
@@ -117,34 +125,44 @@ AtMost-css scheme style =
     (AtMost-append 29 18 (underline_css style.underline) (text_if style.hidden (codes "visibility:hidden;")) (AtMost-underline style.underline)
     (AtMost-if 18 style.hidden (codes "visibility:hidden;") (omega arith))))))
 
-pub AtMost-end : (shown : Element) → AtMost 7 (element_end shown)
+pub AtMost-span_end : (style : Style) → AtMost 7 (span_end style)
+unfolding AtMost
+AtMost-span_end style = choose (λ l. length l ≤ 7) (is_plain style) [] (codes "</span>") (omega arith) (omega arith)
+
+-- 7 for the end of a span, and 4 for that of a link
+pub AtMost-end : (shown : Element) → AtMost 11 (element_end shown)
 unfolding AtMost
 AtMost-end shown =
-    let P : List ℕ → Type 0 = λ l. length l ≤ 7 in
-    choose P (is_none shown.link) (span_end shown.style) (codes "</a>") (choose P (is_plain shown.style) [] (codes "</span>") (omega arith) (omega arith)) (omega arith)
+    AtMost-append 7 4 (span_end shown.style) (link_end shown.link) (AtMost-span_end shown.style)
+    (choose (λ l. length l ≤ 4) (is_none shown.link) [] (codes "</a>") (omega arith) (omega arith))
 
--- 14 for the colour of a link, and the style; or the names of classes
-AtMost-value : (styling : Styling) (linked : Bool) (style : Style) → AtMost 274 (value_of styling linked style)
+-- what a span says: declarations, or the names of classes
+AtMost-value : (styling : Styling) (style : Style) → AtMost 260 (value_of styling false style)
 unfolding AtMost
-AtMost-value (Inline scheme) linked style =
-    AtMost-append 14 260 (text_if linked (codes "color:inherit;")) (css scheme style) (AtMost-if 14 linked (codes "color:inherit;") (omega arith)) (AtMost-css scheme style)
-AtMost-value Classes linked style = omega (arith, length-class_names linked style)
+AtMost-value (Inline scheme) style = AtMost-css scheme style
+AtMost-value Classes style = omega (arith, length-class_names false style)
 
-AtMost-attribute : (styling : Styling) (value : List ℕ) → AtMost 274 value → AtMost 284 (attribute_text styling value)
+AtMost-attribute : (n : ℕ) (styling : Styling) (value : List ℕ) → AtMost n value → AtMost (n + 10) (attribute_text styling value)
 unfolding AtMost
-AtMost-attribute (Inline scheme) value few =
-    AtMost-append 8 276 (codes " style=\"") (value ++ codes "\">") (omega arith) (AtMost-append 274 2 value (codes "\">") few (omega arith))
-AtMost-attribute Classes value few =
-    AtMost-append 8 276 (codes " class=\"") (value ++ codes "\">") (omega arith) (AtMost-append 274 2 value (codes "\">") few (omega arith))
+AtMost-attribute n (Inline scheme) value few = omega (arith, few, length-append (codes " style=\"") (value ++ codes "\">"), length-append value (codes "\">"))
+AtMost-attribute n Classes value few = omega (arith, few, length-append (codes " class=\"") (value ++ codes "\">"), length-append value (codes "\">"))
 
-pub AtMost-span_begin : (styling : Styling) → (style : Style) → AtMost 289 (span_begin styling style)
+-- by classes
+pub AtMost-span_of_classes : (style : Style) → AtMost 119 (span_begin Classes style)
+unfolding AtMost
+AtMost-span_of_classes style =
+    let tag = attribute_text Classes (value_of Classes false style) in
+    choose (λ l. length l ≤ 119) (is_plain style) [] (codes "<span" ++ tag) (omega arith)
+    (AtMost-append 5 114 (codes "<span") tag (omega arith) (AtMost-attribute 104 Classes (value_of Classes false style) (length-class_names false style)))
+
+pub AtMost-span_begin : (styling : Styling) → (style : Style) → AtMost 275 (span_begin styling style)
 unfolding AtMost
 AtMost-span_begin styling style =
     let tag = attribute_text styling (value_of styling false style) in
-    choose (λ l. length l ≤ 289) (is_plain style) [] (codes "<span" ++ tag) (omega arith)
-    (AtMost-append 5 284 (codes "<span") tag (omega arith) (AtMost-attribute styling (value_of styling false style) (AtMost-value styling false style)))
+    choose (λ l. length l ≤ 275) (is_plain style) [] (codes "<span" ++ tag) (omega arith)
+    (AtMost-append 5 270 (codes "<span") tag (omega arith) (AtMost-attribute 260 styling (value_of styling false style) (AtMost-value styling style)))
 
-length-escaped : (b : ℕ) → length (escaped b) ≤ 6
+pub length-escaped : (b : ℕ) → length (escaped b) ≤ 6
 length-escaped b =
     let P : List ℕ → Type 0 = λ l. length l ≤ 6 in
     choose P (eqb b 0x26) _ _ (omega arith) (choose P (eqb b 0x3C) _ _ (omega arith) (choose P (eqb b 0x3E) _ _ (omega arith)
@@ -154,48 +172,107 @@ pub length-escaped_text : (bytes : List ℕ) → length (escaped_text bytes) ≤
 length-escaped_text [] = omega arith
 length-escaped_text (b ∷ bytes) = omega (arith, length-append (escaped b) (escaped_text bytes), length-escaped b, length-escaped_text bytes)
 
-AtMost-link : (link : List ℕ) → length link ≤ 1035 → AtMost 6210 (escaped_text link)
-unfolding AtMost
-AtMost-link link short = omega (arith, length-escaped_text link, short)
+-- 14 for the colour of a link, or 9 for its class
+AtMost-link_value : (styling : Styling) → AtMost 14 (value_of styling true plain)
+unfolding AtMost colors_css classes_of
+AtMost-link_value (Inline scheme) = omega arith
+AtMost-link_value Classes = omega arith
 
-AtMost-element_value : (styling : Styling) (element : Element) → AtMost 274 (element_value styling element)
+-- 61 for the tag, and the URI
+pub AtMost-link_begin : (styling : Styling) (link : List ℕ) → AtMost (60 + 6 * length link) (link_begin styling link)
 unfolding AtMost
-AtMost-element_value styling element =
-    choose (λ l. length l ≤ 274) (is_none element.link) (value_of styling false element.style) (value_of styling true element.style)
-    (AtMost-value styling false element.style) (AtMost-value styling true element.style)
+AtMost-link_begin styling link =
+    let tag = attribute_text styling (value_of styling true plain) in
+    choose (λ l. length l ≤ 60 + 6 * length link) (is_none link) [] (codes "<a rel=\"nofollow noreferrer\" href=\"" ++ (escaped_text link ++ (codes "\"" ++ tag))) (omega arith)
+    (omega (
+      arith,
+      length-append (codes "<a rel=\"nofollow noreferrer\" href=\"") (escaped_text link ++ (codes "\"" ++ tag)),
+      length-append (escaped_text link) (codes "\"" ++ tag),
+      length-append (codes "\"") tag,
+      length-escaped_text link,
+      AtMost-attribute 14 styling (value_of styling true plain) (AtMost-link_value styling),
+    ))
 
-AtMost-begin : (styling : Styling) (element : Element) → length element.link ≤ 1035 → AtMost 6530 (element_begin styling element)
+-- a URI that begins with a scheme has seven bytes at least that are written as they are
+length-scheme : (first link : List ℕ) → escaped_text first ≡ first → 7 ≤ length first → starts_with nat_eq link first ≡ true → length (escaped_text link) + 35 ≤ 6 * length link
+length-scheme first link same long begins =
+    let rest = drop (length first) link in
+    let whole = (starts_is {E = nat_eq} Decides-eqb link first (starts_with nat_eq link first) refl).0 begins in
+    omega (
+      arith,
+      long,
+      ap length whole,
+      length-append first rest,
+      ap (λ l. length (escaped_text l)) whole,
+      ap length (flat_map-append escaped first rest),
+      ap length same,
+      length-append (escaped_text first) (escaped_text rest),
+      length-escaped_text rest,
+    )
+
+length-linkable : (link : List ℕ) → is_linkable link ≡ true → length (escaped_text link) + 35 ≤ 6 * length link
+unfolding is_linkable has_scheme
+length-linkable link is =
+    let begins : List ℕ → Bool = λ first. starts_with nat_eq link first in
+    let scheme = (and_parts (begins (codes "https://") || (begins (codes "http://") || begins (codes "mailto:"))) (list_all is_visible link) is).0 in
+    ⊎_elim (length-scheme (codes "https://") link refl (omega arith))
+    (λ others. ⊎_elim (length-scheme (codes "http://") link refl (omega arith)) (length-scheme (codes "mailto:") link refl (omega arith))
+    (or_cases (begins (codes "http://")) (begins (codes "mailto:")) others))
+    (or_cases (begins (codes "https://")) _ scheme)
+
+pub length-link : (styling : Styling) (link : List ℕ) → IsSound link → length (link_begin styling link) ≤ 6235
 unfolding AtMost
-AtMost-begin styling element short =
-    let value = element_value styling element in
-    choose (λ l. length l ≤ 6530) (is_none element.link) (span_begin styling element.style) (link_begin styling element.link value)
-    (omega (arith, AtMost-span_begin styling element.style))
-    (AtMost-append 35 6495 (codes "<a rel=\"nofollow noreferrer\" href=\"") _ (omega arith)
-    (AtMost-append 6210 285 (escaped_text element.link) _ (AtMost-link element.link short)
-    (AtMost-append 1 284 (codes "\"") (attribute_text styling value) (omega arith) (AtMost-attribute styling value (AtMost-element_value styling element)))))
+length-link styling link sound =
+    let tag = attribute_text styling (value_of styling true plain) in
+    ⊎_elim (λ (none : link ≡ []). omega (arith, ap (λ l. length (link_begin styling l)) none))
+    (λ (is : is_linkable link ≡ true). choose (λ l. length l ≤ 6235) (is_none link) [] (codes "<a rel=\"nofollow noreferrer\" href=\"" ++ (escaped_text link ++ (codes "\"" ++ tag))) (omega arith)
+    (omega (
+      arith,
+      sound.short,
+      length-append (codes "<a rel=\"nofollow noreferrer\" href=\"") (escaped_text link ++ (codes "\"" ++ tag)),
+      length-append (escaped_text link) (codes "\"" ++ tag),
+      length-append (codes "\"") tag,
+      length-linkable link is,
+      AtMost-attribute 14 styling (value_of styling true plain) (AtMost-link_value styling),
+    )))
+    sound.is_link
 
-pub AtMost-change : (styling : Styling) (shown next : Element) → length next.link ≤ 1035 → AtMost 6537 (change styling shown next)
+-- A change: 7 for the end of a span and 275 for the beginning of another one, and where the link changes too 4 for the end
+-- of a link and 6235 for the beginning of another one.
+pub length-change : (styling : Styling) (shown next : Element) → IsSound next.link → length (change styling shown next) ≤ 6521
 unfolding AtMost
-AtMost-change styling shown next short =
-    choose (λ l. length l ≤ 6537) (are_same shown next) [] (element_end shown ++ element_begin styling next) (omega arith)
-    (AtMost-append 7 6530 (element_end shown) (element_begin styling next) (AtMost-end shown) (AtMost-begin styling next short))
+length-change styling shown next sound = by_case (are_same shown next) (bytes_eq shown.link next.link)
+  where
+    by_case : (same linked : Bool)
+        → length (if same then [] else if linked then span_end shown.style ++ span_begin styling next.style else element_end shown ++ element_begin styling next) ≤ 6521
+    by_case true linked = omega arith
+    by_case false true = omega (arith, length-append (span_end shown.style) (span_begin styling next.style), AtMost-span_end shown.style, AtMost-span_begin styling next.style)
+    by_case false false =
+        omega (
+          arith,
+          length-append (element_end shown) (element_begin styling next),
+          length-append (link_begin styling next.link) (span_begin styling next.style),
+          AtMost-end shown,
+          length-link styling next.link sound,
+          AtMost-span_begin styling next.style,
+        )
 
-AtMost-line_break : (returned is_line_feed : Bool) → AtMost 4 (line_break returned is_line_feed)
+pub AtMost-line_break : (returned is_line_feed : Bool) → AtMost 4 (line_break returned is_line_feed)
 unfolding AtMost
 AtMost-line_break returned is_line_feed = choose (λ l. length l ≤ 4) (returned && not is_line_feed) (codes "<br>") [] (omega arith) (omega arith)
 
 -- what ends an element
-pub length-end : (shown : Element) → length (element_end shown) ≤ 7
+pub length-end : (shown : Element) → length (element_end shown) ≤ 11
 unfolding AtMost
 length-end shown = AtMost-end shown
 
 -- what begins a text
-pub length-beginning : (styling : Styling) (at : Standing) (is_line_feed : Bool) → length at.selected.link ≤ 1035 → length (beginning styling at is_line_feed) ≤ 6541
+pub length-beginning : (styling : Styling) (at : Standing) (is_line_feed : Bool) → IsSound at.selected.link → length (beginning styling at is_line_feed) ≤ 6525
 unfolding AtMost
-length-beginning styling at is_line_feed short =
+length-beginning styling at is_line_feed sound =
     let changed = change styling at.shown at.selected in
     let broken = line_break at.returned is_line_feed in
-    omega (arith, length-append changed broken, AtMost-change styling at.shown at.selected short, AtMost-line_break at.returned is_line_feed)
+    omega (arith, length-append changed broken, length-change styling at.shown at.selected sound, AtMost-line_break at.returned is_line_feed)
 
 -- what is left of a call, escaped: a reference, or the bytes of a character
 length-encoded : (c : ℕ) → length (escaped_text (encode_utf8 c)) ≤ 6
@@ -216,28 +293,11 @@ length-stripped (osc_dispatch parts bell) = omega arith
 length-stripped (csi_dispatch gs is ig f) = omega arith
 length-stripped (esc_dispatch is ig f) = omega arith
 
--- 6537 for a change of elements, 4 for a line break and 6 for the text
-pub length-text_html : (styling : Styling) (at : Standing) (is_line_feed : Bool) (bytes : List ℕ) → AreSound at → length (escaped_text bytes) ≤ 6 → length (text_html styling at is_line_feed bytes) ≤ 6547
+-- 6521 for a change of elements, 4 for a line break and 6 for the text
+pub length-text_html : (styling : Styling) (at : Standing) (is_line_feed : Bool) (bytes : List ℕ) → AreSound at → length (escaped_text bytes) ≤ 6 → length (text_html styling at is_line_feed bytes) ≤ 6531
 unfolding text_html AtMost
 length-text_html styling at is_line_feed [] sound few = omega arith
 length-text_html styling at is_line_feed (b ∷ bytes) sound few =
     let changed = change styling at.shown at.selected in
     let broken = line_break at.returned is_line_feed in
-    omega (arith, few, length-append (changed ++ broken) (escaped_text (b ∷ bytes)), length-append changed broken, AtMost-change styling at.shown at.selected sound.selected.short, AtMost-line_break at.returned is_line_feed)
-
-length-html_from : (styling : Styling) (at : Standing) (calls : List Call) → AreSound at → length (html_from styling at calls) ≤ 6547 * length calls
-length-html_from styling at [] sound = omega arith
-length-html_from styling at (call ∷ calls) sound =
-    let after = standing_after call at in
-    omega (
-      arith,
-      length-append (call_html styling at call) (html_from styling after calls),
-      length-text_html styling at (is_executed 0x0A call) (stripped_call call) sound (length-stripped call),
-      length-html_from styling after calls (AreSound-after call at sound),
-    )
-
-pub length-html : (styling : Styling) → (calls : List Call) → length (html styling calls) ≤ 6547 * length calls + 7
-unfolding AtMost
-length-html styling calls =
-    let last = (standing_at_end at_start calls).shown in
-    omega (arith, length-append (html_from styling at_start calls) (element_end last), length-html_from styling at_start calls AreSound-start, AtMost-end last)
+    omega (arith, few, length-append (changed ++ broken) (escaped_text (b ∷ bytes)), length-append changed broken, length-change styling at.shown at.selected sound.selected, AtMost-line_break at.returned is_line_feed)

@@ -20,6 +20,7 @@ pub mod LawfulText
 pub mod GrammarLemmas
 pub mod TextLemmas
 pub mod LengthLemmas
+pub mod BoundLemmas
 pub mod LinkLemmas
 pub mod SoundLemmas
 pub mod ShownLemmas

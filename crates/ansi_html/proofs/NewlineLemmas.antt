@@ -6,17 +6,19 @@ use Rattle.std.proofs.lemmas.Bool.{and_from, and_parts, or_cases, eqb-true}
 use Rattle.std.proofs.lemmas.List.Folds.{list_all-append}
 use Rattle.anstyle_parse.specs.Stream.Call.{Call}
 use Rattle.ansi_strip.specs.Strip.{stripped_call}
+use Rattle.std.specs.Str.{bytes_eq}
 use Rattle.ansi_style.specs.declared.style.Style.{Style}
+use Rattle.ansi_style.specs.Style.{plain}
 use Rattle.ansi_html.specs.declared.scheme.Styling.{Styling}
 use Rattle.ansi_html.specs.declared.scheme.Styling.TheVariants.{Inline, Classes}
 use Rattle.ansi_html.specs.Links.{is_none}
 use Rattle.ansi_html.specs.Grammar.{is_special}
-use Rattle.ansi_html.specs.Html.{escaped, escaped_text, is_plain, span_begin, span_end, Element, are_same, value_of, element_value, attribute_text, link_begin, element_begin, element_end, change, Standing, at_start, line_break, beginning, is_executed, text_html, call_html, standing_after, html_from, standing_at_end, html}
+use Rattle.ansi_html.specs.Html.{escaped, escaped_text, is_plain, span_begin, span_end, Element, are_same, value_of, attribute_text, link_begin, link_end, element_begin, element_end, change, Standing, at_start, line_break, beginning, is_executed, text_html, call_html, standing_after, html_from, standing_at_end, html}
 use Rattle.ansi_html.specs.Reader.{normalized_from, normalized}
 use Rattle.ansi_html.proofs.ColorLemmas.{choose}
 use Rattle.ansi_html.proofs.HtmlLemmas.{escaped-clear, not_return-clear, false-from_not}
 use Rattle.ansi_html.proofs.DeclarationLemmas.{is_safe, AreSafe, not_return-safe}
-use Rattle.ansi_html.proofs.ClassLemmas.{AreSafe-value, AreSafe-element_value}
+use Rattle.ansi_html.proofs.ClassLemmas.{AreSafe-value}
 
 unfoldable pub is_not_return : ℕ → Bool
 is_not_return b = not (eqb b 0x0D)
@@ -72,11 +74,15 @@ HasNoReturn-escaped (b ∷ bytes) = HasNoReturn-append (escaped b) (escaped_text
 pub normalized-escaped : (bytes : List ℕ) → normalized (escaped_text bytes) ≡ escaped_text bytes
 normalized-escaped bytes = normalized-same (escaped_text bytes) (HasNoReturn-escaped bytes)
 
+HasNoReturn-span_end : (style : Style) → HasNoReturn (span_end style)
+unfolding is_not_return
+HasNoReturn-span_end style = choose (λ l. list_all (λ x. not (eqb x 0x0D)) l ≡ true) (is_plain style) [] (codes "</span>") refl refl
+
 pub HasNoReturn-end : (shown : Element) → HasNoReturn (element_end shown)
 unfolding is_not_return
 HasNoReturn-end shown =
-    let Q : List ℕ → Type 0 = λ l. list_all (λ x. not (eqb x 0x0D)) l ≡ true in
-    choose Q (is_none shown.link) (span_end shown.style) (codes "</a>") (choose Q (is_plain shown.style) [] (codes "</span>") refl refl) refl
+    HasNoReturn-append (span_end shown.style) (link_end shown.link) (HasNoReturn-span_end shown.style)
+    (choose (λ l. list_all (λ x. not (eqb x 0x0D)) l ≡ true) (is_none shown.link) [] (codes "</a>") refl refl)
 
 HasNoReturn-attribute : (styling : Styling) (value : List ℕ) → AreSafe value → HasNoReturn (attribute_text styling value)
 unfolding is_not_return
@@ -93,23 +99,25 @@ module _ (styling : Styling) where
       choose HasNoReturn (is_plain style) [] (codes "<span" ++ tag) refl
       (HasNoReturn-append (codes "<span") tag refl (HasNoReturn-attribute styling (value_of styling false style) (AreSafe-value styling false style)))
 
-  HasNoReturn-link : (element : Element) → HasNoReturn (link_begin styling element.link (element_value styling element))
+  HasNoReturn-link : (link : List ℕ) → HasNoReturn (link_begin styling link)
   unfolding is_not_return
-  HasNoReturn-link element =
-      let tag = attribute_text styling (element_value styling element) in
-      HasNoReturn-append (codes "<a rel=\"nofollow noreferrer\" href=\"") (escaped_text element.link ++ (codes "\"" ++ tag)) refl
-      (HasNoReturn-append (escaped_text element.link) (codes "\"" ++ tag) (HasNoReturn-escaped element.link)
-      (HasNoReturn-append (codes "\"") tag refl (HasNoReturn-attribute styling (element_value styling element) (AreSafe-element_value styling element))))
+  HasNoReturn-link link =
+      let tag = attribute_text styling (value_of styling true plain) in
+      choose HasNoReturn (is_none link) [] (codes "<a rel=\"nofollow noreferrer\" href=\"" ++ (escaped_text link ++ (codes "\"" ++ tag))) refl
+      (HasNoReturn-append (codes "<a rel=\"nofollow noreferrer\" href=\"") (escaped_text link ++ (codes "\"" ++ tag)) refl
+      (HasNoReturn-append (escaped_text link) (codes "\"" ++ tag) (HasNoReturn-escaped link)
+      (HasNoReturn-append (codes "\"") tag refl (HasNoReturn-attribute styling (value_of styling true plain) (AreSafe-value styling true plain)))))
 
   HasNoReturn-begin : (element : Element) → HasNoReturn (element_begin styling element)
   HasNoReturn-begin element =
-      choose HasNoReturn (is_none element.link) (span_begin styling element.style) (link_begin styling element.link (element_value styling element))
-      (HasNoReturn-span element.style) (HasNoReturn-link element)
+      HasNoReturn-append (link_begin styling element.link) (span_begin styling element.style) (HasNoReturn-link element.link) (HasNoReturn-span element.style)
 
   HasNoReturn-change : (shown next : Element) → HasNoReturn (change styling shown next)
   HasNoReturn-change shown next =
-      choose HasNoReturn (are_same shown next) [] (element_end shown ++ element_begin styling next) refl
-      (HasNoReturn-append (element_end shown) (element_begin styling next) (HasNoReturn-end shown) (HasNoReturn-begin next))
+      choose HasNoReturn (are_same shown next) [] _ refl
+      (choose HasNoReturn (bytes_eq shown.link next.link) (span_end shown.style ++ span_begin styling next.style) (element_end shown ++ element_begin styling next)
+      (HasNoReturn-append (span_end shown.style) (span_begin styling next.style) (HasNoReturn-span_end shown.style) (HasNoReturn-span next.style))
+      (HasNoReturn-append (element_end shown) (element_begin styling next) (HasNoReturn-end shown) (HasNoReturn-begin next)))
 
   HasNoReturn-beginning : (at : Standing) (is_line_feed : Bool) → HasNoReturn (beginning styling at is_line_feed)
   unfolding is_not_return

@@ -1,4 +1,4 @@
--- How much HTML the bytes of a piece lead to: at most 6,550 bytes each.
+-- How much HTML the bytes of a piece lead to: at most 6,534 bytes each.
 use Rattle.std.proofs.Common.{◌≡◌, ◌≤◌, ◌*◌, ℕ, suc, Bool, true, false, List, [], ◌∷◌, ◌++◌, length, refl, sym, ap, ap₂, ◌∙◌, arith, lit≤, length-append, IsTrue}
 use Rattle.std.specs.Prelude.{encode_utf8, if◌then◌else◌, ⊤}
 use Rattle.std.proofs.lemmas.Bool.{false≢true}
@@ -38,11 +38,11 @@ texts (execute b ∷ calls) = suc (texts calls)
 texts (call ∷ calls) = texts calls
 
 module _ (styling : Styling) where
-  length-call : (at : Standing) (call : Call) → AreSound at → length (call_html styling at call) ≤ 6547
+  length-call : (at : Standing) (call : Call) → AreSound at → length (call_html styling at call) ≤ 6531
   length-call at call sound = length-text_html styling at (is_executed 0x0A call) (stripped_call call) sound (length-stripped call)
 
-  -- each of them 6,547 at most, and the others nothing
-  length-texts : (at : Standing) (calls : List Call) → AreSound at → length (html_from styling at calls) ≤ 6547 * texts calls
+  -- each of them 6,531 at most, and the others nothing
+  length-texts : (at : Standing) (calls : List Call) → AreSound at → length (html_from styling at calls) ≤ 6531 * texts calls
   unfolding texts text_html
   length-texts at [] sound = omega arith
   length-texts at (print c ∷ calls) sound =
@@ -98,7 +98,7 @@ inside-one c state b m is = lit≤ tt
 
 module _ (styling : Styling) (at : Standing) (sound : AreSound at) where
   Few : List Call → Type 0
-  Few calls = length (html_from styling at calls) ≤ 6550
+  Few calls = length (html_from styling at calls) ≤ 6534
 
   few-texts : (calls : List Call) → texts calls ≤ 1 → Few calls
   unfolding Few
@@ -120,7 +120,7 @@ module _ (styling : Styling) (at : Standing) (sound : AreSound at) where
         three,
         ap length shown,
         length-append (beginning styling at false) (encode_utf8 replacement),
-        length-beginning styling at false sound.selected.short,
+        length-beginning styling at false sound.selected,
         length-append first (call_html styling after call ++ []),
         length-append (call_html styling after call) [],
         same,
@@ -155,7 +155,7 @@ AreSound-at_end (call ∷ calls) at sound = AreSound-at_end calls (standing_afte
 -- the bytes after it, at a machine that stands there
 module _ (styling : Styling) where
   length-machine : (o : Open) (bytes : List ℕ) (m : Machine (List ℕ)) (at : Standing) → AreSound at → IsOpen o → counted m ≡ value_at o
-      → length (html_from styling at (machine_calls decoded bytes m)) ≤ 6550 * length bytes
+      → length (html_from styling at (machine_calls decoded bytes m)) ≤ 6534 * length bytes
   unfolding Few
   length-machine o [] m at sound is e = omega arith
   length-machine o (b ∷ bytes) m at sound is e =
@@ -174,7 +174,7 @@ module _ (styling : Styling) where
       )
 
   -- what continues the calls of the bytes before
-  pub length-html_continued : (before bytes : List ℕ) (calls : List Call) (at : Standing) → AreSound at → Continues before bytes calls → length (html_from styling at calls) ≤ 6550 * length bytes
+  pub length-html_continued : (before bytes : List ℕ) (calls : List Call) (at : Standing) → AreSound at → Continues before bytes calls → length (html_from styling at calls) ≤ 6534 * length bytes
   length-html_continued before bytes calls at sound continues =
       let m = machine_after decoded before (new_machine []) in
       let first = machine_calls decoded before (new_machine []) in

@@ -1,28 +1,26 @@
 -- The HTML of texts that have styles is read back, stands in the grammar, and is bounded.
-use Rattle.std.proofs.Common.{◌≡◌, ◌≤◌, ℕ, ◌+◌, ◌*◌, Bool, false, eqb, List, [], ◌∷◌, ◌++◌, codes, length, map, arith, length-append, refl, sym, ap, ap₂, ◌∙◌, subst, append_assoc, append-nil}
+use Rattle.std.proofs.Common.{◌≡◌, ◌≤◌, ℕ, ◌+◌, ◌*◌, Bool, false, eqb, List, [], ◌∷◌, ◌++◌, length, map, arith, length-append, refl, sym, ap, ap₂, ◌∙◌, subst, append_assoc, append-nil}
 use Rattle.std.specs.Prelude.{not, if◌then◌else◌}
 use Rattle.std.specs.List.{AllByRecursion, flat_map, list_all}
 use Rattle.std.specs.Str.{IsUtf8}
 use Rattle.std.proofs.lemmas.Bool.{and_parts}
 use Rattle.std.proofs.lemmas.Grind.{flat_map-append}
 use Rattle.std.proofs.lemmas.Str.{IsUtf8-append, IsUtf8-nil}
-use Rattle.ansi_style.specs.Style.{plain}
-use Rattle.ansi_style.proofs.EqualityLemmas.{are_equal-refl}
 use Rattle.ansi_html.specs.declared.scheme.Styling.{Styling}
-use Rattle.ansi_html.specs.Grammar.{IsFragment, end}
+use Rattle.ansi_html.specs.Grammar.{IsFragment}
 use Rattle.ansi_html.specs.Html.{escaped_text, Element, no_element, element_value, change, text_html, element_end}
-use Rattle.ansi_html.specs.Reader.{Attributes, href_of, no_attributes, attributes_of, byte_of, in_text, Seen, text, seen_from, seen, read_of, read, drawn_of, drawn}
+use Rattle.ansi_html.specs.Reader.{Attributes, href_of, attributes_of, byte_of, in_text, Seen, text, seen_from, seen, read_of, read, drawn_of, drawn}
 use Rattle.ansi_html.specs.Styled.{Styled, element_of, before, behind, styled_html, shown_after, all_html, shown_of, all_shown, bytes_of, all_bytes}
 use Rattle.ansi_html.proofs.HtmlLemmas.{false-from_not}
 use Rattle.ansi_html.proofs.ShownLemmas.{AreLinks, AreLinks-append, AreLinks-under, href-by}
 use Rattle.ansi_html.proofs.SoundLemmas.{IsSound, IsSound-none, AreSound, either}
 use Rattle.ansi_html.proofs.NewlineLemmas.{is_not_return, HasNoReturn, HasNoReturn-append, HasNoReturn-end, HasNoReturn-text, normalized-same}
-use Rattle.ansi_html.proofs.ReadLemmas.{read-text, seen_text, seen-element_end, seen-text, bytes-under, map-append_bytes, attributes-plain}
+use Rattle.ansi_html.proofs.ReadLemmas.{read-text, seen_text, open_in, open-none, seen-element_end, seen-text, bytes-under, map-append_bytes}
 use Rattle.ansi_html.proofs.LawfulText.{AreTextual}
-use Rattle.ansi_html.proofs.GrammarLemmas.{IsInside, IsFragment-plain, IsInside-end, IsInside-text_html}
+use Rattle.ansi_html.proofs.GrammarLemmas.{IsInElement, IsFragment-outside, IsInside-nothing, IsInside-text_html}
 use Rattle.ansi_html.proofs.TextLemmas.{IsUtf8-end, IsUtf8-text_html}
 use Rattle.ansi_html.specs.Links.{IsLink}
-use Rattle.ansi_html.proofs.LengthLemmas.{AtMost, AtMost-end, AtMost-change, length-escaped_text}
+use Rattle.ansi_html.proofs.LengthLemmas.{AtMost, AtMost-end, length-change, length-escaped_text}
 
 -- texts, one after another
 pub styled_html-append : (styling : Styling) (shown : Element) (texts more : List Styled)
@@ -61,22 +59,22 @@ module _ (styling : Styling) where
       (HasNoReturn-text styling (before shown it) false it.text) (HasNoReturn-styled (behind shown it) texts)
 
   seen-styled : (shown : Element) (texts : List Styled)
-      → seen_from (in_text (attributes_of styling shown)) (styled_html styling shown texts ++ element_end (shown_after shown texts)) ≡ seen_styled styling texts
+      → seen_from (in_text (open_in styling shown)) (styled_html styling shown texts ++ element_end (shown_after shown texts)) ≡ seen_styled styling texts
   seen-styled shown [] =
-      ap (seen_from (in_text (attributes_of styling shown))) (sym (append-nil (element_end shown))) ∙ seen-element_end [] styling shown
+      ap (seen_from (in_text (open_in styling shown))) (sym (append-nil (element_end shown))) ∙ seen-element_end [] styling shown
   seen-styled shown (it ∷ texts) =
       let here = text_html styling (before shown it) false it.text in
       let close = element_end (shown_after (behind shown it) texts) in
-      ap (seen_from (in_text (attributes_of styling shown))) (append_assoc here (styled_html styling (behind shown it) texts) close)
+      ap (seen_from (in_text (open_in styling shown))) (append_assoc here (styled_html styling (behind shown it) texts) close)
       ∙ seen-text styling (before shown it) false it.text (styled_html styling (behind shown it) texts ++ close)
       ∙ ap₂ (λ a b. a ++ b) (seen_text-styled styling shown it it.text) (seen-styled (behind shown it) texts)
 
   seen-all : (texts : List Styled) → seen (all_html styling texts) ≡ seen_styled styling texts
   seen-all texts =
-      ap (seen_from (in_text no_attributes)) (normalized-same (all_html styling texts)
+      ap (seen_from (in_text [])) (normalized-same (all_html styling texts)
       (HasNoReturn-append (styled_html styling no_element texts) (element_end (shown_after no_element texts))
       (HasNoReturn-styled no_element texts) (HasNoReturn-end (shown_after no_element texts))))
-      ∙ ap (λ a. seen_from (in_text a) (all_html styling texts)) (sym (attributes-plain styling)) ∙ seen-styled no_element texts
+      ∙ ap (λ opened. seen_from (in_text opened) (all_html styling texts)) (sym (open-none styling)) ∙ seen-styled no_element texts
 
   read-seen_styled : (texts : List Styled) → flat_map read_of (seen_styled styling texts) ≡ all_shown styling texts
   read-seen_styled [] = refl
@@ -120,21 +118,18 @@ module _ (styling : Styling) where
   sound-before shown it sound its = record { shown = sound; selected = its }
 
   IsInside-styled : (shown : Element) (texts : List Styled) → IsSound shown.link → HaveLinks texts → AllByRecursion (λ it. AreTextual (bytes_of it)) texts
-      → IsInside styling (element_end shown) (styled_html styling shown texts ++ element_end (shown_after shown texts))
-  IsInside-styled shown [] sound links are = subst (IsInside styling (element_end shown)) (append-nil (element_end shown)) (IsInside-end styling (element_end shown) [] end)
+      → IsInElement styling shown (styled_html styling shown texts ++ element_end (shown_after shown texts))
+  IsInside-styled shown [] sound links are = IsInside-nothing styling shown
   IsInside-styled shown (it ∷ texts) sound links are =
       let next = behind shown it in
       let close = element_end (shown_after next texts) in
-      subst (IsInside styling (element_end shown)) (sym (append_assoc (text_html styling (before shown it) false it.text) (styled_html styling next texts) close))
+      subst (IsInElement styling shown) (sym (append_assoc (text_html styling (before shown it) false it.text) (styled_html styling next texts) close))
       (IsInside-text_html styling (before shown it) false it.text (styled_html styling next texts ++ close) (sound-before shown it sound links.0) are.0
       (IsInside-styled next texts (either shown (element_of it) it.text sound links.0) links.1 are.1))
 
   -- The HTML of text is a fragment,
   pub IsFragment-styled : (texts : List Styled) → HaveLinks texts → AllByRecursion (λ it. AreTextual (bytes_of it)) texts → IsFragment styling (all_html styling texts)
-  IsFragment-styled texts links are =
-      let all = all_html styling texts in
-      IsFragment-plain styling all
-      (subst (λ (none : Bool). IsInside styling (if none then [] else codes "</span>") all) (are_equal-refl plain) (IsInside-styled no_element texts IsSound-none links are))
+  IsFragment-styled texts links are = IsFragment-outside styling (all_html styling texts) (IsInside-styled no_element texts IsSound-none links are)
 
   IsUtf8-styled_html : (shown : Element) (texts : List Styled) → IsSound shown.link → HaveLinks texts → AllByRecursion (λ it. IsUtf8 (escaped_text (bytes_of it))) texts
       → IsUtf8 (styled_html styling shown texts)
@@ -150,8 +145,8 @@ module _ (styling : Styling) where
       let last = shown_after no_element texts in
       IsUtf8-append (styled_html styling no_element texts) (element_end last) (IsUtf8-styled_html no_element texts IsSound-none links are) (IsUtf8-end last)
 
-  -- 6537 for the change, and 6 for each byte
-  length-text : (shown : Element) (it : Styled) (bytes : List ℕ) → IsSound it.link → length (text_html styling (before shown it) false bytes) ≤ 6543 * length bytes
+  -- 6521 for the change, and 6 for each byte
+  length-text : (shown : Element) (it : Styled) (bytes : List ℕ) → IsSound it.link → length (text_html styling (before shown it) false bytes) ≤ 6527 * length bytes
   unfolding text_html AtMost
   length-text shown it [] sound = omega arith
   length-text shown it (b ∷ bytes) sound =
@@ -160,11 +155,11 @@ module _ (styling : Styling) where
         arith,
         length-append (changed ++ []) (escaped_text (b ∷ bytes)),
         length-append changed [],
-        AtMost-change styling shown (element_of it) sound.short,
+        length-change styling shown (element_of it) sound,
         length-escaped_text (b ∷ bytes),
       )
 
-  length-styled_html : (shown : Element) (texts : List Styled) → HaveLinks texts → length (styled_html styling shown texts) ≤ 6543 * length (all_bytes texts)
+  length-styled_html : (shown : Element) (texts : List Styled) → HaveLinks texts → length (styled_html styling shown texts) ≤ 6527 * length (all_bytes texts)
   length-styled_html shown [] links = omega arith
   length-styled_html shown (it ∷ texts) links =
       omega (
@@ -176,7 +171,7 @@ module _ (styling : Styling) where
       )
 
   -- The HTML is bounded by its text.
-  pub length-styled : (texts : List Styled) → HaveLinks texts → length (all_html styling texts) ≤ 6543 * length (all_bytes texts) + 7
+  pub length-styled : (texts : List Styled) → HaveLinks texts → length (all_html styling texts) ≤ 6527 * length (all_bytes texts) + 11
   unfolding AtMost
   length-styled texts links =
       omega (

@@ -2,7 +2,7 @@
 use Rattle.std.proofs.Common.{◌≡◌, ◌<◌, ℕ, Bool, true, false, ◌&&◌, eqb, List, [], ◌∷◌, ◌++◌, codes, refl, sym, subst, ⊎_elim, inl, inr, arith}
 use Rattle.std.specs.Prelude.{not, nat_lt, nat_le, encode_utf8, if◌then◌else◌}
 use Rattle.std.specs.List.{list_all}
-use Rattle.std.specs.Str.{IsUtf8}
+use Rattle.std.specs.Str.{IsUtf8, bytes_eq}
 use Rattle.std.proofs.lemmas.Bool.{and_parts, or_cases, eqb-true, ltb-true, leb-true}
 use Rattle.std.proofs.lemmas.Str.{IsUtf8-append, IsUtf8-nil, IsUtf8-encode}
 use Rattle.anstyle_parse.specs.Stream.Call.{Call, print, execute, hook, put, unhook, osc_dispatch, csi_dispatch, esc_dispatch}
@@ -12,15 +12,16 @@ use Rattle.ansi_strip.specs.Strip.{is_layout, stripped_call}
 use Rattle.anstyle_parse.proofs.Characters.Layout.{IsUtf8-byte, layout-low}
 use Rattle.ansi_strip.proofs.Showable.{IsShowable, AreShowable, IsScalar-character}
 use Rattle.ansi_style.specs.declared.style.Style.{Style}
+use Rattle.ansi_style.specs.Style.{plain}
 use Rattle.ansi_html.specs.declared.scheme.Styling.{Styling}
 use Rattle.ansi_html.specs.declared.scheme.Styling.TheVariants.{Inline, Classes}
 use Rattle.ansi_html.specs.Links.{IsLink, is_none}
 use Rattle.ansi_html.specs.Grammar.{is_special, is_href_byte}
-use Rattle.ansi_html.specs.Html.{escaped_text, is_plain, span_begin, span_end, Element, are_same, value_of, element_value, attribute_text, link_begin, element_begin, element_end, change, Standing, at_start, line_break, beginning, is_executed, text_html, call_html, standing_after, html_from, standing_at_end, html}
+use Rattle.ansi_html.specs.Html.{escaped_text, is_plain, span_begin, span_end, Element, are_same, value_of, attribute_text, link_begin, link_end, element_begin, element_end, change, Standing, at_start, line_break, beginning, is_executed, text_html, call_html, standing_after, html_from, standing_at_end, html}
 use Rattle.ansi_html.proofs.HtmlLemmas.{AreClear-encode, escaped_text-clear}
 use Rattle.ansi_html.proofs.ColorLemmas.{choose}
 use Rattle.ansi_html.proofs.DeclarationLemmas.{is_safe, AreSafe, ascii-safe}
-use Rattle.ansi_html.proofs.ClassLemmas.{AreSafe-value, AreSafe-element_value}
+use Rattle.ansi_html.proofs.ClassLemmas.{AreSafe-value}
 use Rattle.ansi_html.proofs.SoundLemmas.{IsHref-escaped, AreSound, AreSound-start, AreSound-after}
 
 layout_ascii : (b : ℕ) → is_layout b ≡ true → b < 0x80
@@ -93,10 +94,13 @@ IsUtf8-link : (link : List ℕ) → IsLink link → IsUtf8 (escaped_text link)
 IsUtf8-link link (inl none) = subst (λ l. IsUtf8 (escaped_text l)) (sym none) IsUtf8-nil
 IsUtf8-link link (inr is) = IsUtf8-href (escaped_text link) (IsHref-escaped link is).bytes
 
+IsUtf8-span_end : (style : Style) → IsUtf8 (span_end style)
+IsUtf8-span_end style = choose IsUtf8 (is_plain style) [] (codes "</span>") IsUtf8-nil (IsUtf8-ascii (codes "</span>") refl)
+
 pub IsUtf8-end : (shown : Element) → IsUtf8 (element_end shown)
 IsUtf8-end shown =
-    choose IsUtf8 (is_none shown.link) (span_end shown.style) (codes "</a>")
-    (choose IsUtf8 (is_plain shown.style) [] (codes "</span>") IsUtf8-nil (IsUtf8-ascii (codes "</span>") refl)) (IsUtf8-ascii (codes "</a>") refl)
+    IsUtf8-append (span_end shown.style) (link_end shown.link) (IsUtf8-span_end shown.style)
+    (choose IsUtf8 (is_none shown.link) [] (codes "</a>") IsUtf8-nil (IsUtf8-ascii (codes "</a>") refl))
 
 IsUtf8-attribute : (styling : Styling) (value : List ℕ) → AreSafe value → IsUtf8 (attribute_text styling value)
 IsUtf8-attribute (Inline scheme) value safe =
@@ -112,18 +116,24 @@ IsUtf8-span_begin styling style =
     choose IsUtf8 (is_plain style) [] (codes "<span" ++ tag) IsUtf8-nil
     (IsUtf8-append (codes "<span") tag (IsUtf8-ascii (codes "<span") refl) (IsUtf8-attribute styling (value_of styling false style) (AreSafe-value styling false style)))
 
+IsUtf8-link_begin : (styling : Styling) (link : List ℕ) → IsLink link → IsUtf8 (link_begin styling link)
+IsUtf8-link_begin styling link is =
+    let value = value_of styling true plain in
+    choose IsUtf8 (is_none link) [] (codes "<a rel=\"nofollow noreferrer\" href=\"" ++ (escaped_text link ++ (codes "\"" ++ attribute_text styling value))) IsUtf8-nil
+    (IsUtf8-append (codes "<a rel=\"nofollow noreferrer\" href=\"") _ (IsUtf8-ascii (codes "<a rel=\"nofollow noreferrer\" href=\"") refl)
+    (IsUtf8-append (escaped_text link) _ (IsUtf8-link link is)
+    (IsUtf8-append (codes "\"") (attribute_text styling value) (IsUtf8-ascii (codes "\"") refl) (IsUtf8-attribute styling value (AreSafe-value styling true plain)))))
+
 IsUtf8-begin : (styling : Styling) (element : Element) → IsLink element.link → IsUtf8 (element_begin styling element)
 IsUtf8-begin styling element is =
-    let value = element_value styling element in
-    choose IsUtf8 (is_none element.link) (span_begin styling element.style) (link_begin styling element.link value) (IsUtf8-span_begin styling element.style)
-    (IsUtf8-append (codes "<a rel=\"nofollow noreferrer\" href=\"") _ (IsUtf8-ascii (codes "<a rel=\"nofollow noreferrer\" href=\"") refl)
-    (IsUtf8-append (escaped_text element.link) _ (IsUtf8-link element.link is)
-    (IsUtf8-append (codes "\"") (attribute_text styling value) (IsUtf8-ascii (codes "\"") refl) (IsUtf8-attribute styling value (AreSafe-element_value styling element)))))
+    IsUtf8-append (link_begin styling element.link) (span_begin styling element.style) (IsUtf8-link_begin styling element.link is) (IsUtf8-span_begin styling element.style)
 
 IsUtf8-change : (styling : Styling) (shown next : Element) → IsLink next.link → IsUtf8 (change styling shown next)
 IsUtf8-change styling shown next is =
-    choose IsUtf8 (are_same shown next) [] (element_end shown ++ element_begin styling next) IsUtf8-nil
-    (IsUtf8-append (element_end shown) (element_begin styling next) (IsUtf8-end shown) (IsUtf8-begin styling next is))
+    choose IsUtf8 (are_same shown next) [] _ IsUtf8-nil
+    (choose IsUtf8 (bytes_eq shown.link next.link) (span_end shown.style ++ span_begin styling next.style) (element_end shown ++ element_begin styling next)
+    (IsUtf8-append (span_end shown.style) (span_begin styling next.style) (IsUtf8-span_end shown.style) (IsUtf8-span_begin styling next.style))
+    (IsUtf8-append (element_end shown) (element_begin styling next) (IsUtf8-end shown) (IsUtf8-begin styling next is)))
 
 IsUtf8-beginning : (styling : Styling) (at : Standing) (is_line_feed : Bool) → AreSound at → IsUtf8 (beginning styling at is_line_feed)
 IsUtf8-beginning styling at is_line_feed sound =

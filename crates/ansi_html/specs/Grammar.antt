@@ -1,6 +1,6 @@
--- The grammar of the HTML. A fragment is text, spans and links, which do not nest; a span has one
--- attribute, either of colours and declarations or of class names, both from a fixed vocabulary, and a link
--- has a URI too; in a text there are line breaks. Nothing else is in it.
+-- The grammar of the HTML. A fragment is text, spans, and links of text and spans; no span stands in a span, and no link
+-- in a link. A span has one attribute, either of colours and declarations or of class names, both from a fixed
+-- vocabulary, and a link has a URI and says that its colour is its text's; in a text there are line breaks. Nothing else is in it.
 use Rattle.std.specs.Prelude.{◌≡◌, ℕ, Bool, false, ◌||◌, ◌&&◌, nat_le, ◌==◌, not, List, [], ◌∷◌, ◌++◌, codes, IsTrue}
 use Rattle.std.specs.List.{AllByRecursion, Contains, list_all}
 use Rattle.ansi_html.specs.declared.contrast.Rgb.{Rgb}
@@ -11,7 +11,7 @@ use Rattle.ansi_html.specs.declared.class.Class.{Class}
 use Rattle.ansi_html.specs.declared.class.Class.TheVariants.{Link}
 use Rattle.ansi_html.specs.Contrast.{IsReadOnLight, IsReadOnDark, are_readable, black, white}
 use Rattle.ansi_html.specs.Css.{declared, themed}
-use Rattle.ansi_html.specs.Classes.{class_names}
+use Rattle.ansi_html.specs.Classes.{class_name, class_names}
 use Rattle.ansi_html.specs.Stylesheet.{vocabulary}
 use Rattle.ansi_html.specs.Html.{attribute_text}
 use Rattle.ansi_html.specs.Links.{has_scheme, is_visible}
@@ -95,25 +95,28 @@ pub record IsHref (href : List ℕ) : Type 0 where
   pub bytes : IsTrue (list_all is_href_byte href)
 
 -- What the attribute of a span says: colours and declarations, or names of classes that have a rule in the
--- stylesheet. A link has `color:inherit` before these, or a class of its own.
+-- stylesheet.
 pub data IsSpanValue : Styling → List ℕ → Type 0 where
   declarations : (scheme : Scheme) (colors others : List ℕ) → AreColors scheme colors → AreDeclarations others
       → IsSpanValue (Inline scheme) (colors ++ others)
   classes : (names : List Class) → AllByRecursion (Contains vocabulary) names → IsSpanValue Classes (class_names names)
 
-pub data IsLinkValue : Styling → List ℕ → Type 0 where
-  declarations : (scheme : Scheme) (colors others : List ℕ) → AreColors scheme colors → AreDeclarations others
-      → IsLinkValue (Inline scheme) (codes "color:inherit;" ++ (colors ++ others))
-  classes : (names : List Class) → AllByRecursion (Contains vocabulary) names
-      → IsLinkValue Classes (class_names (Link ∷ names))
+-- That of a link: its text has the colour of what is around it, or of its span.
+abbrev pub link_value : Styling → List ℕ
+link_value (Inline scheme) = codes "color:inherit;"
+link_value Classes = class_name Link
 
--- text; spans of text with an attribute; and links with one too
+-- text, and spans of text with an attribute
+pub data IsStyled (styling : Styling) : List ℕ → Type 0 where
+  nothing_more : IsStyled styling []
+  plain : (text rest : List ℕ) → IsText text → IsStyled styling rest → IsStyled styling (text ++ rest)
+  span : (value text rest : List ℕ) → IsSpanValue styling value → IsText text → IsStyled styling rest
+      → IsStyled styling (codes "<span" ++ (attribute_text styling value ++ (text ++ (codes "</span>" ++ rest))))
+
+-- these, and links of these
 pub data IsFragment (styling : Styling) : List ℕ → Type 0 where
   end : IsFragment styling []
-  text : (plain rest : List ℕ) → IsText plain → IsFragment styling rest → IsFragment styling (plain ++ rest)
-  span : (value styled rest : List ℕ) → IsSpanValue styling value → IsText styled → IsFragment styling rest
-      → IsFragment styling (codes "<span" ++ (attribute_text styling value ++ (styled ++ (codes "</span>" ++ rest))))
-  link : (href value linked rest : List ℕ) → IsHref href → IsLinkValue styling value → IsText linked
-      → IsFragment styling rest
+  styled : (styled rest : List ℕ) → IsStyled styling styled → IsFragment styling rest → IsFragment styling (styled ++ rest)
+  link : (href linked rest : List ℕ) → IsHref href → IsStyled styling linked → IsFragment styling rest
       → IsFragment styling (codes "<a rel=\"nofollow noreferrer\" href=\"" ++ (href ++ (codes "\""
-      ++ (attribute_text styling value ++ (linked ++ (codes "</a>" ++ rest))))))
+      ++ (attribute_text styling (link_value styling) ++ (linked ++ (codes "</a>" ++ rest))))))

@@ -1,4 +1,4 @@
--- The HTML of a list of calls: their text, escaped, in elements that give it its style and its link.
+-- The HTML of a list of calls: their text, escaped, in spans that give it its style, and these in links.
 use Rattle.std.specs.Prelude.{ℕ, Bool, true, false, ◌&&◌, not, ◌==◌, List, [], ◌∷◌, ◌++◌, codes, if◌then◌else◌}
 use Rattle.std.specs.List.{flat_map}
 use Rattle.std.specs.Str.{bytes_eq}
@@ -55,7 +55,7 @@ span_begin styling style =
 abbrev pub span_end : Style → List ℕ
 span_end style = if is_plain style then [] else codes "</span>"
 
--- What text stands in: an element of its style and its link, or none where it has neither.
+-- What text stands in: a span of its style in an element of its link, each where it has one.
 pub record Element : Type 0 where
   pub style : Style
   pub link : List ℕ
@@ -69,28 +69,34 @@ no_element = element plain []
 abbrev pub are_same : Element → Element → Bool
 are_same one other = are_equal one.style other.style && bytes_eq one.link other.link
 
--- what the attribute of an element says
+-- What is said of it: by its link, and then by its span.
 abbrev pub element_value : Styling → Element → List ℕ
 element_value styling element =
     if is_none element.link then value_of styling false element.style else value_of styling true element.style
 
--- the beginning of a link, which asks that no page be told where it is (HTML standard, 4.6.7)
-abbrev pub link_begin : Styling → (link value : List ℕ) → List ℕ
-link_begin styling link value =
-    codes "<a rel=\"nofollow noreferrer\" href=\""
-    ++ (escaped_text link ++ (codes "\"" ++ attribute_text styling value))
+-- The beginning of a link, which asks that no page be told where it is (HTML standard, 4.6.7), and its end. It says
+-- what a link does of plain text: spans of other styles stand in it.
+abbrev pub link_begin : Styling → (link : List ℕ) → List ℕ
+link_begin styling link =
+    if is_none link then []
+    else codes "<a rel=\"nofollow noreferrer\" href=\""
+    ++ (escaped_text link ++ (codes "\"" ++ attribute_text styling (value_of styling true plain)))
+
+abbrev pub link_end : (link : List ℕ) → List ℕ
+link_end link = if is_none link then [] else codes "</a>"
 
 abbrev pub element_begin : Styling → Element → List ℕ
-element_begin styling element =
-    if is_none element.link then span_begin styling element.style
-    else link_begin styling element.link (element_value styling element)
+element_begin styling element = link_begin styling element.link ++ span_begin styling element.style
 
 abbrev pub element_end : Element → List ℕ
-element_end element = if is_none element.link then span_end element.style else codes "</a>"
+element_end element = span_end element.style ++ link_end element.link
 
--- from the element of the text so far to that of the text to come
+-- From the element of the text so far to that of the text to come. A link that goes on stays open.
 abbrev pub change : Styling → Element → Element → List ℕ
-change styling shown next = if are_same shown next then [] else element_end shown ++ element_begin styling next
+change styling shown next =
+    if are_same shown next then []
+    else if bytes_eq shown.link next.link then span_end shown.style ++ span_begin styling next.style
+    else element_end shown ++ element_begin styling next
 
 -- Where the HTML of a stream stands: the element of the last text, and the one that is selected for
 -- what comes; and whether the last text was 0D.
@@ -157,3 +163,13 @@ html_ending calls = element_end (standing_at_end at_start calls).shown
 -- The HTML of a stream's calls, in a styling.
 abbrev pub html : Styling → List Call → List ℕ
 html styling calls = html_text styling calls ++ html_ending calls
+
+-- The bytes of HTML at most for each byte of a stream, and those that close what is open at its end. Four bytes, as
+-- `ESC [ m` and a character, may change a style: by declarations that is the end of a span (7), the longest beginning of another
+-- (275), or by classes (119), the end of a link (4), a line break (4) and the longest text (6).
+abbrev pub html_of_a_byte : Styling → ℕ
+html_of_a_byte (Inline scheme) = 74
+html_of_a_byte Classes = 35
+
+abbrev pub html_of_an_end : ℕ
+html_of_an_end = 11

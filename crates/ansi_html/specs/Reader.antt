@@ -2,8 +2,8 @@
 -- the six character references. First it makes one 0A of each 0D, with the 0A behind it where there is
 -- one (HTML standard, 13.2.3.5). The states are those of the standard's tokenizer that such text meets:
 -- data (13.2.5.1), character reference (13.2.5.72 to 80), tag and its name (13.2.5.6 to 8), attributes
--- (13.2.5.32 to 40), attribute value, double-quoted (13.2.5.36), and a reference in it. A `br` has no
--- end and no text.
+-- (13.2.5.32 to 40), attribute value, double-quoted (13.2.5.36), and a reference in it. A start tag opens an
+-- element in those that are open, and an end tag ends the innermost one (13.2.6.4.7). A `br` has no end and no text.
 --
 -- What a fragment needs of its page, so that a browser reads it as this reader does: it stands in a
 -- `<pre>`, right after a newline of the page's own, since a browser drops the 0A that begins a `<pre>`
@@ -15,6 +15,7 @@ use Rattle.anstyle_parse.specs.Stream.Call.{Call}
 use Rattle.ansi_strip.specs.Strip.{stripped_call}
 use Rattle.ansi_html.specs.declared.scheme.Styling.{Styling}
 use Rattle.ansi_html.specs.declared.scheme.Styling.TheVariants.{Inline, Classes}
+use Rattle.ansi_html.specs.Links.{is_none}
 use Rattle.ansi_html.specs.Html.{Element, element_value, element_after}
 
 -- What a tag has: the declarations of its style, the names of its classes, and the URI of its link. What
@@ -37,6 +38,34 @@ with_attribute name value attributes =
     else if bytes_eq name (codes "href")
     then record { style = attributes.style; classes = attributes.classes; href = value }
     else attributes
+
+-- names, with a space between those of the one and of the other
+abbrev pub spaced_before : (names : List ℕ) → List ℕ
+spaced_before [] = []
+spaced_before (b ∷ names) = 0x20 ∷ b ∷ names
+
+abbrev pub both_names : (first second : List ℕ) → List ℕ
+both_names [] second = second
+both_names (b ∷ first) second = (b ∷ first) ++ spaced_before second
+
+-- What holds in an element that stands in another: the declarations and classes of both, those of the outer one first
+-- (colours and fonts are inherited, and lines go on: CSS Cascade 4, 7; CSS Text Decoration 3, 2), and its own link or else that
+-- of the outer one.
+abbrev pub within : (outer own : Attributes) → Attributes
+within outer own = record {
+  style = outer.style ++ own.style;
+  classes = both_names outer.classes own.classes;
+  href = if is_none own.href then outer.href else own.href;
+}
+
+-- Of elements that are open, the innermost first, each by what holds in it: what holds in that one, and those around it.
+abbrev pub in_force : List Attributes → Attributes
+in_force [] = no_attributes
+in_force (attributes ∷ outer) = attributes
+
+abbrev pub around : List Attributes → List Attributes
+around [] = []
+around (attributes ∷ outer) = outer
 
 -- A byte of text, and the attributes under which it stands.
 pub record Shown : Type 0 where
@@ -63,16 +92,16 @@ normalized_from returned (b ∷ bytes) =
 abbrev pub normalized : List ℕ → List ℕ
 normalized bytes = normalized_from false bytes
 
--- where a reader is: in text or in a reference under attributes; in the name of a tag that stands in
+-- where a reader is: in text or in a reference in the elements that are open; in the name of a tag that stands in
 -- such text; in a tag, with its attributes so far, in the name of one, in a quoted value, or in a
 -- reference there
 pub data Place : Type 0 where
-  in_text : Attributes → Place
-  in_reference : Attributes → (name : List ℕ) → Place
-  in_name : Attributes → (name : List ℕ) → Place
-  in_tag : Attributes → (attribute : List ℕ) → Place
-  in_value : Attributes → (attribute value : List ℕ) → Place
-  in_value_reference : Attributes → (attribute value name : List ℕ) → Place
+  in_text : List Attributes → Place
+  in_reference : List Attributes → (name : List ℕ) → Place
+  in_name : List Attributes → (name : List ℕ) → Place
+  in_tag : List Attributes → (own : Attributes) → (attribute : List ℕ) → Place
+  in_value : List Attributes → (own : Attributes) → (attribute value : List ℕ) → Place
+  in_value_reference : List Attributes → (own : Attributes) → (attribute value name : List ℕ) → Place
 
 -- the character of a reference
 abbrev pub referred : List ℕ → List ℕ
@@ -85,30 +114,30 @@ referred name =
     else if bytes_eq name (codes "#13") then 0x0D ∷ []
     else []
 
--- What one byte leads to. A tag puts its attributes in force, and an end tag, which has none, the
--- empty ones: this reads elements that do not nest. A `br` changes nothing.
+-- What one byte leads to. A tag with attributes opens an element, and one without is an end tag, which ends the innermost
+-- one; or it is a `br`, which changes nothing.
 abbrev pub place_after : Place → ℕ → Place
-place_after (in_text attributes) b =
-    if b == 0x3C then in_name attributes [] else if b == 0x26 then in_reference attributes [] else in_text attributes
-place_after (in_reference attributes name) b =
-    if b == 0x3B then in_text attributes else in_reference attributes (name ++ b ∷ [])
-place_after (in_name attributes name) b =
-    if b == 0x3E then in_text (if bytes_eq name (codes "br") then attributes else no_attributes)
-    else if b == 0x20 then in_tag no_attributes []
-    else in_name attributes (name ++ b ∷ [])
-place_after (in_tag attributes attribute) b =
-    if b == 0x3E then in_text attributes
-    else if b == 0x22 then in_value attributes attribute []
-    else if b == 0x20 then in_tag attributes []
-    else if b == 0x3D then in_tag attributes attribute
-    else in_tag attributes (attribute ++ b ∷ [])
-place_after (in_value attributes attribute value) b =
-    if b == 0x22 then in_tag (with_attribute attribute value attributes) []
-    else if b == 0x26 then in_value_reference attributes attribute value []
-    else in_value attributes attribute (value ++ b ∷ [])
-place_after (in_value_reference attributes attribute value name) b =
-    if b == 0x3B then in_value attributes attribute (value ++ referred name)
-    else in_value_reference attributes attribute value (name ++ b ∷ [])
+place_after (in_text opened) b =
+    if b == 0x3C then in_name opened [] else if b == 0x26 then in_reference opened [] else in_text opened
+place_after (in_reference opened name) b =
+    if b == 0x3B then in_text opened else in_reference opened (name ++ b ∷ [])
+place_after (in_name opened name) b =
+    if b == 0x3E then in_text (if bytes_eq name (codes "br") then opened else around opened)
+    else if b == 0x20 then in_tag opened no_attributes []
+    else in_name opened (name ++ b ∷ [])
+place_after (in_tag opened own attribute) b =
+    if b == 0x3E then in_text (within (in_force opened) own ∷ opened)
+    else if b == 0x22 then in_value opened own attribute []
+    else if b == 0x20 then in_tag opened own []
+    else if b == 0x3D then in_tag opened own attribute
+    else in_tag opened own (attribute ++ b ∷ [])
+place_after (in_value opened own attribute value) b =
+    if b == 0x22 then in_tag opened (with_attribute attribute value own) []
+    else if b == 0x26 then in_value_reference opened own attribute value []
+    else in_value opened own attribute (value ++ b ∷ [])
+place_after (in_value_reference opened own attribute value name) b =
+    if b == 0x3B then in_value opened own attribute (value ++ referred name)
+    else in_value_reference opened own attribute value (name ++ b ∷ [])
 
 -- What is seen with it: bytes of text, or a line break.
 pub data Seen : Type 0 where
@@ -116,12 +145,12 @@ pub data Seen : Type 0 where
   break : Seen
 
 abbrev pub seen_of : Place → ℕ → List Seen
-seen_of (in_text attributes) b = if b == 0x3C then [] else if b == 0x26 then [] else text attributes b ∷ []
-seen_of (in_reference attributes name) b = if b == 0x3B then map (text attributes) (referred name) else []
-seen_of (in_name attributes name) b = if b == 0x3E then (if bytes_eq name (codes "br") then break ∷ [] else []) else []
-seen_of (in_tag attributes attribute) b = []
-seen_of (in_value attributes attribute value) b = []
-seen_of (in_value_reference attributes attribute value name) b = []
+seen_of (in_text opened) b = if b == 0x3C then [] else if b == 0x26 then [] else text (in_force opened) b ∷ []
+seen_of (in_reference opened name) b = if b == 0x3B then map (text (in_force opened)) (referred name) else []
+seen_of (in_name opened name) b = if b == 0x3E then (if bytes_eq name (codes "br") then break ∷ [] else []) else []
+seen_of (in_tag opened own attribute) b = []
+seen_of (in_value opened own attribute value) b = []
+seen_of (in_value_reference opened own attribute value name) b = []
 
 -- what is seen of these bytes
 abbrev pub seen_from : Place → List ℕ → List Seen
@@ -129,7 +158,7 @@ seen_from place [] = []
 seen_from place (b ∷ bytes) = seen_of place b ++ seen_from (place_after place b) bytes
 
 abbrev pub seen : List ℕ → List Seen
-seen bytes = seen_from (in_text no_attributes) (normalized bytes)
+seen bytes = seen_from (in_text []) (normalized bytes)
 
 -- What a reader reads: each byte of text with its attributes.
 abbrev pub read_of : Seen → List Shown

@@ -23,7 +23,7 @@ ghost use Rattle.ansi_style.specs.declared.style.Style.{Style};
 ghost use Rattle.ansi_html.specs.declared.scheme.Scheme.{Scheme};
 ghost use Rattle.ansi_html.specs.Css.{selects_both, colors_css};
 ghost use Rattle.ansi_html.specs.Links.{IsLink, is_link_command, link_of, SaysLink};
-ghost use Rattle.ansi_html.specs.Html.{no_element, html_text, html_ending, html, escaped_text, value_of};
+ghost use Rattle.ansi_html.specs.Html.{no_element, html_text, html_ending, html, html_of_a_byte, html_of_an_end, escaped_text, value_of};
 ghost use Rattle.ansi_html.specs.Reader.{no_attributes, byte_of, href_of, under, read, normalized, drawn, ends_in_return, shown_from};
 ghost use Rattle.ansi_html.specs.Grammar.{AreReadable, IsFragment};
 ghost use Rattle.ansi_html.specs.declared.class.Class.{Class};
@@ -62,9 +62,9 @@ pub use verbatim::verbatim_length;
 ///
 /// The text is the stripped text: each printed character in UTF-8, tab, line feed and carriage
 /// return. `& < > " '` and a carriage return are written as character references, and text that is
-/// not plain stands in `<span style="…">…</span>`, or in `<a rel="nofollow noreferrer" href="…"
-/// style="…">…</a>` where it has a link (OSC 8): one for each run of equal style and link. By classes
-/// the attribute is `class`. A link is shown where its URI begins with `https://`, `http://` or `mailto:`,
+/// not plain stands in `<span style="…">…</span>`, one for each run of equal style and link. Where it has a link
+/// (OSC 8) that stands in `<a rel="nofollow noreferrer" href="…" style="…">…</a>`, one for each run of equal link. By
+/// classes the attribute is `class`. A link is shown where its URI begins with `https://`, `http://` or `mailto:`,
 /// has the bytes 21 to 7E only, and was not cut. Since a carriage return that comes by a reference ends
 /// no line, `<br>` stands before the text behind it, unless that is a line feed. Nothing else is written,
 /// so no input brings in markup.
@@ -121,7 +121,7 @@ pub fn convert<R: Source, W: Sink>(
     ensures whole_links { (text : List ℕ) → IsTrue (is_link_command (parts_of text)) → link_of (parts_of text) ≢ []
         → SaysLink text (link_of (parts_of text)) }
 
-    // No markup comes in: it is text with line breaks, and spans and links that do not nest, with such
+    // No markup comes in: it is text with line breaks, spans of it, and links of both, with such
     // colours and URIs, and with declarations or classes from a fixed vocabulary.
     ensures grammar { (bytes : List ℕ) (calls : List Call) → AreCalls bytes calls
         → IsFragment styling (html styling calls) }
@@ -130,10 +130,9 @@ pub fn convert<R: Source, W: Sink>(
     ensures utf8 { (bytes : List ℕ) (calls : List Call) → AreCalls bytes calls
         → IsUtf8 (html styling calls) }
 
-    // It has at most 6547 bytes for each byte that was read, and 7 more: a link of 1035 bytes can stand
-    // there again with each change of style.
+    // It has at most 74 bytes for each byte that was read, or 35 by classes, and 11 more.
     ensures bound { (bytes : List ℕ) (calls : List Call) → AreCalls bytes calls
-        → length (html styling calls) ≤ 6547 * length bytes + 7 }
+        → length (html styling calls) ≤ html_of_a_byte styling * length bytes + html_of_an_end }
 {
     let mut output = Output::new(writer);
     output.put(head);

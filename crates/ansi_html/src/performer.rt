@@ -1,12 +1,12 @@
 //! The performer that writes HTML.
-ghost use Rattle.std.specs.Prelude.{◌≡◌, ◌∷◌, ◌++◌, [], true, false, not, encode_utf8, codes, refl};
+ghost use Rattle.std.specs.Prelude.{◌≡◌, ◌∷◌, ◌++◌, [], true, false, encode_utf8, codes, refl};
 ghost use Rattle.anstyle_parse.specs.Io.Output.{Adds};
 ghost use Rattle.ansi_style.specs.Style.{plain};
 ghost use Rattle.ansi_html.specs.Css.{css};
 ghost use Rattle.ansi_html.specs.Classes.{class_names, classes_of};
 ghost use Rattle.ansi_html.specs.Grammar.{is_special, AreClear, BeginWithClear};
 ghost use Rattle.ansi_html.specs.ShownLinks.{shown_link, selected_link};
-ghost use Rattle.ansi_html.specs.Html.{line_break, beginning, value_of, attribute_text, span_begin, span_end, link_begin, element, are_same, element_begin, element_end, change, escaped, escaped_text};
+ghost use Rattle.ansi_html.specs.Html.{line_break, beginning, value_of, attribute_text, span_begin, span_end, link_begin, link_end, element, element_begin, element_end, change, escaped, escaped_text};
 
 use crate::chunks::{CHUNK, are_last_clear, specials};
 use crate::class::put_classes;
@@ -24,9 +24,9 @@ use std::simd::prelude::*;
 ///
 /// Each printed character, and of the controls tab (09), line feed (0A) and carriage return
 /// (0D), is text; `& < > " '` and 0D are written as character references, and text behind 0D
-/// that is not 0A begins with `<br>`. Text that is not plain stands in `<span style="…">…</span>`,
-/// and text of a link in `<a … href="…" style="…">…</a>`, one for each run of equal style and link; by
-/// classes the attribute is `class`. An element is opened only before text, and closed before text of
+/// that is not 0A begins with `<br>`. Text that is not plain stands in `<span style="…">…</span>`, one for
+/// each run of equal style and link, and text of a link in `<a … href="…" style="…">…</a>`, one for each run of
+/// equal link; by classes the attribute is `class`. An element is opened only before text, and closed before text of
 /// another one or at the end. All other calls write nothing.
 ///
 /// No memory is taken. A write that fails stops it: nothing more is written, and the fault is
@@ -225,7 +225,7 @@ fn put_line_break<W: Sink>(output: &mut Output<W>, is_line_feed: bool)
 }
 
 /// From an element of the style and the link that are shown to one of the style and the link for
-/// what comes.
+/// what comes. A link that goes on stays open.
 #[inline(always)]
 fn put_change<W: Sink>(
     output: &mut Output<W>,
@@ -238,22 +238,16 @@ fn put_change<W: Sink>(
         (change styling (element shown.now (shown_link links.now)) (element style.now (selected_link links.now)))
         output.old output.new }
 {
-    if is_other(shown, style, links) {
+    if links.differ() {
         put_end(output, shown, links.shown());
         put_begin(output, styling, style, links.selected());
+    } else if *shown != *style {
+        put_span_end(output, shown);
+        put_span_begin(output, styling, style);
     }
 }
 
-/// Whether these two elements differ.
-#[inline(always)]
-fn is_other(shown: &Style, style: &Style, links: &Links) -> bool
-    ensures { result ≡ not (are_same (element shown.now (shown_link links.now))
-        (element style.now (selected_link links.now))) }
-{
-    links.differ() || *shown != *style
-}
-
-/// Opens an element of the style and the link, where there is either.
+/// Opens a link, where there is one, and in it a span of the style, unless it is plain.
 #[inline(always)]
 pub(crate) fn put_begin<W: Sink>(
     output: &mut Output<W>,
@@ -263,50 +257,60 @@ pub(crate) fn put_begin<W: Sink>(
 )
     ensures { Adds W.Sink (element_begin styling (element style.now link.now)) output.old output.new }
 {
-    if link.is_empty() {
-        put_span_begin(output, styling, style);
-    } else {
-        put_link_begin(output, styling, style, link);
-    }
+    put_link_begin(output, styling, link);
+    put_span_begin(output, styling, style);
 }
 
-/// Closes it.
+/// Closes them.
 #[inline(always)]
 pub(crate) fn put_end<W: Sink>(output: &mut Output<W>, style: &Style, link: &[u8])
     ensures { Adds W.Sink (element_end (element style.now link.now)) output.old output.new }
 {
-    if link.is_empty() {
-        put_span_end(output, style);
-    } else {
-        output.put(b"</a>");
+    put_span_end(output, style);
+    put_link_end(output, link);
+}
+
+/// Opens a link, where there is one.
+#[inline(always)]
+fn put_link_begin<W: Sink>(output: &mut Output<W>, styling: Styling, link: &[u8])
+    ensures { Adds W.Sink (link_begin styling link.now) output.old output.new }
+{
+    if !link.is_empty() {
+        put_link(output, styling, link);
     }
 }
 
-/// Opens a link, in the style.
+/// Opens a link.
 #[inline(never)]
-fn put_link_begin<W: Sink>(output: &mut Output<W>, styling: Styling, style: &Style, link: &[u8])
-    ensures { Adds W.Sink (link_begin styling link.now (value_of styling true style.now)) output.old output.new }
+fn put_link<W: Sink>(output: &mut Output<W>, styling: Styling, link: &[u8])
+    ensures { Adds W.Sink (codes "<a rel=\"nofollow noreferrer\" href=\""
+        ++ (escaped_text link.now ++ (codes "\"" ++ attribute_text styling (value_of styling true plain))))
+        output.old output.new }
 {
     output.put(b"<a rel=\"nofollow noreferrer\" href=\"");
     put_in_parts(output, link);
-    put_link_style(output, styling, style);
+    put_link_style(output, styling);
 }
 
-/// The end of a link's URI, and its style.
+/// The end of a link's URI, and that its text has the colour of what is around it.
 #[inline(always)]
-fn put_link_style<W: Sink>(output: &mut Output<W>, styling: Styling, style: &Style)
-    ensures { Adds W.Sink (codes "\"" ++ attribute_text styling (value_of styling true style.now))
-        output.old output.new }
+#[tactic(auto, unfolding(crate::specs::Css::colors_css, crate::specs::Classes::classes_of))]
+fn put_link_style<W: Sink>(output: &mut Output<W>, styling: Styling)
+    ensures { Adds W.Sink (codes "\"" ++ attribute_text styling (value_of styling true plain)) output.old output.new }
 {
     match styling {
-        Styling::Inline(scheme) => {
-            if is_plain(style) {
-                output.put(b"\" style=\"color:inherit;\">");
-            } else {
-                put_css_between(output, b"\" style=\"color:inherit;", scheme, *style);
-            }
-        }
-        Styling::Classes => put_classes_between(output, b"\" class=\"", true, *style),
+        Styling::Inline(_) => output.put(b"\" style=\"color:inherit;\">"),
+        Styling::Classes => output.put(b"\" class=\"ansi-link\">"),
+    }
+}
+
+/// Closes a link, where there is one.
+#[inline(always)]
+fn put_link_end<W: Sink>(output: &mut Output<W>, link: &[u8])
+    ensures { Adds W.Sink (link_end link.now) output.old output.new }
+{
+    if !link.is_empty() {
+        output.put(b"</a>");
     }
 }
 

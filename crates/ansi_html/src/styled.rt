@@ -1,19 +1,19 @@
 //! Texts that have styles and links, as HTML.
-ghost use Rattle.std.specs.Prelude.{◌≡◌, ◌++◌, [], not, encode_utf8};
+ghost use Rattle.std.specs.Prelude.{◌≡◌, ◌++◌, [], encode_utf8};
 ghost use Rattle.anstyle_parse.specs.Io.Output.{Adds};
-ghost use Rattle.ansi_html.specs.Html.{element, no_element, are_same, change, element_begin, element_end, escaped_text};
+ghost use Rattle.ansi_html.specs.Html.{element, no_element, change, span_begin, span_end, element_begin, element_end, escaped_text};
 ghost use Rattle.ansi_html.specs.ShownLinks.{link_in};
 ghost use Rattle.ansi_html.specs.Styled.{output_of, styling_of, shown_in};
 
 use crate::link::Link;
-use crate::performer::{put_begin, put_character, put_end};
+use crate::performer::{put_begin, put_character, put_end, put_span_begin, put_span_end};
 use crate::scheme::Styling;
 use ansi_style::Style;
 use anstyle_parse::canon::{Output, Sink};
 
 /// Writes texts that have styles and links, such as the cells of a screen, as HTML: text that is not plain stands
-/// in `<span style="…">…</span>`, and text of a link in `<a … href="…" style="…">…</a>`, one for each run of equal
-/// style and link; by classes the attribute is `class`.
+/// in `<span style="…">…</span>`, one for each run of equal style and link, and text of a link in
+/// `<a … href="…" style="…">…</a>`, one for each run of equal link; by classes the attribute is `class`.
 /// `& < > " '` and a carriage return are written as character references.
 ///
 /// No memory is taken. A write that fails stops it: nothing more is written, and the fault is kept.
@@ -43,8 +43,8 @@ impl<W: Sink> StyledWriter<W> {
         }
     }
 
-    /// Text of this style and this link follows: where it is another one than those of the last text, the element
-    /// of that one is closed and one of these opened.
+    /// Text of this style and this link follows: where they are others than those of the last text, the element
+    /// of that one is closed and one of these opened. A link that goes on stays open.
     pub fn select(&mut self, style: Style, link: &Link)
         ensures styling { styling_of self.new ≡ styling_of self.old }
         ensures shown { shown_in self.new ≡ element style (link_in link.now) }
@@ -52,17 +52,11 @@ impl<W: Sink> StyledWriter<W> {
             (change (styling_of self.old) (shown_in self.old) (element style (link_in link.now)))
             (output_of self.old) (output_of self.new) }
     {
-        if self.is_other(style, link) {
+        if self.link.uri() != link.uri() {
             self.change_to(style, link);
+        } else if self.shown != style {
+            self.change_style(style);
         }
-    }
-
-    /// Whether these are others than those of the last text.
-    #[inline(always)]
-    fn is_other(&self, style: Style, link: &Link) -> bool
-        ensures { result ≡ not (are_same (shown_in self.now) (element style (link_in link.now))) }
-    {
-        self.shown != style || self.link.uri() != link.uri()
     }
 
     /// Closes the element of the last text, and opens one of this style and this link.
@@ -77,6 +71,18 @@ impl<W: Sink> StyledWriter<W> {
         put_begin(&mut self.output, self.styling, &style, link.uri());
         self.shown = style;
         self.link.assign(link);
+    }
+
+    /// Closes the span of the last text, and opens one of this style, in the same link.
+    fn change_style(&mut self, style: Style)
+        ensures styling { styling_of self.new ≡ styling_of self.old }
+        ensures shown { shown_in self.new ≡ element style (shown_in self.old).link }
+        ensures added { Adds W.Sink (span_end (shown_in self.old).style ++ span_begin (styling_of self.old) style)
+            (output_of self.old) (output_of self.new) }
+    {
+        put_span_end(&mut self.output, &self.shown);
+        put_span_begin(&mut self.output, self.styling, &style);
+        self.shown = style;
     }
 
     /// Writes a character of the style and the link that are selected.

@@ -1,9 +1,11 @@
 -- A state is fed where a piece was taken.
-use Rattle.std.proofs.Common.{◌≡◌, ◌<◌, ◌≤◌, ◌*◌, ◌/◌, ℕ, List, [], ◌++◌, length, take, min, refl, sym, ap, ◌∙◌, subst, arith, length-take}
+use Rattle.std.proofs.Common.{◌≡◌, ◌<◌, ◌≤◌, ◌*◌, ◌/◌, ◌+◌, ℕ, List, [], ◌++◌, length, take, min, refl, sym, ap, ◌∙◌, subst, arith, length-take}
 use Rattle.std.specs.Prelude.{IsUtf8}
 use Rattle.std.proofs.lemmas.List.{take-take, length-take-le}
 use Rattle.anstyle_parse.specs.Machine.Decoder.{decoded}
-use Rattle.anstyle_parse.specs.Machine.Step.{new_machine, machine_calls}
+use Rattle.anstyle_parse.specs.Machine.Step.{Machine, new_machine, machine_after, machine_calls}
+use Rattle.anstyle_parse.specs.Laws.Checkpoint.{max_checkpoint, checkpoint_text}
+use Rattle.anstyle_parse.proofs.Resume.Whole.{checkpoint_stands, length-checkpoint}
 use Rattle.anstyle_parse.proofs.Division.Only.{AreCalls-only}
 use Rattle.anstyle_parse.proofs.Agreement.Whole.{AreCalls-machine}
 use Rattle.anstyle_parse.proofs.Lawful.Calls.{lawful}
@@ -12,9 +14,11 @@ use Rattle.strip_pieces.specs.State.{pending_of}
 use Rattle.ansi_html.specs.Html.{Standing, at_start, html_from, standing_at_end}
 use Rattle.ansi_html.specs.AddingProof.{standing_at_end-append}
 use Rattle.ansi_html.proofs.TextLemmas.{IsUtf8-html_from}
+use Rattle.ansi_html.specs.Html.{html_of_a_byte}
 use Rattle.ansi_html.proofs.PieceLemmas.{length-html_continued}
+use Rattle.ansi_html.proofs.BoundLemmas.{times-less, length-together}
 use Rattle.html_pieces.specs.declared.state.HtmlState.{HtmlState}
-use Rattle.html_pieces.specs.Sizes.{most_html, least_room, most_taken, capacity}
+use Rattle.html_pieces.specs.Sizes.{most_html, most_together, least_room, most_taken, capacity}
 use Rattle.html_pieces.specs.State.{styling_in, standing_of, StandsFor}
 use Rattle.html_pieces.specs.Feed.{Takes, Feeds}
 use Rattle.html_pieces.proofs.StateLemmas.{AreSound-kept}
@@ -42,7 +46,7 @@ module _ (old new : HtmlState) (piece room room_after : List ℕ) (written : ℕ
       let shown = AreShowable-later own takes.calls (lawful (held ++ piece) (own ++ takes.calls) (takes.continues held refl own (AreCalls-machine held))) in
       subst IsUtf8 (sym takes.html) (IsUtf8-html_from (styling_in old) (standing_of old) takes.calls (AreSound-kept _) shown)
 
-  bounded-taken : written ≤ 6550 * length piece
+  bounded-taken : written ≤ 6534 * length piece
   bounded-taken =
       omega (
         arith,
@@ -51,6 +55,24 @@ module _ (old new : HtmlState) (piece room room_after : List ℕ) (written : ℕ
         takes.written_fits,
         ap length takes.html,
         length-html_continued (styling_in old) held piece takes.calls (standing_of old) (AreSound-kept _) (takes.continues held refl),
+      )
+
+  -- the machine after what is held
+  abbrev stood : Machine (List ℕ)
+  stood = machine_after decoded held (new_machine [])
+
+  together-taken : written ≤ most_together (styling_in old) (length piece)
+  together-taken =
+      let short = checkpoint_text stood in
+      let rate = html_of_a_byte (styling_in old) in
+      omega (
+        arith,
+        length-take written room_after,
+        takes.same_length,
+        takes.written_fits,
+        ap length takes.html,
+        length-together (styling_in old) short piece takes.calls (standing_of old) (AreSound-kept _) (takes.continues short (checkpoint_stands held stood refl)),
+        times-less rate (length short + length piece) (max_checkpoint + length piece) (omega (arith, length-checkpoint held stood refl)),
       )
 
 pub Feeds-taken : (old new : HtmlState) (piece room room_after : List ℕ) (taken written : ℕ)
@@ -72,6 +94,12 @@ Feeds-taken old new piece room room_after taken written enough fits some at_once
       few_taken = few_taken;
       few_written = few_written;
       bounded = omega (arith, bounded-taken old new bytes room room_after written takes, length-take taken piece);
+      bounded_together =
+          omega (
+            arith,
+            together-taken old new bytes room room_after written takes,
+            times-less (html_of_a_byte (styling_in old)) (max_checkpoint + length bytes) (max_checkpoint + taken) (omega (arith, length-take taken piece)),
+          );
     }
 
 -- the same of the front of a piece, as long as one call takes at most

@@ -6,7 +6,7 @@ use Rattle.strip_pieces.specs.State.{StandsFor as StreamStandsFor}
 use Rattle.ansi_html.specs.declared.scheme.Styling.{Styling}
 use Rattle.ansi_html.specs.Html.{at_start, html_from, standing_at_end, element_end, html_ending}
 use Rattle.html_pieces.specs.declared.state.HtmlState.{HtmlState}
-use Rattle.html_pieces.specs.Sizes.{most_html, least_room, end_room, most_taken, capacity}
+use Rattle.html_pieces.specs.Sizes.{most_html, most_together, least_room, end_room, most_taken, capacity}
 use Rattle.html_pieces.specs.State.{styling_in, standing_of, StandsFor}
 
 -- The HTML is what the calls write by which the bytes continue those before, from where it stands after
@@ -57,6 +57,7 @@ pub record Feeds (old new : HtmlState) (piece room room_after : List ℕ) (taken
   pub few_written : written ≤ capacity
   -- no bytes lead to more HTML than that, and none to none
   pub bounded : written ≤ most_html taken
+  pub bounded_together : written ≤ most_together (styling_in old) taken
 
 -- Nothing was done: there are bytes, and less room than one of them may need.
 pub record Refuses (old new : HtmlState) (piece room room_after : List ℕ) : Type 0 where

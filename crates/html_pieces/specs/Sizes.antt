@@ -1,11 +1,19 @@
 -- How many bytes of HTML there can be.
-use Rattle.std.specs.Prelude.{◌*◌, ℕ}
+use Rattle.std.specs.Prelude.{◌*◌, ◌+◌, ℕ}
+use Rattle.anstyle_parse.specs.Laws.Checkpoint.{max_checkpoint}
+use Rattle.ansi_html.specs.declared.scheme.Styling.{Styling}
+use Rattle.ansi_html.specs.Html.{html_of_a_byte, html_of_an_end}
 
--- The bytes of HTML at most that so many bytes of a stream lead to: for each the end of an element and the
--- beginning of another (6,537, with a link of 1,035 bytes), a line break (4), the character that the byte has
+-- The bytes of HTML at most that a few bytes of a stream lead to: for each the end of an element and the
+-- beginning of another (6,521, with a link of 1,035 bytes), a line break (4), the character that the byte has
 -- broken off (3) and its own reference (6).
 abbrev pub most_html : ℕ → ℕ
-most_html count = 6550 * count
+most_html count = 6534 * count
+
+-- Those that many bytes lead to: for each of them, and of the 1,042 that are pending at most, what a byte of a stream does, and what
+-- the style and the link do that were selected before.
+abbrev pub most_together : Styling → ℕ → ℕ
+most_together styling count = html_of_a_byte styling * (max_checkpoint + count) + 6457
 
 -- what one byte may lead to
 abbrev pub least_room : ℕ
@@ -13,7 +21,7 @@ least_room = most_html 1
 
 -- what closes an element at most
 abbrev pub end_room : ℕ
-end_room = 7
+end_room = html_of_an_end
 
 -- the bytes that one call takes at most
 abbrev pub most_taken : ℕ

@@ -12,16 +12,19 @@ use strip_pieces::Fed;
 
 /// The bytes of room with which a stream always goes on: what one byte may lead to, where it opens a link
 /// of 1,035 bytes.
-pub const LEAST_ROOM: usize = 6550;
+pub const LEAST_ROOM: usize = 6534;
 
 /// The bytes of room that the end of a stream needs.
-pub const END_ROOM: usize = 7;
+pub const END_ROOM: usize = 11;
 
 /// The bytes of a piece that a call takes at most.
 const MOST_TAKEN: usize = 4096;
 
 /// How much less is tried where that did not suffice.
-const SHARE: usize = 4;
+const SHARE: usize = 2;
+
+/// What the last bytes led to counts for a fourth less with each try that finds room.
+const FADES: u8 = 4;
 
 /// A try is to leave so much of the room: an eighth.
 const LEFT: usize = 8;
@@ -236,7 +239,8 @@ impl HtmlState {
         self.save(writer.standing());
         let (buffer, _) = writer.suspend().finish();
         let html = buffer.html();
-        self.html_of_a_byte = (html.len() / piece.len().max(1)).min(255) as u8;
+        let faded = self.html_of_a_byte - self.html_of_a_byte / FADES;
+        self.html_of_a_byte = faded.max((html.len() / piece.len().max(1)).min(255) as u8);
         Some(put_front(room, html))
     }
 }

@@ -41,7 +41,8 @@ pub struct HtmlState {
     pub returned: u8,
     /// 1 colours for light pages, 2 for dark ones, 3 classes; any other number is colours for both.
     pub styling: u8,
-    /// How many bytes of HTML each of the last bytes led to, or 255 for more: by it is chosen how many are tried at once.
+    /// How many bytes of HTML each of the last bytes led to, those before for less, or 255 for more: by it is chosen how many
+    /// are tried at once.
     pub html_of_a_byte: u8,
 }
 

@@ -59,7 +59,7 @@ module _ (styling : Styling) where
   links-shown-html s calls =
       subst (λ l. AllByRecursion IsLink (map href_of (read l))) (sym (shown_html-all styling s calls)) (links-styled styling (shown_styled s calls) (links-shown s calls))
 
-  pub length-shown : (s : State) (calls : List Call) → length (shown_html styling s calls) ≤ 6543 * length (shown_text s calls) + 7
+  pub length-shown : (s : State) (calls : List Call) → length (shown_html styling s calls) ≤ 6527 * length (shown_text s calls) + 11
   length-shown s calls =
       omega (arith, ap length (shown_html-all styling s calls), length-styled styling (shown_styled s calls) (links-shown s calls), ap length (bytes-shown s calls))
 

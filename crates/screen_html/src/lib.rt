@@ -98,7 +98,7 @@ pub fn convert_shown<R: Source, W: Sink>(
     ensures whole_links { (text : List ℕ) → IsTrue (is_link_command (parts_of text)) → link_of (parts_of text) ≢ []
         → SaysLink text (link_of (parts_of text)) }
 
-    // No markup comes in: it is text, and spans and links that do not nest, with declarations or classes from a
+    // No markup comes in: it is text, spans of it, and links of both, with declarations or classes from a
     // fixed vocabulary.
     ensures grammar { (columns rows : ℕ) (bytes : List ℕ) (calls : List Call) → AreCalls bytes calls
         → IsFragment styling (shown_html styling (new_state columns rows) calls) }
@@ -107,9 +107,9 @@ pub fn convert_shown<R: Source, W: Sink>(
     ensures utf8 { (columns rows : ℕ) (bytes : List ℕ) (calls : List Call) → AreCalls bytes calls
         → IsUtf8 (shown_html styling (new_state columns rows) calls) }
 
-    // It has at most 6543 bytes for each byte of the text, and 7 more: each can stand in a link of its own.
+    // It has at most 6527 bytes for each byte of the text, and 11 more: each can stand in a link of its own.
     ensures bound { (calls : List Call)
-        → length (shown_html styling screen calls) ≤ 6543 * length (shown_text screen calls) + 7 }
+        → length (shown_html styling screen calls) ≤ 6527 * length (shown_text screen calls) + 11 }
 {
     let mut output = Output::new(writer);
     output.put(head);

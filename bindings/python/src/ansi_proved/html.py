@@ -7,7 +7,7 @@ from functools import partial
 from .library import FEW, Counts, Idle, Room, address_of, decoded, exact, function, joined, pieces_of, whole_of
 
 MOST = 4096  # bytes that one call takes at most
-CALL_ROOM, END_ROOM = 16384, 7  # bytes of HTML that one call, and the end, write at most
+CALL_ROOM, END_ROOM = 16384, 11  # bytes of HTML that one call, and the end, write at most
 ROOM = 64 << 10  # bytes of HTML that are handed on at once, at most
 LONG = 1024  # characters at the beginning that are plain, and sooner taken by themselves
 # characters that are their own HTML, and HT and LF: all but the five that are escaped and other controls

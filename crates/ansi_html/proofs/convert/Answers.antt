@@ -1,4 +1,4 @@
-use Rattle.std.proofs.Common.{◌++◌, false, List, ℕ, ap, sym, subst, arith}
+use Rattle.std.proofs.Common.{◌++◌, false, List, ℕ, ap, sym, subst}
 use Rattle.ansi_html.proofs.ColorLemmas.{AreReadable-css}
 use Rattle.ansi_html.proofs.ReadLemmas.{read-html, text-html}
 use Rattle.ansi_html.proofs.DrawnLemmas.{drawn-html}
@@ -8,8 +8,7 @@ use Rattle.ansi_html.proofs.GrammarLemmas.{IsFragment-html}
 use Rattle.ansi_html.proofs.TextLemmas.{IsUtf8-html}
 use Rattle.ansi_html.proofs.ShownLemmas.{AreLinks-html}
 use Rattle.ansi_html.proofs.WholeLemmas.{says_link}
-use Rattle.anstyle_parse.proofs.Canonical.Bounds.{length-calls}
-use Rattle.ansi_html.proofs.LengthLemmas.{length-html}
+use Rattle.ansi_html.proofs.BoundLemmas.{length-html}
 use Rattle.anstyle_parse.specs.Stream.Call.{Call}
 use Rattle.anstyle_parse.specs.Io.Output.{Adds}
 use Rattle.anstyle_parse.specs.Io.Run.{RunsToEnding}
@@ -68,4 +67,4 @@ pub returns-clause-utf8 : goal.returns-clause-utf8
 returns-clause-utf8 g c = λ bytes calls are. IsUtf8-html c.args.styling calls (AreShowable-lawful false calls (lawful bytes calls are))
 
 pub returns-clause-bound : goal.returns-clause-bound
-returns-clause-bound g c = λ bytes calls are. omega (arith, length-html c.args.styling calls, length-calls bytes calls are)
+returns-clause-bound g c = length-html c.args.styling

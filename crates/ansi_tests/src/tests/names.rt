@@ -227,12 +227,12 @@ fn names_of_html_in_pieces(rt: HostRuntime) {
     let color: ColorBytes = style.foreground;
     assert_eq!(rt; color.kind, 0);
     let mut room = [0; html_pieces::LEAST_ROOM];
-    // <span class="ansi-f1">x, and </span>
-    let fed = state.feed(b"\x1B[31mx", &mut room);
+    // <a rel="nofollow noreferrer" href="http://a" class="ansi-link"><span class="ansi-f1">x, and </span></a>
+    let fed = state.feed(b"\x1B]8;;http://a\x07\x1B[31mx", &mut room);
     assert!(rt;
         fed == Some(Fed {
-            taken: 6,
-            written: 23
+            taken: 20,
+            written: 86
         })
     );
     assert!(rt; state.end(&mut room) == Some(END_ROOM));

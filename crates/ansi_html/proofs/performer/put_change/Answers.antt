@@ -1,30 +1,44 @@
-use Rattle.std.proofs.Common.{[], ◌++◌, Bool, List, ℕ, sym, ◌∙◌, subst}
-use Rattle.std.specs.Prelude.{if◌then◌else◌}
+-- The element changes by its link, or by its style alone, or not.
+use Rattle.std.proofs.Common.{List, ℕ, sym, ◌∙◌, subst}
+use Rattle.std.specs.Str.{bytes_eq}
 use Rattle.anstyle_parse.specs.Io.Output.{Adds}
 use Rattle.anstyle_parse.proofs.Written.Output.{Adds-nil, Adds-append}
+use Rattle.ansi_style.specs.Style.{are_equal}
 use Rattle.ansi_html.specs.ShownLinks.{shown_link, selected_link}
-use Rattle.ansi_html.specs.Html.{element, are_same, element_begin, element_end}
-use Rattle.ansi_html.proofs.HtmlLemmas.{false-from_not, true-from_not}
+use Rattle.ansi_html.specs.Html.{element, span_begin, span_end, element_begin, element_end}
+use Rattle.ansi_html.proofs.HtmlLemmas.{false-from_not, true-from_not, change-link, change-style, change-none}
 use Rattle.ansi_html.proofs.performer.put_change.Goals as goal
 
-pub returns-then-is_other : goal.returns-then-is_other
-returns-then-is_other g c =
+pub returns-then-differ : goal.returns-then-differ
+returns-then-differ g c =
     let begin = c.args.output.now in
     let end = c.put_begin.new.output in
     let shown = element c.args.shown.now (shown_link c.args.links.now) in
     let next = element c.args.style.now (selected_link c.args.links.now) in
-    let text = element_end shown ++ element_begin c.args.styling next in
-    let other = false-from_not (are_same shown next) (sym c.is_other.ensures ∙ c.if-is_other.true) in
-    subst (λ (same : Bool). Adds g.W.Sink (if same then [] else text) begin end) (sym other)
+    let other = false-from_not (bytes_eq shown.link next.link) (sym c.differ.ensures ∙ c.if-differ.true) in
+    subst (λ (text : List ℕ). Adds g.W.Sink text begin end) (sym (change-link c.args.styling shown next other))
     (Adds-append g.W.Sink (element_end shown) (element_begin c.args.styling next) begin c.put_end.new.output end
     (subst (λ (link : List ℕ). Adds g.W.Sink (element_end (element c.args.shown.now link)) begin c.put_end.new.output) c.shown.ensures c.put_end.ensures)
     (subst (λ (link : List ℕ). Adds g.W.Sink (element_begin c.args.styling (element c.args.style.now link)) c.put_end.new.output end) c.selected.ensures c.put_begin.ensures))
 
-pub returns-else-is_other : goal.returns-else-is_other
-returns-else-is_other g c =
+pub returns-then-ne : goal.returns-then-ne
+unfolding are_equal
+returns-then-ne g c =
+    let begin = c.args.output.now in
+    let end = c.put_span_begin.new.output in
+    let shown = element c.args.shown.now (shown_link c.args.links.now) in
+    let next = element c.args.style.now (selected_link c.args.links.now) in
+    let same = true-from_not (bytes_eq shown.link next.link) (sym c.differ.ensures ∙ c.if-differ.false) in
+    let other = false-from_not (are_equal shown.style next.style) (sym c.ne.ensures ∙ c.if-ne.true) in
+    subst (λ (text : List ℕ). Adds g.W.Sink text begin end) (sym (change-style c.args.styling shown next same other))
+    (Adds-append g.W.Sink (span_end shown.style) (span_begin c.args.styling next.style) begin c.put_span_end.new.output end c.put_span_end.ensures c.put_span_begin.ensures)
+
+pub returns-else-ne : goal.returns-else-ne
+unfolding are_equal
+returns-else-ne g c =
     let begin = c.args.output.now in
     let shown = element c.args.shown.now (shown_link c.args.links.now) in
     let next = element c.args.style.now (selected_link c.args.links.now) in
-    let text = element_end shown ++ element_begin c.args.styling next in
-    let same = true-from_not (are_same shown next) (sym c.is_other.ensures ∙ c.if-is_other.false) in
-    subst (λ (same : Bool). Adds g.W.Sink (if same then [] else text) begin begin) (sym same) (Adds-nil g.W.Sink begin)
+    let same = true-from_not (bytes_eq shown.link next.link) (sym c.differ.ensures ∙ c.if-differ.false) in
+    let equal = true-from_not (are_equal shown.style next.style) (sym c.ne.ensures ∙ c.if-ne.false) in
+    subst (λ (text : List ℕ). Adds g.W.Sink text begin begin) (sym (change-none c.args.styling shown next same equal)) (Adds-nil g.W.Sink begin)

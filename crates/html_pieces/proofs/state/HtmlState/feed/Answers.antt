@@ -8,7 +8,7 @@ use Rattle.html_pieces.proofs.state.HtmlState.feed.Goals.{else-room-lt-LEAST_ROO
 
 pub returns-in-Some-clause-fed : goal.returns-in-Some-clause-fed
 returns-in-Some-clause-fed c =
-    let enough : 0 < length c.args.piece.now → 6550 ≤ length c.args.room.now =
+    let enough : 0 < length c.args.piece.now → 6534 ≤ length c.args.room.now =
     elim c.else-room-lt-LEAST_ROOM.branch [
       | else-room-lt-LEAST_ROOM-via-then-room-lt-LEAST_ROOM+else-not-is_empty w ↦ λ some. grind (arith, nat_tests)
       | else-room-lt-LEAST_ROOM-via-else-room-lt-LEAST_ROOM w ↦ λ some. omega arith
@@ -20,7 +20,7 @@ returns-in-Some-clause-fed c =
 
 pub returns-then-first-piece-clause-fed : goal.returns-then-first-piece-clause-fed
 returns-then-first-piece-clause-fed c =
-    let enough : 0 < length c.args.piece.now → 6550 ≤ length c.args.room.now =
+    let enough : 0 < length c.args.piece.now → 6534 ≤ length c.args.room.now =
     elim c.else-room-lt-LEAST_ROOM.branch [
       | else-room-lt-LEAST_ROOM-via-then-room-lt-LEAST_ROOM+else-not-is_empty w ↦ λ some. grind (arith, nat_tests)
       | else-room-lt-LEAST_ROOM-via-else-room-lt-LEAST_ROOM w ↦ λ some. omega arith
@@ -34,7 +34,7 @@ returns-then-first-piece-clause-fed c =
 
 pub returns-clause-fed : goal.returns-clause-fed
 returns-clause-fed c =
-    let enough : 0 < length c.args.piece.now → 6550 ≤ length c.args.room.now =
+    let enough : 0 < length c.args.piece.now → 6534 ≤ length c.args.room.now =
     elim c.else-room-lt-LEAST_ROOM.branch [
       | else-room-lt-LEAST_ROOM-via-then-room-lt-LEAST_ROOM+else-not-is_empty w ↦ λ some. grind (arith, nat_tests)
       | else-room-lt-LEAST_ROOM-via-else-room-lt-LEAST_ROOM w ↦ λ some. omega arith

@@ -91,7 +91,8 @@ pub extern "C" fn ansi_screen_part_text(
     room: &mut [u8],
     written: &mut usize,
 ) -> bool
-    ensures text { OnTrue result (Holds (Reads (text_of_part row start end) room.old room.new written.new) screen.old.value) }
+    ensures text { OnTrue result (Holds (Reads (text_of_part row start end) room.old room.new written.new)
+        screen.old.value) }
     ensures kept { screen.new.value ≡ screen.old.value }
     ensures refused { OnFalse result (IsRefused (text_of_part row start end) room.old written.new screen.old.value) }
 {

@@ -136,7 +136,8 @@ impl<'a> EventWriter<'a> {
     /// One record more, of this, which stands for what the room has from a place on.
     #[inline(always)]
     fn note(&mut self, start: usize, kind: u8, byte: u8, flag: bool, intermediates: &[u8])
-        ensures { Pushes (record_with start (self.old.used - start) kind byte flag intermediates.now) self.old self.new }
+        ensures { Pushes (record_with start (self.old.used - start) kind byte flag intermediates.now)
+            self.old self.new }
     {
         let (intermediates, intermediate_count) = first_two(intermediates);
         let length = self.used.saturating_sub(start);
@@ -179,8 +180,8 @@ impl<'a> EventWriter<'a> {
     fn ends_with_text(&self) -> bool
         ensures some { OnTrue result (0 < self.now.written) }
         ensures within { OnTrue result (self.now.written ≤ length self.now.events.now) }
-        ensures text { (events : List Event) (last : Event) (rest : List Event) → self.now.events.now ≡ events ++ last ∷ rest
-            → self.now.written ≡ length events + 1 → result ≡ is_text last }
+        ensures text { (events : List Event) (last : Event) (rest : List Event)
+            → self.now.events.now ≡ events ++ last ∷ rest → self.now.written ≡ length events + 1 → result ≡ is_text last }
     {
         self.written > 0
             && self.written <= self.events.len()

@@ -101,7 +101,8 @@ impl<W: Sink> SafeWriter<W> {
 
     /// Writes it in one way or the other.
     fn put_as(&mut self, c: char, visibly: bool)
-        ensures added { Adds W.Sink (if visibly then visible c else encode_utf8 c) (output_of self.old) (output_of self.new) }
+        ensures added { Adds W.Sink (if visibly then visible c else encode_utf8 c)
+            (output_of self.old) (output_of self.new) }
         ensures before { before_in self.new ≡ (if visibly then 0x3E else c) }
         ensures held { held_in self.new ≡ held_in self.old }
     {

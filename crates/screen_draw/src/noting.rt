@@ -127,7 +127,8 @@ impl Noting {
     /// The first row in which a character can change cells: the cursor's; or the one above it, where the left half
     /// would stand to a right one with which the row begins, in the first two columns.
     fn first_row(&self) -> usize
-        ensures { result ≡ if nat_lt self.now.screen.display.cursor.column 2 && begins_with_right self.now.screen.display
+        ensures { result ≡ if nat_lt self.now.screen.display.cursor.column 2
+            && begins_with_right self.now.screen.display
             then self.now.screen.display.cursor.row - 1 else self.now.screen.display.cursor.row }
     {
         let place = self.screen.cursor();
@@ -160,7 +161,8 @@ impl Noting {
             → is_right (cell_at (row_start self.now.screen.display) self.now.screen.display.cells).part ≡ false }
         ensures next { result ≡ true
             → is_right (cell_at (row_end self.now.screen.display) self.now.screen.display.cells).part ≡ false }
-        ensures second { result ≡ true → is_right (cell_at (row_end self.now.screen.display + self.now.screen.display.width)
+        ensures second { result ≡ true
+            → is_right (cell_at (row_end self.now.screen.display + self.now.screen.display.width)
             self.now.screen.display.cells).part ≡ false }
         ensures sized { IsSized self.now.screen.display }
     {

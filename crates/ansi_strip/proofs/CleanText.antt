@@ -16,19 +16,19 @@ use Rattle.anstyle_parse.proofs.Canonical.Twice.{replay-only}
 use Rattle.ansi_strip.specs.Strip.{is_layout, is_clean, IsClean, stripped_call, stripped}
 
 -- the call of a character, by whether it is from the space on
-abbrev call_by : Bool → ℕ → Call
+abbrev pub call_by : Bool → ℕ → Call
 call_by true c = print c
 call_by false c = execute c
 
-abbrev call_of : ℕ → Call
+abbrev pub call_of : ℕ → Call
 call_of c = call_by (nat_le 0x20 c) c
 
 -- which is printed, or a control that is left
-abbrev IsLeft : Bool → ℕ → Type 0
+abbrev pub IsLeft : Bool → ℕ → Type 0
 IsLeft true c = is_character c ≡ true
 IsLeft false c = (c < 0x20) × (is_layout c ≡ true)
 
-abbrev AreLeft : List ℕ → Type 0
+abbrev pub AreLeft : List ℕ → Type 0
 AreLeft characters = AllByRecursion (λ c. IsLeft (nat_le 0x20 c) c) characters
 
 -- the bytes of each of two texts are clean
@@ -38,7 +38,7 @@ clean-parts [] second all = (tt, all)
 clean-parts (b ∷ first) second all = let rest = clean-parts first second all.1 in ((all.0, rest.0), rest.1)
 
 -- a scalar value from the space on can be printed
-character-scalar : (c : ℕ) → IsScalar c → 0x20 ≤ c → is_character c ≡ true
+pub character-scalar : (c : ℕ) → IsScalar c → 0x20 ≤ c → is_character c ≡ true
 unfolding is_character
 character-scalar c is low =
     ⊎_elim
@@ -52,7 +52,7 @@ unfolding is_clean
 layout-clean c low clean =
     ⊎_elim (λ high. absurd (false≢true (sym low ∙ high))) (λ layout. layout) (or_cases (nat_le 0x20 c) (is_layout c) clean)
 
-below-space : (c : ℕ) → nat_le 0x20 c ≡ false → c < 0x20
+pub below-space : (c : ℕ) → nat_le 0x20 c ≡ false → c < 0x20
 below-space c low = ⊎_elim (λ h. h) (λ h. absurd (false≢true (sym low ∙ le-leb 0x20 c h))) (cases_lt c 0x20)
 
 left-by : (c : ℕ) (t : Bool) → nat_le 0x20 c ≡ t → IsScalar c → AllByRecursion (λ b. IsTrue (is_clean b)) (encode_utf8 c) → IsLeft t c
@@ -95,7 +95,7 @@ canon-left [] left = refl
 canon-left (c ∷ characters) left =
     ap (λ l. l ++ canon (map call_of characters)) (call_text-by (nat_le 0x20 c) c left.0) ∙ ap (λ l. encode_utf8 c ++ l) (canon-left characters left.1)
 
-stripped-left : (characters : List ℕ) → AreLeft characters → stripped (map call_of characters) ≡ encode_utf8_all characters
+pub stripped-left : (characters : List ℕ) → AreLeft characters → stripped (map call_of characters) ≡ encode_utf8_all characters
 stripped-left [] left = refl
 stripped-left (c ∷ characters) left =
     ap (λ l. l ++ stripped (map call_of characters)) (stripped-by (nat_le 0x20 c) c left.0) ∙ ap (λ l. encode_utf8 c ++ l) (stripped-left characters left.1)
@@ -104,11 +104,16 @@ lawful-left : (characters : List ℕ) → AreLeft characters → AreLawful (map 
 lawful-left [] left = tt
 lawful-left (c ∷ characters) left = lawful-by (nat_le 0x20 c) c (map call_of characters) left.0 (lawful-left characters left.1)
 
+-- the calls of the characters that are left
+pub calls-left : (characters : List ℕ) (calls : List Call) → AreLeft characters → AreCalls (encode_utf8_all characters) calls → calls ≡ map call_of characters
+calls-left characters calls left are =
+    replay-only (map call_of characters) calls (lawful-left characters left) (subst (λ (l : List ℕ). AreCalls l calls) (sym (canon-left characters left)) are)
+
 -- clean text stays as it is
 pub stripped-clean : (text : List ℕ) (calls : List Call) → IsClean text → AreCalls text calls → stripped calls ≡ text
 stripped-clean text calls clean are =
     let characters = clean.0.0 in
     let spelt = clean.0.1.1 in
     let left = AreLeft-clean characters clean.0.1.0 (subst (λ l. AllByRecursion (λ b. IsTrue (is_clean b)) l) (sym spelt) clean.1) in
-    let same = replay-only (map call_of characters) calls (lawful-left characters left) (subst (λ (l : List ℕ). AreCalls l calls) (sym (canon-left characters left ∙ spelt)) are) in
+    let same = calls-left characters calls left (subst (λ (l : List ℕ). AreCalls l calls) (sym spelt) are) in
     ap stripped same ∙ (stripped-left characters left ∙ spelt)

@@ -2,3 +2,8 @@ pub mod Left
 pub mod PieceLength
 pub mod Showable
 pub mod CleanText
+pub mod DrivingLemmas
+pub mod InertLemmas
+pub mod EightBitLemmas
+pub mod LaneLemmas
+pub mod PassLemmas

@@ -42,7 +42,7 @@ AreShowable-lawful false (unhook ∷ calls) h = absurd h
 AreShowable-lawful true (_ ∷ calls) h = absurd h
 
 -- characters are scalar values
-scalar_below : (c : ℕ) → c < 0xD800 → IsScalar c
+pub scalar_below : (c : ℕ) → c < 0xD800 → IsScalar c
 scalar_below c low = rw (lt-ltb c 0xD800 low) refl
 
 scalar_above : (c : ℕ) → 0xDFFF < c → c < 0x110000 → IsScalar c

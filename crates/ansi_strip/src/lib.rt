@@ -1,5 +1,5 @@
 //! Strips a stream of its escapes: what is left is the text that it prints, with its tabs,
-//! line feeds and carriage returns.
+//! line feeds and carriage returns. [`strip_inert`] also leaves the characters out that terminals take for controls.
 //!
 //! ```
 //! let mut reader = FromRead::new(log);
@@ -10,13 +10,18 @@
 
 ghost use Rattle.std.specs.Prelude.{OnOk};
 ghost use Rattle.anstyle_parse.specs.Io.Run.{Runs};
+ghost use Rattle.ansi_strip.specs.Inert.{inert_text};
 ghost use Rattle.ansi_strip.specs.Strip.{stripped};
 
+mod clear;
+mod driving;
+mod inert;
 pub mod laws;
 mod performer;
 
 use anstyle_parse::canon::{Fault, Sink, Source, write_calls};
 pub use anstyle_parse::is_layout;
+pub use inert::Inert;
 pub use performer::Stripper;
 
 /// Writes the stripped text of all bytes that the reader gives: each printed character in
@@ -46,4 +51,19 @@ pub fn strip<R: Source, W: Sink>(reader: &mut R, writer: W) -> (W, Result<(), Fa
     ensures handed_on { OnOk result.1 (W.holds_nothing result.0) }
 {
     write_calls::<Stripper<W>, R, W>(reader, writer)
+}
+
+/// The same without DEL and U+0080 to U+009F, which terminals take for controls: text that drives no terminal
+/// ([`laws::drives_nothing`]).
+///
+/// It is read and written as [`strip`] does it, with the same answers. What was so stripped is itself again
+/// ([`laws::inert_twice`]). It is UTF-8 of inert characters alone ([`laws::inert_utf8`]), and such text is left as it
+/// is ([`laws::inert_clean_text`]).
+pub fn strip_inert<R: Source, W: Sink>(reader: &mut R, writer: W) -> (W, Result<(), Fault>)
+    ensures runs { Runs R.Source W.Sink inert_text reader.old reader.new writer result.0 result.1 }
+
+    // With Ok nothing of it is held back.
+    ensures handed_on { OnOk result.1 (W.holds_nothing result.0) }
+{
+    write_calls::<Inert<Stripper<W>>, R, W>(reader, writer)
 }

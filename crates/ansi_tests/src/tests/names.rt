@@ -16,9 +16,11 @@ use ansi_html::is_link_command;
 use ansi_html::put_stylesheet;
 use ansi_html::put_text;
 use ansi_html::verbatim_length;
+use ansi_strip::Inert;
 use ansi_strip::Stripper;
 use ansi_strip::is_layout;
 use ansi_strip::strip;
+use ansi_strip::strip_inert;
 use ansi_style::Color;
 use ansi_style::Hue;
 use ansi_style::Style;
@@ -207,6 +209,12 @@ fn names_of_the_laws(rt: HostRuntime) {
     ansi_strip::laws::clean_text();
     ansi_strip::laws::piece_length();
     ansi_strip::laws::cut_before_escape();
+    ansi_strip::laws::drives_nothing();
+    ansi_strip::laws::inert_twice();
+    ansi_strip::laws::inert_length();
+    ansi_strip::laws::inert_utf8();
+    ansi_strip::laws::inert_clean_text();
+    ansi_strip::laws::inert_cut_before_escape();
     ansi_style::laws::reset();
     ansi_style::laws::joined();
     ansi_style::laws::forms();
@@ -336,6 +344,7 @@ fn names_of_runs(rt: HostRuntime) {
         ),
     );
     assert_well(&rt, strip(&mut reader(), memory(rt.alloc())));
+    assert_well(&rt, strip_inert(&mut reader(), memory(rt.alloc())));
     assert_well(
         &rt,
         convert(
@@ -359,6 +368,9 @@ fn names_of_writers(rt: HostRuntime) {
     let mut stripper = Stripper::over(Output::new(memory(rt.alloc())));
     writes_calls(&stripper);
     assert_eq!(rt; perform_texts_to_end(&mut reader(), &mut stripper), Ok(()));
+    let mut inert = Inert::new(stripper);
+    writes_calls(inert.performer());
+    assert_eq!(rt; perform_texts_to_end(&mut reader(), &mut inert), Ok(()));
     let writer = HtmlWriter::new(
         Styling::Inline(Scheme::Dark),
         Output::new(memory(rt.alloc())),

@@ -144,7 +144,8 @@ impl<W: Sink, P: WritingPerformer<W>> WritingPerformer<W> for Inert<P> {
         self.performer.into_output()
     }
 
-    ghost adds = { λ old calls new received. P.adds (performer_in old) (filter is_inert calls) (performer_in new) received };
+    ghost adds = { λ old calls new received.
+        P.adds (performer_in old) (filter is_inert calls) (performer_in new) received };
 
     ghost ends = { λ old calls new received no_fault.
         P.ends (performer_in old) (filter is_inert calls) (performer_in new) received no_fault };

@@ -86,10 +86,11 @@ ZEROS = b";".join([b"0"] * 32)
 # Each lead byte but the last breaks the one before it.
 BROKEN = SIZE - 1
 # Of what the Rust crate's sources, with the byte that breaks a character handled again, make of
-# random_bytes: its lines, its canonical text, its stripped text.
+# random_bytes: its lines, its canonical text, its stripped text. (That is without DEL and U+0080 to
+# U+009F: made of the lines by a few lines of Python, which with these make the text of those sources.)
 LOG_DIGEST = "5c1b5f4578fd31fa299e2a1796cde637ca24e4d72537ed3385a279dda09c02a1"
 CANON_DIGEST = "c05a13fefff40f87c445126e531c1f2f69cfea6bcd5a64bc3b0ba643cc09c535"
-STRIP_DIGEST = "f6c8a22f508312f4d16518933ef340758071857fed6130669459a0d43fe5f9ad"
+STRIP_DIGEST = "dbe82af2371a4a50078986ed81acbba692ae051b7dbcde1fc744e4881c68aa77"
 
 
 def lines(*them):
@@ -338,10 +339,17 @@ STRIP_ROWS = [
     ("a device control string", b"\x1bPqA\x9cB", b"B"),
     ("a control in a control sequence", b"\x1b[1\nm", b"\n"),
     ("a tab, and a vertical one", b"\ta\vb", b"\tab"),
-    ("7F, and controls above it", b"\x7f\x80\x9c\xc2\x80", b"\x7f\xc2\x80"),
+    ("7F, and controls above it", b"\x7f\x80\x9c\xc2\x80", b""),
+    ("U+009B, which terminals take for a control", b"\xc2\x9bc", b"c"),
+    ("U+0080 to U+00A0, with 7E to 7F", "a~\x7f\x80\x9f\xa0b".encode(), b"a~\xc2\xa0b"),
+    ("U+009D and U+009C around a title", "\x9d0;t\x9ca".encode(), b"0;ta"),
+    ("DEL between characters of several bytes", b"\xe2\x82\xac\x7f\xc2\xa9\x7f", b"\xe2\x82\xac\xc2\xa9"),
+    ("U+0085 in a sequence and behind it", b"\x1b[1\xc2\x85mx\xc2\x85\n", b"x\n"),
+    ("a character broken by U+009B", b"\xe2\x82\xc2\x9b1m", b"\xef\xbf\xbd1m"),
+    ("bytes of one, but of two characters", b"\xc3\x82\xc2\xa0\xdf\x9b\xc2", b"\xc3\x82\xc2\xa0\xdf\x9b"),
     ("a broken character", b"\xc3(", b"\xef\xbf\xbd("),
     ("a character broken by a sequence", b"\xc3\x1b[mA", b"\xef\xbf\xbdA"),
-    ("text, stripped again", b"hi\n\x7f\xc2\x80\xef\xbf\xbd(", b"hi\n\x7f\xc2\x80\xef\xbf\xbd("),
+    ("text, stripped again", b"hi\n\xc2\xa0\xef\xbf\xbd(", b"hi\n\xc2\xa0\xef\xbf\xbd("),
     ("controls", b"a\tb\x0bc\x0cd\x08e\x00", b"a\tbcde"),
     ("characters", b"\xe2\x82\xac\xf0\x9f\x98\x80", b"\xe2\x82\xac\xf0\x9f\x98\x80"),
     ("bytes that begin no character", b"a\xff\xc0b", b"ab"),

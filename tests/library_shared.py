@@ -22,6 +22,7 @@ PATIENCE = 60  # seconds that a program has
 sys.path[:0] = [PYTHON, "%s/bench" % ROOT]
 import measure
 import needs
+import pages
 from stand_ins import copy_unbuilt
 
 
@@ -90,10 +91,10 @@ def streams():
 
 
 def text_of(stream):
-    """What ansi2text writes."""
-    done = run(["%s/crates/ansi2text/out/ansi2text" % ROOT], stream)
+    """The text of a stream, by the calls that parselog writes: ansi2text leaves DEL and U+0080 to U+009F out of it."""
+    done = run(["%s/crates/parselog/out/parselog" % ROOT], stream)
     done.check_returncode()
-    return done.stdout
+    return pages.text_of(done.stdout)
 
 
 def html_of(stream, styling="both"):
@@ -105,7 +106,7 @@ def html_of(stream, styling="both"):
 
 
 def printed_of(stream):
-    """What ansi2text writes, without the controls that lay it out: the characters that are printed."""
+    """The same without the controls that lay it out: the characters that are printed."""
     return re.sub(rb"[\t\n\r]", b"", text_of(stream))
 
 

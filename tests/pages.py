@@ -31,6 +31,13 @@ STREAMS = {
     "a newline first": b"\n\nafter",
     "nothing": b"",
 }
+
+
+def text_of(lines):
+    """The text of the calls that parselog writes: each character that is printed, and tabs, line feeds and returns. HTML
+    has DEL and U+0080 to U+009F, which text that ansi2text writes has not."""
+    characters = [int(word, 16) for word in re.findall(rb"^(?:print U\+|execute (?=09|0A|0D))(\w+)$", lines, re.M)]
+    return "".join(map(chr, characters)).encode()
 # A page as a whole may have these elements besides spans and links; a fragment has none.
 OF_A_PAGE = ["html", "head", "meta", "title", "style", "body", "pre"]
 # What a page says of itself beside its language: its charset, that a phone draws it at the phone's width, that it is

@@ -1,38 +1,39 @@
 //! The performer of each stream: what strips it or makes it safe, or what follows a screen of its own.
 ghost use Rattle.std.specs.Prelude.{◌≡◌, List, IfOk, IfErr};
 ghost use Rattle.anstyle_parse.specs.Stream.Call.{Call};
-ghost use Rattle.ansi_strip.specs.Strip.{stripped};
+ghost use Rattle.ansi_strip.specs.Inert.{inert_text};
 ghost use Rattle.ansi_screen.specs.Size.{IsTaken};
 ghost use Rattle.ansi2text.specs.Sizes.{screen_of, no_text};
 ghost use Rattle.safe_text.specs.Decided.{decided, undecided};
 ghost use Rattle.screen_text.specs.Shown.{left_text, ending_text};
 
 use ansi_screen::{Screen, Size};
-use ansi_strip::Stripper;
+use ansi_strip::{Inert, Stripper};
 use anstyle_parse::io::{CallWriter, Output, Sink};
 use each_source::Begin;
 use safe_text::SafeWriter;
 use screen_text::{ShownWriter, TextRows};
 use std::alloc::Global;
 
-/// Each stream is stripped.
+/// Each stream is stripped, to text that drives no terminal.
 #[derive(Debug, Clone, Copy, PartialEq, Eq)]
 pub struct Stripping;
 
-impl<W: Sink> Begin<Stripper<W>, W> for Stripping {
+impl<W: Sink> Begin<Inert<Stripper<W>>, W> for Stripping {
+    ghost use Rattle.ansi_strip.specs.Passing.{performer_in};
     ghost use Rattle.ansi_strip.specs.Stripper.{output_of};
 
-    ghost text = { λ _. stripped };
+    ghost text = { λ _. inert_text };
 
     ghost ending = { λ _ _. no_text };
 
-    fn begin(&self, output: Output<W>) -> Result<Stripper<W>, Output<W>>
-        ensures output { IfOk result (λ performer. output_of performer ≡ output) }
-        ensures text { IfOk result (λ performer. (calls : List Call) → stripped calls ≡ stripped calls) }
+    fn begin(&self, output: Output<W>) -> Result<Inert<Stripper<W>>, Output<W>>
+        ensures output { IfOk result (λ performer. output_of (performer_in performer) ≡ output) }
+        ensures text { IfOk result (λ performer. (calls : List Call) → inert_text calls ≡ inert_text calls) }
         ensures ending { IfOk result (λ performer. (calls : List Call) → no_text ≡ no_text) }
         ensures kept { IfErr result (λ kept. kept ≡ output) }
     {
-        Ok(Stripper::over(output))
+        Ok(Inert::over(output))
     }
 }
 

@@ -20,8 +20,9 @@ pub const HELP: &str = "\
 usage: ansi2text [--safe | --shown | --shown=COLUMNSxROWS] [-o FILE] [FILE]..
 
 Writes the text of files without the escapes of terminals: colours, cursor moves,
-titles and the like. Input is UTF-8. Each file is a stream of its own. With no FILE,
-or for -, standard input is read. Words behind -- name files, whatever they begin with.
+titles and the like, so that it drives no terminal. Input is UTF-8. Each file is a
+stream of its own. With no FILE, or for -, standard input is read. Words behind --
+name files, whatever they begin with.
 
   --safe                  write text that hides nothing and keeps its order, to
                           review: controls and characters that show nothing or

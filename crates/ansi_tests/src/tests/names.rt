@@ -274,6 +274,7 @@ fn names_of_events(rt: HostRuntime) {
         flag: 0,
         intermediate_count: 0,
         intermediates: [0; 2],
+        padding: [0; 2],
     };
     let mut events = [none; 4 * event_pieces::LEAST_EVENTS];
     let mut room = [0; 2 * event_pieces::LEAST_ROOM];
@@ -286,6 +287,7 @@ fn names_of_events(rt: HostRuntime) {
         })
     );
     assert_eq!(rt; events[0].kind, event_pieces::CSI);
+    assert_eq!(rt; events[0].padding, [0; 2]);
     assert_eq!(rt; events[1].kind, event_pieces::TEXT);
     assert_eq!(rt; events[2].kind, event_pieces::EXECUTE);
     let others = [

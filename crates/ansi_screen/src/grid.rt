@@ -6,7 +6,7 @@ ghost use Rattle.ansi_screen.specs.Print.{glyph};
 ghost use Rattle.ansi_screen.specs.Runs.{with_glyphs};
 
 use crate::cell::Cell;
-use crate::runs;
+use crate::{runs, window};
 use ansi_style::Style;
 use std::alloc::{AllocError, Global};
 use std::marker::Model;
@@ -192,8 +192,14 @@ impl Grid {
         ensures length { length self.new ≡ length self.old }
     {
         self.is_written = true;
-        let shown = &mut self.memory.as_mut_slice()[self.start..self.start + self.size];
-        runs::move_on(&mut shown[first..last], count, blank);
+        let (start, size) = (self.start, self.size);
+        let memory = self.memory.as_mut_slice();
+        if window::moves(memory.len(), size, first, last, count) {
+            self.start = window::go_back(memory, start, size, first, last, count, blank);
+        } else {
+            let shown = &mut memory[start..start + size];
+            runs::move_on(&mut shown[first..last], count, blank);
+        }
     }
 
     /// The cells from `first` up to `last` move back by as many as `count`; blanks follow them.
@@ -204,53 +210,13 @@ impl Grid {
         ensures length { length self.new ≡ length self.old }
     {
         self.is_written = true;
-        if last - first == self.size {
-            let (start, size) = (self.start, self.size);
-            self.start = go_on(self.memory.as_mut_slice(), start, size, count, blank);
+        let (start, size) = (self.start, self.size);
+        let memory = self.memory.as_mut_slice();
+        if window::moves(memory.len(), size, first, last, count) {
+            self.start = window::go_on(memory, start, size, first, last, count, blank);
         } else {
-            let shown = &mut self.memory.as_mut_slice()[self.start..self.start + self.size];
+            let shown = &mut memory[start..start + size];
             runs::move_back(&mut shown[first..last], count, blank);
         }
     }
-}
-
-/// The window of so many cells from `start` on goes on by as many as `count`, and blanks come into
-/// it. The answer is where it begins then.
-fn go_on(memory: &mut [Cell], start: usize, size: usize, count: usize, blank: Cell) -> usize
-    requires window { start + size ≤ length memory.old }
-    ensures window { result + size ≤ length memory.new }
-    ensures cells { take size (drop result memory.new) ≡ moved_back count blank (take size (drop start memory.old)) }
-{
-    let count = count.min(size);
-    let kept = size - count;
-    let first = with_room(memory, start + count, kept, size);
-    clear(memory, first + kept, first + size, blank);
-    first
-}
-
-/// Where a window of so many cells has room whose first are the `kept` ones from `start` on: there, or
-/// else at the front, to which these go.
-fn with_room(memory: &mut [Cell], start: usize, kept: usize, size: usize) -> usize
-    requires few { kept ≤ size }
-    requires kept { start + kept ≤ length memory.old }
-    requires room { size ≤ length memory.old }
-    ensures length { length memory.new ≡ length memory.old }
-    ensures room { result + size ≤ length memory.new }
-    ensures cells { take kept (drop result memory.new) ≡ take kept (drop start memory.old) }
-{
-    if start + size <= memory.len() {
-        start
-    } else {
-        memory.copy_within(start..start + kept, 0);
-        0
-    }
-}
-
-/// Blanks from `start` up to `end`, without a look at halves of wide characters.
-fn clear(cells: &mut [Cell], start: usize, end: usize, blank: Cell)
-    requires order { start ≤ end }
-    requires within { end ≤ length cells.old }
-    ensures { cells.new ≡ within start end (erased blank) cells.old }
-{
-    runs::clear(&mut cells[start..end], blank);
 }

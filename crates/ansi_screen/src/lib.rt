@@ -21,6 +21,7 @@ mod tabs;
 mod text;
 mod texts;
 mod width;
+mod window;
 
 pub use cell::{Cell, Marks, Part};
 pub use function::{edits_cells, edits_row, moves_alone};

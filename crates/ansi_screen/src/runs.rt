@@ -44,7 +44,7 @@ pub(crate) fn move_back(run: &mut [Cell], count: usize, blank: Cell)
     let count = count.min(run.len());
     let kept = run.len() - count;
     run.copy_within(count.., 0);
-    run[kept..].fill(blank);
+    clear(&mut run[kept..], blank);
 }
 
 /// Moves cells to the end by as many as `count`; blanks come before them.
@@ -54,7 +54,7 @@ pub(crate) fn move_on(run: &mut [Cell], count: usize, blank: Cell)
     let count = count.min(run.len());
     let kept = run.len() - count;
     run.copy_within(..kept, count);
-    run[..count].fill(blank);
+    clear(&mut run[..count], blank);
 }
 
 /// Blanks from `start` up to `end`.
@@ -65,7 +65,7 @@ pub(crate) fn erase(cells: &mut [Cell], start: usize, end: usize, blank: Cell)
 {
     cut(cells, end);
     cut(cells, start);
-    cells[start..end].fill(blank);
+    clear(&mut cells[start..end], blank);
 }
 
 /// Deletes cells from `start` on; those up to `end` move there.

@@ -16,6 +16,7 @@ mod place;
 mod printed;
 mod runs;
 mod screen;
+mod shifts;
 mod size;
 mod tabs;
 mod text;

@@ -5,6 +5,7 @@ ghost use Rattle.ansi_screen.specs.Print.{glyph};
 ghost use Rattle.ansi_screen.specs.Runs.{glyphs, with_glyphs};
 
 use crate::cell::{Cell, Part};
+use crate::shifts::{shift_back, shift_on};
 use ansi_style::Style;
 
 /// Makes blanks of the halves of a wide character whose right half stands at `place`.
@@ -43,7 +44,7 @@ pub(crate) fn move_back(run: &mut [Cell], count: usize, blank: Cell)
 {
     let count = count.min(run.len());
     let kept = run.len() - count;
-    run.copy_within(count.., 0);
+    shift_back(run, count);
     clear(&mut run[kept..], blank);
 }
 
@@ -52,8 +53,7 @@ pub(crate) fn move_on(run: &mut [Cell], count: usize, blank: Cell)
     ensures { run.new ≡ moved_on count blank run.old }
 {
     let count = count.min(run.len());
-    let kept = run.len() - count;
-    run.copy_within(..kept, count);
+    shift_on(run, count);
     clear(&mut run[..count], blank);
 }
 

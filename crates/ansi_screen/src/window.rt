@@ -5,6 +5,7 @@ ghost use Rattle.ansi_screen.specs.Cells.{within, moved_back, moved_on};
 
 use crate::cell::Cell;
 use crate::runs;
+use crate::shifts::{shift_back, shift_on};
 
 /// Whether a move by `count` of the cells from `first` up to `last` of a window of so many costs less where the window
 /// moves, and the cells outside with it. The memory must have room for that.
@@ -145,23 +146,4 @@ fn carry_back(cells: &mut [Cell], first: usize, last: usize, count: usize, blank
     let (front, back) = cells.split_at_mut(last);
     runs::move_back(&mut front[..first + count], count, blank);
     shift_back(back, count);
-}
-
-/// All but the last `count` cells go on by these. The first are as they were, or of no use.
-fn shift_on(cells: &mut [Cell], count: usize)
-    requires within { count ≤ length cells.old }
-    ensures length { length cells.new ≡ length cells.old }
-    ensures shifted { drop count cells.new ≡ take (length cells.old - count) cells.old }
-{
-    let kept = cells.len() - count;
-    cells.copy_within(..kept, count);
-}
-
-/// All but the first `count` cells go back by these. The last are as they were, or of no use.
-fn shift_back(cells: &mut [Cell], count: usize)
-    requires within { count ≤ length cells.old }
-    ensures length { length cells.new ≡ length cells.old }
-    ensures shifted { take (length cells.old - count) cells.new ≡ drop count cells.old }
-{
-    cells.copy_within(count.., 0);
 }

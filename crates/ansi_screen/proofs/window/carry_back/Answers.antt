@@ -1,5 +1,5 @@
 -- What is outside of the run goes back with the window.
-use Rattle.std.proofs.Common.{◌≡◌, ◌≤◌, arith}
+use Rattle.std.proofs.Common.{arith}
 use Rattle.ansi_screen.proofs.WindowLemmas.{carried-back}
 use Rattle.ansi_screen.proofs.window.carry_back.Goals as goal
 

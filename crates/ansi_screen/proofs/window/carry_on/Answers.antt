@@ -1,5 +1,5 @@
 -- What is outside of the run goes on with the window.
-use Rattle.std.proofs.Common.{◌≡◌, ◌+◌, ◌-◌, ◌≤◌, length, take, drop, ap, ◌∙◌, arith}
+use Rattle.std.proofs.Common.{◌≡◌, ◌+◌, length, take, drop, ap, ◌∙◌, arith}
 use Rattle.std.proofs.lemmas.List.{take-take, length-take-le}
 use Rattle.ansi_screen.proofs.WindowLemmas.{carried-on}
 use Rattle.ansi_screen.proofs.window.carry_on.Goals as goal

@@ -1,5 +1,6 @@
 pub mod ContrastLemmas
 pub mod ColorLemmas
+pub mod NamedLemmas
 pub mod HtmlLemmas
 pub mod ChunkLemmas
 pub mod EndLemmas

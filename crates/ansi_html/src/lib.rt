@@ -36,6 +36,7 @@ pub mod contrast;
 mod css;
 pub mod laws;
 mod link;
+mod named;
 mod nearest;
 mod palette;
 mod performer;

@@ -21,6 +21,10 @@ pub record Styled : Type 0 where
 abbrev pub styled : Style → (link text : List ℕ) → Styled
 styled style link text = record { style = style; link = link; text = text }
 
+-- bytes, each a text of its own, of one style and one link
+abbrev pub each_styled : Style → (link bytes : List ℕ) → List Styled
+each_styled style link bytes = map (λ byte. styled style link (byte ∷ [])) bytes
+
 -- the element that it stands in
 abbrev pub element_of : Styled → Element
 element_of it = element it.style it.link

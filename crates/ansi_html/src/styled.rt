@@ -6,7 +6,9 @@ ghost use Rattle.ansi_html.specs.ShownLinks.{link_in};
 ghost use Rattle.ansi_html.specs.Styled.{output_of, styling_of, shown_in};
 
 use crate::link::Link;
-use crate::performer::{put_begin, put_character, put_end, put_span_begin, put_span_end};
+use crate::performer::{
+    put_begin, put_character, put_end, put_escaped, put_span_begin, put_span_end,
+};
 use crate::scheme::Styling;
 use ansi_style::Style;
 use anstyle_parse::canon::{Output, Sink};
@@ -92,6 +94,16 @@ impl<W: Sink> StyledWriter<W> {
         ensures added { Adds W.Sink (escaped_text (encode_utf8 c)) (output_of self.old) (output_of self.new) }
     {
         put_character(&mut self.output, c);
+    }
+
+    /// Writes text of the style and the link that are selected, with a character reference for each byte that has a
+    /// meaning in HTML, and what is between these at once.
+    pub fn put_text(&mut self, text: &[u8])
+        ensures styling { styling_of self.new ≡ styling_of self.old }
+        ensures shown { shown_in self.new ≡ shown_in self.old }
+        ensures added { Adds W.Sink (escaped_text text.now) (output_of self.old) (output_of self.new) }
+    {
+        put_escaped(&mut self.output, text);
     }
 
     /// The output that it writes to.

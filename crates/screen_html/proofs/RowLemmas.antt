@@ -1,7 +1,7 @@
 -- Rows as HTML, cell by cell.
-use Rattle.std.proofs.Common.{◌≡◌, ◌<◌, ℕ, ◌+◌, Bool, true, false, List, [], ◌∷◌, ◌++◌, length, get_or, take, map, refl, sym, ap, subst, arith, length-append}
+use Rattle.std.proofs.Common.{◌≡◌, ◌<◌, ℕ, Bool, true, false, List, [], ◌∷◌, ◌++◌, length, take, drop, map, refl, sym, ap, ◌∙◌, subst, arith, append_assoc, length-append, take-append-drop}
 use Rattle.std.specs.Prelude.{encode_utf8}
-use Rattle.std.proofs.lemmas.List.{map_more}
+use Rattle.std.proofs.lemmas.List.{map-append}
 use Rattle.anstyle_parse.specs.declared.io.devices.Sink.{Ghosts as SinkOf}
 use Rattle.anstyle_parse.specs.declared.io.output.Output.{Output}
 use Rattle.anstyle_parse.specs.Io.Output.{Adds}
@@ -9,13 +9,13 @@ use Rattle.anstyle_parse.proofs.Written.Output.{Adds-append}
 use Rattle.anstyle_parse.proofs.Characters.Scalars.{length-encode-some}
 use Rattle.ansi_html.specs.declared.styled.StyledWriter.{StyledWriter}
 use Rattle.ansi_html.specs.Html.{element_end}
-use Rattle.ansi_html.specs.Styled.{styled_html, shown_after, output_of, styling_of, shown_in, WritesStyled}
-use Rattle.ansi_html.proofs.StyledWriterLemmas.{WritesStyled-none, WritesStyled-append}
+use Rattle.ansi_html.specs.Styled.{styled, styled_html, shown_after, output_of, styling_of, shown_in, WritesStyled}
+use Rattle.ansi_html.proofs.StyledWriterLemmas.{WritesStyled-none, WritesStyled-each, WritesStyled-append}
 use Rattle.ansi_screen.specs.declared.cell.Cell.{Cell}
 use Rattle.ansi_screen.specs.Cells.{is_right}
 use Rattle.ansi_screen.specs.Text.{marks_text, cell_text, used, is_unprinted, goes_on}
-use Rattle.screen_html.specs.Links.{Kept}
-use Rattle.screen_html.specs.Shown.{cell_styled, line_feed, row_styled, closing_styled}
+use Rattle.screen_html.specs.Links.{Kept, link_at}
+use Rattle.screen_html.specs.Shown.{cell_styled, IsRun, line_feed, row_styled, closing_styled}
 
 -- the text of a cell: none of a right half, and else some
 pub cell_text-right : (cell : Cell) → is_right cell.part ≡ true → cell_text cell ≡ []
@@ -30,14 +30,25 @@ pub cell_text-some : (cell : Cell) → is_right cell.part ≡ false → 0 < leng
 cell_text-some cell other =
     omega (arith, ap length (cell_text-other cell other), length-append (encode_utf8 cell.character) (marks_text cell.marks), length-encode-some cell.character)
 
+-- cells that are passed, and the first n of the others
+pub further-joined : (n : ℕ) (cells passed rest others : List Cell) → cells ≡ passed ++ rest → others ≡ drop n rest → cells ≡ (passed ++ take n rest) ++ others
+further-joined n cells passed rest others joined behind =
+    joined ∙ ap (λ l. passed ++ l) (sym (take-append-drop n rest) ∙ ap (λ l. take n rest ++ l) (sym behind)) ∙ sym (append_assoc passed (take n rest) others)
+
 module _ {W : Type 0} (sink : SinkOf W) where
-  -- one cell more
-  pub writes-more : (links : List Kept) (cells : List Cell) (i : ℕ) (d : Cell) (a b c : StyledWriter W) → i < length cells
-      → WritesStyled sink a (map (cell_styled links) (take i cells)) b → WritesStyled sink b (cell_styled links (get_or cells i d) ∷ []) c
-      → WritesStyled sink a (map (cell_styled links) (take (i + 1) cells)) c
-  writes-more links cells i d a b c inside first second =
-      subst (λ l. WritesStyled sink a l c) (sym (map_more (cell_styled links) cells i d inside))
-      (WritesStyled-append sink a b c (map (cell_styled links) (take i cells)) (cell_styled links (get_or cells i d) ∷ []) first second)
+  -- cells, and cells behind them
+  pub writes-further : (links : List Kept) (cells more : List Cell) (a b c : StyledWriter W)
+      → WritesStyled sink a (map (cell_styled links) cells) b → WritesStyled sink b (map (cell_styled links) more) c
+      → WritesStyled sink a (map (cell_styled links) (cells ++ more)) c
+  writes-further links cells more a b c first second =
+      subst (λ l. WritesStyled sink a l c) (sym (map-append (cell_styled links) cells more))
+      (WritesStyled-append sink a b c (map (cell_styled links) cells) (map (cell_styled links) more) first second)
+
+  -- cells of a run, whose text is written at once
+  pub writes-run : (links : List Kept) (first : Cell) (cells : List Cell) (bytes : List ℕ) (a b : StyledWriter W) → 0 < length bytes → IsRun first cells bytes
+      → WritesStyled sink a (styled first.style (link_at first.link links) bytes ∷ []) b → WritesStyled sink a (map (cell_styled links) cells) b
+  writes-run links first cells bytes a b some run written =
+      subst (λ l. WritesStyled sink a l b) (sym (run links)) (WritesStyled-each sink a b first.style (link_at first.link links) bytes some written)
 
   -- a row's cells, and a line feed
   pub writes-row : (links : List Kept) (row : List Cell) (count : ℕ) (a b c : StyledWriter W) → count ≡ used is_unprinted row → goes_on row ≡ false

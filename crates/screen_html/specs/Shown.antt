@@ -1,12 +1,12 @@
 -- What a screen showed of the calls of a stream, as HTML: the text of `screen_text`, each character in the
 -- style and the link of its cell.
-use Rattle.std.specs.Prelude.{ℕ, Bool, false, List, [], ◌∷◌, ◌++◌, map, take, if◌then◌else◌}
+use Rattle.std.specs.Prelude.{◌≡◌, ℕ, Bool, false, List, [], ◌∷◌, ◌++◌, map, take, if◌then◌else◌}
 use Rattle.std.specs.List.{flat_map}
 use Rattle.anstyle_parse.specs.Stream.Call.{Call}
 use Rattle.ansi_style.specs.Style.{plain}
 use Rattle.ansi_html.specs.declared.scheme.Styling.{Styling}
 use Rattle.ansi_html.specs.Html.{no_element, element_end}
-use Rattle.ansi_html.specs.Styled.{Styled, styled, styled_html, shown_after}
+use Rattle.ansi_html.specs.Styled.{Styled, styled, each_styled, styled_html, shown_after}
 use Rattle.ansi_screen.specs.declared.cell.Cell.{Cell}
 use Rattle.ansi_screen.specs.Display.{Display}
 use Rattle.ansi_screen.specs.After.{State, after_all}
@@ -24,6 +24,11 @@ cell_styled links cell = styled cell.style (link_at cell.link links) (cell_text 
 
 abbrev pub line_feed : Styled
 line_feed = styled plain [] (0x0A ∷ [])
+
+-- Cells that have the style and the link of a first one, and each one of these bytes as its text.
+abbrev pub IsRun : (first : Cell) → List Cell → (bytes : List ℕ) → Type 0
+IsRun first cells bytes =
+    (links : List Kept) → map (cell_styled links) cells ≡ each_styled first.style (link_at first.link links) bytes
 
 -- A row's cells, without those at its end where nothing was printed, also where they have a background; with a
 -- line feed, unless it goes on.

@@ -34,6 +34,7 @@ ghost use Rattle.screen_html.specs.Shown.{shown_styled, left_html, ending_html, 
 
 pub mod laws;
 mod rows;
+mod runs;
 mod table;
 
 use ansi_html::Styling;

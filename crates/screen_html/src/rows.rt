@@ -6,6 +6,7 @@ ghost use Rattle.ansi_html.specs.Html.{escaped_text};
 ghost use Rattle.ansi_html.specs.Styled.{output_of as styled_output, styling_of, shown_in, WritesStyled};
 ghost use Rattle.screen_html.specs.Shown.{cell_styled, line_feed, row_styled};
 
+use crate::runs::{BLOCK, copy_run, put_run};
 use crate::table::{LinkMemory, LinkTable};
 use ansi_html::{StyledWriter, Styling};
 use ansi_screen::{Cell, LeftOut, Marks, TakeCommand, TakeRow, goes_on, used};
@@ -41,12 +42,22 @@ fn put_cell<W: Sink>(writer: &mut StyledWriter<W>, links: &LinkTable, cell: Cell
     }
 }
 
-/// The same of cells, one after another.
+/// The same of cells, one after another: those of a run at once.
 fn put_cells<W: Sink>(writer: &mut StyledWriter<W>, links: &LinkTable, cells: &[Cell])
     ensures { WritesStyled W.Sink writer.old (map (cell_styled links.now) cells.now) writer.new }
 {
-    for cell in cells {
-        put_cell(writer, links, *cell);
+    let mut block = [0; BLOCK];
+    let mut rest = cells;
+    'rest: while let Some((first, further)) = rest.split_first() {
+        let count = copy_run(first, rest, &mut block);
+        if count == 0 {
+            put_cell(writer, links, *first);
+            rest = further;
+        } else {
+            put_run(writer, links, first, &block[..count]);
+            let (_, others) = rest.split_at(count);
+            rest = others;
+        }
     }
 }
 

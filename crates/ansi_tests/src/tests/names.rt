@@ -394,6 +394,7 @@ fn names_of_links(rt: HostRuntime) {
     let mut writer = StyledWriter::new(Styling::Classes, Output::new(memory(rt.alloc())));
     writer.select(Style::default(), &link);
     writer.put_char('a');
+    writer.put_text(b"<b");
     writer.pass_on();
     assert!(rt; writer.output().fault().is_none());
     assert_well(&rt, writer.into_output().finish());

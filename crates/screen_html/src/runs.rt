@@ -1,0 +1,67 @@
+//! Runs of cells of one style and one link whose text has one byte each.
+ghost use Rattle.std.specs.Prelude.{◌≡◌, ◌≤◌, ◌<◌, ◌∷◌, [], length, take, IsTrue};
+ghost use Rattle.ansi_html.specs.Styled.{styled, WritesStyled};
+ghost use Rattle.ansi_screen.specs.Text.{cell_text};
+ghost use Rattle.screen_html.specs.Links.{link_at};
+ghost use Rattle.screen_html.specs.Shown.{IsRun};
+
+use crate::table::LinkTable;
+use ansi_html::StyledWriter;
+use ansi_screen::{Cell, Marks};
+use anstyle_parse::io::Sink;
+
+/// How many cells are written at once, at most.
+pub(crate) const BLOCK: usize = 128;
+
+/// Whether a cell's text is its character alone, in one byte.
+#[inline(always)]
+#[tactic(auto, unfolding(ansi_screen::specs::Text::cell_text))]
+fn is_ascii_alone(cell: &Cell) -> bool
+    ensures text { IsTrue result → cell_text cell.now ≡ cell.now.character ∷ [] }
+    ensures low { IsTrue result → cell.now.character < 0x80 }
+{
+    cell.character.is_ascii() && !cell.is_right() && matches!(cell.marks, Marks::Unmarked)
+}
+
+/// Whether a cell has the link and the style of another one. The link is a number, and so it is asked first.
+#[inline(always)]
+fn is_alike(cell: &Cell, other: &Cell) -> bool
+    ensures link { IsTrue result → cell.now.link ≡ other.now.link }
+    ensures style { IsTrue result → cell.now.style ≡ other.now.style }
+{
+    cell.link == other.link && cell.style == other.style
+}
+
+/// Copies the text of the cells at the front that have one byte each, and the style and the link of `first`, into the
+/// block, as far as it has room. It answers how many there are.
+#[inline]
+pub(crate) fn copy_run(first: &Cell, cells: &[Cell], block: &mut [u8; BLOCK]) -> usize
+    ensures run { IsRun first.now (take result cells.now) (take result block.new) }
+    ensures within { result ≤ length cells.now }
+    ensures room { result ≤ BLOCK }
+{
+    let count = cells.len().min(BLOCK);
+    for i in 0..count {
+        let cell = &cells[i];
+        if !(is_ascii_alone(cell) && is_alike(cell, first)) {
+            return i;
+        }
+        block[i] = cell.character as u8;
+    }
+    count
+}
+
+/// Writes text in the style and the link of a cell.
+pub(crate) fn put_run<W: Sink>(
+    writer: &mut StyledWriter<W>,
+    links: &LinkTable,
+    cell: &Cell,
+    text: &[u8],
+)
+    requires some { 0 < length text.now }
+    ensures { WritesStyled W.Sink writer.old
+        (styled cell.now.style (link_at cell.now.link links.now) text.now ∷ []) writer.new }
+{
+    writer.select(cell.style, links.link(cell.link));
+    writer.put_text(text);
+}

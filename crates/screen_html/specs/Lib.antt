@@ -1,3 +1,4 @@
+pub mod Attributes
 pub mod Links
 pub mod Places
 pub mod Shown

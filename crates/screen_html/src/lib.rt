@@ -32,6 +32,7 @@ ghost use Rattle.ansi_screen.specs.After.{new_state};
 ghost use Rattle.screen_text.specs.Shown.{shown_text};
 ghost use Rattle.screen_html.specs.Shown.{shown_styled, left_html, ending_html, shown_html};
 
+mod alike;
 pub mod laws;
 mod rows;
 mod runs;

@@ -5,6 +5,7 @@ ghost use Rattle.ansi_screen.specs.Text.{cell_text};
 ghost use Rattle.screen_html.specs.Links.{link_at};
 ghost use Rattle.screen_html.specs.Shown.{IsRun};
 
+use crate::alike::is_alike;
 use crate::table::LinkTable;
 use ansi_html::StyledWriter;
 use ansi_screen::{Cell, Marks};
@@ -21,15 +22,6 @@ fn is_ascii_alone(cell: &Cell) -> bool
     ensures low { IsTrue result → cell.now.character < 0x80 }
 {
     cell.character.is_ascii() && !cell.is_right() && matches!(cell.marks, Marks::Unmarked)
-}
-
-/// Whether a cell has the link and the style of another one. The link is a number, and so it is asked first.
-#[inline(always)]
-fn is_alike(cell: &Cell, other: &Cell) -> bool
-    ensures link { IsTrue result → cell.now.link ≡ other.now.link }
-    ensures style { IsTrue result → cell.now.style ≡ other.now.style }
-{
-    cell.link == other.link && cell.style == other.style
 }
 
 /// Copies the text of the cells at the front that have one byte each, and the style and the link of `first`, into the

@@ -1,9 +1,0 @@
--- `==` of styles is equality.
-use Rattle.std.proofs.Common.{sym, ◌∙◌}
-use Rattle.ansi_style.specs.Style.{are_equal}
-use Rattle.ansi_style.proofs.EqualityLemmas.{are_equal-same}
-use Rattle.screen_html.proofs.runs.is_alike.Goals as goal
-
-pub returns-then-cell-other-clause-style : goal.returns-then-cell-other-clause-style
-unfolding are_equal
-returns-then-cell-other-clause-style c = λ same. are_equal-same c.args.cell.now.style c.args.other.now.style (sym c.eq.ensures ∙ same)

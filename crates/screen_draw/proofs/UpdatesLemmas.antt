@@ -194,11 +194,9 @@ passed-on sink calls a b c draws none = record {
 }
 
 -- both screens have received the same
-pub received-same : (first a b : State) (bytes : List ℕ)
-    → HasReceived (λ (s : State) (call : Call) (t : State). t ≡ after call s) first bytes a
+pub received-same : (first a b : State) (bytes : List ℕ) → Shows first bytes a
     → HasReceived (λ (s : State) (call : Call) (t : State). t ≡ after call s) first bytes b → a ≡ b
-received-same first a b bytes one other =
-    Shows-only bytes first a b (received-shows first a bytes one) (received-shows first b bytes other)
+received-same first a b bytes shows received = Shows-only bytes first a b shows (received-shows first b bytes received)
 
 -- so they are of one size
 pub shows-sized : (first s : State) (bytes : List ℕ) → IsSized first.display

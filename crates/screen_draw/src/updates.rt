@@ -55,7 +55,7 @@ pub fn update_to_end<R: Source, W: Sink>(
                 if output.fault().is_some() {
                     return Err(Fault::Write);
                 }
-                behind.advance_all(shown, &piece[..count]);
+                behind.advance_texts(shown, &piece[..count]);
             }
         }
     }

@@ -10,7 +10,7 @@ use Rattle.anstyle_parse.specs.Views.Accumulator.{front_of}
 use Rattle.anstyle_parse.specs.Views.Parser.{IsAfter}
 use Rattle.anstyle_parse.proofs.Canonical.Items.{AreCalls-nil}
 use Rattle.anstyle_parse.proofs.Written.Output.{None-from_is_some}
-use Rattle.ansi_screen.specs.After.{State, after}
+use Rattle.ansi_screen.specs.After.{State, Shows, after}
 use Rattle.screen_draw.specs.Draw.{drawn_calls}
 use Rattle.screen_draw.specs.Drawing.{Draws}
 use Rattle.screen_draw.specs.Update.{update_calls}
@@ -42,7 +42,7 @@ loop-turn-init g c = record {
   is_last = refl;
   draws = no-updates g.W.Sink c.pass_on.new.self;
   received = ([], AreCalls-nil, refl);
-  received_behind = ([], AreCalls-nil, c.requires.same);
+  shows_behind = ([], AreCalls-nil, c.requires.same);
   stands = c.new-parser.ensures.stands;
   stands_behind = c.new-behind.ensures.stands;
   no_fault = None-from_is_some (fault_in c.pass_on.new.self) (sym (c.is_some.ensures ∙ ap is_some c.fault.ensures) ∙ c.if-is_some.false);
@@ -79,7 +79,7 @@ update_noted-requires g c =
     let before = c.loop-turn.invariant in
     let old = c.forget.new.self in
     let same : c.loop-turn.shown ≡ old.screen =
-    received-same c.args.wanted.now.screen c.loop-turn.shown c.loop-turn.wanted.screen (joined before.pieces) before.received_behind before.received
+    received-same c.args.wanted.now.screen c.loop-turn.shown c.loop-turn.wanted.screen (joined before.pieces) before.shows_behind before.received
     ∙ sym c.forget.ensures.screen in
     record {
       noted = noted-keeps _ old c.advance_all.new.performer c.loop-turn.shown.display c.advance_all.ensures.calls
@@ -104,7 +104,7 @@ returns-then-is_some-2 g c =
       omega (arith, length-take c.in-Some.count c.read.new.into, c.read.auto.into, before.room),
     ) in
     let updated = draws-more g.W.Sink first c.loop-turn.shown next before.screens _ _ _ _ before.draws
-    (received-same first _ _ (joined before.pieces) before.received_behind before.received ∙ before.is_last)
+    (received-same first _ _ (joined before.pieces) before.shows_behind before.received ∙ before.is_last)
     c.update_noted.ensures.text c.update_noted.ensures.only c.pass_on-in-Some.ensures in
     follows g.R.Source g.W.Sink _ _ first next c.args.output.now c.pass_on.new.self c.pass_on-in-Some.new.self _
     (before.pieces ++ bytes ∷ []) (before.screens ++ next ∷ [])
@@ -141,14 +141,14 @@ loop-turn-preserved g c =
       are_screens = screens-more first next [] bytes before.pieces before.screens before.are_screens (received-shows first next _ received);
       is_last = sym (last-more first next before.screens);
       draws = draws-more g.W.Sink first c.loop-turn.shown next before.screens _ _ _ _ before.draws
-          (received-same first _ _ (joined before.pieces) before.received_behind before.received ∙ before.is_last)
+          (received-same first _ _ (joined before.pieces) before.shows_behind before.received ∙ before.is_last)
           c.update_noted.ensures.text c.update_noted.ensures.only c.pass_on-in-Some.ensures;
       received = subst (λ l. HasReceived (λ (a : State) (call : Call) (b : State). b ≡ after call a) first l next) more received;
-      received_behind = subst (λ l. HasReceived (λ (a : State) (call : Call) (b : State). b ≡ after call a) first l c.advance_all-in-Some.new.performer) more
-          (c.advance_all-in-Some.ensures.received first (joined before.pieces) refl before.stands_behind before.received_behind);
+      shows_behind = subst (λ l. Shows first l c.advance_texts.new.performer) more
+          (c.advance_texts.ensures.received first (joined before.pieces) before.stands_behind before.shows_behind);
       stands = subst (IsAfter front_of c.advance_all.new.self) more (c.advance_all.ensures.stands (joined before.pieces) refl before.stands);
-      stands_behind = subst (IsAfter front_of c.advance_all-in-Some.new.self) more
-          (c.advance_all-in-Some.ensures.stands (joined before.pieces) refl before.stands_behind);
+      stands_behind = subst (IsAfter front_of c.advance_texts.new.self) more
+          (c.advance_texts.ensures.stands (joined before.pieces) before.stands_behind);
       no_fault = None-from_is_some (fault_in c.pass_on-in-Some.new.self) (sym (c.is_some-in-Some.ensures ∙ ap is_some c.fault-in-Some.ensures) ∙ c.if-is_some-2.false);
       not_failed = c.in-Some.ensures.not_failed ∙ before.not_failed;
       counted = omega (arith, before.counted, is_piece.0, ap length more, length-append (joined before.pieces) bytes);

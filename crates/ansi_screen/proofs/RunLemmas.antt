@@ -1,9 +1,9 @@
 -- Characters of one column each, one after another: all at once.
 use Rattle.std.proofs.Common.{◌≡◌, ℕ, zero, suc, ◌+◌, ◌-◌, ◌<◌, ◌≤◌, Bool, true, false, ◌&&◌, List, [], ◌∷◌, ◌++◌, length, get_or, take, drop, set, map, refl, ap, sym, ◌∙◌, arith}
-use Rattle.std.specs.Prelude.{nat_lt, if◌then◌else◌}
+use Rattle.std.specs.Prelude.{nat_lt, replicate, if◌then◌else◌}
 use Rattle.std.proofs.Math.Seq.{drop-cons}
 use Rattle.std.proofs.lemmas.Bool.{lt-ltb, and_right}
-use Rattle.std.proofs.lemmas.List.{append_assoc, length-append, length-map, length-set, length-take-le, length-drop, drop-drop, drop_at, take_at, take-set-le, drop-set-lt, drop-set, set_at, take-append-drop, take_more, map-append, length-take}
+use Rattle.std.proofs.lemmas.List.{append_assoc, length-append, length-map, length-set, length-take-le, length-drop, drop-drop, drop_at, take_at, take-set-le, drop-set-lt, drop-set, set_at, take-append-drop, take_more, map-append, length-take, drop_more, get_or_at, get_or-replicate, length-replicate}
 use Rattle.ansi_style.specs.declared.style.Style.{Style}
 use Rattle.ansi_style.specs.Style.{plain}
 use Rattle.ansi_screen.specs.declared.cell.Cell.{Cell}
@@ -276,3 +276,23 @@ fill-more run i style link x cells initial inside long is so_far =
     ∙ (ap (λ y. front ++ y ∷ drop (i + 1) initial) is
     ∙ (sym (append_assoc front (g (get_or run i 0) ∷ []) (drop (i + 1) initial))
     ∙ ap (λ l. l ++ drop (i + 1) initial) (sym (ap (map g) (take_more run i 0 inside) ∙ map-append g (take i run) (get_or run i 0 ∷ []))))))
+
+-- the same where the others are alike, and the cell gets its character alone
+pub fill-on : (run : List ℕ) (i : ℕ) (style : Style) (link c : ℕ) (d : Cell) (cells : List Cell) → i < length run
+    → c ≡ get_or run i 0
+    → cells ≡ glyphs (take i run) style link ++ drop i (replicate (length run) (printed_cell 0x20 style link Whole))
+    → set cells i (record (get_or cells i d) { character = c })
+    ≡ glyphs (take (i + 1) run) style link ++ drop (i + 1) (replicate (length run) (printed_cell 0x20 style link Whole))
+fill-on run i style link c d cells inside is so_far =
+    let space : Cell = printed_cell 0x20 style link Whole in
+    let spaces : List Cell = replicate (length run) space in
+    let g : ℕ → Cell = λ character. printed_cell character style link Whole in
+    let front : List Cell = glyphs (take i run) style link in
+    let long : length spaces ≡ length run = length-replicate (length run) space in
+    let front_long : length front ≡ i = omega (arith, length-map (take i run) g, length-take i run, inside) in
+    let first : drop i spaces ≡ space ∷ drop (i + 1) spaces =
+    drop_more spaces i d (omega (arith, long, inside)) ∙ ap (λ x. x ∷ drop (i + 1) spaces) (get_or-replicate (length run) i space d inside) in
+    let there : get_or cells i d ≡ space =
+    ap (λ l. get_or l i d) (so_far ∙ ap (λ l. front ++ l) first) ∙ get_or_at front space (drop (i + 1) spaces) d i front_long in
+    ap (λ (x : Cell). set cells i (record x { character = c })) there
+    ∙ fill-more run i style link (g c) cells spaces inside long (ap g is) so_far

@@ -168,12 +168,13 @@ pub(crate) fn put_run(cells: &mut [Cell], place: usize, run: &[u8], style: Style
     fill(&mut cells[place..place + run.len()], run, style, link);
 }
 
-/// Fills the cells with these characters.
+/// Fills the cells with these characters. All cells are made alike first, by copies, and then each gets its character.
 fn fill(cells: &mut [Cell], run: &[u8], style: Style, link: u32)
     requires { length cells.old ≡ length run.now }
     ensures { cells.new ≡ glyphs run.now style link }
 {
+    clear(cells, Cell::printed(' ', style, link, Part::Whole));
     for (i, byte) in run.iter().enumerate() {
-        cells[i] = Cell::printed(char::from(*byte), style, link, Part::Whole);
+        cells[i].character = char::from(*byte);
     }
 }

@@ -30,4 +30,5 @@ pub mod NotingLemmas
 pub mod EditLemmas
 pub mod EscapeLemmas
 pub mod SkippedLemmas
+pub mod RowTextLemmas
 pub mod NotedLemmas

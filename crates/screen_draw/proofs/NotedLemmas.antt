@@ -1,13 +1,13 @@
 -- A screen that notes what its calls change, behind a list of calls.
-use Rattle.std.proofs.Common.{◌≡◌, ℕ, List, [], ◌∷◌, ◌++◌, refl, ap, sym, ◌∙◌, subst}
+use Rattle.std.proofs.Common.{◌≡◌, ℕ, List, [], ◌∷◌, ◌++◌, ap, sym, ◌∙◌, subst}
 use Rattle.anstyle_parse.specs.Stream.Call.{Call, Goes}
-use Rattle.anstyle_parse.specs.Stream.Calls.{Continues, HasReceived}
-use Rattle.ansi_screen.specs.After.{State, after, after_all}
+use Rattle.anstyle_parse.specs.Stream.Calls.{Continues}
+use Rattle.ansi_screen.specs.After.{State, after_all, Shows}
 use Rattle.ansi_screen.specs.Display.{Display}
-use Rattle.ansi_screen.proofs.CallLemmas.{after_all-goes}
 use Rattle.ansi_screen.proofs.LawLemmas.{after_all-append}
 use Rattle.screen_draw.specs.declared.noting.Noting.{Noting}
 use Rattle.screen_draw.specs.Changed.{Keeps}
+use Rattle.screen_draw.specs.NotedTexts.{NotesAll}
 use Rattle.screen_draw.specs.Noting.{screen_of, changed_of, HasNoted, Notes}
 
 -- the screen is the one behind the calls
@@ -26,21 +26,12 @@ noted-keeps (call ∷ calls) old new shown goes keeps =
     noted-keeps calls middle new shown goes.2
     (subst (λ (s : State). Keeps (changed_of middle) shown s.display) (sym goes.1.screen) (goes.1.noted shown keeps))
 
-goes-after : (calls : List Call) (old new : State) → new ≡ after_all calls old
-    → Goes (λ (a : State) (call : Call) (b : State). b ≡ after call a) old calls new
-goes-after [] old new is = is
-goes-after (call ∷ calls) old new is = (after call old, refl, goes-after calls (after call old) new is)
-
--- so it has received a piece more
-pub noted-received : (first : State) (bytes piece : List ℕ) (calls : List Call) (old new : Noting)
-    → HasReceived (λ (a : State) (call : Call) (b : State). b ≡ after call a) first bytes (screen_of old)
-    → Continues bytes piece calls → Goes Notes old calls new
-    → HasReceived (λ (a : State) (call : Call) (b : State). b ≡ after call a) first (bytes ++ piece) (screen_of new)
-noted-received first bytes piece calls old new received continues goes =
-    let before : List Call = received.0 in (
+-- so it shows a piece more
+pub noted-shows : (first : State) (bytes piece : List ℕ) (calls : List Call) (old new : Noting) → Shows first bytes (screen_of old)
+    → Continues bytes piece calls → NotesAll old calls new → Shows first (bytes ++ piece) (screen_of new)
+noted-shows first bytes piece calls old new shows continues notes =
+    let before : List Call = shows.0 in (
       before ++ calls,
-      continues before received.1,
-      goes-after (before ++ calls) first (screen_of new)
-          (noted-screen calls old new goes
-          ∙ (ap (after_all calls) (after_all-goes before first (screen_of old) received.2) ∙ sym (after_all-append before calls first))),
+      continues before shows.1,
+      notes.screen ∙ (ap (after_all calls) shows.2 ∙ sym (after_all-append before calls first)),
     )

@@ -140,7 +140,7 @@ cut-same place cells true is =
     (same-set (place - 1) (place + 1) place (set cells (place - 1) left) right (omega arith) (omega arith))
     (same-set (place - 1) (place + 1) (place - 1) cells left (omega arith) (omega arith)))
 
-same-changed : (n from : ℕ) (how : List Cell → List Cell) (cells : List Cell) → from + n ≤ length cells
+pub same-changed : (n from : ℕ) (how : List Cell → List Cell) (cells : List Cell) → from + n ≤ length cells
     → ((run : List Cell) → length (how run) ≡ n) → Same (from - 1) (from + n + 1) (change from (from + n) how cells) cells
 same-changed n from how cells inside long =
     let once : List Cell = cut (from + n) cells in
@@ -213,7 +213,7 @@ same-glyph_last c d writes fits inside clear =
     (λ run. length-glyph 1 c d.cursor.style d.link _ refl (omega arith) (omega arith)))
 
 -- A mark changes one of the two cells before the cursor.
-same-marked_at : (c place : ℕ) (cells : List Cell) (t : Bool) → is_right (cell_at (place - 1) cells).part ≡ t
+pub same-marked_at : (c place : ℕ) (cells : List Cell) (t : Bool) → is_right (cell_at (place - 1) cells).part ≡ t
     → Same (place - 2) (place + 1) (marked_before c place cells) cells
 unfolding marked_before
 same-marked_at c place cells true is = rw is (same-set (place - 2) (place + 1) (place - 2) cells _ (omega arith) (omega arith))
@@ -337,7 +337,7 @@ module _ (c first from : ℕ) (d : Display) (s : IsSized d) (fits : d.cursor.col
       begins (rw after (omega arith))
 
 -- what it changes: where the cursor stands further on, or the row before can change
-within-far : (c first : ℕ) (d : Display) → IsSized d → d.inserts ≡ false → d.cursor.column + 2 < d.width → first * d.width ≤ here d - 2
+pub within-far : (c first : ℕ) (d : Display) → IsSized d → d.inserts ≡ false → d.cursor.column + 2 < d.width → first * d.width ≤ here d - 2
     → Within first (d.cursor.row + 1) d (printed c d)
 within-far c first d s writes fits begins =
     let inside : row_end d ≤ length d.cells = row-fits d.cursor.row d s s.cursor_row in

@@ -13,15 +13,12 @@ use Rattle.anstyle_parse.specs.declared.io.output.Output.{Output}
 use Rattle.anstyle_parse.specs.Io.AddingProof.{AddsAt, Adds-nil}
 use Rattle.anstyle_parse.specs.Io.Output.{fault_in, Adds, AddsAll, AddsPrefix}
 use Rattle.anstyle_parse.specs.Stream.Call.{Call}
-use Rattle.anstyle_parse.specs.Stream.Calls.{HasReceived}
 use Rattle.anstyle_parse.specs.Stream.Canon.{canon}
 use Rattle.anstyle_parse.proofs.Canonical.Items.{AreCalls-nil}
 use Rattle.anstyle_parse.proofs.Canonical.Replay.{replay}
 use Rattle.anstyle_parse.proofs.Written.Output.{Adds-append}
-use Rattle.ansi_screen.specs.Display.{IsSized}
-use Rattle.ansi_screen.specs.After.{State, after, after_all, Shows}
+use Rattle.ansi_screen.specs.After.{State, after_all, Shows}
 use Rattle.ansi_screen.specs.Reachable.{IsScreen, HasContents}
-use Rattle.ansi_screen.proofs.CallLemmas.{after_all-goes}
 use Rattle.ansi_screen.proofs.KeptCalls.{kept-after_all}
 use Rattle.ansi_screen.proofs.ContentCalls.{contents-after_all}
 use Rattle.ansi_screen.proofs.SizeLemmas.{HasSize, sized-after_all}
@@ -93,11 +90,6 @@ updates-drawing (suc count) first (screen ∷ screens) are =
     let calls = update_calls first.display screen.display in
     both-drawing calls (updates_calls screen (take count screens)) (front-drawing calls (updates_calls screen screens) are)
     (updates-drawing count screen screens (rest-drawing calls (updates_calls screen screens) are))
-
--- what the performer has received, it shows
-pub received-shows : (first screen : State) (bytes : List ℕ)
-    → HasReceived (λ (a : State) (call : Call) (b : State). b ≡ after call a) first bytes screen → Shows first bytes screen
-received-shows first screen bytes received = (received.0, received.1, after_all-goes received.0 first screen received.2)
 
 pub shows-nothing : (first : State) → Shows first [] first
 shows-nothing first = ([], AreCalls-nil, refl)
@@ -192,19 +184,6 @@ passed-on sink calls a b c draws none = record {
   added = text-passed-on sink (canon calls) a b c draws.added none;
   drawing = draws.drawing;
 }
-
--- both screens have received the same
-pub received-same : (first a b : State) (bytes : List ℕ) → Shows first bytes a
-    → HasReceived (λ (s : State) (call : Call) (t : State). t ≡ after call s) first bytes b → a ≡ b
-received-same first a b bytes shows received = Shows-only bytes first a b shows (received-shows first b bytes received)
-
--- so they are of one size
-pub shows-sized : (first s : State) (bytes : List ℕ) → IsSized first.display
-    → HasReceived (λ (a : State) (call : Call) (b : State). b ≡ after call a) first bytes s → HasSize first.display.width first.display.height s.display
-shows-sized first s bytes sized received =
-    let shows = received-shows first s bytes received in
-    subst (λ (e : State). HasSize first.display.width first.display.height e.display) (sym shows.2)
-    (sized-after_all first.display.width first.display.height shows.0 first (refl, refl, sized.margins_within))
 
 -- an update more
 pub draws-more : {W : Type 0} (sink : SinkOf W) (first shown screen : State) (screens : List State) (a b c d : Output W)

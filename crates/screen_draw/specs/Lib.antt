@@ -5,6 +5,7 @@ pub mod Draw
 pub mod Drawing
 pub mod Laws
 pub mod Noting
+pub mod NotedTexts
 pub mod Redrawn
 pub mod Update
 pub mod Updates

@@ -3,9 +3,9 @@
 //!
 //! ```
 //! wanted.forget();
-//! parser.advance_all(wanted, piece);
+//! parser.advance_texts(wanted, piece);
 //! update_noted(shown, wanted, output);
-//! behind.advance_all(shown, piece);
+//! behind.advance_texts(shown, piece);
 //! // both screens have taken the piece: the next one may come
 //! ```
 #![tactic(auto)]

@@ -7,7 +7,7 @@ ghost use Rattle.screen_draw.specs.Changed.{Widens};
 
 use crate::changed::Changed;
 use ansi_screen::{Screen, edits_cells, edits_row, moves_alone};
-use anstyle_parse::{Params, Perform};
+use anstyle_parse::{Params, Perform, PerformText};
 
 /// A screen, and what of it can have changed since it was shown.
 #[derive(Drop)]
@@ -71,6 +71,8 @@ impl Noting {
     ghost use Rattle.ansi_screen.specs.Display.{Display, IsSized, here, row_start, row_end, row_cells};
     ghost use Rattle.screen_draw.specs.Changed.{Keeps, KeepsFrame, with_rows, begins_with_right};
     ghost use Rattle.screen_draw.specs.Noting.{screen_of, changed_of, display_of, HasNoted};
+    ghost use Rattle.anstyle_parse.specs.Stream.Texts.{text_calls};
+    ghost use Rattle.screen_draw.specs.NotedTexts.{NotesAll, FitsInRow};
 
     /// One with this screen, of which all can have changed.
     pub fn new(screen: Screen) -> Noting
@@ -271,6 +273,41 @@ impl Noting {
             self.all()
         }
     }
+
+    /// How many bytes of a text surely stay in the cursor's row and end before its last two columns. No character has
+    /// more columns than bytes. The answer is 0 in insert mode, and where the cursor is in the first two columns.
+    fn room(&self) -> usize
+        ensures { 0 < result → FitsInRow result self.now.screen.display }
+    {
+        let columns = self.screen.columns();
+        let column = self.screen.cursor().column;
+        if self.screen.inserts() || column < 2 {
+            0
+        } else {
+            columns.saturating_sub(column + 2)
+        }
+    }
+
+    /// Prints a text that stays in the cursor's row, and notes that row.
+    fn print_in_row(&mut self, text: &str)
+        requires { FitsInRow (length text.now) self.old.screen.display }
+        ensures { NotesAll self.old (text_calls text.now) self.new }
+    {
+        // The sizes are within their limits.
+        let _ = self.screen.columns();
+        let row = self.screen.cursor().row;
+        self.changed = self.changed.with_rows(row, row + 1);
+        self.screen.print_text(text);
+    }
+
+    /// Prints the characters of a text, one by one.
+    fn print_each(&mut self, text: &str)
+        ensures { NotesAll self.old (text_calls text.now) self.new }
+    {
+        for c in text.chars() {
+            self.print(c);
+        }
+    }
 }
 
 /// What each call can change is noted, and then the screen takes it.
@@ -315,4 +352,35 @@ impl Perform for Noting {
         self.changed = self.by_escape(intermediates, byte);
         self.screen.esc_dispatch(intermediates, ignore, byte);
     }
+}
+
+/// The screen prints as much of a text at once as surely stays in the cursor's row. Where no character surely does, the
+/// next one is printed by itself.
+impl PerformText for Noting {
+    ghost use Rattle.anstyle_parse.specs.Stream.Texts.{text_calls};
+    ghost use Rattle.screen_draw.specs.NotedTexts.{NotesAll, notes-none, notes-one, notes-more};
+
+    ghost receives = { NotesAll };
+
+    fn print_text(&mut self, text: &str) {
+        let mut rest = text;
+        'rest: while !rest.is_empty() {
+            let count = rest.floor_char_boundary(self.room());
+            if count > 0 {
+                let (front, behind) = rest.split_at(count);
+                self.print_in_row(front);
+                rest = behind;
+            } else {
+                let (first, behind) = rest.split_at(rest.ceil_char_boundary(1));
+                self.print_each(first);
+                rest = behind;
+            }
+        }
+    }
+
+    ghost receives_none = { notes-none };
+
+    ghost receives_one = { notes-one };
+
+    ghost receives_more = { notes-more };
 }

@@ -49,7 +49,7 @@ pub fn update_to_end<R: Source, W: Sink>(
             Some(0) => return Ok(()),
             Some(count) => {
                 wanted.forget();
-                parser.advance_all(wanted, &piece[..count]);
+                parser.advance_texts(wanted, &piece[..count]);
                 update_noted(shown, wanted, output);
                 output.pass_on();
                 if output.fault().is_some() {

@@ -3,21 +3,20 @@ use Rattle.std.proofs.Common.{◌≡◌, ◌<◌, [], ◌∷◌, ◌++◌, is_so
 use Rattle.std.proofs.KnownBytes.{Consumes-nil, Consumes-kept, Consumes-trans}
 use Rattle.std.specs.Io.KnownBytes.{Consumes}
 use Rattle.anstyle_parse.specs.Io.Output.{fault_in}
-use Rattle.anstyle_parse.specs.Stream.Call.{Call}
-use Rattle.anstyle_parse.specs.Stream.Calls.{HasReceived}
 use Rattle.anstyle_parse.specs.Stream.Canon.{canon}
 use Rattle.anstyle_parse.specs.Views.Accumulator.{front_of}
 use Rattle.anstyle_parse.specs.Views.Parser.{IsAfter}
 use Rattle.anstyle_parse.proofs.Canonical.Items.{AreCalls-nil}
 use Rattle.anstyle_parse.proofs.Written.Output.{None-from_is_some}
-use Rattle.ansi_screen.specs.After.{State, Shows, after}
+use Rattle.ansi_screen.specs.After.{State, Shows}
+use Rattle.ansi_screen.proofs.LawLemmas.{Shows-only}
 use Rattle.screen_draw.specs.Draw.{drawn_calls}
 use Rattle.screen_draw.specs.Drawing.{Draws}
 use Rattle.screen_draw.specs.Update.{update_calls}
 use Rattle.screen_draw.specs.Updates.{IsPiece, joined}
 use Rattle.screen_draw.specs.Noting.{HasNoted}
-use Rattle.screen_draw.proofs.NotedLemmas.{noted-keeps, noted-received}
-use Rattle.screen_draw.proofs.UpdatesLemmas.{joined-more, last-more, pieces-more, screens-more, received-shows, received-same, text-passed-on, no-updates, begins, draws-more, write-fault, follows}
+use Rattle.screen_draw.proofs.NotedLemmas.{noted-shows}
+use Rattle.screen_draw.proofs.UpdatesLemmas.{joined-more, last-more, pieces-more, screens-more, text-passed-on, no-updates, begins, draws-more, write-fault, follows}
 use Rattle.screen_draw.proofs.updates.update_to_end.Goals as goal
 
 pub returns-then-is_some : goal.returns-then-is_some
@@ -41,7 +40,7 @@ loop-turn-init g c = record {
   are_screens = tt;
   is_last = refl;
   draws = no-updates g.W.Sink c.pass_on.new.self;
-  received = ([], AreCalls-nil, refl);
+  shows = ([], AreCalls-nil, refl);
   shows_behind = ([], AreCalls-nil, c.requires.same);
   stands = c.new-parser.ensures.stands;
   stands_behind = c.new-behind.ensures.stands;
@@ -79,10 +78,10 @@ update_noted-requires g c =
     let before = c.loop-turn.invariant in
     let old = c.forget.new.self in
     let same : c.loop-turn.shown ≡ old.screen =
-    received-same c.args.wanted.now.screen c.loop-turn.shown c.loop-turn.wanted.screen (joined before.pieces) before.shows_behind before.received
+    Shows-only (joined before.pieces) c.args.wanted.now.screen c.loop-turn.shown c.loop-turn.wanted.screen before.shows_behind before.shows
     ∙ sym c.forget.ensures.screen in
     record {
-      noted = noted-keeps _ old c.advance_all.new.performer c.loop-turn.shown.display c.advance_all.ensures.calls
+      noted = c.advance_texts.ensures.calls.noted c.loop-turn.shown.display
           (subst (λ (s : State). HasNoted old s.display) (sym same) c.forget.ensures.shown);
     }
 
@@ -90,11 +89,11 @@ pub returns-then-is_some-2 : goal.returns-then-is_some-2
 returns-then-is_some-2 g c =
     let before = c.loop-turn.invariant in
     let first = c.args.wanted.now.screen in
-    let next = c.advance_all.new.performer.screen in
+    let next = c.advance_texts.new.performer.screen in
     let bytes = take c.in-Some.count c.read.new.into in
-    let received = noted-received first (joined before.pieces) bytes _ c.forget.new.self c.advance_all.new.performer
-    (subst (HasReceived (λ (a : State) (call : Call) (b : State). b ≡ after call a) first (joined before.pieces)) (sym c.forget.ensures.screen) before.received)
-    (c.advance_all.ensures.stream (joined before.pieces) refl before.stands) c.advance_all.ensures.calls in
+    let shows = noted-shows first (joined before.pieces) bytes _ c.forget.new.self c.advance_texts.new.performer
+    (subst (Shows first (joined before.pieces)) (sym c.forget.ensures.screen) before.shows)
+    (c.advance_texts.ensures.stream (joined before.pieces) before.stands) c.advance_texts.ensures.calls in
     let drawn : Draws g.W.Sink (drawn_calls first.display) c.args.output.now c.pass_on.new.self =
     begins g.W.Sink c.args.shown.now first _ _ _ c.requires.same c.draw.ensures.text c.draw.ensures.only c.pass_on.ensures in
     let last = text-passed-on g.W.Sink (canon (update_calls c.loop-turn.shown.display next.display)) _ _ _
@@ -104,14 +103,14 @@ returns-then-is_some-2 g c =
       omega (arith, length-take c.in-Some.count c.read.new.into, c.read.auto.into, before.room),
     ) in
     let updated = draws-more g.W.Sink first c.loop-turn.shown next before.screens _ _ _ _ before.draws
-    (received-same first _ _ (joined before.pieces) before.shows_behind before.received ∙ before.is_last)
+    (Shows-only (joined before.pieces) first _ _ before.shows_behind before.shows ∙ before.is_last)
     c.update_noted.ensures.text c.update_noted.ensures.only c.pass_on-in-Some.ensures in
     follows g.R.Source g.W.Sink _ _ first next c.args.output.now c.pass_on.new.self c.pass_on-in-Some.new.self _
     (before.pieces ++ bytes ∷ []) (before.screens ++ next ∷ [])
     (subst (Consumes (g.R.Source.remaining c.args.reader.now) (g.R.Source.remaining c.read.new.self)) (sym (joined-more before.pieces bytes))
     (Consumes-trans _ _ _ _ _ before.consumed c.in-Some.ensures.passed))
     (pieces-more IsPiece before.pieces bytes before.each is_piece)
-    (screens-more first next [] bytes before.pieces before.screens before.are_screens (received-shows first next _ received))
+    (screens-more first next [] bytes before.pieces before.screens before.are_screens shows)
     (sym (last-more first next before.screens)) drawn updated (
       write-fault g.W.Sink _ c.loop-turn.output c.pass_on-in-Some.new.self last before.no_fault
           (sym (c.is_some-in-Some.ensures ∙ ap is_some c.fault-in-Some.ensures) ∙ c.if-is_some-2.true),
@@ -122,33 +121,33 @@ pub loop-turn-preserved : goal.loop-turn-preserved
 loop-turn-preserved g c =
     let before = c.loop-turn.invariant in
     let first = c.args.wanted.now.screen in
-    let next = c.advance_all.new.performer.screen in
+    let next = c.advance_texts.new.performer.screen in
     let bytes = take c.in-Some.count c.read.new.into in
     let more = sym (joined-more before.pieces bytes) in
     let is_piece : IsPiece bytes = (
       omega (arith, length-take c.in-Some.count c.read.new.into, c.in-Some.ensures.within, c.in-Some.count-test),
       omega (arith, length-take c.in-Some.count c.read.new.into, c.read.auto.into, before.room),
     ) in
-    let received = noted-received first (joined before.pieces) bytes _ c.forget.new.self c.advance_all.new.performer
-    (subst (HasReceived (λ (a : State) (call : Call) (b : State). b ≡ after call a) first (joined before.pieces)) (sym c.forget.ensures.screen) before.received)
-    (c.advance_all.ensures.stream (joined before.pieces) refl before.stands) c.advance_all.ensures.calls in
+    let shows = noted-shows first (joined before.pieces) bytes _ c.forget.new.self c.advance_texts.new.performer
+    (subst (Shows first (joined before.pieces)) (sym c.forget.ensures.screen) before.shows)
+    (c.advance_texts.ensures.stream (joined before.pieces) before.stands) c.advance_texts.ensures.calls in
     record {
       pieces = before.pieces ++ bytes ∷ [];
       screens = before.screens ++ next ∷ [];
       consumed = subst (Consumes (g.R.Source.remaining c.args.reader.now) (g.R.Source.remaining c.read.new.self)) more
           (Consumes-trans _ _ _ _ _ before.consumed c.in-Some.ensures.passed);
       each = pieces-more IsPiece before.pieces bytes before.each is_piece;
-      are_screens = screens-more first next [] bytes before.pieces before.screens before.are_screens (received-shows first next _ received);
+      are_screens = screens-more first next [] bytes before.pieces before.screens before.are_screens shows;
       is_last = sym (last-more first next before.screens);
       draws = draws-more g.W.Sink first c.loop-turn.shown next before.screens _ _ _ _ before.draws
-          (received-same first _ _ (joined before.pieces) before.shows_behind before.received ∙ before.is_last)
+          (Shows-only (joined before.pieces) first _ _ before.shows_behind before.shows ∙ before.is_last)
           c.update_noted.ensures.text c.update_noted.ensures.only c.pass_on-in-Some.ensures;
-      received = subst (λ l. HasReceived (λ (a : State) (call : Call) (b : State). b ≡ after call a) first l next) more received;
-      shows_behind = subst (λ l. Shows first l c.advance_texts.new.performer) more
-          (c.advance_texts.ensures.received first (joined before.pieces) before.stands_behind before.shows_behind);
-      stands = subst (IsAfter front_of c.advance_all.new.self) more (c.advance_all.ensures.stands (joined before.pieces) refl before.stands);
-      stands_behind = subst (IsAfter front_of c.advance_texts.new.self) more
-          (c.advance_texts.ensures.stands (joined before.pieces) before.stands_behind);
+      shows = subst (λ l. Shows first l next) more shows;
+      shows_behind = subst (λ l. Shows first l c.advance_texts-in-Some.new.performer) more
+          (c.advance_texts-in-Some.ensures.received first (joined before.pieces) before.stands_behind before.shows_behind);
+      stands = subst (IsAfter front_of c.advance_texts.new.self) more (c.advance_texts.ensures.stands (joined before.pieces) before.stands);
+      stands_behind = subst (IsAfter front_of c.advance_texts-in-Some.new.self) more
+          (c.advance_texts-in-Some.ensures.stands (joined before.pieces) before.stands_behind);
       no_fault = None-from_is_some (fault_in c.pass_on-in-Some.new.self) (sym (c.is_some-in-Some.ensures ∙ ap is_some c.fault-in-Some.ensures) ∙ c.if-is_some-2.false);
       not_failed = c.in-Some.ensures.not_failed ∙ before.not_failed;
       counted = omega (arith, before.counted, is_piece.0, ap length more, length-append (joined before.pieces) bytes);

@@ -5,9 +5,7 @@ use Rattle.std.specs.Io.KnownBytes.{Consumes}
 use Rattle.anstyle_parse.specs.Views.Accumulator.{front_of}
 use Rattle.anstyle_parse.specs.Views.Parser.{IsAfter}
 use Rattle.anstyle_parse.specs.Io.Output.{fault_in}
-use Rattle.anstyle_parse.specs.Stream.Call.{Call}
-use Rattle.anstyle_parse.specs.Stream.Calls.{HasReceived}
-use Rattle.ansi_screen.specs.After.{State, Shows, after}
+use Rattle.ansi_screen.specs.After.{State, Shows}
 use Rattle.screen_draw.specs.Drawing.{Draws}
 use Rattle.screen_draw.specs.Updates.{most_piece, IsPiece, AreScreens, joined, last_of, updates_calls}
 use Rattle.screen_draw.proofs.updates.update_to_end.Given as goal
@@ -21,7 +19,7 @@ invariant-loop-turn g l = record {
   are_screens : AreScreens l.initial.wanted.screen [] pieces screens;
   is_last : l.wanted.screen ≡ last_of l.initial.wanted.screen screens;
   draws : Draws g.W.Sink (updates_calls l.initial.wanted.screen screens) l.initial.output l.output;
-  received : HasReceived (λ (a : State) (call : Call) (b : State). b ≡ after call a) l.initial.wanted.screen (joined pieces) l.wanted.screen;
+  shows : Shows l.initial.wanted.screen (joined pieces) l.wanted.screen;
   shows_behind : Shows l.initial.wanted.screen (joined pieces) l.shown;
   stands : IsAfter front_of l.parser (joined pieces);
   stands_behind : IsAfter front_of l.behind (joined pieces);

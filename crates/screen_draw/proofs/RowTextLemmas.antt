@@ -1,0 +1,247 @@
+-- A text that stays in the cursor's row.
+use Rattle.std.proofs.Common.{◌≡◌, ℕ, ◌+◌, ◌<◌, ◌≤◌, Bool, true, false, cond, List, [], ◌∷◌, ◌++◌, length, length-append, append_assoc, take, drop, take-append-drop, map, ⊎_elim, refl, ap, ap₂, sym, ◌∙◌, subst, arith}
+use Rattle.std.specs.Prelude.{nat_lt, ◌==◌, encode_utf8, if◌then◌else◌}
+use Rattle.std.specs.Str.{IsUtf8, IsCharBoundary, chars, encode_utf8_all}
+use Rattle.std.proofs.lemmas.Bool.{le-ltb, cases_lt}
+use Rattle.std.proofs.lemmas.Str.{chars-nil, encodes-chars, length-encode, IsUtf8-nil, IsUtf8-append, IsUtf8-take, IsUtf8-drop}
+use borrow.Author.Tests.{eqb-false}
+use Rattle.anstyle_parse.specs.Stream.Call.{print}
+use Rattle.anstyle_parse.specs.Stream.Texts.{text_calls}
+use Rattle.anstyle_parse.proofs.Characters.Scalars.{length-encode-some}
+use Rattle.ansi_screen.specs.declared.cell.Cell.{Cell}
+use Rattle.ansi_screen.specs.Cells.{change, marked_before}
+use Rattle.ansi_screen.specs.Display.{Display, IsSized, here, row_end}
+use Rattle.ansi_screen.specs.Print.{glyph, wrapped, with_room, with_glyph, put, marked, shown, printed, drawn, draws}
+use Rattle.ansi_screen.specs.Ranges.{no_column}
+use Rattle.ansi_screen.specs.Runs.{printed_all}
+use Rattle.ansi_screen.specs.Widths.{is_shown, is_among, columns}
+use Rattle.ansi_screen.specs.After.{State, after_all}
+use Rattle.ansi_screen.proofs.KeptCalls.{columns-few}
+use Rattle.ansi_screen.proofs.PartLemmas.{text_calls-append}
+use Rattle.ansi_screen.proofs.PrintedLemmas.{after-printing}
+use Rattle.ansi_screen.proofs.RangeLemmas.{two_columns-below}
+use Rattle.ansi_screen.proofs.RowLemmas.{drawn-if}
+use Rattle.ansi_screen.proofs.WholeLemmas.{length-glyph}
+use Rattle.screen_draw.specs.declared.noting.Noting.{Noting}
+use Rattle.screen_draw.specs.declared.changed.Changed.{Changed}
+use Rattle.screen_draw.specs.Changed.{Keeps, with_rows}
+use Rattle.screen_draw.specs.Noting.{screen_of, changed_of}
+use Rattle.screen_draw.specs.NotedTexts.{NotesAll, FitsInRow, notes-none, notes-more}
+use Rattle.screen_draw.proofs.ChangedLemmas.{Within, framed-refl, framed-trans, row-fits, keeps-within}
+use Rattle.screen_draw.proofs.NotingLemmas.{same-marked_at, same-changed, within-far}
+
+-- A character has no more columns than bytes.
+narrow-few : (c : ℕ) (t : Bool) → is_among c no_column ≡ t → c < 0x1100 → columns c ≤ 1
+unfolding columns
+narrow-few c true none small = rw none (omega arith)
+narrow-few c false none small = rw (none, two_columns-below c small) (omega arith)
+
+long-wide : (c : ℕ) → 0x1100 ≤ c → 3 ≤ length (encode_utf8 c)
+long-wide c large =
+    let third : nat_lt c 0x80 ≡ false = le-ltb c 0x80 (omega arith) in
+    let second : nat_lt c 0x800 ≡ false = le-ltb c 0x800 (omega arith) in
+    rw (length-encode c, third, second) (long-either (nat_lt c 0x1_0000))
+  where
+    long-either : (t : Bool) → 3 ≤ cond t 3 4
+    long-either true = omega arith
+    long-either false = omega arith
+
+pub columns-bytes : (c : ℕ) → columns c ≤ length (encode_utf8 c)
+columns-bytes c =
+    let some : 1 ≤ length (encode_utf8 c) = length-encode-some c in
+    let few : columns c ≤ 2 = columns-few c _ _ refl refl in
+    ⊎_elim
+    (λ (small : c < 0x1100). let one : columns c ≤ 1 = narrow-few c _ refl small in omega arith)
+    (λ (large : 0x1100 ≤ c). let long : 3 ≤ length (encode_utf8 c) = long-wide c large in omega arith)
+    (cases_lt c 0x1100)
+
+-- The display with other cells, and the cursor in another column.
+abbrev moved : List Cell → ℕ → Display → Display
+moved cells column d = record d { cells = cells; cursor = record d.cursor { column = column } }
+
+-- What a character that has room leaves of a display: other cells, as many, and a column further on.
+record Stays (n : ℕ) (d e : Display) : Type 0 where
+  cells : List Cell
+  column : ℕ
+  is : e ≡ moved cells column d
+  long : length cells ≡ length d.cells
+  from : d.cursor.column ≤ column
+  to : column ≤ d.cursor.column + n
+
+stays-none : (n : ℕ) (d : Display) → Stays n d d
+stays-none n d = record { cells = d.cells; column = d.cursor.column; is = refl; long = refl; from = omega arith; to = omega arith }
+
+stays-marked : (n c : ℕ) (d : Display) (t : Bool) → (d.cursor.column == 0) ≡ t → Stays n d (marked c d)
+unfolding marked
+stays-marked n c d true is = rw is (stays-none n d)
+stays-marked n c d false is = rw is (record {
+  cells = marked_before c (here d) d.cells;
+  column = d.cursor.column;
+  is = refl;
+  long = (same-marked_at c (here d) d.cells _ refl).long;
+  from = omega arith;
+  to = omega arith;
+})
+
+stays-put : (n c : ℕ) (d : Display) → d.inserts ≡ false → d.cursor.column + n ≤ d.width → 1 ≤ n → n ≤ 2 → row_end d ≤ length d.cells
+    → Stays n d (put n c (wrapped n d))
+unfolding put wrapped with_room with_glyph
+stays-put n c d writes fits some few inside =
+    let room : nat_lt d.width (d.cursor.column + n) ≡ false = le-ltb d.width (d.cursor.column + n) fits in
+    rw (room, room, writes) (record {
+      cells = change (here d) (here d + n) (λ run. glyph n c d.cursor.style d.link) d.cells;
+      column = d.cursor.column + n;
+      is = refl;
+      long = (same-changed n (here d) (λ run. glyph n c d.cursor.style d.link) d.cells (omega arith)
+          (λ run. length-glyph n c d.cursor.style d.link _ refl some few)).long;
+      from = omega arith;
+      to = omega arith;
+    })
+
+stays-shown : (c : ℕ) (d : Display) (t : Bool) → (columns c == 0) ≡ t → d.inserts ≡ false → d.cursor.column + columns c ≤ d.width
+    → row_end d ≤ length d.cells → Stays (columns c) d (shown c d)
+unfolding shown
+stays-shown c d true is writes fits inside = rw is (stays-marked (columns c) c d _ refl)
+stays-shown c d false is writes fits inside =
+    let some : columns c ≡ 0 → ⊥ = eqb-false (columns c) 0 is in
+    rw is (stays-put (columns c) c d writes fits (omega arith) (columns-few c _ _ refl refl) inside)
+
+stays-printed : (c : ℕ) (d : Display) (t : Bool) → is_shown c ≡ t → d.inserts ≡ false → d.cursor.column + columns c ≤ d.width
+    → row_end d ≤ length d.cells → Stays (columns c) d (printed c d)
+unfolding printed
+stays-printed c d true is writes fits inside =
+    let character : ℕ = if draws d.cursor.charsets then drawn c else c in
+    let same : columns character ≡ columns c = drawn-if c (draws d.cursor.charsets) in
+    rw is (subst (λ k. Stays k d (shown character d)) same (stays-shown character d _ refl writes (omega arith) inside))
+stays-printed c d false is writes fits inside = rw is (stays-none (columns c) d)
+
+-- so it has its sizes still
+sized-there : (cells : List Cell) (column : ℕ) (d : Display) → IsSized d → length cells ≡ length d.cells → column ≤ d.width
+    → IsSized (moved cells column d)
+sized-there cells column d s long inside = record {
+  two_columns = s.two_columns;
+  columns_limit = s.columns_limit;
+  a_row = s.a_row;
+  rows_limit = s.rows_limit;
+  cells_fill = long ∙ s.cells_fill;
+  hidden_fill = s.hidden_fill;
+  tabs_fill = s.tabs_fill;
+  cursor_row = s.cursor_row;
+  cursor_column = inside;
+  saved_row = s.saved_row;
+  saved_column = s.saved_column;
+  hidden_row = s.hidden_row;
+  hidden_column = s.hidden_column;
+  margins = s.margins;
+  margins_within = s.margins_within;
+}
+
+within-refl : (first past : ℕ) (d : Display) → Within first past d d
+within-refl first past d = record { framed = framed-refl d; above = λ row less. refl; below = λ row more. refl }
+
+within-trans : (first past : ℕ) (d e f : Display) → Within first past d e → Within first past e f → Within first past d f
+within-trans first past d e f a b = record {
+  framed = framed-trans d e f a.framed b.framed;
+  above = λ row less. b.above row less ∙ a.above row less;
+  below = λ row more. b.below row more ∙ a.below row more;
+}
+
+-- a character, where it has room
+module _ (c : ℕ) (cs : List ℕ) (d : Display) (s : IsSized d) (room : FitsInRow (length (encode_utf8_all (c ∷ cs))) d) where
+  bytes : length (encode_utf8_all (c ∷ cs)) ≡ length (encode_utf8 c) + length (encode_utf8_all cs)
+  bytes = length-append (encode_utf8 c) (encode_utf8_all cs)
+
+  first-fits : d.cursor.column + columns c ≤ d.width
+  first-fits = let few : columns c ≤ length (encode_utf8 c) = columns-bytes c in omega (arith, bytes, room.fits)
+
+  first-stays : Stays (columns c) d (printed c d)
+  first-stays = stays-printed c d _ refl room.stays first-fits (row-fits d.cursor.row d s s.cursor_row)
+
+  first-sized : IsSized (printed c d)
+  first-sized = subst IsSized (sym first-stays.is)
+      (sized-there first-stays.cells first-stays.column d s first-stays.long (omega (arith, first-fits, first-stays.to)))
+
+  first-room : FitsInRow (length (encode_utf8_all cs)) (printed c d)
+  first-room =
+      let few : columns c ≤ length (encode_utf8 c) = columns-bytes c in
+      subst (FitsInRow (length (encode_utf8_all cs))) (sym first-stays.is) (record {
+        past = omega (arith, room.past, first-stays.from);
+        fits = omega (arith, bytes, room.fits, first-stays.to);
+        stays = room.stays;
+      })
+
+  first-row : (printed c d).cursor.row ≡ d.cursor.row
+  first-row = ap (λ (e : Display). e.cursor.row) first-stays.is
+
+  first-within : Within d.cursor.row (d.cursor.row + 1) d (printed c d)
+  first-within =
+      let some : 1 ≤ length (encode_utf8 c) = length-encode-some c in
+      let past : 2 ≤ d.cursor.column = room.past in
+      within-far c d.cursor.row d s room.stays (omega (arith, bytes, room.fits)) (omega arith)
+
+-- and characters one after another
+within-all : (cs : List ℕ) (d : Display) → IsSized d → FitsInRow (length (encode_utf8_all cs)) d
+    → Within d.cursor.row (d.cursor.row + 1) d (printed_all cs d)
+within-all [] d s room = within-refl d.cursor.row (d.cursor.row + 1) d
+within-all (c ∷ cs) d s room =
+    let e : Display = printed c d in
+    within-trans d.cursor.row (d.cursor.row + 1) d e (printed_all cs e) (first-within c cs d s room)
+    (subst (λ k. Within k (k + 1) e (printed_all cs e)) (first-row c cs d s room)
+    (within-all cs e (first-sized c cs d s room) (first-room c cs d s room)))
+
+-- A text that has room changes the cursor's row alone.
+pub within-text : (text : List ℕ) (s : State) → IsUtf8 text → IsSized s.display → FitsInRow (length text) s.display
+    → Within s.display.cursor.row (s.display.cursor.row + 1) s.display (after_all (text_calls text) s).display
+within-text text s utf8 sized room =
+    let d : Display = s.display in
+    subst (Within d.cursor.row (d.cursor.row + 1) d) (sym (ap (λ (e : State). e.display) (after-printing (chars text) s)))
+    (within-all (chars text) d sized (subst (λ l. FitsInRow (length l) d) (sym (encodes-chars text utf8)) room))
+
+-- What is noted then.
+pub notes-row : (text : List ℕ) (old new : Noting) → IsUtf8 text → IsSized (screen_of old).display → FitsInRow (length text) (screen_of old).display
+    → screen_of new ≡ after_all (text_calls text) (screen_of old)
+    → changed_of new ≡ with_rows (screen_of old).display.cursor.row ((screen_of old).display.cursor.row + 1) (changed_of old)
+    → NotesAll old (text_calls text) new
+notes-row text old new utf8 sized room screen changed =
+    let d : Display = (screen_of old).display in
+    record {
+      screen = screen;
+      noted = λ shown keeps.
+          subst (λ (s : State). Keeps (changed_of new) shown s.display) (sym screen)
+          (subst (λ (n : Changed). Keeps n shown (after_all (text_calls text) (screen_of old)).display) (sym changed)
+          (keeps-within d.cursor.row (d.cursor.row + 1) (changed_of old) shown d (after_all (text_calls text) (screen_of old)).display
+          (within-text text (screen_of old) utf8 sized room) keeps));
+    }
+
+-- A text is printed, up to what is left of it.
+pub record Printed (text : List ℕ) (first : Noting) (rest : List ℕ) (noting : Noting) : Type 0 where
+  pub passed : List ℕ
+  pub utf8 : IsUtf8 passed
+  pub rest_utf8 : IsUtf8 rest
+  pub joined : text ≡ passed ++ rest
+  pub noted : NotesAll first (text_calls passed) noting
+
+pub printed-none : (text : List ℕ) (first : Noting) → IsUtf8 text → Printed text first text first
+printed-none text first utf8 = record {
+  passed = [];
+  utf8 = IsUtf8-nil;
+  rest_utf8 = utf8;
+  joined = refl;
+  noted = subst (λ calls. NotesAll first calls first) (sym (ap (map print) chars-nil)) (notes-none first);
+}
+
+-- a part more
+pub printed-more : (text rest front behind : List ℕ) (n : ℕ) (first before after : Noting) → Printed text first rest before
+    → IsCharBoundary rest n → front ≡ take n rest → behind ≡ drop n rest → NotesAll before (text_calls front) after
+    → Printed text first behind after
+printed-more text rest front behind n first before after printed boundary is_front is_behind noted =
+    let both : rest ≡ front ++ behind = sym (take-append-drop n rest) ∙ ap₂ (λ a b. a ++ b) (sym is_front) (sym is_behind) in
+    record {
+      passed = printed.passed ++ front;
+      utf8 = IsUtf8-append printed.passed front printed.utf8
+          (subst IsUtf8 (sym is_front) (IsUtf8-take rest n printed.rest_utf8 boundary));
+      rest_utf8 = subst IsUtf8 (sym is_behind) (IsUtf8-drop rest n printed.rest_utf8 boundary);
+      joined = printed.joined ∙ (ap (λ l. printed.passed ++ l) both ∙ sym (append_assoc printed.passed front behind));
+      noted = subst (λ calls. NotesAll first calls after) (sym (text_calls-append printed.passed front printed.utf8))
+          (notes-more first before after (text_calls printed.passed) (text_calls front) printed.noted noted);
+    }

@@ -295,8 +295,8 @@ impl Noting {
     {
         // The sizes are within their limits.
         let _ = self.screen.columns();
-        let first = self.screen.cursor().row;
-        self.changed = self.changed.with_rows(first, first + 1);
+        let row = self.screen.cursor().row;
+        self.changed = self.changed.with_rows(row, row + 1);
         self.screen.print_text(text);
     }
 

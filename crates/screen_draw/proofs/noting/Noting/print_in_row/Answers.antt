@@ -10,4 +10,4 @@ returns c =
     let old = c.args.self.now in
     notes-row c.args.text.now old (record { screen = c.print_text.new.self; changed = c.with_rows-self.result })
     c.utf8.text c.columns.ensures.sized c.requires c.print_text.ensures
-    (c.with_rows-self.ensures ∙ ap (λ (p : Place). with_rows p.row (p.row + 1) old.changed) c.cursor-first.ensures)
+    (c.with_rows-self.ensures ∙ ap (λ (p : Place). with_rows p.row (p.row + 1) old.changed) c.cursor-row.ensures)

@@ -65,6 +65,22 @@ fn shift_on_by_blocks(cells: &mut [Cell], count: usize)
     }
 }
 
+/// Copies so many cells to another place, at once where both places are apart.
+pub(crate) fn copy(cells: &mut [Cell], from: usize, to: usize, size: usize)
+    requires from { from + size ≤ length cells.old }
+    requires to { to + size ≤ length cells.old }
+    ensures length { length cells.new ≡ length cells.old }
+    ensures copied { cells.new ≡ take to cells.old ++ (take size (drop from cells.old) ++ drop (to + size) cells.old) }
+{
+    if to + size <= from {
+        copy_back(cells, from, to, size);
+    } else if from + size <= to {
+        copy_on(cells, from, to, size);
+    } else {
+        cells.copy_within(from..from + size, to);
+    }
+}
+
 /// Copies so many cells to a place before them.
 fn copy_back(cells: &mut [Cell], from: usize, to: usize, size: usize)
     requires apart { to + size ≤ from }

@@ -5,7 +5,7 @@ ghost use Rattle.ansi_screen.specs.Cells.{within, moved_back, moved_on};
 
 use crate::cell::Cell;
 use crate::runs;
-use crate::shifts::{shift_back, shift_on};
+use crate::shifts::{copy, shift_back, shift_on};
 
 /// Whether a move by `count` of the cells from `first` up to `last` of a window of so many costs less where the window
 /// moves, and the cells outside with it. The memory must have room for that.
@@ -96,7 +96,7 @@ fn with_room_behind(memory: &mut [Cell], start: usize, size: usize, count: usize
         start
     } else {
         let front = spare / 4;
-        memory.copy_within(start..start + size, front);
+        copy(memory, start, front, size);
         front
     }
 }
@@ -115,7 +115,7 @@ fn with_room_before(memory: &mut [Cell], start: usize, size: usize, count: usize
     } else {
         let spare = memory.len() - (size + count);
         let front = spare - spare / 4;
-        memory.copy_within(start..start + size, front + count);
+        copy(memory, start, front + count, size);
         front
     }
 }

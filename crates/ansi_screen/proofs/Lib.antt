@@ -20,6 +20,7 @@ pub mod RowLemmas
 pub mod EditLemmas
 pub mod CharacterLemmas
 pub mod SizeLemmas
+pub mod FollowingLemmas
 pub mod ColorLemmas
 pub mod ContentLemmas
 pub mod ContentCalls

@@ -1,5 +1,6 @@
 pub mod Cells
 pub mod Display
+pub mod Following
 pub mod Moves
 pub mod Edits
 pub mod Links

@@ -2,6 +2,7 @@
 ghost use Rattle.std.specs.Prelude.{◌≡◌, ◌+◌, ◌*◌, ◌<◌, ◌≤◌, length, IfOk};
 
 mod edits;
+mod following;
 mod leaving;
 mod links;
 mod modes;

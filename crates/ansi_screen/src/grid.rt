@@ -2,6 +2,7 @@
 ghost use Rattle.std.specs.Prelude.{◌≡◌, ◌+◌, ◌<◌, ◌≤◌, length, take, drop, replicate, IfOk};
 ghost use Rattle.ansi_style.specs.Style.{plain};
 ghost use Rattle.ansi_screen.specs.Cells.{blank, marked_before, going_on, within, change, erased, moved_back, moved_on, deleted, inserted};
+ghost use Rattle.ansi_screen.specs.Following.{copied};
 ghost use Rattle.ansi_screen.specs.Print.{glyph};
 ghost use Rattle.ansi_screen.specs.Runs.{with_glyphs};
 
@@ -95,6 +96,31 @@ impl Grid {
             let blank = Cell::blank(Style::default());
             self.memory.as_mut_slice()[self.start..self.start + self.size].fill(blank);
             self.is_written = false;
+        }
+    }
+
+    /// The cells from `start` up to `end` become as those of another one are.
+    pub(crate) fn copy(&mut self, start: usize, end: usize, other: &Grid)
+        requires order { start ≤ end }
+        requires within { end ≤ length self.old }
+        requires length { length self.old ≡ length other.now }
+        ensures cells { self.new ≡ copied start end other.now self.old }
+        ensures length { length self.new ≡ length self.old }
+    {
+        self.is_written = true;
+        let shown = &mut self.memory.as_mut_slice()[self.start..self.start + self.size];
+        runs::copy(shown, start, end, other.as_slice());
+    }
+
+    /// All cells become as those of another one are. Nothing is copied where these are plain blanks.
+    pub(crate) fn copy_all(&mut self, other: &Grid)
+        requires { length self.old ≡ length other.now }
+        ensures { self.new ≡ other.now }
+    {
+        if other.is_written {
+            self.copy(0, self.size, other);
+        } else {
+            self.fill_with_blanks();
         }
     }
 

@@ -1,6 +1,7 @@
 //! Edits of cells in a row, or in several.
 ghost use Rattle.std.specs.Prelude.{◌≡◌, ◌+◌, ◌<◌, ◌≤◌, length};
 ghost use Rattle.ansi_screen.specs.Cells.{cut, marked_before, going_on, change, erased, moved_back, moved_on, deleted, inserted};
+ghost use Rattle.ansi_screen.specs.Following.{copied};
 ghost use Rattle.ansi_screen.specs.Print.{glyph};
 ghost use Rattle.ansi_screen.specs.Runs.{glyphs, with_glyphs};
 
@@ -36,6 +37,17 @@ pub(crate) fn clear(cells: &mut [Cell], blank: Cell)
         rest[..count].copy_from_slice(&front[..count]);
         cleared += count;
     }
+}
+
+/// The cells from `start` up to `end` become as others are there.
+pub(crate) fn copy(cells: &mut [Cell], start: usize, end: usize, others: &[Cell])
+    requires order { start ≤ end }
+    requires within { end ≤ length cells.old }
+    requires length { length cells.old ≡ length others.now }
+    ensures copied { cells.new ≡ copied start end others.now cells.old }
+    ensures length { length cells.new ≡ length cells.old }
+{
+    cells[start..end].copy_from_slice(&others[start..end]);
 }
 
 /// Moves cells to the front by as many as `count`; blanks follow them.

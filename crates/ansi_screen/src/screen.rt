@@ -70,6 +70,7 @@ impl Screen {
     ghost use Rattle.ansi_screen.specs.Runs.{is_printed_ascii};
     ghost use Rattle.ansi_screen.specs.Laws.{printing};
     ghost use Rattle.ansi_screen.specs.Leaving.{before_scroll, leaving, all_left};
+    ghost use Rattle.ansi_screen.specs.Following.{IsNear};
 
     /// A blank screen of so many columns and rows, with the cursor at its top left. `Err` means
     /// that memory is wanting.
@@ -131,6 +132,19 @@ impl Screen {
         ensures { result ≡ self.now.display.link }
     {
         self.display.link()
+    }
+
+    /// Becomes as another screen of its size is, from which it may differ in the rows from `first` up to `past`, in the
+    /// cursor, modes and links; and, where `is_framed` says so, in margins, tabs, saved places and the alternate screen.
+    ///
+    /// No other rows are copied, and no memory is taken.
+    pub fn catch_up(&mut self, other: &Screen, first: usize, past: usize, is_framed: bool)
+        requires { IsNear first past is_framed other.now.display self.old.display }
+        ensures { self.new ≡ other.now }
+    {
+        self.display
+            .catch_up(other.display(), first, past, is_framed);
+        self.last = other.last;
     }
 
     /// What a character does before anything scrolls: where autowrap comes before it, the cursor's row

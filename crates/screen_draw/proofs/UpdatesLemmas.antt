@@ -19,10 +19,14 @@ use Rattle.anstyle_parse.proofs.Canonical.Replay.{replay}
 use Rattle.anstyle_parse.proofs.Written.Output.{Adds-append}
 use Rattle.ansi_screen.specs.After.{State, after_all, Shows}
 use Rattle.ansi_screen.specs.Reachable.{IsScreen, HasContents}
+use Rattle.ansi_screen.specs.Display.{Display}
+use Rattle.ansi_screen.specs.Following.{HasFrameOf, IsNear}
 use Rattle.ansi_screen.proofs.KeptCalls.{kept-after_all}
 use Rattle.ansi_screen.proofs.ContentCalls.{contents-after_all}
 use Rattle.ansi_screen.proofs.SizeLemmas.{HasSize, sized-after_all}
 use Rattle.ansi_screen.proofs.LawLemmas.{after_all-append, Shows-only}
+use Rattle.screen_draw.specs.declared.changed.Changed.{Changed}
+use Rattle.screen_draw.specs.Changed.{Keeps, KeepsFrame}
 use Rattle.screen_draw.specs.Draw.{drawn_calls}
 use Rattle.screen_draw.specs.Drawing.{IsDrawing, Draws}
 use Rattle.screen_draw.specs.Redrawn.{as_shown}
@@ -234,3 +238,24 @@ begins sink shown first a b c same added drawing none =
 -- no update yet
 pub no-updates : {W : Type 0} (sink : SinkOf W) (a : Output W) → Draws sink [] a a
 no-updates sink a = record { added = Adds-nil sink a; drawing = tt }
+
+-- A screen is near to one that has noted what differs.
+near-frame : (shown d : Display) → KeepsFrame shown d → HasFrameOf d shown
+near-frame shown d keeps = record {
+  alternate = sym keeps.alternate;
+  hidden = sym keeps.hidden;
+  saved = sym keeps.saved;
+  hidden_saved = sym keeps.hidden_saved;
+  top = sym keeps.top;
+  bottom = sym keeps.bottom;
+  tabs = sym keeps.tabs;
+}
+
+pub near-noted : (changed : Changed) (shown d : Display) → Keeps changed shown d → IsNear changed.first changed.past changed.is_framed d shown
+near-noted changed shown d keeps = record {
+  width = sym keeps.width;
+  height = sym keeps.height;
+  above = λ row below before. sym (keeps.above row below before);
+  below = λ row below behind. sym (keeps.below row below behind);
+  frame = λ unframed. near-frame shown d (keeps.frame unframed);
+}

@@ -17,7 +17,8 @@ const PIECE: usize = 65_536;
 /// to, until the reader ends or fails or a write fails, of which none has before. What was written is handed on before
 /// the next read. At most 2^64 - 1 reads are made. No memory is taken.
 ///
-/// Of the rows only those are compared that the bytes of a read can have changed.
+/// Of the rows only those are compared, and then copied, that the bytes of a read can have changed. Each byte is given
+/// to one parser, once.
 ///
 /// Both screens are the one that is drawn first; in the end `wanted` has the last one. `Err(Fault::Write)` means
 /// that a write failed, and nothing was read after it; `Err(Fault::Read)` that a read failed, or that 2^64 - 1
@@ -40,7 +41,6 @@ pub fn update_to_end<R: Source, W: Sink>(
     if output.fault().is_some() {
         return Err(Fault::Write);
     }
-    let mut behind = Parser::<Utf8Parser>::new();
     let mut parser = Parser::<Utf8Parser>::new();
     let mut piece = [0; PIECE];
     for turn in 0..u64::MAX {
@@ -55,7 +55,13 @@ pub fn update_to_end<R: Source, W: Sink>(
                 if output.fault().is_some() {
                     return Err(Fault::Write);
                 }
-                behind.advance_texts(shown, &piece[..count]);
+                let changed = wanted.changed();
+                shown.catch_up(
+                    wanted.screen(),
+                    changed.first,
+                    changed.past,
+                    changed.is_framed,
+                );
             }
         }
     }

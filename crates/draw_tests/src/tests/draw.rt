@@ -102,6 +102,31 @@ fn a_drawing(rt: HostRuntime) -> Result<(), Fail> {
     Ok(())
 }
 
+/// Makes a screen as another one of its size is: all of it is copied.
+fn catch_up(rt: &impl Abort, screen: &mut Screen, wanted: &Screen)
+    ensures { screen.new ≡ wanted.now }
+{
+    assert!(rt; screen.columns() == wanted.columns() && screen.rows() == wanted.rows());
+    screen.catch_up(wanted, 0, wanted.rows(), true);
+}
+
+/// A screen becomes one with an alternate screen, and then one without.
+#[test]
+fn a_screen_that_catches_up(rt: HostRuntime) -> Result<(), Fail> {
+    let parts = shown(rt.alloc(), PARTS)?;
+    let mut screen = shown(rt.alloc(), b"one\r\ntwo")?;
+    catch_up(&rt, &mut screen, &parts);
+    assert_parts(&rt, &screen);
+    assert_has_parts(&rt, &screen, &parts);
+    let other = shown(rt.alloc(), b"three")?;
+    catch_up(&rt, &mut screen, &other);
+    assert_eq!(rt; screen.cells(), other.cells());
+    assert_eq!(rt; screen.hidden_cells(), other.hidden_cells());
+    assert_eq!(rt; (screen.cursor(), screen.margins()), (place(0, 5), (0, 3)));
+    assert!(rt; !screen.is_alternate() && screen.wraps() && !screen.inserts());
+    Ok(())
+}
+
 /// Writes the update between two screens, which have one size.
 fn put_update(
     rt: &impl Abort,

@@ -9,14 +9,14 @@ use Rattle.anstyle_parse.specs.Views.Parser.{IsAfter}
 use Rattle.anstyle_parse.proofs.Canonical.Items.{AreCalls-nil}
 use Rattle.anstyle_parse.proofs.Written.Output.{None-from_is_some}
 use Rattle.ansi_screen.specs.After.{State, Shows}
-use Rattle.ansi_screen.proofs.LawLemmas.{Shows-only}
+use Rattle.screen_draw.specs.Changed.{Keeps}
 use Rattle.screen_draw.specs.Draw.{drawn_calls}
 use Rattle.screen_draw.specs.Drawing.{Draws}
 use Rattle.screen_draw.specs.Update.{update_calls}
 use Rattle.screen_draw.specs.Updates.{IsPiece, joined}
 use Rattle.screen_draw.specs.Noting.{HasNoted}
 use Rattle.screen_draw.proofs.NotedLemmas.{noted-shows}
-use Rattle.screen_draw.proofs.UpdatesLemmas.{joined-more, last-more, pieces-more, screens-more, text-passed-on, no-updates, begins, draws-more, write-fault, follows}
+use Rattle.screen_draw.proofs.UpdatesLemmas.{joined-more, last-more, pieces-more, screens-more, text-passed-on, no-updates, begins, draws-more, write-fault, follows, near-noted}
 use Rattle.screen_draw.proofs.updates.update_to_end.Goals as goal
 
 pub returns-then-is_some : goal.returns-then-is_some
@@ -41,9 +41,8 @@ loop-turn-init g c = record {
   is_last = refl;
   draws = no-updates g.W.Sink c.pass_on.new.self;
   shows = ([], AreCalls-nil, refl);
-  shows_behind = ([], AreCalls-nil, c.requires.same);
+  same = c.requires.same;
   stands = c.new-parser.ensures.stands;
-  stands_behind = c.new-behind.ensures.stands;
   no_fault = None-from_is_some (fault_in c.pass_on.new.self) (sym (c.is_some.ensures ∙ ap is_some c.fault.ensures) ∙ c.if-is_some.false);
   not_failed = refl;
   counted = omega arith;
@@ -77,9 +76,7 @@ pub update_noted-requires : goal.update_noted-requires
 update_noted-requires g c =
     let before = c.loop-turn.invariant in
     let old = c.forget.new.self in
-    let same : c.loop-turn.shown ≡ old.screen =
-    Shows-only (joined before.pieces) c.args.wanted.now.screen c.loop-turn.shown c.loop-turn.wanted.screen before.shows_behind before.shows
-    ∙ sym c.forget.ensures.screen in
+    let same : c.loop-turn.shown ≡ old.screen = before.same ∙ sym c.forget.ensures.screen in
     record {
       noted = c.advance_texts.ensures.calls.noted c.loop-turn.shown.display
           (subst (λ (s : State). HasNoted old s.display) (sym same) c.forget.ensures.shown);
@@ -103,7 +100,7 @@ returns-then-is_some-2 g c =
       omega (arith, length-take c.in-Some.count c.read.new.into, c.read.auto.into, before.room),
     ) in
     let updated = draws-more g.W.Sink first c.loop-turn.shown next before.screens _ _ _ _ before.draws
-    (Shows-only (joined before.pieces) first _ _ before.shows_behind before.shows ∙ before.is_last)
+    (before.same ∙ before.is_last)
     c.update_noted.ensures.text c.update_noted.ensures.only c.pass_on-in-Some.ensures in
     follows g.R.Source g.W.Sink _ _ first next c.args.output.now c.pass_on.new.self c.pass_on-in-Some.new.self _
     (before.pieces ++ bytes ∷ []) (before.screens ++ next ∷ [])
@@ -116,6 +113,17 @@ returns-then-is_some-2 g c =
           (sym (c.is_some-in-Some.ensures ∙ ap is_some c.fault-in-Some.ensures) ∙ c.if-is_some-2.true),
       c.in-Some.ensures.not_failed ∙ before.not_failed,
     )
+
+-- what differs is noted
+pub catch_up-requires : goal.catch_up-requires
+catch_up-requires g c =
+    let old = c.forget.new.self in
+    let shown = c.loop-turn.shown.display in
+    let same : c.loop-turn.shown ≡ old.screen = c.loop-turn.invariant.same ∙ sym c.forget.ensures.screen in
+    let noted = c.advance_texts.ensures.calls.noted shown (subst (λ (s : State). HasNoted old s.display) (sym same) c.forget.ensures.shown) in
+    near-noted c.changed-changed.result shown c.screen-in-Some.result.now.display
+    (subst (λ changed. Keeps changed shown c.screen-in-Some.result.now.display) (sym c.changed-changed.ensures)
+    (subst (λ (s : State). Keeps c.advance_texts.new.performer.changed shown s.display) (sym c.screen-in-Some.ensures) noted))
 
 pub loop-turn-preserved : goal.loop-turn-preserved
 loop-turn-preserved g c =
@@ -140,14 +148,11 @@ loop-turn-preserved g c =
       are_screens = screens-more first next [] bytes before.pieces before.screens before.are_screens shows;
       is_last = sym (last-more first next before.screens);
       draws = draws-more g.W.Sink first c.loop-turn.shown next before.screens _ _ _ _ before.draws
-          (Shows-only (joined before.pieces) first _ _ before.shows_behind before.shows ∙ before.is_last)
+          (before.same ∙ before.is_last)
           c.update_noted.ensures.text c.update_noted.ensures.only c.pass_on-in-Some.ensures;
       shows = subst (λ l. Shows first l next) more shows;
-      shows_behind = subst (λ l. Shows first l c.advance_texts-in-Some.new.performer) more
-          (c.advance_texts-in-Some.ensures.received first (joined before.pieces) before.stands_behind before.shows_behind);
+      same = c.catch_up.ensures ∙ c.screen-in-Some.ensures;
       stands = subst (IsAfter front_of c.advance_texts.new.self) more (c.advance_texts.ensures.stands (joined before.pieces) before.stands);
-      stands_behind = subst (IsAfter front_of c.advance_texts-in-Some.new.self) more
-          (c.advance_texts-in-Some.ensures.stands (joined before.pieces) before.stands_behind);
       no_fault = None-from_is_some (fault_in c.pass_on-in-Some.new.self) (sym (c.is_some-in-Some.ensures ∙ ap is_some c.fault-in-Some.ensures) ∙ c.if-is_some-2.false);
       not_failed = c.in-Some.ensures.not_failed ∙ before.not_failed;
       counted = omega (arith, before.counted, is_piece.0, ap length more, length-append (joined before.pieces) bytes);

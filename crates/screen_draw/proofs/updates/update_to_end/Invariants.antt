@@ -1,4 +1,4 @@
--- What is read so far was followed, and both screens show it.
+-- What is read so far was followed, and both screens are one.
 use Rattle.std.proofs.Common.{◌≡◌, ◌≤◌, None, List, ℕ, [], length}
 use Rattle.std.specs.List.{AllByRecursion}
 use Rattle.std.specs.Io.KnownBytes.{Consumes}
@@ -20,9 +20,8 @@ invariant-loop-turn g l = record {
   is_last : l.wanted.screen ≡ last_of l.initial.wanted.screen screens;
   draws : Draws g.W.Sink (updates_calls l.initial.wanted.screen screens) l.initial.output l.output;
   shows : Shows l.initial.wanted.screen (joined pieces) l.wanted.screen;
-  shows_behind : Shows l.initial.wanted.screen (joined pieces) l.shown;
+  same : l.shown ≡ l.wanted.screen;
   stands : IsAfter front_of l.parser (joined pieces);
-  stands_behind : IsAfter front_of l.behind (joined pieces);
   no_fault : fault_in l.output ≡ None;
   not_failed : g.R.Source.has_failed l.reader ≡ g.R.Source.has_failed l.initial.reader;
   counted : l.turn ≤ length (joined pieces);

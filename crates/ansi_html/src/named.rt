@@ -1,4 +1,4 @@
-//! What is written of named colours, worked out beforehand: most coloured texts have one, on pages of both kinds.
+//! What is written of texts in named colours, worked out beforehand, for pages of both kinds.
 ghost use Rattle.std.specs.Prelude.{◌≡◌, false, length, IsTrue, IfSome};
 ghost use Rattle.ansi_style.specs.declared.style.Color.TheVariants.{Named, Bright};
 ghost use Rattle.ansi_html.specs.declared.scheme.Scheme.TheVariants.{Both};

@@ -128,3 +128,48 @@ pub window-at-end : (size count front : ℕ) (memory : List Cell)
 window-at-end size count front memory =
     ap (λ n. drop count (take n (drop front memory))) (omega arith)
     ∙ (drop-take count size (drop front memory) ∙ ap (take size) (drop-drop count front memory))
+
+-- A window of which all cells go to another place: back,
+pub placed-back : (size start place : ℕ) (memory part : List Cell) → place ≤ start → start + size ≤ length memory
+    → length part ≡ length (take (start + size - place) (drop place memory))
+    → take (length (take (start + size - place) (drop place memory)) - (start - place)) part
+    ≡ drop (start - place) (take (start + size - place) (drop place memory))
+    → take size (drop place (put_mid place (start + size - place) memory part)) ≡ take size (drop start memory)
+placed-back size start place memory part order window same shifted =
+    let far : ℕ = start - place in
+    let before : List Cell = take place memory in
+    let after : List Cell = post_of place (start + size - place) memory in
+    let before_long : length before ≡ place = length-take-le place memory (omega (arith, order, window)) in
+    let long : length (take (start + size - place) (drop place memory)) ≡ start + size - place =
+    length-take-le (start + size - place) (drop place memory) (omega (arith, length-drop place memory, window)) in
+    let whole : start + size - place ≡ far + size = omega (arith, order) in
+    ap (take size) (drop_at before (part ++ after) place before_long)
+    ∙ (take-append-le size part after (omega (arith, same, long, order))
+    ∙ (ap (λ n. take n part) (omega (arith, long, order))
+    ∙ (shifted
+    ∙ (ap (λ n. drop far (take n (drop place memory))) whole
+    ∙ (drop-take far size (drop place memory)
+    ∙ ap (take size) (drop-drop far place memory ∙ ap (λ n. drop n memory) (omega (arith, order))))))))
+
+-- or on
+pub placed-on : (size start place : ℕ) (memory part : List Cell) → start ≤ place → place + size ≤ length memory
+    → length part ≡ length (take (place + size - start) (drop start memory))
+    → drop (place - start) part
+    ≡ take (length (take (place + size - start) (drop start memory)) - (place - start)) (take (place + size - start) (drop start memory))
+    → take size (drop place (put_mid start (place + size - start) memory part)) ≡ take size (drop start memory)
+placed-on size start place memory part order window same shifted =
+    let far : ℕ = place - start in
+    let before : List Cell = take start memory in
+    let after : List Cell = post_of start (place + size - start) memory in
+    let before_long : length before ≡ start = length-take-le start memory (omega (arith, order, window)) in
+    let long : length (take (place + size - start) (drop start memory)) ≡ place + size - start =
+    length-take-le (place + size - start) (drop start memory) (omega (arith, length-drop start memory, window)) in
+    let moved_long : length (drop far part) ≡ size = length-drop far part ∙ omega (arith, same, long, order) in
+    ap (take size) (ap (λ n. drop n (before ++ (part ++ after))) (omega (arith, order))
+    ∙ (sym (drop-drop far start (before ++ (part ++ after)))
+    ∙ (ap (drop far) (drop_at before (part ++ after) start before_long)
+    ∙ drop-append-le far part after (omega (arith, same, long, order)))))
+    ∙ (take_at (drop far part) after size moved_long
+    ∙ (shifted
+    ∙ (ap (λ n. take n (take (place + size - start) (drop start memory))) (omega (arith, long, order))
+    ∙ take-take size (place + size - start) (drop start memory) (omega (arith, order)))))

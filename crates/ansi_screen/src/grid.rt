@@ -1,4 +1,4 @@
-//! The cells of a screen, in memory in which all of them can move on.
+//! The cells of a screen, in memory in which all of them can move on or back.
 ghost use Rattle.std.specs.Prelude.{◌≡◌, ◌+◌, ◌<◌, ◌≤◌, length, take, drop, replicate, IfOk};
 ghost use Rattle.ansi_style.specs.Style.{plain};
 ghost use Rattle.ansi_screen.specs.Cells.{blank, marked_before, going_on, within, change, erased, moved_back, moved_on, deleted, inserted};
@@ -13,10 +13,10 @@ use std::alloc::{AllocError, Global};
 use std::marker::Model;
 
 /// How many cells there are beside those of two windows: the window of a small screen moves through them, and seldom
-/// goes back to the front.
+/// has to go to another place with all its cells.
 const SPARE: usize = 16384;
 
-/// Cells, of which a window is shown. Where all rows scroll up, the window moves instead of them.
+/// Cells, of which a window is shown. Where most rows scroll, the window moves instead of them.
 #[derive(Drop)]
 pub(crate) struct Grid {
     /// Twice as many as are shown, and `SPARE` more.
@@ -220,7 +220,8 @@ impl Grid {
         self.is_written = true;
         let (start, size) = (self.start, self.size);
         let memory = self.memory.as_mut_slice();
-        if window::moves(memory.len(), size, first, last, count) {
+        let has_room = count <= start;
+        if window::moves(memory.len(), size, first, last, count, has_room) {
             self.start = window::go_back(memory, start, size, first, last, count, blank);
         } else {
             let shown = &mut memory[start..start + size];
@@ -238,7 +239,8 @@ impl Grid {
         self.is_written = true;
         let (start, size) = (self.start, self.size);
         let memory = self.memory.as_mut_slice();
-        if window::moves(memory.len(), size, first, last, count) {
+        let has_room = count <= memory.len() - size - start;
+        if window::moves(memory.len(), size, first, last, count, has_room) {
             self.start = window::go_on(memory, start, size, first, last, count, blank);
         } else {
             let shown = &mut memory[start..start + size];

@@ -1,5 +1,5 @@
-//! Cells that all move by as many places, on or back. Where they go far, a block of them is copied at a time, which costs
-//! less than cell by cell.
+//! Cells that all move by as many places, on or back. Where they go far, a block of them is copied at a time: that
+//! costs less than cell by cell.
 ghost use Rattle.std.specs.Prelude.{◌≡◌, ◌+◌, ◌-◌, ◌<◌, ◌≤◌, ◌++◌, length, take, drop};
 
 use crate::cell::Cell;
@@ -62,22 +62,6 @@ fn shift_on_by_blocks(cells: &mut [Cell], count: usize)
         let size = count.min(left);
         left -= size;
         copy_on(cells, left, left + count, size);
-    }
-}
-
-/// Copies so many cells to another place, at once where both places are apart.
-pub(crate) fn copy(cells: &mut [Cell], from: usize, to: usize, size: usize)
-    requires from { from + size ≤ length cells.old }
-    requires to { to + size ≤ length cells.old }
-    ensures length { length cells.new ≡ length cells.old }
-    ensures copied { cells.new ≡ take to cells.old ++ (take size (drop from cells.old) ++ drop (to + size) cells.old) }
-{
-    if to + size <= from {
-        copy_back(cells, from, to, size);
-    } else if from + size <= to {
-        copy_on(cells, from, to, size);
-    } else {
-        cells.copy_within(from..from + size, to);
     }
 }
 

@@ -1,15 +1,24 @@
-//! A window on cells in memory: where some of its cells move, it can be that the window moves instead, and with it the
-//! fewer cells that stay.
+//! A window on cells in memory: where most of its cells move, the window moves instead, and with it the fewer cells
+//! that stay.
 ghost use Rattle.std.specs.Prelude.{◌≡◌, ◌+◌, ◌-◌, ◌≤◌, IsTrue, length, take, drop};
 ghost use Rattle.ansi_screen.specs.Cells.{within, moved_back, moved_on};
 
 use crate::cell::Cell;
 use crate::runs;
-use crate::shifts::{copy, shift_back, shift_on};
+use crate::shifts::{shift_back, shift_on};
 
-/// Whether a move by `count` of the cells from `first` up to `last` of a window of so many costs less where the window
-/// moves, and the cells outside with it. The memory must have room for that.
-pub(crate) fn moves(memory: usize, size: usize, first: usize, last: usize, count: usize) -> bool
+/// Whether the window moves, and the cells outside with it, where the cells from `first` up to `last` of a window of
+/// so many move by `count`: where fewer are outside than would move. `has_room` says that the memory has room on that
+/// side. Where it has not, the window first goes to another place, with all cells: then there has to be room for
+/// at least two such moves.
+pub(crate) fn moves(
+    memory: usize,
+    size: usize,
+    first: usize,
+    last: usize,
+    count: usize,
+    has_room: bool,
+) -> bool
     requires order { first ≤ last }
     requires within { last ≤ size }
     ensures between { IsTrue result → first + count ≤ last }
@@ -17,7 +26,11 @@ pub(crate) fn moves(memory: usize, size: usize, first: usize, last: usize, count
 {
     let between = last - first;
     let outside = size - between;
-    count < between && outside < between - count && size <= memory && count <= memory - size
+    count < between
+        && outside < between - count
+        && size <= memory
+        && count <= memory - size
+        && (has_room || count <= (memory - size - count) / 2)
 }
 
 /// The cells from `first` up to `last` of the window of so many from `start` on move back by `count`, and blanks
@@ -82,8 +95,8 @@ pub(crate) fn go_back(
     front
 }
 
-/// Where the window has room for `count` cells behind it: where it is, or else nearer to the front, to which its cells go.
-/// There it can go back for a while too.
+/// Where the window has room for `count` cells behind it: where it is, or else nearer to the front, to which its cells
+/// go. From there it can go back for a while too.
 fn with_room_behind(memory: &mut [Cell], start: usize, size: usize, count: usize) -> usize
     requires window { start + size ≤ length memory.old }
     requires room { size + count ≤ length memory.old }
@@ -93,12 +106,11 @@ fn with_room_behind(memory: &mut [Cell], start: usize, size: usize, count: usize
 {
     let spare = memory.len() - (size + count);
     if start <= spare {
-        start
-    } else {
-        let front = spare / 4;
-        copy(memory, start, front, size);
-        front
+        return start;
     }
+    let front = (spare / 4).saturating_sub(count);
+    place_back(memory, start, size, front);
+    front
 }
 
 /// Where the room for `count` cells before the window begins: before where it is, or else before a place nearer to the
@@ -111,17 +123,36 @@ fn with_room_before(memory: &mut [Cell], start: usize, size: usize, count: usize
     ensures cells { take size (drop (result + count) memory.new) ≡ take size (drop start memory.old) }
 {
     if count <= start {
-        start - count
-    } else {
-        let spare = memory.len() - (size + count);
-        let front = spare - spare / 4;
-        copy(memory, start, front + count, size);
-        front
+        return start - count;
     }
+    let spare = memory.len() - (size + count);
+    let front = spare - (spare / 4).saturating_sub(count);
+    place_on(memory, start, size, front + count);
+    front
 }
 
-/// All but the last `count` cells go on by these; those from `first + count` up to `last` stay where they are, and blanks
-/// follow them.
+/// The cells of a window go back to a place.
+fn place_back(memory: &mut [Cell], start: usize, size: usize, place: usize)
+    requires order { place ≤ start }
+    requires window { start + size ≤ length memory.old }
+    ensures length { length memory.new ≡ length memory.old }
+    ensures cells { take size (drop place memory.new) ≡ take size (drop start memory.old) }
+{
+    shift_back(&mut memory[place..start + size], start - place);
+}
+
+/// The cells of a window go on to a place.
+fn place_on(memory: &mut [Cell], start: usize, size: usize, place: usize)
+    requires order { start ≤ place }
+    requires window { place + size ≤ length memory.old }
+    ensures length { length memory.new ≡ length memory.old }
+    ensures cells { take size (drop place memory.new) ≡ take size (drop start memory.old) }
+{
+    shift_on(&mut memory[start..place + size], place - start);
+}
+
+/// The cells before `first` and those from `last` on go on by `count`, into the last `count` cells. Those from
+/// `first + count` up to `last` stay where they are, and blanks follow them.
 fn carry_on(cells: &mut [Cell], first: usize, last: usize, count: usize, blank: Cell)
     requires between { first + count ≤ last }
     requires within { last + count ≤ length cells.old }
@@ -134,8 +165,8 @@ fn carry_on(cells: &mut [Cell], first: usize, last: usize, count: usize, blank: 
     runs::move_on(back, count, blank);
 }
 
-/// All but the first `count` cells go back by these; those from `first + count` up to `last` stay where they are, and
-/// blanks come before them.
+/// The window begins behind the first `count` cells. Its cells before `first` and those from `last` on go back by these;
+/// the others stay where they are, but for the last `count` of them, and blanks come before them.
 fn carry_back(cells: &mut [Cell], first: usize, last: usize, count: usize, blank: Cell)
     requires between { first + count ≤ last }
     requires within { last + count ≤ length cells.old }

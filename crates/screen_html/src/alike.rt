@@ -26,7 +26,7 @@ fn attributes(style: &Style) -> u64
 
 /// Whether two colours are the same. Most are the default one.
 #[inline(always)]
-fn is_color(color: Color, other: Color) -> bool
+fn are_same_colors(color: Color, other: Color) -> bool
     ensures { IsTrue result → color ≡ other }
 {
     if matches!(other, Color::Default) {
@@ -38,7 +38,7 @@ fn is_color(color: Color, other: Color) -> bool
 
 /// Whether what makes up two styles is the same.
 #[inline(always)]
-fn is_style(style: &Style, other: &Style) -> bool
+fn are_same_styles(style: &Style, other: &Style) -> bool
     ensures attributes { IsTrue result
         → from_le_bytes w64 (attributes_of style.now) ≡ from_le_bytes w64 (attributes_of other.now) }
     ensures underline { IsTrue result → style.now.underline ≡ other.now.underline }
@@ -47,8 +47,8 @@ fn is_style(style: &Style, other: &Style) -> bool
 {
     attributes(style) == attributes(other)
         && style.underline == other.underline
-        && is_color(style.foreground, other.foreground)
-        && is_color(style.background, other.background)
+        && are_same_colors(style.foreground, other.foreground)
+        && are_same_colors(style.background, other.background)
 }
 
 /// Whether a cell has the link and the style of another one.
@@ -57,5 +57,5 @@ pub(crate) fn is_alike(cell: &Cell, other: &Cell) -> bool
     ensures link { IsTrue result → cell.now.link ≡ other.now.link }
     ensures style { IsTrue result → cell.now.style ≡ other.now.style }
 {
-    cell.link == other.link && is_style(&cell.style, &other.style)
+    cell.link == other.link && are_same_styles(&cell.style, &other.style)
 }

@@ -1,5 +1,4 @@
 -- One character more.
-use Rattle.std.proofs.Common.{ap, ◌∙◌}
 use Rattle.ansi_screen.proofs.RunLemmas.{fill-on}
 use Rattle.ansi_screen.proofs.runs.fill.Goals as goal
 

@@ -7,7 +7,6 @@ pub mod Classes
 pub mod Stylesheet
 pub mod Links
 pub mod Html
-pub mod Named
 pub mod Reader
 pub mod Grammar
 pub mod Verbatim

@@ -5,7 +5,6 @@ ghost use Rattle.ansi_style.specs.Style.{plain};
 ghost use Rattle.ansi_html.specs.Css.{css};
 ghost use Rattle.ansi_html.specs.Classes.{class_names, classes_of};
 ghost use Rattle.ansi_html.specs.Grammar.{is_special, AreClear, BeginWithClear};
-ghost use Rattle.ansi_html.specs.Named.{span_of};
 ghost use Rattle.ansi_html.specs.ShownLinks.{shown_link, selected_link};
 ghost use Rattle.ansi_html.specs.Html.{line_break, beginning, value_of, attribute_text, span_begin, span_end, link_begin, link_end, element, element_begin, element_end, change, escaped, escaped_text};
 
@@ -13,7 +12,6 @@ use crate::chunks::{CHUNK, are_last_clear, specials};
 use crate::class::put_classes;
 use crate::css::{is_plain, put_css};
 use crate::link::{Links, is_link_command};
-use crate::named::worked_out_span;
 use crate::scheme::{Scheme, Styling};
 use crate::standing::{Element, Standing};
 use ansi_strip::is_layout;
@@ -333,19 +331,8 @@ fn put_span<W: Sink>(output: &mut Output<W>, styling: Styling, style: &Style)
         output.old output.new }
 {
     match styling {
-        Styling::Inline(scheme) => put_styled_span(output, scheme, style),
+        Styling::Inline(scheme) => put_css_between(output, b"<span style=\"", scheme, *style),
         Styling::Classes => put_classes_between(output, b"<span class=\"", false, *style),
-    }
-}
-
-/// The same by declarations.
-#[inline(always)]
-fn put_styled_span<W: Sink>(output: &mut Output<W>, scheme: Scheme, style: &Style)
-    ensures { Adds W.Sink (span_of scheme style.now) output.old output.new }
-{
-    match worked_out_span(scheme, style) {
-        Some(text) => output.put(text),
-        None => put_css_between(output, b"<span style=\"", scheme, *style),
     }
 }
 

@@ -19,7 +19,7 @@ const SPARE: usize = 16384;
 /// Cells, of which a window is shown. Where most rows scroll, the window moves instead of them.
 #[derive(Drop)]
 pub(crate) struct Grid {
-    /// As many of them as were made use of. There is memory for twice as many as are shown, and `SPARE` more.
+    /// Twice as many as are shown, and `SPARE` more.
     memory: Vec<Cell>,
     /// Where those that are shown begin.
     start: usize,
@@ -51,27 +51,13 @@ impl Grid {
         ensures { IfOk result (λ grid. grid ≡ replicate size (blank plain)) }
     {
         let blank = Cell::blank(Style::default());
-        let mut memory = Vec::with_capacity(alloc, 2 * size + SPARE)?;
-        // (there is memory for them)
-        memory.resize(size, blank)?;
+        let memory = Vec::from_elem(alloc, blank, 2 * size + SPARE)?;
         Ok(Grid {
             memory,
             start: 0,
             size,
             is_written: false,
         })
-    }
-
-    /// Makes use of the memory up to so many cells, as far as there is some. So memory that no window comes to is not
-    /// written.
-    fn reach(&mut self, end: usize)
-        ensures { self.new ≡ self.old }
-    {
-        let end = end.min(self.memory.capacity());
-        if self.memory.len() < end {
-            let blank = Cell::blank(Style::default());
-            let _ = self.memory.resize(end, blank);
-        }
     }
 
     /// How many cells are shown.
@@ -231,9 +217,6 @@ impl Grid {
         ensures cells { self.new ≡ within first last (moved_on count blank) self.old }
         ensures length { length self.new ≡ length self.old }
     {
-        if self.start < count && window::pays(self.size, first, last, count) {
-            self.reach(usize::MAX);
-        }
         self.is_written = true;
         let (start, size) = (self.start, self.size);
         let memory = self.memory.as_mut_slice();
@@ -253,8 +236,6 @@ impl Grid {
         ensures cells { self.new ≡ within first last (moved_back count blank) self.old }
         ensures length { length self.new ≡ length self.old }
     {
-        let end = self.start + self.size;
-        self.reach(end.saturating_add(count.min(self.size)));
         self.is_written = true;
         let (start, size) = (self.start, self.size);
         let memory = self.memory.as_mut_slice();

@@ -7,20 +7,10 @@ use crate::cell::Cell;
 use crate::runs;
 use crate::shifts::{shift_back, shift_on};
 
-/// Whether it costs less to move the window by `count`, and with it the cells before `first` and from `last` on, than to
-/// move the cells between.
-pub(crate) fn pays(size: usize, first: usize, last: usize, count: usize) -> bool
-    requires order { first ≤ last }
-    requires within { last ≤ size }
-    ensures between { IsTrue result → first + count ≤ last }
-{
-    let between = last - first;
-    let outside = size - between;
-    count < between && outside < between - count
-}
-
-/// Whether the window moves so: where that pays, and the memory has room on that side. Where it has not, the window
-/// first goes to another place, with all cells: then there has to be room for at least two such moves.
+/// Whether the window moves, and the cells outside with it, where the cells from `first` up to `last` of a window of
+/// so many move by `count`: where fewer are outside than would move. `has_room` says that the memory has room on that
+/// side. Where it has not, the window first goes to another place, with all cells: then there has to be room for
+/// at least two such moves.
 pub(crate) fn moves(
     memory: usize,
     size: usize,
@@ -34,7 +24,10 @@ pub(crate) fn moves(
     ensures between { IsTrue result → first + count ≤ last }
     ensures room { IsTrue result → size + count ≤ memory }
 {
-    pays(size, first, last, count)
+    let between = last - first;
+    let outside = size - between;
+    count < between
+        && outside < between - count
         && size <= memory
         && count <= memory - size
         && (has_room || count <= (memory - size - count) / 2)

@@ -240,54 +240,11 @@ impl Grid {
         let (start, size) = (self.start, self.size);
         let memory = self.memory.as_mut_slice();
         let has_room = count <= memory.len() - size - start;
-        if last - first == size {
-            self.start = go_on(memory, start, size, count, blank);
-        } else if window::moves(memory.len(), size, first, last, count, has_room) {
+        if window::moves(memory.len(), size, first, last, count, has_room) {
             self.start = window::go_on(memory, start, size, first, last, count, blank);
         } else {
             let shown = &mut memory[start..start + size];
             runs::move_back(&mut shown[first..last], count, blank);
         }
     }
-}
-
-/// The window of so many cells from `start` on goes on by as many as `count`, and blanks come into
-/// it. The answer is where it begins then.
-fn go_on(memory: &mut [Cell], start: usize, size: usize, count: usize, blank: Cell) -> usize
-    requires window { start + size ≤ length memory.old }
-    ensures window { result + size ≤ length memory.new }
-    ensures cells { take size (drop result memory.new) ≡ moved_back count blank (take size (drop start memory.old)) }
-{
-    let count = count.min(size);
-    let kept = size - count;
-    let first = with_room(memory, start + count, kept, size);
-    clear(memory, first + kept, first + size, blank);
-    first
-}
-
-/// Where a window of so many cells has room whose first are the `kept` ones from `start` on: there, or
-/// else at the front, to which these go.
-fn with_room(memory: &mut [Cell], start: usize, kept: usize, size: usize) -> usize
-    requires few { kept ≤ size }
-    requires kept { start + kept ≤ length memory.old }
-    requires room { size ≤ length memory.old }
-    ensures length { length memory.new ≡ length memory.old }
-    ensures room { result + size ≤ length memory.new }
-    ensures cells { take kept (drop result memory.new) ≡ take kept (drop start memory.old) }
-{
-    if start + size <= memory.len() {
-        start
-    } else {
-        window::place_back(memory, start, kept, 0);
-        0
-    }
-}
-
-/// Blanks from `start` up to `end`, without a look at halves of wide characters.
-fn clear(cells: &mut [Cell], start: usize, end: usize, blank: Cell)
-    requires order { start ≤ end }
-    requires within { end ≤ length cells.old }
-    ensures { cells.new ≡ within start end (erased blank) cells.old }
-{
-    runs::clear(&mut cells[start..end], blank);
 }

@@ -95,7 +95,8 @@ pub(crate) fn go_back(
     front
 }
 
-/// Where the window has room for `count` cells behind it: where it is, or else at the front, to which its cells go.
+/// Where the window has room for `count` cells behind it: where it is, or else nearer to the front, to which its cells
+/// go. From there it can go back for a while too.
 fn with_room_behind(memory: &mut [Cell], start: usize, size: usize, count: usize) -> usize
     requires window { start + size ≤ length memory.old }
     requires room { size + count ≤ length memory.old }
@@ -107,8 +108,9 @@ fn with_room_behind(memory: &mut [Cell], start: usize, size: usize, count: usize
     if start <= spare {
         return start;
     }
-    place_back(memory, start, size, 0);
-    0
+    let front = (spare / 4).saturating_sub(count);
+    place_back(memory, start, size, front);
+    front
 }
 
 /// Where the room for `count` cells before the window begins: before where it is, or else before a place nearer to the
@@ -130,7 +132,7 @@ fn with_room_before(memory: &mut [Cell], start: usize, size: usize, count: usize
 }
 
 /// The cells of a window go back to a place.
-pub(crate) fn place_back(memory: &mut [Cell], start: usize, size: usize, place: usize)
+fn place_back(memory: &mut [Cell], start: usize, size: usize, place: usize)
     requires order { place ≤ start }
     requires window { start + size ≤ length memory.old }
     ensures length { length memory.new ≡ length memory.old }

@@ -1,6 +1,5 @@
 pub mod ContrastLemmas
 pub mod ColorLemmas
-pub mod NamedLemmas
 pub mod HtmlLemmas
 pub mod ChunkLemmas
 pub mod EndLemmas

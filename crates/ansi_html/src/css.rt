@@ -6,7 +6,6 @@ ghost use Rattle.ansi_html.specs.Css.{declared as declared_color, light_dark, th
 ghost use Rattle.ansi_html.specs.Html.{is_plain};
 
 use crate::contrast::{BLACK, Rgb, WHITE};
-use crate::named::worked_out;
 use crate::palette::{Shades, shades_of};
 use crate::scheme::Scheme;
 use ansi_style::{Color, Style, Underline};
@@ -53,44 +52,10 @@ fn put_light_dark<W: Sink>(output: &mut Output<W>, property: &[u8], light: Rgb, 
     ensures { Adds W.Sink (light_dark property.now light dark) output.old output.new }
 {
     output.put(property);
-    put_both(output, light, dark);
-}
-
-/// Both colours, at once.
-fn put_both<W: Sink>(output: &mut Output<W>, light: Rgb, dark: Rgb)
-    ensures { Adds W.Sink (codes "light-dark(" ++ (hex light ++ (codes "," ++ (hex dark ++ codes ");"))))
-        output.old output.new }
-{
-    output.put(&[
-        b'l',
-        b'i',
-        b'g',
-        b'h',
-        b't',
-        b'-',
-        b'd',
-        b'a',
-        b'r',
-        b'k',
-        b'(',
-        b'#',
-        digit(light.red / 16),
-        digit(light.red),
-        digit(light.green / 16),
-        digit(light.green),
-        digit(light.blue / 16),
-        digit(light.blue),
-        b',',
-        b'#',
-        digit(dark.red / 16),
-        digit(dark.red),
-        digit(dark.green / 16),
-        digit(dark.green),
-        digit(dark.blue / 16),
-        digit(dark.blue),
-        b')',
-        b';',
-    ]);
+    output.put(b"light-dark(");
+    put_hex(output, light, b',');
+    put_hex(output, dark, b')');
+    output.put(b";");
 }
 
 /// The same for the pages of the scheme.
@@ -169,16 +134,6 @@ fn dark_text(dim: bool, shades: Shades) -> Rgb
 /// A text on the page's ground.
 #[inline(always)]
 pub(crate) fn put_on_page<W: Sink>(output: &mut Output<W>, scheme: Scheme, dim: bool, text: Color)
-    ensures { Adds W.Sink (on_page scheme dim text) output.old output.new }
-{
-    match worked_out(scheme, dim, text) {
-        Some(declared) => output.put(declared),
-        None => put_shades_on_page(output, scheme, dim, text),
-    }
-}
-
-/// The same of any colour.
-fn put_shades_on_page<W: Sink>(output: &mut Output<W>, scheme: Scheme, dim: bool, text: Color)
     ensures { Adds W.Sink (on_page scheme dim text) output.old output.new }
 {
     let shades = shades_of(text);

@@ -36,7 +36,6 @@ pub mod contrast;
 mod css;
 pub mod laws;
 mod link;
-mod named;
 mod nearest;
 mod palette;
 mod performer;

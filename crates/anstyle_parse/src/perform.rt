@@ -1,9 +1,11 @@
 //! What a parser calls.
-ghost use Rattle.std.specs.Prelude.{map, ⊤, List, [], ◌∷◌, ◌++◌};
+ghost use Rattle.std.specs.Prelude.{map, ⊤, ◌≤◌, ℕ, Bool, IsTrue, List, [], ◌∷◌, ◌++◌, length, take};
 ghost use Rattle.anstyle_parse.specs.Stream.Call.{Call, print, execute, hook, put, unhook, osc_dispatch, csi_dispatch, esc_dispatch};
+ghost use Rattle.anstyle_parse.specs.Stream.Items.{EachIs};
 ghost use Rattle.anstyle_parse.specs.Stream.Texts.{text_calls, layout_calls};
+ghost use Rattle.anstyle_parse.specs.Views.Texts.{is_text_byte};
 
-use crate::layout::split_at_layout;
+use crate::layout::{is_layout, split_at_layout};
 use crate::params::Params;
 
 /// Receives the calls that a [`Parser`](crate::Parser) makes of its bytes.
@@ -134,6 +136,42 @@ pub trait PerformText: Perform {
             self.execute(control);
             rest = behind;
         }
+    }
+
+    /// A text that stands at the front of sixteen bytes, the first `count` of them, and is of characters of one byte
+    /// alone: as by `print_with_layout`. What comes behind it in `chunk` is no part of the text: it is there so that an
+    /// implementation can look at all sixteen bytes at once, or copy them, whatever `count` is.
+    ///
+    /// Where an implementation does not write it, layout with which the text begins is executed, and what comes behind
+    /// that goes to `print_with_layout`.
+    #[inline]
+    fn print_front(&mut self, chunk: &[u8; 16], count: usize)
+        requires within { count ≤ length chunk.now }
+        requires text { EachIs is_text_byte (take count chunk.now) }
+        ensures { receives self.old (layout_calls (take count chunk.now)) self.new }
+    {
+        let (mut rest, _) = chunk.split_at(count);
+        'layout: while let Some((first, behind)) = rest.split_first() {
+            if !is_layout(*first) {
+                // Each byte of it is a character.
+                self.print_with_layout(unsafe { str::from_utf8_unchecked(rest) });
+                break;
+            }
+            self.execute(*first);
+            rest = behind;
+        }
+    }
+
+    /// Whether control sequences leave it as it is, as it stands, whatever they say.
+    ///
+    /// [`Parser::advance_heeded`](crate::Parser::advance_heeded) asks it. Where the answer is true, the parser need not
+    /// read what a sequence says, nor call [`Perform::csi_dispatch`].
+    #[inline(always)]
+    fn passes_over_control_sequences(&self) -> bool
+        ensures { IsTrue result → (groups : List (List ℕ)) (collected : List ℕ) (ignore : Bool) (final : ℕ)
+            → receives self.now (csi_dispatch groups collected ignore final ∷ []) self.now }
+    {
+        false
     }
 
     // No call leaves it as it is; one does what it means; a list and then another do what both

@@ -117,6 +117,12 @@ impl<'a> PerformText for SliceWriter<'a> {
         self.put_bytes(text.as_bytes());
     }
 
+    /// They do: nothing is put of them.
+    #[inline(always)]
+    fn passes_over_control_sequences(&self) -> bool {
+        true
+    }
+
     ghost receives_none = { Puts-none };
 
     ghost receives_one = { Puts-one };

@@ -1,4 +1,6 @@
 pub mod ContrastLemmas
+pub mod DigitLemmas
+pub mod TagLemmas
 pub mod ColorLemmas
 pub mod HtmlLemmas
 pub mod ChunkLemmas

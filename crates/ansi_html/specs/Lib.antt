@@ -1,6 +1,7 @@
 pub mod Contrast
 pub mod Palette
 pub mod Css
+pub mod Tags
 pub mod Chunks
 pub mod Nearest
 pub mod Classes

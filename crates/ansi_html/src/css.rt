@@ -1,27 +1,17 @@
 //! A style as CSS declarations.
 ghost use Rattle.std.specs.Prelude.{◌≡◌, ◌<◌, ◌++◌, ◌∷◌, ◌||◌, [], codes};
 ghost use Rattle.anstyle_parse.specs.Io.Output.{Adds};
-ghost use Rattle.ansi_html.specs.Palette.{hex_digit, hex};
-ghost use Rattle.ansi_html.specs.Css.{declared as declared_color, light_dark, themed, is_chosen, text_of, behind_of, light_text, dark_text, on_page, reversed_text, reversed_ground, on_reversed, color_on, text_on, on_chosen, colors_css, text_if, is_underlined, lines_css, underline_css, css};
+ghost use Rattle.ansi_html.specs.Palette.{hex};
+ghost use Rattle.ansi_html.specs.Css.{declared as declared_color, light_dark, themed, is_chosen, text_of, behind_of, light_text, dark_text, on_page, reversed_text, reversed_ground, color_on, text_on, text_if, is_underlined, lines_css, underline_css, others_css};
+ghost use Rattle.ansi_html.specs.Tags.{rare_css};
 ghost use Rattle.ansi_html.specs.Html.{is_plain};
 
 use crate::contrast::{BLACK, Rgb, WHITE};
+use crate::digits::digit;
 use crate::palette::{Shades, shades_of};
 use crate::scheme::Scheme;
 use ansi_style::{Color, Style, Underline};
 use anstyle_parse::canon::{Output, Sink};
-
-/// The last hexadecimal digit of a number, in lower case.
-fn digit(number: u8) -> u8
-    ensures { result ≡ hex_digit number }
-{
-    let last = number % 16;
-    if last < 10 {
-        b'0' + last
-    } else {
-        b'a' - 10 + last
-    }
-}
 
 /// Red, green and blue in hexadecimal, and the byte that ends them.
 fn put_hex<W: Sink>(output: &mut Output<W>, color: Rgb, end: u8)
@@ -79,7 +69,8 @@ fn put_themed<W: Sink>(
 }
 
 /// Whether a colour is not the default.
-fn is_chosen(color: Color) -> bool
+#[inline(always)]
+pub(crate) fn is_chosen(color: Color) -> bool
     ensures { result ≡ is_chosen color }
 {
     !matches!(color, Color::Default)
@@ -110,7 +101,7 @@ pub(crate) fn behind_of(style: Style) -> Color
 }
 
 /// The shade of a text that is read on light pages.
-fn light_text(dim: bool, shades: Shades) -> Rgb
+pub(crate) fn light_text(dim: bool, shades: Shades) -> Rgb
     ensures { result ≡ light_text dim shades }
 {
     if dim {
@@ -121,7 +112,7 @@ fn light_text(dim: bool, shades: Shades) -> Rgb
 }
 
 /// The shade of a text that is read on dark pages.
-fn dark_text(dim: bool, shades: Shades) -> Rgb
+pub(crate) fn dark_text(dim: bool, shades: Shades) -> Rgb
     ensures { result ≡ dark_text dim shades }
 {
     if dim {
@@ -162,14 +153,6 @@ pub(crate) fn put_reversed_ground<W: Sink>(output: &mut Output<W>, scheme: Schem
     put_themed(output, scheme, b"background-color:", BLACK, WHITE);
 }
 
-/// Both.
-fn put_on_reversed<W: Sink>(output: &mut Output<W>, scheme: Scheme, dim: bool, text: Color)
-    ensures { Adds W.Sink (on_reversed scheme dim text) output.old output.new }
-{
-    put_reversed_text(output, scheme, dim, text);
-    put_reversed_ground(output, scheme);
-}
-
 /// What is written on a ground that is chosen: white or black where no colour is chosen for it.
 fn color_on(text: Color, behind: Rgb) -> Rgb
     ensures { result ≡ color_on text behind }
@@ -188,30 +171,6 @@ pub(crate) fn text_on(dim: bool, text: Color, behind: Rgb) -> Rgb
 {
     let color = color_on(text, behind);
     if dim { color.dim_on(behind) } else { color }
-}
-
-/// A text on a ground that is chosen.
-fn put_on_chosen<W: Sink>(output: &mut Output<W>, dim: bool, text: Color, behind: Rgb)
-    ensures { Adds W.Sink (on_chosen dim text behind) output.old output.new }
-{
-    put_declared(output, b"color:", text_on(dim, text, behind));
-    put_declared(output, b"background-color:", behind);
-}
-
-/// The colours, where any is selected.
-#[tactic(auto, unfolding(crate::specs::Css::colors_css))]
-fn put_colors<W: Sink>(output: &mut Output<W>, scheme: Scheme, style: Style)
-    ensures { Adds W.Sink (colors_css scheme style) output.old output.new }
-{
-    let text = text_of(style);
-    let behind = behind_of(style);
-    if is_chosen(behind) {
-        put_on_chosen(output, style.dim, text, shades_of(behind).fixed);
-    } else if style.reverse {
-        put_on_reversed(output, scheme, style.dim, text);
-    } else if is_chosen(text) || style.dim {
-        put_on_page(output, scheme, style.dim, text);
-    }
 }
 
 /// The text, where it is wanted.
@@ -309,12 +268,33 @@ pub(crate) fn underline_css(underline: Underline) -> &'static [u8]
     }
 }
 
-/// Writes the declarations of a style.
-pub(crate) fn put_css<W: Sink>(output: &mut Output<W>, scheme: Scheme, style: Style)
-    ensures { Adds W.Sink (css scheme style) output.old output.new }
+/// The declarations of what is no colour. Most of it is rare, and asked for at once.
+#[inline(always)]
+pub(crate) fn put_others<W: Sink>(output: &mut Output<W>, style: &Style)
+    ensures { Adds W.Sink (others_css style.now) output.old output.new }
 {
-    put_colors(output, scheme, style);
     put_if(output, style.bold, b"font-weight:bold;");
+    if has_rare(style) {
+        put_rare(output, style);
+    }
+}
+
+/// Whether it is set in italics, has a line or is hidden.
+#[inline(always)]
+fn has_rare(style: &Style) -> bool
+    ensures { result ≡ (style.now.italic || (is_underlined style.now.underline || (style.now.overlined
+        || (style.now.struck_out || (style.now.blink || style.now.hidden))))) }
+{
+    style.italic
+        | (is_underlined(style.underline)
+            | (style.overlined | (style.struck_out | (style.blink | style.hidden))))
+}
+
+/// The declarations of these.
+#[inline(never)]
+fn put_rare<W: Sink>(output: &mut Output<W>, style: &Style)
+    ensures { Adds W.Sink (rare_css style.now) output.old output.new }
+{
     put_if(output, style.italic, b"font-style:italic;");
     put_lines(
         output,

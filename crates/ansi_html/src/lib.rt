@@ -34,6 +34,7 @@ mod chunks;
 mod class;
 pub mod contrast;
 mod css;
+mod digits;
 pub mod laws;
 mod link;
 mod nearest;
@@ -43,6 +44,7 @@ mod scheme;
 mod standing;
 mod styled;
 mod stylesheet;
+mod tag;
 mod uri;
 mod verbatim;
 

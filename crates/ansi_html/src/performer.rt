@@ -1,19 +1,19 @@
 //! The performer that writes HTML.
-ghost use Rattle.std.specs.Prelude.{◌≡◌, ◌∷◌, ◌++◌, [], true, false, encode_utf8, codes, refl};
+ghost use Rattle.std.specs.Prelude.{◌≡◌, ◌<◌, ◌≤◌, ◌∷◌, ◌++◌, [], true, false, encode_utf8, codes, refl, length, take};
 ghost use Rattle.anstyle_parse.specs.Io.Output.{Adds};
 ghost use Rattle.ansi_style.specs.Style.{plain};
-ghost use Rattle.ansi_html.specs.Css.{css};
 ghost use Rattle.ansi_html.specs.Classes.{class_names, classes_of};
 ghost use Rattle.ansi_html.specs.Grammar.{is_special, AreClear, BeginWithClear};
 ghost use Rattle.ansi_html.specs.ShownLinks.{shown_link, selected_link};
 ghost use Rattle.ansi_html.specs.Html.{line_break, beginning, value_of, attribute_text, span_begin, span_end, link_begin, link_end, element, element_begin, element_end, change, escaped, escaped_text};
 
-use crate::chunks::{CHUNK, are_last_clear, specials};
+use crate::chunks::{CHUNK, are_last_clear, clear_count, specials};
 use crate::class::put_classes;
-use crate::css::{is_plain, put_css};
+use crate::css::is_plain;
 use crate::link::{Links, is_link_command};
 use crate::scheme::{Scheme, Styling};
 use crate::standing::{Element, Standing};
+use crate::tag::put_tag;
 use ansi_strip::is_layout;
 use ansi_style::Style;
 use anstyle_parse::canon::{Output, Sink, WritingPerformer};
@@ -148,6 +148,39 @@ impl<W: Sink> HtmlWriter<W> {
         if let Some((first, _)) = clear.split_first() {
             self.begin_text(*first == b'\n');
             self.output.put(clear);
+        }
+    }
+
+    /// The same of the first bytes of a chunk, which is copied whole.
+    #[inline(always)]
+    fn put_clear_front(&mut self, chunk: &[u8; CHUNK], count: usize)
+        requires some { 0 < count }
+        requires within { count ≤ length chunk.now }
+        requires clear { AreClear (take count chunk.now) }
+        ensures { TakesBytes W.Sink self.old (take count chunk.now) self.new }
+    {
+        if let Some((first, _)) = chunk.split_first() {
+            let is_line_feed = *first == b'\n';
+            self.begin_text(is_line_feed);
+            self.output.put_front(chunk, count);
+        }
+    }
+
+    /// Writes text: what has no meaning in HTML at once, and what stands behind 0D begins anew.
+    #[inline(always)]
+    fn put_text(&mut self, text: &[u8])
+        ensures { TakesBytes W.Sink self.old text.now self.new }
+    {
+        let mut rest = text;
+        'rest: while !rest.is_empty() {
+            let special = after_clear(rest);
+            let (clear, _) = rest.split_at(rest.len() - special.len());
+            self.put_clear(clear);
+            rest = special;
+            if let Some((first, behind)) = special.split_first() {
+                self.put_text_byte(*first);
+                rest = behind;
+            }
         }
     }
 
@@ -331,22 +364,12 @@ fn put_span<W: Sink>(output: &mut Output<W>, styling: Styling, style: &Style)
         output.old output.new }
 {
     match styling {
-        Styling::Inline(scheme) => put_css_between(output, b"<span style=\"", scheme, *style),
+        Styling::Inline(scheme) => put_tag(output, scheme, style),
         Styling::Classes => put_classes_between(output, b"<span class=\"", false, *style),
     }
 }
 
-/// The declarations of a style behind a text, and the end of their attribute and tag.
-#[inline(always)]
-fn put_css_between<W: Sink>(output: &mut Output<W>, before: &[u8], scheme: Scheme, style: Style)
-    ensures { Adds W.Sink (before.now ++ (css scheme style ++ codes "\">")) output.old output.new }
-{
-    output.put(before);
-    put_css(output, scheme, style);
-    output.put(b"\">");
-}
-
-/// The same with the names of its classes.
+/// The names of a style's classes behind a text, and the end of their attribute and tag.
 fn put_classes_between<W: Sink>(output: &mut Output<W>, before: &[u8], linked: bool, style: Style)
     ensures { Adds W.Sink (before.now ++ (class_names (classes_of linked style) ++ codes "\">")) output.old output.new }
 {
@@ -537,16 +560,16 @@ impl<W: Sink> PerformText for HtmlWriter<W> {
 
     #[inline]
     fn print_with_layout(&mut self, text: &str) {
-        let mut rest = text.as_bytes();
-        'rest: while !rest.is_empty() {
-            let special = after_clear(rest);
-            let (clear, _) = rest.split_at(rest.len() - special.len());
-            self.put_clear(clear);
-            rest = special;
-            if let Some((first, behind)) = special.split_first() {
-                self.put_text_byte(*first);
-                rest = behind;
-            }
+        self.put_text(text.as_bytes());
+    }
+
+    #[inline]
+    fn print_front(&mut self, chunk: &[u8; 16], count: usize) {
+        if 0 < count && count <= clear_count(chunk) {
+            self.put_clear_front(chunk, count);
+        } else {
+            let (text, _) = chunk.split_at(count);
+            self.put_text(text);
         }
     }
 

@@ -1,5 +1,5 @@
 //! Select Graphic Rendition: what a control sequence does to a style.
-ghost use Rattle.std.specs.Prelude.{◌≡◌, ◌++◌, ◌∷◌, []};
+ghost use Rattle.std.specs.Prelude.{◌≡◌, ◌≤◌, ◌<◌, ◌++◌, ◌∷◌, []};
 ghost use Rattle.ansi_style.specs.Style.{hue_at};
 ghost use Rattle.ansi_style.specs.Rendition.{with_code, with_underline, color_in, indexed, mixed, selected, is_selection, style_after};
 ghost use Rattle.ansi_style.specs.Walk.{target_of, with_target_color, with_target, with_expected, expected_for, expected_for_kind, expected_after};
@@ -63,9 +63,66 @@ impl Style {
     {
         let mut expected = Expected::Code;
         for group in params {
-            self.select_group(expected, group);
-            expected = expected.after(group);
+            expected = self.take_group(expected, group);
         }
+    }
+
+    /// Does what one group says, and answers what is expected after it. Most are a code alone.
+    #[inline(always)]
+    fn take_group(&mut self, expected: Expected, group: &[u16]) -> Expected
+        ensures style { self.new ≡ with_expected expected group.now self.old }
+        ensures expected { result ≡ expected_after expected group.now }
+    {
+        match (expected, group) {
+            (Expected::Code, [code]) => self.take_code(*code),
+            _ => {
+                self.select_group(expected, group);
+                expected.after(group)
+            }
+        }
+    }
+
+    /// Does what a code says alone, and answers what is expected after it. Those that most sequences have, a reset and
+    /// one of eight colours, are told before all others.
+    #[inline(always)]
+    #[tactic(auto, unfolding(crate::specs::Walk::target_of))]
+    fn take_code(&mut self, code: u16) -> Expected
+        ensures style { self.new ≡ with_code code self.old }
+        ensures expected { result ≡ expected_for (target_of code) }
+    {
+        if code == 0 {
+            self.reset();
+            Expected::Code
+        } else if 30 <= code && code < 38 {
+            self.color_text(code);
+            Expected::Code
+        } else {
+            self.select_code(code);
+            match color_target(code) {
+                Some(target) => Expected::Kind(target),
+                None => Expected::Code,
+            }
+        }
+    }
+
+    /// Resets all.
+    #[inline(always)]
+    #[tactic(auto, unfolding(crate::specs::Rendition::with_code, anstyle_parse::specs::Stream::Bytes::is_within))]
+    fn reset(&mut self)
+        ensures { self.new ≡ with_code 0 self.old }
+    {
+        *self = Style::default();
+    }
+
+    /// Selects one of eight colours for the text.
+    #[inline(always)]
+    #[tactic(auto, unfolding(crate::specs::Rendition::with_code, anstyle_parse::specs::Stream::Bytes::is_within))]
+    fn color_text(&mut self, code: u16)
+        requires from { 30 ≤ code }
+        requires below { code < 38 }
+        ensures { self.new ≡ with_code code self.old }
+    {
+        self.foreground = Color::Named(Hue::at(code - 30));
     }
 
     /// Does what one group says.

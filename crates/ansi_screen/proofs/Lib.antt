@@ -2,6 +2,7 @@ pub mod CellLemmas
 pub mod RunLemmas
 pub mod PrintedLemmas
 pub mod PartLemmas
+pub mod GridLemmas
 pub mod ShiftLemmas
 pub mod WindowLemmas
 pub mod PairLemmas

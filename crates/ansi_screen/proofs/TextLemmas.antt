@@ -42,6 +42,26 @@ module _ (is_left_out : Cell → Bool) where
       let back : n - 1 + 1 ≡ n = omega arith in
       sym (used-more_blank cells (n - 1) d (omega arith) blank) ∙ (ap (λ k. used is_left_out (take k cells)) back ∙ same)
 
+  -- four cells less
+  pub used-four : (cells : List Cell) (n : ℕ) (d : Cell) → 4 ≤ n → n ≤ length cells → used is_left_out (take n cells) ≡ used is_left_out cells
+      → is_left_out (get_or cells (n - 1) d) ≡ true → is_left_out (get_or cells (n - 2) d) ≡ true
+      → is_left_out (get_or cells (n - 3) d) ≡ true → is_left_out (get_or cells (n - 4) d) ≡ true
+      → used is_left_out (take (n - 4) cells) ≡ used is_left_out cells
+  used-four cells n d some inside same first second third fourth =
+      let second_at : n - 1 - 1 ≡ n - 2 = omega arith in
+      let third_at : n - 2 - 1 ≡ n - 3 = omega arith in
+      let fourth_at : n - 3 - 1 ≡ n - 4 = omega arith in
+      let up_to : ℕ → ℕ = λ k. used is_left_out (take k cells) in
+      let one : used is_left_out (take (n - 1) cells) ≡ used is_left_out cells = used-less cells n d (omega arith) inside same first in
+      let two : used is_left_out (take (n - 2) cells) ≡ used is_left_out cells =
+      ap up_to (sym second_at)
+      ∙ used-less cells (n - 1) d (omega arith) (omega arith) one (ap (λ k. is_left_out (get_or cells k d)) second_at ∙ second) in
+      let three : used is_left_out (take (n - 3) cells) ≡ used is_left_out cells =
+      ap up_to (sym third_at)
+      ∙ used-less cells (n - 2) d (omega arith) (omega arith) two (ap (λ k. is_left_out (get_or cells k d)) third_at ∙ third) in
+      ap up_to (sym fourth_at)
+      ∙ used-less cells (n - 3) d (omega arith) (omega arith) three (ap (λ k. is_left_out (get_or cells k d)) fourth_at ∙ fourth)
+
   pub used-end : (cells : List Cell) (n : ℕ) (d : Cell) → 0 < n → n ≤ length cells → used is_left_out (take n cells) ≡ used is_left_out cells
       → is_left_out (get_or cells (n - 1) d) ≡ false → n ≡ used is_left_out cells
   used-end cells n d some inside same other =

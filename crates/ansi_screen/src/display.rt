@@ -105,8 +105,8 @@ impl Display {
         ensures { IfOk result (λ display. display ≡ fresh columns rows) }
     {
         let size = rows * columns;
-        let cells = Grid::new(alloc, size)?;
-        let hidden = Grid::new(alloc, size)?;
+        let cells = Grid::new(alloc, size, columns)?;
+        let hidden = Grid::new(alloc, size, columns)?;
         let mut tabs = Vec::from_elem(alloc, false, columns)?;
         reset_stops(tabs.as_mut_slice());
         Ok(Display {

@@ -1,5 +1,5 @@
 //! What a screen shows, as text.
-ghost use Rattle.std.specs.Prelude.{◌≡◌, ◌≤◌, ◌<◌, [], ◌∷◌, length, take, IsTrue};
+ghost use Rattle.std.specs.Prelude.{◌≡◌, ◌-◌, ◌≤◌, ◌<◌, [], ◌∷◌, length, take, IsTrue};
 ghost use Rattle.std.specs.List.{flat_map};
 ghost use Rattle.anstyle_parse.specs.Io.Output.{Adds};
 ghost use Rattle.ansi_screen.specs.Text.{is_blank, is_unprinted, left_out, used, goes_on, cell_text, row_text, used_rows, rows_text, text_of, marks_text};
@@ -47,6 +47,20 @@ impl LeftOut {
             LeftOut::Unprinted => is_unprinted(cell),
         }
     }
+
+    /// Whether the four cells before a place are such.
+    #[inline(always)]
+    fn has_four(self, cells: &[Cell], end: usize) -> bool
+        requires four { 4 ≤ end }
+        requires within { end ≤ length cells.now }
+        ensures { IsTrue result → used (left_out self) (take end cells.now) ≡ used (left_out self) cells.now
+            → used (left_out self) (take (end - 4) cells.now) ≡ used (left_out self) cells.now }
+    {
+        self.has(cells[end - 1])
+            && self.has(cells[end - 2])
+            && self.has(cells[end - 3])
+            && self.has(cells[end - 4])
+    }
 }
 
 /// How many cells of a row come up to the last that is not left out.
@@ -54,12 +68,25 @@ pub fn used(cells: &[Cell], ends: LeftOut) -> usize
     ensures used { result ≡ used (left_out ends) cells.now }
     ensures within { result ≤ length cells.now }
 {
-    let mut end = cells.len();
+    let mut end = without_fours(cells, ends);
     'end: while end > 0 {
         if !ends.has(cells[end - 1]) {
             break;
         }
         end -= 1;
+    }
+    end
+}
+
+/// How many cells come up to four of which one is not left out: from the end of a row, four are looked at together.
+#[inline(always)]
+fn without_fours(cells: &[Cell], ends: LeftOut) -> usize
+    ensures used { used (left_out ends) (take result cells.now) ≡ used (left_out ends) cells.now }
+    ensures within { result ≤ length cells.now }
+{
+    let mut end = cells.len();
+    'fours: while end >= 4 && ends.has_four(cells, end) {
+        end -= 4;
     }
     end
 }

@@ -7,10 +7,20 @@ use crate::cell::Cell;
 use crate::runs;
 use crate::shifts::{shift_back, shift_on};
 
-/// Whether the window moves, and the cells outside with it, where the cells from `first` up to `last` of a window of
-/// so many move by `count`: where fewer are outside than would move. `has_room` says that the memory has room on that
-/// side. Where it has not, the window first goes to another place, with all cells: then there has to be room for
-/// at least two such moves.
+/// Whether it costs less to move the window by `count`, and with it the cells before `first` and from `last` on, than to
+/// move the cells between.
+pub(crate) fn pays(size: usize, first: usize, last: usize, count: usize) -> bool
+    requires order { first ≤ last }
+    requires within { last ≤ size }
+    ensures between { IsTrue result → first + count ≤ last }
+{
+    let between = last - first;
+    let outside = size - between;
+    count < between && outside < between - count
+}
+
+/// Whether the window moves so: where that pays, and the memory has room on that side. Where it has not, the window
+/// first goes to another place, with all cells: then there has to be room for at least two such moves.
 pub(crate) fn moves(
     memory: usize,
     size: usize,
@@ -24,10 +34,7 @@ pub(crate) fn moves(
     ensures between { IsTrue result → first + count ≤ last }
     ensures room { IsTrue result → size + count ≤ memory }
 {
-    let between = last - first;
-    let outside = size - between;
-    count < between
-        && outside < between - count
+    pays(size, first, last, count)
         && size <= memory
         && count <= memory - size
         && (has_room || count <= (memory - size - count) / 2)
@@ -95,8 +102,7 @@ pub(crate) fn go_back(
     front
 }
 
-/// Where the window has room for `count` cells behind it: where it is, or else nearer to the front, to which its cells
-/// go. From there it can go back for a while too.
+/// Where the window has room for `count` cells behind it: where it is, or else at the front, to which its cells go.
 fn with_room_behind(memory: &mut [Cell], start: usize, size: usize, count: usize) -> usize
     requires window { start + size ≤ length memory.old }
     requires room { size + count ≤ length memory.old }
@@ -108,9 +114,8 @@ fn with_room_behind(memory: &mut [Cell], start: usize, size: usize, count: usize
     if start <= spare {
         return start;
     }
-    let front = (spare / 4).saturating_sub(count);
-    place_back(memory, start, size, front);
-    front
+    place_back(memory, start, size, 0);
+    0
 }
 
 /// Where the room for `count` cells before the window begins: before where it is, or else before a place nearer to the
@@ -132,7 +137,7 @@ fn with_room_before(memory: &mut [Cell], start: usize, size: usize, count: usize
 }
 
 /// The cells of a window go back to a place.
-fn place_back(memory: &mut [Cell], start: usize, size: usize, place: usize)
+pub(crate) fn place_back(memory: &mut [Cell], start: usize, size: usize, place: usize)
     requires order { place ≤ start }
     requires window { start + size ≤ length memory.old }
     ensures length { length memory.new ≡ length memory.old }

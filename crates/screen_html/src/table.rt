@@ -1,6 +1,7 @@
 //! The links of a stream by their numbers.
-ghost use Rattle.std.specs.Prelude.{◌≡◌, ◌<◌, ◌%◌, ℕ, [], length, map, IfOk};
+ghost use Rattle.std.specs.Prelude.{◌≡◌, ◌<◌, ◌≤◌, ◌%◌, ℕ, [], length, map, IfOk, vec_capacity};
 ghost use Rattle.ansi_html.specs.ShownLinks.{link_in};
+ghost use Rattle.screen_html.specs.Places.{all_kept};
 
 use ansi_html::{Link, is_link_command};
 use std::alloc::{AllocError, Global};
@@ -54,22 +55,24 @@ impl LinkMemory {
 /// The links of a stream by the numbers that a screen gives them: the last 1,024 that began.
 #[derive(Drop)]
 pub(crate) struct LinkTable {
-    /// A link's place is its number modulo their number.
+    /// A link's place is its number modulo `MOST_KEPT`. Those past the last place that had a link keep none: there is memory
+    /// for them, which is not written.
     places: Vec<Place>,
     none: Link,
 }
 
 impl Model for LinkTable {
-    ghost use Rattle.std.specs.Prelude.{◌≡◌, [], List, length, map};
+    ghost use Rattle.std.specs.Prelude.{◌≡◌, ◌≤◌, [], List, length, vec_capacity};
     ghost use Rattle.ansi_html.specs.ShownLinks.{link_in};
-    ghost use Rattle.screen_html.specs.Links.{Kept};
-    ghost use Rattle.screen_html.specs.Places.{kept_in};
+    ghost use Rattle.screen_html.specs.Links.{Kept, most_kept};
+    ghost use Rattle.screen_html.specs.Places.{all_kept};
 
     ghost Value = { List Kept };
 
-    ghost view = { λ table. map kept_in table.places.items };
+    ghost view = { λ table. all_kept table.places.items };
 
-    ghost invariant = { λ table. (length table.places.items ≡ 1024) × (link_in table.none ≡ []) };
+    ghost invariant = { λ table. (length table.places.items ≤ most_kept) × (most_kept ≤ vec_capacity table.places)
+        × (link_in table.none ≡ []) };
 }
 
 impl LinkTable {
@@ -79,15 +82,8 @@ impl LinkTable {
     fn new(alloc: Global) -> Result<LinkTable, AllocError>
         ensures { IfOk result (λ table. table ≡ no_links) }
     {
-        let mut places = Vec::with_capacity(alloc, MOST_KEPT)?;
-        for _place in 0..MOST_KEPT {
-            places.push(Place {
-                number: 0,
-                link: Link::none(),
-            })?;
-        }
         Ok(LinkTable {
-            places,
+            places: Vec::with_capacity(alloc, MOST_KEPT)?,
             none: Link::none(),
         })
     }
@@ -104,9 +100,10 @@ impl LinkTable {
     pub(crate) fn link(&self, number: u32) -> &Link
         ensures { link_in result.now ≡ link_at number self.now }
     {
-        let place = &self.places.as_slice()[number as usize % MOST_KEPT];
-        if place.number == number {
-            &place.link
+        let places = self.places.as_slice();
+        let place = number as usize % MOST_KEPT;
+        if place < places.len() && places[place].number == number {
+            &places[place].link
         } else {
             &self.none
         }
@@ -118,9 +115,29 @@ impl LinkTable {
         ensures { self.new ≡ links_after number (map (λ part. part.now) parts.now) self.old }
     {
         if is_link_command(parts) && number != 0 {
-            let place = &mut self.places.as_mut_slice()[number as usize % MOST_KEPT];
+            let place = number as usize % MOST_KEPT;
+            reach(&mut self.places, place);
+            let place = &mut self.places.as_mut_slice()[place];
             place.number = number;
             place.link.select(parts);
         }
+    }
+}
+
+/// Writes the places up to this one, where they are not yet written: they keep no link.
+fn reach(places: &mut Vec<Place>, place: usize)
+    requires place { place < 1024 }
+    requires few { length places.old.items ≤ 1024 }
+    requires room { 1024 ≤ vec_capacity places.old }
+    ensures there { place < length places.new.items }
+    ensures kept { all_kept places.new.items ≡ all_kept places.old.items }
+    ensures few { length places.new.items ≤ 1024 }
+    ensures room { 1024 ≤ vec_capacity places.new }
+{
+    'places: while places.len() <= place {
+        places.push_reserved(Place {
+            number: 0,
+            link: Link::none(),
+        });
     }
 }

@@ -1,13 +1,22 @@
 -- The link's place is set.
-use Rattle.std.proofs.Common.{◌≡◌, ◌%◌, ℕ, Bool, true, false, map, set, Bor, List, sym, ap, ap₂, ◌∙◌}
-use Rattle.std.specs.Prelude.{◌==◌, ◌&&◌, not, if◌then◌else◌}
+use Rattle.std.proofs.Common.{◌≡◌, ◌-◌, ◌%◌, ℕ, Bool, true, false, map, set, length, Bor, List, [], ◌++◌, sym, ap, ap₂, ◌∙◌}
+use Rattle.std.specs.Prelude.{◌==◌, ◌&&◌, not, if◌then◌else◌, replicate}
 use Rattle.std.proofs.lemmas.Bool.{ne_eqb}
-use Rattle.std.proofs.lemmas.List.{map-set, length-set, with_items_is}
+use Rattle.std.proofs.lemmas.List.{map-set, length-map, length-set, set-append_left, with_items_is}
+use Rattle.std.proofs.Common.{◌<◌, arith}
 use Rattle.ansi_html.specs.Links.{is_link_command, link_of}
 use Rattle.screen_html.specs.declared.table.Place.{Place}
 use Rattle.screen_html.specs.Links.{Kept, kept, links_after}
-use Rattle.screen_html.specs.Places.{kept_in}
+use Rattle.screen_html.specs.Places.{kept_in, all_kept}
 use Rattle.screen_html.proofs.table.LinkTable.take_command.Goals as goal
+
+-- a place that is written
+all_kept-set : (places : List Place) (at : ℕ) (place : Place) → at < length places
+    → all_kept (set places at place) ≡ set (all_kept places) at (kept_in place)
+all_kept-set places at place there =
+    let rest : List Kept = replicate (1024 - length places) (kept 0 []) in
+    ap₂ (λ (front : List Kept) (n : ℕ). front ++ replicate (1024 - n) (kept 0 [])) (map-set kept_in places at place) (length-set places at place)
+    ∙ sym (set-append_left (map kept_in places) rest at (kept_in place) (omega (arith, length-map places kept_in, there)))
 
 pub returns-then-number-ne0 : goal.returns-then-number-ne0
 unfolding links_after
@@ -16,10 +25,14 @@ returns-then-number-ne0 c =
     let number = c.args.number in
     let is : is_link_command parts ≡ true = sym c.is_link_command.ensures ∙ c.if-is_link_command.true in
     let some : (number == 0) ≡ false = ne_eqb number 0 c.if-number-ne0.true in
-    let old : map kept_in c.as_mut_slice.result.now ≡ c.args.self.now = ap (map kept_in) c.as_mut_slice.ensures.value ∙ c.self.view_is in
+    let places : List Place = c.as_mut_slice.result.now in
+    let reached : length places ≡ length c.reach.new.places.items = ap length c.as_mut_slice.ensures.value in
+    let there : number % 1024 < length places = omega (arith, c.reach.ensures.there, reached) in
+    let old : all_kept places ≡ c.args.self.now =
+    ap all_kept c.as_mut_slice.ensures.value ∙ (c.reach.ensures.kept ∙ c.self.view_is) in
     let place : Place = record { number = number; link = c.select.new.self } in
-    let written = set c.as_mut_slice.result.now (number % 1024) place in
-    ap (map kept_in) (with_items_is c.self.inside.places written (length-set c.as_mut_slice.result.now (number % 1024) place ∙ c.as_mut_slice.ensures.len))
-    ∙ (map-set kept_in c.as_mut_slice.result.now (number % 1024) place
+    let written = set places (number % 1024) place in
+    ap all_kept (with_items_is c.reach.new.places written (length-set places (number % 1024) place ∙ c.as_mut_slice.ensures.len))
+    ∙ (all_kept-set places (number % 1024) place there
     ∙ (ap₂ (λ (links : List Kept) link. set links (number % 1024) (kept number link)) old c.select.ensures
     ∙ sym (ap₂ (λ (a b : Bool). if a && not b then set c.args.self.now (number % 1024) (kept number (link_of parts)) else c.args.self.now) is some)))

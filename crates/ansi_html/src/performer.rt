@@ -184,6 +184,18 @@ impl<W: Sink> HtmlWriter<W> {
         }
     }
 
+    /// Writes few bytes of text, one by one: of which the first has a meaning in HTML.
+    #[inline(never)]
+    fn put_few(&mut self, text: &[u8])
+        ensures { TakesBytes W.Sink self.old text.now self.new }
+    {
+        let mut rest = text;
+        'rest: while let Some((first, behind)) = rest.split_first() {
+            self.put_text_byte(*first);
+            rest = behind;
+        }
+    }
+
     /// Writes a byte of text.
     #[inline]
     fn put_text_byte(&mut self, byte: u8)
@@ -565,11 +577,12 @@ impl<W: Sink> PerformText for HtmlWriter<W> {
 
     #[inline]
     fn print_front(&mut self, chunk: &[u8; 16], count: usize) {
-        if 0 < count && count <= clear_count(chunk) {
-            self.put_clear_front(chunk, count);
-        } else {
-            let (text, _) = chunk.split_at(count);
-            self.put_text(text);
+        let clear = clear_count(chunk).min(count);
+        if clear > 0 {
+            self.put_clear_front(chunk, clear);
+        }
+        if clear < count {
+            self.put_few(&chunk[clear..count]);
         }
     }
 

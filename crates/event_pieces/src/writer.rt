@@ -84,7 +84,7 @@ impl<'a> EventWriter<'a> {
 
     /// The first `count` bytes of a block. Where there is room for all of it, it is put whole: what the room has
     /// behind them is put where it was.
-    #[inline(always)]
+    #[inline(never)]
     fn put_front(&mut self, block: &[u8; BLOCK], count: usize)
         requires { count ≤ length block.now }
         ensures { Puts (take count block.now) self.old self.new }

@@ -16,7 +16,7 @@ const MAX_FIELD: u32 = 65535;
 const FEW_DIGITS: usize = 3;
 
 /// What each of them counts, where there are none to three of them.
-const PLACES: [[u16; FEW_DIGITS]; FEW_DIGITS + 1] = [
+static PLACES: [[u16; FEW_DIGITS]; FEW_DIGITS + 1] = [
     [0, 0, 0],
     [1, 0, 0],
     [10, 1, 0],
@@ -119,7 +119,7 @@ impl Header {
 
     /// Takes the digits and separators at the front, as long as there is room for a field, and
     /// answers the rest.
-    #[inline(always)]
+    #[inline(never)]
     pub(super) fn fields<'a>(&mut self, bytes: &'a [u8]) -> &'a [u8]
         ensures { TakesFields (heading_of self.old) bytes.now (heading_of self.new) result.now }
     {

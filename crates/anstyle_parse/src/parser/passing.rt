@@ -106,6 +106,6 @@ impl Parser<Utf8Parser> {
                 return behind;
             }
         }
-        self.take_in_ground(performer, further)
+        self.take_unprinted(performer, further)
     }
 }

@@ -287,6 +287,27 @@ impl<C: CharAccumulator> Parser<C> {
         if Run::Printed.has(first) {
             return self.take_run(performer, Run::Printed, first, behind);
         }
+        self.take_unprinted(performer, bytes)
+    }
+
+    /// Whole characters, or a sequence that begins: for bytes of which the first is mostly not printed. One that is goes
+    /// by the table.
+    #[inline(always)]
+    pub(super) fn take_unprinted<'a, P: Perform>(
+        &mut self,
+        performer: &mut P,
+        bytes: &'a [u8],
+    ) -> &'a [u8]
+        requires ground { self.old.state ≡ State.Ground }
+        requires can { CanTakeAll C.takes self.old bytes.now }
+        ensures leads { LeadsTo C.takes C.taken P.means self.old performer.old bytes.now
+            self.new performer.new result.now }
+        ensures onward { length result.now ≤ length bytes.now - 1 }
+    {
+        let Some((first, behind)) = bytes.split_first() else {
+            return bytes;
+        };
+        let first = *first;
         if first == ESCAPE {
             return self.take_escape(performer, first, behind);
         }

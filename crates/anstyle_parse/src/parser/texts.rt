@@ -181,7 +181,7 @@ impl Parser<Utf8Parser> {
             rest = match self.state {
                 State::Ground => {
                     let further = self.take_text(performer, rest);
-                    self.take_in_ground(performer, further)
+                    self.take_unprinted(performer, further)
                 }
                 _ => self.take_first(performer, rest),
             };

@@ -13,8 +13,8 @@ returns-in-Some-clause-leads g c =
     (LeadsInEffectTo-sequence n.receives c.args.self.now c.take_text-further.new.performer further c.in-Some.behind.now
     c.requires c.in-Some.ensures.sequence (c.if-passes_over_control_sequences.ensures refl))
 
-pub take_in_ground-requires-clause-can : goal.take_in_ground-requires-clause-can
-take_in_ground-requires-clause-can g c = inl (λ _ _ _. tt)
+pub take_unprinted-requires-clause-can : goal.take_unprinted-requires-clause-can
+take_unprinted-requires-clause-can g c = inl (λ _ _ _. tt)
 
 pub returns-clause-leads : goal.returns-clause-leads
 returns-clause-leads g c =
@@ -22,4 +22,4 @@ returns-clause-leads g c =
     let m = g.met.P.PerformText in
     LeadsInEffectTo-text n.receives
     (LeadsByTextTo-run g.P.Perform.means n.receives m.receives_none m.receives_one m.receives_more refl
-    c.take_text-further.ensures.leads c.take_in_ground.ensures.leads)
+    c.take_text-further.ensures.leads c.take_unprinted.ensures.leads)

@@ -184,15 +184,21 @@ impl<W: Sink> HtmlWriter<W> {
         }
     }
 
-    /// Writes few bytes of text, one by one: of which the first has a meaning in HTML.
+    /// The same of few bytes, which are looked at one by one.
     #[inline(never)]
     fn put_few(&mut self, text: &[u8])
         ensures { TakesBytes W.Sink self.old text.now self.new }
     {
         let mut rest = text;
-        'rest: while let Some((first, behind)) = rest.split_first() {
-            self.put_text_byte(*first);
-            rest = behind;
+        'rest: while !rest.is_empty() {
+            let next = after_few_clear(rest);
+            let (shown, _) = rest.split_at(rest.len() - next.len());
+            self.put_clear(shown);
+            rest = next;
+            if let Some((byte, behind)) = next.split_first() {
+                self.put_text_byte(*byte);
+                rest = behind;
+            }
         }
     }
 
@@ -426,6 +432,15 @@ fn after_clear(bytes: &[u8]) -> &[u8]
     if are_last_clear(bytes) {
         return &[];
     }
+    after_few_clear(rest)
+}
+
+/// The same, byte by byte.
+#[inline(always)]
+fn after_few_clear(bytes: &[u8]) -> &[u8]
+    ensures { BeginWithClear bytes.now result.now }
+{
+    let mut rest = bytes;
     'bytes: while let Some((first, behind)) = rest.split_first() {
         if is_special(*first) {
             break;

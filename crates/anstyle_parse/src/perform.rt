@@ -5,7 +5,7 @@ ghost use Rattle.anstyle_parse.specs.Stream.Items.{EachIs};
 ghost use Rattle.anstyle_parse.specs.Stream.Texts.{text_calls, layout_calls};
 ghost use Rattle.anstyle_parse.specs.Views.Texts.{is_text_byte};
 
-use crate::layout::{is_layout, split_at_layout};
+use crate::layout::split_at_layout;
 use crate::params::Params;
 
 /// Receives the calls that a [`Parser`](crate::Parser) makes of its bytes.
@@ -140,26 +140,19 @@ pub trait PerformText: Perform {
 
     /// A text that stands at the front of sixteen bytes, the first `count` of them, and is of characters of one byte
     /// alone: as by `print_with_layout`. What comes behind it in `chunk` is no part of the text: it is there so that an
-    /// implementation can look at all sixteen bytes at once, or copy them, whatever `count` is.
+    /// implementation can look at all sixteen bytes at once, or copy them, whatever `count` is. A parser hands on no text
+    /// that is empty or begins with layout.
     ///
-    /// Where an implementation does not write it, layout with which the text begins is executed, and what comes behind
-    /// that goes to `print_with_layout`.
+    /// Where an implementation does not write it, the text goes to `print_with_layout`.
     #[inline]
     fn print_front(&mut self, chunk: &[u8; 16], count: usize)
         requires within { count ≤ length chunk.now }
         requires text { EachIs is_text_byte (take count chunk.now) }
         ensures { receives self.old (layout_calls (take count chunk.now)) self.new }
     {
-        let (mut rest, _) = chunk.split_at(count);
-        'layout: while let Some((first, behind)) = rest.split_first() {
-            if !is_layout(*first) {
-                // Each byte of it is a character.
-                self.print_with_layout(unsafe { str::from_utf8_unchecked(rest) });
-                break;
-            }
-            self.execute(*first);
-            rest = behind;
-        }
+        let (text, _) = chunk.split_at(count);
+        // Each byte of it is a character.
+        self.print_with_layout(unsafe { str::from_utf8_unchecked(text) });
     }
 
     /// Whether control sequences leave it as it is, as it stands, whatever they say.

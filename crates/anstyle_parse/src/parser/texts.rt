@@ -7,7 +7,6 @@ ghost use Rattle.anstyle_parse.specs.Views.Texts.{is_text_byte, BeginWithText, I
 use super::Parser;
 use crate::accumulator::Utf8Parser;
 use crate::chunks::{CHUNK, lanes, layouts, outside};
-use crate::controls::ESCAPE;
 use crate::layout::is_layout;
 use crate::perform::PerformText;
 use crate::state::State;
@@ -188,8 +187,8 @@ impl Parser<Utf8Parser> {
         }
     }
 
-    /// The text at the front, if there is one. One that ends within a chunk, at a control, is handed on with that chunk.
-    /// Layout at the front of any other is left, since often no text follows it.
+    /// The text at the front, if there is one. A control at the front is left, since often no text follows it. A text that
+    /// ends within a chunk, at a control, is handed on with that chunk.
     #[inline(always)]
     pub(super) fn take_text<'a, P: PerformText>(
         &self,
@@ -204,7 +203,7 @@ impl Parser<Utf8Parser> {
         let Some((first, _)) = bytes.split_first() else {
             return bytes;
         };
-        if *first == ESCAPE {
+        if *first < FIRST_PRINTED {
             return bytes;
         }
         if let Some((chunk, _)) = bytes.split_first_chunk::<CHUNK>() {
@@ -214,9 +213,6 @@ impl Parser<Utf8Parser> {
                 let (_, further) = bytes.split_at(count);
                 return further;
             }
-        }
-        if *first < FIRST_PRINTED {
-            return bytes;
         }
         match self.text_at(bytes) {
             Some((text, further)) => {

@@ -1,5 +1,5 @@
 //! The performer that writes HTML.
-ghost use Rattle.std.specs.Prelude.{◌≡◌, ◌<◌, ◌≤◌, ◌∷◌, ◌++◌, [], true, false, encode_utf8, codes, refl, length, take};
+ghost use Rattle.std.specs.Prelude.{◌≡◌, ◌∷◌, ◌++◌, [], true, false, encode_utf8, codes, refl};
 ghost use Rattle.anstyle_parse.specs.Io.Output.{Adds};
 ghost use Rattle.ansi_style.specs.Style.{plain};
 ghost use Rattle.ansi_html.specs.Classes.{class_names, classes_of};
@@ -7,7 +7,7 @@ ghost use Rattle.ansi_html.specs.Grammar.{is_special, AreClear, BeginWithClear};
 ghost use Rattle.ansi_html.specs.ShownLinks.{shown_link, selected_link};
 ghost use Rattle.ansi_html.specs.Html.{line_break, beginning, value_of, attribute_text, span_begin, span_end, link_begin, link_end, element, element_begin, element_end, change, escaped, escaped_text};
 
-use crate::chunks::{CHUNK, are_last_clear, clear_count, specials};
+use crate::chunks::{CHUNK, are_last_clear, specials};
 use crate::class::put_classes;
 use crate::css::is_plain;
 use crate::link::{Links, is_link_command};
@@ -148,57 +148,6 @@ impl<W: Sink> HtmlWriter<W> {
         if let Some((first, _)) = clear.split_first() {
             self.begin_text(*first == b'\n');
             self.output.put(clear);
-        }
-    }
-
-    /// The same of the first bytes of a chunk, which is copied whole.
-    #[inline(always)]
-    fn put_clear_front(&mut self, chunk: &[u8; CHUNK], count: usize)
-        requires some { 0 < count }
-        requires within { count ≤ length chunk.now }
-        requires clear { AreClear (take count chunk.now) }
-        ensures { TakesBytes W.Sink self.old (take count chunk.now) self.new }
-    {
-        if let Some((first, _)) = chunk.split_first() {
-            let is_line_feed = *first == b'\n';
-            self.begin_text(is_line_feed);
-            self.output.put_front(chunk, count);
-        }
-    }
-
-    /// Writes text: what has no meaning in HTML at once, and what stands behind 0D begins anew.
-    #[inline(always)]
-    fn put_text(&mut self, text: &[u8])
-        ensures { TakesBytes W.Sink self.old text.now self.new }
-    {
-        let mut rest = text;
-        'rest: while !rest.is_empty() {
-            let special = after_clear(rest);
-            let (clear, _) = rest.split_at(rest.len() - special.len());
-            self.put_clear(clear);
-            rest = special;
-            if let Some((first, behind)) = special.split_first() {
-                self.put_text_byte(*first);
-                rest = behind;
-            }
-        }
-    }
-
-    /// The same of few bytes, which are looked at one by one.
-    #[inline(never)]
-    fn put_few(&mut self, text: &[u8])
-        ensures { TakesBytes W.Sink self.old text.now self.new }
-    {
-        let mut rest = text;
-        'rest: while !rest.is_empty() {
-            let next = after_few_clear(rest);
-            let (shown, _) = rest.split_at(rest.len() - next.len());
-            self.put_clear(shown);
-            rest = next;
-            if let Some((byte, behind)) = next.split_first() {
-                self.put_text_byte(*byte);
-                rest = behind;
-            }
         }
     }
 
@@ -432,15 +381,6 @@ fn after_clear(bytes: &[u8]) -> &[u8]
     if are_last_clear(bytes) {
         return &[];
     }
-    after_few_clear(rest)
-}
-
-/// The same, byte by byte.
-#[inline(always)]
-fn after_few_clear(bytes: &[u8]) -> &[u8]
-    ensures { BeginWithClear bytes.now result.now }
-{
-    let mut rest = bytes;
     'bytes: while let Some((first, behind)) = rest.split_first() {
         if is_special(*first) {
             break;
@@ -587,17 +527,16 @@ impl<W: Sink> PerformText for HtmlWriter<W> {
 
     #[inline]
     fn print_with_layout(&mut self, text: &str) {
-        self.put_text(text.as_bytes());
-    }
-
-    #[inline]
-    fn print_front(&mut self, chunk: &[u8; 16], count: usize) {
-        let clear = clear_count(chunk).min(count);
-        if clear > 0 {
-            self.put_clear_front(chunk, clear);
-        }
-        if clear < count {
-            self.put_few(&chunk[clear..count]);
+        let mut rest = text.as_bytes();
+        'rest: while !rest.is_empty() {
+            let special = after_clear(rest);
+            let (clear, _) = rest.split_at(rest.len() - special.len());
+            self.put_clear(clear);
+            rest = special;
+            if let Some((first, behind)) = special.split_first() {
+                self.put_text_byte(*first);
+                rest = behind;
+            }
         }
     }
 

@@ -10,5 +10,4 @@ pub mod Accumulator
 pub mod DecodingProof
 pub mod Runs
 pub mod Texts
-pub mod Passing
 pub mod CanonWriter

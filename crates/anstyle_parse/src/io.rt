@@ -3,7 +3,6 @@
 mod buffer;
 mod devices;
 mod engine;
-mod held;
 mod output;
 mod texts;
 

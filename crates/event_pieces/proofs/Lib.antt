@@ -6,5 +6,3 @@ pub mod Says
 pub mod Notes
 pub mod Bounds
 pub mod FeedLemmas
-pub mod Fronts
-pub mod Divided

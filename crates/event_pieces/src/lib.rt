@@ -15,7 +15,6 @@
 
 mod event;
 mod feeding;
-mod front;
 pub mod laws;
 mod writer;
 

@@ -66,7 +66,7 @@ fn take(parser: &mut Parser, piece: &[u8], room: &mut SliceWriter) -> usize
     let mut taken = 0;
     while taken < piece.len() && room.left() >= LEAST_ROOM {
         let count = (piece.len() - taken).min((room.left() - 1) / TEXT_OF_A_BYTE);
-        parser.advance_heeded(room, &piece[taken..taken + count]);
+        parser.advance_texts(room, &piece[taken..taken + count]);
         taken += count;
     }
     taken

@@ -48,8 +48,8 @@ impl<'a> SliceWriter<'a> {
         }
     }
 
-    /// Several bytes more. It is out of line, since texts come by three ways.
-    #[inline(never)]
+    /// Several bytes more.
+    #[inline]
     fn put_bytes(&mut self, bytes: &[u8])
         ensures { Puts bytes.now self.old self.new }
     {
@@ -115,17 +115,6 @@ impl<'a> PerformText for SliceWriter<'a> {
     #[inline(always)]
     fn print_with_layout(&mut self, text: &str) {
         self.put_bytes(text.as_bytes());
-    }
-
-    #[inline(always)]
-    fn print_front(&mut self, chunk: &[u8; 16], count: usize) {
-        self.put_bytes(&chunk[..count]);
-    }
-
-    /// They do: nothing is put of them.
-    #[inline(always)]
-    fn passes_over_control_sequences(&self) -> bool {
-        true
     }
 
     ghost receives_none = { Puts-none };

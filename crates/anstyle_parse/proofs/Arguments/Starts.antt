@@ -1,5 +1,5 @@
 -- Groups that are cut from fields by a mask of their starts.
-use Rattle.std.proofs.Common.{◌≡◌, ℕ, zero, suc, Bool, true, false, ◌+◌, ◌-◌, ◌*◌, ◌/◌, ◌%◌, ◌^◌, ◌<◌, ◌≤◌, List, [], ◌∷◌, ◌++◌, length, take, drop, set, cond, min, refl, map, sym, ap, ap₂, ◌∙◌, arith, ◌≢◌, length-append, length-drop}
+use Rattle.std.proofs.Common.{◌≡◌, ℕ, zero, suc, Bool, true, false, ◌+◌, ◌-◌, ◌*◌, ◌/◌, ◌%◌, ◌^◌, ◌<◌, ◌≤◌, List, [], ◌∷◌, ◌++◌, length, take, drop, set, cond, min, refl, sym, ap, ap₂, ◌∙◌, arith, length-append, length-drop}
 use Rattle.std.specs.Prelude.{not, ◌==◌}
 use Rattle.std.specs.List.{concat, prefix_len}
 use Rattle.std.specs.Int.Bits.{bit_or, or_shifted_r}
@@ -319,36 +319,3 @@ module _ (ns : List ℕ) (m place k : ℕ) (whole : length ns ≡ place + suc k)
         ap (λ n. m / 2 ^ (place + n) % 2) is
         ∙ (ap (λ h. h % 2) (sym (pow-join m place (suc (run others))))
         ∙ (ap (λ h. h % 2) (sym (half-pow (m / 2 ^ place) (run others))) ∙ run-stops k (m / 2 ^ place / 2) (omega arith)))
-
--- fields of which each is a group of its own
-cut_at-few : (starts : List Bool) (ns : List ℕ) → length (cut_at starts ns) ≤ length starts
-cut_at-few [] ns = omega arith
-cut_at-few (true ∷ starts) ns = omega (arith, cut_at-few starts (drop 1 ns))
-cut_at-few (false ∷ starts) ns = omega (arith, cut_at-few starts (drop 1 ns))
-
-no_run : (starts : List Bool) (ns : List ℕ) → length (cut_at starts ns) ≡ length starts → prefix_len not starts ≡ 0
-no_run [] ns all = refl
-no_run (true ∷ starts) ns all = refl
-no_run (false ∷ starts) ns all = absurd (omega (arith, all, cut_at-few starts (drop 1 ns)))
-
-cut_at-alone : (starts : List Bool) (ns : List ℕ) → length starts ≤ length ns → length (cut_at starts ns) ≡ length starts
-    → cut_at starts ns ≡ map (λ n. n ∷ []) (take (length starts) ns)
-cut_at-alone [] ns within all = refl
-cut_at-alone (start ∷ starts) [] within all = absurd (omega (arith, within))
-cut_at-alone (false ∷ starts) (n ∷ ns) within all = absurd (omega (arith, all, cut_at-few starts ns))
-cut_at-alone (true ∷ starts) (n ∷ ns) within all =
-    let left : length (cut_at starts ns) ≡ length starts = omega (arith, all) in
-    ap₂ (λ k gs. (n ∷ take k ns) ∷ gs) (no_run starts ns left) (cut_at-alone starts ns (omega (arith, within)) left)
-
-pub lone-groups : (n m : ℕ) (ns : List ℕ) → n ≤ length ns → m < 2 ^ n → count_ones m ≡ n → cut_at (starts_of n m) ns ≡ map (λ field. field ∷ []) (take n ns)
-lone-groups n m ns within above all =
-    let long = length-starts_of n m in
-    cut_at-alone (starts_of n m) ns (omega (arith, long, within)) (sym (group_count n m ns above) ∙ all ∙ sym long)
-    ∙ ap (λ k. map (λ field. field ∷ []) (take k ns)) long
-
-pub shared-groups : (n m : ℕ) (ns : List ℕ) → n ≤ length ns → m < 2 ^ n → (0 < n → m % 2 ≡ 1) → count_ones m ≢ n
-    → length (cut_at (starts_of n m) ns) < length (concat (cut_at (starts_of n m) ns))
-shared-groups n m ns within above first some =
-    let few : length (cut_at (starts_of n m) ns) ≤ n = omega (arith, cut_at-few (starts_of n m) ns, length-starts_of n m) in
-    let not_all : length (cut_at (starts_of n m) ns) ≢ n = λ all. some (group_count n m ns above ∙ all) in
-    omega (arith, few, not_all, field_count n m ns within first)

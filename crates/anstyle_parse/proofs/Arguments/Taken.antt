@@ -1,11 +1,11 @@
 -- The bytes of fields, taken at once.
-use Rattle.std.proofs.Common.{◌≡◌, ◌≢◌, ℕ, ◌<◌, ◌≤◌, Bool, true, false, IsTrue, eqb, List, [], ◌∷◌, ◌++◌, length, ◌+◌, ◌-◌, ◌*◌, refl, sym, ap, subst, ◌∙◌, arith, length-append, ◌⊎◌, ⊎_elim, inl, inr}
+use Rattle.std.proofs.Common.{◌≡◌, ◌≢◌, ℕ, ◌<◌, ◌≤◌, Bool, true, false, IsTrue, eqb, List, [], ◌∷◌, ◌++◌, length, refl, sym, ap, subst, ◌∙◌, arith, length-append, ◌⊎◌, ⊎_elim, inl, inr}
 use Rattle.std.specs.Prelude.{fold, nat_le, ⊤}
 use Rattle.std.proofs.lemmas.Bool.{and_parts, and_from, leb-true, le-leb, ne_eqb, cond-false}
 use Rattle.anstyle_parse.specs.declared.state.definitions.State.{State}
 use Rattle.anstyle_parse.specs.declared.state.definitions.State.TheVariants.{CsiEntry, CsiParam}
 use Rattle.anstyle_parse.specs.Stream.Bytes.{is_within, is_parameter, colon, semicolon}
-use Rattle.anstyle_parse.specs.Stream.Arguments.{max_field, max_fields}
+use Rattle.anstyle_parse.specs.Stream.Arguments.{max_fields}
 use Rattle.anstyle_parse.specs.Stream.Items.{EachIs}
 use Rattle.anstyle_parse.specs.Machine.Step.{Machine, AccumulatorStep, field_count, after_param, step, machine_after, machine_calls}
 use Rattle.anstyle_parse.specs.declared.parser.Parser.{Parser}
@@ -29,6 +29,12 @@ is_parameter-digit b digit =
     let ends = digit-bounds b digit in
     and_from (nat_le 0x30 b) (nat_le b 0x3B) (le-leb 0x30 b ends.0) (le-leb b 0x3B (omega (arith, ends.1)))
 
+pub is_parameter-separator : (b : ℕ) → IsTrue (is_within colon semicolon b) → IsTrue (is_parameter b)
+unfolding is_within is_parameter
+is_parameter-separator b separator =
+    let ends = and_parts (nat_le 0x3A b) (nat_le b 0x3B) separator in
+    and_from (nat_le 0x30 b) (nat_le b 0x3B) (le-leb 0x30 b (omega (arith, leb-true 0x3A b ends.0))) ends.1
+
 -- digits, one after another
 pub TakesDigits-none : (number : ℕ) (bytes : List ℕ) → TakesDigits number bytes number bytes
 TakesDigits-none number bytes = record { digits = []; whole = refl; each = tt; taken = refl }
@@ -41,13 +47,6 @@ TakesDigits-digit number b new bytes left digit takes = record {
   each = (digit, takes.each);
   taken = takes.taken;
 }
-
--- the same, where the number does not reach the greatest one
-pub TakesDigits-next : (number b value new : ℕ) (bytes left : List ℕ) → IsTrue (is_within 0x30 0x39 b)
-    → value ≡ number * 10 + (b - 0x30) → value ≤ max_field → TakesDigits value bytes new left → TakesDigits number (b ∷ bytes) new left
-TakesDigits-next number b value new bytes left digit is fits takes =
-    let same : value ≡ number_with number b = omega (arith, is, fits) in
-    TakesDigits-digit number b new bytes left digit (subst (λ n. TakesDigits n bytes new left) same takes)
 
 pub TakesDigits-length : (number new : ℕ) (bytes left : List ℕ) → TakesDigits number bytes new left → length left ≤ length bytes
 TakesDigits-length number new bytes left takes = omega (arith, ap length takes.whole, length-append takes.digits left)

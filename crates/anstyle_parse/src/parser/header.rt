@@ -1,7 +1,7 @@
 //! The header of a sequence: its markers and intermediates, and its fields.
-ghost use Rattle.std.specs.Prelude.{◌≡◌, ◌≤◌, ◌<◌, ◌+◌, ◌*◌, ◌-◌, ◌∷◌, ℕ, List, IsTrue, drop, ⊤};
+ghost use Rattle.std.specs.Prelude.{◌≡◌, ◌≤◌, ⊤};
 ghost use Rattle.anstyle_parse.specs.Stream.Arguments.{max_collected, max_field};
-ghost use Rattle.anstyle_parse.specs.Stream.Bytes.{is_within, is_parameter};
+ghost use Rattle.anstyle_parse.specs.Stream.Bytes.{is_within, colon, semicolon};
 ghost use Rattle.anstyle_parse.specs.Views.Fields.{number_with, TakesDigits, TakesFields};
 
 use crate::params::Params;
@@ -11,17 +11,6 @@ use std::alloc::AllocError;
 const MAX_INTERMEDIATES: usize = 2;
 /// The greatest number of a field: greater ones are taken for this one.
 const MAX_FIELD: u32 = 65535;
-
-/// How many digits are taken at once.
-const FEW_DIGITS: usize = 3;
-
-/// What each of them counts, where there are none to three of them.
-static PLACES: [[u16; FEW_DIGITS]; FEW_DIGITS + 1] = [
-    [0, 0, 0],
-    [1, 0, 0],
-    [10, 1, 0],
-    [100, 10, 1],
-];
 
 /// What a header has said so far.
 #[derive(Debug, PartialEq, Eq, Drop)]
@@ -119,7 +108,7 @@ impl Header {
 
     /// Takes the digits and separators at the front, as long as there is room for a field, and
     /// answers the rest.
-    #[inline(never)]
+    #[inline(always)]
     pub(super) fn fields<'a>(&mut self, bytes: &'a [u8]) -> &'a [u8]
         ensures { TakesFields (heading_of self.old) bytes.now (heading_of self.new) result.now }
     {
@@ -127,14 +116,13 @@ impl Header {
         'fields: while !self.params.is_full() {
             let (number, behind) = digits(self.number, rest);
             self.number = number;
-            let Some((next, further)) = behind.split_first() else {
+            let Some((separator, further)) = behind.split_first() else {
                 return behind;
             };
-            // Mostly a separator; a digit, where the field has more of them than were taken at once.
-            if !is_parameter(*next) {
+            if !is_separator(*separator) {
                 return behind;
             }
-            self.param(*next);
+            self.param(*separator);
             rest = further;
         }
         rest
@@ -163,86 +151,18 @@ fn is_digit(byte: u8) -> bool
     matches!(byte, b'0'..=b'9')
 }
 
-/// A digit, or what ends a field: `:` or `;`.
+/// What ends a field: `:` or `;`.
 #[inline(always)]
-#[tactic(auto, unfolding(crate::specs::Stream::Bytes::is_within, crate::specs::Stream::Bytes::is_parameter))]
-fn is_parameter(byte: u8) -> bool
-    ensures { result ≡ is_parameter byte }
+#[tactic(auto, unfolding(crate::specs::Stream::Bytes::is_within))]
+fn is_separator(byte: u8) -> bool
+    ensures { result ≡ is_within colon semicolon byte }
 {
-    matches!(byte, b'0'..=b';')
+    matches!(byte, b':'..=b';')
 }
 
-/// Takes digits at the front into a number, and answers the rest, which may begin with a digit still.
+/// Takes the digits at the front into a number, and answers the rest.
 #[inline(always)]
 fn digits<'a>(number: u16, bytes: &'a [u8]) -> (u16, &'a [u8])
-    ensures { TakesDigits number bytes.now result.0 result.1.now }
-{
-    if let Some((chunk, _)) = bytes.split_first_chunk::<FEW_DIGITS>() {
-        if number == 0 {
-            let (value, count) = few_digits(chunk[0], chunk[1], chunk[2]);
-            let (_, rest) = bytes.split_at(count);
-            return (value, rest);
-        }
-    }
-    many_digits(number, bytes)
-}
-
-/// The number that up to three digits make, as many as come first, and how many they are. Nothing of it is asked by a
-/// branch: what comes behind them counts for nothing.
-#[inline(always)]
-fn few_digits(first: u8, second: u8, third: u8) -> (u16, usize)
-    ensures taken { (left : List ℕ) → TakesDigits 0 (first ∷ second ∷ third ∷ left)
-        result.0 (drop result.1 (first ∷ second ∷ third ∷ left)) }
-    ensures few { result.1 ≤ 3 }
-{
-    let one = digit_value(first);
-    let ones = digit_value(second);
-    let last = digit_value(third);
-    let count = digit_count(one, ones, last);
-    (in_places(one, ones, last, count), count)
-}
-
-/// How many of three values come first that are digits.
-#[inline(always)]
-fn digit_count(one: u16, ones: u16, last: u16) -> usize
-    ensures none { 9 < one → result ≡ 0 }
-    ensures one { one ≤ 9 → 9 < ones → result ≡ 1 }
-    ensures two { one ≤ 9 → ones ≤ 9 → 9 < last → result ≡ 2 }
-    ensures three { one ≤ 9 → ones ≤ 9 → last ≤ 9 → result ≡ 3 }
-    ensures few { result ≤ 3 }
-{
-    let is_first = one <= 9;
-    let are_two = is_first & (ones <= 9);
-    let are_three = are_two & (last <= 9);
-    usize::from(is_first) + usize::from(are_two) + usize::from(are_three)
-}
-
-/// The number of so many digits, each in its place.
-#[inline(always)]
-fn in_places(one: u16, ones: u16, last: u16, count: usize) -> u16
-    requires few { count ≤ 3 }
-    requires small { (one ≤ 0xFF) × (ones ≤ 0xFF) × (last ≤ 0xFF) }
-    ensures none { count ≡ 0 → result ≡ 0 }
-    ensures one { count ≡ 1 → result ≡ one }
-    ensures two { count ≡ 2 → result ≡ one * 10 + ones }
-    ensures three { count ≡ 3 → result ≡ (one * 10 + ones) * 10 + last }
-{
-    let [first, second, third] = PLACES[count];
-    one * first + ones * second + last * third
-}
-
-/// What a digit stands for; more than 9, if the byte is none.
-#[inline(always)]
-fn digit_value(byte: u8) -> u16
-    ensures digit { result ≤ 9 → IsTrue (is_within 0x30 0x39 byte) × (result ≡ byte - 0x30) }
-    ensures below { result ≤ 0xFF }
-{
-    u16::from(byte.wrapping_sub(b'0'))
-}
-
-/// Takes the digits at the front into a number, one after another, and answers the rest.
-#[inline(always)]
-fn many_digits<'a>(number: u16, bytes: &'a [u8]) -> (u16, &'a [u8])
     ensures { TakesDigits number bytes.now result.0 result.1.now }
 {
     let mut value = u32::from(number);

@@ -59,20 +59,6 @@ fn assert_lines(rt: &impl Abort, buffer: Buffered, text: &[u8], writes: u64) {
     for _ in 0..1000 {
         output.put(b"print U+0061\n");
     }
-    assert_written(rt, output, text, writes);
-}
-
-/// The same where each line stands at the front of a block.
-fn assert_fronts(rt: &impl Abort, buffer: Buffered, text: &[u8], writes: u64) {
-    let mut output = Output::new(buffer);
-    for _ in 0..1000 {
-        output.put_front(b"print U+0061\nend", 13);
-    }
-    assert_written(rt, output, text, writes);
-}
-
-/// What the writer behind has, and how many writes that took.
-fn assert_written(rt: &impl Abort, output: Output<Buffered>, text: &[u8], writes: u64) {
     let (buffer, answer) = output.finish();
     let paper = buffer.into_inner().into_inner();
     assert!(rt; answer == Ok(()) && paper.writes == writes && paper.flushes == 1);
@@ -87,10 +73,6 @@ fn few_writes(rt: HostRuntime) -> Result<(), Fail> {
     assert_lines(&rt, all, text.as_slice(), 2);
     let lines = Buffer::by_line(FromWrite::new(Paper::new(rt.alloc())));
     assert_lines(&rt, lines, text.as_slice(), 1000);
-    let all = Buffer::new(FromWrite::new(Paper::new(rt.alloc())));
-    assert_fronts(&rt, all, text.as_slice(), 2);
-    let lines = Buffer::by_line(FromWrite::new(Paper::new(rt.alloc())));
-    assert_fronts(&rt, lines, text.as_slice(), 1000);
     Ok(())
 }
 

@@ -49,7 +49,7 @@ returns-then-are_last_clear c =
     let clear = PassAtEnd-behind (λ b. not (is_special b)) c.args.bytes.now front rest joined c.in_default.ensures.cases (c.are_last_clear.ensures c.if-are_last_clear.true) in
     BeginWithClear-more c.args.bytes.now rest rest [] (AreClear-each rest clear) (sym (append-nil rest)) c.chunks.invariant
 
-pub returns : goal.returns
-returns c =
-    let (clear, are, joined) = c.after_few_clear.ensures in
-    BeginWithClear-more c.args.bytes.now c.chunks.rest.now clear c.after_few_clear.result.now are joined c.chunks.invariant
+pub bytes-preserved : goal.bytes-preserved
+bytes-preserved c =
+    BeginWithClear-more c.args.bytes.now c.bytes.rest.now (c.in-Some-split_first.first.now ∷ []) c.in-Some-split_first.behind.now
+    (sym c.is_special.ensures ∙ c.if-is_special.false, tt) c.in-Some-split_first.ensures.cases.0 c.bytes.invariant

@@ -3,10 +3,11 @@
 use crate::digest::Digest;
 use crate::pieces::{PIECES, Writing};
 use crate::random::Random;
+use crate::recording::{Recording, put_frame};
 use ansi_html::{Scheme, Styling, convert};
 use ansi_screen::Screen;
 use ansi_strip::strip_inert;
-use anstyle_parse::io::{Buffer, FromRead, FromWrite, Output};
+use anstyle_parse::io::{Buffer, FromRead, FromWrite, Output, Source};
 use event_pieces::{Event, feed};
 use screen_draw::{Form, Noting, show_to_end, update_to_end};
 use screen_html::{LinkMemory, convert_shown};
@@ -28,16 +29,19 @@ pub enum Job {
     Updates,
     /// The screen of an editor or a pager that moves its rows, and a drawing of it.
     Scroll,
+    /// As `Updates`, where each read gives one frame, as many bytes as the program wrote at once.
+    Frames,
 }
 
 /// Each of them.
-pub const JOBS: [Job; 6] = [
+pub const JOBS: [Job; 7] = [
     Job::Strip,
     Job::Html,
     Job::Events,
     Job::Shown,
     Job::Updates,
     Job::Scroll,
+    Job::Frames,
 ];
 
 /// The size of each screen.
@@ -63,14 +67,16 @@ impl Job {
             Job::Shown => "shown",
             Job::Updates => "updates",
             Job::Scroll => "scroll",
+            Job::Frames => "frames",
         }
     }
 
-    /// How many pieces a document has: some 100 kB of them.
+    /// How many pieces a document has: some 100 kB of them, or 120 frames.
     fn pieces(self) -> usize {
         match self {
             Job::Strip | Job::Html | Job::Events | Job::Shown => 1200,
             Job::Updates | Job::Scroll => 3000,
+            Job::Frames => 120,
         }
     }
 
@@ -81,6 +87,7 @@ impl Job {
             Job::Shown => writing.put_progress(random),
             Job::Updates => writing.put_part_of_frame(random),
             Job::Scroll => writing.put_row_move(random),
+            Job::Frames => writing.put_frame(random),
         }
     }
 
@@ -119,7 +126,10 @@ impl Job {
     ) -> Result<(), AllocError> {
         for _ in 0..self.pieces() {
             if let Some(piece) = pieces.get(random.below(PIECES)) {
-                document.extend_from_slice(piece.bytes.as_slice())?;
+                match self {
+                    Job::Frames => put_frame(document, piece.bytes.as_slice())?,
+                    _ => document.extend_from_slice(piece.bytes.as_slice())?,
+                }
             }
         }
         Ok(())
@@ -137,8 +147,9 @@ impl Job {
             Job::Html => digest.bytes(html(alloc, document).as_slice()),
             Job::Events => events(alloc, document, digest)?,
             Job::Shown => digest.bytes(shown(alloc, document)?.as_slice()),
-            Job::Updates => digest.bytes(updates(alloc, document)?.as_slice()),
+            Job::Updates => digest.bytes(updates(alloc, &mut FromRead::new(document))?.as_slice()),
             Job::Scroll => digest.bytes(drawing(alloc, document)?.as_slice()),
+            Job::Frames => digest.bytes(updates(alloc, &mut Recording::new(document))?.as_slice()),
         }
         Ok(())
     }
@@ -172,16 +183,11 @@ fn shown(alloc: Global, document: &[u8]) -> Result<Vec<u8>, AllocError> {
     Ok(writer.into_inner().into_inner())
 }
 
-fn updates(alloc: Global, document: &[u8]) -> Result<Vec<u8>, AllocError> {
+fn updates<R: Source>(alloc: Global, reader: &mut R) -> Result<Vec<u8>, AllocError> {
     let mut screen = Screen::new(alloc, COLUMNS, ROWS)?;
     let mut wanted = Noting::new(Screen::new(alloc, COLUMNS, ROWS)?);
     let mut output = Output::new(paper(alloc));
-    let _ = update_to_end(
-        &mut FromRead::new(document),
-        &mut screen,
-        &mut wanted,
-        &mut output,
-    );
+    let _ = update_to_end(reader, &mut screen, &mut wanted, &mut output);
     let (writer, _) = output.finish();
     Ok(writer.into_inner().into_inner())
 }

@@ -7,6 +7,7 @@ mod digest;
 mod jobs;
 mod pieces;
 mod random;
+mod recording;
 
 use jobs::{JOBS, Job};
 use standard_streams::{failed, misused};

@@ -183,18 +183,49 @@ impl Writing {
 
     /// What a full-screen program draws at once: a part of a row, somewhere.
     pub fn put_part_of_frame(&mut self, random: &mut Random) -> Result<(), AllocError> {
-        self.put_position(random.between(1, 40), random.between(1, 100))?;
-        self.put_style(random)?;
-        match random.below(4) {
-            0 => self.put(FOREIGN[random.below(8)])?,
-            1 => self.put_words(random, 6)?,
-            _ => self.put_words(random, 2)?,
-        }
+        let row = random.between(1, 40);
+        self.put_words_at(row, random)?;
         match random.below(4) {
             0 => self.put("\x1B[K"),
             1 => self.put("\x1B[?25l\x1B[m"),
             _ => self.put("\x1B[m"),
         }
+    }
+
+    /// What a full-screen program writes at once, while the cursor is hidden: parts of a row and of the rows below it,
+    /// and in one of three frames of a line of status too. Then it goes to its place.
+    pub fn put_frame(&mut self, random: &mut Random) -> Result<(), AllocError> {
+        self.put("\x1B[?25l")?;
+        let first = random.between(1, 34);
+        let parts = random.between(2, 6);
+        for row in first..first + parts {
+            self.put_part_of_row(row, random)?;
+        }
+        if random.below(3) == 0 {
+            self.put_part_of_row(40, random)?;
+        }
+        self.put_position(first, random.between(1, 100))?;
+        self.put("\x1B[?25h")
+    }
+
+    /// Words of one style, somewhere in a row.
+    fn put_words_at(&mut self, row: usize, random: &mut Random) -> Result<(), AllocError> {
+        self.put_position(row, random.between(1, 100))?;
+        self.put_style(random)?;
+        match random.below(4) {
+            0 => self.put(FOREIGN[random.below(8)]),
+            1 => self.put_words(random, 6),
+            _ => self.put_words(random, 2),
+        }
+    }
+
+    /// Such words; where they end, the rest of one row in four is erased.
+    fn put_part_of_row(&mut self, row: usize, random: &mut Random) -> Result<(), AllocError> {
+        self.put_words_at(row, random)?;
+        if random.below(4) == 0 {
+            self.put("\x1B[K")?;
+        }
+        self.put("\x1B[m")
     }
 
     /// What an editor or a pager does to rows: it scrolls within margins, or inserts and deletes lines, and

@@ -12,4 +12,5 @@ pub mod Unseen
 pub mod Equal
 pub mod Runs
 pub mod Texts
+pub mod Passing
 pub mod Lanes

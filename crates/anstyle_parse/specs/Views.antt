@@ -10,4 +10,5 @@ pub mod Accumulator
 pub mod DecodingProof
 pub mod Runs
 pub mod Texts
+pub mod Passing
 pub mod CanonWriter

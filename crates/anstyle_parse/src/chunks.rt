@@ -1,7 +1,7 @@
 //! Sixteen bytes, tested by one comparison.
 ghost use Rattle.std.specs.Prelude.{◌≡◌, ◌≤◌, ◌+◌, map, not};
 ghost use Rattle.std.specs.Simd.Lanes.{mask_l};
-ghost use Rattle.anstyle_parse.specs.Stream.Bytes.{is_within, is_plain_text};
+ghost use Rattle.anstyle_parse.specs.Stream.Bytes.{is_within, is_parameter, is_plain_text};
 ghost use Rattle.anstyle_parse.specs.Stream.Texts.{is_layout};
 
 use crate::controls::SPACE;
@@ -9,6 +9,14 @@ use std::simd::prelude::*;
 
 /// How many bytes are tested at once.
 pub(crate) const CHUNK: usize = 16;
+
+/// The bytes of a chunk. They are loaded at once, also where some of them were looked at before.
+#[inline(always)]
+pub(crate) fn lanes(chunk: &[u8; CHUNK]) -> u8x16
+    ensures { result ≡ chunk.now }
+{
+    u8x16::from_slice(chunk)
+}
 
 /// A bit for each byte, the lowest for the first: whether it is none of the `count` from 20 on. With
 /// 20 taken off, modulo 100, these are the smallest.
@@ -38,4 +46,24 @@ pub(crate) fn unplain(bytes: u8x16) -> u64
     ensures { result ≡ mask_l (map (λ b. not (is_plain_text b)) bytes) }
 {
     (bytes.simd_lt(u8x16::splat(SPACE)) | bytes.simd_eq(u8x16::splat(b';'))).to_bitmask()
+}
+
+/// The same: whether it is no digit.
+#[inline(always)]
+pub(crate) fn beyond_digits(bytes: u8x16) -> u64
+    ensures { result ≡ mask_l (map (λ b. not (is_within 0x30 0x39 b)) bytes) }
+{
+    (bytes - u8x16::splat(b'0'))
+        .simd_ge(u8x16::splat(10))
+        .to_bitmask()
+}
+
+/// The same: whether it is none of the digits and separators of fields. These twelve stand one after another.
+#[inline(always)]
+pub(crate) fn beyond_fields(bytes: u8x16) -> u64
+    ensures { result ≡ mask_l (map (λ b. not (is_parameter b)) bytes) }
+{
+    (bytes - u8x16::splat(b'0'))
+        .simd_ge(u8x16::splat(12))
+        .to_bitmask()
 }

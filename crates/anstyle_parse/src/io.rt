@@ -3,6 +3,7 @@
 mod buffer;
 mod devices;
 mod engine;
+mod held;
 mod output;
 mod texts;
 

@@ -4,7 +4,7 @@
 mod tests;
 
 ghost use Rattle.anstyle_parse.specs.Stream.Arguments.{max_fields};
-ghost use Rattle.std.specs.Prelude.{◌≡◌, ◌<◌, ◌≤◌, ◌+◌, ◌-◌, ◌/◌, ◌%◌, ◌^◌, ◌++◌, ◌∷◌, [], ◌↔◌, ℕ, IsTrue, IfSome, ⊤, length};
+ghost use Rattle.std.specs.Prelude.{◌≡◌, ◌<◌, ◌≤◌, ◌+◌, ◌-◌, ◌/◌, ◌%◌, ◌^◌, ◌++◌, ◌∷◌, [], ◌↔◌, ℕ, IsTrue, IfSome, IfNone, ⊤, length, map, take};
 ghost use Rattle.std.specs.Bool.{OnFalse, OnTrue};
 ghost use Rattle.std.specs.List.{concat};
 ghost use Rattle.anstyle_parse.specs.Stream.Groups.{fields_text};
@@ -68,6 +68,23 @@ impl Params {
             numbers: &numbers[..self.len],
             starts: self.starts,
             place: 0,
+        }
+    }
+
+    /// All that can be stored, and how many fields there are, where each of them is a group of its own, as without
+    /// `:` they are: so that a performer can look at the first few fields at once, however many there are.
+    #[inline]
+    pub fn lone_fields(&self) -> Option<(&[u16; MAX_PARAMS], usize)>
+        ensures alone { IfSome result (λ fields. groups_shown self.now
+            ≡ map (λ field. field ∷ []) (take fields.1 fields.0.now)) }
+        ensures limit { IfSome result (λ fields. fields.1 ≤ max_fields) }
+        ensures others { IfNone result
+            (length (groups_shown self.now) < length (concat (groups_shown self.now))) }
+    {
+        if u64::from(self.starts) + 1 == 1 << self.len {
+            Some((&self.numbers, self.len))
+        } else {
+            None
         }
     }
 

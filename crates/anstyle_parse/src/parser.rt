@@ -4,6 +4,7 @@
 //! `step`, what a sequence has said in `header` and `command`.
 mod command;
 mod header;
+mod passing;
 mod runs;
 mod step;
 mod texts;

@@ -1,7 +1,9 @@
 //! What a parser calls.
-ghost use Rattle.std.specs.Prelude.{map, ⊤, List, [], ◌∷◌, ◌++◌};
+ghost use Rattle.std.specs.Prelude.{map, ⊤, ◌≤◌, ℕ, Bool, IsTrue, List, [], ◌∷◌, ◌++◌, length, take};
 ghost use Rattle.anstyle_parse.specs.Stream.Call.{Call, print, execute, hook, put, unhook, osc_dispatch, csi_dispatch, esc_dispatch};
+ghost use Rattle.anstyle_parse.specs.Stream.Items.{EachIs};
 ghost use Rattle.anstyle_parse.specs.Stream.Texts.{text_calls, layout_calls};
+ghost use Rattle.anstyle_parse.specs.Views.Texts.{is_text_byte};
 
 use crate::layout::split_at_layout;
 use crate::params::Params;
@@ -97,8 +99,9 @@ impl Perform for () {
 /// [`Parser::advance_texts`](crate::Parser::advance_texts) hands characters that are printed one
 /// after another, with the layout among them, on as one text. An implementation states in
 /// `receives` what a list of calls does to it. It need not say how it stands between two calls of
-/// the list, so that a text may change it in one step. One that writes `print_text` or
-/// `print_with_layout` itself shows that it does what the same calls, one by one, would have done.
+/// the list, so that a text may change it in one step. One that writes `print_text`,
+/// `print_with_layout` or `print_front` itself shows that it does what the same calls, one by one,
+/// would have done.
 pub trait PerformText: Perform {
     // What a list of calls does to it: the performer before, the calls, the performer after.
     ghost receives: { Self → List Call → Self → Type 0 };
@@ -134,6 +137,35 @@ pub trait PerformText: Perform {
             self.execute(control);
             rest = behind;
         }
+    }
+
+    /// A text that stands at the front of sixteen bytes, the first `count` of them, and is of characters of one byte
+    /// alone: as by `print_with_layout`. What comes behind it in `chunk` is no part of the text: it is there so that an
+    /// implementation can look at all sixteen bytes at once, or copy them, whatever `count` is. A parser hands on no
+    /// text that is empty or begins with layout.
+    ///
+    /// Where an implementation does not write it, the text goes to `print_with_layout`.
+    #[inline]
+    fn print_front(&mut self, chunk: &[u8; 16], count: usize)
+        requires within { count ≤ length chunk.now }
+        requires text { EachIs is_text_byte (take count chunk.now) }
+        ensures { receives self.old (layout_calls (take count chunk.now)) self.new }
+    {
+        let (text, _) = chunk.split_at(count);
+        // Each byte of it is a character.
+        self.print_with_layout(unsafe { str::from_utf8_unchecked(text) });
+    }
+
+    /// Whether each control sequence, whatever it says, leaves this performer unchanged, as it stands now.
+    ///
+    /// [`Parser::advance_heeded`](crate::Parser::advance_heeded) asks it. Where the answer is true, the parser need not
+    /// read what a sequence says, nor call [`Perform::csi_dispatch`].
+    #[inline(always)]
+    fn passes_over_control_sequences(&self) -> bool
+        ensures { IsTrue result → (groups : List (List ℕ)) (collected : List ℕ) (ignore : Bool) (final : ℕ)
+            → receives self.now (csi_dispatch groups collected ignore final ∷ []) self.now }
+    {
+        false
     }
 
     // No call leaves it as it is; one does what it means; a list and then another do what both

@@ -1,5 +1,5 @@
 -- Groups that are cut from fields by a mask of their starts.
-use Rattle.std.proofs.Common.{◌≡◌, ℕ, zero, suc, Bool, true, false, ◌+◌, ◌-◌, ◌*◌, ◌/◌, ◌%◌, ◌^◌, ◌<◌, ◌≤◌, List, [], ◌∷◌, ◌++◌, length, take, drop, set, cond, min, refl, sym, ap, ap₂, ◌∙◌, arith, length-append, length-drop}
+use Rattle.std.proofs.Common.{◌≡◌, ℕ, zero, suc, Bool, true, false, ◌+◌, ◌-◌, ◌*◌, ◌/◌, ◌%◌, ◌^◌, ◌<◌, ◌≤◌, List, [], ◌∷◌, ◌++◌, length, take, drop, set, cond, min, refl, map, sym, ap, ap₂, ◌∙◌, arith, ◌≢◌, length-append, length-drop}
 use Rattle.std.specs.Prelude.{not, ◌==◌}
 use Rattle.std.specs.List.{concat, prefix_len}
 use Rattle.std.specs.Int.Bits.{bit_or, or_shifted_r}
@@ -167,6 +167,9 @@ new_start n m bit h is = ap (bit_or m) is ∙ (ap (bit_or m) power ∙ (or_shift
 pub bit_below : (n : ℕ) → n < 32 → 1 * 2 ^ n % 2 ^ 32 ≡ 2 ^ n
 bit_below n lt = let below : 2 ^ n < 2 ^ 32 = pow_below n 32 lt in mod-eq_of_lt (omega arith) ∙ omega arith
 
+pub wide_bit_below : (n : ℕ) → n < 64 → 1 * 2 ^ n % 2 ^ 64 ≡ 2 ^ n
+wide_bit_below n lt = let below : 2 ^ n < 2 ^ 64 = pow_below n 64 lt in mod-eq_of_lt (omega arith) ∙ omega arith
+
 cut_at-set : (c m i item : ℕ) (ns : List ℕ) → c ≤ i → cut_at (starts_of c m) (set ns i item) ≡ cut_at (starts_of c m) ns
 cut_at-set c m i item ns h = cut_at-front c m (set ns i item) ns (take-set-le c ns i item h)
 
@@ -319,3 +322,56 @@ module _ (ns : List ℕ) (m place k : ℕ) (whole : length ns ≡ place + suc k)
         ap (λ n. m / 2 ^ (place + n) % 2) is
         ∙ (ap (λ h. h % 2) (sym (pow-join m place (suc (run others))))
         ∙ (ap (λ h. h % 2) (sym (half-pow (m / 2 ^ place) (run others))) ∙ run-stops k (m / 2 ^ place / 2) (omega arith)))
+
+-- fields of which each is a group of its own
+cut_at-few : (starts : List Bool) (ns : List ℕ) → length (cut_at starts ns) ≤ length starts
+cut_at-few [] ns = omega arith
+cut_at-few (true ∷ starts) ns = omega (arith, cut_at-few starts (drop 1 ns))
+cut_at-few (false ∷ starts) ns = omega (arith, cut_at-few starts (drop 1 ns))
+
+no_run : (starts : List Bool) (ns : List ℕ) → length (cut_at starts ns) ≡ length starts → prefix_len not starts ≡ 0
+no_run [] ns all = refl
+no_run (true ∷ starts) ns all = refl
+no_run (false ∷ starts) ns all = absurd (omega (arith, all, cut_at-few starts (drop 1 ns)))
+
+cut_at-alone : (starts : List Bool) (ns : List ℕ) → length starts ≤ length ns → length (cut_at starts ns) ≡ length starts
+    → cut_at starts ns ≡ map (λ n. n ∷ []) (take (length starts) ns)
+cut_at-alone [] ns within all = refl
+cut_at-alone (start ∷ starts) [] within all = absurd (omega (arith, within))
+cut_at-alone (false ∷ starts) (n ∷ ns) within all = absurd (omega (arith, all, cut_at-few starts ns))
+cut_at-alone (true ∷ starts) (n ∷ ns) within all =
+    let left : length (cut_at starts ns) ≡ length starts = omega (arith, all) in
+    ap₂ (λ k gs. (n ∷ take k ns) ∷ gs) (no_run starts ns left) (cut_at-alone starts ns (omega (arith, within)) left)
+
+-- all of so many bits are set exactly in the number below the next power
+all_start : (n m : ℕ) (ns : List ℕ) → m + 1 ≡ 2 ^ n → length (cut_at (starts_of n m) ns) ≡ n
+all_start zero m ns all = refl
+all_start (suc n) m ns all =
+    let odd : m % 2 ≡ 1 = omega (arith, all, pow-succ' 2 n, pow_pos n) in
+    let half : m / 2 + 1 ≡ 2 ^ n = omega (arith, all, pow-succ' 2 n, pow_pos n) in
+    ap (λ digit. length (cut_at ((digit == 1) ∷ starts_of n (m / 2)) ns)) odd ∙ ap suc (all_start n (m / 2) (drop 1 ns) half)
+
+start_of_all : (n m : ℕ) (ns : List ℕ) → m < 2 ^ n → length (cut_at (starts_of n m) ns) ≡ n → m + 1 ≡ 2 ^ n
+start_of_all zero m ns above all = omega (arith, above)
+start_of_all (suc n) m ns above all =
+    by_digit (m % 2) refl all (start_of_all n (m / 2) (drop 1 ns) (omega (arith, above, pow-succ' 2 n)))
+  where
+    by_digit : (d : ℕ) → m % 2 ≡ d → length (cut_at ((d == 1) ∷ starts_of n (m / 2)) ns) ≡ suc n
+        → (length (cut_at (starts_of n (m / 2)) (drop 1 ns)) ≡ n → m / 2 + 1 ≡ 2 ^ n) → m + 1 ≡ 2 ^ suc n
+    by_digit zero e all half =
+        absurd (omega (arith, all, cut_at-few (starts_of n (m / 2)) (drop 1 ns), length-starts_of n (m / 2)))
+    by_digit (suc zero) e all half = omega (arith, e, pow-succ' 2 n, half (omega (arith, all)))
+    by_digit (suc (suc d)) e all half = absurd (omega arith)
+
+pub lone-groups : (n m : ℕ) (ns : List ℕ) → n ≤ length ns → m + 1 ≡ 2 ^ n → cut_at (starts_of n m) ns ≡ map (λ field. field ∷ []) (take n ns)
+lone-groups n m ns within all =
+    let long = length-starts_of n m in
+    cut_at-alone (starts_of n m) ns (omega (arith, long, within)) (all_start n m ns all ∙ sym long)
+    ∙ ap (λ k. map (λ field. field ∷ []) (take k ns)) long
+
+pub shared-groups : (n m : ℕ) (ns : List ℕ) → n ≤ length ns → m < 2 ^ n → (0 < n → m % 2 ≡ 1) → m + 1 ≢ 2 ^ n
+    → length (cut_at (starts_of n m) ns) < length (concat (cut_at (starts_of n m) ns))
+shared-groups n m ns within above first some =
+    let few : length (cut_at (starts_of n m) ns) ≤ n = omega (arith, cut_at-few (starts_of n m) ns, length-starts_of n m) in
+    let not_all : length (cut_at (starts_of n m) ns) ≢ n = λ all. some (start_of_all n m ns above all) in
+    omega (arith, few, not_all, field_count n m ns within first)

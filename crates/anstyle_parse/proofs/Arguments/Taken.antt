@@ -1,11 +1,11 @@
 -- The bytes of fields, taken at once.
-use Rattle.std.proofs.Common.{◌≡◌, ◌≢◌, ℕ, ◌<◌, ◌≤◌, Bool, true, false, IsTrue, eqb, List, [], ◌∷◌, ◌++◌, length, refl, sym, ap, subst, ◌∙◌, arith, length-append, ◌⊎◌, ⊎_elim, inl, inr}
+use Rattle.std.proofs.Common.{◌≡◌, ◌≢◌, ℕ, zero, suc, take, drop, ◌<◌, ◌≤◌, Bool, true, false, IsTrue, eqb, List, [], ◌∷◌, ◌++◌, length, ◌+◌, ◌-◌, ◌*◌, refl, sym, ap, subst, ◌∙◌, arith, length-append, ◌⊎◌, ⊎_elim, inl, inr}
 use Rattle.std.specs.Prelude.{fold, nat_le, ⊤}
 use Rattle.std.proofs.lemmas.Bool.{and_parts, and_from, leb-true, le-leb, ne_eqb, cond-false}
 use Rattle.anstyle_parse.specs.declared.state.definitions.State.{State}
 use Rattle.anstyle_parse.specs.declared.state.definitions.State.TheVariants.{CsiEntry, CsiParam}
 use Rattle.anstyle_parse.specs.Stream.Bytes.{is_within, is_parameter, colon, semicolon}
-use Rattle.anstyle_parse.specs.Stream.Arguments.{max_fields}
+use Rattle.anstyle_parse.specs.Stream.Arguments.{max_field, max_fields}
 use Rattle.anstyle_parse.specs.Stream.Items.{EachIs}
 use Rattle.anstyle_parse.specs.Machine.Step.{Machine, AccumulatorStep, field_count, after_param, step, machine_after, machine_calls}
 use Rattle.anstyle_parse.specs.declared.parser.Parser.{Parser}
@@ -17,7 +17,7 @@ use Rattle.anstyle_parse.proofs.Machine.Actions.{with_header_of, with_parameter_
 use Rattle.anstyle_parse.proofs.Machine.Runs.{state-with_parameter, step-field, step-parameter}
 use Rattle.anstyle_parse.proofs.Arguments.Stored.{AreBelow-later}
 
-digit-bounds : (b : ℕ) → IsTrue (is_within 0x30 0x39 b) → (0x30 ≤ b) × (b ≤ 0x39)
+pub digit-bounds : (b : ℕ) → IsTrue (is_within 0x30 0x39 b) → (0x30 ≤ b) × (b ≤ 0x39)
 unfolding is_within
 digit-bounds b digit =
     let ends = and_parts (nat_le 0x30 b) (nat_le b 0x39) digit in
@@ -28,12 +28,6 @@ unfolding is_within is_parameter
 is_parameter-digit b digit =
     let ends = digit-bounds b digit in
     and_from (nat_le 0x30 b) (nat_le b 0x3B) (le-leb 0x30 b ends.0) (le-leb b 0x3B (omega (arith, ends.1)))
-
-pub is_parameter-separator : (b : ℕ) → IsTrue (is_within colon semicolon b) → IsTrue (is_parameter b)
-unfolding is_within is_parameter
-is_parameter-separator b separator =
-    let ends = and_parts (nat_le 0x3A b) (nat_le b 0x3B) separator in
-    and_from (nat_le 0x30 b) (nat_le b 0x3B) (le-leb 0x30 b (omega (arith, leb-true 0x3A b ends.0))) ends.1
 
 -- digits, one after another
 pub TakesDigits-none : (number : ℕ) (bytes : List ℕ) → TakesDigits number bytes number bytes
@@ -47,6 +41,42 @@ TakesDigits-digit number b new bytes left digit takes = record {
   each = (digit, takes.each);
   taken = takes.taken;
 }
+
+-- the same, where the number does not reach the greatest one
+pub TakesDigits-next : (number b value new : ℕ) (bytes left : List ℕ) → IsTrue (is_within 0x30 0x39 b)
+    → value ≡ number * 10 + (b - 0x30) → value ≤ max_field → TakesDigits value bytes new left → TakesDigits number (b ∷ bytes) new left
+TakesDigits-next number b value new bytes left digit is fits takes =
+    let same : value ≡ number_with number b = omega (arith, is, fits) in
+    TakesDigits-digit number b new bytes left digit (subst (λ n. TakesDigits n bytes new left) same takes)
+
+-- and up to three, by what each stands for
+module _ (a b c : ℕ) (left : List ℕ) (one ones last value : ℕ)
+    (a_is : IsTrue (is_within 0x30 0x39 a) → one ≡ a - 0x30) (b_is : IsTrue (is_within 0x30 0x39 b) → ones ≡ b - 0x30) (c_is : IsTrue (is_within 0x30 0x39 c) → last ≡ c - 0x30) where
+  pub TakesDigits-few : (count : ℕ) → count ≤ 3 → EachIs (λ x. is_within 0x30 0x39 x) (take count (a ∷ b ∷ c ∷ []))
+      → (count ≡ 0 → value ≡ 0) → (count ≡ 1 → value ≡ one) → (count ≡ 2 → value ≡ one * 10 + ones) → (count ≡ 3 → value ≡ (one * 10 + ones) * 10 + last)
+      → TakesDigits 0 (a ∷ b ∷ c ∷ left) value (drop count (a ∷ b ∷ c ∷ left))
+  TakesDigits-few zero few each none first second third =
+      subst (λ v. TakesDigits 0 (a ∷ b ∷ c ∷ left) v (a ∷ b ∷ c ∷ left)) (sym (none refl)) (TakesDigits-none 0 (a ∷ b ∷ c ∷ left))
+  TakesDigits-few (suc zero) few each none first second third =
+      let ends = digit-bounds a each.0 in
+      TakesDigits-next 0 a value value (b ∷ c ∷ left) (b ∷ c ∷ left) each.0 (omega (arith, first refl, a_is each.0)) (omega (arith, first refl, a_is each.0, ends.1))
+      (TakesDigits-none value (b ∷ c ∷ left))
+  TakesDigits-few (suc (suc zero)) few each none first second third =
+      let ends = digit-bounds a each.0 in
+      let more = digit-bounds b each.1.0 in
+      TakesDigits-next 0 a one value (b ∷ c ∷ left) (c ∷ left) each.0 (omega (arith, a_is each.0)) (omega (arith, a_is each.0, ends.1))
+      (TakesDigits-next one b value value (c ∷ left) (c ∷ left) each.1.0 (omega (arith, second refl, b_is each.1.0))
+      (omega (arith, second refl, a_is each.0, b_is each.1.0, ends.1, more.1)) (TakesDigits-none value (c ∷ left)))
+  TakesDigits-few (suc (suc (suc zero))) few each none first second third =
+      let ends = digit-bounds a each.0 in
+      let more = digit-bounds b each.1.0 in
+      let most = digit-bounds c each.1.1.0 in
+      let two = one * 10 + ones in
+      TakesDigits-next 0 a one value (b ∷ c ∷ left) left each.0 (omega (arith, a_is each.0)) (omega (arith, a_is each.0, ends.1))
+      (TakesDigits-next one b two value (c ∷ left) left each.1.0 (omega (arith, b_is each.1.0)) (omega (arith, a_is each.0, b_is each.1.0, ends.1, more.1))
+      (TakesDigits-next two c value value left left each.1.1.0 (omega (arith, third refl, c_is each.1.1.0))
+      (omega (arith, third refl, a_is each.0, b_is each.1.0, c_is each.1.1.0, ends.1, more.1, most.1)) (TakesDigits-none value left)))
+  TakesDigits-few (suc (suc (suc (suc n)))) few each none first second third = absurd (omega (arith, few))
 
 pub TakesDigits-length : (number new : ℕ) (bytes left : List ℕ) → TakesDigits number bytes new left → length left ≤ length bytes
 TakesDigits-length number new bytes left takes = omega (arith, ap length takes.whole, length-append takes.digits left)

@@ -7,13 +7,14 @@ use Rattle.std.proofs.Math.Seq.{get_or-append_seam}
 use Rattle.std.proofs.Math.Utf8.{low_scalar}
 use Rattle.std.proofs.lemmas.Bool.{cases_lt, false≢true, or_cases}
 use Rattle.std.proofs.lemmas.List.{map-append, take_at, drop_at}
-use Rattle.std.proofs.lemmas.Str.{chars-nil, chars-append, chars_past_char, encodes-chars, IsUtf8-encode, IsUtf8-past_char, IsUtf8-take, IsUtf8-drop, IsCharBoundary-before_ascii, IsCharBoundary-after_ascii}
+use Rattle.std.proofs.lemmas.Str.{chars-nil, chars-append, chars_past_char, encodes-chars, IsUtf8-nil, IsUtf8-append, IsUtf8-encode, IsUtf8-past_char, IsUtf8-take, IsUtf8-drop, IsCharBoundary-before_ascii, IsCharBoundary-after_ascii}
+use Rattle.anstyle_parse.specs.Stream.Bytes.{is_within}
 use Rattle.anstyle_parse.specs.Stream.Call.{Call, print, execute}
 use Rattle.anstyle_parse.specs.Stream.Items.{EachIs}
 use Rattle.anstyle_parse.specs.Stream.Texts.{text_calls, is_layout, layout_call, layout_calls}
-use Rattle.anstyle_parse.specs.Views.Texts.{AreAtLayout}
+use Rattle.anstyle_parse.specs.Views.Texts.{AreAtLayout, is_text_byte}
 use Rattle.anstyle_parse.proofs.Bytes.Passing.{EachIs-parts}
-use Rattle.anstyle_parse.proofs.Characters.Encoding.{encode_one}
+use Rattle.anstyle_parse.proofs.Characters.Encoding.{encode_one, within_parts}
 
 -- they are C0 controls
 pub layout-low : (b : ℕ) → is_layout b ≡ true → b < 0x0E
@@ -123,6 +124,16 @@ IsUtf8-byte b low = subst IsUtf8 (encode_one b low) (IsUtf8-encode b (low_scalar
 
 pub IsUtf8-layout : (b : ℕ) → is_layout b ≡ true → IsUtf8 (b ∷ [])
 IsUtf8-layout b is = let low = layout-low b is in IsUtf8-byte b (omega arith)
+
+-- and so are bytes of a text of which each is a character
+pub IsUtf8-text_bytes : (bytes : List ℕ) → EachIs is_text_byte bytes → IsUtf8 bytes
+IsUtf8-text_bytes [] each = IsUtf8-nil
+IsUtf8-text_bytes (b ∷ bytes) each =
+    let low : b < 0x80 = ⊎_elim
+    (λ printed. let bounds = within_parts 0x20 0x7F b printed in omega (arith, bounds.1))
+    (λ layout. let low = layout-low b layout in omega arith)
+    (or_cases (is_within 0x20 0x7F b) (is_layout b) each.0) in
+    IsUtf8-append (b ∷ []) bytes (IsUtf8-byte b low) (IsUtf8-text_bytes bytes each.1)
 
 -- the calls of a text, piece by piece
 module _ {P : Type 0} (receives : P → List Call → P → Type 0) (none : (performer : P) → receives performer [] performer)

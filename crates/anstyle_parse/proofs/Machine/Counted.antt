@@ -238,20 +238,29 @@ step-counted add b m =
     )
 
 -- machines of which the same counts have the same calls, and the same counts after
+module _ {A : Type 0} (add : AccumulatorStep A) where
+  same_step : (b : ℕ) (m n : Machine A) → counted m ≡ counted n → Same (step add b m) (step add b n) (step_calls add b m) (step_calls add b n)
+  same_step b m n e =
+      let left = step-counted add b m in
+      let right = step-counted add b n in (
+        (left.0 ∙ ap (λ r. counted (step add b r)) e) ∙ sym right.0,
+        (left.1 ∙ ap (λ r. step_calls add b r) e) ∙ sym right.1,
+      )
+
+  -- and so over a list of bytes
+  pub same_machine : (bytes : List ℕ) (m n : Machine A) → counted m ≡ counted n
+      → (counted (machine_after add bytes m) ≡ counted (machine_after add bytes n)) × (machine_calls add bytes m ≡ machine_calls add bytes n)
+  same_machine [] m n e = (e, refl)
+  same_machine (b ∷ bytes) m n e =
+      let one = same_step b m n e in
+      let rest = same_machine bytes (step add b m) (step add b n) one.0 in
+      (rest.0, ap (λ c. c ++ machine_calls add bytes (step add b m)) one.1 ∙ ap (λ c. step_calls add b n ++ c) rest.1)
+
+-- those of the decoder
 pub counted-step : (b : ℕ) (m n : Machine (List ℕ)) → counted m ≡ counted n
     → (counted (step decoded b m) ≡ counted (step decoded b n)) × (step_calls decoded b m ≡ step_calls decoded b n)
-counted-step b m n e =
-    let left = step-counted decoded b m in
-    let right = step-counted decoded b n in (
-      (left.0 ∙ ap (λ r. counted (step decoded b r)) e) ∙ sym right.0,
-      (left.1 ∙ ap (λ r. step_calls decoded b r) e) ∙ sym right.1,
-    )
+counted-step b m n e = same_step decoded b m n e
 
--- and so over a list of bytes
 pub counted-machine : (bytes : List ℕ) (m n : Machine (List ℕ)) → counted m ≡ counted n
     → (counted (machine_after decoded bytes m) ≡ counted (machine_after decoded bytes n)) × (machine_calls decoded bytes m ≡ machine_calls decoded bytes n)
-counted-machine [] m n e = (e, refl)
-counted-machine (b ∷ bytes) m n e =
-    let one = counted-step b m n e in
-    let rest = counted-machine bytes (step decoded b m) (step decoded b n) one.0 in
-    (rest.0, ap (λ c. c ++ machine_calls decoded bytes (step decoded b m)) one.1 ∙ ap (λ c. step_calls decoded b n ++ c) rest.1)
+counted-machine bytes m n e = same_machine decoded bytes m n e

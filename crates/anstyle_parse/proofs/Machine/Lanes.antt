@@ -20,12 +20,12 @@ minus a b = (a + (256 - b)) % 256
 abbrev at_most : ℕ → ℕ → ℕ
 at_most a b = cond (leb a b) 255 0
 
-abbrev lane : (count b : ℕ) → ℕ
-lane count b = at_most count (minus b 0x20)
+abbrev lane : (before count b : ℕ) → ℕ
+lane before count b = at_most count (minus b (suc before))
 
--- whether a byte is none of so many from 20 on
-abbrev pub is_outside : (count b : ℕ) → Bool
-is_outside count b = not (is_within 0x20 (0x1F + count) b)
+-- whether a byte is none of the so many that come next after one
+abbrev is_beyond : (before count b : ℕ) → Bool
+is_beyond before count b = not (is_within (suc before) (before + count) b)
 
 top-at_most : (a b : ℕ) → top 7 (at_most a b) ≡ leb a b
 top-at_most a b = by (leb a b)
@@ -34,51 +34,60 @@ top-at_most a b = by (leb a b)
     by true = refl
     by false = refl
 
-low_is_outside : (count b : ℕ) → b < 0x20 → is_outside count b ≡ true
+low_is_beyond : (before count b : ℕ) → b < suc before → is_beyond before count b ≡ true
 unfolding is_within
-low_is_outside count b low = ap (λ t. not (t && nat_le b (0x1F + count))) (lt-leb 0x20 b low)
+low_is_beyond before count b low = ap (λ t. not (t && nat_le b (before + count))) (lt-leb (suc before) b low)
 
-high_is_outside : (count b : ℕ) → 0x1F + count < b → is_outside count b ≡ true
+high_is_beyond : (before count b : ℕ) → before + count < b → is_beyond before count b ≡ true
 unfolding is_within
-high_is_outside count b high = ap (λ t. not (nat_le 0x20 b && t)) (lt-leb b (0x1F + count) high) ∙ by (nat_le 0x20 b)
+high_is_beyond before count b high = ap (λ t. not (nat_le (suc before) b && t)) (lt-leb b (before + count) high) ∙ by (nat_le (suc before) b)
   where
     by : (t : Bool) → not (t && false) ≡ true
     by true = refl
     by false = refl
 
-within_is_no_outside : (count b : ℕ) → 0x20 ≤ b → b ≤ 0x1F + count → is_outside count b ≡ false
+within_is_not_beyond : (before count b : ℕ) → suc before ≤ b → b ≤ before + count → is_beyond before count b ≡ false
 unfolding is_within
-within_is_no_outside count b low high = ap₂ (λ s t. not (s && t)) (le-leb 0x20 b low) (le-leb b (0x1F + count) high)
+within_is_not_beyond before count b low high = ap₂ (λ s t. not (s && t)) (le-leb (suc before) b low) (le-leb b (before + count) high)
 
-one_lane : (count b : ℕ) → count ≤ 0xE0 → b < 256 → top 7 (lane count b) ≡ is_outside count b
-one_lane count b few small =
-    top-at_most count (minus b 0x20)
+one_lane : (before count b : ℕ) → before + count ≤ 0xFF → b < 256 → top 7 (lane before count b) ≡ is_beyond before count b
+one_lane before count b few small =
+    top-at_most count (minus b (suc before))
     ∙ ⊎_elim
-    (λ (low : b < 0x20). le-leb count (minus b 0x20) (omega (arith, low, few)) ∙ sym (low_is_outside count b low))
-    (λ (k : 0x20 ≤ b). ⊎_elim
-    (λ (high : 0x1F + count < b). le-leb count (minus b 0x20) (omega (arith, high, k, small)) ∙ sym (high_is_outside count b high))
-    (λ (j : b ≤ 0x1F + count). lt-leb count (minus b 0x20) (omega (arith, j, k, small)) ∙ sym (within_is_no_outside count b k j))
-    (cases_lt (0x1F + count) b))
-    (cases_lt b 0x20)
+    (λ (low : b < suc before). le-leb count (minus b (suc before)) (omega (arith, low, few)) ∙ sym (low_is_beyond before count b low))
+    (λ (k : suc before ≤ b). ⊎_elim
+    (λ (high : before + count < b). le-leb count (minus b (suc before)) (omega (arith, high, k, small)) ∙ sym (high_is_beyond before count b high))
+    (λ (j : b ≤ before + count). lt-leb count (minus b (suc before)) (omega (arith, j, k, small)) ∙ sym (within_is_not_beyond before count b k j))
+    (cases_lt (before + count) b))
+    (cases_lt b (suc before))
 
-module _ (count : ℕ) (few : count ≤ 0xE0) where
-  all_lanes : (bytes : List ℕ) → Each1 (Fits w8) bytes → map (top 7) (map (lane count) bytes) ≡ map (is_outside count) bytes
+module _ (before count : ℕ) (few : before + count ≤ 0xFF) where
+  all_lanes : (bytes : List ℕ) → Each1 (Fits w8) bytes → map (top 7) (map (lane before count) bytes) ≡ map (is_beyond before count) bytes
   all_lanes [] fits = refl
-  all_lanes (b ∷ bytes) fits = ap₂ (λ x xs. x ∷ xs) (one_lane count b few fits.0.fits) (all_lanes bytes fits.1)
+  all_lanes (b ∷ bytes) fits = ap₂ (λ x xs. x ∷ xs) (one_lane before count b few fits.0.fits) (all_lanes bytes fits.1)
 
   lanes_are : (bytes : List ℕ) → length bytes ≡ 16
-      → zip2 at_most (replicate 16 count) (zip2 minus bytes (replicate 16 0x20)) ≡ map (lane count) bytes
+      → zip2 at_most (replicate 16 count) (zip2 minus bytes (replicate 16 (suc before))) ≡ map (lane before count) bytes
   lanes_are bytes long =
-      ap (zip2 at_most (replicate 16 count)) (zip2_splat minus bytes 16 0x20 long)
-      ∙ zip2_splat_left at_most count 16 (map (λ b. minus b 0x20) bytes) (length-map bytes (λ b. minus b 0x20) ∙ long)
-      ∙ map-map (λ x. at_most count x) (λ b. minus b 0x20) bytes
+      ap (zip2 at_most (replicate 16 count)) (zip2_splat minus bytes 16 (suc before) long)
+      ∙ zip2_splat_left at_most count 16 (map (λ b. minus b (suc before)) bytes) (length-map bytes (λ b. minus b (suc before)) ∙ long)
+      ∙ map-map (λ x. at_most count x) (λ b. minus b (suc before)) bytes
 
-  pub mask-outside : (bytes : List ℕ) → length bytes ≡ 16 → Each1 (Fits w8) bytes
-      → mask_l (map (top 7) (zip2 at_most (replicate 16 count) (zip2 minus bytes (replicate 16 0x20)))) % 2 ^ 64
-      ≡ mask_l (map (is_outside count) bytes)
-  mask-outside bytes long fits =
+  pub mask-beyond : (bytes : List ℕ) → length bytes ≡ 16 → Each1 (Fits w8) bytes
+      → mask_l (map (top 7) (zip2 at_most (replicate 16 count) (zip2 minus bytes (replicate 16 (suc before))))) % 2 ^ 64
+      ≡ mask_l (map (is_beyond before count) bytes)
+  mask-beyond bytes long fits =
       ap (λ l. mask_l l % 2 ^ 64) (ap (map (top 7)) (lanes_are bytes long) ∙ all_lanes bytes fits)
-      ∙ mask_l-mod (map (is_outside count) bytes) 64 (omega (arith, length-map bytes (is_outside count)))
+      ∙ mask_l-mod (map (is_beyond before count) bytes) 64 (omega (arith, length-map bytes (is_beyond before count)))
+
+-- the same of so many from 20 on
+abbrev pub is_outside : (count b : ℕ) → Bool
+is_outside count b = not (is_within 0x20 (0x1F + count) b)
+
+pub mask-outside : (count : ℕ) → count ≤ 0xE0 → (bytes : List ℕ) → length bytes ≡ 16 → Each1 (Fits w8) bytes
+    → mask_l (map (top 7) (zip2 at_most (replicate 16 count) (zip2 minus bytes (replicate 16 0x20)))) % 2 ^ 64
+    ≡ mask_l (map (is_outside count) bytes)
+mask-outside count few = mask-beyond 0x1F count (omega (arith, few))
 
 -- whether a byte is a layout control, lane by lane
 abbrev hit : ℕ → ℕ → ℕ

@@ -7,18 +7,18 @@ use Rattle.std.proofs.lemmas.Bool.{cond-true, cond_both, and_from, and_parts, le
 use Rattle.anstyle_parse.specs.declared.state.definitions.State.{State}
 use Rattle.anstyle_parse.specs.declared.state.definitions.State.TheVariants.{Anywhere, CsiEntry, CsiIgnore, CsiParam, DcsEntry, DcsIgnore, DcsPassthrough, Escape, Ground, OscString, SosPmApcString, Utf8}
 use Rattle.anstyle_parse.specs.declared.state.definitions.Action.{Action}
-use Rattle.anstyle_parse.specs.declared.state.definitions.Action.TheVariants.{BeginUtf8, CsiDispatch, EscDispatch, Execute, Nop, OscPut, Param}
+use Rattle.anstyle_parse.specs.declared.state.definitions.Action.TheVariants.{BeginUtf8, Collect, CsiDispatch, EscDispatch, Execute, Nop, OscPut, Param}
 use Rattle.anstyle_parse.specs.declared.accumulator.Taken.{Taken}
 use Rattle.anstyle_parse.specs.declared.accumulator.Taken.TheVariants.{More}
 use Rattle.anstyle_parse.specs.declared.parser.Parser.{Parser}
 use Rattle.anstyle_parse.specs.declared.parser.runs.Run.{Run}
 use Rattle.anstyle_parse.specs.declared.parser.runs.Run.TheVariants.{Printed, OfHookedString, OfIgnoredString, OfIgnoredHeader}
-use Rattle.anstyle_parse.specs.Stream.Bytes.{is_within, is_parameter, is_final, colon, semicolon}
+use Rattle.anstyle_parse.specs.Stream.Bytes.{is_within, is_parameter, is_marker, is_final, colon, semicolon}
 use Rattle.anstyle_parse.specs.Stream.Characters.{is_lead}
 use Rattle.anstyle_parse.specs.Stream.Arguments.{max_fields, max_osc_bytes, max_osc_parts}
 use Rattle.anstyle_parse.specs.Stream.Call.{Call, Goes, print}
 use Rattle.anstyle_parse.specs.Machine.Table.{Change, ◌by◌, change_at}
-use Rattle.anstyle_parse.specs.Machine.Step.{Machine, AccumulatorStep, Completes, IsWhole, print_answer, state_after_answer, after_answer, answer_calls, after_change, change_calls, field_count, after_param, stored_count, after_osc_put, step, step_calls, machine_after, machine_calls}
+use Rattle.anstyle_parse.specs.Machine.Step.{Machine, AccumulatorStep, Completes, IsWhole, print_answer, state_after_answer, after_answer, answer_calls, after_change, change_calls, after_clear, field_count, after_param, stored_count, after_osc_put, step, step_calls, machine_after, machine_calls}
 use Rattle.anstyle_parse.specs.Views.Parser.{machine_of, CanTakeAll}
 use Rattle.anstyle_parse.specs.Stream.Items.{EachIs}
 use Rattle.anstyle_parse.specs.Views.Runs.{LeadsTo, Takes, LeadsQuietlyTo, KeepsTo, is_of_run, run_action, run_calls, AreMade}
@@ -171,6 +171,34 @@ change_at-final state b is final =
     (λ e. ap (λ s. change_at s b) e ∙ change_at-within CsiEntry 0x40 0x7E (Ground by CsiDispatch) (omega arith) b final refl)
     (λ e. ap (λ s. change_at s b) e ∙ change_at-within CsiParam 0x40 0x7E (Ground by CsiDispatch) (omega arith) b final refl)
     is
+
+pub change_at-marker : (state : State) (b : ℕ) → state ≡ CsiEntry → IsTrue (is_marker b) → change_at state b ≡ (CsiParam by Collect)
+unfolding change_at is_within is_marker
+change_at-marker state b is marker =
+    ap (λ s. change_at s b) is ∙ change_at-within CsiEntry 0x3C 0x3F (CsiParam by Collect) (omega arith) b marker refl
+
+-- ESC in Ground and then [: both clear the header, and neither makes a call
+module _ {A : Type 0} (adds : AccumulatorStep A) (m : Machine A) where
+  abbrev cleared : State → Machine A
+  cleared state = record (after_clear m) { state = state }
+
+  escaped : m.state ≡ Ground → (step adds 0x1B m ≡ cleared Escape) × (step_calls adds 0x1B m ≡ [])
+  escaped ground =
+      let same : record m { state = Ground } ≡ m = ap (λ (s : State). let r : Machine A = record m { state = s } in r) (sym ground) in
+      let Q : Machine A → Type 0 = λ x. (step adds 0x1B x ≡ cleared Escape) × (step_calls adds 0x1B x ≡ []) in
+      subst Q same (step-by adds (record m { state = Ground }) 0x1B (Escape by Nop) (λ h. absurd (cc)) (change_at-escape Ground 0x1B refl refl))
+
+  introduced : (step adds 0x5B (cleared Escape) ≡ cleared CsiEntry) × (step_calls adds 0x5B (cleared Escape) ≡ [])
+  introduced = step-by adds (cleared Escape) 0x5B (CsiEntry by Nop) (λ h. absurd (cc)) (change_at-introducer Escape 0x5B refl refl)
+
+  pub step-escaped : m.state ≡ Ground → step adds 0x1B m ≡ cleared Escape
+  step-escaped ground = (escaped ground).0
+
+  pub step-introduced : m.state ≡ Ground → step adds 0x5B (step adds 0x1B m) ≡ cleared CsiEntry
+  step-introduced ground = ap (λ x. step adds 0x5B x) (escaped ground).0 ∙ introduced.0
+
+  pub calls-introduced : m.state ≡ Ground → (step_calls adds 0x1B m ≡ []) × (step_calls adds 0x5B (step adds 0x1B m) ≡ [])
+  calls-introduced ground = ((escaped ground).1, ap (λ x. step_calls adds 0x5B x) (escaped ground).0 ∙ introduced.1)
 
 abbrev same_state : {A : Type 0} → Machine A → Machine A → Type 0
 same_state m n = n.state ≡ m.state
@@ -348,6 +376,25 @@ module _ {C P : Type 0} (takes : C → ℕ → Type 0) (adds : AccumulatorStep C
   LeadsTo-bytes p q r x y z a b behind left can same first_step first_calls second_step second_calls =
       LeadsTo-first same (LeadsTo-byte p q x y a behind can first_step first_calls)
       (λ further. LeadsTo-byte q r y z b left further second_step second_calls)
+
+  -- ESC and [, which make no call
+  pub LeadsTo-introduced : (old new : Parser C) (performer : P) (a b : ℕ) (behind left : List ℕ) → CanTakeAll takes old (a ∷ behind) → behind ≡ b ∷ left
+      → old.state ≡ Ground → a ≡ 0x1B → b ≡ 0x5B → machine_of new ≡ step adds 0x5B (step adds 0x1B (machine_of old))
+      → LeadsTo takes adds means old performer (a ∷ behind) new performer left
+  LeadsTo-introduced old new performer a b behind left can same ground escape bracket is =
+      let m = machine_of old in
+      let calls = calls-introduced adds m ground in
+      let between : Parser C = record new { state = Escape } in
+      let clear : machine_of new ≡ record (after_clear m) { state = CsiEntry } = is ∙ step-introduced adds m ground in
+      let first : machine_of between ≡ step adds 0x1B m =
+      ap (λ (x : Machine C). let r : Machine C = record x { state = Escape } in r) clear ∙ sym (step-escaped adds m ground) in
+      let first_at : machine_of between ≡ step adds a m = first ∙ ap (λ n. step adds n m) (sym escape) in
+      let second : machine_of new ≡ step adds b (machine_of between) =
+      is ∙ (ap (λ n. step adds n (step adds 0x1B m)) (sym bracket) ∙ ap (λ x. step adds b x) (sym first)) in
+      let S : List Call → Type 0 = λ made. Goes means performer made performer in
+      LeadsTo-bytes old between new performer performer performer a b behind left can same
+      first_at (subst S (sym (ap (λ n. step_calls adds n m) escape ∙ calls.0)) refl)
+      second (subst S (sym (ap (λ n. step_calls adds n (machine_of between)) bracket ∙ (ap (λ x. step_calls adds 0x5B x) first ∙ calls.1))) refl)
 
   pub Takes-byte : (old new : Parser C) (before after : P) (b : ℕ) (left : List ℕ) → CanTakeAll takes old (b ∷ left)
       → machine_of new ≡ step adds b (machine_of old) → Goes means before (step_calls adds b (machine_of old)) after

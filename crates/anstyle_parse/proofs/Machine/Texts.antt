@@ -4,7 +4,7 @@ use Rattle.std.specs.Prelude.{encode_utf8}
 use Rattle.std.specs.Char.{IsScalar}
 use Rattle.std.specs.Str.{IsUtf8, chars, encode_utf8_all, all_scalars}
 use Rattle.std.proofs.lemmas.Bool.{cases_lt, false≢true, and_from, lt-ltb, le-ltb, le-leb, or_cases, or_left, or_right}
-use Rattle.std.proofs.lemmas.List.{take_at}
+use Rattle.std.proofs.lemmas.List.{take_at, length-take-le}
 use Rattle.std.proofs.lemmas.Str.{chars-encodes, encodes-append}
 use Rattle.anstyle_parse.specs.declared.state.definitions.State.TheVariants.{Anywhere, Ground}
 use Rattle.anstyle_parse.specs.declared.state.definitions.Action.TheVariants.{Execute}
@@ -22,7 +22,7 @@ use Rattle.anstyle_parse.specs.Laws.Lawful.{is_character}
 use Rattle.anstyle_parse.specs.Machine.Table.{◌by◌}
 use Rattle.anstyle_parse.specs.Machine.Step.{Machine, step, machine_after, machine_calls}
 use Rattle.anstyle_parse.specs.Views.Front.{bytes_of}
-use Rattle.anstyle_parse.specs.Views.Accumulator.{parser_after}
+use Rattle.anstyle_parse.specs.Views.Accumulator.{front_of, parser_after}
 use Rattle.anstyle_parse.specs.Views.Parser.{machine_of}
 use Rattle.anstyle_parse.specs.Views.Runs.{LeadsTo}
 use Rattle.anstyle_parse.specs.Views.Texts.{is_text_character, is_text_byte, BeginWithText, IsTextAt, LeadsByTextTo}
@@ -139,6 +139,24 @@ text_and_left bytes left begun = begun.2 ∙ ap (λ t. t ++ left) (sym (text_bef
 
 pub IsUtf8-before : (bytes left : List ℕ) → BeginWithText bytes left → IsUtf8 (take (length bytes - length left) bytes)
 IsUtf8-before bytes left begun = (begun.0, (all_scalars-text begun.0 begun.1, sym (text_before bytes left begun)))
+
+-- the text of so many of them at the front, where no character is begun
+pub IsTextAt-front : (parser : Parser Utf8Parser) (bytes chunk left : List ℕ) (count : ℕ) → parser.state ≡ Ground → front_of parser.accumulator ≡ []
+    → 0 < count → count < length chunk → chunk ≡ take 16 bytes → EachIs is_text_byte (take count chunk) → left ≡ drop count bytes
+    → IsTextAt parser bytes (take count chunk) left
+IsTextAt-front parser bytes chunk left count ground empty some within front each back =
+    let text = take count chunk in
+    let all = BeginWithText-bytes text text [] each text (sym (append-nil text)) (BeginWithText-none text) in
+    let whole : bytes ≡ text ++ left =
+    sym (ap₂ (λ x y. x ++ y) (sym (front_of_chunk 16 count bytes chunk front (omega (arith, within)))) back ∙ take-append-drop count bytes) in
+    record {
+      at = (ground, empty);
+      some = omega (arith, ap length whole, length-append text left, length-take-le count chunk (omega (arith, within)), some);
+      characters = all.0;
+      printed = all.1;
+      encoded = all.2 ∙ append-nil (encode_utf8_all all.0);
+      joined = whole;
+    }
 
 -- Characters of a text in the ground state, where none is begun: each is printed or executed, and
 -- the machine stays as it is.

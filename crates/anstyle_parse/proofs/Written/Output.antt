@@ -1,8 +1,8 @@
 -- Texts handed to an output one after another are one text.
-use Rattle.std.proofs.Common.{◌≡◌, ℕ, ◌+◌, ◌/◌, ◌%◌, ◌^◌, ◌<◌, ◌≤◌, Bool, false, refl, List, [], ◌∷◌, ◌++◌, Option, None, Some, is_some, Result, Ok, Err, inl, inr, sym, ap, ◌∙◌, subst, arith}
-use Rattle.std.specs.Prelude.{decimal}
+use Rattle.std.proofs.Common.{◌≡◌, ℕ, ◌+◌, ◌/◌, ◌%◌, ◌^◌, ◌<◌, ◌≤◌, Bool, false, refl, List, [], ◌∷◌, ◌++◌, Option, None, Some, is_some, Result, Ok, Err, inl, inr, sym, ap, ◌∙◌, subst, arith, take, drop, take-append-drop}
+use Rattle.std.specs.Prelude.{decimal, ◌≢◌, IsTrue}
 use Rattle.std.proofs.lemmas.Fmt.{decimal_step, decimal_digit}
-use Rattle.std.proofs.KnownBytes.{Appends-kept}
+use Rattle.std.proofs.KnownBytes.{Appends-nil, Appends-kept}
 use Rattle.std.specs.Io.KnownBytes.{Keeps, Appends}
 use Rattle.anstyle_parse.specs.declared.io.Fault.{Fault}
 use Rattle.anstyle_parse.specs.declared.io.Fault.TheVariants.{Read, Write, Flush}
@@ -22,6 +22,31 @@ module _ {W : Type 0} (sink : SinkOf W) where
   pub Adds-append3 : (t u v : List ℕ) (a b c d : Output W) → Adds sink t a b → Adds sink u b c → Adds sink v c d
       → Adds sink ((t ++ u) ++ v) a d
   Adds-append3 t u v a b c d first second third = Adds-append sink (t ++ u) v a c d (Adds-append sink t u a b c first second) third
+
+  -- what one write took of a text, and then the rest
+  pub Adds-taken : (text : List ℕ) (n : ℕ) (a b c : Output W) → fault_in a ≡ None → fault_in b ≡ None
+      → Appends (sink.contents (writer_in a)) (sink.contents (writer_in b)) (take n text)
+      → sink.has_failed (writer_in b) ≡ sink.has_failed (writer_in a) → Adds sink (drop n text) b c → Adds sink text a c
+  Adds-taken text n a b c none none_after written same rest =
+      let first : Adds sink (take n text) a b = subst (λ f. AddsAt f sink (take n text) a b) (sym none)
+      (inl (record { written = written; no_fault = none_after; not_failed = same })) in
+      subst (λ t. Adds sink t a c) (take-append-drop n text) (Adds-append sink (take n text) (drop n text) a b c first rest)
+
+  -- a write of a text that failed
+  pub Adds-failed : (text : List ℕ) (a b : Output W) → fault_in a ≡ None → text ≢ []
+      → Keeps (sink.contents (writer_in a)) (sink.contents (writer_in b)) → fault_in b ≡ Some Write
+      → IsTrue (sink.has_failed (writer_in b)) → sink.failed_as (writer_in b) Write → Adds sink text a b
+  Adds-failed text a b none some kept fault failed was_a_write =
+      subst (λ f. AddsAt f sink text a b) (sym none) (inr (record {
+        prefix = [];
+        rest = text;
+        joined = refl;
+        proper = some;
+        written = Appends-kept _ _ _ _ (Appends-nil (sink.contents (writer_in a))) kept;
+        fault = fault;
+        failed = failed;
+        was_a_write = was_a_write;
+      }))
 
   -- a number of one digit
   pub Adds-decimal_digit : (n : ℕ) (a b : Output W) → n < 10 → Adds sink ((48 + n % 10) ∷ []) a b → Adds sink (decimal n) a b

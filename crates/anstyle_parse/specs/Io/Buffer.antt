@@ -1,8 +1,9 @@
 -- What a buffer holds back, and what of it counts as taken.
-use Rattle.std.specs.Prelude.{◌≡◌, ◌+◌, ◌-◌, ◌≤◌, Bool, ℕ, List, ◌∷◌, ◌++◌, length, slice_get, Option, Some, IsTrue}
+use Rattle.std.specs.Prelude.{◌≡◌, ◌+◌, ◌-◌, ◌≤◌, Bool, ℕ, List, ◌∷◌, ◌++◌, length, slice_get, take, Option, Some, IsTrue}
 use Rattle.std.specs.Io.KnownBytes.{append_known, Appends}
 use Rattle.anstyle_parse.specs.declared.io.Fault.{Fault}
 use Rattle.anstyle_parse.specs.declared.io.Fault.TheVariants.{Write, Flush}
+use Rattle.anstyle_parse.specs.declared.io.held.Held.{Held}
 use Rattle.anstyle_parse.specs.declared.io.buffer.Buffer.{Buffer}
 
 -- the bytes that are held back at most
@@ -13,9 +14,13 @@ buffer_capacity = 8192
 abbrev pub writer_behind : {W : Type 0} → Buffer W → W
 writer_behind buffer = buffer.writer
 
+-- the bytes that are held, at the front of the room for them
+abbrev pub held_in : Held → List ℕ
+held_in held = take held.len held.bytes
+
 -- the bytes that the writer behind it has not been handed yet
 abbrev pub held_back : {W : Type 0} → Buffer W → List ℕ
-held_back buffer = buffer.held.items
+held_back buffer = held_in buffer.held
 
 -- whether bytes that end a line are handed on at once
 abbrev pub is_by_line : {W : Type 0} → Buffer W → Bool

@@ -144,6 +144,11 @@ impl<W: Sink> PerformText for CanonWriter<W> {
         self.output.put_text(text);
     }
 
+    #[inline(always)]
+    fn print_front(&mut self, chunk: &[u8; 16], count: usize) {
+        self.output.put_front(chunk, count);
+    }
+
     ghost receives_none = { AddsTexts-none W.Sink output_of call_text };
 
     ghost receives_one = { AddsTexts-one W.Sink output_of call_text };

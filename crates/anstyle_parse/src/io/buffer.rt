@@ -5,11 +5,8 @@ ghost use Rattle.std.specs.Io.KnownBytes.{Keeps, Appends};
 ghost use Rattle.anstyle_parse.specs.Io.Buffer.{buffer_capacity};
 ghost use Rattle.anstyle_parse.specs.declared.io.Fault.TheVariants.{Write as AWrite, Flush as AFlush};
 
+use super::held::Held;
 use super::{Fault, Sink};
-use arrayvec::ArrayVec;
-
-/// The bytes that are held back at most.
-const CAPACITY: usize = 8192;
 
 /// A [`Sink`] in front of another that holds bytes back, up to 8192, and hands them on
 /// together. It takes no memory.
@@ -22,7 +19,7 @@ const CAPACITY: usize = 8192;
 #[derive(Drop)]
 pub struct Buffer<W> {
     writer: W,
-    held: ArrayVec<u8, CAPACITY>,
+    held: Held,
     by_line: bool,
     /// Whether a write or a flush has failed.
     failed: bool,
@@ -42,7 +39,7 @@ impl<W: Sink> Buffer<W> {
     {
         Buffer {
             writer,
-            held: ArrayVec::new(),
+            held: Held::new(),
             by_line: false,
             failed: false,
             owed: false,
@@ -58,7 +55,7 @@ impl<W: Sink> Buffer<W> {
     {
         Buffer {
             writer,
-            held: ArrayVec::new(),
+            held: Held::new(),
             by_line: true,
             failed: false,
             owed: false,
@@ -100,27 +97,15 @@ impl<W: Sink> Buffer<W> {
         ensures same_mode { is_by_line self.new ≡ is_by_line self.old }
         ensures not_told { buffer_failed self.new ≡ buffer_failed self.old }
     {
-        let count = write_out(&mut self.writer, self.held.as_slice());
-        if count == self.held.len() {
+        let held = self.held.as_slice();
+        let count = write_out(&mut self.writer, held);
+        if count == held.len() {
             self.held.clear();
             true
         } else {
-            self.keep_from(count);
+            self.held.drop_front(count);
             false
         }
-    }
-
-    /// Drops the first `count` of the bytes that are held back. It is out of line: a function pays
-    /// for the size of its locals at each entry.
-    #[inline(never)]
-    fn keep_from(&mut self, count: usize)
-        requires { count ≤ length (held_back self.old) }
-        ensures held { held_back self.new ≡ drop count (held_back self.old) }
-        ensures writer { writer_behind self.new ≡ writer_behind self.old }
-        ensures same_mode { is_by_line self.new ≡ is_by_line self.old }
-        ensures not_told { buffer_failed self.new ≡ buffer_failed self.old }
-    {
-        self.held = rest_of(self.held.as_slice(), count);
     }
 }
 
@@ -141,17 +126,6 @@ fn write_out<W: Sink>(writer: &mut W, bytes: &[u8]) -> usize
         }
     }
     written
-}
-
-/// The bytes after the first `count`.
-fn rest_of(bytes: &[u8], count: usize) -> ArrayVec<u8, CAPACITY>
-    requires within { count ≤ length bytes.now }
-    requires few { length bytes.now ≤ buffer_capacity }
-    ensures { result.items ≡ drop count bytes.now }
-{
-    let mut rest = ArrayVec::new();
-    let _ = rest.try_extend_from_slice(&bytes[count..]);
-    rest
 }
 
 impl<W: Sink> Sink for Buffer<W> {
@@ -190,10 +164,39 @@ impl<W: Sink> Sink for Buffer<W> {
         ensures same_mode { is_by_line self.new ≡ is_by_line self.old }
     {
         let ends_line = self.by_line && bytes.last() == Some(&b'\n');
-        if !ends_line && self.held.try_extend_from_slice(bytes).is_ok() {
+        if !ends_line && self.held.hold(bytes) {
             return Some(bytes.len());
         }
         self.write_through(bytes)
+    }
+
+    /// The same with the front of a block, which is copied whole where the bytes can wait.
+    #[inline(always)]
+    fn write_front(&mut self, chunk: &[u8; 16], count: usize) -> Option<usize>
+        requires within_chunk { count ≤ 16 }
+        ensures within { IfSome result (λ taken. taken ≤ count) }
+        ensures some { IfSome result (λ taken. 0 < count → 0 < taken) }
+        ensures passed { IfSome result (λ taken. Appends (buffer_contents W.contents self.old)
+            (buffer_contents W.contents self.new) (take taken (take count chunk.now))) }
+        ensures held { CanWait self.old (take count chunk.now)
+            → HoldsBack (take count chunk.now) self.old self.new × (result ≡ Some count) }
+        ensures lines_at_once { OnSome result (IsTrue (is_by_line self.old) → EndsLine (take count chunk.now)
+            → held_back self.new ≡ []) }
+        ensures not_failed { OnSome result (W.has_failed (writer_behind self.new)
+            ≡ W.has_failed (writer_behind self.old)) }
+        ensures nothing_passed { IfNone result (Keeps (buffer_contents W.contents self.old)
+            (buffer_contents W.contents self.new)) }
+        ensures failed { IfNone result (IsTrue (W.has_failed (writer_behind self.new))) }
+        ensures was_a_write { IfNone result (W.failed_as (writer_behind self.new) AWrite) }
+        ensures not_told { OnSome result (buffer_failed self.new ≡ buffer_failed self.old) }
+        ensures told { IfNone result (IsTrue (buffer_failed self.new)) }
+        ensures same_mode { is_by_line self.new ≡ is_by_line self.old }
+    {
+        let ends_line = self.by_line && chunk[..count].last() == Some(&b'\n');
+        if !ends_line && self.held.hold_front(chunk, count) {
+            return Some(count);
+        }
+        self.write_through(&chunk[..count])
     }
 
     /// Hands on what is held back, and flushes the writer behind it where that went well. What
@@ -275,7 +278,7 @@ impl<W: Sink> Buffer<W> {
             self.failed = true;
             return None;
         }
-        let is_full = self.held.is_full();
+        let is_full = self.held.room() == 0;
         if (self.by_line || is_full) && !self.hand_on() {
             self.failed = true;
             return None;
@@ -287,8 +290,8 @@ impl<W: Sink> Buffer<W> {
             }
             return written;
         }
-        let count = bytes.len().min(CAPACITY - self.held.len());
-        let _ = self.held.try_extend_from_slice(&bytes[..count]);
+        let count = bytes.len().min(self.held.room());
+        self.held.hold(&bytes[..count]);
         Some(count)
     }
 }

@@ -65,6 +65,22 @@ pub trait Sink {
         ensures failed { IfNone result (IsTrue (has_failed self.new)) }
         ensures was_a_write { IfNone result (failed_as self.new AWrite) };
 
+    /// The same with the first `count` bytes of a block, which a writer may copy whole: then the copy
+    /// needs no test of how many there are.
+    fn write_front(&mut self, chunk: &[u8; 16], count: usize) -> Option<usize>
+        requires within_chunk { count ≤ 16 }
+        ensures within { IfSome result (λ taken. taken ≤ count) }
+        ensures some { IfSome result (λ taken. 0 < count → 0 < taken) }
+        ensures passed { IfSome result (λ taken. Appends (contents self.old) (contents self.new)
+            (take taken (take count chunk.now))) }
+        ensures not_failed { OnSome result (has_failed self.new ≡ has_failed self.old) }
+        ensures nothing_passed { IfNone result (Keeps (contents self.old) (contents self.new)) }
+        ensures failed { IfNone result (IsTrue (has_failed self.new)) }
+        ensures was_a_write { IfNone result (failed_as self.new AWrite) }
+    {
+        self.write(&chunk[..count])
+    }
+
     /// Sees to it that what was taken reaches where it is to go, and answers whether that
     /// went well. No further byte passes.
     fn flush(&mut self) -> bool

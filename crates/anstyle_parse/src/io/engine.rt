@@ -44,8 +44,8 @@ pub fn perform_to_end<P: Perform, R: Source>(reader: &mut R, performer: &mut P) 
 
 /// Gives what the reader gives to a new parser, in pieces of at most 4096 bytes, until the
 /// reader ends or fails or the performer's output keeps a fault. At most 2^64 - 1 reads are made.
-/// The parser hands on texts ([`Parser::advance_texts`]). What was written of a piece is handed on
-/// before the next read.
+/// The parser hands on texts, and of control sequences what the performer heeds
+/// ([`Parser::advance_heeded`]). What was written of a piece is handed on before the next read.
 pub fn drive<P: WritingPerformer<W>, R: Source, W: Sink>(reader: &mut R, performer: &mut P) -> Stop
     requires { fault_in (P.output_in performer.old) ≡ None }
     ensures { Drives R.Source P.receives P.output_in reader.old reader.new performer.old performer.new result }
@@ -57,7 +57,7 @@ pub fn drive<P: WritingPerformer<W>, R: Source, W: Sink>(reader: &mut R, perform
             None => return Stop::AtRead,
             Some(0) => return Stop::AtEnd,
             Some(count) => {
-                parser.advance_texts(performer, &piece[..count]);
+                parser.advance_heeded(performer, &piece[..count]);
                 performer.pass_on();
                 if performer.output().fault().is_some() {
                     return Stop::AtFault;

@@ -1,5 +1,5 @@
 //! The writing that performers share.
-ghost use Rattle.std.specs.Prelude.{◌≡◌, ◌∷◌, [], ℕ, List, decimal, if◌then◌else◌, None, Some, Ok, Err, IsNone, OnSome, OnOk, OnErr, IsTrue, encode_utf8};
+ghost use Rattle.std.specs.Prelude.{◌≡◌, ◌≤◌, ◌∷◌, [], ℕ, take, List, decimal, if◌then◌else◌, None, Some, Ok, Err, IsNone, OnSome, OnOk, OnErr, IsTrue, encode_utf8};
 ghost use Rattle.std.specs.Io.KnownBytes.{Keeps};
 ghost use Rattle.anstyle_parse.specs.Stream.Groups.{fields_text, groups_text};
 ghost use Rattle.anstyle_parse.specs.Io.Output.{Adds};
@@ -43,6 +43,22 @@ impl<W: Sink> Output<W> {
         match self.writer.write(bytes) {
             Some(count) if count == bytes.len() => {}
             Some(count) => self.put_rest(&bytes[count..]),
+            None => self.fault = Some(Fault::Write),
+        }
+    }
+
+    /// The same with the first `count` bytes of a block, which the writer may copy whole.
+    #[inline(always)]
+    pub fn put_front(&mut self, chunk: &[u8; 16], count: usize)
+        requires { count ≤ 16 }
+        ensures { Adds W.Sink (take count chunk.now) self.old self.new }
+    {
+        if self.fault.is_some() || count == 0 {
+            return;
+        }
+        match self.writer.write_front(chunk, count) {
+            Some(taken) if taken == count => {}
+            Some(taken) => self.put_rest(&chunk[taken..count]),
             None => self.fault = Some(Fault::Write),
         }
     }

@@ -1,9 +1,11 @@
 //! The header of a sequence: its markers and intermediates, and its fields.
-ghost use Rattle.std.specs.Prelude.{◌≡◌, ◌≤◌, ⊤};
+ghost use Rattle.std.specs.Prelude.{◌≡◌, ◌≤◌, ◌<◌, ◌+◌, ◌*◌, ◌-◌, ◌∷◌, [], ℕ, List, IsTrue, length, take, drop, ⊤};
 ghost use Rattle.anstyle_parse.specs.Stream.Arguments.{max_collected, max_field};
-ghost use Rattle.anstyle_parse.specs.Stream.Bytes.{is_within, colon, semicolon};
+ghost use Rattle.anstyle_parse.specs.Stream.Bytes.{is_within, is_parameter};
+ghost use Rattle.anstyle_parse.specs.Stream.Items.{EachIs};
 ghost use Rattle.anstyle_parse.specs.Views.Fields.{number_with, TakesDigits, TakesFields};
 
+use crate::chunks::{CHUNK, beyond_digits, lanes};
 use crate::params::Params;
 use std::alloc::AllocError;
 
@@ -11,6 +13,17 @@ use std::alloc::AllocError;
 const MAX_INTERMEDIATES: usize = 2;
 /// The greatest number of a field: greater ones are taken for this one.
 const MAX_FIELD: u32 = 65535;
+
+/// How many digits are taken at once.
+const FEW_DIGITS: usize = 3;
+
+/// What each of them counts, where there are none to three of them.
+static PLACES: [[u16; FEW_DIGITS]; FEW_DIGITS + 1] = [
+    [0, 0, 0],
+    [1, 0, 0],
+    [10, 1, 0],
+    [100, 10, 1],
+];
 
 /// What a header has said so far.
 #[derive(Debug, PartialEq, Eq, Drop)]
@@ -116,13 +129,14 @@ impl Header {
         'fields: while !self.params.is_full() {
             let (number, behind) = digits(self.number, rest);
             self.number = number;
-            let Some((separator, further)) = behind.split_first() else {
+            let Some((next, further)) = behind.split_first() else {
                 return behind;
             };
-            if !is_separator(*separator) {
+            // A separator; the contract of digits leaves a digit possible too, and param takes either.
+            if !is_parameter(*next) {
                 return behind;
             }
-            self.param(*separator);
+            self.param(*next);
             rest = further;
         }
         rest
@@ -151,18 +165,87 @@ fn is_digit(byte: u8) -> bool
     matches!(byte, b'0'..=b'9')
 }
 
-/// What ends a field: `:` or `;`.
+/// A digit, or what ends a field: `:` or `;`.
 #[inline(always)]
-#[tactic(auto, unfolding(crate::specs::Stream::Bytes::is_within))]
-fn is_separator(byte: u8) -> bool
-    ensures { result ≡ is_within colon semicolon byte }
+#[tactic(auto, unfolding(crate::specs::Stream::Bytes::is_within, crate::specs::Stream::Bytes::is_parameter))]
+pub(super) fn is_parameter(byte: u8) -> bool
+    ensures { result ≡ is_parameter byte }
 {
-    matches!(byte, b':'..=b';')
+    matches!(byte, b'0'..=b';')
 }
 
-/// Takes the digits at the front into a number, and answers the rest.
+/// Takes digits at the front into a number, and answers the rest.
 #[inline(always)]
 fn digits<'a>(number: u16, bytes: &'a [u8]) -> (u16, &'a [u8])
+    ensures { TakesDigits number bytes.now result.0 result.1.now }
+{
+    if let Some((chunk, _)) = bytes.split_first_chunk::<CHUNK>() {
+        let count = digit_count(chunk);
+        if number == 0 && count <= FEW_DIGITS {
+            let (_, rest) = bytes.split_at(count);
+            return (few_digits(chunk[0], chunk[1], chunk[2], count), rest);
+        }
+    }
+    many_digits(number, bytes)
+}
+
+/// How many bytes of a chunk come first that are digits.
+#[inline(always)]
+fn digit_count(chunk: &[u8; CHUNK]) -> usize
+    ensures digits { EachIs (λ b. is_within 0x30 0x39 b) (take result chunk.now) }
+    ensures within { result ≤ length chunk.now }
+{
+    let others = beyond_digits(lanes(chunk));
+    if others == 0 {
+        CHUNK
+    } else {
+        others.trailing_zeros() as usize
+    }
+}
+
+/// The number that the first `count` of three bytes make, which are digits. Nothing of it is asked by a branch: what
+/// comes behind them counts for nothing.
+#[inline(always)]
+fn few_digits(first: u8, second: u8, third: u8, count: usize) -> u16
+    requires few { count ≤ 3 }
+    requires digits { EachIs (λ b. is_within 0x30 0x39 b) (take count (first ∷ second ∷ third ∷ [])) }
+    ensures { (left : List ℕ) → TakesDigits 0 (first ∷ second ∷ third ∷ left) result
+        (drop count (first ∷ second ∷ third ∷ left)) }
+{
+    in_places(
+        digit_value(first),
+        digit_value(second),
+        digit_value(third),
+        count,
+    )
+}
+
+/// The number of so many digits, each in its place.
+#[inline(always)]
+fn in_places(first: u16, second: u16, third: u16, count: usize) -> u16
+    requires few { count ≤ 3 }
+    requires small { (first ≤ 0xFF) × (second ≤ 0xFF) × (third ≤ 0xFF) }
+    ensures none { count ≡ 0 → result ≡ 0 }
+    ensures one { count ≡ 1 → result ≡ first }
+    ensures two { count ≡ 2 → result ≡ first * 10 + second }
+    ensures three { count ≡ 3 → result ≡ (first * 10 + second) * 10 + third }
+{
+    let places = PLACES[count];
+    first * places[0] + second * places[1] + third * places[2]
+}
+
+/// What a digit stands for.
+#[inline(always)]
+fn digit_value(byte: u8) -> u16
+    ensures digit { IsTrue (is_within 0x30 0x39 byte) → result ≡ byte - 0x30 }
+    ensures below { result ≤ 0xFF }
+{
+    u16::from(byte.wrapping_sub(b'0'))
+}
+
+/// Takes the digits at the front into a number, one after another, and answers the rest.
+#[inline(always)]
+fn many_digits<'a>(number: u16, bytes: &'a [u8]) -> (u16, &'a [u8])
     ensures { TakesDigits number bytes.now result.0 result.1.now }
 {
     let mut value = u32::from(number);

@@ -6,13 +6,14 @@
 ghost use Rattle.std.specs.Prelude.{◌≡◌, ◌≢◌, ◌≤◌, ◌+◌, ◌-◌, ◌∷◌, ◌⊎◌, ◌||◌, ℕ, IsTrue, length};
 ghost use Rattle.std.specs.Prelude.{map, not};
 ghost use Rattle.std.specs.Simd.Lanes.{mask_l};
-ghost use Rattle.anstyle_parse.specs.Stream.Bytes.{is_within, is_final};
+ghost use Rattle.anstyle_parse.specs.Stream.Bytes.{is_within, is_marker, is_final};
 ghost use Rattle.anstyle_parse.specs.Stream.Call.{Goes};
 ghost use Rattle.anstyle_parse.specs.Machine.Table.{◌by◌, change_at};
 ghost use Rattle.anstyle_parse.specs.Views.Runs.{Takes, LeadsTo, LeadsQuietlyTo, KeepsTo, is_of_run, run_calls, AreMade};
 
 use super::Parser;
 use super::command::is_plain_byte;
+use super::header::is_parameter;
 use crate::accumulator::CharAccumulator;
 use crate::chunks::{CHUNK, outside};
 use crate::controls::{BELL, CANCEL, ESCAPE, SPACE};
@@ -137,7 +138,7 @@ impl<C: CharAccumulator> Parser<C> {
         match self.state {
             State::Ground => self.take_in_ground(performer, bytes),
             State::Escape => self.take_after_escape(performer, first, behind),
-            State::CsiEntry | State::CsiParam => self.take_in_header(performer, bytes),
+            State::CsiEntry | State::CsiParam => self.take_on_in_header(performer, bytes),
             State::OscString => self.take_in_command(performer, first, behind),
             State::DcsEntry => self.take_device_final(performer, first, behind),
             State::DcsPassthrough => self.take_in_hooked_string(performer, first, behind),
@@ -264,7 +265,8 @@ fn begins_nothing(byte: u8) -> bool
 
 /// The ground state.
 impl<C: CharAccumulator> Parser<C> {
-    ghost use Rattle.anstyle_parse.specs.Views.Parser.{CanTakeAll};
+    ghost use Rattle.anstyle_parse.specs.Views.Parser.{machine_of, CanTakeAll};
+    ghost use Rattle.anstyle_parse.specs.Machine.Step.{step};
 
     /// Printed bytes, whole characters, or a sequence that begins.
     #[inline(always)]
@@ -286,6 +288,27 @@ impl<C: CharAccumulator> Parser<C> {
         if Run::Printed.has(first) {
             return self.take_run(performer, Run::Printed, first, behind);
         }
+        self.take_unprinted(performer, bytes)
+    }
+
+    /// Whole characters, or a sequence that begins: for bytes of which the first is mostly not printed. One that is
+    /// printed goes by the table.
+    #[inline(always)]
+    pub(super) fn take_unprinted<'a, P: Perform>(
+        &mut self,
+        performer: &mut P,
+        bytes: &'a [u8],
+    ) -> &'a [u8]
+        requires ground { self.old.state ≡ State.Ground }
+        requires can { CanTakeAll C.takes self.old bytes.now }
+        ensures leads { LeadsTo C.takes C.taken P.means self.old performer.old bytes.now
+            self.new performer.new result.now }
+        ensures onward { length result.now ≤ length bytes.now - 1 }
+    {
+        let Some((first, behind)) = bytes.split_first() else {
+            return bytes;
+        };
+        let first = *first;
         if first == ESCAPE {
             return self.take_escape(performer, first, behind);
         }
@@ -360,12 +383,41 @@ impl<C: CharAccumulator> Parser<C> {
         ensures { Takes C.takes C.taken P.means self.old performer.old first behind.now
             self.new performer.new result.now }
     {
+        match behind.split_first() {
+            Some((next, rest)) if *next == b'[' => {
+                self.begin_control_sequence();
+                self.take_in_header(performer, rest)
+            }
+            _ => self.take_other_escape(performer, first, behind),
+        }
+    }
+
+    /// ESC and `[`: the header is forgotten once, for both.
+    #[inline(always)]
+    fn begin_control_sequence(&mut self)
+        requires { self.old.state ≡ State.Ground }
+        ensures { machine_of self.new ≡ step C.taken 0x5B (step C.taken 0x1B (machine_of self.old)) }
+    {
+        self.header.clear();
+        self.state = State::CsiEntry;
+    }
+
+    /// ESC that begins no control sequence here.
+    #[inline(always)]
+    fn take_other_escape<'a, P: Perform>(
+        &mut self,
+        performer: &mut P,
+        first: u8,
+        behind: &'a [u8],
+    ) -> &'a [u8]
+        requires ground { self.old.state ≡ State.Ground }
+        requires escape { first ≡ 0x1B }
+        requires can { CanTakeAll C.takes self.old (first ∷ behind.now) }
+        ensures { Takes C.takes C.taken P.means self.old performer.old first behind.now
+            self.new performer.new result.now }
+    {
         self.step_by_answer(performer, State::Escape, Action::Nop, first);
         if let Some((next, rest)) = behind.split_first() {
-            if *next == b'[' {
-                self.step_by_answer(performer, State::CsiEntry, Action::Nop, *next);
-                return self.take_in_header(performer, rest);
-            }
             if *next == b']' {
                 self.step_by_answer(performer, State::OscString, Action::Nop, *next);
                 return self.take_command(performer, rest);
@@ -424,10 +476,19 @@ impl<C: CharAccumulator> Parser<C> {
 /// What ends a control sequence.
 #[inline(always)]
 #[tactic(auto, unfolding(crate::specs::Stream::Bytes::is_within, crate::specs::Stream::Bytes::is_final))]
-fn is_final_byte(byte: u8) -> bool
+pub(super) fn is_final_byte(byte: u8) -> bool
     ensures { result ≡ is_final byte }
 {
     matches!(byte, 0x40..=0x7E)
+}
+
+/// What says that a control sequence is private.
+#[inline(always)]
+#[tactic(auto, unfolding(crate::specs::Stream::Bytes::is_within, crate::specs::Stream::Bytes::is_marker))]
+fn is_marker(byte: u8) -> bool
+    ensures { result ≡ is_marker byte }
+{
+    matches!(byte, 0x3C..=0x3F)
 }
 
 /// The header of a control sequence.
@@ -454,13 +515,46 @@ impl<C: CharAccumulator> Parser<C> {
                     self.step_by_answer(performer, State::Ground, Action::CsiDispatch, *last);
                     return behind;
                 }
-                self.take_by_table(performer, *last, behind)
+                self.take_marker(performer, *last, behind)
             }
             None => rest,
         }
     }
 
-    /// The bytes of fields.
+    /// The same of a header that was begun before. It is out of line, so that the loop stays small.
+    #[inline(never)]
+    fn take_on_in_header<'a, P: Perform>(&mut self, performer: &mut P, bytes: &'a [u8]) -> &'a [u8]
+        requires header { (self.old.state ≡ State.CsiEntry) ⊎ (self.old.state ≡ State.CsiParam) }
+        requires can { CanTakeAll C.takes self.old bytes.now }
+        ensures leads { LeadsTo C.takes C.taken P.means self.old performer.old bytes.now
+            self.new performer.new result.now }
+        ensures onward { length result.now ≤ length bytes.now - 1 }
+    {
+        self.take_in_header(performer, bytes)
+    }
+
+    /// A private marker, where the header begins with it; another byte by the table.
+    #[inline(always)]
+    fn take_marker<'a, P: Perform>(
+        &mut self,
+        performer: &mut P,
+        first: u8,
+        behind: &'a [u8],
+    ) -> &'a [u8]
+        requires { CanTakeAll C.takes self.old (first ∷ behind.now) }
+        ensures { Takes C.takes C.taken P.means self.old performer.old first behind.now
+            self.new performer.new result.now }
+    {
+        match self.state {
+            State::CsiEntry if is_marker(first) => {
+                self.step_by_answer(performer, State::CsiParam, Action::Collect, first);
+                behind
+            }
+            _ => self.take_by_table(performer, first, behind),
+        }
+    }
+
+    /// The bytes of fields. Often there are none.
     #[inline(always)]
     fn take_fields<'a>(&mut self, bytes: &'a [u8]) -> &'a [u8]
         requires header { (self.old.state ≡ State.CsiEntry) ⊎ (self.old.state ≡ State.CsiParam) }
@@ -469,6 +563,12 @@ impl<C: CharAccumulator> Parser<C> {
         ensures header { (self.new.state ≡ State.CsiEntry) ⊎ (self.new.state ≡ State.CsiParam) }
         ensures within { length result.now ≤ length bytes.now }
     {
+        let Some((first, _)) = bytes.split_first() else {
+            return bytes;
+        };
+        if !is_parameter(*first) {
+            return bytes;
+        }
         let rest = self.header.fields(bytes);
         if rest.len() < bytes.len() {
             self.state = State::CsiParam;

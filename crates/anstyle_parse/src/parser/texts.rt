@@ -1,17 +1,16 @@
 //! Texts: characters that are printed one after another, with layout, and handed on at once.
-ghost use Rattle.std.specs.Prelude.{◌≡◌, ◌≤◌, ◌<◌, ◌++◌, ◌∷◌, ℕ, List, IfSome, length, take};
+ghost use Rattle.std.specs.Prelude.{◌≡◌, ◌≤◌, ◌<◌, ◌++◌, ◌∷◌, [], ℕ, List, IfSome, IsTrue, length, take};
 ghost use Rattle.anstyle_parse.specs.Stream.Items.{EachIs};
 ghost use Rattle.anstyle_parse.specs.Views.Accumulator.{front_of, parser_after};
 ghost use Rattle.anstyle_parse.specs.Views.Texts.{is_text_byte, BeginWithText, IsTextAt, LeadsByTextTo};
 
 use super::Parser;
 use crate::accumulator::Utf8Parser;
-use crate::chunks::{CHUNK, layouts, outside};
+use crate::chunks::{CHUNK, lanes, layouts, outside};
 use crate::layout::is_layout;
 use crate::perform::PerformText;
 use crate::state::State;
 use crate::utf8::{Front, whole};
-use std::simd::prelude::*;
 
 /// The first byte that is a character of its own and printed.
 const FIRST_PRINTED: u8 = 0x20;
@@ -35,7 +34,7 @@ fn text_count(chunk: &[u8; CHUNK]) -> usize
     ensures within { result ≤ length chunk.now }
     ensures text { EachIs is_text_byte (take result chunk.now) }
 {
-    let bytes = u8x16::from_array(*chunk);
+    let bytes = lanes(chunk);
     let unprinted = outside(bytes, PRINTED);
     if unprinted == 0 {
         return CHUNK;
@@ -51,6 +50,15 @@ fn text_count(chunk: &[u8; CHUNK]) -> usize
     } else {
         others.trailing_zeros() as usize
     }
+}
+
+/// Whether some bytes, the first `count` of a chunk, are followed by a control there.
+#[inline(always)]
+fn are_ended(chunk: &[u8; CHUNK], count: usize) -> bool
+    ensures some { IsTrue result → 0 < count }
+    ensures within { IsTrue result → count < length chunk.now }
+{
+    count > 0 && matches!(chunk.get(count), Some(next) if *next < FIRST_PRINTED)
 }
 
 /// What comes after the characters of one byte at the front of a text.
@@ -139,7 +147,8 @@ impl Parser<Utf8Parser> {
 
     /// Takes bytes, as [`advance_all`](Parser::advance_all) does, but hands characters that are
     /// printed one after another, with tabs, line feeds and carriage returns among them, on as one
-    /// text, as far as they stand in `bytes`: by [`PerformText::print_with_layout`].
+    /// text, as far as they stand in `bytes`: by [`PerformText::print_with_layout`], or, where the
+    /// text ends at a control within sixteen bytes, by [`PerformText::print_front`].
     ///
     /// A stream may come in any pieces, by any mixture of this call and the others. A character
     /// that is begun in one piece and ends in another is printed by itself.
@@ -176,24 +185,39 @@ impl Parser<Utf8Parser> {
             rest = match self.state {
                 State::Ground => {
                     let further = self.take_text(performer, rest);
-                    self.take_in_ground(performer, further)
+                    self.take_unprinted(performer, further)
                 }
                 _ => self.take_first(performer, rest),
             };
         }
     }
 
-    /// The text at the front, if there is one. A control at the front is left, since often no text
-    /// follows it.
+    /// The text at the front, if there is one. A control at the front is left, since often no text follows it. A text
+    /// that ends within a chunk, at a control, is handed on with that chunk.
     #[inline(always)]
-    fn take_text<'a, P: PerformText>(&self, performer: &mut P, bytes: &'a [u8]) -> &'a [u8]
+    pub(super) fn take_text<'a, P: PerformText>(
+        &self,
+        performer: &mut P,
+        bytes: &'a [u8],
+    ) -> &'a [u8]
         requires { self.now.state ≡ State.Ground }
         ensures leads { LeadsByTextTo P.receives self.now performer.old bytes.now
             self.now performer.new result.now }
         ensures within { length result.now ≤ length bytes.now }
     {
-        if matches!(bytes.first(), Some(first) if *first < FIRST_PRINTED) {
+        let Some((first, _)) = bytes.split_first() else {
             return bytes;
+        };
+        if *first < FIRST_PRINTED {
+            return bytes;
+        }
+        if let Some((chunk, _)) = bytes.split_first_chunk::<CHUNK>() {
+            let count = text_count(chunk);
+            if are_ended(chunk, count) && self.is_between_characters() {
+                performer.print_front(chunk, count);
+                let (_, further) = bytes.split_at(count);
+                return further;
+            }
         }
         match self.text_at(bytes) {
             Some((text, further)) => {
@@ -202,6 +226,14 @@ impl Parser<Utf8Parser> {
             }
             None => bytes,
         }
+    }
+
+    /// Whether no character is begun.
+    #[inline(always)]
+    fn is_between_characters(&self) -> bool
+        ensures { IsTrue result → front_of self.now.accumulator ≡ [] }
+    {
+        matches!(self.accumulator.front(), Front::Empty)
     }
 
     /// The text at the front, and what comes after it, where no character is begun.

@@ -16,6 +16,15 @@ const TITLE: &[u8] = b"\x1b]0;x\x1b\\";
 /// Their canonical text, of which the command has eight bytes.
 const TEXT: &[u8] = b"\x1b]0;x\x1bX\x9c\x1b\\";
 
+/// Lines that end behind a sequence, with few bytes behind them and with many, and their canonical text.
+const LINES: [(&[u8], &[u8]); 2] = [
+    (b"x\x1b[m\nabc", b"x\x1b[0m\nabc"),
+    (
+        b"x\x1b[m\nabc\x1b[m\x1b[m\x1b[m\x1b[m",
+        b"x\x1b[0m\nabc\x1b[0m\x1b[0m\x1b[0m\x1b[0m",
+    ),
+];
+
 type Buffered = Buffer<FromWrite<Paper>>;
 
 /// What a run answers whose output goes through the buffer, by the fault at the writer behind
@@ -59,6 +68,20 @@ fn assert_lines(rt: &impl Abort, buffer: Buffered, text: &[u8], writes: u64) {
     for _ in 0..1000 {
         output.put(b"print U+0061\n");
     }
+    assert_written(rt, output, text, writes);
+}
+
+/// The same where each line stands at the front of a block.
+fn assert_fronts(rt: &impl Abort, buffer: Buffered, text: &[u8], writes: u64) {
+    let mut output = Output::new(buffer);
+    for _ in 0..1000 {
+        output.put_front(b"print U+0061\nend", 13);
+    }
+    assert_written(rt, output, text, writes);
+}
+
+/// What the writer behind has, and how many writes that took.
+fn assert_written(rt: &impl Abort, output: Output<Buffered>, text: &[u8], writes: u64) {
     let (buffer, answer) = output.finish();
     let paper = buffer.into_inner().into_inner();
     assert!(rt; answer == Ok(()) && paper.writes == writes && paper.flushes == 1);
@@ -73,7 +96,22 @@ fn few_writes(rt: HostRuntime) -> Result<(), Fail> {
     assert_lines(&rt, all, text.as_slice(), 2);
     let lines = Buffer::by_line(FromWrite::new(Paper::new(rt.alloc())));
     assert_lines(&rt, lines, text.as_slice(), 1000);
+    let all = Buffer::new(FromWrite::new(Paper::new(rt.alloc())));
+    assert_fronts(&rt, all, text.as_slice(), 2);
+    let lines = Buffer::by_line(FromWrite::new(Paper::new(rt.alloc())));
+    assert_fronts(&rt, lines, text.as_slice(), 1000);
     Ok(())
+}
+
+/// By line, a line feed behind a sequence hands its line on before the text that comes next, however much stands behind
+/// it: one write of what was held back, one of the line feed, and one of the rest as the piece ends.
+#[test]
+fn a_line_feed_hands_its_line_on(rt: HostRuntime) {
+    for (stream, text) in LINES {
+        let lines = Buffer::by_line(FromWrite::new(Paper::new(rt.alloc())));
+        let writes = assert_run(&rt, Tape::new(stream), lines, Ok(()), text, 1);
+        assert!(rt; writes == 3, "{writes} writes");
+    }
 }
 
 /// A buffer of one kind or the other before a writer that takes so many bytes, one a write, and

@@ -80,6 +80,19 @@ fn hint_is_the_groups_left(rt: HostRuntime) {
     assert!(rt; groups.size_hint() == (0, Some(0)));
 }
 
+#[test]
+fn lone_fields_are_groups_of_their_own(rt: HostRuntime) {
+    let params = handed_out(b"\x1B[38;2;;17m");
+    let Some((fields, count)) = params.lone_fields() else {
+        assert!(rt; false, "none");
+        return;
+    };
+    assert!(rt; fields.get(..count) == Some([38, 2, 0, 17].as_slice()));
+    assert!(rt; handed_out(b"\x1B[4:3;1m").lone_fields().is_none());
+    let params = Params::default();
+    assert!(rt; matches!(params.lone_fields(), Some((_, 0))));
+}
+
 // As many fields as are kept, in one group, each in its own, and in two.
 #[test]
 fn groups_at_the_limit(rt: HostRuntime) {

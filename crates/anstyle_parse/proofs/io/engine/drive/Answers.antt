@@ -33,9 +33,9 @@ returns-then-is_some g c =
       read = before.read ++ bytes;
       calls = (before.calls ++ more) ++ [];
       consumed = Consumes-trans _ _ _ _ _ before.consumed c.in-Some.ensures.passed;
-      are_calls = subst (AreCalls (before.read ++ bytes)) (sym (append-nil (before.calls ++ more))) (c.advance_texts.ensures.stream before.read before.stands before.calls before.are_calls);
-      received = g.met.P.PerformText.receives_more c.args.performer.now c.advance_texts.new.performer c.pass_on.new.self (before.calls ++ more) []
-          (g.met.P.PerformText.receives_more c.args.performer.now c.loop-turn.performer c.advance_texts.new.performer before.calls more before.received c.advance_texts.ensures.calls)
+      are_calls = subst (AreCalls (before.read ++ bytes)) (sym (append-nil (before.calls ++ more))) (c.advance_heeded.ensures.stream before.read before.stands before.calls before.are_calls);
+      received = g.met.P.PerformText.receives_more c.args.performer.now c.advance_heeded.new.performer c.pass_on.new.self (before.calls ++ more) []
+          (g.met.P.PerformText.receives_more c.args.performer.now c.loop-turn.performer c.advance_heeded.new.performer before.calls more before.received c.advance_heeded.ensures.calls)
           c.pass_on.ensures;
       stops = (sym (c.is_some.ensures ∙ ap is_some (c.fault.ensures ∙ ap fault_in c.output.ensures)) ∙ c.if-is_some.true, c.in-Some.ensures.not_failed ∙ before.not_failed);
     }
@@ -49,11 +49,11 @@ loop-turn-preserved g c =
       read = before.read ++ bytes;
       calls = (before.calls ++ more) ++ [];
       consumed = Consumes-trans _ _ _ _ _ before.consumed c.in-Some.ensures.passed;
-      are_calls = subst (AreCalls (before.read ++ bytes)) (sym (append-nil (before.calls ++ more))) (c.advance_texts.ensures.stream before.read before.stands before.calls before.are_calls);
-      received = g.met.P.PerformText.receives_more c.args.performer.now c.advance_texts.new.performer c.pass_on.new.self (before.calls ++ more) []
-          (g.met.P.PerformText.receives_more c.args.performer.now c.loop-turn.performer c.advance_texts.new.performer before.calls more before.received c.advance_texts.ensures.calls)
+      are_calls = subst (AreCalls (before.read ++ bytes)) (sym (append-nil (before.calls ++ more))) (c.advance_heeded.ensures.stream before.read before.stands before.calls before.are_calls);
+      received = g.met.P.PerformText.receives_more c.args.performer.now c.advance_heeded.new.performer c.pass_on.new.self (before.calls ++ more) []
+          (g.met.P.PerformText.receives_more c.args.performer.now c.loop-turn.performer c.advance_heeded.new.performer before.calls more before.received c.advance_heeded.ensures.calls)
           c.pass_on.ensures;
-      stands = c.advance_texts.ensures.stands before.read before.stands;
+      stands = c.advance_heeded.ensures.stands before.read before.stands;
       no_fault = None-from_is_some (fault_in (g.P.WritingPerformer.output_in c.pass_on.new.self)) (sym (c.is_some.ensures ∙ ap is_some (c.fault.ensures ∙ ap fault_in c.output.ensures)) ∙ c.if-is_some.false);
       not_failed = c.in-Some.ensures.not_failed ∙ before.not_failed;
       counted = omega (arith, before.counted, length-append before.read bytes, length-take c.in-Some.count c.read.new.into, c.in-Some.ensures.within, c.in-Some.count-test);

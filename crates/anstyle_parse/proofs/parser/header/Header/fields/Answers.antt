@@ -4,7 +4,7 @@ use Rattle.std.specs.Prelude.{⊤}
 use Rattle.anstyle_parse.specs.Machine.Step.{Machine}
 use Rattle.anstyle_parse.specs.Views.Header.{heading_of}
 use Rattle.anstyle_parse.specs.Views.Fields.{TakesFields}
-use Rattle.anstyle_parse.proofs.Arguments.Taken.{TakesDigits-length, TakesFields-none, TakesFields-byte, TakesFields-digits, is_parameter-separator}
+use Rattle.anstyle_parse.proofs.Arguments.Taken.{TakesDigits-length, TakesFields-none, TakesFields-byte, TakesFields-digits}
 use Rattle.anstyle_parse.proofs.parser.header.Header.fields.Goals as goal
 
 pub fields-init : goal.fields-init
@@ -20,13 +20,13 @@ fields-preserved c = λ new left takes.
     let m = heading_of c.fields.self in
     let number = c.digits-number.result.0 in
     let read : Machine ⊤ = record m { number = number } in
-    let separator = c.in-Some.separator.now in
+    let next = c.in-Some.next.now in
     let further = c.in-Some.further.now in
     c.fields.invariant new left
     (TakesFields-digits m new c.fields.rest.now c.digits-number.result.1.now left number
     (λ full. both_ways c.is_full.result c.fields-test.true (c.is_full.ensures.full.1 full)) c.digits-number.ensures
     (subst (λ l. TakesFields read l new left) (sym c.in-Some.ensures.cases.0)
-    (TakesFields-byte read new separator further left (is_parameter-separator separator (sym c.is_separator.ensures ∙ c.if-not-is_separator.false))
+    (TakesFields-byte read new next further left (sym c.is_parameter.ensures ∙ c.if-not-is_parameter.false)
     (subst (λ x. TakesFields x further new left) c.param.ensures takes))))
 
 pub returns-in_default : goal.returns-in_default
@@ -37,8 +37,8 @@ returns-in_default c =
     (TakesFields-digits m _ c.fields.rest.now behind behind c.digits-number.result.0
     (λ full. both_ways c.is_full.result c.fields-test.true (c.is_full.ensures.full.1 full)) c.digits-number.ensures (TakesFields-none _ behind))
 
-pub returns-then-not-is_separator : goal.returns-then-not-is_separator
-returns-then-not-is_separator c =
+pub returns-then-not-is_parameter : goal.returns-then-not-is_parameter
+returns-then-not-is_parameter c =
     let m = heading_of c.fields.self in
     let behind = c.digits-number.result.1.now in
     c.fields.invariant _ behind

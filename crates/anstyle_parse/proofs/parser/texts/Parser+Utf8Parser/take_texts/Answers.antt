@@ -2,8 +2,8 @@ use Rattle.std.proofs.Common.{inl, refl}
 use Rattle.anstyle_parse.proofs.Machine.Texts.{LeadsByTextTo-trans, LeadsByTextTo-run}
 use Rattle.anstyle_parse.proofs.parser.texts.Parser+Utf8Parser.take_texts.Goals as goal
 
-pub take_in_ground-rest-requires-clause-can : goal.take_in_ground-rest-requires-clause-can
-take_in_ground-rest-requires-clause-can g c = inl (λ _ _ _. tt)
+pub take_unprinted-rest-requires-clause-can : goal.take_unprinted-rest-requires-clause-can
+take_unprinted-rest-requires-clause-can g c = inl (λ _ _ _. tt)
 
 pub take_first-rest-requires : goal.take_first-rest-requires
 take_first-rest-requires g c = inl (λ _ _ _. tt)
@@ -13,7 +13,7 @@ rest-preserved-in-Ground g c =
     let n = g.P.PerformText in
     let m = g.met.P.PerformText in
     LeadsByTextTo-run g.P.Perform.means n.receives m.receives_none m.receives_one m.receives_more refl
-    (LeadsByTextTo-trans g.P.Perform.means n.receives m.receives_none m.receives_one m.receives_more c.rest.invariant c.take_text-further.ensures.leads) c.take_in_ground-rest.ensures.leads
+    (LeadsByTextTo-trans g.P.Perform.means n.receives m.receives_none m.receives_one m.receives_more c.rest.invariant c.take_text-further.ensures.leads) c.take_unprinted-rest.ensures.leads
 
 pub rest-preserved : goal.rest-preserved
 rest-preserved g c =

@@ -1,7 +1,7 @@
 use Rattle.std.proofs.Common.{arith, sym, subst, ◌∙◌}
 use Rattle.anstyle_parse.specs.Views.Fields.{TakesDigits}
 use Rattle.anstyle_parse.proofs.Arguments.Taken.{TakesDigits-none, TakesDigits-digit}
-use Rattle.anstyle_parse.proofs.parser.header.digits.Goals as goal
+use Rattle.anstyle_parse.proofs.parser.header.many_digits.Goals as goal
 
 pub digits-init : goal.digits-init
 digits-init c = record {

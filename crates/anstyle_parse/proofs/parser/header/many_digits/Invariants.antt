@@ -2,7 +2,7 @@
 use Rattle.std.proofs.Common.{◌≤◌, ℕ, List, length}
 use Rattle.anstyle_parse.specs.Stream.Arguments.{max_field}
 use Rattle.anstyle_parse.specs.Views.Fields.{TakesDigits}
-use Rattle.anstyle_parse.proofs.parser.header.digits.Given as goal
+use Rattle.anstyle_parse.proofs.parser.header.many_digits.Given as goal
 
 abbrev pub invariant-digits : goal.invariant-digits
 invariant-digits l = record {

@@ -1,13 +1,15 @@
 -- Many bytes, tested at once.
-use Rattle.std.proofs.Common.{◌≡◌, ◌≤◌, ◌+◌, ◌-◌, ◌*◌, ◌||◌, bit_or, ℕ, zero, suc, ◌%◌, ◌^◌, Bool, true, false, cond, eqb, eqb-true, leb, List, [], ◌∷◌, length, take, drop, map, replicate, refl, sym, ap, ap₂, ◌∙◌, subst, take-append-drop, arith}
+use Rattle.std.proofs.Common.{◌≡◌, ◌≤◌, ◌+◌, ◌-◌, ◌*◌, ◌||◌, bit_or, ℕ, zero, suc, ◌%◌, ◌^◌, Bool, true, false, cond, eqb, eqb-true, leb, List, [], ◌∷◌, length, take, drop, map, replicate, refl, sym, ap, ap₂, ◌∙◌, subst, take-append-drop, IsTrue, arith}
 use Rattle.std.specs.Prelude.{not}
+use Rattle.std.specs.List.{prefix_len}
 use Rattle.std.specs.Simd.Lanes.{zip2, mask_l, top}
-use Rattle.std.proofs.lemmas.Bool.{false≢true}
+use Rattle.std.proofs.lemmas.Bool.{false≢true, leb-true, not-true}
 use Rattle.std.proofs.lemmas.List.{length-map, drop-drop}
-use Rattle.std.proofs.lemmas.Simd.{zip2_splat, zip2_of_maps, splat_is_map, mask_l-mod}
+use Rattle.std.proofs.lemmas.Simd.{zip2_splat, zip2_of_maps, splat_is_map, mask_l-mod, first_set_mask_l}
 use Rattle.anstyle_parse.specs.Stream.Items.{EachIs}
-use Rattle.anstyle_parse.proofs.Bytes.Passing.{EachIs-append}
+use Rattle.anstyle_parse.proofs.Bytes.Passing.{EachIs-append, EachIs-weaker}
 use Rattle.ansi_strip.specs.Driving.{may_begin_driving, is_clear}
+use lib.Count.{count_trailing_zeros}
 
 -- a lane of a comparison
 abbrev hit : ℕ → ℕ → ℕ
@@ -109,3 +111,43 @@ each_of_ends test n bytes low high front back =
     let behind = subst (EachIs test) (drop-drop (n - (length bytes - n)) (length bytes - n) bytes ∙ ap (λ k. drop k bytes) place)
     (EachIs-drop test (n - (length bytes - n)) (drop (length bytes - n) bytes) back) in
     subst (EachIs test) (take-append-drop n bytes) (EachIs-append test (take n bytes) (drop n bytes) front behind)
+
+-- The first of sixteen bytes are clear, where no bit for one of them is set.
+abbrev unclear : ℕ → Bool
+unclear b = leb 0x80 (minus b 0xFF)
+
+top-lane : (t : Bool) → top 7 (cond t 255 0) ≡ t
+top-lane true = refl
+top-lane false = refl
+
+unclear_lanes : (bytes : List ℕ) → map (top 7) (map lane bytes) ≡ map unclear bytes
+unclear_lanes [] = refl
+unclear_lanes (b ∷ bytes) = ap₂ (λ x xs. x ∷ xs) (top-lane (unclear b)) (unclear_lanes bytes)
+
+each_clear : (bytes : List ℕ) → EachIs (λ b. not (unclear b)) bytes → EachIs is_clear bytes
+each_clear = EachIs-weaker (λ b. not (unclear b)) is_clear (λ b is. clear-lane b (not-true (unclear b) is))
+
+each_before : (test : ℕ → Bool) (bytes : List ℕ) (count : ℕ) → count ≤ prefix_len test bytes → EachIs test (take count bytes)
+each_before test bytes zero few = tt
+each_before test [] (suc count) few = tt
+each_before test (b ∷ bytes) (suc count) few = by (each_before test bytes count) (test b) refl few
+  where
+    by : (count ≤ prefix_len test bytes → EachIs test (take count bytes)) → (t : Bool) → test b ≡ t
+        → suc count ≤ cond t (1 + prefix_len test bytes) 0 → EachIs test (b ∷ take count bytes)
+    by rest true is more = (is, rest (omega (arith, more)))
+    by rest false is more = absurd (omega (arith, more))
+
+pub front-clear : (bytes : List ℕ) → length bytes ≡ 16 → (count : ℕ) → count ≤ 16
+    → IsTrue (leb count (count_trailing_zeros 64 (mask_l (map (top 7) (zip2 at_most (replicate 16 0x80) (zip2 minus bytes (replicate 16 0xFF)))) % 2 ^ 64)))
+    → EachIs is_clear (take count bytes)
+front-clear bytes long count few before =
+    let lanes = zip2_of_maps at_most (λ b. 0x80) (λ b. minus b 0xFF) bytes (splat_is_map bytes 16 0x80 long) (zip2_splat minus bytes 16 0xFF long) in
+    let is = ap (λ l. mask_l l % 2 ^ 64) (ap (map (top 7)) lanes ∙ unclear_lanes bytes)
+    ∙ mask_l-mod (map unclear bytes) 64 (omega (arith, long, length-map bytes unclear)) in
+    let unset = subst (λ mask. IsTrue (leb count (count_trailing_zeros 64 mask))) is before in
+    each_clear (take count bytes) (each_before (λ b. not (unclear b)) bytes count
+    (subst (λ k. count ≤ k) (first_set_mask_l unclear bytes 16 long (omega arith)) (by (eqb (mask_l (map unclear bytes)) 0) (leb-true count _ unset))))
+  where
+    by : (t : Bool) → count ≤ count_trailing_zeros 64 (mask_l (map unclear bytes)) → count ≤ cond t 16 (count_trailing_zeros 64 (mask_l (map unclear bytes)))
+    by true unset = few
+    by false unset = unset

@@ -1,5 +1,5 @@
 //! Whether a text is clear: of ASCII alone, and with no DEL. That is looked at many bytes at once.
-ghost use Rattle.std.specs.Prelude.{◌≡◌, ◌≤◌, length, IsTrue};
+ghost use Rattle.std.specs.Prelude.{◌≡◌, ◌≤◌, length, take, IsTrue};
 ghost use Rattle.anstyle_parse.specs.Stream.Items.{EachIs};
 ghost use Rattle.ansi_strip.specs.Driving.{is_clear, PassTo};
 
@@ -181,4 +181,16 @@ pub(crate) fn is_clear(bytes: &[u8]) -> bool
     } else {
         is_long_clear(bytes)
     }
+}
+
+/// Whether the first `count` of sixteen bytes are clear. With FF taken off, modulo 100, 7F to FE are 80 and more.
+#[inline(always)]
+pub(crate) fn is_clear_front(chunk: &[u8; 16], count: usize) -> bool
+    requires { count ≤ 16 }
+    ensures { IsTrue result → EachIs is_clear (take count chunk.now) }
+{
+    let unclear = (u8x16::from_array(*chunk) - u8x16::splat(0xFF))
+        .simd_ge(u8x16::splat(0x80))
+        .to_bitmask();
+    unclear.trailing_zeros() as usize >= count
 }

@@ -2,10 +2,11 @@
 ghost use Rattle.std.specs.Prelude.{◌≡◌, [], filter};
 ghost use Rattle.ansi_strip.specs.Inert.{is_inert};
 
-use crate::clear::is_clear;
+use crate::clear::{is_clear, is_clear_front};
 use crate::driving::{is_driving, split_at_driving};
 use anstyle_parse::canon::{CallWriter, Output, Sink, WritingPerformer};
 use anstyle_parse::{Params, Perform, PerformText};
+use std::str;
 
 /// Hands all calls on to a performer but the prints of DEL and of U+0080 to U+009F, which terminals take for
 /// controls.
@@ -80,6 +81,7 @@ impl<P: Perform> Perform for Inert<P> {
 }
 
 impl<P: PerformText> Inert<P> {
+    ghost use Rattle.std.specs.Prelude.{IsUtf8};
     ghost use Rattle.anstyle_parse.specs.Stream.Texts.{layout_calls};
     ghost use Rattle.ansi_strip.specs.Passing.{performer_in};
 
@@ -95,6 +97,19 @@ impl<P: PerformText> Inert<P> {
                 self.performer.print_with_layout(inert);
             }
             rest = behind;
+        }
+    }
+
+    /// The same with a text that is given by its bytes.
+    #[inline(never)]
+    fn print_bytes(&mut self, bytes: &[u8])
+        requires { IsUtf8 bytes.now }
+        ensures { P.receives (performer_in self.old) (filter is_inert (layout_calls bytes.now))
+            (performer_in self.new) }
+    {
+        match str::from_utf8(bytes) {
+            Ok(text) => self.print_parts(text),
+            Err(_) => unreachable!(),
         }
     }
 }
@@ -113,6 +128,21 @@ impl<P: PerformText> PerformText for Inert<P> {
         } else {
             self.print_parts(text);
         }
+    }
+
+    #[inline(always)]
+    fn print_front(&mut self, chunk: &[u8; 16], count: usize) {
+        if is_clear_front(chunk, count) {
+            self.performer.print_front(chunk, count);
+        } else {
+            self.print_bytes(&chunk[..count]);
+        }
+    }
+
+    /// It hands them on: so the performer answers for it.
+    #[inline(always)]
+    fn passes_over_control_sequences(&self) -> bool {
+        self.performer.passes_over_control_sequences()
     }
 
     ghost receives_none = { receives-none P.receives P.receives_none };

@@ -72,6 +72,17 @@ impl<W: Sink> PerformText for Stripper<W> {
         self.output.put_text(text);
     }
 
+    #[inline(always)]
+    fn print_front(&mut self, chunk: &[u8; 16], count: usize) {
+        self.output.put_front(chunk, count);
+    }
+
+    /// Nothing is written of a control sequence.
+    #[inline(always)]
+    fn passes_over_control_sequences(&self) -> bool {
+        true
+    }
+
     ghost receives_none = { AddsTexts-none W.Sink output_of stripped_call };
 
     ghost receives_one = { AddsTexts-one W.Sink output_of stripped_call };

@@ -317,6 +317,12 @@ impl<W: Sink> PerformText for SafeWriter<W> {
         self.take_text(text);
     }
 
+    /// No character is taken of a control sequence.
+    #[inline(always)]
+    fn passes_over_control_sequences(&self) -> bool {
+        true
+    }
+
     ghost receives_none = { Takes-none W.Sink };
 
     ghost receives_one = { TakesCalls-one W.Sink };

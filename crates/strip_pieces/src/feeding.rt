@@ -6,7 +6,7 @@ ghost use Rattle.strip_pieces.specs.Feed.{least_room, most_text, Feeds, IsTaken,
 
 use crate::slice_writer::SliceWriter;
 use crate::state::StreamState;
-use anstyle_parse::Parser;
+use anstyle_parse::{Parser, Utf8Parser};
 
 /// The bytes of text at most that each byte of a piece leads to. A piece leads to one more where
 /// it ends a character that was begun before.
@@ -42,7 +42,8 @@ impl StreamState {
         if room.len() < LEAST_ROOM && !piece.is_empty() {
             return None;
         }
-        let mut parser = self.resume();
+        let mut parser = Parser::<Utf8Parser>::new();
+        self.resume_in(&mut parser);
         let mut text = SliceWriter::new(room);
         let taken = take(&mut parser, piece, &mut text);
         let written = text.written();
@@ -66,7 +67,7 @@ fn take(parser: &mut Parser, piece: &[u8], room: &mut SliceWriter) -> usize
     let mut taken = 0;
     while taken < piece.len() && room.left() >= LEAST_ROOM {
         let count = (piece.len() - taken).min((room.left() - 1) / TEXT_OF_A_BYTE);
-        parser.advance_texts(room, &piece[taken..taken + count]);
+        parser.advance_heeded(room, &piece[taken..taken + count]);
         taken += count;
     }
     taken

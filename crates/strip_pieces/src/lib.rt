@@ -12,10 +12,12 @@
 #![tactic(auto)]
 
 mod feeding;
+mod front;
 pub mod laws;
 mod saved;
 mod slice_writer;
 mod state;
 
 pub use feeding::{Fed, LEAST_ROOM};
+pub use front::put_over;
 pub use state::StreamState;

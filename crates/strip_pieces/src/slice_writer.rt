@@ -2,6 +2,7 @@
 ghost use Rattle.std.specs.Prelude.{◌≡◌, ◌-◌, ◌∷◌, [], length};
 ghost use Rattle.ansi_strip.specs.Strip.{stripped_call, stripped};
 
+use crate::front::{CHUNK, put_over};
 use ansi_strip::is_layout;
 use anstyle_parse::{Params, Perform, PerformText};
 
@@ -48,8 +49,8 @@ impl<'a> SliceWriter<'a> {
         }
     }
 
-    /// Several bytes more.
-    #[inline]
+    /// Several bytes more. It is out of line, since texts come by three ways.
+    #[inline(never)]
     fn put_bytes(&mut self, bytes: &[u8])
         ensures { Puts bytes.now self.old self.new }
     {
@@ -115,6 +116,25 @@ impl<'a> PerformText for SliceWriter<'a> {
     #[inline(always)]
     fn print_with_layout(&mut self, text: &str) {
         self.put_bytes(text.as_bytes());
+    }
+
+    /// Where there is room for the whole chunk, it is put whole: what the room has behind the text is put where it was.
+    #[inline(always)]
+    fn print_front(&mut self, chunk: &[u8; 16], count: usize) {
+        let start = self.written;
+        if self.into.len() < CHUNK || start > self.into.len() - CHUNK {
+            self.put_bytes(&chunk[..count]);
+            return;
+        }
+        put_over(&mut self.into[start..start + CHUNK], chunk, count);
+        self.written = start + count;
+    }
+
+    /// Nothing is put for a control sequence. With no room at all the parser reads them: so `resume_in` leads it to
+    /// exactly where `advance_all` would.
+    #[inline(always)]
+    fn passes_over_control_sequences(&self) -> bool {
+        !self.into.is_empty()
     }
 
     ghost receives_none = { Puts-none };

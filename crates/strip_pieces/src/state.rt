@@ -6,6 +6,7 @@ ghost use Rattle.anstyle_parse.specs.Views.Parser.{IsAfter};
 ghost use Rattle.strip_pieces.specs.State.{pending_of, StandsFor};
 
 use crate::saved::Saved;
+use crate::slice_writer::SliceWriter;
 use anstyle_parse::canon::{MAX_CHECKPOINT, checkpoint};
 use anstyle_parse::{Parser, Utf8Parser};
 
@@ -44,14 +45,16 @@ impl StreamState {
         parser
     }
 
-    /// Leads a new parser to where the stream stands, in its place: it is large to copy.
+    /// Leads a new parser to where the stream stands, in its place: it is large to copy. Its calls go to a writer with
+    /// no room, so that the parser of `feed` serves here too.
     #[inline(always)]
     pub fn resume_in(&self, parser: &mut Parser)
         ensures { (before : List ℕ) → IsAfter front_of parser.old [] → StandsFor self.now before
             → IsAfter front_of parser.new before }
     {
         let length = self.length.min(MAX_CHECKPOINT);
-        parser.advance_all(&mut (), &self.pending[..length]);
+        let mut none = [0; 0];
+        parser.advance_heeded(&mut SliceWriter::new(&mut none), &self.pending[..length]);
     }
 
     /// Stands where the parser stands.

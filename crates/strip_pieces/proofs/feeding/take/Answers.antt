@@ -42,10 +42,10 @@ loop-taken-preserved c =
     let grown = take-add c.loop-taken.taken c.min-count.result piece ∙ ap (λ n. take c.loop-taken.taken piece ++ take n (drop c.loop-taken.taken piece)) (sym same) in
     let counted = length-take count (drop c.loop-taken.taken piece) in
     let few = length-continued (before ++ take c.loop-taken.taken piece) bytes more
-    (c.advance_texts.ensures.stream (before ++ take c.loop-taken.taken piece) (so_far.stands before is)) in
+    (c.advance_heeded.ensures.stream (before ++ take c.loop-taken.taken piece) (so_far.stands before is)) in
     let all_few = length-continued before (take c.loop-taken.taken piece ++ bytes) (so_far.calls ++ more)
     (Continues-append before (take c.loop-taken.taken piece) bytes so_far.calls more (so_far.continues before is)
-    (c.advance_texts.ensures.stream (before ++ take c.loop-taken.taken piece) (so_far.stands before is))) in
+    (c.advance_heeded.ensures.stream (before ++ take c.loop-taken.taken piece) (so_far.stands before is))) in
     let front = length-append (take c.loop-taken.taken piece) bytes in
     let begun = length-take c.loop-taken.taken piece in
     let text = flat_map-append stripped_call so_far.calls more in
@@ -55,14 +55,14 @@ loop-taken-preserved c =
         calls = so_far.calls ++ more;
         taken_fits = omega (arith, c.min-count.ensures);
         stands = λ before is.
-            subst (λ (l : List ℕ). IsAfter front_of c.advance_texts.new.self l) (append_assoc before (take c.loop-taken.taken piece) bytes ∙ ap (λ l. before ++ l) (sym grown))
-            (c.advance_texts.ensures.stands (before ++ take c.loop-taken.taken piece) (so_far.stands before is));
+            subst (λ (l : List ℕ). IsAfter front_of c.advance_heeded.new.self l) (append_assoc before (take c.loop-taken.taken piece) bytes ∙ ap (λ l. before ++ l) (sym grown))
+            (c.advance_heeded.ensures.stands (before ++ take c.loop-taken.taken piece) (so_far.stands before is));
         continues = λ before is.
             subst (λ (l : List ℕ). Continues before l (so_far.calls ++ more)) (sym grown)
             (Continues-append before (take c.loop-taken.taken piece) bytes so_far.calls more (so_far.continues before is)
-            (c.advance_texts.ensures.stream (before ++ take c.loop-taken.taken piece) (so_far.stands before is)));
-        puts = subst (λ (t : List ℕ). Puts t c.args.room.now c.advance_texts.new.performer) (sym text)
-            (Puts-append (stripped so_far.calls) (stripped more) c.args.room.now c.loop-taken.room c.advance_texts.new.performer so_far.puts c.advance_texts.ensures.calls);
+            (c.advance_heeded.ensures.stream (before ++ take c.loop-taken.taken piece) (so_far.stands before is)));
+        puts = subst (λ (t : List ℕ). Puts t c.args.room.now c.advance_heeded.new.performer) (sym text)
+            (Puts-append (stripped so_far.calls) (stripped more) c.args.room.now c.loop-taken.room c.advance_heeded.new.performer so_far.puts c.advance_heeded.ensures.calls);
         fits = omega (arith, long, few, counted, kept, so_far.fits, so_far.puts.written so_far.fits, c.min-count.ensures, c.left-in-loop-taken.ensures);
         bounded = omega (arith, all_few, front, begun, counted, so_far.taken_fits, c.min-count.ensures);
         nothing = λ e. absurd (omega (arith, c.min-count.ensures, c.left-in-loop-taken.ensures));

@@ -7,12 +7,12 @@ use Rattle.strip_pieces.proofs.state.StreamState.feed.Goals as goal
 use Rattle.strip_pieces.proofs.state.StreamState.feed.Goals.{else-room-lt-LEAST_ROOM-via-then-room-lt-LEAST_ROOM+else-not-is_empty, else-room-lt-LEAST_ROOM-via-else-room-lt-LEAST_ROOM}
 
 pub take-taken-requires-clause-stands : goal.take-taken-requires-clause-stands
-take-taken-requires-clause-stands c = (pending_of c.args.self.now, c.resume-parser.ensures (pending_of c.args.self.now) refl)
+take-taken-requires-clause-stands c = (pending_of c.args.self.now, c.resume_in.ensures (pending_of c.args.self.now) c.new-parser.ensures.stands refl)
 
 pub save-requires : goal.save-requires
 save-requires c =
     let held = pending_of c.args.self.now in
-    (held ++ take c.take-taken.result c.args.piece.now, c.take-taken.ensures.taken.stands held (c.resume-parser.ensures held refl))
+    (held ++ take c.take-taken.result c.args.piece.now, c.take-taken.ensures.taken.stands held (c.resume_in.ensures held c.new-parser.ensures.stands refl))
 
 pub returns-clause-fed : goal.returns-clause-fed
 returns-clause-fed c =
@@ -22,5 +22,5 @@ returns-clause-fed c =
       | else-room-lt-LEAST_ROOM-via-then-room-lt-LEAST_ROOM+else-not-is_empty w ↦ λ some. grind (arith, nat_tests)
       | else-room-lt-LEAST_ROOM-via-else-room-lt-LEAST_ROOM w ↦ λ some. omega arith
     ] in
-    Feeds-taken c.args.self.now c.save.new.self c.resume-parser.result c.take-taken.new.parser c.args.piece.now c.args.room.now _ text c.take-taken.new.room _ _
-    c.resume-parser.ensures c.save.ensures c.new-text.ensures.nothing c.new-text.ensures.bytes (search rules) c.written-written.ensures c.take-taken.ensures.taken c.take-taken.ensures.all c.take-taken.ensures.at_once enough
+    Feeds-taken c.args.self.now c.save.new.self c.resume_in.new.parser c.take-taken.new.parser c.args.piece.now c.args.room.now _ text c.take-taken.new.room _ _
+    (λ before stands. c.resume_in.ensures before c.new-parser.ensures.stands stands) c.save.ensures c.new-text.ensures.nothing c.new-text.ensures.bytes (search rules) c.written-written.ensures c.take-taken.ensures.taken c.take-taken.ensures.all c.take-taken.ensures.at_once enough

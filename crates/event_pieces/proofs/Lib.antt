@@ -6,3 +6,5 @@ pub mod Says
 pub mod Notes
 pub mod Bounds
 pub mod FeedLemmas
+pub mod Fronts
+pub mod Divided

@@ -1,5 +1,5 @@
 -- Texts and the calls of their characters.
-use Rattle.std.proofs.Common.{◌≡◌, ◌<◌, ◌+◌, ℕ, false, List, [], ◌∷◌, length, map, refl, sym, ap, ◌∙◌, append-nil, length-append, arith}
+use Rattle.std.proofs.Common.{◌≡◌, ◌<◌, ◌+◌, ℕ, false, List, [], ◌∷◌, length, map, refl, sym, ap, ◌∙◌, subst, append-nil, length-append, arith}
 use Rattle.std.specs.Prelude.{encode_utf8}
 use Rattle.std.specs.Char.{IsScalar}
 use Rattle.std.specs.Str.{IsUtf8, chars}
@@ -8,7 +8,10 @@ use Rattle.anstyle_parse.specs.Stream.Call.{Call, print}
 use Rattle.anstyle_parse.specs.Stream.Texts.{text_calls}
 use Rattle.anstyle_parse.proofs.Written.Texts.{flat_map-text_calls}
 use Rattle.event_pieces.specs.Event.{text_kind, joined, record_with, record_of, records_of, call_bytes, calls_bytes}
-use Rattle.event_pieces.specs.Writer.{text_from}
+use Rattle.event_pieces.specs.declared.writer.EventWriter.{EventWriter}
+use Rattle.event_pieces.specs.Writer.{text_from, Puts, NotesText, Adds}
+use Rattle.event_pieces.specs.AddingProof.{Adds-none}
+use Rattle.event_pieces.proofs.Notes.{Adds-text}
 
 -- a text has its own bytes in the room
 pub text-bytes : (text : List ℕ) → IsUtf8 text → calls_bytes (text_calls text) ≡ text
@@ -46,3 +49,11 @@ text-record text utf8 some start = records-prints start (chars text) text (text-
 pub text-one : (character : ℕ) → IsScalar character → text_calls (encode_utf8 character) ≡ print character ∷ []
 text-one character is =
     ap (map print) (sym (chars_from_encodes (character ∷ []) (encode_utf8 character) (IsUtf8-encode character is) (append-nil (encode_utf8 character))))
+
+-- what is done with a text: nothing, where it is empty, and else its bytes are put and a record is noted
+pub Adds-no_text : (text : List ℕ) (writer : EventWriter) → text ≡ [] → Adds (text_calls text) writer writer
+Adds-no_text text writer none = subst (λ calls. Adds calls writer writer) (sym (ap text_calls none ∙ text-none)) (Adds-none writer)
+
+pub Adds-some_text : (text : List ℕ) (old middle new : EventWriter) → IsUtf8 text → 0 < length text → Puts text old middle → NotesText old.used middle new → Adds (text_calls text) old new
+Adds-some_text text old middle new utf8 some puts notes =
+    Adds-text (text_calls text) text old middle new (text-bytes text utf8) (text-some text utf8 some) puts notes (text-record text utf8 some)

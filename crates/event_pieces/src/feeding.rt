@@ -6,8 +6,8 @@ ghost use Rattle.event_pieces.specs.Feed.{least_events, least_room, most_events,
 
 use crate::event::Event;
 use crate::writer::EventWriter;
-use anstyle_parse::Parser;
 use anstyle_parse::canon::MAX_CHECKPOINT;
+use anstyle_parse::{Parser, Utf8Parser};
 use strip_pieces::StreamState;
 
 /// The records at most that each byte of a piece leads to.
@@ -59,7 +59,8 @@ pub fn feed(
     if !piece.is_empty() && (events.len() < LEAST_EVENTS || room.len() < LEAST_ROOM) {
         return None;
     }
-    let mut parser = state.resume();
+    let mut parser = Parser::<Utf8Parser>::new();
+    state.resume_in(&mut parser);
     let mut writer = EventWriter::new(events, room);
     let taken = take(&mut parser, piece, &mut writer);
     let written = writer.written();

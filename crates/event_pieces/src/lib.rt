@@ -15,6 +15,7 @@
 
 mod event;
 mod feeding;
+mod front;
 pub mod laws;
 mod writer;
 

@@ -2,6 +2,7 @@
 ghost use Rattle.std.specs.Prelude.{◌≡◌, ◌<◌, ◌≤◌, ◌+◌, ◌-◌, List, ◌∷◌, ◌++◌, [], false, length, map, take, if◌then◌else◌};
 ghost use Rattle.std.specs.Bool.{OnTrue};
 ghost use Rattle.std.specs.List.{join_with_byte};
+ghost use Rattle.std.specs.Str.{IsUtf8};
 ghost use Rattle.anstyle_parse.specs.Stream.Bytes.{semicolon};
 ghost use Rattle.anstyle_parse.specs.Stream.Texts.{text_calls};
 ghost use Rattle.event_pieces.specs.Event.{group_bytes, groups_bytes, is_text, max_intermediates, record_with};
@@ -9,7 +10,9 @@ ghost use Rattle.event_pieces.specs.Event.{group_bytes, groups_bytes, is_text, m
 use crate::event::{
     CSI, ESC, EXECUTE, Event, HOOK, MAX_INTERMEDIATES, OSC, PADDING, PUT, TEXT, UNHOOK,
 };
+use crate::front::{BLOCK, FIELDS_OF_A_BLOCK, before_layout, fields_block, from_place};
 use anstyle_parse::{Params, Perform, PerformText};
+use strip_pieces::put_over;
 
 /// Writes records of calls after those that are written, as far as there is room for them.
 #[derive(Drop)]
@@ -80,6 +83,31 @@ impl<'a> EventWriter<'a> {
         }
     }
 
+    /// The first `count` bytes of a block. Where there is room for all of it, it is put whole: what the room has
+    /// behind them is put where it was.
+    #[inline(always)]
+    fn put_front(&mut self, block: &[u8; BLOCK], count: usize)
+        requires { count ≤ length block.now }
+        ensures { Puts (take count block.now) self.old self.new }
+    {
+        let start = self.used;
+        if self.room.len() < BLOCK || start > self.room.len() - BLOCK {
+            self.put_few(block, count);
+            return;
+        }
+        put_over(&mut self.room[start..start + BLOCK], block, count);
+        self.used = start + count;
+    }
+
+    /// The same where there is room for less. It is out of line, so that no other call pays for it.
+    #[inline(never)]
+    fn put_few(&mut self, block: &[u8; BLOCK], count: usize)
+        requires { count ≤ length block.now }
+        ensures { Puts (take count block.now) self.old self.new }
+    {
+        self.put_bytes(&block[..count]);
+    }
+
     /// The fields of a group.
     fn put_group(&mut self, group: &[u16])
         ensures { Puts (group_bytes group.now) self.old self.new }
@@ -92,7 +120,21 @@ impl<'a> EventWriter<'a> {
         }
     }
 
-    /// The fields of a header.
+    /// The fields of a header. Few that are each a group of their own are put as the front of a block.
+    #[inline]
+    fn put_fields(&mut self, params: &Params)
+        ensures { Puts (groups_bytes (groups_shown params.now)) self.old self.new }
+    {
+        match params.lone_fields() {
+            Some((fields, count)) if count <= FIELDS_OF_A_BLOCK => {
+                self.put_front(&fields_block(fields), 3 * count);
+            }
+            _ => self.put_groups(params),
+        }
+    }
+
+    /// The same, group by group.
+    #[inline(never)]
     fn put_groups(&mut self, params: &Params)
         ensures { Puts (groups_bytes (groups_shown params.now)) self.old self.new }
     {
@@ -175,6 +217,21 @@ impl<'a> EventWriter<'a> {
         self.note_text(start);
     }
 
+    /// The text that the first `count` bytes of a block are, unless it is empty.
+    #[inline(always)]
+    fn put_front_text(&mut self, block: &[u8; BLOCK], count: usize)
+        requires within { count ≤ length block.now }
+        requires text { IsUtf8 (take count block.now) }
+        ensures { Adds (text_calls (take count block.now)) self.old self.new }
+    {
+        if count == 0 {
+            return;
+        }
+        let start = self.used;
+        self.put_front(block, count);
+        self.note_text(start);
+    }
+
     /// Whether the last record is a text.
     #[inline(always)]
     fn ends_with_text(&self) -> bool
@@ -235,7 +292,7 @@ impl<'a> Perform for EventWriter<'a> {
 
     fn hook(&mut self, params: &Params, intermediates: &[u8], ignore: bool, action: u8) {
         let start = self.used;
-        self.put_groups(params);
+        self.put_fields(params);
         self.note(start, HOOK, action, ignore, intermediates);
     }
 
@@ -254,9 +311,10 @@ impl<'a> Perform for EventWriter<'a> {
         self.note(start, OSC, 0, bell_terminated, b"");
     }
 
+    #[inline(always)]
     fn csi_dispatch(&mut self, params: &Params, intermediates: &[u8], ignore: bool, action: u8) {
         let start = self.used;
-        self.put_groups(params);
+        self.put_fields(params);
         self.note(start, CSI, action, ignore, intermediates);
     }
 
@@ -276,6 +334,19 @@ impl<'a> PerformText for EventWriter<'a> {
     #[inline(always)]
     fn print_text(&mut self, text: &str) {
         self.put_text(text);
+    }
+
+    /// Each text up to a layout control is put as the front of a block.
+    fn print_front(&mut self, chunk: &[u8; 16], count: usize) {
+        let mut at = before_layout(chunk, count);
+        self.put_front_text(chunk, at);
+        'layout: while at < count {
+            self.execute(chunk[at]);
+            let behind = from_place(chunk, at + 1);
+            let shown = before_layout(&behind, count - at - 1);
+            self.put_front_text(&behind, shown);
+            at += 1 + shown;
+        }
     }
 
     ghost receives_none = { Adds-none };

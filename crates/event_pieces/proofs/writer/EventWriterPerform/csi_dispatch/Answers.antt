@@ -10,4 +10,4 @@ pub returns : goal.returns
 returns c =
     let groups = groups_shown c.args.params.now in
     Adds-note (csi_dispatch groups c.args.intermediates.now c.args.ignore c.args.action) (groups_bytes groups) _
-    c.args.self.now c.put_groups.new.self c.note.new.self refl c.put_groups.ensures (λ used. omega (arith, used)) c.note.ensures refl
+    c.args.self.now c.put_fields.new.self c.note.new.self refl c.put_fields.ensures (λ used. omega (arith, used)) c.note.ensures refl

@@ -7,9 +7,9 @@ use Rattle.ansi_style.specs.declared.select.Expected.{Expected}
 use Rattle.ansi_style.specs.declared.select.Expected.TheVariants.{Code}
 use Rattle.ansi_style.specs.Style.{plain}
 use Rattle.ansi_style.specs.Codes.{one}
-use Rattle.ansi_style.specs.Walk.{with_expected, expected_after}
+use Rattle.ansi_style.specs.Walk.{with_expected, expected_after, selected_from}
 use Rattle.ansi_style.specs.Rendition.{with_code, is_color_code, selected, AreWhole}
-use Rattle.ansi_style.proofs.WalkLemmas.{selected_from, expected_at_end, selected_from-code, expected_at_end-whole}
+use Rattle.ansi_style.proofs.WalkLemmas.{expected_at_end, selected_from-code, expected_at_end-whole}
 
 -- groups before others, from whatever is expected
 selected_from-append : (expected : Expected) (first second : List (List ℕ)) (style : Style)

@@ -1,5 +1,5 @@
 -- The walk over groups, which expects something at each, makes the style of their selections.
-use Rattle.std.proofs.Common.{◌≡◌, ℕ, Bool, true, false, eqb, List, [], ◌∷◌, ◌||◌, refl, sym, ap, ◌∙◌, subst, Option, None, Some}
+use Rattle.std.proofs.Common.{arith, ◌≡◌, ◌<◌, ℕ, length, Bool, true, false, eqb, List, [], ◌∷◌, ◌||◌, refl, sym, ap, ◌∙◌, subst, Option, None, Some}
 use Rattle.std.specs.Prelude.{◌==◌, if◌then◌else◌}
 use Rattle.std.proofs.lemmas.Bool.{eqb-true}
 use Rattle.anstyle_parse.specs.Stream.Bytes.{is_within}
@@ -9,13 +9,8 @@ use Rattle.ansi_style.specs.declared.select.Target.{Target}
 use Rattle.ansi_style.specs.declared.select.Target.TheVariants.{Foreground, Background, Line}
 use Rattle.ansi_style.specs.declared.select.Expected.{Expected}
 use Rattle.ansi_style.specs.declared.select.Expected.TheVariants.{Code, Kind, Index, RedValue}
-use Rattle.ansi_style.specs.Walk.{target_of, with_target_color, with_target, with_expected, expected_for, expected_after}
+use Rattle.ansi_style.specs.Walk.{target_of, with_target_color, with_target, expected_for, expected_after, selected_from, alone}
 use Rattle.ansi_style.specs.Rendition.{with_code, with_underline, color_in, indexed, mixed, with_color, with_group, Selection, change, selections, color_selections, index_selections, direct_selections, style_by, selected, are_ended, AreWhole}
-
--- the groups, one after another, from what is expected at the first
-abbrev pub selected_from : Expected → List (List ℕ) → Style → Style
-selected_from expected [] style = style
-selected_from expected (group ∷ groups) style = selected_from (expected_after expected group) groups (with_expected expected group style)
 
 -- what is expected after the groups
 abbrev pub expected_at_end : Expected → List (List ℕ) → Expected
@@ -48,6 +43,20 @@ unfolding with_code is_within
 unchanged text style = refl
 unchanged ground style = refl
 unchanged line style = refl
+
+-- whichever of the three it is
+color_code : (code : ℕ) (target : Target) (style : Style) (is_text is_ground is_line : Bool) → eqb code 38 ≡ is_text → eqb code 48 ≡ is_ground → eqb code 58 ≡ is_line
+    → (if is_text then Some Foreground else if is_ground then Some Background else if is_line then Some Line else None) ≡ Some target
+    → with_code code style ≡ style
+color_code code target style true is_ground is_line a b c is = subst (λ n. with_code n style ≡ style) (sym (eqb-true code 38 a)) (unchanged text style)
+color_code code target style false true is_line a b c is = subst (λ n. with_code n style ≡ style) (sym (eqb-true code 48 b)) (unchanged ground style)
+color_code code target style false false true a b c is = subst (λ n. with_code n style ≡ style) (sym (eqb-true code 58 c)) (unchanged line style)
+color_code code target style false false false a b c is = absurd (cc is)
+
+-- a code that begins a colour changes nothing by itself
+pub with_code-color : (code : ℕ) (target : Target) (style : Style) → target_of code ≡ Some target → with_code code style ≡ style
+unfolding target_of
+with_code-color code target style is = color_code code target style (eqb code 38) (eqb code 48) (eqb code 58) refl refl refl is
 
 -- a code, by whether it is 38, 48 or 58
 abbrev CodeAgrees : ℕ → List (List ℕ) → Bool → Bool → Bool → Type 0
@@ -170,3 +179,11 @@ pub expected_at_end-whole : (groups : List (List ℕ)) → AreWhole groups → e
 expected_at_end-whole groups whole =
     let agrees = walks groups in
     agrees.1 whole
+
+-- two fields end before red, green and blue
+pub selected_from-few : (target : Target) (fields : List ℕ) (style : Style) → length fields < 3
+    → style ≡ selected_from (RedValue target) (alone fields) style
+selected_from-few target [] style few = refl
+selected_from-few target (red ∷ []) style few = refl
+selected_from-few target (red ∷ green ∷ []) style few = refl
+selected_from-few target (red ∷ green ∷ blue ∷ fields) style few = absurd (omega (arith, few))

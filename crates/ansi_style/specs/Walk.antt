@@ -1,7 +1,7 @@
 -- What the code that walks over the groups alone speaks of: what it expects at each, and what a
 -- group does by that. No public clause cites it; that the walk makes the style of
 -- specs/Rendition is the contract of Style.select.
-use Rattle.std.specs.Prelude.{ℕ, ◌==◌, List, [], ◌∷◌, if◌then◌else◌, Option, None, Some}
+use Rattle.std.specs.Prelude.{ℕ, ◌==◌, List, [], ◌∷◌, map, if◌then◌else◌, Option, None, Some}
 use Rattle.ansi_style.specs.declared.style.Style.{Style}
 use Rattle.ansi_style.specs.declared.style.Color.{Color}
 use Rattle.ansi_style.specs.declared.select.Target.{Target}
@@ -53,3 +53,12 @@ expected_after (Kind target) (kind ∷ []) = expected_for_kind target kind
 expected_after (RedValue target) (red ∷ []) = GreenValue target red
 expected_after (GreenValue target red) (green ∷ []) = BlueValue target red green
 expected_after expected group = Code
+
+-- the groups, one after another, from what is expected at the first
+abbrev pub selected_from : Expected → List (List ℕ) → Style → Style
+selected_from expected [] style = style
+selected_from expected (group ∷ groups) style = selected_from (expected_after expected group) groups (with_expected expected group style)
+
+-- fields that are each a group of its own
+abbrev pub alone : List ℕ → List (List ℕ)
+alone fields = map (λ field. field ∷ []) fields

@@ -1,8 +1,9 @@
 //! Select Graphic Rendition: what a control sequence does to a style.
-ghost use Rattle.std.specs.Prelude.{◌≡◌, ◌≤◌, ◌<◌, ◌++◌, ◌∷◌, []};
+ghost use Rattle.std.specs.Prelude.{◌≡◌, ◌≤◌, ◌<◌, ◌++◌, ◌∷◌, [], length};
 ghost use Rattle.ansi_style.specs.Style.{hue_at};
 ghost use Rattle.ansi_style.specs.Rendition.{with_code, with_underline, color_in, indexed, mixed, selected, is_selection, style_after};
-ghost use Rattle.ansi_style.specs.Walk.{target_of, with_target_color, with_target, with_expected, expected_for, expected_for_kind, expected_after};
+ghost use Rattle.ansi_style.specs.Walk.{alone, target_of, with_target_color, with_target, with_expected, expected_for, expected_for_kind, expected_after, selected_from};
+ghost use Rattle.ansi_style.specs.declared.select.Expected.TheVariants.{Code, Kind, Index, RedValue};
 ghost use Rattle.anstyle_parse.specs.Views.Params.{groups_shown};
 
 use crate::style::{Color, Hue, Style, Underline};
@@ -61,47 +62,121 @@ impl Style {
     pub fn select(&mut self, params: &Params)
         ensures { self.new ≡ selected (groups_shown params.now) self.old }
     {
-        let mut expected = Expected::Code;
-        for group in params {
-            expected = self.take_group(expected, group);
+        match params.lone_fields() {
+            Some((fields, count)) => self.select_lone(&fields[..count]),
+            None => self.select_groups(params),
         }
     }
 
-    /// Does what one group says, and answers what is expected after it. Most are a code alone.
+    /// The same by fields that are each a group of its own. Most sequences have one.
     #[inline(always)]
-    fn take_group(&mut self, expected: Expected, group: &[u16]) -> Expected
-        ensures style { self.new ≡ with_expected expected group.now self.old }
-        ensures expected { result ≡ expected_after expected group.now }
+    fn select_lone(&mut self, fields: &[u16])
+        ensures { self.new ≡ selected_from Code (alone fields.now) self.old }
     {
-        match (expected, group) {
-            (Expected::Code, [code]) => self.take_code(*code),
-            _ => {
-                self.select_group(expected, group);
-                expected.after(group)
-            }
+        match fields {
+            [code] => self.select_one(*code),
+            _ => self.select_each(fields),
         }
     }
 
-    /// Does what a code says alone, and answers what is expected after it. Those that most sequences have, a reset and
-    /// one of eight colours, are told before all others.
+    /// Does what a code says alone. Those that most sequences have, a reset and one of eight colours, are told before
+    /// all others.
     #[inline(always)]
-    #[tactic(auto, unfolding(crate::specs::Walk::target_of))]
-    fn take_code(&mut self, code: u16) -> Expected
-        ensures style { self.new ≡ with_code code self.old }
-        ensures expected { result ≡ expected_for (target_of code) }
+    fn select_one(&mut self, code: u16)
+        ensures { self.new ≡ with_code code self.old }
     {
         if code == 0 {
             self.reset();
-            Expected::Code
         } else if 30 <= code && code < 38 {
             self.color_text(code);
-            Expected::Code
         } else {
             self.select_code(code);
-            match color_target(code) {
-                Some(target) => Expected::Kind(target),
-                None => Expected::Code,
+        }
+    }
+
+    /// Does what the fields say, one after another.
+    #[inline(never)]
+    fn select_each(&mut self, fields: &[u16])
+        ensures { self.new ≡ selected_from Code (alone fields.now) self.old }
+    {
+        let mut rest = fields;
+        'fields: while let Some((code, behind)) = rest.split_first() {
+            rest = self.take_code(*code, behind);
+        }
+    }
+
+    /// Does what a code says, which may begin a colour, and answers what comes after it, or after the colour.
+    #[inline(always)]
+    fn take_code<'a>(&mut self, code: u16, behind: &'a [u16]) -> &'a [u16]
+        ensures style { selected_from Code (alone result.now) self.new
+            ≡ selected_from Code (alone (code ∷ behind.now)) self.old }
+        ensures onward { length result.now ≤ length behind.now }
+    {
+        match color_target(code) {
+            Some(target) => self.take_color(target, behind),
+            None => {
+                self.select_code(code);
+                behind
             }
+        }
+    }
+
+    /// Selects the colour that its code is followed by, and answers what comes after it.
+    #[inline(always)]
+    fn take_color<'a>(&mut self, target: Target, fields: &'a [u16]) -> &'a [u16]
+        ensures style { selected_from Code (alone result.now) self.new
+            ≡ selected_from (Kind target) (alone fields.now) self.old }
+        ensures onward { length result.now ≤ length fields.now }
+    {
+        match fields {
+            [] => fields,
+            [5, others @ ..] => self.take_index(target, others),
+            [2, others @ ..] => self.take_values(target, others),
+            [_, others @ ..] => others,
+        }
+    }
+
+    /// The same where its number follows, unless the sequence ends.
+    #[inline(always)]
+    fn take_index<'a>(&mut self, target: Target, fields: &'a [u16]) -> &'a [u16]
+        ensures style { selected_from Code (alone result.now) self.new
+            ≡ selected_from (Index target) (alone fields.now) self.old }
+        ensures onward { length result.now ≤ length fields.now }
+    {
+        match fields {
+            [] => fields,
+            [index, others @ ..] => {
+                self.set_color(target, indexed(*index));
+                others
+            }
+        }
+    }
+
+    /// The same where red, green and blue follow, unless the sequence ends.
+    #[inline(always)]
+    fn take_values<'a>(&mut self, target: Target, fields: &'a [u16]) -> &'a [u16]
+        ensures style { selected_from Code (alone result.now) self.new
+            ≡ selected_from (RedValue target) (alone fields.now) self.old }
+        ensures onward { length result.now ≤ length fields.now }
+    {
+        match fields {
+            [red, green, blue, others @ ..] => {
+                self.set_color(target, mixed(*red, *green, *blue));
+                others
+            }
+            [] | [_] | [_, _] => &[],
+        }
+    }
+
+    /// The same by groups.
+    #[inline(never)]
+    fn select_groups(&mut self, params: &Params)
+        ensures { self.new ≡ selected (groups_shown params.now) self.old }
+    {
+        let mut expected = Expected::Code;
+        for group in params {
+            self.select_group(expected, group);
+            expected = expected.after(group);
         }
     }
 

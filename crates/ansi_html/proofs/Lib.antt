@@ -25,6 +25,7 @@ pub mod LengthLemmas
 pub mod BoundLemmas
 pub mod LinkLemmas
 pub mod SoundLemmas
+pub mod SelectedLemmas
 pub mod ShownLemmas
 pub mod WholeLemmas
 pub mod StyledLemmas

@@ -1,5 +1,5 @@
 -- What a writer of HTML shows, and what a call does to it.
-use Rattle.std.specs.Prelude.{◌≡◌, ℕ, Bool, ◌==◌, List, [], ◌∷◌, ◌++◌, Option, None, Some}
+use Rattle.std.specs.Prelude.{◌≡◌, ℕ, Bool, if◌then◌else◌, ◌==◌, List, [], ◌∷◌, ◌++◌, Option, None, Some}
 use Rattle.anstyle_parse.specs.declared.io.devices.Sink.{Ghosts as SinkOf}
 use Rattle.anstyle_parse.specs.declared.io.output.Output.{Output}
 use Rattle.anstyle_parse.specs.Stream.Call.{Call}
@@ -23,11 +23,7 @@ styling_of performer = performer.styling
 
 -- the style that is selected, where a sequence has selected a style or a link since the last text
 abbrev pub next_of : {W : Type 0} → HtmlWriter W → Option Style
-next_of performer = performer.next
-
--- the link of the last text, and the one for what comes
-abbrev pub links_of : {W : Type 0} → HtmlWriter W → Links
-links_of performer = performer.links
+next_of performer = if performer.has_selected then Some performer.selected else None
 
 -- The element that is selected; where nothing has been selected since the last text, that one's.
 abbrev pub selected_of : Option Style → Style → Links → Element

@@ -1,8 +1,8 @@
 //! Sixteen bytes, tested by one comparison.
-ghost use Rattle.std.specs.Prelude.{◌≡◌, map, not, IsTrue};
+ghost use Rattle.std.specs.Prelude.{◌≡◌, ◌≤◌, map, not, IsTrue, length, take};
 ghost use Rattle.std.specs.Simd.Lanes.{mask_l};
 ghost use Rattle.ansi_html.specs.Chunks.{PassAtEnd};
-ghost use Rattle.ansi_html.specs.Grammar.{is_special};
+ghost use Rattle.ansi_html.specs.Grammar.{is_special, AreClear};
 ghost use Rattle.ansi_html.specs.Links.{is_visible};
 ghost use Rattle.ansi_html.specs.Verbatim.{is_verbatim};
 
@@ -24,14 +24,17 @@ pub(crate) fn specials(bytes: u8x16) -> u64
                         | bytes.simd_eq(u8x16::splat(b'\r'))))))).to_bitmask()
 }
 
-/// Whether there are sixteen bytes, and the last sixteen have no meaning in HTML.
+/// How many bytes of a chunk come before the first with a meaning in HTML.
 #[inline(always)]
-pub(crate) fn are_last_clear(bytes: &[u8]) -> bool
-    ensures { IsTrue result → PassAtEnd (λ b. not (is_special b)) bytes.now }
+pub(crate) fn clear_count(chunk: &[u8; CHUNK]) -> usize
+    ensures within { result ≤ length chunk.now }
+    ensures clear { AreClear (take result chunk.now) }
 {
-    match bytes.last_chunk::<CHUNK>() {
-        Some(last) => specials(u8x16::from_array(*last)) == 0,
-        None => false,
+    let found = specials(u8x16::from_array(*chunk));
+    if found == 0 {
+        CHUNK
+    } else {
+        found.trailing_zeros() as usize
     }
 }
 

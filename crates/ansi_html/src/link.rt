@@ -34,7 +34,7 @@ impl Links {
     #[inline]
     pub(crate) fn none() -> Links
         ensures shown { shown_link result ≡ [] }
-        ensures selected { selected_link result ≡ [] }
+        ensures next { has_next result ≡ false }
     {
         Links {
             first: Uri::new(),
@@ -99,15 +99,6 @@ impl Links {
         ensures next { has_next self.new ≡ false }
     {
         self.shows_second = self.shows_second != self.has_next;
-        self.has_next = false;
-    }
-
-    /// The link of the last text is the one for what comes.
-    #[inline(always)]
-    pub(crate) fn keep_shown(&mut self)
-        ensures shown { shown_link self.new ≡ shown_link self.old }
-        ensures selected { selected_link self.new ≡ shown_link self.old }
-    {
         self.has_next = false;
     }
 

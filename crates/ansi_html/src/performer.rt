@@ -1,13 +1,13 @@
 //! The performer that writes HTML.
-ghost use Rattle.std.specs.Prelude.{◌≡◌, ◌∷◌, ◌++◌, [], true, false, encode_utf8, codes, refl};
+ghost use Rattle.std.specs.Prelude.{◌≡◌, ◌<◌, ◌≤◌, ◌∷◌, ◌++◌, [], true, false, encode_utf8, codes, refl, length, take};
 ghost use Rattle.anstyle_parse.specs.Io.Output.{Adds};
 ghost use Rattle.ansi_style.specs.Style.{plain};
 ghost use Rattle.ansi_html.specs.Classes.{class_names, classes_of};
 ghost use Rattle.ansi_html.specs.Grammar.{is_special, AreClear, BeginWithClear};
-ghost use Rattle.ansi_html.specs.ShownLinks.{shown_link, selected_link};
+ghost use Rattle.ansi_html.specs.ShownLinks.{has_next, shown_link, selected_link};
 ghost use Rattle.ansi_html.specs.Html.{line_break, beginning, value_of, attribute_text, span_begin, span_end, link_begin, link_end, element, element_begin, element_end, change, escaped, escaped_text};
 
-use crate::chunks::{CHUNK, are_last_clear, specials};
+use crate::chunks::{CHUNK, clear_count, specials};
 use crate::class::put_classes;
 use crate::css::is_plain;
 use crate::link::{Links, is_link_command};
@@ -38,17 +38,20 @@ pub struct HtmlWriter<W> {
     styling: Styling,
     /// The style of the last text; plain where there was none.
     shown: Style,
-    /// The style that is selected for what comes, where a sequence has selected one, or a link, since.
-    next: Option<Style>,
+    /// The style that is selected for what comes.
+    selected: Style,
+    /// A sequence has selected a style or a link since the last text.
+    has_selected: bool,
     /// The link of the last text, and the one for what comes.
     links: Links,
     /// The last text was 0D.
     returned: bool,
+    ghost same_style: { has_selected ≡ false → selected ≡ shown },
+    ghost same_link: { has_selected ≡ false → has_next links ≡ false },
 }
 
 impl<W: Sink> HtmlWriter<W> {
-    ghost use Rattle.std.specs.Prelude.{None, Some};
-    ghost use Rattle.ansi_html.specs.Writer.{output_of, styling_of, standing_of, standing_in, kept, in_element, next_of, links_of, IsNew, TakesBytes};
+    ghost use Rattle.ansi_html.specs.Writer.{output_of, styling_of, standing_of, standing_in, kept, in_element, IsNew, TakesBytes};
 
     /// One that writes to this output, says styles in this way, and has received no call.
     /// Nothing is written.
@@ -61,7 +64,8 @@ impl<W: Sink> HtmlWriter<W> {
             output,
             styling,
             shown: Style::default(),
-            next: None,
+            selected: Style::default(),
+            has_selected: false,
             links: Links::none(),
             returned: false,
         }
@@ -88,8 +92,9 @@ impl<W: Sink> HtmlWriter<W> {
         ensures styling { styling_of self.new ≡ styling_of self.old }
         ensures standing { standing_of self.new ≡ kept (standing_in standing.entry) }
     {
+        self.has_selected = true;
         self.shown = standing.shown.style;
-        self.next = Some(standing.selected.style);
+        self.selected = standing.selected.style;
         self.links
             .resume(standing.shown.link, standing.selected.link);
         self.returned = standing.returned;
@@ -103,12 +108,9 @@ impl<W: Sink> HtmlWriter<W> {
             style: self.shown,
             link: self.links.shown(),
         };
-        let selected = match self.next {
-            Some(style) => Element {
-                style,
-                link: self.links.selected(),
-            },
-            None => shown,
+        let selected = Element {
+            style: self.selected,
+            link: self.links.selected(),
         };
         Standing {
             shown,
@@ -151,6 +153,57 @@ impl<W: Sink> HtmlWriter<W> {
         }
     }
 
+    /// The same of the first bytes of a chunk, which is copied whole.
+    #[inline(always)]
+    fn put_clear_front(&mut self, chunk: &[u8; CHUNK], count: usize)
+        requires some { 0 < count }
+        requires within { count ≤ length chunk.now }
+        requires clear { AreClear (take count chunk.now) }
+        ensures { TakesBytes W.Sink self.old (take count chunk.now) self.new }
+    {
+        if let Some((first, _)) = chunk.split_first() {
+            let is_line_feed = *first == b'\n';
+            self.begin_text(is_line_feed);
+            self.output.put_front(chunk, count);
+        }
+    }
+
+    /// Writes text: what has no meaning in HTML at once, and what stands behind 0D begins anew.
+    #[inline(always)]
+    fn put_text(&mut self, text: &[u8])
+        ensures { TakesBytes W.Sink self.old text.now self.new }
+    {
+        let mut rest = text;
+        'rest: while !rest.is_empty() {
+            let special = after_clear(rest);
+            let (clear, _) = rest.split_at(rest.len() - special.len());
+            self.put_clear(clear);
+            rest = special;
+            if let Some((first, behind)) = special.split_first() {
+                self.put_text_byte(*first);
+                rest = behind;
+            }
+        }
+    }
+
+    /// The same of few bytes, which are looked at one by one.
+    #[inline(never)]
+    fn put_few(&mut self, text: &[u8])
+        ensures { TakesBytes W.Sink self.old text.now self.new }
+    {
+        let mut rest = text;
+        'rest: while !rest.is_empty() {
+            let next = after_few_clear(rest);
+            let (shown, _) = rest.split_at(rest.len() - next.len());
+            self.put_clear(shown);
+            rest = next;
+            if let Some((byte, behind)) = next.split_first() {
+                self.put_text_byte(*byte);
+                rest = behind;
+            }
+        }
+    }
+
     /// Writes a byte of text.
     #[inline]
     fn put_text_byte(&mut self, byte: u8)
@@ -171,46 +224,31 @@ impl<W: Sink> HtmlWriter<W> {
             (change (styling_of self.old) (standing_of self.old).shown (standing_of self.old).selected)
             (output_of self.old) (output_of self.new) }
     {
-        if let Some(style) = self.next {
-            self.change_to(style);
+        if self.has_selected {
+            self.change();
         }
     }
 
-    /// Text of this style and of the selected link may follow.
+    /// The same, whether or not anything has been selected.
     #[inline(never)]
-    fn change_to(&mut self, style: Style)
+    fn change(&mut self)
         ensures styling { styling_of self.new ≡ styling_of self.old }
-        ensures next { next_of self.new ≡ None }
         ensures standing { standing_of self.new
-            ≡ in_element (element style (selected_link (links_of self.old))) (standing_of self.old).returned }
-        ensures added { Adds W.Sink (change (styling_of self.old) (standing_of self.old).shown
-            (element style (selected_link (links_of self.old)))) (output_of self.old) (output_of self.new) }
+            ≡ in_element (standing_of self.old).selected (standing_of self.old).returned }
+        ensures added { Adds W.Sink
+            (change (styling_of self.old) (standing_of self.old).shown (standing_of self.old).selected)
+            (output_of self.old) (output_of self.new) }
     {
         put_change(
             &mut self.output,
             self.styling,
             &self.shown,
-            &style,
+            &self.selected,
             &self.links,
         );
-        self.next = None;
-        self.shown = style;
+        self.shown = self.selected;
         self.links.show_selected();
-    }
-
-    /// A style or a link is selected for what comes. The first one since the last text is from that
-    /// text's on.
-    #[inline(always)]
-    fn begin_selection(&mut self)
-        ensures styling { styling_of self.new ≡ styling_of self.old }
-        ensures output { output_of self.new ≡ output_of self.old }
-        ensures next { next_of self.new ≡ Some (standing_of self.old).selected.style }
-        ensures standing { standing_of self.new ≡ standing_of self.old }
-    {
-        if self.next.is_none() {
-            self.next = Some(self.shown);
-            self.links.keep_shown();
-        }
+        self.has_selected = false;
     }
 }
 
@@ -239,12 +277,27 @@ fn put_change<W: Sink>(
         output.old output.new }
 {
     if links.differ() {
-        put_end(output, shown, links.shown());
-        put_begin(output, styling, style, links.selected());
+        put_link_change(output, styling, shown, style, links);
     } else if *shown != *style {
         put_span_end(output, shown);
         put_span_begin(output, styling, style);
     }
+}
+
+/// The same where the links differ.
+#[inline(never)]
+fn put_link_change<W: Sink>(
+    output: &mut Output<W>,
+    styling: Styling,
+    shown: &Style,
+    style: &Style,
+    links: &Links,
+)
+    ensures { Adds W.Sink (element_end (element shown.now (shown_link links.now))
+        ++ element_begin styling (element style.now (selected_link links.now))) output.old output.new }
+{
+    put_end(output, shown, links.shown());
+    put_begin(output, styling, style, links.selected());
 }
 
 /// Opens a link, where there is one, and in it a span of the style, unless it is plain.
@@ -337,6 +390,7 @@ fn put_span<W: Sink>(output: &mut Output<W>, styling: Styling, style: &Style)
 }
 
 /// The names of a style's classes behind a text, and the end of their attribute and tag.
+#[inline(never)]
 fn put_classes_between<W: Sink>(output: &mut Output<W>, before: &[u8], linked: bool, style: Style)
     ensures { Adds W.Sink (before.now ++ (class_names (classes_of linked style) ++ codes "\">")) output.old output.new }
 {
@@ -378,9 +432,22 @@ fn after_clear(bytes: &[u8]) -> &[u8]
         }
         rest = behind;
     }
-    if are_last_clear(bytes) {
-        return &[];
+    // What is left of a chunk is among the last sixteen bytes.
+    match bytes.last_chunk::<CHUNK>() {
+        Some(last) => {
+            let (_, at) = bytes.split_at(bytes.len() - CHUNK + clear_count(last));
+            at
+        }
+        None => after_few_clear(rest),
     }
+}
+
+/// The same, byte by byte.
+#[inline(always)]
+fn after_few_clear(bytes: &[u8]) -> &[u8]
+    ensures { BeginWithClear bytes.now result.now }
+{
+    let mut rest = bytes;
     'bytes: while let Some((first, behind)) = rest.split_first() {
         if is_special(*first) {
             break;
@@ -495,14 +562,14 @@ impl<W: Sink> Perform for HtmlWriter<W> {
 
     fn osc_dispatch(&mut self, params: &[&[u8]], _bell_terminated: bool) {
         if is_link_command(params) {
-            self.begin_selection();
+            self.has_selected = true;
             self.links.select(params);
         }
     }
 
     fn csi_dispatch(&mut self, params: &Params, intermediates: &[u8], ignore: bool, action: u8) {
-        self.begin_selection();
-        let style = self.next.get_or_insert(self.shown);
+        self.has_selected = true;
+        let style = &mut self.selected;
         style.csi_dispatch(params, intermediates, ignore, action);
     }
 
@@ -525,18 +592,19 @@ impl<W: Sink> PerformText for HtmlWriter<W> {
         }
     }
 
-    #[inline]
+    #[inline(never)]
     fn print_with_layout(&mut self, text: &str) {
-        let mut rest = text.as_bytes();
-        'rest: while !rest.is_empty() {
-            let special = after_clear(rest);
-            let (clear, _) = rest.split_at(rest.len() - special.len());
-            self.put_clear(clear);
-            rest = special;
-            if let Some((first, behind)) = special.split_first() {
-                self.put_text_byte(*first);
-                rest = behind;
-            }
+        self.put_text(text.as_bytes());
+    }
+
+    #[inline(always)]
+    fn print_front(&mut self, chunk: &[u8; 16], count: usize) {
+        let clear = clear_count(chunk).min(count);
+        if clear > 0 {
+            self.put_clear_front(chunk, clear);
+        }
+        if clear < count {
+            self.put_few(&chunk[clear..count]);
         }
     }
 

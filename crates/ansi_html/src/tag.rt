@@ -27,7 +27,7 @@ fn put_with_color<W: Sink>(output: &mut Output<W>, color: &[u8; 6])
 }
 
 /// What begins a tag, a colour for light pages and one for dark ones.
-#[inline(always)]
+#[inline(never)]
 fn put_with_both<W: Sink>(output: &mut Output<W>, light: &[u8; 6], dark: &[u8; 6])
     ensures { (one other : AnRgb) → light.now ≡ digits one → dark.now ≡ digits other
         → Adds W.Sink (codes "<span style=\"" ++ themed OnBoth (codes "color:") one other) output.old output.new }
@@ -75,6 +75,7 @@ fn put_on_page<W: Sink>(output: &mut Output<W>, scheme: Scheme, dim: bool, text:
 }
 
 /// A text on a ground of the page's own text, and that ground.
+#[inline(never)]
 fn put_on_reversed<W: Sink>(output: &mut Output<W>, scheme: Scheme, dim: bool, text: Color)
     ensures { Adds W.Sink (codes "<span style=\"" ++ on_reversed scheme dim text) output.old output.new }
 {
@@ -84,6 +85,7 @@ fn put_on_reversed<W: Sink>(output: &mut Output<W>, scheme: Scheme, dim: bool, t
 }
 
 /// A text on a ground that is chosen.
+#[inline(never)]
 fn put_on_chosen<W: Sink>(output: &mut Output<W>, dim: bool, text: Color, behind: Rgb)
     ensures { Adds W.Sink (codes "<span style=\"" ++ on_chosen dim text behind) output.old output.new }
 {

@@ -1,12 +1,11 @@
-use Rattle.std.proofs.Common.{[], ◌∷◌, ◌++◌, sym, ap₂, arith, take, ◌∙◌, take-append-drop}
-use Rattle.std.specs.Prelude.{not}
-use Rattle.std.proofs.lemmas.List.{append-nil}
+use Rattle.std.proofs.lemmas.List.{drop-drop}
+use Rattle.std.proofs.Common.{◌≡◌, ◌++◌, ◌-◌, length, sym, ap, ap₂, arith, take, drop, ◌∙◌, subst, take-append-drop}
 use lib.Count.{count_trailing_zeros}
 use Rattle.anstyle_parse.proofs.Machine.Lanes.{lowest-lt, each_before, each_before_lowest}
 use Rattle.anstyle_parse.proofs.Machine.Runs.{chunk_and_rest, front_of_chunk, length-first_chunk}
-use Rattle.ansi_html.specs.Grammar.{is_special}
+use Rattle.ansi_html.specs.Grammar.{is_special, AreClear}
 use Rattle.ansi_html.proofs.ChunkLemmas.{AreClear-each}
-use Rattle.ansi_html.proofs.EndLemmas.{PassAtEnd-behind}
+use Rattle.ansi_html.proofs.EndLemmas.{BeginWithClear-end}
 use Rattle.ansi_html.proofs.HtmlLemmas.{BeginWithClear-none, BeginWithClear-more}
 use Rattle.ansi_html.proofs.performer.after_clear.Goals as goal
 
@@ -42,14 +41,14 @@ chunks-preserved c =
     (AreClear-each chunk (each_before is_special chunk c.specials-found.result long c.specials-found.ensures c.if-found-ne0.false))
     (chunk_and_rest 16 rest chunk behind c.in-Some.ensures.cases.0 c.in-Some.ensures.cases.1) c.chunks.invariant
 
-pub returns-then-are_last_clear : goal.returns-then-are_last_clear
-returns-then-are_last_clear c =
-    let rest = c.chunks.rest.now in
+pub returns-in-Some-last_chunk : goal.returns-in-Some-last_chunk
+returns-in-Some-last_chunk c =
+    let bytes = c.args.bytes.now in
+    let last = drop (length bytes - 16) bytes in
+    let count = c.clear_count.result in
     let (front, are, joined) = c.chunks.invariant in
-    let clear = PassAtEnd-behind (λ b. not (is_special b)) c.args.bytes.now front rest joined c.in_default.ensures.cases (c.are_last_clear.ensures c.if-are_last_clear.true) in
-    BeginWithClear-more c.args.bytes.now rest rest [] (AreClear-each rest clear) (sym (append-nil rest)) c.chunks.invariant
-
-pub bytes-preserved : goal.bytes-preserved
-bytes-preserved c =
-    BeginWithClear-more c.args.bytes.now c.bytes.rest.now (c.in-Some-split_first.first.now ∷ []) c.in-Some-split_first.behind.now
-    (sym c.is_special.ensures ∙ c.if-is_special.false, tt) c.in-Some-split_first.ensures.cases.0 c.bytes.invariant
+    let is : c.in-Some-last_chunk.last.now ≡ last = c.in-Some-last_chunk.ensures.cases.1.same in
+    BeginWithClear-more bytes last (take count last) c.split_at-in-Some-last_chunk.result.1.now
+    (subst (λ l. AreClear (take count l)) is c.clear_count.ensures.clear)
+    (sym (take-append-drop count last) ∙ ap (λ l. take count last ++ l) (drop-drop count (length bytes - 16) bytes ∙ sym c.split_at-in-Some-last_chunk.ensures.back))
+    (BeginWithClear-end bytes front c.chunks.rest.now are joined c.in_default.ensures.cases)

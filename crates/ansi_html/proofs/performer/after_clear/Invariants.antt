@@ -8,9 +8,3 @@ invariant-chunks l = BeginWithClear l.bytes l.rest
 
 abbrev pub decreases-chunks : goal.decreases-chunks
 decreases-chunks l = length l.rest
-
-abbrev pub invariant-bytes : goal.invariant-bytes
-invariant-bytes l = BeginWithClear l.bytes l.rest
-
-abbrev pub decreases-bytes : goal.decreases-bytes
-decreases-bytes l = length l.rest

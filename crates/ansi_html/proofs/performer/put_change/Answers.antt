@@ -5,21 +5,17 @@ use Rattle.anstyle_parse.specs.Io.Output.{Adds}
 use Rattle.anstyle_parse.proofs.Written.Output.{Adds-nil, Adds-append}
 use Rattle.ansi_style.specs.Style.{are_equal}
 use Rattle.ansi_html.specs.ShownLinks.{shown_link, selected_link}
-use Rattle.ansi_html.specs.Html.{element, span_begin, span_end, element_begin, element_end}
+use Rattle.ansi_html.specs.Html.{element, span_begin, span_end}
 use Rattle.ansi_html.proofs.HtmlLemmas.{false-from_not, true-from_not, change-link, change-style, change-none}
 use Rattle.ansi_html.proofs.performer.put_change.Goals as goal
 
 pub returns-then-differ : goal.returns-then-differ
 returns-then-differ g c =
-    let begin = c.args.output.now in
-    let end = c.put_begin.new.output in
     let shown = element c.args.shown.now (shown_link c.args.links.now) in
     let next = element c.args.style.now (selected_link c.args.links.now) in
     let other = false-from_not (bytes_eq shown.link next.link) (sym c.differ.ensures ∙ c.if-differ.true) in
-    subst (λ (text : List ℕ). Adds g.W.Sink text begin end) (sym (change-link c.args.styling shown next other))
-    (Adds-append g.W.Sink (element_end shown) (element_begin c.args.styling next) begin c.put_end.new.output end
-    (subst (λ (link : List ℕ). Adds g.W.Sink (element_end (element c.args.shown.now link)) begin c.put_end.new.output) c.shown.ensures c.put_end.ensures)
-    (subst (λ (link : List ℕ). Adds g.W.Sink (element_begin c.args.styling (element c.args.style.now link)) c.put_end.new.output end) c.selected.ensures c.put_begin.ensures))
+    subst (λ (text : List ℕ). Adds g.W.Sink text c.args.output.now c.put_link_change.new.output)
+    (sym (change-link c.args.styling shown next other)) c.put_link_change.ensures
 
 pub returns-then-ne : goal.returns-then-ne
 unfolding are_equal

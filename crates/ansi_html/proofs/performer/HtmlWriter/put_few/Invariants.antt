@@ -1,7 +1,7 @@
 -- The bytes that are passed so far are written.
 use Rattle.std.proofs.Common.{◌≡◌, ℕ, List, ◌++◌, length}
 use Rattle.ansi_html.specs.Writer.{TakesBytes}
-use Rattle.ansi_html.proofs.performer.HtmlWriterPerformText.print_with_layout.Given as goal
+use Rattle.ansi_html.proofs.performer.HtmlWriter.put_few.Given as goal
 
 abbrev pub invariant-rest : goal.invariant-rest
 invariant-rest g l = (passed : List ℕ) × (l.text ≡ passed ++ l.rest) × TakesBytes g.W.Sink l.initial.self passed l.self

@@ -105,7 +105,7 @@ def main():
     parser.add_argument("--size", default="120x40")
     options = parser.parse_args()
     columns, rows = map(int, options.size.split("x"))
-    cases = {**ways(columns), "all rows compared": (5, "\x1b[?25h%.0s")}
+    cases = {**ways(columns), "all rows compared": (5, "\x1b[3J%.0s")}
     for inside in (), (CALL,):
         for name, cost, written in costs(options.program, options.size, cases, inside):
             words = name, "the call alone" if inside else "", cost, cost / (columns * rows), written

@@ -26,4 +26,5 @@ pub mod ColorLemmas
 pub mod ContentLemmas
 pub mod ContentCalls
 pub mod AloneLemmas
+pub mod ModeLemmas
 mod EqualityLemmas

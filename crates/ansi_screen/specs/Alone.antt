@@ -1,9 +1,12 @@
--- Control functions that change the cursor alone, and those that change cells and the cursor alone.
-use Rattle.std.specs.Prelude.{Bool, true, false}
+-- Control functions that change the cursor alone, those that change cells and the cursor alone, and control sequences
+-- that change modes and the cursor alone.
+use Rattle.std.specs.Prelude.{ℕ, Bool, true, false, ◌&&◌, ◌||◌, not, ◌==◌, List, [], ◌∷◌, if◌then◌else◌}
 use Rattle.ansi_screen.specs.declared.function.Edit.TheVariants.{InsertCharacters, EraseInLine, DeleteCharacters, EraseCharacters}
 use Rattle.ansi_screen.specs.declared.function.Function.{Function}
-use Rattle.ansi_screen.specs.declared.function.Function.TheVariants.{Edits, Moves, Sets}
-use Rattle.ansi_screen.specs.declared.function.Setting.TheVariants.{Rendition, ScrollUp, ScrollDown, ForwardTab}
+use Rattle.ansi_screen.specs.declared.function.Function.TheVariants.{Edits, Moves, Sets, Nothing}
+use Rattle.ansi_screen.specs.declared.function.Setting.TheVariants.{Rendition, SetModes, ResetModes, ScrollUp, ScrollDown, ForwardTab}
+use Rattle.ansi_screen.specs.Modes.{first_field}
+use Rattle.ansi_screen.specs.After.{function_of}
 
 -- moves of the cursor, SGR and CHT
 abbrev pub moves_alone : Function → Bool
@@ -26,3 +29,24 @@ edits_cells (Edits edit) = true
 edits_cells (Sets ScrollUp) = true
 edits_cells (Sets ScrollDown) = true
 edits_cells function = false
+
+-- SM and RM, and what is no function
+abbrev pub sets_alone : Function → Bool
+sets_alone (Sets SetModes) = true
+sets_alone (Sets ResetModes) = true
+sets_alone Nothing = true
+sets_alone function = false
+
+-- none of these modes is 1049, by which the alternate screen comes and goes
+abbrev pub keep_screen : List (List ℕ) → Bool
+keep_screen [] = true
+keep_screen (group ∷ groups) = not (first_field group == 1049) && keep_screen groups
+
+-- SM and RM; DECSET and DECRST, but for 1049; and all that is not known: neither REP, which is no function either, nor
+-- DECSTR
+unfoldable pub modes_alone : List (List ℕ) → List ℕ → ℕ → Bool
+modes_alone groups [] final = not (final == 0x62) && sets_alone (function_of final)
+modes_alone groups (mark ∷ []) final =
+    if mark == 0x3F && (final == 0x68 || final == 0x6C) then keep_screen groups
+    else not (mark == 0x21 && final == 0x70)
+modes_alone groups (mark ∷ other ∷ others) final = true

@@ -16,6 +16,7 @@ use crate::grid::Grid;
 use crate::place::Place;
 use crate::screen::{MAX_COLUMNS, MAX_ROWS, MIN_COLUMNS, MIN_ROWS};
 use crate::tabs::reset_stops;
+pub(crate) use modes::first_field;
 pub(crate) use performer::first_of;
 use std::alloc::{AllocError, Global};
 use std::marker::Model;

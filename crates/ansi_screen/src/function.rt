@@ -1,7 +1,7 @@
 //! Control functions by their final byte.
 ghost use Rattle.std.specs.Prelude.{◌≡◌};
 ghost use Rattle.ansi_screen.specs.After.{function_of, is_known};
-ghost use Rattle.ansi_screen.specs.Alone.{moves_alone, edits_row, edits_cells};
+ghost use Rattle.ansi_screen.specs.Alone.{moves_alone, edits_row, edits_cells, sets_alone};
 
 /// Edits of cells.
 #[derive(Clone, Copy)]
@@ -161,6 +161,16 @@ impl Function {
         matches!(
             self,
             Function::Edits(_) | Function::Sets(Setting::ScrollUp | Setting::ScrollDown)
+        )
+    }
+
+    /// Whether it changes nothing but modes: SM and RM, and what is no function.
+    pub(crate) fn sets_alone(self) -> bool
+        ensures { result ≡ sets_alone self }
+    {
+        matches!(
+            self,
+            Function::Sets(Setting::SetModes | Setting::ResetModes) | Function::Nothing
         )
     }
 }

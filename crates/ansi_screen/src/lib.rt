@@ -5,6 +5,7 @@
 //! byte what the definition in `specs/After.antt` says of the whole stream.
 #![tactic(auto)]
 
+mod alone;
 mod cell;
 mod display;
 mod function;
@@ -24,6 +25,7 @@ mod texts;
 mod width;
 mod window;
 
+pub use alone::modes_alone;
 pub use cell::{Cell, Marks, Part};
 pub use function::{edits_cells, edits_row, moves_alone};
 pub use leaving::{Scrolling, TakeCommand, TakeRow};

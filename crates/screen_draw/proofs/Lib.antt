@@ -29,6 +29,7 @@ pub mod ChangedLemmas
 pub mod NotingLemmas
 pub mod EditLemmas
 pub mod EscapeLemmas
+pub mod ModeLemmas
 pub mod SkippedLemmas
 pub mod RowTextLemmas
 pub mod NotedLemmas

@@ -1,12 +1,12 @@
 //! A screen that notes what can have changed of it.
 ghost use Rattle.std.specs.Prelude.{◌≡◌, true, false, ◌<◌, ◌+◌, ◌-◌, ℕ, Bool, List, ◌&&◌, ◌||◌, ◌==◌, nat_lt, length, if◌then◌else◌};
 ghost use Rattle.ansi_screen.specs.After.{function_of};
-ghost use Rattle.ansi_screen.specs.Alone.{moves_alone, edits_row, edits_cells};
+ghost use Rattle.ansi_screen.specs.Alone.{moves_alone, edits_row, edits_cells, modes_alone};
 ghost use Rattle.anstyle_parse.specs.Stream.Call.{print, execute, csi_dispatch, esc_dispatch};
 ghost use Rattle.screen_draw.specs.Changed.{Widens};
 
 use crate::changed::Changed;
-use ansi_screen::{Screen, edits_cells, edits_row, moves_alone};
+use ansi_screen::{Screen, edits_cells, edits_row, modes_alone, moves_alone};
 use anstyle_parse::{Params, Perform, PerformText};
 
 /// A screen, and what of it can have changed since it was shown.
@@ -27,6 +27,12 @@ const INDEX: u8 = b'D';
 const NEXT_LINE: u8 = b'E';
 
 const REVERSE_INDEX: u8 = b'M';
+
+const SAVE_CURSOR: u8 = b'7';
+
+const SET_TAB_STOP: u8 = b'H';
+
+const RESET: u8 = b'c';
 
 /// Below the first mark each character has one column.
 const FIRST_MARK: char = '\u{300}';
@@ -66,12 +72,20 @@ fn is_row_move(final_byte: u8) -> bool
     final_byte == INDEX || final_byte == NEXT_LINE || final_byte == REVERSE_INDEX
 }
 
+/// Whether an escape sequence without intermediates changes the frame: DECSC, HTS or RIS.
+fn changes_frame(final_byte: u8) -> bool
+    ensures { result ≡ (final_byte == 0x37 || final_byte == 0x48 || final_byte == 0x63) }
+{
+    final_byte == SAVE_CURSOR || final_byte == SET_TAB_STOP || final_byte == RESET
+}
+
 impl Noting {
     ghost use Rattle.ansi_screen.specs.Cells.{is_right, cell_at};
     ghost use Rattle.ansi_screen.specs.Display.{Display, IsSized, here, row_start, row_end, row_cells};
     ghost use Rattle.screen_draw.specs.Changed.{Keeps, KeepsFrame, with_rows, begins_with_right};
     ghost use Rattle.screen_draw.specs.Noting.{screen_of, changed_of, display_of, HasNoted};
     ghost use Rattle.anstyle_parse.specs.Stream.Texts.{text_calls};
+    ghost use Rattle.anstyle_parse.specs.Views.Params.{groups_shown};
     ghost use Rattle.screen_draw.specs.NotedTexts.{NotesAll, FitsInRow};
 
     /// One with this screen, of which all can have changed.
@@ -241,11 +255,12 @@ impl Noting {
         }
     }
 
-    /// What can have changed behind a control sequence too: nothing, if it moves the cursor or selects a style; the
-    /// cursor's row, if it edits that; all rows, if it edits others too or scrolls; and the frame too behind all others.
-    fn by_sequence(&self, intermediates: &[u8], final_byte: u8) -> Changed
-        ensures { (groups : List (List ℕ)) (ignore : Bool)
-            → Widens (csi_dispatch groups intermediates.now ignore final_byte) self.now.screen self.now.changed result }
+    /// What can have changed behind a control sequence too: nothing, if it moves the cursor, selects a style, sets
+    /// modes or is not known; the cursor's row, if it edits that; all rows, if it edits others too or scrolls; and the
+    /// frame too behind all others.
+    fn by_sequence(&self, params: &Params, intermediates: &[u8], final_byte: u8) -> Changed
+        ensures { (ignore : Bool) → Widens (csi_dispatch (groups_shown params.now) intermediates.now ignore final_byte)
+            self.now.screen self.now.changed result }
     {
         if is_move(intermediates, final_byte) {
             self.changed
@@ -254,13 +269,15 @@ impl Noting {
             self.changed.with_rows(row, row + 1)
         } else if is_edit(intermediates, final_byte) {
             self.all_rows()
+        } else if modes_alone(params, intermediates, final_byte) {
+            self.changed
         } else {
             self.all()
         }
     }
 
-    /// What can have changed behind an escape sequence too: nothing, if it designates a character set; all rows, if it goes
-    /// to another; and the frame too behind all others.
+    /// What can have changed behind an escape sequence too: all rows, if it goes to another; the frame too, if it saves
+    /// the cursor, sets a tab stop or resets all; and nothing behind all others.
     fn by_escape(&self, intermediates: &[u8], final_byte: u8) -> Changed
         ensures { (ignore : Bool)
             → Widens (esc_dispatch intermediates.now ignore final_byte) self.now.screen self.now.changed result }
@@ -269,8 +286,10 @@ impl Noting {
             self.changed
         } else if is_row_move(final_byte) {
             self.all_rows()
-        } else {
+        } else if changes_frame(final_byte) {
             self.all()
+        } else {
+            self.changed
         }
     }
 
@@ -343,7 +362,7 @@ impl Perform for Noting {
     }
 
     fn csi_dispatch(&mut self, params: &Params, intermediates: &[u8], ignore: bool, action: u8) {
-        self.changed = self.by_sequence(intermediates, action);
+        self.changed = self.by_sequence(params, intermediates, action);
         self.screen
             .csi_dispatch(params, intermediates, ignore, action);
     }

@@ -13,7 +13,7 @@ use anstyle_parse::Params;
 use std::mem;
 
 /// The first field of a group; 0, where there is none.
-pub(super) fn first_field(group: &[u16]) -> u16
+pub(crate) fn first_field(group: &[u16]) -> u16
     ensures { result ≡ first_field group.now }
 {
     match group {

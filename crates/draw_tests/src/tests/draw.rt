@@ -6,9 +6,9 @@ ghost use Rattle.screen_draw.specs.Noting.{screen_of};
 ghost use Rattle.screen_draw.specs.Update.{update_calls};
 ghost use Rattle.std.specs.Prelude.{◌≡◌};
 
-use ansi_screen::{Place, Screen, edits_cells, edits_row, is_shown, moves_alone};
+use ansi_screen::{Place, Screen, edits_cells, edits_row, is_shown, modes_alone, moves_alone};
 use anstyle_parse::io::{FromRead, FromWrite, Output, Sink};
-use anstyle_parse::{Parser, Utf8Parser};
+use anstyle_parse::{Params, Parser, Utf8Parser};
 use screen_draw::laws::{
     followed, forgets, noted, redrawn, same_text, selected, unchanged, updated,
 };
@@ -67,6 +67,9 @@ fn cells(rt: HostRuntime) -> Result<(), Fail> {
 #[test]
 fn what_moves_alone_what_edits_and_what_is_shown(rt: HostRuntime) {
     assert!(rt; moves_alone(b'm') && moves_alone(b'H') && !moves_alone(b'K'));
+    let none = Params::default();
+    assert!(rt; modes_alone(&none, b"?", b'h') && modes_alone(&none, b" ", b'q'));
+    assert!(rt; !modes_alone(&none, b"", b'b') && !modes_alone(&none, b"!", b'p'));
     assert!(rt; edits_row(b'K') && edits_row(b'X') && !edits_row(b'J'));
     assert!(rt; edits_cells(b'J') && edits_cells(b'S') && !edits_cells(b'r'));
     assert!(rt; is_shown('\u{ad}') && !is_shown('\u{85}'));

@@ -1,6 +1,5 @@
 -- What it can change is noted.
-use Rattle.anstyle_parse.specs.Views.Params.{groups_shown}
 use Rattle.screen_draw.proofs.noting.NotingPerform.csi_dispatch.Goals as goal
 
 pub returns : goal.returns
-returns c = record { screen = c.csi_dispatch.ensures; noted = c.by_sequence-self.ensures (groups_shown c.args.params.now) c.args.ignore }
+returns c = record { screen = c.csi_dispatch.ensures; noted = c.by_sequence-self.ensures c.args.ignore }

@@ -115,6 +115,7 @@ use std::test::Fail;
 use strip_pieces::Fed;
 use strip_pieces::LEAST_ROOM;
 use strip_pieces::StreamState;
+use strip_pieces::put_over;
 use test_streams::Paper;
 use test_streams::TROUBLES;
 use test_streams::Tape;

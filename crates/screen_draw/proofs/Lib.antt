@@ -26,6 +26,7 @@ pub mod ChangesLemmas
 pub mod MarginLemmas
 pub mod UpdatesLemmas
 pub mod ChangedLemmas
+pub mod ColumnLemmas
 pub mod NotingLemmas
 pub mod EditLemmas
 pub mod EscapeLemmas

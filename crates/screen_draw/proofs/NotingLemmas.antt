@@ -325,28 +325,34 @@ rest-false false u is both = cc is
 module _ (c first from : ℕ) (d : Display) (s : IsSized d) (fits : d.cursor.column + 2 < d.width) (begins : first * d.width ≤ from)
     (mark : (character : ℕ) → Same from (here d + 3) (marked character d).cells d.cells)
     (character : (n character : ℕ) → 1 ≤ n → n ≤ 2 → d.cursor.column + n ≤ d.width → Same from (here d + 3) (put n character d).cells d.cells) where
+  same-by : Same from (here d + 3) (printed c d).cells d.cells
+  same-by = same-printed from (here d + 3) c d (λ glyph. same-shown from (here d + 3) glyph d (mark glyph)
+      (λ n some few. let room : d.cursor.column + n ≤ d.width = omega arith in
+      let stays : wrapped n d ≡ d = wrapped-none n d (le-ltb d.width (d.cursor.column + n) room) in
+      subst (λ (e : Display). Same from (here d + 3) (put n glyph e).cells d.cells) (sym stays) (character n glyph some few room)))
+
   within-by : Within first (d.cursor.row + 1) d (printed c d)
   within-by =
       let next : suc d.cursor.row * d.width ≡ d.cursor.row * d.width + d.width = suc-mul d.cursor.row d.width in
       let after : d.cursor.row + 1 ≡ suc d.cursor.row = omega arith in
-      within-cells first (d.cursor.row + 1) from (here d + 3) d (printed c d) (framed-printed c d)
-      (same-printed from (here d + 3) c d (λ glyph. same-shown from (here d + 3) glyph d (mark glyph)
-      (λ n some few. let room : d.cursor.column + n ≤ d.width = omega arith in
-      let stays : wrapped n d ≡ d = wrapped-none n d (le-ltb d.width (d.cursor.column + n) room) in
-      subst (λ (e : Display). Same from (here d + 3) (put n glyph e).cells d.cells) (sym stays) (character n glyph some few room))))
-      begins (rw after (omega arith))
+      within-cells first (d.cursor.row + 1) from (here d + 3) d (printed c d) (framed-printed c d) same-by begins (rw after (omega arith))
 
 -- what it changes: where the cursor stands further on, or the row before can change
-pub within-far : (c first : ℕ) (d : Display) → IsSized d → d.inserts ≡ false → d.cursor.column + 2 < d.width → first * d.width ≤ here d - 2
-    → Within first (d.cursor.row + 1) d (printed c d)
-within-far c first d s writes fits begins =
-    let inside : row_end d ≤ length d.cells = row-fits d.cursor.row d s s.cursor_row in
-    within-by c first (here d - 2) d s fits begins
-    (λ character.
-    same-wider (here d - 2) (here d + 1) (here d - 2) (here d + 3) (marked character d).cells d.cells (same-marked character d _ refl) (omega arith) (omega arith))
-    (λ n character some few room.
-    same-wider (here d - 1) (here d + n + 1) (here d - 2) (here d + 3) (put n character d).cells d.cells
-    (same-glyph n character d writes room some few inside) (omega arith) (omega arith))
+module _ (c : ℕ) (d : Display) (s : IsSized d) (writes : d.inserts ≡ false) (fits : d.cursor.column + 2 < d.width) where
+  mark-far : (character : ℕ) → Same (here d - 2) (here d + 3) (marked character d).cells d.cells
+  mark-far character =
+      same-wider (here d - 2) (here d + 1) (here d - 2) (here d + 3) (marked character d).cells d.cells (same-marked character d _ refl) (omega arith) (omega arith)
+
+  glyph-far : (n character : ℕ) → 1 ≤ n → n ≤ 2 → d.cursor.column + n ≤ d.width → Same (here d - 2) (here d + 3) (put n character d).cells d.cells
+  glyph-far n character some few room =
+      same-wider (here d - 1) (here d + n + 1) (here d - 2) (here d + 3) (put n character d).cells d.cells
+      (same-glyph n character d writes room some few (row-fits d.cursor.row d s s.cursor_row)) (omega arith) (omega arith)
+
+  pub same-far : Same (here d - 2) (here d + 3) (printed c d).cells d.cells
+  same-far = same-by c 0 (here d - 2) d s fits (omega arith) mark-far glyph-far
+
+  pub within-far : (first : ℕ) → first * d.width ≤ here d - 2 → Within first (d.cursor.row + 1) d (printed c d)
+  within-far first begins = within-by c first (here d - 2) d s fits begins mark-far glyph-far
 
 -- in the first columns of a row that begins with no right half
 within-near : (c : ℕ) (d : Display) → IsSized d → d.inserts ≡ false → d.cursor.column + 2 < d.width → d.cursor.column < 2
@@ -366,10 +372,10 @@ within-printed : (c : ℕ) (d : Display) (t u : Bool) → (nat_lt d.cursor.colum
     → IsSized d → d.inserts ≡ false → d.cursor.column + 2 < d.width → Within (first_row t d.cursor.row) (d.cursor.row + 1) d (printed c d)
 within-printed c d true u edge near s writes fits =
     let before = row-before d.cursor.row d.width s.two_columns in
-    within-far c (d.cursor.row - 1) d s writes fits (omega arith)
+    within-far c d s writes fits (d.cursor.row - 1) (omega arith)
 within-printed c d false false edge near s writes fits =
     let past : 2 ≤ d.cursor.column = ltb-false d.cursor.column 2 near in
-    within-far c d.cursor.row d s writes fits (omega arith)
+    within-far c d s writes fits d.cursor.row (omega arith)
 within-printed c d false true edge near s writes fits =
     within-near c d s writes fits (ltb-true d.cursor.column 2 near) (rest-false (nat_lt d.cursor.column 2) (begins_with_right d) near edge)
 

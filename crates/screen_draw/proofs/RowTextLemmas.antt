@@ -1,5 +1,5 @@
 -- A text that stays in the cursor's row.
-use Rattle.std.proofs.Common.{◌≡◌, ℕ, ◌+◌, ◌<◌, ◌≤◌, Bool, true, false, cond, List, [], ◌∷◌, ◌++◌, length, length-append, append_assoc, take, drop, take-append-drop, map, ⊎_elim, refl, ap, ap₂, sym, ◌∙◌, subst, arith}
+use Rattle.std.proofs.Common.{◌≡◌, ℕ, ◌+◌, ◌-◌, ◌*◌, ◌<◌, ◌≤◌, Bool, true, false, cond, List, [], ◌∷◌, ◌++◌, length, length-append, append_assoc, take, drop, take-append-drop, map, ⊎_elim, refl, ap, ap₂, sym, ◌∙◌, subst, arith}
 use Rattle.std.specs.Prelude.{nat_lt, ◌==◌, encode_utf8, if◌then◌else◌}
 use Rattle.std.specs.Str.{IsUtf8, IsCharBoundary, chars, encode_utf8_all}
 use Rattle.std.proofs.lemmas.Bool.{le-ltb, cases_lt}
@@ -10,7 +10,7 @@ use Rattle.anstyle_parse.specs.Stream.Texts.{text_calls}
 use Rattle.anstyle_parse.proofs.Characters.Scalars.{length-encode-some}
 use Rattle.ansi_screen.specs.declared.cell.Cell.{Cell}
 use Rattle.ansi_screen.specs.Cells.{change, marked_before}
-use Rattle.ansi_screen.specs.Display.{Display, IsSized, here, row_end}
+use Rattle.ansi_screen.specs.Display.{Display, IsSized, here, row_end, row_cells}
 use Rattle.ansi_screen.specs.Print.{glyph, wrapped, with_room, with_glyph, put, marked, shown, printed, drawn, draws}
 use Rattle.ansi_screen.specs.Ranges.{no_column}
 use Rattle.ansi_screen.specs.Runs.{printed_all}
@@ -20,15 +20,18 @@ use Rattle.ansi_screen.proofs.KeptCalls.{columns-few}
 use Rattle.ansi_screen.proofs.PartLemmas.{text_calls-append}
 use Rattle.ansi_screen.proofs.PrintedLemmas.{after-printing}
 use Rattle.ansi_screen.proofs.RangeLemmas.{two_columns-below}
-use Rattle.ansi_screen.proofs.RowLemmas.{drawn-if}
+use Rattle.ansi_screen.proofs.RowLemmas.{drawn-if, Same, same-refl, same-trans}
 use Rattle.ansi_screen.proofs.WholeLemmas.{length-glyph}
 use Rattle.screen_draw.specs.declared.noting.Noting.{Noting}
 use Rattle.screen_draw.specs.declared.changed.Changed.{Changed}
+use Rattle.screen_draw.specs.declared.columns.Span.{Span}
 use Rattle.screen_draw.specs.Changed.{Keeps, with_rows}
-use Rattle.screen_draw.specs.Noting.{screen_of, changed_of}
+use Rattle.screen_draw.specs.Columns.{KeepsColumns, span_at, KeepsSpans, NotesSpan}
+use Rattle.screen_draw.specs.Noting.{screen_of, changed_of, columns_of}
 use Rattle.screen_draw.specs.NotedTexts.{NotesAll, FitsInRow, notes-none, notes-more}
-use Rattle.screen_draw.proofs.ChangedLemmas.{Within, framed-refl, framed-trans, row-fits, keeps-within}
-use Rattle.screen_draw.proofs.NotingLemmas.{same-marked_at, same-changed, within-far}
+use Rattle.screen_draw.proofs.ChangedLemmas.{Within, framed-refl, framed-trans, row-fits, same-wider, keeps-within}
+use Rattle.screen_draw.proofs.ColumnLemmas.{columns-wider, columns-trans, row-columns}
+use Rattle.screen_draw.proofs.NotingLemmas.{same-marked_at, same-changed, same-far, within-far}
 
 -- A character has no more columns than bytes.
 narrow-few : (c : ℕ) (t : Bool) → is_among c no_column ≡ t → c < 0x1100 → columns c ≤ 1
@@ -177,7 +180,29 @@ module _ (c : ℕ) (cs : List ℕ) (d : Display) (s : IsSized d) (room : FitsInR
   first-within =
       let some : 1 ≤ length (encode_utf8 c) = length-encode-some c in
       let past : 2 ≤ d.cursor.column = room.past in
-      within-far c d.cursor.row d s room.stays (omega (arith, bytes, room.fits)) (omega arith)
+      within-far c d s room.stays (omega (arith, bytes, room.fits)) d.cursor.row (omega arith)
+
+  first-column : (printed c d).cursor.column ≤ d.cursor.column + length (encode_utf8 c)
+  first-column =
+      let few : columns c ≤ length (encode_utf8 c) = columns-bytes c in
+      let at : (printed c d).cursor.column ≡ first-stays.column = ap (λ (e : Display). e.cursor.column) first-stays.is in
+      omega (arith, first-stays.to)
+
+  first-further : d.cursor.column ≤ (printed c d).cursor.column
+  first-further =
+      let at : (printed c d).cursor.column ≡ first-stays.column = ap (λ (e : Display). e.cursor.column) first-stays.is in
+      omega (arith, first-stays.from)
+
+  first-here : here (printed c d) ≡ d.cursor.row * d.width + (printed c d).cursor.column
+  first-here =
+      ap₂ (λ (row width : ℕ). row * width + (printed c d).cursor.column) first-row (ap (λ (e : Display). e.width) first-stays.is)
+
+  -- the cells that it changes
+  first-same : Same (here d - 2) (here d + length (encode_utf8 c) + 2) (printed c d).cells d.cells
+  first-same =
+      let some : 1 ≤ length (encode_utf8 c) = length-encode-some c in
+      same-wider (here d - 2) (here d + 3) (here d - 2) (here d + length (encode_utf8 c) + 2) (printed c d).cells d.cells
+      (same-far c d s room.stays (omega (arith, bytes, room.fits))) (omega arith) (omega arith)
 
 -- and characters one after another
 within-all : (cs : List ℕ) (d : Display) → IsSized d → FitsInRow (length (encode_utf8_all cs)) d
@@ -189,6 +214,31 @@ within-all (c ∷ cs) d s room =
     (subst (λ k. Within k (k + 1) e (printed_all cs e)) (first-row c cs d s room)
     (within-all cs e (first-sized c cs d s room) (first-room c cs d s room)))
 
+-- the cells that they change
+same-all : (cs : List ℕ) (d : Display) → IsSized d → FitsInRow (length (encode_utf8_all cs)) d
+    → Same (here d - 2) (here d + length (encode_utf8_all cs) + 2) (printed_all cs d).cells d.cells
+same-all [] d s room = same-refl (here d - 2) (here d + length {A = ℕ} [] + 2) d.cells
+same-all (c ∷ cs) d s room =
+    let e : Display = printed c d in
+    let long : length (encode_utf8_all (c ∷ cs)) ≡ length (encode_utf8 c) + length (encode_utf8_all cs) = bytes c cs d s room in
+    let there : here e ≡ d.cursor.row * d.width + e.cursor.column = first-here c cs d s room in
+    let start : ℕ = here d - 2 in
+    let end : ℕ = here d + length (encode_utf8_all (c ∷ cs)) + 2 in
+    same-trans start end (printed_all cs e).cells e.cells d.cells
+    (same-wider (here e - 2) (here e + length (encode_utf8_all cs) + 2) start end (printed_all cs e).cells e.cells
+    (same-all cs e (first-sized c cs d s room) (first-room c cs d s room))
+    (omega (arith, there, first-further c cs d s room)) (omega (arith, there, long, first-column c cs d s room)))
+    (same-wider (here d - 2) (here d + length (encode_utf8 c) + 2) start end e.cells d.cells (first-same c cs d s room)
+    (omega arith) (omega (arith, long)))
+
+pub same-text : (text : List ℕ) (s : State) → IsUtf8 text → IsSized s.display → FitsInRow (length text) s.display
+    → Same (here s.display - 2) (here s.display + length text + 2) (after_all (text_calls text) s).display.cells s.display.cells
+same-text text s utf8 sized room =
+    let d : Display = s.display in
+    subst (λ (e : Display). Same (here d - 2) (here d + length text + 2) e.cells d.cells) (sym (ap (λ (e : State). e.display) (after-printing (chars text) s)))
+    (subst (λ (l : List ℕ). Same (here d - 2) (here d + length l + 2) (printed_all (chars text) d).cells d.cells) (encodes-chars text utf8)
+    (same-all (chars text) d sized (subst (λ l. FitsInRow (length l) d) (sym (encodes-chars text utf8)) room)))
+
 -- A text that has room changes the cursor's row alone.
 pub within-text : (text : List ℕ) (s : State) → IsUtf8 text → IsSized s.display → FitsInRow (length text) s.display
     → Within s.display.cursor.row (s.display.cursor.row + 1) s.display (after_all (text_calls text) s).display
@@ -197,14 +247,61 @@ within-text text s utf8 sized room =
     subst (Within d.cursor.row (d.cursor.row + 1) d) (sym (ap (λ (e : State). e.display) (after-printing (chars text) s)))
     (within-all (chars text) d sized (subst (λ l. FitsInRow (length l) d) (sym (encodes-chars text utf8)) room))
 
+-- The columns from two before the cursor on, up to two behind the text, are noted of its row.
+columns-text : (text : List ℕ) (s : State) (olds news : List Span) (shown : Display) → IsUtf8 text → IsSized s.display → FitsInRow (length text) s.display
+    → NotesSpan olds s.display.cursor.row (s.display.cursor.column - 2) (s.display.cursor.column + length text + 2) news
+    → KeepsSpans olds shown s.display → KeepsSpans news shown (after_all (text_calls text) s).display
+columns-text text s olds news shown utf8 sized room notes columns = λ row inside noted.
+    let d : Display = s.display in
+    let e : Display = (after_all (text_calls text) s).display in
+    let within = within-text text s utf8 sized room in
+    let r : ℕ = d.cursor.row in
+    let old_row : row < d.height = subst (λ n. row < n) within.framed.height inside in
+    let before : KeepsColumns (span_at olds row).left (span_at olds row).right (row_cells row shown) (row_cells row d) =
+    columns row old_row (omega (arith, notes.long)) in
+    let other : (row ≡ r → ⊥) → row_cells row e ≡ row_cells row d
+    → KeepsColumns (span_at news row).left (span_at news row).right (row_cells row shown) (row_cells row e) =
+    λ differs cells.
+    subst (λ (k : Span). KeepsColumns k.left k.right (row_cells row shown) (row_cells row e)) (sym (notes.others row differs))
+    (subst (KeepsColumns (span_at olds row).left (span_at olds row).right (row_cells row shown)) (sym cells) before) in
+    ⊎_elim
+    (λ (less : row < r). other (λ same. omega arith) (within.above row less))
+    (λ (from : r ≤ row).
+    ⊎_elim
+    (λ (is : row < r + 1).
+    let same : r ≡ row = omega arith in
+    let past : 2 ≤ d.cursor.column = room.past in
+    let fits : d.cursor.column + length text + 2 ≤ d.width = room.fits in
+    let cells : Same (r * d.width + d.cursor.column - 2) (r * d.width + d.cursor.column + length text + 2) e.cells d.cells = same-text text s utf8 sized room in
+    let step : KeepsColumns (d.cursor.column - 2) (d.cursor.column + length text + 2) (row_cells r d) (row_cells r e) =
+    subst (λ (w : ℕ). KeepsColumns (d.cursor.column - 2) (d.cursor.column + length text + 2) (row_cells r d) (take w (drop (r * w) e.cells))) (sym within.framed.width)
+    (row-columns d.width r (d.cursor.column - 2) (d.cursor.column + length text + 2) (r * d.width + d.cursor.column - 2) (r * d.width + d.cursor.column + length text + 2) e.cells d.cells cells
+    (omega arith) fits (omega arith) (omega arith)) in
+    let here_too = subst (λ k. KeepsColumns (d.cursor.column - 2) (d.cursor.column + length text + 2) (row_cells k d) (row_cells k e)) same step in
+    let at_row = subst (λ k. (span_at news k).left ≤ d.cursor.column - 2) same notes.from in
+    let to_row = subst (λ k. d.cursor.column + length text + 2 ≤ (span_at news k).right) same notes.to in
+    let kept_left = subst (λ k. (span_at news k).left ≤ (span_at olds k).left) same notes.kept_left in
+    let kept_right = subst (λ k. (span_at olds k).right ≤ (span_at news k).right) same notes.kept_right in
+    columns-trans (span_at news row).left (span_at news row).right (row_cells row shown) (row_cells row d) (row_cells row e)
+    (columns-wider (span_at olds row).left (span_at olds row).right (span_at news row).left (span_at news row).right (row_cells row shown) (row_cells row d) kept_left kept_right before)
+    (columns-wider (d.cursor.column - 2) (d.cursor.column + length text + 2) (span_at news row).left (span_at news row).right (row_cells row d) (row_cells row e) at_row to_row here_too))
+    (λ (more : r + 1 ≤ row). other (λ same. omega arith) (within.below row more))
+    (cases_lt row (r + 1)))
+    (cases_lt row r)
+
 -- What is noted then.
 pub notes-row : (text : List ℕ) (old new : Noting) → IsUtf8 text → IsSized (screen_of old).display → FitsInRow (length text) (screen_of old).display
     → screen_of new ≡ after_all (text_calls text) (screen_of old)
     → changed_of new ≡ with_rows (screen_of old).display.cursor.row ((screen_of old).display.cursor.row + 1) (changed_of old)
+    → NotesSpan (columns_of old) (screen_of old).display.cursor.row ((screen_of old).display.cursor.column - 2)
+    ((screen_of old).display.cursor.column + length text + 2) (columns_of new)
     → NotesAll old (text_calls text) new
-notes-row text old new utf8 sized room screen changed =
+notes-row text old new utf8 sized room screen changed columns =
     let d : Display = (screen_of old).display in
     record {
+      columns = λ shown keeps before.
+          subst (λ (s : State). KeepsSpans (columns_of new) shown s.display) (sym screen)
+          (columns-text text (screen_of old) (columns_of old) (columns_of new) shown utf8 sized room columns before);
       screen = screen;
       noted = λ shown keeps.
           subst (λ (s : State). Keeps (changed_of new) shown s.display) (sym screen)

@@ -1,7 +1,7 @@
 -- What an update draws, one after another.
 use Rattle.std.proofs.Common.{◌≡◌, ℕ, suc, ◌+◌, ◌<◌, ◌≤◌, Bool, true, false, List, [], ◌∷◌, ◌++◌, length, take, drop, get_or, refl, ap, sym, ◌∙◌, subst, arith, append_assoc, append-nil}
 use Rattle.std.specs.Prelude.{◌&&◌, if◌then◌else◌}
-use Rattle.std.proofs.lemmas.List.{take_more, length-take-le, drop_more, drop_all}
+use Rattle.std.proofs.lemmas.List.{take_more, length-take-le, drop_more}
 use Rattle.anstyle_parse.specs.Stream.Call.{Call}
 use Rattle.anstyle_parse.specs.declared.io.devices.Sink.{Ghosts as SinkOf}
 use Rattle.anstyle_parse.specs.declared.io.output.Output.{Output}
@@ -17,6 +17,7 @@ use Rattle.ansi_screen.specs.declared.place.Place.{Place}
 use Rattle.ansi_screen.specs.Display.{Display, row_cells}
 use Rattle.anstyle_parse.proofs.Written.Output.{Adds-nil}
 use Rattle.screen_draw.proofs.DrawLemmas.{draws-append}
+use Rattle.screen_draw.proofs.UnchangedLemmas.{row-behind}
 
 -- stops
 reset-push : (column : ℕ) (stops : List Bool) (last : Bool) → reset_stops_calls column (stops ++ last ∷ []) ≡ reset_stops_calls column stops ++ reset_stop_calls (column + length stops) last
@@ -114,13 +115,18 @@ module _ {W : Type 0} (sink : SinkOf W) (row : ℕ) (first : Brush) (olds news :
         brush_is = sym same ∙ so_far.brush_is;
       }
 
-  pub row-ended : (column : ℕ) (brush : Brush) (a b : Output W) → length olds ≤ column → length news ≤ column → RowDraws column brush a b
-      → Draws sink (row_calls row 0 first olds news) a b × (brush ≡ brush_after row 0 first olds news)
-  row-ended column brush a b long same so_far =
-      let none : drop column olds ≡ [] = drop_all column olds long in
-      let done : row_calls row column brush (drop column olds) (drop column news) ≡ [] = rw none refl in
-      let stays : brush ≡ brush_after row column brush (drop column olds) (drop column news) = rw none refl in
-      (so_far.calls b (subst (λ l. Draws sink l b b) (sym done) (draws-none sink b)), stays ∙ so_far.brush_is)
+  -- where the cells behind are the same
+  pub row-closed : (column : ℕ) (brush : Brush) (a b : Output W) → drop column news ≡ drop column olds → RowDraws column brush a b
+      → Draws sink (row_calls row 0 first olds news) a b × (brush.place ≡ (brush_after row 0 first olds news).place)
+  row-closed column brush a b same so_far =
+      let none = row-behind row column brush (drop column olds) in
+      let calls : row_calls row column brush (drop column olds) (drop column news) ≡ [] =
+      ap (λ l. row_calls row column brush (drop column olds) l) same ∙ none.0 in
+      let place : (brush_after row column brush (drop column olds) (drop column news)).place ≡ brush.place =
+      ap (λ l. (brush_after row column brush (drop column olds) l).place) same ∙ none.1 in (
+        so_far.calls b (subst (λ l. Draws sink l b b) (sym calls) (draws-none sink b)),
+        sym place ∙ ap (λ (k : Brush). k.place) so_far.brush_is,
+      )
 
 -- rows
 module _ {W : Type 0} (sink : SinkOf W) (start : Place) (shown wanted : Display) where

@@ -1,9 +1,12 @@
 -- What is the same is not drawn.
-use Rattle.std.proofs.Common.{◌≡◌, ℕ, zero, suc, ◌+◌, ◌-◌, ◌<◌, Bool, true, false, List, [], ◌∷◌, ◌++◌, length, take, drop, refl, ap, ◌∙◌, arith, append-nil}
+use Rattle.std.proofs.Common.{◌≡◌, ℕ, zero, suc, ◌+◌, ◌-◌, ◌<◌, Bool, true, false, List, [], ◌∷◌, ◌++◌, length, take, drop, refl, ap, ap₂, ◌∙◌, arith, append-nil}
 use Rattle.std.specs.Prelude.{◌&&◌, ◌||◌, not, ◌==◌, nat_lt, if◌then◌else◌}
 use Rattle.std.specs.Bool.{beq}
-use Rattle.std.proofs.lemmas.Bool.{and_parts, eq-eqb, eqb-true, ne_eqb}
+use Rattle.std.proofs.lemmas.Bool.{and_parts, eq-eqb, ne_eqb}
+use Rattle.std.proofs.lemmas.List.{length-drop, drop-drop}
+use borrow.Author.Tests.{ltb-false}
 use Rattle.ansi_style.proofs.EqualityLemmas.{are_equal-refl}
+use Rattle.ansi_style.specs.declared.style.Style.{Style}
 use Rattle.ansi_screen.specs.declared.cell.Cell.{Cell}
 use Rattle.ansi_screen.specs.declared.cell.Marks.{Marks}
 use Rattle.ansi_screen.specs.declared.cell.Marks.TheVariants.{Unmarked, One, Two}
@@ -13,9 +16,9 @@ use Rattle.ansi_screen.specs.declared.place.Place.{Place}
 use Rattle.ansi_screen.specs.Cells.{is_right}
 use Rattle.ansi_screen.specs.Display.{Display, row_cells}
 use Rattle.screen_draw.specs.declared.changes.Brush.{Brush}
-use Rattle.screen_draw.specs.Draw.{style_calls, margins_calls}
+use Rattle.screen_draw.specs.Draw.{is_erased, style_calls, margins_calls}
 use Rattle.screen_draw.specs.Alike.{are_same_marks, are_same_parts, are_alike, all_two, are_same_places, has_same_frame, has_same_margins, looks_same, lacks_print, is_steady}
-use Rattle.screen_draw.specs.Update.{move_calls, is_done, change_calls, brush_behind, row_calls, brush_after, begun_at, place_behind, rows_calls, wants_wrap, cursor_changes, mode_changes, changes_from, changes_calls, cleared_calls, update_calls}
+use Rattle.screen_draw.specs.Update.{move_calls, erased_run, half_columns, is_done, change_calls, brush_behind, row_calls, brush_after, begun_at, place_behind, rows_calls, wants_wrap, cursor_changes, mode_changes, changes_from, changes_calls, cleared_calls, update_calls}
 use Rattle.screen_draw.specs.Draw.{shown_screen_calls}
 use Rattle.screen_draw.proofs.AlikeLemmas.{flag-refl}
 use Rattle.screen_draw.proofs.FrameLemmas.{Steady, steady-is}
@@ -85,6 +88,14 @@ looks-refl a =
     let cursor : are_same_places a.cursor a.cursor ≡ true = places-refl a.cursor in
     rw (frame, margins, wraps, inserts, visible, cursor) (all-refl are_alike alike-refl a.cells)
 
+not-false : (t : Bool) → not t ≡ false → t ≡ true
+not-false true is = refl
+not-false false is = cc is
+
+not-true : (t : Bool) → not t ≡ true → t ≡ false
+not-true false is = refl
+not-true true is = cc is
+
 -- a cell
 done-alike : (brush : Brush) (old new : Cell) → are_alike old new ≡ true → is_done brush old new ≡ true
 unfolding is_done
@@ -101,17 +112,54 @@ stays : (row column : ℕ) (place : Place) (old new : Cell) (news : List Cell) �
 unfolding brush_behind
 stays row column place old new news alike = let done : is_done (begun_at place) old new ≡ true = done-alike (begun_at place) old new alike in rw done refl
 
-pub brush-stays : (row column : ℕ) (brush : Brush) (old new : Cell) (olds cells : List Cell) → ((brush.erased == 0) && are_alike old new) ≡ true
+-- a cell that is erased already
+pub erased-nothing : (row column : ℕ) (brush : Brush) (old new : Cell) (olds cells : List Cell) → nat_lt 0 brush.erased ≡ true
+    → (change_calls row column brush old new olds cells ≡ [])
+    × (record brush { erased = brush.erased - 1 } ≡ brush_behind row column brush old new cells)
+unfolding is_done change_calls brush_behind
+erased-nothing row column brush old new olds cells some = (rw some refl, rw some refl)
+
+-- one that is like the old one, or a right half
+pub alike-stays : (row column : ℕ) (brush : Brush) (old new : Cell) (olds cells : List Cell) → nat_lt 0 brush.erased ≡ false
+    → not (is_right new.part || are_alike old new) ≡ false
     → (change_calls row column brush old new olds cells ≡ []) × (brush ≡ brush_behind row column brush old new cells)
+unfolding is_done change_calls brush_behind
+alike-stays row column brush old new olds cells none same =
+    let left : brush.erased ≡ brush.erased - 1 = let few = ltb-false 0 brush.erased none in omega arith in
+    let is : (is_right new.part || are_alike old new) ≡ true = not-false (is_right new.part || are_alike old new) same in
+    (rw (none, is) refl, rw (none, is) (ap (λ n. record brush { erased = n }) left))
+
+-- one that is to be drawn
+pub differs-undone : (brush : Brush) (old new : Cell) → nat_lt 0 brush.erased ≡ false → not (is_right new.part || are_alike old new) ≡ true
+    → is_done brush old new ≡ false
+unfolding is_done
+differs-undone brush old new none differs = rw none (not-true (is_right new.part || are_alike old new) differs)
+
+-- the brush behind it
+abbrev drawn_brush : (row column : ℕ) → Style → (erased : ℕ) → Brush → Brush
+drawn_brush row column style erased brush = record brush {
+  place = record brush.place { row = row; column = column; style = style };
+  erased = erased;
+}
+
+painted-by : (row column : ℕ) (brush : Brush) (new : Cell) (cells : List Cell) (moved erased : ℕ) (t : Bool)
+    → moved ≡ (if t then 0 else half_columns new.part) → erased ≡ (if t then erased_run new.style cells else 0)
+    → drawn_brush row (column + moved) new.style erased brush
+    ≡ (if t then drawn_brush row column new.style (erased_run new.style cells) brush
+    else drawn_brush row (column + half_columns new.part) new.style 0 brush)
+painted-by row column brush new cells moved erased true goes run =
+    let at : column + moved ≡ column = omega (arith, goes) in
+    ap₂ (λ (k n : ℕ). drawn_brush row k new.style n brush) at run
+painted-by row column brush new cells moved erased false goes run =
+    ap₂ (λ (k n : ℕ). drawn_brush row (column + k) new.style n brush) goes run
+
+pub painted-brush : (row column : ℕ) (brush : Brush) (old new : Cell) (cells : List Cell) (moved erased : ℕ) → is_done brush old new ≡ false
+    → moved ≡ (if is_erased new then 0 else half_columns new.part) → erased ≡ (if is_erased new then erased_run new.style cells else 0)
+    → record brush { place = record brush.place { row = row; column = column + moved; style = new.style }; erased = erased }
+    ≡ brush_behind row column brush old new cells
 unfolding brush_behind
-brush-stays row column brush old new olds cells is =
-    let parts = and_parts (brush.erased == 0) (are_alike old new) is in
-    let none : brush.erased ≡ 0 = eqb-true brush.erased 0 parts.0 in
-    let left : brush.erased ≡ brush.erased - 1 = omega arith in
-    let done : is_done brush old new ≡ true = done-alike brush old new parts.1 in (
-      alike-nothing row column brush old new olds cells parts.1,
-      rw done (ap (λ n. record brush { erased = n }) left),
-    )
+painted-brush row column brush old new cells moved erased differs goes run =
+    rw differs (painted-by row column brush new cells moved erased (is_erased new) goes run)
 
 pub row-alike : (row column : ℕ) (place : Place) (olds news : List Cell) → all_two are_alike olds news ≡ true
     → (row_calls row column (begun_at place) olds news ≡ []) × (brush_after row column (begun_at place) olds news ≡ begun_at place)
@@ -163,6 +211,40 @@ row-front n row place olds news long are =
     let (calls, brush) = front-alike n row 0 place olds news long are in (
       calls ∙ ap (λ k. row_calls row k (begun_at place) (drop n olds) (drop n news)) none,
       brush ∙ ap (λ k. brush_after row k (begun_at place) (drop n olds) (drop n news)) none,
+    )
+
+-- cells that are kept, and then some that are alike
+pub row-begins : (left n row : ℕ) (place : Place) (olds news : List Cell) → length olds ≡ length news → take left news ≡ take left olds
+    → all_two are_alike (take n (drop left olds)) (take n (drop left news)) ≡ true
+    → (row_calls row 0 (begun_at place) olds news ≡ row_calls row (left + n) (begun_at place) (drop (left + n) olds) (drop (left + n) news))
+    × (brush_after row 0 (begun_at place) olds news ≡ brush_after row (left + n) (begun_at place) (drop (left + n) olds) (drop (left + n) news))
+row-begins left n row place olds news long kept are =
+    let same : all_two are_alike (take left olds) (take left news) ≡ true =
+    ap (all_two are_alike (take left olds)) kept ∙ all-refl are_alike alike-refl (take left olds) in
+    let first = row-front left row place olds news long same in
+    let fewer : length (drop left olds) ≡ length (drop left news) = omega (arith, length-drop left olds, length-drop left news, long) in
+    let (calls, brush) = front-alike n row left place (drop left olds) (drop left news) fewer are in
+    let behind_olds : drop n (drop left olds) ≡ drop (left + n) olds = drop-drop n left olds in
+    let behind_news : drop n (drop left news) ≡ drop (left + n) news = drop-drop n left news in (
+      first.0 ∙ (calls ∙ (ap (λ l. row_calls row (left + n) (begun_at place) l (drop n (drop left news))) behind_olds
+          ∙ ap (λ l. row_calls row (left + n) (begun_at place) (drop (left + n) olds) l) behind_news)),
+      first.1 ∙ (brush ∙ (ap (λ l. brush_after row (left + n) (begun_at place) l (drop n (drop left news))) behind_olds
+          ∙ ap (λ l. brush_after row (left + n) (begun_at place) (drop (left + n) olds) l) behind_news)),
+    )
+
+-- cells that are the same, whatever was drawn before them
+done-place : (row column : ℕ) (brush : Brush) (x : Cell) (xs : List Cell) → (brush_behind row column brush x x xs).place ≡ brush.place
+unfolding brush_behind
+done-place row column brush x xs = let done : is_done brush x x ≡ true = done-alike brush x x (alike-refl x) in rw done refl
+
+pub row-behind : (row column : ℕ) (brush : Brush) (xs : List Cell)
+    → (row_calls row column brush xs xs ≡ []) × ((brush_after row column brush xs xs).place ≡ brush.place)
+row-behind row column brush [] = (refl, refl)
+row-behind row column brush (x ∷ xs) =
+    let none : change_calls row column brush x x xs xs ≡ [] = alike-nothing row column brush x x xs xs (alike-refl x) in
+    let rest = row-behind row (suc column) (brush_behind row column brush x x xs) xs in (
+      ap (λ l. l ++ row_calls row (suc column) (brush_behind row column brush x x xs) xs xs) none ∙ rest.0,
+      rest.1 ∙ done-place row column brush x xs,
     )
 
 pub row-nothing : (row column : ℕ) (place : Place) (xs : List Cell) → (row_calls row column (begun_at place) xs xs ≡ []) × (brush_after row column (begun_at place) xs xs ≡ begun_at place)

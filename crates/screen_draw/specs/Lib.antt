@@ -1,6 +1,7 @@
 pub mod Alike
 pub mod Bound
 pub mod Changed
+pub mod Columns
 pub mod Draw
 pub mod Drawing
 pub mod Laws

@@ -1,5 +1,5 @@
 //! What can have changed of a screen since another one.
-ghost use Rattle.std.specs.Prelude.{◌≡◌, false};
+ghost use Rattle.std.specs.Prelude.{◌≡◌, ◌≤◌, true, false};
 
 /// The rows from `first` up to `past`, the cursor, modes and links can have changed; and where `is_framed` says so,
 /// margins, tabs, saved places and the alternate screen with what it covers.
@@ -13,6 +13,7 @@ pub(crate) struct Changed {
 impl Changed {
     ghost use Rattle.ansi_screen.specs.Display.{Display};
     ghost use Rattle.screen_draw.specs.Changed.{Keeps, with_rows};
+    ghost use Rattle.screen_draw.specs.Columns.{both};
 
     /// Nothing of a screen of so many rows.
     pub(crate) fn nothing(rows: usize) -> Changed
@@ -36,6 +37,25 @@ impl Changed {
             first: 0,
             past: rows,
             is_framed: true,
+        }
+    }
+
+    /// Whether it has no row and no frame.
+    pub(crate) fn is_nothing(self) -> bool
+        ensures rows { result ≡ true → self.past ≤ self.first }
+        ensures frame { result ≡ true → self.is_framed ≡ false }
+    {
+        self.past <= self.first && !self.is_framed
+    }
+
+    /// What another one has too.
+    pub(crate) fn with(self, other: Changed) -> Changed
+        ensures { result ≡ both self other }
+    {
+        Changed {
+            first: self.first.min(other.first),
+            past: self.past.max(other.past),
+            is_framed: self.is_framed || other.is_framed,
         }
     }
 

@@ -1,10 +1,13 @@
 //! What differs between two screens in margins, cells, cursor and modes.
-ghost use Rattle.std.specs.Prelude.{◌≡◌, ◌<◌, ◌≤◌, ◌∷◌, ◌++◌, [], Some, ◌+◌, ◌&&◌, ◌==◌, length, drop};
+ghost use Rattle.std.specs.Prelude.{◌≡◌, ◌<◌, ◌≤◌, ◌∷◌, ◌++◌, [], List, Some, false, ◌+◌, ◌-◌, ◌||◌, not, length, drop, if◌then◌else◌};
 ghost use Rattle.screen_draw.specs.Alike.{are_alike};
-ghost use Rattle.ansi_screen.specs.Cells.{cell_at};
+ghost use Rattle.ansi_screen.specs.Cells.{is_right, cell_at};
+ghost use Rattle.ansi_screen.specs.declared.cell.Cell.{Cell};
+ghost use Rattle.ansi_style.specs.declared.style.Style.{Style};
 ghost use Rattle.ansi_screen.specs.Display.{most_columns, most_rows, IsSized};
 ghost use Rattle.screen_draw.specs.Changed.{Keeps};
-ghost use Rattle.screen_draw.specs.Draw.{position, select, wrap_calls, last_cell, last_column};
+ghost use Rattle.screen_draw.specs.Columns.{KeepsColumns, KeepsSpans};
+ghost use Rattle.screen_draw.specs.Draw.{is_erased, position, select, wrap_calls, last_cell, last_column};
 ghost use Rattle.screen_draw.specs.Drawing.{Draws};
 ghost use Rattle.screen_draw.specs.Update.{move_calls, erased_run, erased_columns, painted_calls, is_done, change_calls, half_columns, brush_behind, row_calls, brush_after, begun_at, place_behind, rows_calls, wants_wrap, cursor_changes, mode_changes, changes_from, changes_calls};
 
@@ -12,6 +15,7 @@ use crate::alike::{alike_front, are_alike, has_same_margins, lacks_print};
 use crate::calls::{put_number, put_position, put_private_mode, put_style};
 use crate::cells::{is_erased, is_same, put_marked, put_style_change};
 use crate::changed::Changed;
+use crate::columns::{Span, columns_of};
 use crate::places::put_wrap;
 use crate::rest::{last_of_row, put_margins_of};
 use ansi_screen::{Cell, Part, Place, Screen};
@@ -54,33 +58,18 @@ fn erased_run(style: Style, cells: &[Cell]) -> usize
     cells.len()
 }
 
-/// How many columns are erased at once: one, those of the run behind it, and an old right half behind these, which
-/// a terminal may keep where its left one is erased.
-fn erased_columns(style: Style, olds: &[Cell], cells: &[Cell]) -> usize
-    requires { length olds.now ≡ length cells.now }
-    ensures columns { result ≡ erased_columns style olds.now cells.now }
-    ensures within { result ≤ length cells.now + 1 }
+/// How many columns are erased at once, where so many cells behind the first are to be erased too: one, these, and an
+/// old right half behind them, which a terminal may keep where its left one is erased.
+fn erased_columns(run: usize, olds: &[Cell]) -> usize
+    requires { run ≤ length olds.now }
+    ensures columns { (style : Style) (cells : List Cell) → run ≡ erased_run style cells
+        → result ≡ erased_columns style olds.now cells }
+    ensures within { result ≤ length olds.now + 1 }
 {
-    let run = erased_run(style, cells);
     if run < olds.len() && olds[run].is_right() {
         run + 2
     } else {
         run + 1
-    }
-}
-
-/// Erases this cell and all like it that follow at once, or prints it.
-// Out of line, so that the loop over a row's cells keeps what it compares in registers.
-#[inline(never)]
-fn put_painted<W: Sink>(output: &mut Output<W>, cell: Cell, olds: &[Cell], cells: &[Cell])
-    requires few { length cells.now < most_columns }
-    requires same { length olds.now ≡ length cells.now }
-    ensures { Draws W.Sink (painted_calls cell olds.now cells.now) output.old output.new }
-{
-    if is_erased(cell) {
-        put_number(output, erased_columns(cell.style, olds, cells) as u16, b'X');
-    } else {
-        put_marked(output, cell);
     }
 }
 
@@ -95,6 +84,33 @@ fn half_columns(part: Part) -> usize
     }
 }
 
+/// Erases this cell and all like it that follow at once, or prints it. The answer is how many columns the cursor moves,
+/// and how many of the cells that follow are erased.
+// Out of line, so that the loop over a row's cells keeps what it compares in registers.
+#[inline(never)]
+fn put_painted<W: Sink>(
+    output: &mut Output<W>,
+    cell: Cell,
+    olds: &[Cell],
+    cells: &[Cell],
+) -> (usize, usize)
+    requires few { length cells.now < most_columns }
+    requires same { length olds.now ≡ length cells.now }
+    ensures calls { Draws W.Sink (painted_calls cell olds.now cells.now) output.old output.new }
+    ensures columns { result.0 ≡ if is_erased cell then 0 else half_columns cell.part }
+    ensures erased { result.1 ≡ if is_erased cell then erased_run cell.style cells.now else 0 }
+    ensures few { result.0 ≤ 2 }
+{
+    if is_erased(cell) {
+        let run = erased_run(cell.style, cells);
+        put_number(output, erased_columns(run, olds) as u16, b'X');
+        (0, run)
+    } else {
+        put_marked(output, cell);
+        (half_columns(cell.part), 0)
+    }
+}
+
 impl Brush {
     /// The brush with which a row begins.
     fn begun_at(place: Place) -> Brush
@@ -103,48 +119,25 @@ impl Brush {
         Brush { place, erased: 0 }
     }
 
-    /// Whether nothing is to be drawn for a cell.
-    #[tactic(auto, unfolding(crate::specs::Update::is_done))]
-    fn is_done(self, old: &Cell, new: &Cell) -> bool
-        ensures { result ≡ is_done self old.now new.now }
+    /// The brush behind a cell that is erased already.
+    fn passed(self) -> Brush
+        requires { 0 < self.erased }
+        ensures { result ≡ record self { erased = self.erased - 1 } }
     {
-        self.erased > 0 || new.is_right() || are_alike(old, new)
-    }
-
-    /// Whether a cell, which is like the old one, leaves the brush as it is.
-    fn stays(self, old: &Cell, new: &Cell) -> bool
-        ensures { result ≡ (self.erased == 0 && are_alike old.now new.now) }
-    {
-        self.erased == 0 && are_alike(old, new)
-    }
-
-    /// The brush behind a cell, before others.
-    #[tactic(auto, unfolding(crate::specs::Update::brush_behind))]
-    fn behind(self, row: usize, column: usize, old: Cell, new: Cell, cells: &[Cell]) -> Brush
-        requires { column < most_columns }
-        ensures { result ≡ brush_behind row column self old new cells.now }
-    {
-        if self.is_done(&old, &new) {
-            return Brush {
-                erased: self.erased.saturating_sub(1),
-                ..self
-            };
-        }
-        let (columns, erased) = if is_erased(new) {
-            (0, erased_run(new.style, cells))
-        } else {
-            (half_columns(new.part), 0)
-        };
         Brush {
-            place: Place {
-                row,
-                column: column + columns,
-                style: new.style,
-                ..self.place
-            },
-            erased,
+            erased: self.erased - 1,
+            ..self
         }
     }
+}
+
+/// Whether a cell that is not erased already is to be drawn: it differs, and is no right half, which comes with its left
+/// one.
+#[inline(always)]
+fn differs(old: &Cell, new: &Cell) -> bool
+    ensures { result ≡ not (is_right new.now.part || are_alike old.now new.now) }
+{
+    !new.is_right() && !are_alike(old, new)
 }
 
 /// The cell of a column.
@@ -163,38 +156,8 @@ fn cells_behind(cells: &[Cell], column: usize) -> &[Cell]
     &cells[column + 1..]
 }
 
-/// Draws the cell of a column, where it differs.
-#[tactic(auto, unfolding(crate::specs::Update::change_calls))]
+/// Draws the cell of a column, which is to be drawn. The answer is the brush behind it.
 fn put_change<W: Sink>(
-    output: &mut Output<W>,
-    row: usize,
-    column: usize,
-    brush: Brush,
-    olds: &[Cell],
-    news: &[Cell],
-)
-    requires row { row < most_rows }
-    requires column { column < length news.now }
-    requires columns { length news.now ≤ most_columns }
-    requires same { length olds.now ≡ length news.now }
-    ensures { Draws W.Sink (change_calls row column brush (cell_at column olds.now) (cell_at column news.now)
-        (drop (column + 1) olds.now) (drop (column + 1) news.now)) output.old output.new }
-{
-    let new = *cell_in(news, column);
-    if !brush.is_done(cell_in(olds, column), &new) {
-        put_move(output, brush.place, row, column);
-        put_style_change(output, brush.place.style, new.style);
-        put_painted(
-            output,
-            new,
-            cells_behind(olds, column),
-            cells_behind(news, column),
-        );
-    }
-}
-
-/// Draws the cell of a column, where it differs. The answer is the brush behind it.
-fn put_step<W: Sink>(
     output: &mut Output<W>,
     row: usize,
     column: usize,
@@ -206,35 +169,59 @@ fn put_step<W: Sink>(
     requires column { column < length news.now }
     requires columns { length news.now ≤ most_columns }
     requires same { length olds.now ≡ length news.now }
+    requires differs { is_done brush (cell_at column olds.now) (cell_at column news.now) ≡ false }
     ensures calls { Draws W.Sink (change_calls row column brush (cell_at column olds.now) (cell_at column news.now)
         (drop (column + 1) olds.now) (drop (column + 1) news.now)) output.old output.new }
     ensures brush { result ≡ brush_behind row column brush (cell_at column olds.now) (cell_at column news.now)
         (drop (column + 1) news.now) }
 {
-    let old = *cell_in(olds, column);
     let new = *cell_in(news, column);
-    put_change(output, row, column, brush, olds, news);
-    brush.behind(row, column, old, new, cells_behind(news, column))
+    put_move(output, brush.place, row, column);
+    put_style_change(output, brush.place.style, new.style);
+    let (columns, erased) = put_painted(
+        output,
+        new,
+        cells_behind(olds, column),
+        cells_behind(news, column),
+    );
+    Brush {
+        place: Place {
+            row,
+            column: column + columns,
+            style: new.style,
+            ..brush.place
+        },
+        erased,
+    }
 }
 
-/// Draws the cells of a row that differ, from the first one that does on. The answer is where the cursor stands then.
+/// Draws the cells of a row that differ, from the first one that does on, where none does before one column and from
+/// another one on. The answer is where the cursor stands then.
 fn put_row<W: Sink>(
     output: &mut Output<W>,
     row: usize,
     place: Place,
+    columns: (usize, usize),
     olds: &[Cell],
     news: &[Cell],
 ) -> Place
     requires row { row < most_rows }
     requires columns { length news.now ≤ most_columns }
     requires same { length olds.now ≡ length news.now }
+    requires order { columns.0 ≤ columns.1 }
+    requires within { columns.1 ≤ length news.now }
+    requires kept { KeepsColumns columns.0 columns.1 olds.now news.now }
     ensures calls { Draws W.Sink (row_calls row 0 (begun_at place) olds.now news.now) output.old output.new }
     ensures place { result ≡ (brush_after row 0 (begun_at place) olds.now news.now).place }
 {
     let mut brush = Brush::begun_at(place);
-    for column in alike_front(olds, news)..news.len() {
-        if !brush.stays(cell_in(olds, column), cell_in(news, column)) {
-            brush = put_step(output, row, column, brush, olds, news);
+    let (left, right) = columns;
+    let alike = alike_front(&olds[left..right], &news[left..right]);
+    for column in left + alike..right {
+        if brush.erased > 0 {
+            brush = brush.passed();
+        } else if differs(cell_in(olds, column), cell_in(news, column)) {
+            brush = put_change(output, row, column, brush, olds, news);
         }
     }
     brush.place
@@ -248,8 +235,10 @@ fn put_rows<W: Sink>(
     shown: &Screen,
     wanted: &Screen,
     changed: Changed,
+    spans: &[Span],
 ) -> Place
-    requires { Keeps changed shown.now.display wanted.now.display }
+    requires rows { Keeps changed shown.now.display wanted.now.display }
+    requires columns { KeepsSpans spans.now shown.now.display wanted.now.display }
     ensures calls { Draws W.Sink (rows_calls wanted.now.display.height start shown.now.display wanted.now.display)
         output.old output.new }
     ensures place { result ≡ place_behind wanted.now.display.height start shown.now.display wanted.now.display }
@@ -258,7 +247,8 @@ fn put_rows<W: Sink>(
     let first = changed.first.min(past);
     let mut place = start;
     for row in first..past {
-        place = put_row(output, row, place, shown.row(row), wanted.row(row));
+        let columns = columns_of(spans, row, wanted.columns());
+        place = put_row(output, row, place, columns, shown.row(row), wanted.row(row));
     }
     place
 }
@@ -317,11 +307,13 @@ fn put_changes_from<W: Sink>(
     shown: &Screen,
     wanted: &Screen,
     changed: Changed,
+    spans: &[Span],
 )
-    requires { Keeps changed shown.now.display wanted.now.display }
+    requires rows { Keeps changed shown.now.display wanted.now.display }
+    requires columns { KeepsSpans spans.now shown.now.display wanted.now.display }
     ensures { Draws W.Sink (changes_from start shown.now.display wanted.now.display) output.old output.new }
 {
-    let place = put_rows(output, start, shown, wanted, changed);
+    let place = put_rows(output, start, shown, wanted, changed, spans);
     put_cursor_changes(output, place, wanted);
     put_mode_change(output, 7, shown.wraps(), wanted.wraps());
     put_mode_change(
@@ -349,14 +341,17 @@ pub(crate) fn put_changes<W: Sink>(
     shown: &Screen,
     wanted: &Screen,
     changed: Changed,
+    spans: &[Span],
 )
-    requires { Keeps changed shown.now.display wanted.now.display }
+    requires rows { Keeps changed shown.now.display wanted.now.display }
+    requires columns { KeepsSpans spans.now shown.now.display wanted.now.display }
     ensures { Draws W.Sink (changes_calls shown.now.display wanted.now.display) output.old output.new }
 {
     if has_same_margins(shown, wanted) {
-        put_changes_from(output, shown.cursor(), shown, wanted, changed);
+        put_changes_from(output, shown.cursor(), shown, wanted, changed, spans);
     } else {
         put_margins_of(output, wanted);
-        put_changes_from(output, at_home(shown.cursor()), shown, wanted, changed);
+        let home = at_home(shown.cursor());
+        put_changes_from(output, home, shown, wanted, changed, spans);
     }
 }

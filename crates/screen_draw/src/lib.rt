@@ -16,6 +16,7 @@ mod cells;
 mod changed;
 mod changes;
 mod cleared;
+mod columns;
 pub mod laws;
 mod noting;
 mod places;
@@ -30,8 +31,8 @@ ghost use Rattle.anstyle_parse.specs.Stream.Calls.{AreCalls};
 ghost use Rattle.anstyle_parse.specs.Stream.Canon.{canon};
 ghost use Rattle.screen_draw.specs.Bound.{draw_bound, update_bound};
 ghost use Rattle.screen_draw.specs.Draw.{drawn_calls};
-ghost use Rattle.screen_draw.specs.Drawing.{IsDrawing, HaveNoReset};
-ghost use Rattle.screen_draw.specs.Noting.{display_of, HasNoted};
+ghost use Rattle.screen_draw.specs.Drawing.{IsDrawing, HaveNoReset, Draws};
+ghost use Rattle.screen_draw.specs.Noting.{display_of, HasNoted, HasNotedColumns};
 ghost use Rattle.screen_draw.specs.Redrawn.{as_shown, drawn_state};
 ghost use Rattle.screen_draw.specs.Update.{update_calls};
 ghost use Rattle.ansi_screen.specs.After.{State, Shows};
@@ -120,7 +121,7 @@ pub fn update<W: Sink>(shown: &Screen, wanted: &Screen, output: &mut Output<W>)
     ensures bound { IsSized wanted.now.display → length (canon (update_calls shown.now.display wanted.now.display))
         ≤ update_bound shown.now.display wanted.now.display }
 {
-    put_update(output, shown, wanted, Changed::all(wanted.rows()));
+    put_update(output, shown, wanted, Changed::all(wanted.rows()), &[]);
 }
 
 /// Writes what [`update`] writes, and compares of the rows those alone that were noted.
@@ -157,5 +158,22 @@ pub fn update_noted<W: Sink>(shown: &Screen, wanted: &Noting, output: &mut Outpu
         → length (canon (update_calls shown.now.display (display_of wanted.now)))
         ≤ update_bound shown.now.display (display_of wanted.now) }
 {
-    put_update(output, shown, wanted.screen(), wanted.changed());
+    put_update(output, shown, wanted.screen(), wanted.changed(), &[]);
+}
+
+/// Writes what [`update`] writes, and compares of each row those columns alone that were noted.
+// Out of line, as `update_noted` is.
+#[inline(never)]
+pub(crate) fn update_noted_columns<W: Sink>(shown: &Screen, wanted: &Noting, output: &mut Output<W>)
+    requires rows { HasNoted wanted.now shown.now.display }
+    requires columns { HasNotedColumns wanted.now shown.now.display }
+    ensures { Draws W.Sink (update_calls shown.now.display (display_of wanted.now)) output.old output.new }
+{
+    put_update(
+        output,
+        shown,
+        wanted.screen(),
+        wanted.changed(),
+        wanted.columns(),
+    );
 }

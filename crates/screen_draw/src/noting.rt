@@ -6,6 +6,7 @@ ghost use Rattle.anstyle_parse.specs.Stream.Call.{print, execute, csi_dispatch, 
 ghost use Rattle.screen_draw.specs.Changed.{Widens};
 
 use crate::changed::Changed;
+use crate::columns::{Columns, Span};
 use ansi_screen::{Screen, edits_cells, edits_row, modes_alone, moves_alone};
 use anstyle_parse::{Params, Perform, PerformText};
 
@@ -14,6 +15,8 @@ use anstyle_parse::{Params, Perform, PerformText};
 pub struct Noting {
     screen: Screen,
     changed: Changed,
+    // The same rows, more closely: the columns of each.
+    columns: Columns,
 }
 
 const LINE_FEED: u8 = 0x0A;
@@ -83,7 +86,8 @@ impl Noting {
     ghost use Rattle.ansi_screen.specs.Cells.{is_right, cell_at};
     ghost use Rattle.ansi_screen.specs.Display.{Display, IsSized, here, row_start, row_end, row_cells};
     ghost use Rattle.screen_draw.specs.Changed.{Keeps, KeepsFrame, with_rows, begins_with_right};
-    ghost use Rattle.screen_draw.specs.Noting.{screen_of, changed_of, display_of, HasNoted};
+    ghost use Rattle.screen_draw.specs.Columns.{KeepsSpans, spans_of};
+    ghost use Rattle.screen_draw.specs.Noting.{screen_of, changed_of, columns_of, display_of, HasNoted, HasNotedColumns};
     ghost use Rattle.anstyle_parse.specs.Stream.Texts.{text_calls};
     ghost use Rattle.anstyle_parse.specs.Views.Params.{groups_shown};
     ghost use Rattle.screen_draw.specs.NotedTexts.{NotesAll, FitsInRow};
@@ -94,8 +98,14 @@ impl Noting {
         ensures all { (shown : Display) → shown.width ≡ screen.display.width → shown.height ≡ screen.display.height
             → HasNoted result shown }
     {
-        let changed = Changed::all(screen.rows());
-        Noting { screen, changed }
+        let rows = screen.rows();
+        let mut columns = Columns::none();
+        columns.note_rows(0, rows);
+        Noting {
+            screen,
+            changed: Changed::all(rows),
+            columns,
+        }
     }
 
     /// Nothing is noted any more: as it is, it is shown.
@@ -107,8 +117,10 @@ impl Noting {
         ensures rows { (shown : Display) (row : ℕ) → HasNoted self.new shown → row < (display_of self.new).height
             → row_cells row (display_of self.new) ≡ row_cells row shown }
         ensures frame { (shown : Display) → HasNoted self.new shown → KeepsFrame shown (display_of self.new) }
+        ensures columns { HasNotedColumns self.new (display_of self.new) }
     {
         self.changed = Changed::nothing(self.screen.rows());
+        self.columns = Columns::none();
     }
 
     /// What was noted.
@@ -116,6 +128,13 @@ impl Noting {
         ensures { result ≡ changed_of self.now }
     {
         self.changed
+    }
+
+    /// What was noted of each row.
+    pub(crate) fn columns(&self) -> &[Span]
+        ensures { result.now ≡ columns_of self.now }
+    {
+        self.columns.spans()
     }
 
     /// The screen.
@@ -191,21 +210,21 @@ impl Noting {
 
     /// What can have changed behind a character too. Where it has room in the row, no wrap comes, and it is this row, or
     /// the one above too. A wrap goes from this row to the next, and at the lower margin all rows scroll.
-    fn by_print(&self, c: char) -> Changed
-        ensures { Widens (print c) self.now.screen self.now.changed result }
+    fn by_print(&self, before: Changed, c: char) -> Changed
+        ensures { Widens (print c) self.now.screen before result }
     {
         let columns = self.screen.columns();
         let place = self.screen.cursor();
         if self.screen.inserts() {
-            self.all_rows()
+            self.all_rows(before)
         } else if place.column + 2 < columns {
-            self.changed.with_rows(self.first_row(), place.row + 1)
+            before.with_rows(self.first_row(), place.row + 1)
         } else if self.has_room(c) {
-            self.changed.with_rows(place.row, place.row + 1)
+            before.with_rows(place.row, place.row + 1)
         } else if !self.is_at_bottom() && self.is_apart() {
-            self.changed.with_rows(place.row, place.row + 2)
+            before.with_rows(place.row, place.row + 2)
         } else {
-            self.all_rows()
+            self.all_rows(before)
         }
     }
 
@@ -228,10 +247,10 @@ impl Noting {
     }
 
     /// All rows can have changed too.
-    fn all_rows(&self) -> Changed
-        ensures { result ≡ with_rows 0 self.now.screen.display.height self.now.changed }
+    fn all_rows(&self, before: Changed) -> Changed
+        ensures { result ≡ with_rows 0 self.now.screen.display.height before }
     {
-        self.changed.with_rows(0, self.screen.rows())
+        before.with_rows(0, self.screen.rows())
     }
 
     /// Everything can have changed.
@@ -245,32 +264,38 @@ impl Noting {
 
     /// What can have changed behind a control too: a line feed scrolls all rows at the lower margin, and all else
     /// moves the cursor.
-    fn by_control(&self, byte: u8) -> Changed
-        ensures { Widens (execute byte) self.now.screen self.now.changed result }
+    fn by_control(&self, before: Changed, byte: u8) -> Changed
+        ensures { Widens (execute byte) self.now.screen before result }
     {
         if self.scrolls(byte) {
-            self.all_rows()
+            self.all_rows(before)
         } else {
-            self.changed
+            before
         }
     }
 
     /// What can have changed behind a control sequence too: nothing, if it moves the cursor, selects a style, sets
     /// modes or is not known; the cursor's row, if it edits that; all rows, if it edits others too or scrolls; and the
     /// frame too behind all others.
-    fn by_sequence(&self, params: &Params, intermediates: &[u8], final_byte: u8) -> Changed
+    fn by_sequence(
+        &self,
+        before: Changed,
+        params: &Params,
+        intermediates: &[u8],
+        final_byte: u8,
+    ) -> Changed
         ensures { (ignore : Bool) → Widens (csi_dispatch (groups_shown params.now) intermediates.now ignore final_byte)
-            self.now.screen self.now.changed result }
+            self.now.screen before result }
     {
         if is_move(intermediates, final_byte) {
-            self.changed
+            before
         } else if is_row_edit(intermediates, final_byte) && self.is_apart() {
             let row = self.screen.cursor().row;
-            self.changed.with_rows(row, row + 1)
+            before.with_rows(row, row + 1)
         } else if is_edit(intermediates, final_byte) {
-            self.all_rows()
+            self.all_rows(before)
         } else if modes_alone(params, intermediates, final_byte) {
-            self.changed
+            before
         } else {
             self.all()
         }
@@ -278,18 +303,43 @@ impl Noting {
 
     /// What can have changed behind an escape sequence too: all rows, if it goes to another; the frame too, if it saves
     /// the cursor, sets a tab stop or resets all; and nothing behind all others.
-    fn by_escape(&self, intermediates: &[u8], final_byte: u8) -> Changed
+    fn by_escape(&self, before: Changed, intermediates: &[u8], final_byte: u8) -> Changed
         ensures { (ignore : Bool)
-            → Widens (esc_dispatch intermediates.now ignore final_byte) self.now.screen self.now.changed result }
+            → Widens (esc_dispatch intermediates.now ignore final_byte) self.now.screen before result }
     {
         if !intermediates.is_empty() {
-            self.changed
+            before
         } else if is_row_move(final_byte) {
-            self.all_rows()
+            self.all_rows(before)
         } else if changes_frame(final_byte) {
             self.all()
         } else {
-            self.changed
+            before
+        }
+    }
+
+    /// No change of a screen as high as this one.
+    fn nothing(&self) -> Changed
+        ensures kept { Keeps result self.now.screen.display self.now.screen.display }
+        ensures sized { IsSized self.now.screen.display }
+    {
+        Changed::nothing(self.screen.rows())
+    }
+
+    /// Notes a change too: all columns of its rows.
+    fn note(&mut self, step: Changed)
+        ensures screen { self.new.screen ≡ self.old.screen }
+        ensures changed { (shown : Display) (middle : Display) → Keeps self.old.changed shown middle
+            → Keeps step middle self.old.screen.display → Keeps self.new.changed shown self.old.screen.display }
+        ensures columns { (shown : Display) (middle : Display) → Keeps self.old.changed shown middle
+            → Keeps step middle self.old.screen.display
+            → KeepsSpans (spans_of self.old.columns) shown middle
+            → KeepsSpans (spans_of self.new.columns) shown self.old.screen.display }
+    {
+        if !step.is_nothing() {
+            self.changed = self.changed.with(step);
+            let past = step.past.min(self.screen.rows());
+            self.columns.note_rows(step.first, past);
         }
     }
 
@@ -307,15 +357,18 @@ impl Noting {
         }
     }
 
-    /// Prints a text that stays in the cursor's row, and notes that row.
+    /// Prints a text that stays in the cursor's row, and notes that row, in the columns from two before it on, where a mark
+    /// or the half of a wide character can change, up to two behind it.
     fn print_in_row(&mut self, text: &str)
         requires { FitsInRow (length text.now) self.old.screen.display }
         ensures { NotesAll self.old (text_calls text.now) self.new }
     {
         // The sizes are within their limits.
         let _ = self.screen.columns();
-        let row = self.screen.cursor().row;
-        self.changed = self.changed.with_rows(row, row + 1);
+        let place = self.screen.cursor();
+        self.changed = self.changed.with_rows(place.row, place.row + 1);
+        self.columns
+            .note(place.row, place.column - 2, place.column + text.len() + 2);
         self.screen.print_text(text);
     }
 
@@ -336,13 +389,15 @@ impl Perform for Noting {
     ghost means = { Notes };
 
     fn print(&mut self, c: char) {
-        self.changed = self.by_print(c);
+        let step = self.by_print(self.nothing(), c);
         self.screen.print(c);
+        self.note(step);
     }
 
     fn execute(&mut self, byte: u8) {
-        self.changed = self.by_control(byte);
+        let step = self.by_control(self.nothing(), byte);
         self.screen.execute(byte);
+        self.note(step);
     }
 
     fn hook(&mut self, params: &Params, intermediates: &[u8], ignore: bool, action: u8) {
@@ -362,14 +417,16 @@ impl Perform for Noting {
     }
 
     fn csi_dispatch(&mut self, params: &Params, intermediates: &[u8], ignore: bool, action: u8) {
-        self.changed = self.by_sequence(params, intermediates, action);
+        let step = self.by_sequence(self.nothing(), params, intermediates, action);
         self.screen
             .csi_dispatch(params, intermediates, ignore, action);
+        self.note(step);
     }
 
     fn esc_dispatch(&mut self, intermediates: &[u8], ignore: bool, byte: u8) {
-        self.changed = self.by_escape(intermediates, byte);
+        let step = self.by_escape(self.nothing(), intermediates, byte);
         self.screen.esc_dispatch(intermediates, ignore, byte);
+        self.note(step);
     }
 }
 

@@ -5,7 +5,7 @@ ghost use Rattle.screen_draw.specs.Noting.{screen_of};
 ghost use Rattle.screen_draw.specs.Updates.{Follows};
 
 use crate::noting::Noting;
-use crate::{draw, update_noted};
+use crate::{draw, update_noted_columns};
 use ansi_screen::Screen;
 use anstyle_parse::io::{Fault, Output, Sink, Source};
 use anstyle_parse::{Parser, Utf8Parser};
@@ -17,8 +17,8 @@ const PIECE: usize = 65_536;
 /// to, until the reader ends or fails or a write fails, of which none has before. What was written is handed on before
 /// the next read. At most 2^64 - 1 reads are made. No memory is taken.
 ///
-/// Of the rows only those are compared, and then copied, that the bytes of a read can have changed. Each byte is given
-/// to one parser, once.
+/// Of the rows only those are compared, and then copied, that the bytes of a read can have changed, and of these the
+/// columns compared alone that can have. Each byte is given to one parser, once.
 ///
 /// Both screens are the one that is drawn first; in the end `wanted` has the last one. `Err(Fault::Write)` means
 /// that a write failed, and nothing was read after it; `Err(Fault::Read)` that a read failed, or that 2^64 - 1
@@ -50,7 +50,7 @@ pub fn update_to_end<R: Source, W: Sink>(
             Some(count) => {
                 wanted.forget();
                 parser.advance_texts(wanted, &piece[..count]);
-                update_noted(shown, wanted, output);
+                update_noted_columns(shown, wanted, output);
                 output.pass_on();
                 if output.fault().is_some() {
                     return Err(Fault::Write);

@@ -1,5 +1,5 @@
 -- They are lawful, and so replayed.
-use Rattle.std.proofs.Common.{sym}
+use Rattle.std.proofs.Common.{sym, arith}
 use Rattle.anstyle_parse.proofs.Canonical.Replay.{replay}
 use Rattle.screen_draw.specs.Update.{update_calls}
 use Rattle.screen_draw.proofs.BoundLemmas.{update-bound}
@@ -9,8 +9,10 @@ use Rattle.screen_draw.proofs.UpdatedLemmas.{updated-shows}
 use Rattle.screen_draw.proofs.update.Goals as goal
 
 pub put_update-requires : goal.put_update-requires
-put_update-requires g c =
-    c.all.ensures c.args.shown.now.display c.args.wanted.now.display (sym c.requires.columns) (sym c.requires.rows) (sym c.rows.ensures.rows)
+put_update-requires g c = record {
+  rows = c.all.ensures c.args.shown.now.display c.args.wanted.now.display (sym c.requires.columns) (sym c.requires.rows) (sym c.rows.ensures.rows);
+  columns = λ row inside noted. absurd (omega (arith, noted));
+}
 
 pub returns-clause-made : goal.returns-clause-made
 returns-clause-made g c =

@@ -1,5 +1,5 @@
 -- They are lawful, and so replayed.
-use Rattle.std.proofs.Common.{sym, subst}
+use Rattle.std.proofs.Common.{sym, subst, arith}
 use Rattle.anstyle_parse.proofs.Canonical.Replay.{replay}
 use Rattle.ansi_screen.specs.After.{State}
 use Rattle.screen_draw.specs.declared.changed.Changed.{Changed}
@@ -14,8 +14,11 @@ use Rattle.screen_draw.proofs.update_noted.Goals as goal
 pub put_update-requires : goal.put_update-requires
 put_update-requires g c =
     let a = c.args.shown.now.display in
-    subst (λ (s : State). Keeps c.changed.result a s.display) (sym c.screen.ensures)
-    (subst (λ (changed : Changed). Keeps changed a c.args.wanted.now.screen.display) (sym c.changed.ensures) c.requires.noted)
+    record {
+      rows = subst (λ (s : State). Keeps c.changed.result a s.display) (sym c.screen.ensures)
+          (subst (λ (changed : Changed). Keeps changed a c.args.wanted.now.screen.display) (sym c.changed.ensures) c.requires.noted);
+      columns = λ row inside noted. absurd (omega (arith, noted));
+    }
 
 pub returns-clause-text : goal.returns-clause-text
 returns-clause-text g c = (draws-wanted g.W.Sink c.args.shown.now.display _ _ _ _ c.screen.ensures c.put_update.ensures).added

@@ -14,8 +14,8 @@ returns-else-has_same_margins g c =
     let b = c.args.wanted.now.display in
     let start : Place = record a.cursor { row = 0; column = 0 } in
     let other : has_same_margins a b ≡ false = sym c.has_same_margins.ensures ∙ c.if-has_same_margins.false in
-    let home : c.at_home.result ≡ start =
-    c.at_home.ensures ∙ ap (λ (p : Place). record p { row = 0; column = 0 }) c.cursor-else-has_same_margins.ensures in
+    let home : c.at_home-home.result ≡ start =
+    c.at_home-home.ensures ∙ ap (λ (p : Place). record p { row = 0; column = 0 }) c.cursor-else-has_same_margins.ensures in
     let drawn = subst (λ p. Draws g.W.Sink (changes_from p a b) c.put_margins_of.new.output c.put_changes_from-else-has_same_margins.new.output) home
     c.put_changes_from-else-has_same_margins.ensures in
     rw other (draws-append g.W.Sink (margins_calls b) (changes_from start a b) _ _ _ c.put_margins_of.ensures drawn)

@@ -14,7 +14,7 @@ use Rattle.screen_draw.specs.Draw.{drawn_calls}
 use Rattle.screen_draw.specs.Drawing.{Draws}
 use Rattle.screen_draw.specs.Update.{update_calls}
 use Rattle.screen_draw.specs.Updates.{IsPiece, joined}
-use Rattle.screen_draw.specs.Noting.{HasNoted}
+use Rattle.screen_draw.specs.Noting.{HasNoted, HasNotedColumns}
 use Rattle.screen_draw.proofs.NotedLemmas.{noted-shows}
 use Rattle.screen_draw.proofs.UpdatesLemmas.{joined-more, last-more, pieces-more, screens-more, text-passed-on, no-updates, begins, draws-more, write-fault, follows, near-noted}
 use Rattle.screen_draw.proofs.updates.update_to_end.Goals as goal
@@ -72,14 +72,16 @@ returns-in-Some-eq0 g c =
     (begins g.W.Sink c.args.shown.now c.args.wanted.now.screen _ _ _ c.requires.same c.draw.ensures.text c.draw.ensures.only c.pass_on.ensures)
     before.draws (before.no_fault, (λ zero. c.in-Some-eq0.ensures.end c.in-Some-eq0.field-0-test room zero, c.in-Some-eq0.ensures.not_failed ∙ before.not_failed))
 
-pub update_noted-requires : goal.update_noted-requires
-update_noted-requires g c =
+pub update_noted_columns-requires : goal.update_noted_columns-requires
+update_noted_columns-requires g c =
     let before = c.loop-turn.invariant in
     let old = c.forget.new.self in
     let same : c.loop-turn.shown ≡ old.screen = before.same ∙ sym c.forget.ensures.screen in
+    let rows : HasNoted old c.loop-turn.shown.display = subst (λ (s : State). HasNoted old s.display) (sym same) c.forget.ensures.shown in
     record {
-      noted = c.advance_texts.ensures.calls.noted c.loop-turn.shown.display
-          (subst (λ (s : State). HasNoted old s.display) (sym same) c.forget.ensures.shown);
+      rows = c.advance_texts.ensures.calls.noted c.loop-turn.shown.display rows;
+      columns = c.advance_texts.ensures.calls.columns c.loop-turn.shown.display rows
+          (subst (λ (s : State). HasNotedColumns old s.display) (sym same) c.forget.ensures.columns);
     }
 
 pub returns-then-is_some-2 : goal.returns-then-is_some-2
@@ -94,14 +96,14 @@ returns-then-is_some-2 g c =
     let drawn : Draws g.W.Sink (drawn_calls first.display) c.args.output.now c.pass_on.new.self =
     begins g.W.Sink c.args.shown.now first _ _ _ c.requires.same c.draw.ensures.text c.draw.ensures.only c.pass_on.ensures in
     let last = text-passed-on g.W.Sink (canon (update_calls c.loop-turn.shown.display next.display)) _ _ _
-    c.update_noted.ensures.text c.pass_on-in-Some.ensures in
+    c.update_noted_columns.ensures.added c.pass_on-in-Some.ensures in
     let is_piece : IsPiece bytes = (
       omega (arith, length-take c.in-Some.count c.read.new.into, c.in-Some.ensures.within, c.in-Some.count-test),
       omega (arith, length-take c.in-Some.count c.read.new.into, c.read.auto.into, before.room),
     ) in
     let updated = draws-more g.W.Sink first c.loop-turn.shown next before.screens _ _ _ _ before.draws
     (before.same ∙ before.is_last)
-    c.update_noted.ensures.text c.update_noted.ensures.only c.pass_on-in-Some.ensures in
+    c.update_noted_columns.ensures.added c.update_noted_columns.ensures.drawing c.pass_on-in-Some.ensures in
     follows g.R.Source g.W.Sink _ _ first next c.args.output.now c.pass_on.new.self c.pass_on-in-Some.new.self _
     (before.pieces ++ bytes ∷ []) (before.screens ++ next ∷ [])
     (subst (Consumes (g.R.Source.remaining c.args.reader.now) (g.R.Source.remaining c.read.new.self)) (sym (joined-more before.pieces bytes))
@@ -149,7 +151,7 @@ loop-turn-preserved g c =
       is_last = sym (last-more first next before.screens);
       draws = draws-more g.W.Sink first c.loop-turn.shown next before.screens _ _ _ _ before.draws
           (before.same ∙ before.is_last)
-          c.update_noted.ensures.text c.update_noted.ensures.only c.pass_on-in-Some.ensures;
+          c.update_noted_columns.ensures.added c.update_noted_columns.ensures.drawing c.pass_on-in-Some.ensures;
       shows = subst (λ l. Shows first l next) more shows;
       same = c.catch_up.ensures ∙ c.screen-in-Some.ensures;
       stands = subst (IsAfter front_of c.advance_texts.new.self) more (c.advance_texts.ensures.stands (joined before.pieces) before.stands);

@@ -8,9 +8,9 @@ use Rattle.screen_draw.proofs.noting.Noting.by_control.Goals as goal
 pub returns-then-scrolls : goal.returns-then-scrolls
 returns-then-scrolls c =
     let screen = c.args.self.now.screen in
-    let changed = c.args.self.now.changed in
+    let changed = c.args.before in
     subst (Widens (execute c.args.byte) screen changed) (sym c.all_rows.ensures) (widens-control c.args.byte screen changed)
 
 pub returns-else-scrolls : goal.returns-else-scrolls
 returns-else-scrolls c =
-    widens-still c.args.byte c.args.self.now.screen c.args.self.now.changed (sym c.scrolls.ensures ∙ c.if-scrolls.false)
+    widens-still c.args.byte c.args.self.now.screen c.args.before (sym c.scrolls.ensures ∙ c.if-scrolls.false)

@@ -9,13 +9,13 @@ use Rattle.screen_draw.proofs.noting.Noting.by_escape.Goals as goal
 
 pub returns-then-not-is_empty : goal.returns-then-not-is_empty
 returns-then-not-is_empty c = λ ignore.
-    widens-designated c.args.intermediates.now ignore c.args.final_byte c.args.self.now.screen c.args.self.now.changed
+    widens-designated c.args.intermediates.now ignore c.args.final_byte c.args.self.now.screen c.args.before
     (sym c.is_empty.ensures ∙ c.if-not-is_empty.true)
 
 pub returns-then-is_row_move : goal.returns-then-is_row_move
 returns-then-is_row_move c = λ ignore.
     let screen = c.args.self.now.screen in
-    let changed = c.args.self.now.changed in
+    let changed = c.args.before in
     subst (Widens (esc_dispatch c.args.intermediates.now ignore c.args.final_byte) screen changed) (sym c.all_rows.ensures)
     (subst (λ l. Widens (esc_dispatch l ignore c.args.final_byte) screen changed (with_rows 0 screen.display.height changed))
     (sym (none-there c.args.intermediates.now (sym c.is_empty.ensures ∙ c.if-not-is_empty.false)))
@@ -24,7 +24,7 @@ returns-then-is_row_move c = λ ignore.
 pub returns-else-changes_frame : goal.returns-else-changes_frame
 returns-else-changes_frame c = λ ignore.
     let screen = c.args.self.now.screen in
-    let changed = c.args.self.now.changed in
+    let changed = c.args.before in
     subst (λ l. Widens (esc_dispatch l ignore c.args.final_byte) screen changed changed)
     (sym (none-there c.args.intermediates.now (sym c.is_empty.ensures ∙ c.if-not-is_empty.false)))
     (widens-others ignore c.args.final_byte screen changed (sym c.is_row_move.ensures ∙ c.if-is_row_move.false)
@@ -32,5 +32,5 @@ returns-else-changes_frame c = λ ignore.
 
 pub returns-then-changes_frame : goal.returns-then-changes_frame
 returns-then-changes_frame c = λ ignore.
-    widens-all (esc_dispatch c.args.intermediates.now ignore c.args.final_byte) c.args.self.now.screen c.args.self.now.changed c.all.result
+    widens-all (esc_dispatch c.args.intermediates.now ignore c.args.final_byte) c.args.self.now.screen c.args.before c.all.result
     c.all.ensures.sized c.all.ensures.all

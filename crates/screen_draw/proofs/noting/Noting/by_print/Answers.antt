@@ -10,13 +10,13 @@ use Rattle.screen_draw.proofs.noting.Noting.by_print.Goals as goal
 pub returns-then-inserts : goal.returns-then-inserts
 returns-then-inserts c =
     let screen = c.args.self.now.screen in
-    let changed = c.args.self.now.changed in
+    let changed = c.args.before in
     subst (Widens (print c.args.c) screen changed) (sym c.all_rows.ensures) (widens-any c.args.c screen changed)
 
 pub returns-then-place-columns : goal.returns-then-place-columns
 returns-then-place-columns c =
     let screen = c.args.self.now.screen in
-    let changed = c.args.self.now.changed in
+    let changed = c.args.before in
     subst (Widens (print c.args.c) screen changed)
     (sym (c.with_rows.ensures
     ∙ (ap (λ n. with_rows n (c.cursor-place.result.row + 1) changed) c.first_row.ensures
@@ -28,7 +28,7 @@ returns-then-place-columns c =
 pub returns-then-has_room : goal.returns-then-has_room
 returns-then-has_room c =
     let screen = c.args.self.now.screen in
-    let changed = c.args.self.now.changed in
+    let changed = c.args.before in
     let room = c.if-has_room.true in
     subst (Widens (print c.args.c) screen changed)
     (sym (c.with_rows-then-has_room.ensures ∙ ap (λ (p : Place). with_rows p.row (p.row + 1) changed) c.cursor-place.ensures))
@@ -38,13 +38,13 @@ returns-then-has_room c =
 pub returns-else-not-is_at_bottom : goal.returns-else-not-is_at_bottom
 returns-else-not-is_at_bottom c =
     let screen = c.args.self.now.screen in
-    let changed = c.args.self.now.changed in
+    let changed = c.args.before in
     subst (Widens (print c.args.c) screen changed) (sym c.all_rows-else-not-is_at_bottom.ensures) (widens-any c.args.c screen changed)
 
 pub returns-then-is_apart : goal.returns-then-is_apart
 returns-then-is_apart c =
     let screen = c.args.self.now.screen in
-    let changed = c.args.self.now.changed in
+    let changed = c.args.before in
     let apart = c.if-is_apart.true in
     subst (Widens (print c.args.c) screen changed)
     (sym (c.with_rows-then-is_apart.ensures ∙ ap (λ (p : Place). with_rows p.row (p.row + 2) changed) c.cursor-place.ensures))

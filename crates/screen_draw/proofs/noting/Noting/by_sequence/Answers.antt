@@ -16,7 +16,7 @@ use Rattle.screen_draw.proofs.noting.Noting.by_sequence.Goals as goal
 pub returns-then-is_move : goal.returns-then-is_move
 returns-then-is_move c = λ ignore.
     let screen = c.args.self.now.screen in
-    let changed = c.args.self.now.changed in
+    let changed = c.args.before in
     let parts = and_parts (length c.args.intermediates.now == 0) (moves_alone (function_of c.args.final_byte)) (sym c.is_move.ensures ∙ c.if-is_move.true) in
     subst (λ l. Widens (csi_dispatch (groups_shown c.args.params.now) l ignore c.args.final_byte) screen changed changed)
     (sym (none-there c.args.intermediates.now parts.0))
@@ -25,7 +25,7 @@ returns-then-is_move c = λ ignore.
 pub returns-then-is_apart : goal.returns-then-is_apart
 returns-then-is_apart c = λ ignore.
     let screen = c.args.self.now.screen in
-    let changed = c.args.self.now.changed in
+    let changed = c.args.before in
     let apart = c.if-is_apart.true in
     let parts = and_parts (length c.args.intermediates.now == 0) (edits_row (function_of c.args.final_byte)) (sym c.is_row_edit.ensures ∙ c.if-is_row_edit.true) in
     subst (Widens (csi_dispatch (groups_shown c.args.params.now) c.args.intermediates.now ignore c.args.final_byte) screen changed)
@@ -37,7 +37,7 @@ returns-then-is_apart c = λ ignore.
 pub returns-then-is_edit : goal.returns-then-is_edit
 returns-then-is_edit c = λ ignore.
     let screen = c.args.self.now.screen in
-    let changed = c.args.self.now.changed in
+    let changed = c.args.before in
     let parts = and_parts (length c.args.intermediates.now == 0) (edits_cells (function_of c.args.final_byte)) (sym c.is_edit.ensures ∙ c.if-is_edit.true) in
     subst (Widens (csi_dispatch (groups_shown c.args.params.now) c.args.intermediates.now ignore c.args.final_byte) screen changed) (sym c.all_rows.ensures)
     (subst (λ l. Widens (csi_dispatch (groups_shown c.args.params.now) l ignore c.args.final_byte) screen changed (with_rows 0 screen.display.height changed))
@@ -45,10 +45,10 @@ returns-then-is_edit c = λ ignore.
 
 pub returns-then-modes_alone : goal.returns-then-modes_alone
 returns-then-modes_alone c = λ ignore.
-    widens-modes (groups_shown c.args.params.now) c.args.intermediates.now ignore c.args.final_byte c.args.self.now.screen c.args.self.now.changed
+    widens-modes (groups_shown c.args.params.now) c.args.intermediates.now ignore c.args.final_byte c.args.self.now.screen c.args.before
     (sym c.modes_alone.ensures ∙ c.if-modes_alone.true)
 
 pub returns-else-modes_alone : goal.returns-else-modes_alone
 returns-else-modes_alone c = λ ignore.
-    widens-all (csi_dispatch (groups_shown c.args.params.now) c.args.intermediates.now ignore c.args.final_byte) c.args.self.now.screen c.args.self.now.changed c.all.result
+    widens-all (csi_dispatch (groups_shown c.args.params.now) c.args.intermediates.now ignore c.args.final_byte) c.args.self.now.screen c.args.before c.all.result
     c.all.ensures.sized c.all.ensures.all

@@ -1,13 +1,16 @@
--- The cursor's row is noted.
-use Rattle.std.proofs.Common.{◌+◌, ap, ◌∙◌}
+-- The cursor's row is noted, and its columns.
+use Rattle.std.proofs.Common.{◌+◌, ◌-◌, length, ap, subst, ◌∙◌}
 use Rattle.ansi_screen.specs.declared.place.Place.{Place}
 use Rattle.screen_draw.specs.Changed.{with_rows}
+use Rattle.screen_draw.specs.Columns.{spans_of, NotesSpan}
 use Rattle.screen_draw.proofs.RowTextLemmas.{notes-row}
 use Rattle.screen_draw.proofs.noting.Noting.print_in_row.Goals as goal
 
 pub returns : goal.returns
 returns c =
     let old = c.args.self.now in
-    notes-row c.args.text.now old (record { screen = c.print_text.new.self; changed = c.with_rows-self.result })
+    notes-row c.args.text.now old (record { screen = c.print_text.new.self; changed = c.with_rows-self.result; columns = c.note.new.self })
     c.utf8.text c.columns.ensures.sized c.requires c.print_text.ensures
-    (c.with_rows-self.ensures ∙ ap (λ (p : Place). with_rows p.row (p.row + 1) old.changed) c.cursor-row.ensures)
+    (c.with_rows-self.ensures ∙ ap (λ (p : Place). with_rows p.row (p.row + 1) old.changed) c.cursor-place.ensures)
+    (subst (λ (p : Place). NotesSpan (spans_of old.columns) p.row (p.column - 2) (p.column + length c.args.text.now + 2) (spans_of c.note.new.self))
+    c.cursor-place.ensures c.note.ensures)

@@ -1,5 +1,10 @@
 -- What it can change is noted.
+use Rattle.anstyle_parse.specs.Stream.Call.{csi_dispatch}
+use Rattle.anstyle_parse.specs.Views.Params.{groups_shown}
+use Rattle.screen_draw.proofs.NotedLemmas.{notes-step}
 use Rattle.screen_draw.proofs.noting.NotingPerform.csi_dispatch.Goals as goal
 
 pub returns : goal.returns
-returns c = record { screen = c.csi_dispatch.ensures; noted = c.by_sequence-self.ensures c.args.ignore }
+returns c =
+    notes-step c.args.self.now c.note.new.self (csi_dispatch (groups_shown c.args.params.now) c.args.intermediates.now c.args.ignore c.args.action) c.csi_dispatch.new.self c.nothing.result c.by_sequence-step.result c.csi_dispatch.ensures c.note.ensures.screen
+    c.nothing.ensures.kept (c.by_sequence-step.ensures c.args.ignore) c.note.ensures.changed c.note.ensures.columns

@@ -1,0 +1,95 @@
+//! Which columns of each row can have changed.
+ghost use Rattle.std.specs.Prelude.{◌≡◌, ◌≤◌, ◌<◌, ℕ, List, length};
+ghost use Rattle.ansi_screen.specs.Display.{most_columns, most_rows};
+ghost use Rattle.ansi_screen.specs.declared.cell.Cell.{Cell};
+ghost use Rattle.screen_draw.specs.Columns.{KeepsColumns, span_at, KeepsSpan};
+
+/// As many columns as a screen has at most.
+const MOST_COLUMNS: u16 = 1000;
+
+/// As many rows as a screen has at most.
+const MOST_ROWS: usize = 1000;
+
+/// The columns from `left` up to `right`; none, where that is no more.
+#[derive(Clone, Copy)]
+pub(crate) struct Span {
+    pub(crate) left: u16,
+    pub(crate) right: u16,
+}
+
+const NONE: Span = Span {
+    left: MOST_COLUMNS,
+    right: 0,
+};
+
+const WHOLE: Span = Span {
+    left: 0,
+    right: MOST_COLUMNS,
+};
+
+/// The columns that can have changed, of each row.
+#[derive(Drop)]
+pub(crate) struct Columns {
+    spans: [Span; MOST_ROWS],
+}
+
+impl Columns {
+    ghost use Rattle.screen_draw.specs.Columns.{spans_of, NotesSpan, NotesRows};
+
+    /// None, of no row.
+    pub(crate) fn none() -> Columns
+        ensures { (row : ℕ) → row < most_rows → (span_at (spans_of result) row).right ≡ 0 }
+    {
+        Columns {
+            spans: [NONE; MOST_ROWS],
+        }
+    }
+
+    /// What can have changed, row by row.
+    pub(crate) fn spans(&self) -> &[Span]
+        ensures { result.now ≡ spans_of self.now }
+    {
+        &self.spans
+    }
+
+    /// The columns of a row from `left` up to `right` too.
+    pub(crate) fn note(&mut self, row: usize, left: usize, right: usize)
+        requires row { row < most_rows }
+        requires left { left ≤ most_columns }
+        requires right { right ≤ most_columns }
+        ensures { NotesSpan (spans_of self.old) row left right (spans_of self.new) }
+    {
+        let span = self.spans[row];
+        self.spans[row] = Span {
+            left: span.left.min(left as u16),
+            right: span.right.max(right as u16),
+        };
+    }
+
+    /// All columns of the rows from `first` up to `past` too.
+    pub(crate) fn note_rows(&mut self, first: usize, past: usize)
+        requires { past ≤ most_rows }
+        ensures { NotesRows (spans_of self.old) first past (spans_of self.new) }
+    {
+        for row in first..past {
+            self.spans[row] = WHOLE;
+        }
+    }
+}
+
+/// The columns of a row that can have changed, of so many: from the first answer up to the second. Where nothing is noted
+/// of the row, all can have.
+pub(crate) fn columns_of(spans: &[Span], row: usize, columns: usize) -> (usize, usize)
+    ensures order { result.0 ≤ result.1 }
+    ensures within { result.1 ≤ columns }
+    ensures kept { (olds news : List Cell) → length olds ≡ columns → length news ≡ columns
+        → KeepsSpan spans.now row olds news → KeepsColumns result.0 result.1 olds news }
+{
+    match spans.get(row) {
+        Some(span) => {
+            let right = usize::from(span.right).min(columns);
+            (usize::from(span.left).min(right), right)
+        }
+        None => (0, columns),
+    }
+}

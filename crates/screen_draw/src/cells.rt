@@ -31,26 +31,6 @@ impl Pen {
             style: Style::default(),
         }
     }
-
-    /// The pen behind a cell.
-    #[tactic(auto, unfolding(crate::specs::Draw::pen_behind))]
-    fn behind(self, cell: Cell) -> Pen
-        ensures { result ≡ pen_behind cell self }
-    {
-        if is_fresh(cell) {
-            Pen {
-                is_there: false,
-                ..self
-            }
-        } else if cell.is_right() {
-            self
-        } else {
-            Pen {
-                is_there: !is_erased(cell),
-                style: cell.style,
-            }
-        }
-    }
 }
 
 /// Whether the attributes are the same. They stand side by side, and are compared at once.
@@ -95,10 +75,10 @@ pub(crate) fn is_erased(cell: Cell) -> bool
 
 /// Whether the cell is as on a new screen.
 #[tactic(auto, unfolding(crate::specs::Draw::is_fresh))]
-fn is_fresh(cell: Cell) -> bool
-    ensures { result ≡ is_fresh cell }
+fn is_fresh(cell: &Cell) -> bool
+    ensures { result ≡ is_fresh cell.now }
 {
-    is_erased(cell) && is_same(&cell.style, &Style::default())
+    is_erased(*cell) && is_same(&cell.style, &Style::default())
 }
 
 /// The character; a space for one that shows nothing.
@@ -182,16 +162,34 @@ fn put_drawn<W: Sink>(output: &mut Output<W>, width: usize, place: usize, pen: P
     put_shown(output, cell);
 }
 
-/// Draws the cell at a place.
-#[tactic(auto, unfolding(crate::specs::Draw::cell_calls))]
-fn put_cell<W: Sink>(output: &mut Output<W>, width: usize, place: usize, pen: Pen, cell: Cell)
+/// Draws the cell at a place. The answer is the pen behind it.
+#[tactic(auto, unfolding(crate::specs::Draw::cell_calls, crate::specs::Draw::pen_behind))]
+fn put_cell<W: Sink>(
+    output: &mut Output<W>,
+    width: usize,
+    place: usize,
+    pen: Pen,
+    cell: &Cell,
+) -> Pen
     requires some { 0 < width }
     requires columns { width ≤ most_columns }
     requires rows { place / width < most_rows }
-    ensures { Draws W.Sink (cell_calls width place pen cell) output.old output.new }
+    ensures calls { Draws W.Sink (cell_calls width place pen cell.now) output.old output.new }
+    ensures pen { result ≡ pen_behind cell.now pen }
 {
-    if !is_fresh(cell) && !cell.is_right() {
-        put_drawn(output, width, place, pen, cell);
+    if is_fresh(cell) {
+        Pen {
+            is_there: false,
+            ..pen
+        }
+    } else if cell.is_right() {
+        pen
+    } else {
+        put_drawn(output, width, place, pen, *cell);
+        Pen {
+            is_there: !is_erased(*cell),
+            style: cell.style,
+        }
     }
 }
 
@@ -204,7 +202,6 @@ pub(crate) fn put_cells<W: Sink>(output: &mut Output<W>, width: usize, cells: &[
 {
     let mut pen = Pen::new();
     for (place, cell) in cells.iter().enumerate() {
-        put_cell(output, width, place, pen, *cell);
-        pen = pen.behind(*cell);
+        pen = put_cell(output, width, place, pen, cell);
     }
 }

@@ -8,6 +8,6 @@ loop-place-preserved g c =
     let inside = c.loop-place-test.true in
     let before = c.loop-place.invariant in (
       draws-cell g.W.Sink c.args.width first_pen c.loop-place.pen c.args.cells.now c.loop-place.place _
-          c.args.output.now c.loop-place.output c.put_cell.new.output inside before.1 before.0 c.put_cell.ensures,
-      pen-more first_pen c.loop-place.pen c.behind-pen.result c.args.cells.now c.loop-place.place _ inside before.1 c.behind-pen.ensures,
+          c.args.output.now c.loop-place.output c.put_cell-pen.new.output inside before.1 before.0 c.put_cell-pen.ensures.calls,
+      pen-more first_pen c.loop-place.pen c.put_cell-pen.result c.args.cells.now c.loop-place.place _ inside before.1 c.put_cell-pen.ensures.pen,
     )

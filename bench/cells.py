@@ -7,7 +7,7 @@ PROGRAM is the built ansi2screen (default: crates/ansi2screen/out/ansi2screen). 
 screen full of words comes first, and then pieces, each behind the update to the one before, that change a cell or two of
 a row, move the cursor, or change nothing by a sequence for which all rows are compared. What a piece costs more than none
 is divided by the cells of the screen. In the first figure reading the piece, the parser, both screens and the write are
-counted with the update; the second is what is executed inside of the call of `update_noted` alone, and of what it calls.
+counted with the update; the second is what is executed inside of the call of `update_noted_columns` alone, and of what it calls.
 """
 
 import argparse

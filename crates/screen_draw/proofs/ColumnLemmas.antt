@@ -1,6 +1,6 @@
 -- The columns of each row that can have changed, and those that surely have not.
-use Rattle.std.proofs.Common.{◌≡◌, ℕ, ◌+◌, ◌-◌, ◌*◌, ◌<◌, ◌≤◌, List, length, take, drop, set, refl, ap, sym, ◌∙◌, subst, arith, ⊎_elim}
-use Rattle.std.specs.Prelude.{min, max}
+use Rattle.std.proofs.Common.{◌≡◌, ℕ, ◌+◌, ◌-◌, ◌*◌, ◌<◌, ◌≤◌, List, length, take, drop, set, refl, ap, sym, ◌∙◌, subst, arith, ⊎_elim, [], Bool, true, false}
+use Rattle.std.specs.Prelude.{min, max, if◌then◌else◌}
 use Rattle.std.proofs.lemmas.Bool.{cases_lt}
 use Rattle.std.proofs.lemmas.List.{take-take, drop-drop, drop-take, drop_all, length-take, length-set, get_or-set_other}
 use Rattle.std.proofs.lemmas.Grind.{get_or-set_at}
@@ -10,7 +10,7 @@ use Rattle.ansi_screen.proofs.RowLemmas.{Same}
 use Rattle.screen_draw.specs.declared.changed.Changed.{Changed}
 use Rattle.screen_draw.specs.declared.columns.Span.{Span}
 use Rattle.screen_draw.specs.Changed.{Keeps}
-use Rattle.screen_draw.specs.Columns.{KeepsColumns, span_at, KeepsSpans, NotesRows}
+use Rattle.screen_draw.specs.Columns.{KeepsColumns, span_at, KeepsSpans, TracksRows}
 
 -- fewer cells are kept too
 pub columns-wider : (l r left right : ℕ) (olds news : List Cell) → left ≤ l → r ≤ right → KeepsColumns l r olds news
@@ -76,10 +76,10 @@ row-columns width row left right start end xs ys same narrow within from to =
 pub row-short : (row : ℕ) (d : Display) → length (row_cells row d) ≤ d.width
 row-short row d = omega (arith, length-take d.width (drop (row * d.width) d.cells))
 
--- Rows change, of which all columns are noted.
+-- Rows change, of which all columns are tracked.
 pub spans-rows : (olds news : List Span) (first changed : Changed) (past : ℕ) (s d e : Display) → IsSized e → Keeps first s d → Keeps changed d e
     → past ≡ min changed.past e.height
-    → NotesRows olds changed.first past news → KeepsSpans olds s d → KeepsSpans news s e
+    → TracksRows olds changed.first past news → KeepsSpans olds s d → KeepsSpans news s e
 spans-rows olds news first changed past s d e sized a b is_past notes columns = λ row inside noted.
     let old_row : row < d.height = subst (λ n. row < n) b.height inside in
     let stays : span_at news row ≡ span_at olds row → row_cells row e ≡ row_cells row d
@@ -100,7 +100,7 @@ spans-rows olds news first changed past s d e sized a b is_past notes columns = 
     (cases_lt row changed.first)
 
 -- rows, one after another
-pub rows-none : (spans : List Span) (first : ℕ) → NotesRows spans first first spans
+pub rows-none : (spans : List Span) (first : ℕ) → TracksRows spans first first spans
 rows-none spans first = record {
   left = λ row from less. absurd (omega arith);
   right = λ row from less. absurd (omega arith);
@@ -110,7 +110,7 @@ rows-none spans first = record {
 }
 
 pub rows-more : (olds news : List Span) (first row : ℕ) (whole : Span) → first ≤ row → row < length news → whole.left ≡ 0
-    → whole.right ≡ most_columns → NotesRows olds first row news → NotesRows olds first (row + 1) (set news row whole)
+    → whole.right ≡ most_columns → TracksRows olds first row news → TracksRows olds first (row + 1) (set news row whole)
 rows-more olds news first row whole from inside left right notes =
     let none : Span = record { left = most_columns; right = 0 } in
     let there : (k : ℕ) → k ≡ row → span_at (set news row whole) k ≡ whole =
@@ -131,8 +131,8 @@ rows-more olds news first row whole from inside left right notes =
       long = length-set news row whole ∙ notes.long;
     }
 
-pub rows-ended : (olds news : List Span) (first past row : ℕ) → past ≤ row → row ≤ max first past → NotesRows olds first row news
-    → NotesRows olds first past news
+pub rows-ended : (olds news : List Span) (first past row : ℕ) → past ≤ row → row ≤ max first past → TracksRows olds first row news
+    → TracksRows olds first past news
 rows-ended olds news first past row to most notes = record {
   left = λ k from less. notes.left k from (omega arith);
   right = λ k from less. notes.right k from (omega arith);
@@ -140,3 +140,14 @@ rows-ended olds news first past row to most notes = record {
   below = λ k more. ⊎_elim (λ (before : k < first). notes.above k before) (λ (at : first ≤ k). notes.below k (omega arith)) (cases_lt k first);
   long = notes.long;
 }
+
+-- where all columns of all rows can have changed, none is kept
+pub spans-all : (spans : List Span) (s d : Display) → spans ≡ [] → KeepsSpans spans s d
+spans-all spans s d none = λ row inside noted. let few : length spans ≡ 0 = ap length none in absurd (omega (arith, few, noted))
+
+pub spans-either : (a b : Bool) (olds news : List Span) (s d e : Display) → b ≡ a → (KeepsSpans olds s d → KeepsSpans news s e)
+    → KeepsSpans (if a then [] else olds) s d → KeepsSpans (if b then [] else news) s e
+spans-either true true olds news s d e same step columns = spans-all [] s e refl
+spans-either true false olds news s d e same step columns = cc same
+spans-either false true olds news s d e same step columns = cc same
+spans-either false false olds news s d e same step columns = step columns

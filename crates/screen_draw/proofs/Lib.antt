@@ -34,3 +34,4 @@ pub mod ModeLemmas
 pub mod SkippedLemmas
 pub mod RowTextLemmas
 pub mod NotedLemmas
+pub mod TrackedLemmas

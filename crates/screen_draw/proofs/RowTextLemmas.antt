@@ -22,15 +22,14 @@ use Rattle.ansi_screen.proofs.PrintedLemmas.{after-printing}
 use Rattle.ansi_screen.proofs.RangeLemmas.{two_columns-below}
 use Rattle.ansi_screen.proofs.RowLemmas.{drawn-if, Same, same-refl, same-trans}
 use Rattle.ansi_screen.proofs.WholeLemmas.{length-glyph}
-use Rattle.screen_draw.specs.declared.noting.Noting.{Noting}
+use Rattle.screen_draw.specs.declared.tracked.Tracked.{Tracked}
 use Rattle.screen_draw.specs.declared.changed.Changed.{Changed}
 use Rattle.screen_draw.specs.declared.columns.Span.{Span}
 use Rattle.screen_draw.specs.Changed.{Keeps, with_rows}
-use Rattle.screen_draw.specs.Columns.{KeepsColumns, span_at, KeepsSpans, NotesSpan}
-use Rattle.screen_draw.specs.Noting.{screen_of, changed_of, columns_of}
-use Rattle.screen_draw.specs.NotedTexts.{NotesAll, FitsInRow, notes-none, notes-more}
+use Rattle.screen_draw.specs.Columns.{KeepsColumns, span_at, spans_of, KeepsSpans, TracksSpan}
+use Rattle.screen_draw.specs.Tracked.{TracksAll, FitsInRow, tracks-none, tracks-more}
 use Rattle.screen_draw.proofs.ChangedLemmas.{Within, framed-refl, framed-trans, row-fits, same-wider, keeps-within}
-use Rattle.screen_draw.proofs.ColumnLemmas.{columns-wider, columns-trans, row-columns}
+use Rattle.screen_draw.proofs.ColumnLemmas.{columns-wider, columns-trans, row-columns, spans-either}
 use Rattle.screen_draw.proofs.NotingLemmas.{same-marked_at, same-changed, same-far, within-far}
 
 -- A character has no more columns than bytes.
@@ -247,9 +246,9 @@ within-text text s utf8 sized room =
     subst (Within d.cursor.row (d.cursor.row + 1) d) (sym (ap (λ (e : State). e.display) (after-printing (chars text) s)))
     (within-all (chars text) d sized (subst (λ l. FitsInRow (length l) d) (sym (encodes-chars text utf8)) room))
 
--- The columns from two before the cursor on, up to two behind the text, are noted of its row.
+-- The columns from two before the cursor on, up to two behind the text, are tracked of its row.
 columns-text : (text : List ℕ) (s : State) (olds news : List Span) (shown : Display) → IsUtf8 text → IsSized s.display → FitsInRow (length text) s.display
-    → NotesSpan olds s.display.cursor.row (s.display.cursor.column - 2) (s.display.cursor.column + length text + 2) news
+    → TracksSpan olds s.display.cursor.row (s.display.cursor.column - 2) (s.display.cursor.column + length text + 2) news
     → KeepsSpans olds shown s.display → KeepsSpans news shown (after_all (text_calls text) s).display
 columns-text text s olds news shown utf8 sized room notes columns = λ row inside noted.
     let d : Display = s.display in
@@ -289,47 +288,49 @@ columns-text text s olds news shown utf8 sized room notes columns = λ row insid
     (cases_lt row (r + 1)))
     (cases_lt row r)
 
--- What is noted then.
-pub notes-row : (text : List ℕ) (old new : Noting) → IsUtf8 text → IsSized (screen_of old).display → FitsInRow (length text) (screen_of old).display
-    → screen_of new ≡ after_all (text_calls text) (screen_of old)
-    → changed_of new ≡ with_rows (screen_of old).display.cursor.row ((screen_of old).display.cursor.row + 1) (changed_of old)
-    → NotesSpan (columns_of old) (screen_of old).display.cursor.row ((screen_of old).display.cursor.column - 2)
-    ((screen_of old).display.cursor.column + length text + 2) (columns_of new)
-    → NotesAll old (text_calls text) new
-notes-row text old new utf8 sized room screen changed columns =
-    let d : Display = (screen_of old).display in
+-- What is tracked then.
+pub tracks-row : (text : List ℕ) (old new : Tracked) → IsUtf8 text → IsSized old.screen.display → FitsInRow (length text) old.screen.display
+    → new.screen ≡ after_all (text_calls text) old.screen
+    → new.changed ≡ with_rows old.screen.display.cursor.row (old.screen.display.cursor.row + 1) old.changed
+    → new.columns.are_all ≡ old.columns.are_all
+    → TracksSpan old.columns.spans old.screen.display.cursor.row (old.screen.display.cursor.column - 2)
+    (old.screen.display.cursor.column + length text + 2) new.columns.spans
+    → TracksAll old (text_calls text) new
+tracks-row text old new utf8 sized room screen changed all span =
+    let d : Display = old.screen.display in
+    let e : Display = (after_all (text_calls text) old.screen).display in
     record {
-      columns = λ shown keeps before.
-          subst (λ (s : State). KeepsSpans (columns_of new) shown s.display) (sym screen)
-          (columns-text text (screen_of old) (columns_of old) (columns_of new) shown utf8 sized room columns before);
       screen = screen;
-      noted = λ shown keeps.
-          subst (λ (s : State). Keeps (changed_of new) shown s.display) (sym screen)
-          (subst (λ (n : Changed). Keeps n shown (after_all (text_calls text) (screen_of old)).display) (sym changed)
-          (keeps-within d.cursor.row (d.cursor.row + 1) (changed_of old) shown d (after_all (text_calls text) (screen_of old)).display
-          (within-text text (screen_of old) utf8 sized room) keeps));
+      changed = λ shown keeps.
+          subst (λ (s : State). Keeps new.changed shown s.display) (sym screen)
+          (subst (λ (n : Changed). Keeps n shown e) (sym changed)
+          (keeps-within d.cursor.row (d.cursor.row + 1) old.changed shown d e (within-text text old.screen utf8 sized room) keeps));
+      columns = λ shown keeps before.
+          subst (λ (s : State). KeepsSpans (spans_of new.columns) shown s.display) (sym screen)
+          (spans-either old.columns.are_all new.columns.are_all old.columns.spans new.columns.spans shown d e all
+          (columns-text text old.screen old.columns.spans new.columns.spans shown utf8 sized room span) before);
     }
 
 -- A text is printed, up to what is left of it.
-pub record Printed (text : List ℕ) (first : Noting) (rest : List ℕ) (noting : Noting) : Type 0 where
+pub record Printed (text : List ℕ) (first : Tracked) (rest : List ℕ) (noting : Tracked) : Type 0 where
   pub passed : List ℕ
   pub utf8 : IsUtf8 passed
   pub rest_utf8 : IsUtf8 rest
   pub joined : text ≡ passed ++ rest
-  pub noted : NotesAll first (text_calls passed) noting
+  pub noted : TracksAll first (text_calls passed) noting
 
-pub printed-none : (text : List ℕ) (first : Noting) → IsUtf8 text → Printed text first text first
+pub printed-none : (text : List ℕ) (first : Tracked) → IsUtf8 text → Printed text first text first
 printed-none text first utf8 = record {
   passed = [];
   utf8 = IsUtf8-nil;
   rest_utf8 = utf8;
   joined = refl;
-  noted = subst (λ calls. NotesAll first calls first) (sym (ap (map print) chars-nil)) (notes-none first);
+  noted = subst (λ calls. TracksAll first calls first) (sym (ap (map print) chars-nil)) (tracks-none first);
 }
 
 -- a part more
-pub printed-more : (text rest front behind : List ℕ) (n : ℕ) (first before after : Noting) → Printed text first rest before
-    → IsCharBoundary rest n → front ≡ take n rest → behind ≡ drop n rest → NotesAll before (text_calls front) after
+pub printed-more : (text rest front behind : List ℕ) (n : ℕ) (first before after : Tracked) → Printed text first rest before
+    → IsCharBoundary rest n → front ≡ take n rest → behind ≡ drop n rest → TracksAll before (text_calls front) after
     → Printed text first behind after
 printed-more text rest front behind n first before after printed boundary is_front is_behind noted =
     let both : rest ≡ front ++ behind = sym (take-append-drop n rest) ∙ ap₂ (λ a b. a ++ b) (sym is_front) (sym is_behind) in
@@ -339,6 +340,6 @@ printed-more text rest front behind n first before after printed boundary is_fro
           (subst IsUtf8 (sym is_front) (IsUtf8-take rest n printed.rest_utf8 boundary));
       rest_utf8 = subst IsUtf8 (sym is_behind) (IsUtf8-drop rest n printed.rest_utf8 boundary);
       joined = printed.joined ∙ (ap (λ l. printed.passed ++ l) both ∙ sym (append_assoc printed.passed front behind));
-      noted = subst (λ calls. NotesAll first calls after) (sym (text_calls-append printed.passed front printed.utf8))
-          (notes-more first before after (text_calls printed.passed) (text_calls front) printed.noted noted);
+      noted = subst (λ calls. TracksAll first calls after) (sym (text_calls-append printed.passed front printed.utf8))
+          (tracks-more first before after (text_calls printed.passed) (text_calls front) printed.noted noted);
     }

@@ -1,5 +1,5 @@
 -- What can have changed of a screen since another one: rows from one up to another, and its frame.
-use Rattle.std.specs.Prelude.{◌≡◌, ◌<◌, ◌≤◌, ◌-◌, ℕ, Bool, min, max, false}
+use Rattle.std.specs.Prelude.{◌≡◌, ◌<◌, ◌≤◌, ◌-◌, ◌||◌, ℕ, Bool, min, max, false}
 use Rattle.anstyle_parse.specs.Stream.Call.{Call}
 use Rattle.ansi_screen.specs.Cells.{is_right, cell_at}
 use Rattle.ansi_screen.specs.Display.{Display, row_cells, row_end}
@@ -28,6 +28,14 @@ pub record Keeps (changed : Changed) (old new : Display) : Type 0 where
 -- these rows too, from one up to another
 abbrev pub with_rows : ℕ → ℕ → Changed → Changed
 with_rows first past changed = record changed { first = min changed.first first; past = max changed.past past }
+
+-- what one change or another one has
+abbrev pub both : Changed → Changed → Changed
+both first second = record {
+  first = min first.first second.first;
+  past = max first.past second.past;
+  is_framed = first.is_framed || second.is_framed;
+}
 
 -- What a display has kept of another before a call, it has kept behind the call too, but for what can have changed
 -- then.

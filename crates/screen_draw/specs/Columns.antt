@@ -1,33 +1,24 @@
 -- Which columns of each row can have changed.
-use Rattle.std.specs.Prelude.{◌≡◌, ◌<◌, ◌≤◌, ℕ, ◌||◌, min, max, List, length, take, drop, get_or}
+use Rattle.std.specs.Prelude.{◌≡◌, ◌<◌, ◌≤◌, ℕ, List, [], length, take, drop, get_or, if◌then◌else◌}
 use Rattle.ansi_screen.specs.declared.cell.Cell.{Cell}
 use Rattle.ansi_screen.specs.Display.{Display, row_cells, most_columns}
-use Rattle.screen_draw.specs.declared.changed.Changed.{Changed}
 use Rattle.screen_draw.specs.declared.columns.Columns.{Columns}
 use Rattle.screen_draw.specs.declared.columns.Span.{Span}
-
--- what one change has, and another
-abbrev pub both : Changed → Changed → Changed
-both first second = record {
-  first = min first.first second.first;
-  past = max first.past second.past;
-  is_framed = first.is_framed || second.is_framed;
-}
 
 -- A row has kept its cells before one column, and those from another one on.
 pub record KeepsColumns (left right : ℕ) (olds news : List Cell) : Type 0 where
   pub front : take left news ≡ take left olds
   pub back : drop right news ≡ drop right olds
 
--- what is noted, row by row
+-- what is tracked, row by row: nothing, where all columns of all rows can have changed
 abbrev pub spans_of : Columns → List Span
-spans_of columns = columns.spans
+spans_of columns = if columns.are_all then [] else columns.spans
 
--- what is noted of a row
+-- what is tracked of a row
 abbrev pub span_at : List Span → ℕ → Span
 span_at spans row = get_or spans row (record { left = most_columns; right = 0 })
 
--- A row has kept its cells but for the columns that are noted, where something is noted of it.
+-- Where the list has a span for the row, the row has kept its cells but for the columns of that span.
 abbrev pub KeepsSpan : List Span → (row : ℕ) → (olds news : List Cell) → Type 0
 KeepsSpan spans row olds news =
     row < length spans → KeepsColumns (span_at spans row).left (span_at spans row).right olds news
@@ -36,8 +27,8 @@ KeepsSpan spans row olds news =
 abbrev pub KeepsSpans : List Span → (old new : Display) → Type 0
 KeepsSpans spans old new = (row : ℕ) → row < new.height → KeepsSpan spans row (row_cells row old) (row_cells row new)
 
--- The columns of a row from one up to another are noted too: no less of it, and of other rows as much.
-pub record NotesSpan (olds : List Span) (row left right : ℕ) (news : List Span) : Type 0 where
+-- The columns of a row from one up to another are tracked too: no less of it, and of other rows as much.
+pub record TracksSpan (olds : List Span) (row left right : ℕ) (news : List Span) : Type 0 where
   pub from : (span_at news row).left ≤ left
   pub to : right ≤ (span_at news row).right
   pub kept_left : (span_at news row).left ≤ (span_at olds row).left
@@ -45,8 +36,8 @@ pub record NotesSpan (olds : List Span) (row left right : ℕ) (news : List Span
   pub others : (other : ℕ) → (other ≡ row → ⊥) → span_at news other ≡ span_at olds other
   pub long : length news ≡ length olds
 
--- All columns are noted of the rows from one up to another, and of other rows as much as before.
-pub record NotesRows (olds : List Span) (first past : ℕ) (news : List Span) : Type 0 where
+-- All columns are tracked of the rows from one up to another, and of other rows as much as before.
+pub record TracksRows (olds : List Span) (first past : ℕ) (news : List Span) : Type 0 where
   pub left : (row : ℕ) → first ≤ row → row < past → (span_at news row).left ≡ 0
   pub right : (row : ℕ) → first ≤ row → row < past → (span_at news row).right ≡ most_columns
   pub above : (row : ℕ) → row < first → span_at news row ≡ span_at olds row

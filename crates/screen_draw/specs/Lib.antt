@@ -7,6 +7,7 @@ pub mod Drawing
 pub mod Laws
 pub mod Noting
 pub mod NotedTexts
+pub mod Tracked
 pub mod Redrawn
 pub mod Update
 pub mod Updates

@@ -12,8 +12,7 @@ pub(crate) struct Changed {
 
 impl Changed {
     ghost use Rattle.ansi_screen.specs.Display.{Display};
-    ghost use Rattle.screen_draw.specs.Changed.{Keeps, with_rows};
-    ghost use Rattle.screen_draw.specs.Columns.{both};
+    ghost use Rattle.screen_draw.specs.Changed.{Keeps, with_rows, both};
 
     /// Nothing of a screen of so many rows.
     pub(crate) fn nothing(rows: usize) -> Changed

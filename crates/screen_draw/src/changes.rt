@@ -131,8 +131,8 @@ impl Brush {
     }
 }
 
-/// Whether a cell that is not erased already is to be drawn: it differs, and is no right half, which comes with its left
-/// one.
+/// Whether a cell that is not erased already is to be drawn: it differs, and is no right half, which comes with its
+/// left one.
 #[inline(always)]
 fn differs(old: &Cell, new: &Cell) -> bool
     ensures { result ≡ not (is_right new.now.part || are_alike old.now new.now) }

@@ -1,5 +1,5 @@
 //! Which columns of each row can have changed.
-ghost use Rattle.std.specs.Prelude.{◌≡◌, ◌≤◌, ◌<◌, ℕ, List, length};
+ghost use Rattle.std.specs.Prelude.{◌≡◌, ◌≤◌, ◌<◌, ℕ, [], List, length};
 ghost use Rattle.ansi_screen.specs.Display.{most_columns, most_rows};
 ghost use Rattle.ansi_screen.specs.declared.cell.Cell.{Cell};
 ghost use Rattle.screen_draw.specs.Columns.{KeepsColumns, span_at, KeepsSpan};
@@ -10,7 +10,7 @@ const MOST_COLUMNS: u16 = 1000;
 /// As many rows as a screen has at most.
 const MOST_ROWS: usize = 1000;
 
-/// The columns from `left` up to `right`; none, where that is no more.
+/// The columns from `left` up to `right`; none, where `right` is not greater than `left`.
 #[derive(Clone, Copy)]
 pub(crate) struct Span {
     pub(crate) left: u16,
@@ -30,34 +30,49 @@ const WHOLE: Span = Span {
 /// The columns that can have changed, of each row.
 #[derive(Drop)]
 pub(crate) struct Columns {
+    /// All columns of all rows can have changed, whatever the spans are.
+    are_all: bool,
     spans: [Span; MOST_ROWS],
 }
 
 impl Columns {
-    ghost use Rattle.screen_draw.specs.Columns.{spans_of, NotesSpan, NotesRows};
+    ghost use Rattle.screen_draw.specs.Columns.{spans_of, TracksSpan, TracksRows};
 
-    /// None, of no row.
+    /// No column of any row.
     pub(crate) fn none() -> Columns
-        ensures { (row : ℕ) → row < most_rows → (span_at (spans_of result) row).right ≡ 0 }
+        ensures rows { most_rows ≤ length (spans_of result) }
+        ensures none { (row : ℕ) → row < most_rows → (span_at (spans_of result) row).right ≡ 0 }
     {
         Columns {
+            are_all: false,
             spans: [NONE; MOST_ROWS],
         }
     }
 
-    /// What can have changed, row by row.
+    /// All columns of all rows.
+    pub(crate) fn all() -> Columns
+        ensures { spans_of result ≡ [] }
+    {
+        Columns {
+            are_all: true,
+            spans: [NONE; MOST_ROWS],
+        }
+    }
+
+    /// The columns that can have changed, row by row; of no row, where all columns of all rows can have.
     pub(crate) fn spans(&self) -> &[Span]
         ensures { result.now ≡ spans_of self.now }
     {
-        &self.spans
+        if self.are_all { &[] } else { &self.spans }
     }
 
     /// The columns of a row from `left` up to `right` too.
-    pub(crate) fn note(&mut self, row: usize, left: usize, right: usize)
+    pub(crate) fn track(&mut self, row: usize, left: usize, right: usize)
         requires row { row < most_rows }
         requires left { left ≤ most_columns }
         requires right { right ≤ most_columns }
-        ensures { NotesSpan (spans_of self.old) row left right (spans_of self.new) }
+        ensures all { self.new.are_all ≡ self.old.are_all }
+        ensures span { TracksSpan self.old.spans row left right self.new.spans }
     {
         let span = self.spans[row];
         self.spans[row] = Span {
@@ -67,9 +82,10 @@ impl Columns {
     }
 
     /// All columns of the rows from `first` up to `past` too.
-    pub(crate) fn note_rows(&mut self, first: usize, past: usize)
+    pub(crate) fn track_rows(&mut self, first: usize, past: usize)
         requires { past ≤ most_rows }
-        ensures { NotesRows (spans_of self.old) first past (spans_of self.new) }
+        ensures all { self.new.are_all ≡ self.old.are_all }
+        ensures rows { TracksRows self.old.spans first past self.new.spans }
     {
         for row in first..past {
             self.spans[row] = WHOLE;
@@ -77,8 +93,8 @@ impl Columns {
     }
 }
 
-/// The columns of a row that can have changed, of so many: from the first answer up to the second. Where nothing is noted
-/// of the row, all can have.
+/// The columns of a row of so many that can have changed: from the first answer up to the second. All, where the list
+/// has no span for the row.
 pub(crate) fn columns_of(spans: &[Span], row: usize, columns: usize) -> (usize, usize)
     ensures order { result.0 ≤ result.1 }
     ensures within { result.1 ≤ columns }

@@ -22,6 +22,7 @@ mod noting;
 mod places;
 mod rest;
 mod showing;
+mod tracked;
 mod updates;
 mod whole;
 
@@ -32,7 +33,8 @@ ghost use Rattle.anstyle_parse.specs.Stream.Canon.{canon};
 ghost use Rattle.screen_draw.specs.Bound.{draw_bound, update_bound};
 ghost use Rattle.screen_draw.specs.Draw.{drawn_calls};
 ghost use Rattle.screen_draw.specs.Drawing.{IsDrawing, HaveNoReset, Draws};
-ghost use Rattle.screen_draw.specs.Noting.{display_of, HasNoted, HasNotedColumns};
+ghost use Rattle.screen_draw.specs.Noting.{display_of, HasNoted};
+ghost use Rattle.screen_draw.specs.Tracked.{HasTracked, HasTrackedColumns};
 ghost use Rattle.screen_draw.specs.Redrawn.{as_shown, drawn_state};
 ghost use Rattle.screen_draw.specs.Update.{update_calls};
 ghost use Rattle.ansi_screen.specs.After.{State, Shows};
@@ -46,6 +48,7 @@ use anstyle_parse::io::{Output, Sink};
 use changed::Changed;
 pub use noting::Noting;
 pub use showing::{Form, show_to_end};
+use tracked::Tracked;
 pub use updates::update_to_end;
 use whole::{put_all, put_update};
 
@@ -129,8 +132,6 @@ pub fn update<W: Sink>(shown: &Screen, wanted: &Screen, output: &mut Output<W>)
 /// All has to be noted in which what is wanted differs from what is shown. So it is where both have the same size and
 /// nothing was forgotten; and where both were the same when [`Noting::forget`] was called, whatever `wanted` has taken
 /// since ([`laws::noted`]).
-// Out of line `bench/cells.py` finds it, and counts what it alone takes.
-#[inline(never)]
 pub fn update_noted<W: Sink>(shown: &Screen, wanted: &Noting, output: &mut Output<W>)
     requires noted { HasNoted wanted.now shown.now.display }
 
@@ -161,19 +162,23 @@ pub fn update_noted<W: Sink>(shown: &Screen, wanted: &Noting, output: &mut Outpu
     put_update(output, shown, wanted.screen(), wanted.changed(), &[]);
 }
 
-/// Writes what [`update`] writes, and compares of each row those columns alone that were noted.
-// Out of line, as `update_noted` is.
+/// Writes what [`update`] writes, and compares of each row those columns alone that can have changed.
+// Out of line `bench/cells.py` finds it, and counts what it alone takes.
 #[inline(never)]
-pub(crate) fn update_noted_columns<W: Sink>(shown: &Screen, wanted: &Noting, output: &mut Output<W>)
-    requires rows { HasNoted wanted.now shown.now.display }
-    requires columns { HasNotedColumns wanted.now shown.now.display }
-    ensures { Draws W.Sink (update_calls shown.now.display (display_of wanted.now)) output.old output.new }
+pub(crate) fn update_noted_columns<W: Sink>(
+    shown: &Screen,
+    wanted: &Tracked,
+    output: &mut Output<W>,
+)
+    requires rows { HasTracked wanted.now shown.now.display }
+    requires columns { HasTrackedColumns wanted.now shown.now.display }
+    ensures { Draws W.Sink (update_calls shown.now.display wanted.now.screen.display) output.old output.new }
 {
     put_update(
         output,
         shown,
         wanted.screen(),
         wanted.changed(),
-        wanted.columns(),
+        wanted.spans(),
     );
 }

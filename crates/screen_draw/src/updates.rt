@@ -17,8 +17,8 @@ const PIECE: usize = 65_536;
 /// to, until the reader ends or fails or a write fails, of which none has before. What was written is handed on before
 /// the next read. At most 2^64 - 1 reads are made. No memory is taken.
 ///
-/// Of the rows only those are compared, and then copied, that the bytes of a read can have changed, and of these the
-/// columns compared alone that can have. Each byte is given to one parser, once.
+/// Of the rows only those are compared, and then copied, that the bytes of a read can have changed; of such a row only
+/// the columns are compared that can have changed. Each byte is given to one parser, once.
 ///
 /// Both screens are the one that is drawn first; in the end `wanted` has the last one. `Err(Fault::Write)` means
 /// that a write failed, and nothing was read after it; `Err(Fault::Read)` that a read failed, or that 2^64 - 1
@@ -48,14 +48,14 @@ pub fn update_to_end<R: Source, W: Sink>(
             None => return Err(Fault::Read),
             Some(0) => return Ok(()),
             Some(count) => {
-                wanted.forget();
-                parser.advance_texts(wanted, &piece[..count]);
-                update_noted_columns(shown, wanted, output);
+                wanted.tracked.forget();
+                parser.advance_texts(&mut wanted.tracked, &piece[..count]);
+                update_noted_columns(shown, &wanted.tracked, output);
                 output.pass_on();
                 if output.fault().is_some() {
                     return Err(Fault::Write);
                 }
-                let changed = wanted.changed();
+                let changed = wanted.tracked.changed();
                 shown.catch_up(
                     wanted.screen(),
                     changed.first,

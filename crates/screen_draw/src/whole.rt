@@ -54,7 +54,7 @@ pub(crate) fn put_all<W: Sink>(output: &mut Output<W>, screen: &Screen)
 }
 
 /// Draws what differs; all, where more differs than cells, margins, the cursor, DECAWM and DECTCEM. Of the rows only
-/// those are compared that can have changed, and of these the columns that can have.
+/// those are compared that can have changed, and of such a row only the columns that can have changed.
 pub(crate) fn put_update<W: Sink>(
     output: &mut Output<W>,
     shown: &Screen,

@@ -16,7 +16,7 @@ put_update-requires g c =
     let a = c.args.shown.now.display in
     record {
       rows = subst (λ (s : State). Keeps c.changed.result a s.display) (sym c.screen.ensures)
-          (subst (λ (changed : Changed). Keeps changed a c.args.wanted.now.screen.display) (sym c.changed.ensures) c.requires.noted);
+          (subst (λ (changed : Changed). Keeps changed a c.args.wanted.now.tracked.screen.display) (sym c.changed.ensures) c.requires.noted);
       columns = λ row inside noted. absurd (omega (arith, noted));
     }
 
@@ -25,27 +25,27 @@ returns-clause-text g c = (draws-wanted g.W.Sink c.args.shown.now.display _ _ _ 
 
 pub returns-clause-made : goal.returns-clause-made
 returns-clause-made g c =
-    let calls = update_calls c.args.shown.now.display c.args.wanted.now.screen.display in
+    let calls = update_calls c.args.shown.now.display c.args.wanted.now.tracked.screen.display in
     replay calls (drawing-lawful calls (draws-wanted g.W.Sink c.args.shown.now.display _ _ _ _ c.screen.ensures c.put_update.ensures).drawing)
 
 pub returns-clause-lawful : goal.returns-clause-lawful
 returns-clause-lawful g c =
-    drawing-lawful (update_calls c.args.shown.now.display c.args.wanted.now.screen.display)
+    drawing-lawful (update_calls c.args.shown.now.display c.args.wanted.now.tracked.screen.display)
     (draws-wanted g.W.Sink c.args.shown.now.display _ _ _ _ c.screen.ensures c.put_update.ensures).drawing
 
 pub returns-clause-only : goal.returns-clause-only
 returns-clause-only g c = (draws-wanted g.W.Sink c.args.shown.now.display _ _ _ _ c.screen.ensures c.put_update.ensures).drawing
 
 pub returns-clause-no_reset : goal.returns-clause-no_reset
-returns-clause-no_reset g c = no-reset c.args.shown.now.display c.args.wanted.now.screen.display
+returns-clause-no_reset g c = no-reset c.args.shown.now.display c.args.wanted.now.tracked.screen.display
 
 pub returns-clause-updated : goal.returns-clause-updated
 returns-clause-updated g c = λ old new from has to gets is shows.
-    updated-shows c.args.shown.now.display c.args.wanted.now.screen.display old new
+    updated-shows c.args.shown.now.display c.args.wanted.now.tracked.screen.display old new
     (draws-wanted g.W.Sink c.args.shown.now.display _ _ _ _ c.screen.ensures c.put_update.ensures).drawing
     (sym c.requires.noted.width) (sym c.requires.noted.height) from has to gets is shows
 
 pub returns-clause-bound : goal.returns-clause-bound
 returns-clause-bound g c = λ sized.
-    update-bound c.args.shown.now.display c.args.wanted.now.screen.display sized
+    update-bound c.args.shown.now.display c.args.wanted.now.tracked.screen.display sized
     (draws-wanted g.W.Sink c.args.shown.now.display _ _ _ _ c.screen.ensures c.put_update.ensures).drawing

@@ -14,14 +14,14 @@ use Rattle.screen_draw.specs.Draw.{drawn_calls}
 use Rattle.screen_draw.specs.Drawing.{Draws}
 use Rattle.screen_draw.specs.Update.{update_calls}
 use Rattle.screen_draw.specs.Updates.{IsPiece, joined}
-use Rattle.screen_draw.specs.Noting.{HasNoted, HasNotedColumns}
-use Rattle.screen_draw.proofs.NotedLemmas.{noted-shows}
+use Rattle.screen_draw.specs.Tracked.{HasTracked, HasTrackedColumns}
+use Rattle.screen_draw.proofs.TrackedLemmas.{tracked-shows}
 use Rattle.screen_draw.proofs.UpdatesLemmas.{joined-more, last-more, pieces-more, screens-more, text-passed-on, no-updates, begins, draws-more, write-fault, follows, near-noted}
 use Rattle.screen_draw.proofs.updates.update_to_end.Goals as goal
 
 pub returns-then-is_some : goal.returns-then-is_some
 returns-then-is_some g c =
-    let first = c.args.wanted.now.screen in
+    let first = c.args.wanted.now.tracked.screen in
     let drawn : Draws g.W.Sink (drawn_calls first.display) c.args.output.now c.pass_on.new.self =
     begins g.W.Sink c.args.shown.now first _ _ _ c.requires.same c.draw.ensures.text c.draw.ensures.only c.pass_on.ensures in
     follows g.R.Source g.W.Sink _ _ first first c.args.output.now c.pass_on.new.self c.pass_on.new.self _ [] []
@@ -52,10 +52,10 @@ loop-turn-init g c = record {
 pub returns-in-None : goal.returns-in-None
 returns-in-None g c =
     let before = c.loop-turn.invariant in
-    follows g.R.Source g.W.Sink _ _ c.args.wanted.now.screen c.loop-turn.wanted.screen c.args.output.now c.pass_on.new.self c.loop-turn.output _ before.pieces before.screens
+    follows g.R.Source g.W.Sink _ _ c.args.wanted.now.tracked.screen c.loop-turn.wanted.tracked.screen c.args.output.now c.pass_on.new.self c.loop-turn.output _ before.pieces before.screens
     (Consumes-kept _ _ _ (joined before.pieces) before.consumed c.in-None.ensures.nothing_passed)
     before.each before.are_screens before.is_last
-    (begins g.W.Sink c.args.shown.now c.args.wanted.now.screen _ _ _ c.requires.same c.draw.ensures.text c.draw.ensures.only c.pass_on.ensures)
+    (begins g.W.Sink c.args.shown.now c.args.wanted.now.tracked.screen _ _ _ c.requires.same c.draw.ensures.text c.draw.ensures.only c.pass_on.ensures)
     before.draws (before.no_fault, inl c.in-None.ensures.failed)
 
 pub returns-in-Some-eq0 : goal.returns-in-Some-eq0
@@ -65,32 +65,31 @@ returns-in-Some-eq0 g c =
     subst (λ n. Consumes (g.R.Source.remaining c.loop-turn.reader) (g.R.Source.remaining c.read.new.self) (take n c.read.new.into))
     c.in-Some-eq0.field-0-test c.in-Some-eq0.ensures.passed in
     let room : 0 < length c.read.new.into = omega (arith, c.read.auto.into, before.room) in
-    follows g.R.Source g.W.Sink _ _ c.args.wanted.now.screen c.loop-turn.wanted.screen c.args.output.now c.pass_on.new.self c.loop-turn.output _ before.pieces before.screens
+    follows g.R.Source g.W.Sink _ _ c.args.wanted.now.tracked.screen c.loop-turn.wanted.tracked.screen c.args.output.now c.pass_on.new.self c.loop-turn.output _ before.pieces before.screens
     (subst (Consumes (g.R.Source.remaining c.args.reader.now) (g.R.Source.remaining c.read.new.self)) (append-nil (joined before.pieces))
     (Consumes-trans _ _ _ (joined before.pieces) [] before.consumed none))
     before.each before.are_screens before.is_last
-    (begins g.W.Sink c.args.shown.now c.args.wanted.now.screen _ _ _ c.requires.same c.draw.ensures.text c.draw.ensures.only c.pass_on.ensures)
+    (begins g.W.Sink c.args.shown.now c.args.wanted.now.tracked.screen _ _ _ c.requires.same c.draw.ensures.text c.draw.ensures.only c.pass_on.ensures)
     before.draws (before.no_fault, (λ zero. c.in-Some-eq0.ensures.end c.in-Some-eq0.field-0-test room zero, c.in-Some-eq0.ensures.not_failed ∙ before.not_failed))
 
 pub update_noted_columns-requires : goal.update_noted_columns-requires
 update_noted_columns-requires g c =
-    let before = c.loop-turn.invariant in
     let old = c.forget.new.self in
-    let same : c.loop-turn.shown ≡ old.screen = before.same ∙ sym c.forget.ensures.screen in
-    let rows : HasNoted old c.loop-turn.shown.display = subst (λ (s : State). HasNoted old s.display) (sym same) c.forget.ensures.shown in
+    let same : c.loop-turn.shown ≡ old.screen = c.loop-turn.invariant.same ∙ sym c.forget.ensures.screen in
+    let rows = subst (λ (s : State). HasTracked old s.display) (sym same) c.forget.ensures.shown in
     record {
-      rows = c.advance_texts.ensures.calls.noted c.loop-turn.shown.display rows;
+      rows = c.advance_texts.ensures.calls.changed c.loop-turn.shown.display rows;
       columns = c.advance_texts.ensures.calls.columns c.loop-turn.shown.display rows
-          (subst (λ (s : State). HasNotedColumns old s.display) (sym same) c.forget.ensures.columns);
+          (subst (λ (s : State). HasTrackedColumns old s.display) (sym same) c.forget.ensures.columns);
     }
 
 pub returns-then-is_some-2 : goal.returns-then-is_some-2
 returns-then-is_some-2 g c =
     let before = c.loop-turn.invariant in
-    let first = c.args.wanted.now.screen in
+    let first = c.args.wanted.now.tracked.screen in
     let next = c.advance_texts.new.performer.screen in
     let bytes = take c.in-Some.count c.read.new.into in
-    let shows = noted-shows first (joined before.pieces) bytes _ c.forget.new.self c.advance_texts.new.performer
+    let shows = tracked-shows first (joined before.pieces) bytes _ c.forget.new.self c.advance_texts.new.performer
     (subst (Shows first (joined before.pieces)) (sym c.forget.ensures.screen) before.shows)
     (c.advance_texts.ensures.stream (joined before.pieces) before.stands) c.advance_texts.ensures.calls in
     let drawn : Draws g.W.Sink (drawn_calls first.display) c.args.output.now c.pass_on.new.self =
@@ -116,21 +115,21 @@ returns-then-is_some-2 g c =
       c.in-Some.ensures.not_failed ∙ before.not_failed,
     )
 
--- what differs is noted
+-- what differs is tracked
 pub catch_up-requires : goal.catch_up-requires
 catch_up-requires g c =
     let old = c.forget.new.self in
     let shown = c.loop-turn.shown.display in
     let same : c.loop-turn.shown ≡ old.screen = c.loop-turn.invariant.same ∙ sym c.forget.ensures.screen in
-    let noted = c.advance_texts.ensures.calls.noted shown (subst (λ (s : State). HasNoted old s.display) (sym same) c.forget.ensures.shown) in
+    let tracked = c.advance_texts.ensures.calls.changed shown (subst (λ (s : State). HasTracked old s.display) (sym same) c.forget.ensures.shown) in
     near-noted c.changed-changed.result shown c.screen-in-Some.result.now.display
     (subst (λ changed. Keeps changed shown c.screen-in-Some.result.now.display) (sym c.changed-changed.ensures)
-    (subst (λ (s : State). Keeps c.advance_texts.new.performer.changed shown s.display) (sym c.screen-in-Some.ensures) noted))
+    (subst (λ (s : State). Keeps c.advance_texts.new.performer.changed shown s.display) (sym c.screen-in-Some.ensures) tracked))
 
 pub loop-turn-preserved : goal.loop-turn-preserved
 loop-turn-preserved g c =
     let before = c.loop-turn.invariant in
-    let first = c.args.wanted.now.screen in
+    let first = c.args.wanted.now.tracked.screen in
     let next = c.advance_texts.new.performer.screen in
     let bytes = take c.in-Some.count c.read.new.into in
     let more = sym (joined-more before.pieces bytes) in
@@ -138,7 +137,7 @@ loop-turn-preserved g c =
       omega (arith, length-take c.in-Some.count c.read.new.into, c.in-Some.ensures.within, c.in-Some.count-test),
       omega (arith, length-take c.in-Some.count c.read.new.into, c.read.auto.into, before.room),
     ) in
-    let shows = noted-shows first (joined before.pieces) bytes _ c.forget.new.self c.advance_texts.new.performer
+    let shows = tracked-shows first (joined before.pieces) bytes _ c.forget.new.self c.advance_texts.new.performer
     (subst (Shows first (joined before.pieces)) (sym c.forget.ensures.screen) before.shows)
     (c.advance_texts.ensures.stream (joined before.pieces) before.stands) c.advance_texts.ensures.calls in
     record {
@@ -164,7 +163,7 @@ loop-turn-preserved g c =
 pub returns : goal.returns
 returns g c =
     let before = c.loop-turn.invariant in
-    follows g.R.Source g.W.Sink _ _ c.args.wanted.now.screen c.loop-turn.wanted.screen c.args.output.now c.pass_on.new.self c.loop-turn.output _ before.pieces before.screens
+    follows g.R.Source g.W.Sink _ _ c.args.wanted.now.tracked.screen c.loop-turn.wanted.tracked.screen c.args.output.now c.pass_on.new.self c.loop-turn.output _ before.pieces before.screens
     before.consumed before.each before.are_screens before.is_last
-    (begins g.W.Sink c.args.shown.now c.args.wanted.now.screen _ _ _ c.requires.same c.draw.ensures.text c.draw.ensures.only c.pass_on.ensures)
+    (begins g.W.Sink c.args.shown.now c.args.wanted.now.tracked.screen _ _ _ c.requires.same c.draw.ensures.text c.draw.ensures.only c.pass_on.ensures)
     before.draws (before.no_fault, inr (omega (arith, before.counted, c.loop-turn-test.false)))

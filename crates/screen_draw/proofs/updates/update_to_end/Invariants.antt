@@ -16,11 +16,11 @@ invariant-loop-turn g l = record {
   screens : List State;
   consumed : Consumes (g.R.Source.remaining l.initial.reader) (g.R.Source.remaining l.reader) (joined pieces);
   each : AllByRecursion IsPiece pieces;
-  are_screens : AreScreens l.initial.wanted.screen [] pieces screens;
-  is_last : l.wanted.screen ≡ last_of l.initial.wanted.screen screens;
-  draws : Draws g.W.Sink (updates_calls l.initial.wanted.screen screens) l.initial.output l.output;
-  shows : Shows l.initial.wanted.screen (joined pieces) l.wanted.screen;
-  same : l.shown ≡ l.wanted.screen;
+  are_screens : AreScreens l.initial.wanted.tracked.screen [] pieces screens;
+  is_last : l.wanted.tracked.screen ≡ last_of l.initial.wanted.tracked.screen screens;
+  draws : Draws g.W.Sink (updates_calls l.initial.wanted.tracked.screen screens) l.initial.output l.output;
+  shows : Shows l.initial.wanted.tracked.screen (joined pieces) l.wanted.tracked.screen;
+  same : l.shown ≡ l.wanted.tracked.screen;
   stands : IsAfter front_of l.parser (joined pieces);
   no_fault : fault_in l.output ≡ None;
   not_failed : g.R.Source.has_failed l.reader ≡ g.R.Source.has_failed l.initial.reader;

@@ -5,7 +5,7 @@ use Rattle.ansi_screen.specs.Display.{most_columns}
 use Rattle.screen_draw.specs.declared.columns.Span.{Span}
 use Rattle.screen_draw.proofs.columns.Columns.none.Goals as goal
 
-pub returns : goal.returns
-returns c = λ row inside.
+pub returns-clause-none : goal.returns-clause-none
+returns-clause-none c = λ row inside.
     let none : Span = record { left = most_columns; right = 0 } in
     ap (λ (span : Span). span.right) (get_or-replicate 1000 row none none inside)

@@ -227,8 +227,8 @@ fn put_row<W: Sink>(
     brush.place
 }
 
-/// Draws the cells that differ, in the rows that can have changed, from the cursor's place on. The answer is where it
-/// stands then.
+/// Draws the cells that differ, in the rows and columns that can have changed, from the cursor's place on. The answer
+/// is where it stands then.
 fn put_rows<W: Sink>(
     output: &mut Output<W>,
     start: Place,
@@ -299,8 +299,8 @@ fn put_mode_change<W: Sink>(output: &mut Output<W>, mode: u16, old: bool, new: b
     }
 }
 
-/// Draws what differs in cells, cursor, DECAWM and DECTCEM, where the cursor stands at a place and no other rows can
-/// have changed.
+/// Draws what differs in cells, cursor, DECAWM and DECTCEM, where the cursor stands at a place, and no other rows, and
+/// of these no other columns, can have changed.
 fn put_changes_from<W: Sink>(
     output: &mut Output<W>,
     start: Place,
@@ -335,7 +335,8 @@ fn at_home(place: Place) -> Place
     }
 }
 
-/// Draws what differs in margins, cells, cursor, DECAWM and DECTCEM, where no other rows can have changed.
+/// Draws what differs in margins, cells, cursor, DECAWM and DECTCEM, where no other rows, and of these no other
+/// columns, can have changed.
 pub(crate) fn put_changes<W: Sink>(
     output: &mut Output<W>,
     shown: &Screen,

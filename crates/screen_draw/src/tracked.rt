@@ -112,7 +112,7 @@ impl Tracked {
         ensures shown { HasTracked self.new self.new.screen.display }
         ensures columns { HasTrackedColumns self.new self.new.screen.display }
 
-        // No row is tracked, no column and no frame: where all is tracked in which another one differs, it has the same.
+        // No row, no column and no frame is tracked: where all is in which another one differs, it has the same.
         ensures rows { (shown : Display) (row : ℕ) → HasTracked self.new shown → row < self.new.screen.display.height
             → row_cells row self.new.screen.display ≡ row_cells row shown }
         ensures spans { (shown : Display) (row : ℕ) → HasTrackedColumns self.new shown
@@ -361,8 +361,8 @@ impl Tracked {
         }
     }
 
-    /// Prints a text that stays in the cursor's row. Tracks that row, from two columns before the cursor on, where a mark or
-    /// half of a wide character can change, up to two behind where the text ends if each byte takes a column.
+    /// Prints a text that stays in the cursor's row. Tracks that row, from two columns before the cursor on, where a
+    /// mark or half of a wide character can change, up to two behind where the text ends if each byte takes a column.
     fn print_in_row(&mut self, text: &str)
         requires { FitsInRow (length text.now) self.old.screen.display }
         ensures { TracksAll self.old (text_calls text.now) self.new }

@@ -38,17 +38,6 @@ pub(crate) struct Columns {
 impl Columns {
     ghost use Rattle.screen_draw.specs.Columns.{spans_of, TracksSpan, TracksRows};
 
-    /// No column of any row.
-    pub(crate) fn none() -> Columns
-        ensures rows { most_rows ≤ length (spans_of result) }
-        ensures none { (row : ℕ) → row < most_rows → (span_at (spans_of result) row).right ≡ 0 }
-    {
-        Columns {
-            are_all: false,
-            spans: [NONE; MOST_ROWS],
-        }
-    }
-
     /// All columns of all rows.
     pub(crate) fn all() -> Columns
         ensures { spans_of result ≡ [] }
@@ -64,6 +53,18 @@ impl Columns {
         ensures { result.now ≡ spans_of self.now }
     {
         if self.are_all { &[] } else { &self.spans }
+    }
+
+    /// No column of so many rows any more.
+    pub(crate) fn forget(&mut self, rows: usize)
+        requires { rows ≤ most_rows }
+        ensures rows { rows ≤ length (spans_of self.new) }
+        ensures none { (row : ℕ) → row < rows → (span_at (spans_of self.new) row).right ≡ 0 }
+    {
+        self.are_all = false;
+        for row in 0..rows {
+            self.spans[row] = NONE;
+        }
     }
 
     /// The columns of a row from `left` up to `right` too.

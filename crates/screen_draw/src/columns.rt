@@ -82,6 +82,13 @@ impl Columns {
         };
     }
 
+    /// All columns of all rows too.
+    pub(crate) fn track_all(&mut self)
+        ensures { spans_of self.new ≡ [] }
+    {
+        self.are_all = true;
+    }
+
     /// All columns of the rows from `first` up to `past` too.
     pub(crate) fn track_rows(&mut self, first: usize, past: usize)
         requires { past ≤ most_rows }

@@ -340,7 +340,7 @@ impl Tracked {
         if !step.is_nothing() {
             self.changed = self.changed.with(step);
             if step.first == 0 && step.past >= self.screen.rows() {
-                self.columns = Columns::all();
+                self.columns.track_all();
             } else {
                 let past = step.past.min(self.screen.rows());
                 self.columns.track_rows(step.first, past);

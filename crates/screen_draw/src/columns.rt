@@ -4,11 +4,7 @@ ghost use Rattle.ansi_screen.specs.Display.{most_columns, most_rows};
 ghost use Rattle.ansi_screen.specs.declared.cell.Cell.{Cell};
 ghost use Rattle.screen_draw.specs.Columns.{KeepsColumns, span_at, KeepsSpan};
 
-/// As many columns as a screen has at most.
-const MOST_COLUMNS: u16 = 1000;
-
-/// As many rows as a screen has at most.
-const MOST_ROWS: usize = 1000;
+use ansi_screen::{MAX_COLUMNS, MAX_ROWS};
 
 /// The columns from `left` up to `right`; none, where `right` is not greater than `left`.
 #[derive(Clone, Copy)]
@@ -18,13 +14,13 @@ pub(crate) struct Span {
 }
 
 const NONE: Span = Span {
-    left: MOST_COLUMNS,
+    left: MAX_COLUMNS as u16,
     right: 0,
 };
 
 const WHOLE: Span = Span {
     left: 0,
-    right: MOST_COLUMNS,
+    right: MAX_COLUMNS as u16,
 };
 
 /// The columns that can have changed, of each row.
@@ -32,7 +28,7 @@ const WHOLE: Span = Span {
 pub(crate) struct Columns {
     /// All columns of all rows can have changed, whatever the spans are.
     are_all: bool,
-    spans: [Span; MOST_ROWS],
+    spans: [Span; MAX_ROWS],
 }
 
 impl Columns {
@@ -44,7 +40,7 @@ impl Columns {
     {
         Columns {
             are_all: true,
-            spans: [NONE; MOST_ROWS],
+            spans: [NONE; MAX_ROWS],
         }
     }
 

@@ -25,9 +25,11 @@ import os
 import random
 import re
 import shlex
+import socket
 import subprocess
 import sys
 import tempfile
+import threading
 import time
 
 HERE = os.path.dirname(os.path.abspath(__file__))
@@ -88,7 +90,32 @@ def corpus(make_line, size):
 
 
 def instructions(command, path):
-    with open(path, "rb") as data, tempfile.TemporaryDirectory() as folder:
+    with open(path, "rb") as data:
+        return counted(command, data)
+
+
+def instructions_of_pieces(command, pieces):
+    """The same where each read is given one of these pieces, by a socket that keeps them apart."""
+    ours, given = socket.socketpair(socket.AF_UNIX, socket.SOCK_SEQPACKET)
+    hand_on = threading.Thread(target=hand_on_pieces, args=(ours, pieces))
+    with given:
+        hand_on.start()
+        count = counted(command, given)
+    hand_on.join()
+    return count
+
+
+def hand_on_pieces(there, pieces):
+    with there:
+        for piece in pieces:
+            try:
+                there.send(piece)
+            except BrokenPipeError:
+                return
+
+
+def counted(command, data):
+    with tempfile.TemporaryDirectory() as folder:
         tool = ["valgrind", "--tool=callgrind", "--callgrind-out-file=" + os.path.join(folder, "out")]
         environment = dict(os.environ, GLIBC_TUNABLES=COUNTED)
         done = subprocess.run(

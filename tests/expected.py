@@ -4,10 +4,9 @@ each digest of a random stream comes from the sources of the Rust crate (docs/DE
 import hashlib
 
 from expected_pages import ADDRESS, DARK_TITLED_HEAD, LIGHT_HEAD, LINKED_HEAD, PAGE_HEAD, PAGE_TAIL, TITLE, TITLED_HEAD
+from expected_shown import SHOWN_HOSTILE, SHOWN_ROWS
+from hostile_streams import BLOCK, SIZE, stream, text, times
 from safe_rows import SAFE_ROWS
-
-SIZE = 100_000_000  # the bytes of a hostile stream
-BLOCK = 1 << 20
 
 
 class Program:
@@ -39,32 +38,6 @@ class Mode:
         yield self.head
         yield from blocks
         yield self.tail
-
-
-def repeated(unit, count):
-    """The blocks of COUNT times UNIT."""
-    each = max(1, BLOCK // len(unit))
-    block = unit * each
-    for _ in range(count // each):
-        yield block
-    yield unit * (count % each)
-
-
-def stream(head, unit, tail=b""):
-    def blocks():
-        yield head
-        yield from repeated(unit, SIZE // len(unit))
-        yield tail
-
-    return blocks
-
-
-def text(data):
-    return lambda: [data]
-
-
-def times(unit, count):
-    return lambda: repeated(unit, count)
 
 
 def random_bytes():
@@ -371,52 +344,6 @@ STRIP_HOSTILE = [
 ]
 
 
-BOX = "┌─┐\n│ │\n└─┘\n".encode()
-
-# What a person sees, with what scrolled off.
-SHOWN_ROWS = [
-    ("overstruck", b"B\bB\bo\bo", b"o\n"),
-    ("back and over", b"abc\b\b\bxyz", b"xyz\n"),
-    ("progress", b"10%\r20%\r\x1b[K100%", b"100%\n"),
-    ("a move forward", b"foo\x1b[10Cbar", b"foo          bar\n"),
-    ("lines drawn in ASCII", b"+-+\n| |\n+-+\n", b"+-+\n| |\n+-+\n"),
-    ("line drawing", b"\x1b(0lqk\nx x\nmqj\x1b(B\n", BOX),
-    ("lines that scroll off", b"a\r\nb\n" * 500 + b"c", b"a\nb\n" * 500 + b"c\n"),
-    ("a line longer than the screen", b"a" * 5000 + b"\nb\n", b"a" * 5000 + b"\nb\n"),
-    ("a line as long as a row", b"a" * 80 + b"\r\nb\r\n", b"a" * 80 + b"\nb\n"),
-    ("a wide character for which the row has no room", b"a" * 79 + "漢\n".encode(), b"a" * 79 + "漢\n".encode()),
-    ("a row that went on and is rewritten", b"a" * 81 + b"\x1b[1;80Hb\x1b[2Hc", b"a" * 79 + b"b\nc\n"),
-    ("a row that went on and is erased", b"a" * 81 + b"\x1b[1;9H\x1b[K", b"a" * 8 + b"\na\n"),
-    ("characters deleted and inserted", b"a" * 81 + b"\x1b[1H\x1b[P\x1b[@", b" " + b"a" * 79 + b"\na\n"),
-    ("blanks that were printed, and others", b"a  \nb\x1b[9C\nc\td\t\n", b"a  \nb\nc       d\n"),
-    ("blank lines", b"a\n\n\nb\n\n\n", b"a\n\n\nb\n"),
-    ("the alternate screen", b"a\n\x1b[?1049h" + b"b\n" * 99 + b"\x1b[?1049lc\n", b"a\nc\n"),
-    ("margins below the top", b"a\n\x1b[2;24r\x1b[24H" + b"\n" * 99 + b"c", b"a\n" + b"\n" * 22 + b"c\n"),
-    ("more rows than there are", b"a\nb\x1b[65535Sc", b"a\nb\n" + b"\n" * 23 + b" c\n"),
-    ("rows deleted at the top", b"a\nb\x1b[H\x1b[M", b"b\n"),
-    ("an erased screen", b"a\n\x1b[2J\x1b[Hb", b"b\n"),
-    ("colours, titles and a broken character", b"\x1b[31m\x1b]0;t\x07a\xc3\x1b[mb\n", b"a\xef\xbf\xbdb\n"),
-]
-
-SCROLLS = 2_000_000  # the bytes of a stream of which each few move a whole screen
-WIDE = "漢".encode()
-
-
-def line_of(unit, count):
-    return lambda: [unit * count, b"\n"]
-
-
-# By line feeds alone blank rows scroll off, from the 24th on; those that still show are left out.
-SHOWN_HOSTILE = [
-    ("line feeds", times(b"\n", SCROLLS), times(b"\n", SCROLLS - 23)),
-    ("one line that wraps", times(b"a", SCROLLS), line_of(b"a", SCROLLS)),
-    ("wide characters", times(WIDE, SCROLLS // 3), line_of(WIDE, SCROLLS // 3)),
-    ("SU of 65535", times(b"\x1b[65535S", SCROLLS // 8), times(b"\n", 24 * (SCROLLS // 8))),
-    ("resets", times(b"A\x1bc", SCROLLS // 3), text(b"")),
-    ("the alternate screen", times(b"\x1b[?1049hA\x1b[?1049l", SCROLLS // 17), text(b"")),
-]
-
-
 def span(style, text=b"x"):
     return b'<span style="%s">%s</span>' % (style, text)
 
@@ -622,7 +549,8 @@ SHOWN_LINK_ROWS = [
     ("a link behind others", HTTP_A + osc8(b"http://b") + b"b\n" + osc8(b"") + b"c\n", in_link(b"http://b", b"b") + b"\nc\n"),
     ("a wide character and a mark in a link", HTTP_A + "漢".encode() + osc8(b"") + "\u0301".encode() + b"\n", in_link(b"http://a", "漢\u0301".encode()) + b"\n"),
     ("a link that SGR, DECSC, DECRC and DECSTR leave", HTTP_A + b"\x1b7\x1b[m\x1b8\x1b[!pa\n", in_link(b"http://a", b"a") + b"\n"),
-    ("a link that RIS ends", HTTP_A + b"a\x1bcb\n", b"b\n"),
+    ("a link that RIS ends", HTTP_A + b"a\x1bcb\n", in_link(b"http://a", b"a") + b"\nb\n"),
+    ("a link on the main screen at the end", HTTP_A + b"a" + osc8(b"") + b"\x1b[?1049h\rb", in_link(b"http://a", b"a") + b"\nb\n"),
     ("a link behind 1023 more", HTTP_A + b"a\n" + MANY_LINKS + b"\n", in_link(b"http://a", b"a") + b"\n" + in_link(b"http://1022", b"2") + b"\n"),
     ("a link behind 1024 more", HTTP_A + b"a\n" + MANY_LINKS + HTTP_A + b"\n", b"a\n" + in_link(b"http://1022", b"2") + b"\n"),
 ]
@@ -630,6 +558,8 @@ SHOWN_LINK_ROWS = [
 SHOWN_HTML_ROWS = [
     ("colours that scroll off", b"\x1b[31ma\x1b[m\nb\n" * 300 + b"c", (span(RED_TEXT, b"a") + b"\nb\n") * 300 + b"c\n"),
     ("a style over lines", b"\x1b[1ma\n\nb\n", span(b"font-weight:bold;", b"a") + b"\n\n" + span(b"font-weight:bold;", b"b") + b"\n"),
+    ("a screen that ED 2 erases", b"\x1b[31ma\x1b[m\x1b[2J\x1b[Hb\n", span(RED_TEXT, b"a") + b"\nb\n"),
+    ("the alternate screen at the end", b"\x1b[31ma\x1b[m\x1b[?1049h\r\x1b[1mb", span(RED_TEXT, b"a") + b"\n" + span(b"font-weight:bold;", b"b") + b"\n"),
     ("progress", b"\x1b[31m10%\r\x1b[mabc\r\x1b[K\x1b[1m100%\x1b[m done\n", span(b"font-weight:bold;", b"100%") + b" done\n"),
     ("a row written over in part", b"\x1b[31mabcd\r\x1b[mxy\n", b"xy" + span(RED_TEXT, b"cd") + b"\n"),
     ("a line that wrapped", b"\x1b[31m" + b"a" * 99 + b"\x1b[m" + b"b" * 99 + b"\nc\n", span(RED_TEXT, b"a" * 99) + b"b" * 99 + b"\nc\n"),

@@ -168,6 +168,21 @@ class Display:
     def rows(self, first, last, how, n):
         self.within(first * self.width, last * self.width, how(n * self.width))
 
+    def printed(self, cells):
+        """The rows of a screen up to the last in which something was printed."""
+        rows = [cells[at : at + self.width] for at in range(0, len(cells), self.width)]
+        while rows and not line(rows[-1])[0]:
+            rows.pop()
+        return rows
+
+    def main(self):
+        return self.hidden if self.is_alternate else self.cells
+
+    def erase_display(self, kind):
+        if kind == 2 and not self.is_alternate:
+            self.left += self.printed(self.cells)
+        self.erase(kind, 0, len(self.cells))
+
     def lines(self, how, n):
         if self.top <= self.cursor.row < self.bottom:
             self.rows(self.cursor.row, self.bottom, how, n)
@@ -304,7 +319,7 @@ class Display:
     }
     EDITS = {
         "@": lambda s, n, p: s.insert_characters(n),
-        "J": lambda s, n, p: s.erase(p, 0, len(s.cells)),
+        "J": lambda s, n, p: s.erase_display(p),
         "K": lambda s, n, p: s.erase(p, s.row_start(), s.row_end()),
         "L": lambda s, n, p: s.lines(s.moved_on, n),
         "M": lambda s, n, p: s.lines(s.moved_back, n),
@@ -364,6 +379,7 @@ class Display:
             self.settle()
             self.reverse_index()
         elif final == "c":
+            self.left += self.printed(self.main())
             self.reset()
 
     def designate(self, mark, final):
@@ -473,14 +489,15 @@ def show(data, width, height):
 
 
 def lines(data, width, height):
-    """What scrolled off and what still shows, as characters with styles; a line feed does a carriage return first."""
+    """What left the main screen and what still shows, as characters with styles; a line feed does a carriage return
+    first. Where the alternate screen shows, the main one's rows come before it."""
     display = Display(width, height)
     feed(display, data.replace(b"\n", b"\r\n"))
-    rows = [line(display.row(row)) for row in range(height)]
-    while rows and not rows[-1][0]:
-        rows.pop()
+    rows = display.left + display.printed(display.main())
+    if display.is_alternate:
+        rows += display.printed(display.cells)
     found, on = [], False
-    for characters, on in [line(row) for row in display.left] + rows:
+    for characters, on in map(line, rows):
         found += characters + ([] if on else [("\n", styles.PLAIN)])
     return found + ([("\n", styles.PLAIN)] if on else [])
 

@@ -29,7 +29,7 @@ use Rattle.ansi_screen.specs.Widths.{is_shown, columns}
 use Rattle.ansi_screen.specs.Print.{glyph, wrapped, with_room, with_glyph, put, marked, shown, line_drawing, drawn, draws, printed, printed_again}
 use Rattle.ansi_screen.specs.Modes.{with_charset, restored, with_origin, with_margins, to_alternate, to_main, with_alternate, softly_reset, with_private_mode, with_mode, with_modes, first_field}
 use Rattle.ansi_screen.specs.After.{State, function_of, first_of, second_of, count, is_known, edited, moved, set as set_by, controlled, sequenced, executed, escaped, designated, repeated, repeatable, is_repeat, after, after_all}
-use Rattle.ansi_screen.specs.Leaving.{is_wrapping, leaving, before_scroll, first_rows, rows_left, all_left}
+use Rattle.ansi_screen.specs.Leaving.{swapped, main_screen, is_wrapping, leaving, before_escape, before_scroll, first_rows, rows_left, all_left}
 
 -- a character that may be printed and is shown; such marks, cells and displays
 abbrev pub IsGood : ℕ → Type 0
@@ -143,7 +143,7 @@ good-glyph : (n c : ℕ) (style : Style) (link : ℕ) (t : Bool) → nat_eq n 2 
 good-glyph n c style link true is good = rw is ((good, tt), ((good-space, tt), tt))
 good-glyph n c style link false is good = rw is ((good, tt), tt)
 
-all-append : (xs ys : List (List Cell)) → AllByRecursion AreGood xs → AllByRecursion AreGood ys → AllByRecursion AreGood (xs ++ ys)
+pub all-append : (xs ys : List (List Cell)) → AllByRecursion AreGood xs → AllByRecursion AreGood ys → AllByRecursion AreGood (xs ++ ys)
 all-append [] ys are others = others
 all-append (x ∷ xs) ys are others = (are.0, all-append xs ys are.1 others)
 
@@ -471,11 +471,20 @@ marked-good : (t : Bool) (d : Display) → HasGood d → HasGood (if t then row_
 marked-good true d s = (good-going_on true (row_end d) d.cells s.0, s.1)
 marked-good false d s = s
 
+good-main : (d : Display) → HasGood d → HasGood (main_screen d)
+good-main d s = good-if d.is_alternate (swapped d) d (s.1, s.0) s
+
+good-before_escape : (intermediates : List ℕ) (final : ℕ) (d : Display) → HasGood d → HasGood (before_escape intermediates final d)
+unfolding before_escape
+good-before_escape [] final d s = good-if (final == 0x63) (main_screen d) d (good-main d s) s
+good-before_escape (mark ∷ marks) final d s = s
+
 good-before_scroll : (call : Call) (d : Display) → HasGood d → HasGood (before_scroll call d)
 good-before_scroll (print c) d s = marked-good (is_wrapping c d) d s
 good-before_scroll (execute byte) d s = s
 good-before_scroll (csi_dispatch groups intermediates ignore final) d s = s
-good-before_scroll (esc_dispatch intermediates ignore final) d s = s
+good-before_scroll (esc_dispatch intermediates ignore final) d s =
+    good-if ignore d (before_escape intermediates final d) s (good-before_escape intermediates final d s)
 good-before_scroll (hook groups intermediates ignore final) d s = s
 good-before_scroll (put_byte byte) d s = s
 good-before_scroll unhook d s = s

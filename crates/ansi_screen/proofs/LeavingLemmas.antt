@@ -1,8 +1,9 @@
--- Rows that are handed on, one after another; and a character before which a row was marked.
+-- Rows that are handed on, one after another; a character before which a row was marked; and RIS, before which the main
+-- screen was brought forward.
 use Rattle.std.proofs.Common.{◌≡◌, ℕ, zero, suc, ◌+◌, ◌-◌, ◌≤◌, Bool, true, false, List, [], ◌∷◌, ◌++◌, get_or, set, refl, ap, sym, ◌∙◌, subst, add-one, arith}
 use Rattle.std.specs.Prelude.{nat_lt, ◌==◌, ◌&&◌, not, if◌then◌else◌}
-use Rattle.std.proofs.lemmas.Bool.{and_parts, le-ltb}
-use Rattle.anstyle_parse.specs.Stream.Call.{Call, print, Goes}
+use Rattle.std.proofs.lemmas.Bool.{and_parts, eqb-true, le-ltb}
+use Rattle.anstyle_parse.specs.Stream.Call.{Call, print, esc_dispatch, Goes}
 use Rattle.ansi_style.specs.Style.{plain}
 use Rattle.ansi_screen.specs.declared.cell.Cell.{Cell}
 use Rattle.ansi_screen.specs.declared.leaving.Scrolling.{Scrolling}
@@ -12,8 +13,9 @@ use Rattle.ansi_screen.specs.Moves.{to_column, settled}
 use Rattle.ansi_screen.specs.Edits.{with_cells, row_going_on, index}
 use Rattle.ansi_screen.specs.Widths.{is_shown, columns}
 use Rattle.ansi_screen.specs.Print.{wrapped, put, shown, drawn, draws, printed}
-use Rattle.ansi_screen.specs.After.{State, after, after_all, left_to_repeat}
-use Rattle.ansi_screen.specs.Leaving.{leaving, is_wrapping, before_scroll, first_rows, rows_left, all_left, TakesRows, screen_of, taker_of, Scrolls, ScrollsAll}
+use Rattle.std.specs.Prelude.{None}
+use Rattle.ansi_screen.specs.After.{State, escaped, designated, after, after_all, left_to_repeat}
+use Rattle.ansi_screen.specs.Leaving.{swapped, main_screen, leaving, is_wrapping, before_escape, before_scroll, first_rows, rows_left, all_left, TakesRows, screen_of, taker_of, Scrolls, ScrollsAll}
 use Rattle.ansi_screen.proofs.KeptCalls.{columns-few}
 use Rattle.ansi_screen.proofs.RowLemmas.{drawn-if}
 
@@ -110,16 +112,72 @@ pub after-marked : (c : ℕ) (s : State)
     → after (print c) (record s { display = before_scroll (print c) s.display }) ≡ after (print c) s
 after-marked c s = ap (λ d. record { display = d; last = left_to_repeat (print c) }) (printed-marked c s.display _ refl)
 
+-- RIS does the same with either screen in front.
+fresh-main : (d : Display) (t : Bool) → escaped 0x63 (if t then swapped d else d) ≡ escaped 0x63 d
+unfolding escaped
+fresh-main d true = refl
+fresh-main d false = refl
+
+escaped-main : (final : ℕ) (d : Display) (t : Bool) → (final == 0x63) ≡ t → escaped final (if t then main_screen d else d) ≡ escaped final d
+escaped-main final d true is =
+    let same : final ≡ 0x63 = eqb-true final 0x63 is in
+    ap (λ n. escaped n (main_screen d)) same ∙ (fresh-main d d.is_alternate ∙ ap (λ n. escaped n d) (sym same))
+escaped-main final d false is = refl
+
+designated-begun : (intermediates : List ℕ) (final : ℕ) (d : Display)
+    → designated intermediates final (before_escape intermediates final d) ≡ designated intermediates final d
+unfolding designated before_escape
+designated-begun [] final d = escaped-main final d _ refl
+designated-begun (mark ∷ marks) final d = refl
+
+pub after-begun : (intermediates : List ℕ) (final : ℕ) (s : State)
+    → after (esc_dispatch intermediates false final) (record s { display = before_scroll (esc_dispatch intermediates false final) s.display })
+    ≡ after (esc_dispatch intermediates false final) s
+after-begun intermediates final s = ap (λ (d : Display). record { display = d; last = None }) (designated-begun intermediates final s.display)
+
 module _ {R : Type 0} (takes : R → List Cell → R → Type 0) where
-  -- the rows are taken once the row is marked, and then the character is printed
+  -- the rows are taken once the display is as it scrolls, and then the call does the rest
+  begun-scrolls : (call : Call) (n : ℕ) (old : Scrolling R) (begun middle done : State) (taker : R)
+      → after call (record (screen_of old) { display = before_scroll call (screen_of old).display }) ≡ after call (screen_of old)
+      → begun ≡ record (screen_of old) { display = before_scroll call (screen_of old).display }
+      → n ≡ leaving call (screen_of old).display → middle ≡ begun
+      → TakesRows takes (taker_of old) (first_rows n begun.display) taker
+      → done ≡ after call middle
+      → Scrolls takes old call (record { screen = done; taker = taker })
+  begun-scrolls call n old begun middle done taker alike marked count same taken after_middle = record {
+    screen = after_middle ∙ (ap (after call) (same ∙ marked) ∙ alike);
+    taken = subst (λ (s : State). TakesRows takes (taker_of old) (first_rows (leaving call (screen_of old).display) s.display) taker) marked
+        (subst (λ k. TakesRows takes (taker_of old) (first_rows k begun.display) taker) count taken);
+  }
+
+  -- a character, once the row is marked
   pub print-scrolls : (c n : ℕ) (old : Scrolling R) (begun middle printed : State) (taker : R)
       → begun ≡ record (screen_of old) { display = before_scroll (print c) (screen_of old).display }
       → n ≡ leaving (print c) (screen_of old).display → middle ≡ begun
       → TakesRows takes (taker_of old) (first_rows n begun.display) taker
       → printed ≡ after (print c) middle
       → Scrolls takes old (print c) (record { screen = printed; taker = taker })
-  print-scrolls c n old begun middle printed taker marked count same taken after_middle = record {
-    screen = after_middle ∙ (ap (after (print c)) (same ∙ marked) ∙ after-marked c (screen_of old));
-    taken = subst (λ (s : State). TakesRows takes (taker_of old) (first_rows (leaving (print c) (screen_of old).display) s.display) taker) marked
-        (subst (λ k. TakesRows takes (taker_of old) (first_rows k begun.display) taker) count taken);
+  print-scrolls c n old begun middle printed taker = begun-scrolls (print c) n old begun middle printed taker (after-marked c (screen_of old))
+
+  -- no row leaves by an escape sequence of which something was dropped
+  pub dropped-scrolls : (intermediates : List ℕ) (ignore : Bool) (final : ℕ) (old : Scrolling R) (middle done : State) (taker : R)
+      → ignore ≡ true → middle ≡ screen_of old → taker ≡ taker_of old → done ≡ after (esc_dispatch intermediates ignore final) middle
+      → Scrolls takes old (esc_dispatch intermediates ignore final) (record { screen = done; taker = taker })
+  dropped-scrolls intermediates true final old middle done taker dropped same_screen same_taker after_middle = record {
+    screen = after_middle ∙ ap (after (esc_dispatch intermediates true final)) same_screen;
+    taken = same_taker;
   }
+  dropped-scrolls intermediates false final old middle done taker dropped same_screen same_taker after_middle = cc dropped
+
+  -- an escape sequence of which nothing was dropped, once the main screen shows if it is RIS
+  pub escape-scrolls : (intermediates : List ℕ) (ignore : Bool) (final n : ℕ) (old : Scrolling R) (begun middle done : State) (taker : R)
+      → ignore ≡ false
+      → begun ≡ record (screen_of old) { display = before_scroll (esc_dispatch intermediates false final) (screen_of old).display }
+      → n ≡ leaving (esc_dispatch intermediates false final) (screen_of old).display → middle ≡ begun
+      → TakesRows takes (taker_of old) (first_rows n begun.display) taker
+      → done ≡ after (esc_dispatch intermediates ignore final) middle
+      → Scrolls takes old (esc_dispatch intermediates ignore final) (record { screen = done; taker = taker })
+  escape-scrolls intermediates true final n old begun middle done taker whole marked count same taken after_middle = cc whole
+  escape-scrolls intermediates false final n old begun middle done taker whole marked count same taken after_middle =
+      begun-scrolls (esc_dispatch intermediates false final) n old begun middle done taker (after-begun intermediates final (screen_of old))
+      marked count same taken after_middle

@@ -21,6 +21,7 @@ pub mod RowLemmas
 pub mod EditLemmas
 pub mod CharacterLemmas
 pub mod SizeLemmas
+pub mod SwitchLemmas
 pub mod FollowingLemmas
 pub mod ColorLemmas
 pub mod ContentLemmas

@@ -19,7 +19,7 @@ use Rattle.ansi_screen.specs.Widths.{is_shown, columns}
 use Rattle.ansi_screen.specs.Print.{wrapped}
 use Rattle.ansi_screen.specs.Modes.{with_mode, with_modes, with_margins, with_charset, restored, first_field}
 use Rattle.ansi_screen.specs.After.{State, function_of, first_of, second_of, count, set, controlled, executed, escaped, designated}
-use Rattle.ansi_screen.specs.Leaving.{leaving_up, leaving_by_index, is_wrapping, leaving_by_control, leaving_by_escape, leaving_by_function, leaving_by_sequence, leaving, before_scroll}
+use Rattle.ansi_screen.specs.Leaving.{leaving_up, leaving_by_index, is_wrapping, leaving_by_control, leaving_by_escape, leaving_by_function, leaving_by_sequence, leaving, main_screen, before_escape, before_scroll}
 use Rattle.ansi_screen.specs.Reachable.{IsScreen}
 use Rattle.ansi_screen.specs.Laws.{EditsNothing, KeepsRows, once_scrolled}
 use Rattle.ansi_screen.proofs.PairLemmas.{length-run}
@@ -233,9 +233,13 @@ printed-up c s screen top main =
     (index (to_column 0 (row_going_on true d))) (settled d) (row_going_on true d) d (leaving_by_index d) d.bottom
     (joined-up d screen top main) (sym (up-none d)) (sym (up-none d))
 
+begun-other : (final : ℕ) (d : Display) → final ≢ 0x63 → before_escape [] final d ≡ d
+unfolding before_escape
+begun-other final d other = ap (λ t. if t then main_screen d else d) (ne_eqb final 0x63 other)
+
 pub moved-up : (s : State) (call : Call) → IsScreen s.display → KeepsRows call → s.display.top ≡ 0 → s.display.is_alternate ≡ false
     → (once_scrolled call s).cells ≡ (rows_up (leaving call s.display) 0 s.display.bottom (before_scroll call s.display)).cells
-unfolding leaving_by_sequence leaving_by_escape designated
+unfolding leaving_by_sequence leaving_by_escape before_escape designated
 moved-up s (print c) screen keeps top main = printed-up c s screen top main
 moved-up s (execute byte) screen keeps top main = executed-up byte s.display _ refl screen top main
 moved-up s (csi_dispatch groups [] false final) screen keeps top main =
@@ -244,7 +248,9 @@ moved-up s (csi_dispatch groups [] false final) screen keeps top main =
 moved-up s (csi_dispatch groups [] true final) screen keeps top main = sym (up-none s.display)
 moved-up s (csi_dispatch groups (mark ∷ marks) false final) screen keeps top main = absurd keeps
 moved-up s (csi_dispatch groups (mark ∷ marks) true final) screen keeps top main = sym (up-none s.display)
-moved-up s (esc_dispatch [] false final) screen keeps top main = escaped-up final s.display _ refl keeps screen top main
+moved-up s (esc_dispatch [] false final) screen keeps top main =
+    escaped-up final s.display _ refl keeps screen top main
+    ∙ ap (λ (e : Display). (rows_up (leaving_by_escape [] final s.display) 0 s.display.bottom e).cells) (sym (begun-other final s.display keeps.1))
 moved-up s (esc_dispatch [] true final) screen keeps top main = sym (up-none s.display)
 moved-up s (esc_dispatch (mark ∷ []) false final) screen keeps top main = charset-cells mark final s.display ∙ sym (up-none s.display)
 moved-up s (esc_dispatch (mark ∷ other ∷ others) false final) screen keeps top main = sym (up-none s.display)

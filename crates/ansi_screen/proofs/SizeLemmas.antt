@@ -19,7 +19,8 @@ use Rattle.ansi_screen.specs.Widths.{is_shown, columns}
 use Rattle.ansi_screen.specs.Print.{wrapped, with_room, with_glyph, put, marked, shown, drawn, draws, printed, printed_again}
 use Rattle.ansi_screen.specs.Modes.{with_charset, restored, with_origin, with_margins, to_alternate, to_main, with_alternate, softly_reset, with_private_mode, with_mode, with_modes, first_field}
 use Rattle.ansi_screen.specs.After.{State, function_of, first_of, second_of, count, is_known, edited, moved, set as set_by, controlled, sequenced, executed, escaped, designated, repeated, is_repeat, after, after_all}
-use Rattle.ansi_screen.specs.Leaving.{leaving_up, leaving_by_index, is_wrapping, leaving_by_control, leaving_by_escape, leaving_by_function, leaving_by_sequence, leaving}
+use Rattle.ansi_screen.specs.Text.{is_unprinted, used_rows}
+use Rattle.ansi_screen.specs.Leaving.{swapped, main_screen, printed_count, leaving_up, leaving_by_index, is_wrapping, leaving_by_control, leaving_by_escape, leaving_by_function, leaving_by_sequence, leaving}
 
 -- either of two numbers
 le-if : (t : Bool) (a b n : ℕ) → a ≤ n → b ≤ n → (if t then a else b) ≤ n
@@ -32,6 +33,15 @@ margin-inside last height n true is fits =
     let below : last < height = ltb-true last height parts.1 in
     omega arith
 margin-inside last height n false is fits = fits
+
+-- rows up to the last in which something was printed
+used-if : (t : Bool) (a n : ℕ) → a ≤ n → (if t then a else n) ≤ n
+used-if true a n few = few
+used-if false a n few = omega arith
+
+pub few-used : (n : ℕ) (d : Display) → used_rows is_unprinted n d ≤ n
+few-used zero d = omega arith
+few-used (suc n) d = used-if _ (used_rows is_unprinted n d) (suc n) (omega (arith, few-used n d))
 
 module _ (width height : ℕ) where
   -- a display of this size, with its lower margin within
@@ -285,14 +295,29 @@ module _ (width height : ℕ) where
   unfolding leaving_by_control
   few-control byte d s = le-if (byte == 0x0A || byte == 0x0B || byte == 0x0C) (leaving_by_index d) 0 height (few-index d s) (omega arith)
 
+  few-printed : (d : Display) → HasSize d → printed_count d ≤ height
+  few-printed d s = omega (arith, few-used d.height d, s.1)
+
+  pub sized-main : (d : Display) → HasSize d → HasSize (main_screen d)
+  sized-main d s = sized-if d.is_alternate (swapped d) d s s
+
   few-escape : (intermediates : List ℕ) (final : ℕ) (d : Display) → HasSize d → leaving_by_escape intermediates final d ≤ height
   unfolding leaving_by_escape
-  few-escape [] final d s = le-if (final == 0x44 || final == 0x45) (leaving_by_index d) 0 height (few-index d s) (omega arith)
+  few-escape [] final d s =
+      le-if (final == 0x44 || final == 0x45) (leaving_by_index d) (if final == 0x63 then printed_count (main_screen d) else 0) height (few-index d s)
+      (le-if (final == 0x63) (printed_count (main_screen d)) 0 height (few-printed (main_screen d) (sized-main d s)) (omega arith))
   few-escape (mark ∷ marks) final d s = omega arith
 
   few-function : (function : Function) (groups : List (List ℕ)) (d : Display) → HasSize d → leaving_by_function function groups d ≤ height
   unfolding leaving_by_function
-  few-function (Edits edit) groups d s = omega arith
+  few-function (Edits InsertCharacters) groups d s = omega arith
+  few-function (Edits EraseInDisplay) groups d s =
+      le-if (first_of groups == 2 && not d.is_alternate) (printed_count d) 0 height (few-printed d s) (omega arith)
+  few-function (Edits EraseInLine) groups d s = omega arith
+  few-function (Edits InsertLines) groups d s = omega arith
+  few-function (Edits DeleteLines) groups d s = omega arith
+  few-function (Edits DeleteCharacters) groups d s = omega arith
+  few-function (Edits EraseCharacters) groups d s = omega arith
   few-function (Moves move) groups d s = omega arith
   few-function (Sets Rendition) groups d s = omega arith
   few-function (Sets SetModes) groups d s = omega arith

@@ -1,11 +1,12 @@
 //! A screen of which no row is lost: what scrolls off at its top is handed on.
 ghost use Rattle.std.specs.Prelude.{◌≡◌, ◌≤◌, ℕ, List, ◌∷◌, map};
 ghost use Rattle.ansi_screen.specs.declared.cell.Cell.{Cell as ACell};
-ghost use Rattle.ansi_screen.specs.Leaving.{TakesRows, first_rows};
+ghost use Rattle.ansi_screen.specs.Leaving.{TakesRows, first_rows, printed_rows, swapped};
 
 use crate::cell::Cell;
 use crate::display::Display;
 use crate::screen::Screen;
+use crate::text::LeftOut;
 use crate::texts::{PutRuns, print_by_runs};
 use anstyle_parse::{Params, Perform, PerformText};
 
@@ -28,10 +29,10 @@ pub trait TakeRow {
 
 /// Takes rows, and is told of operating system commands, as of those that begin links.
 pub trait TakeCommand: TakeRow {
-    // What a command does to it, by the number of the link that is in force behind it and by its parts.
+    // What a command does to it, by the number of the link that is in force after it and by its parts.
     ghost takes_command: { Self → ℕ → List (List ℕ) → Self → Type 0 };
 
-    /// Takes the parts of a command, and the number of the link in force behind it; 0, where none is.
+    /// Takes the parts of a command, and the number of the link in force after it; 0, where none is.
     fn take_command(&mut self, link: u32, parts: &[&[u8]])
         ensures { takes_command self.old link (map (λ part. part.now) parts.now) self.new };
 }
@@ -39,8 +40,9 @@ pub trait TakeCommand: TakeRow {
 /// A screen, and a taker to which each row of the main screen that scrolls off at the top is handed,
 /// before it is gone: in order, each once. A row that autowrap left is handed on as one that goes on.
 ///
-/// Such rows leave by LF, VT, FF, IND, NEL, SU and autowrap, where the upper margin is the first row. No
-/// row leaves by DL or ED, which take away what they are told to, nor from the alternate screen.
+/// Such rows leave by LF, VT, FF, IND, NEL, SU and autowrap, where the upper margin is the first row. By ED 2 and RIS,
+/// which take away all of the main screen, its rows leave up to the last in which something was printed. No row leaves
+/// by DL or another ED, which take away what they are told to, nor from the alternate screen.
 #[derive(Drop)]
 pub struct Scrolling<R> {
     screen: Screen,
@@ -109,6 +111,28 @@ impl<R: TakeRow> Scrolling<R> {
     {
         hand_on(self.screen.display(), count, &mut self.taker);
     }
+
+    /// Hands the rows of the screen on, up to the last in which something was printed.
+    pub fn hand_on_printed(&mut self)
+        ensures screen { screen_of self.new ≡ screen_of self.old }
+        ensures taken { TakesRows R.takes (taker_of self.old) (printed_rows (screen_of self.old).display)
+            (taker_of self.new) }
+    {
+        let count = self.screen.used_rows(LeftOut::Unprinted);
+        self.hand_on(count);
+    }
+
+    /// Hands on the rows of the main screen while the alternate one hides it, up to the last in which something was
+    /// printed.
+    pub fn hand_on_hidden(&mut self)
+        ensures screen { screen_of self.new ≡ screen_of self.old }
+        ensures taken { TakesRows R.takes (taker_of self.old) (printed_rows (swapped (screen_of self.old).display))
+            (taker_of self.new) }
+    {
+        self.screen.swap_screens();
+        self.hand_on_printed();
+        self.screen.swap_screens();
+    }
 }
 
 impl<R: TakeCommand> Scrolling<R> {
@@ -171,7 +195,7 @@ impl<R: TakeRow> Perform for Scrolling<R> {
 
     fn esc_dispatch(&mut self, intermediates: &[u8], ignore: bool, byte: u8) {
         if !ignore {
-            let count = self.screen.display().leaving_by_escape(intermediates, byte);
+            let count = self.screen.begin_escape(intermediates, byte);
             self.hand_on(count);
         }
         self.screen.esc_dispatch(intermediates, ignore, byte);

@@ -1,5 +1,5 @@
 //! A screen as a performer.
-ghost use Rattle.std.specs.Prelude.{◌≡◌, ◌<◌, ◌≤◌, [], length, take, IfOk};
+ghost use Rattle.std.specs.Prelude.{◌≡◌, ◌<◌, ◌≤◌, false, [], length, take, IfOk};
 ghost use Rattle.ansi_screen.specs.After.{repeatable, is_repeat};
 
 use crate::cell::Cell;
@@ -64,12 +64,12 @@ fn is_repeat(intermediates: &[u8], final_byte: u8) -> bool
 
 impl Screen {
     ghost use Rattle.ansi_screen.specs.Display.{IsSized, row_cells};
-    ghost use Rattle.anstyle_parse.specs.Stream.Call.{print};
+    ghost use Rattle.anstyle_parse.specs.Stream.Call.{print, esc_dispatch};
     ghost use Rattle.anstyle_parse.specs.Stream.Items.{EachIs};
     ghost use Rattle.ansi_screen.specs.After.{new_state, after_all};
     ghost use Rattle.ansi_screen.specs.Runs.{is_printed_ascii};
     ghost use Rattle.ansi_screen.specs.Laws.{printing};
-    ghost use Rattle.ansi_screen.specs.Leaving.{before_scroll, leaving, all_left};
+    ghost use Rattle.ansi_screen.specs.Leaving.{before_scroll, leaving, all_left, swapped};
     ghost use Rattle.ansi_screen.specs.Following.{IsNear};
 
     /// A blank screen of so many columns and rows, with the cursor at its top left. `Err` means
@@ -155,6 +155,25 @@ impl Screen {
         ensures within { result ≤ self.new.display.height }
     {
         self.display.begin_print(c)
+    }
+
+    /// What an escape sequence of which nothing was dropped does before anything scrolls: before RIS the main screen
+    /// shows. The answer is how many rows leave by it.
+    pub(crate) fn begin_escape(&mut self, intermediates: &[u8], final_byte: u8) -> usize
+        ensures marked { self.new ≡ record self.old {
+          display = before_scroll (esc_dispatch intermediates.now false final_byte) self.old.display;
+        } }
+        ensures count { result ≡ leaving (esc_dispatch intermediates.now false final_byte) self.old.display }
+        ensures within { result ≤ self.new.display.height }
+    {
+        self.display.begin_escape(intermediates, final_byte)
+    }
+
+    /// The main and the alternate screen change places.
+    pub(crate) fn swap_screens(&mut self)
+        ensures { self.new ≡ record self.old { display = swapped self.old.display } }
+    {
+        self.display.swap_screens();
     }
 
     /// Puts so much of this printed ASCII into the cursor's row as it has room for, and answers how much that

@@ -181,7 +181,7 @@ fn put_row<W: Sink>(output: &mut Output<W>, cells: &[Cell])
 
 impl Display {
     /// How many rows come up to the last that has a cell which is not left out.
-    fn used_rows(&self, ends: LeftOut) -> usize
+    pub(crate) fn used_rows(&self, ends: LeftOut) -> usize
         ensures used { result ≡ used_rows (left_out ends) self.now.height self.now }
         ensures within { result ≤ self.now.height }
     {

@@ -13,12 +13,12 @@ use Rattle.ansi_screen.specs.declared.cell.Marks.{Marks}
 use Rattle.ansi_screen.specs.declared.cell.Marks.TheVariants.{Unmarked, One, Two}
 use Rattle.ansi_screen.specs.Cells.{is_right}
 use Rattle.ansi_screen.specs.After.{State, new_state, after_all}
-use Rattle.ansi_screen.specs.Text.{marks_text, cell_text, used, used_rows, is_unprinted, goes_on}
+use Rattle.ansi_screen.specs.Text.{marks_text, cell_text, used, is_unprinted, goes_on}
 use Rattle.ansi_screen.specs.Leaving.{all_left}
-use Rattle.ansi_screen.proofs.CharacterLemmas.{PrintsCharacter, IsGood, AreGoodMarks, IsGoodCell, AreGood, IsGoodState, good-new, good-after_all, good-left, good-first_rows}
+use Rattle.ansi_screen.proofs.CharacterLemmas.{PrintsCharacter, IsGood, AreGoodMarks, IsGoodCell, AreGood, IsGoodState, good-new, good-after_all, good-left}
 use Rattle.screen_text.specs.Lines.{open_after, showing}
 use Rattle.screen_text.specs.Shown.{given_all}
-use Rattle.screen_text.proofs.CleanLemmas.{all-print}
+use Rattle.screen_text.proofs.CleanLemmas.{all-print, good-showing}
 use Rattle.screen_text.specs.Rows.{Handed, leaving, command, all_handed}
 use Rattle.screen_html.specs.Links.{Kept, no_links, links_after}
 use Rattle.screen_html.proofs.HandedLemmas.{rows_in, rows_in-handed}
@@ -90,5 +90,5 @@ module _ (Holds : List ℕ → Type 0) (none : Holds []) (both : (first second :
       all-append (handed_styled no_links all) (rows_styled links last ++ closing_styled (open_after (open_after false left) last))
       (of-handed no_links all (subst (AllByRecursion AreGood) (sym (rows_in-handed (given_all calls) s)) (good-left (given_all calls) s prints new)))
       (all-append (rows_styled links last) (closing_styled (open_after (open_after false left) last))
-      (of-rows links last (good-first_rows (used_rows is_unprinted behind.display.height behind.display) behind.display good.display))
+      (of-rows links last (good-showing behind.display good.display))
       (of-closing (open_after (open_after false left) last)))

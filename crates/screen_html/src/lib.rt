@@ -1,5 +1,4 @@
-//! What a terminal showed as HTML: the lines of all that scrolled off its screen and of what still shows, in
-//! their colours.
+//! What a terminal showed as HTML: the lines of all that left its screen and of what still shows, in their colours.
 //!
 //! ```
 //! let mut log = FromRead::new(log);

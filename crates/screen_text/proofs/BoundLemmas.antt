@@ -1,6 +1,6 @@
 -- How long the text of what a screen showed can be.
-use Rattle.std.proofs.Common.{◌≡◌, ℕ, zero, suc, ◌+◌, ◌*◌, ◌≤◌, Bool, true, false, List, [], ◌∷◌, ◌++◌, length, take, drop, refl, ap, arith}
-use Rattle.std.specs.Prelude.{◌==◌, encode_utf8, if◌then◌else◌}
+use Rattle.std.proofs.Common.{◌≡◌, ℕ, zero, suc, ◌+◌, ◌*◌, ◌≤◌, Bool, true, false, List, [], ◌∷◌, ◌++◌, length, take, drop, refl, ap, subst, inl, inr, arith}
+use Rattle.std.specs.Prelude.{◌⊎◌, ◌==◌, encode_utf8, if◌then◌else◌}
 use Rattle.std.specs.List.{AllByRecursion, flat_map}
 use Rattle.std.proofs.lemmas.List.{length-append, length-take}
 use Rattle.std.proofs.lemmas.Str.{length-encode, len_utf8_bounds}
@@ -14,12 +14,13 @@ use Rattle.ansi_screen.specs.declared.cell.Marks.TheVariants.{Unmarked, One, Two
 use Rattle.ansi_screen.specs.Cells.{is_right}
 use Rattle.ansi_screen.specs.Display.{Display, row_cells}
 use Rattle.ansi_screen.specs.Edits.{row_going_on}
-use Rattle.ansi_screen.specs.After.{State, new_state, after, after_all}
-use Rattle.ansi_screen.specs.Text.{marks_text, cell_text, used, used_rows, is_unprinted, goes_on}
-use Rattle.ansi_screen.specs.Leaving.{leaving, is_wrapping, before_scroll, first_rows, rows_left, all_left}
+use Rattle.ansi_screen.specs.After.{State, new_state, executed, after, after_all}
+use Rattle.ansi_screen.specs.Text.{marks_text, cell_text, used, is_unprinted, goes_on}
+use Rattle.ansi_screen.specs.Leaving.{swapped, main_screen, printed_count, printed_rows, leaving, is_wrapping, before_escape, before_scroll, first_rows, rows_left, all_left}
 use Rattle.ansi_screen.specs.Laws.{carriage_return, line_feed}
-use Rattle.ansi_screen.specs.TextsProof.{all_left-append}
-use Rattle.ansi_screen.proofs.SizeLemmas.{HasSize, sized-after, sized-after_all, few-leave}
+use Rattle.ansi_screen.specs.TextsProof.{after_all-append, all_left-append}
+use Rattle.ansi_screen.proofs.SizeLemmas.{HasSize, few-used, sized-after, sized-after_all, few-leave}
+use Rattle.ansi_screen.proofs.SwitchLemmas.{IsMain, none-or-main}
 use Rattle.screen_text.specs.Lines.{row_text, showing}
 use Rattle.screen_text.specs.Shown.{given, given_all, shown_text}
 use Rattle.screen_text.specs.Laws.{most_cell_bytes}
@@ -102,25 +103,27 @@ length-first : (n : ℕ) (d : Display) → length (first_rows n d) ≡ n
 length-first zero d = refl
 length-first (suc n) d = omega (arith, length-append (first_rows n d) (row_cells n d ∷ []), length-first n d)
 
-used-if : (t : Bool) (a n : ℕ) → a ≤ n → (if t then a else n) ≤ n
-used-if true a n few = few
-used-if false a n few = omega arith
-
-few-used : (n : ℕ) (d : Display) → used_rows is_unprinted n d ≤ n
-few-used zero d = omega arith
-few-used (suc n) d = used-if _ (used_rows is_unprinted n d) (suc n) (omega (arith, few-used n d))
-
 width-if : {width : ℕ} (t : Bool) (d : Display) → d.width ≡ width → (if t then row_going_on true d else d).width ≡ width
 width-if true d is = is
 width-if false d is = is
 
+width-of : {width : ℕ} (t : Bool) (a b : Display) → a.width ≡ width → b.width ≡ width → (if t then a else b).width ≡ width
+width-of true a b first second = first
+width-of false a b first second = second
+
 -- the rows that leave, and those that still show
 module _ (width height : ℕ) where
+  few-escape : (intermediates : List ℕ) (final : ℕ) (d : Display) → d.width ≡ width → (before_escape intermediates final d).width ≡ width
+  unfolding before_escape
+  few-escape [] final d is = width-of (final == 0x63) (main_screen d) d (width-of d.is_alternate (swapped d) d is is) is
+  few-escape (mark ∷ marks) final d is = is
+
   few-before : (call : Call) (d : Display) → d.width ≡ width → (before_scroll call d).width ≡ width
   few-before (print c) d is = width-if (is_wrapping c d) d is
   few-before (execute byte) d is = is
   few-before (csi_dispatch groups intermediates ignore final) d is = is
-  few-before (esc_dispatch intermediates ignore final) d is = is
+  few-before (esc_dispatch intermediates ignore final) d is =
+      width-of ignore d (before_escape intermediates final d) is (few-escape intermediates final d is)
   few-before (hook groups intermediates ignore final) d is = is
   few-before (put byte) d is = is
   few-before unhook d is = is
@@ -133,18 +136,43 @@ module _ (width height : ℕ) where
       (few-first width (leaving call s.display) (before_scroll call s.display) (few-before call s.display is.0))
       (few-left calls (after call s) (sized-after width height call s is))
 
-  -- by what is given of a call no more than the screen has
-  length-one : (call : Call) (s : State) → HasSize width height s.display → length (all_left (call ∷ []) s) ≤ height
+  -- the rows of the main screen count, where it is hidden
+  abbrev hidden_rows : Display → ℕ
+  hidden_rows d = if d.is_alternate then height else 0
+
+  few-rows : (t : Bool) → (if t then height else 0) ≤ height
+  few-rows true = omega arith
+  few-rows false = omega arith
+
+  -- By a call no more leave than the screen has, and none by one that hides the main screen.
+  leave-main : (call : Call) (s : State) → (leaving call s.display ≡ 0) ⊎ IsMain (after call s).display → HasSize width height s.display
+      → leaving call s.display + hidden_rows (after call s).display ≤ height
+  leave-main call s (inl none) is = omega (arith, none, few-rows (after call s).display.is_alternate)
+  leave-main call s (inr main) is =
+      omega (arith, few-leave width height call s.display is, ap (λ (t : Bool). if t then height else 0) main)
+
+  leave-one_at : (call : Call) (s : State) (t : Bool) → s.display.is_alternate ≡ t → HasSize width height s.display
+      → leaving call s.display + hidden_rows (after call s).display ≤ height + (if t then height else 0)
+  leave-one_at call s true test is = omega (arith, few-leave width height call s.display is, few-rows (after call s).display.is_alternate)
+  leave-one_at call s false test is = omega (arith, leave-main call s (none-or-main call s test) is)
+
+  length-one : (call : Call) (s : State) → HasSize width height s.display
+      → length (all_left (call ∷ []) s) + hidden_rows (after call s).display ≤ height + hidden_rows s.display
   length-one call s is =
       omega (
         arith,
         length-append (rows_left call s.display) [],
         length-first (leaving call s.display) (before_scroll call s.display),
-        few-leave width height call s.display is,
+        leave-one_at call s s.display.is_alternate refl is,
       )
 
+  same-hidden : (s : State) → hidden_rows (after carriage_return s).display ≡ hidden_rows s.display
+  unfolding executed
+  same-hidden s = refl
+
+  -- by what is given of a call
   length-control : (byte : ℕ) (t : Bool) (s : State) → (byte == 0x0A) ≡ t → HasSize width height s.display
-      → length (all_left (given (execute byte)) s) ≤ height
+      → length (all_left (given (execute byte)) s) + hidden_rows (after_all (given (execute byte)) s).display ≤ height + hidden_rows s.display
   length-control byte true s test is =
       let next : State = after carriage_return s in
       rw test (omega (
@@ -152,10 +180,12 @@ module _ (width height : ℕ) where
         length-append (rows_left carriage_return s.display) (all_left (line_feed ∷ []) next),
         ap length (return-left s.display),
         length-one line_feed next (sized-after width height carriage_return s is),
+        same-hidden s,
       ))
   length-control byte false s test is = rw test (length-one (execute byte) s is)
 
-  length-given : (call : Call) (s : State) → HasSize width height s.display → length (all_left (given call) s) ≤ height
+  length-given : (call : Call) (s : State) → HasSize width height s.display
+      → length (all_left (given call) s) + hidden_rows (after_all (given call) s).display ≤ height + hidden_rows s.display
   length-given (print c) s is = length-one (print c) s is
   length-given (execute byte) s is = length-control byte _ s refl is
   length-given (csi_dispatch groups intermediates ignore final) s is = length-one (csi_dispatch groups intermediates ignore final) s is
@@ -165,7 +195,8 @@ module _ (width height : ℕ) where
   length-given unhook s is = length-one unhook s is
   length-given (osc_dispatch parts bell) s is = length-one (osc_dispatch parts bell) s is
 
-  length-left : (calls : List Call) (s : State) → HasSize width height s.display → length (all_left (given_all calls) s) ≤ length calls * height
+  length-left : (calls : List Call) (s : State) → HasSize width height s.display
+      → length (all_left (given_all calls) s) + hidden_rows (after_all (given_all calls) s).display ≤ length calls * height + hidden_rows s.display
   length-left [] s is = omega arith
   length-left (call ∷ calls) s is =
       let next : State = after_all (given call) s in
@@ -175,8 +206,27 @@ module _ (width height : ℕ) where
         length-append (all_left (given call) s) (all_left (given_all calls) next),
         length-given call s is,
         length-left calls next (sized-after_all width height (given call) s is),
+        ap (λ (x : State). hidden_rows x.display) (after_all-append (given call) (given_all calls) s),
         suc-mul (length calls) height,
       )
+
+-- the rows that still show
+few-hidden : (t : Bool) (d : Display) (width : ℕ) → d.width ≡ width → AreFew width (if t then printed_rows (swapped d) else [])
+few-hidden true d width is = few-first width (printed_count (swapped d)) (swapped d) is
+few-hidden false d width is = tt
+
+length-showing : (t : Bool) (d : Display)
+    → length ((if t then printed_rows (swapped d) else []) ++ printed_rows d) ≤ (if t then d.height else 0) + d.height
+length-showing true d =
+    omega (
+      arith,
+      length-append (printed_rows (swapped d)) (printed_rows d),
+      length-first (printed_count (swapped d)) (swapped d),
+      length-first (printed_count d) d,
+      few-used d.height (swapped d),
+      few-used d.height d,
+    )
+length-showing false d = omega (arith, length-first (printed_count d) d, few-used d.height d)
 
 pub length-shown : (width height : ℕ) (bytes : List ℕ) (calls : List Call) → AreCalls bytes calls
     → length (shown_text (new_state width height) calls) ≤ (length bytes + 1) * height * (most_cell_bytes * width + 1)
@@ -190,7 +240,11 @@ length-shown width height bytes calls are =
     let rows : List (List Cell) = left ++ shows in
     let few : AreFew width rows =
     few-append width left shows (few-left width height (given_all calls) s new)
-    (few-first width (used_rows is_unprinted end.display.height end.display) end.display kept.0) in
+    (few-append width (if end.display.is_alternate then printed_rows (swapped end.display) else []) (printed_rows end.display)
+    (few-hidden end.display.is_alternate end.display width kept.0)
+    (few-first width (printed_count end.display) end.display kept.0)) in
+    let showing_few : length shows ≤ hidden_rows width height end.display + height =
+    subst (λ h. length shows ≤ (if end.display.is_alternate then h else 0) + h) kept.1 (length-showing end.display.is_alternate end.display) in
     let calls_few : length calls * height ≤ length bytes * height =
     mul-le-mul_right {m = length calls} {n = length bytes} height (length-calls bytes calls are) in
     let count : length rows ≤ (length bytes + 1) * height =
@@ -199,9 +253,7 @@ length-shown width height bytes calls are =
       length-append left shows,
       length-left width height calls s new,
       calls_few,
-      length-first (used_rows is_unprinted end.display.height end.display) end.display,
-      few-used end.display.height end.display,
-      kept.1,
+      showing_few,
       suc-mul (length bytes) height,
     ) in
     let long : length rows * row_bytes width ≤ (length bytes + 1) * height * row_bytes width =

@@ -20,11 +20,12 @@ use Rattle.ansi_screen.specs.declared.cell.Marks.{Marks}
 use Rattle.ansi_screen.specs.declared.cell.Marks.TheVariants.{Unmarked, One, Two}
 use Rattle.ansi_screen.specs.Cells.{is_right}
 use Rattle.ansi_screen.specs.After.{State, new_state, after_all}
-use Rattle.ansi_screen.specs.Text.{marks_text, cell_text, used, used_rows, is_unprinted, goes_on}
-use Rattle.ansi_screen.specs.Leaving.{all_left}
+use Rattle.ansi_screen.specs.Text.{marks_text, cell_text, used, is_unprinted, goes_on}
+use Rattle.ansi_screen.specs.Display.{Display}
+use Rattle.ansi_screen.specs.Leaving.{all_left, swapped, printed_count, printed_rows}
 use Rattle.screen_text.specs.Lines.{row_text, rows_text, open_after, closing, showing}
 use Rattle.screen_text.specs.Shown.{given, given_all, shown_text}
-use Rattle.ansi_screen.proofs.CharacterLemmas.{PrintsCharacter, IsGood, AreGoodMarks, IsGoodCell, AreGood, IsGoodState, good-new, good-after_all, good-left, good-first_rows}
+use Rattle.ansi_screen.proofs.CharacterLemmas.{PrintsCharacter, IsGood, AreGoodMarks, IsGoodCell, AreGood, HasGood, IsGoodState, all-append, good-new, good-after_all, good-left, good-first_rows}
 
 abbrev AreClean : List ℕ → Type 0
 AreClean bytes = AllByRecursion (λ b. IsTrue (is_clean b)) bytes
@@ -132,6 +133,16 @@ pub all-print : (calls : List Call) → AreShowable calls → AllByRecursion Pri
 all-print [] are = tt
 all-print (call ∷ calls) are = prints-append (given call) (given_all calls) (given-prints call are.0) (all-print calls are.1)
 
+-- the rows that still show
+good-hidden : (t : Bool) (d : Display) → HasGood d → AllByRecursion AreGood (if t then printed_rows (swapped d) else [])
+good-hidden true d good = good-first_rows (printed_count (swapped d)) (swapped d) (good.1, good.0)
+good-hidden false d good = tt
+
+pub good-showing : (d : Display) → HasGood d → AllByRecursion AreGood (showing d)
+good-showing d good =
+    all-append (if d.is_alternate then printed_rows (swapped d) else []) (printed_rows d) (good-hidden d.is_alternate d good)
+    (good-first_rows (printed_count d) d good)
+
 pub clean-shown : (columns rows : ℕ) (bytes : List ℕ) (calls : List Call) → AreCalls bytes calls
     → IsClean (shown_text (new_state columns rows) calls)
 clean-shown columns rows bytes calls are =
@@ -145,5 +156,5 @@ clean-shown columns rows bytes calls are =
     clean-append (rows_text left) (rows_text rows_then ++ closing (open_after (open_after false left) rows_then))
     (clean-rows left (good-left (given_all calls) s prints new))
     (clean-append (rows_text rows_then) (closing (open_after (open_after false left) rows_then))
-    (clean-rows rows_then (good-first_rows (used_rows is_unprinted end.display.height end.display) end.display good.display))
+    (clean-rows rows_then (good-showing end.display good.display))
     (clean-if (open_after (open_after false left) rows_then) (0x0A ∷ []) [] clean-feed clean-nil))

@@ -1,6 +1,6 @@
 -- The rows that still show on a screen on which plain text was typed.
 use Rattle.std.proofs.Common.{◌≡◌, ℕ, zero, suc, ◌+◌, ◌-◌, ◌*◌, ◌<◌, ◌≤◌, Bool, true, false, List, [], ◌∷◌, ◌++◌, length, take, drop, refl, ap, sym, ◌∙◌, subst, inl, inr, arith}
-use Rattle.std.specs.Prelude.{◌⊎◌, nat_lt, ◌==◌, replicate}
+use Rattle.std.specs.Prelude.{◌⊎◌, nat_lt, ◌==◌, replicate, if◌then◌else◌}
 use Rattle.std.specs.List.{AllByRecursion}
 use Rattle.std.proofs.lemmas.Bool.{ltb-true, ltb-false, ne_eqb}
 use Rattle.std.proofs.lemmas.List.{append-nil, append_assoc, length-append, length-replicate, length_push, replicate-append-replicate, take-append-drop, take_at, drop_at, drop-append-le}
@@ -9,7 +9,7 @@ use Rattle.anstyle_parse.proofs.Lists.Parts.{AllByRecursion-take}
 use Rattle.ansi_screen.specs.declared.cell.Cell.{Cell}
 use Rattle.ansi_screen.specs.Display.{Display, row_cells}
 use Rattle.ansi_screen.specs.Text.{used, used_rows, is_unprinted, goes_on}
-use Rattle.ansi_screen.specs.Leaving.{first_rows}
+use Rattle.ansi_screen.specs.Leaving.{swapped, first_rows, printed_rows}
 use Rattle.screen_text.specs.Lines.{rows_text, open_after, showing}
 use Rattle.screen_text.proofs.EndLemmas.{open_after-append}
 use Rattle.screen_text.proofs.RowTextLemmas.{spaces, unprinted-blank, used-printed, goes_on-printed, text-ended}
@@ -128,9 +128,10 @@ used-kept kept tail d is long (inr (front, row, same, some, off)) =
     ap (λ k. used_rows is_unprinted k d) count ∙ (rw (there, some) refl ∙ sym count)
 
 pub showing-kept : (kept : List (List Cell)) (tail : List Cell) (j : ℕ) (d : Display) → d.height ≡ length kept + j → d.cells ≡ joined kept ++ tail
-    → AreLong d.width kept → AreUnprinted tail → HasEnd kept → showing d ≡ kept
-showing-kept kept tail j d rows is long are end =
-    ap (λ k. first_rows (used_rows is_unprinted k d) d) rows
+    → AreLong d.width kept → AreUnprinted tail → HasEnd kept → d.is_alternate ≡ false → showing d ≡ kept
+showing-kept kept tail j d rows is long are end main =
+    ap (λ t. (if t then printed_rows (swapped d) else []) ++ printed_rows d) main
+    ∙ ap (λ k. first_rows (used_rows is_unprinted k d) d) rows
     ∙ (ap (λ k. first_rows k d) (used-after j kept tail d is long are ∙ used-kept kept tail d is long end)
     ∙ first-kept kept tail d is long)
 
@@ -156,7 +157,8 @@ typed-showing width height left all current d typed some =
     let used_some : (used is_unprinted row == 0) ≡ false =
     ne_eqb (used is_unprinted row) 0 (λ e. omega (arith, used-printed current (width - length current) typed.printed)) in
     let end : HasEnd kept = inr (full, row, refl, used_some, goes_on-printed current (width - length current) typed.printed) in
-    ap (λ l. left ++ l) (showing-kept kept tail (height - length kept) d rows cells long (unprinted-spaces (typed.rest - (width - length current))) end)
+    ap (λ l. left ++ l) (showing-kept kept tail (height - length kept) d rows cells long (unprinted-spaces (typed.rest - (width - length current))) end
+    (ap (λ (e : Display). e.is_alternate) typed.is))
     ∙ (sym (append_assoc left full (row ∷ [])) ∙ ap (λ l. l ++ row ∷ []) typed.split)
 
 -- two lists that are one, split in two ways
@@ -183,7 +185,7 @@ kept-end left kept base same some (inl none) =
 kept-end left kept base same some (inr (front, row, is, used_some, off)) =
     inr (drop (length left) front, row, end-of left kept front row (same ∙ is) some, used_some, off)
 
--- The last rows are blank, and the cursor stands behind them: the rows that show are those up to the last that is not, and
+-- The last rows are blank, and the cursor stands after them: the rows that show are those up to the last that is not, and
 -- so many blank ones have left as have no room.
 ended-at : (width height n : ℕ) (left base : List (List Cell)) (d : Display) (t : Bool)
     → (typed : Typed width height left (base ++ blank_rows width n) [] d) → nat_lt n (length typed.full) ≡ t → HasEnd base
@@ -213,7 +215,7 @@ ended-at width height n left base d true typed test end =
     let none : 0 ≡ n - (height - 1) = omega arith in
     ap (λ l. left ++ l) (showing-kept kept tail (height - length kept) d rows cells long
     (unprinted-append (joined (blank_rows width n)) (spaces typed.rest) (unprinted-rows width n) (unprinted-spaces typed.rest))
-    (kept-end left kept base parts.0 (omega arith) end))
+    (kept-end left kept base parts.0 (omega arith) end) (ap (λ (e : Display). e.is_alternate) typed.is))
     ∙ (parts.0 ∙ (sym (append-nil base) ∙ ap (λ j. base ++ blank_rows width j) none))
 ended-at width height n left base d false typed test end =
     let full : List (List Cell) = typed.full in
@@ -239,7 +241,7 @@ ended-at width height n left base d false typed test end =
     ] in
     ap (λ l. left ++ l) (showing-kept [] tail height d rows cells tt
     (unprinted-append (joined (blank_rows width (length full))) (spaces typed.rest) (unprinted-rows width (length full)) (unprinted-spaces typed.rest))
-    (inl refl))
+    (inl refl) (ap (λ (e : Display). e.is_alternate) typed.is))
     ∙ (parts.0 ∙ ap (λ j. base ++ blank_rows width j) same)
 
 pub ended-showing : (width height n : ℕ) (left base : List (List Cell)) (d : Display)

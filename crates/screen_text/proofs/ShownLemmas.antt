@@ -1,5 +1,5 @@
 -- Rows that are taken are written, so that calls which the screen receives are shown.
-use Rattle.std.specs.Prelude.{◌==◌}
+use Rattle.std.specs.Prelude.{◌==◌, if◌then◌else◌}
 use Rattle.std.specs.List.{flat_map}
 use Rattle.std.proofs.Common.{◌≡◌, ℕ, Bool, true, false, List, [], ◌∷◌, ◌++◌, take, map, refl, sym, ap, ap₂, ◌∙◌, subst, append-nil, append_assoc}
 use Rattle.std.proofs.lemmas.Bool.{ne_eqb}
@@ -13,8 +13,9 @@ use Rattle.anstyle_parse.specs.Io.AddingProof.{Adds-append}
 use Rattle.ansi_screen.specs.declared.cell.Cell.{Cell}
 use Rattle.ansi_screen.specs.Display.{Display}
 use Rattle.ansi_screen.specs.After.{State, after, after_all}
-use Rattle.ansi_screen.specs.Text.{cell_text, used, used_rows, is_unprinted, goes_on}
-use Rattle.ansi_screen.specs.Leaving.{all_left, first_rows, rows_left, TakesRows, Scrolls, ScrollsAll}
+use Rattle.ansi_screen.specs.Text.{cell_text, used, is_unprinted, goes_on}
+use Rattle.ansi_screen.specs.Leaving.{swapped, printed_rows, all_left, rows_left, TakesRows, Scrolls, ScrollsAll}
+use Rattle.ansi_screen.proofs.LeavingLemmas.{takes-append}
 use Rattle.screen_text.specs.declared.performer.ShownWriter.{ShownWriter}
 use Rattle.screen_text.specs.Lines.{row_text, rows_text, open_after, closing, showing, row_text_at, after_row as after_line, after_command}
 use Rattle.screen_text.specs.Rows.{Handed, leaving, commands, handed, all_handed, rows_from, after_rows, last_rows_from, WritesRow, WritesCommand, WritesNothing, Took, none, row, told, passed}
@@ -95,6 +96,13 @@ module _ {R : Type 0} (takes : R → List Cell → R → Type 0) (takes_command 
       → Shows takes takes_command passes_on old (given_all []) new
   shows-passed old new same held = record { screen = same; taken = passed held none }
 
+-- the rows that still show: those of the main screen, where it is hidden, and then those of the one that shows
+pub takes-showing : {R : Type 0} (takes : R → List Cell → R → Type 0) (d : Display) (t : Bool) (a b c : R) → d.is_alternate ≡ t
+    → TakesRows takes a (if t then printed_rows (swapped d) else []) b → TakesRows takes b (printed_rows d) c → TakesRows takes a (showing d) c
+takes-showing takes d t a b c is first second =
+    takes-append takes (if d.is_alternate then printed_rows (swapped d) else []) (printed_rows d) a b c
+    (subst (λ u. TakesRows takes a (if u then printed_rows (swapped d) else []) b) (sym is) first) second
+
 -- the rows that still show, and the end of the last
 pub adds-ending : {R W S : Type 0} (sink : SinkOf W) (takes : R → List Cell → R → Type 0) (takes_command : R → ℕ → List (List ℕ) → R → Type 0) (passes_on : R → R → Type 0) (output_in : R → Output W)
     (standing_in : R → S) (row_text_of : S → List Cell → List ℕ) (after_row : S → List Cell → S) (after_command : S → ℕ → List (List ℕ) → S) (closing_of : S → List ℕ)
@@ -102,14 +110,12 @@ pub adds-ending : {R W S : Type 0} (sink : SinkOf W) (takes : R → List Cell �
     (writes_command : (old : R) (link : ℕ) (parts : List (List ℕ)) (new : R) → takes_command old link parts new
     → WritesCommand sink output_in standing_in after_command old link parts new)
     (writes_nothing : (old new : R) → passes_on old new → WritesNothing sink output_in standing_in old new)
-    (s shown : State) (count : ℕ) (a b c : R) (end : Output W) → shown ≡ s
-    → count ≡ used_rows is_unprinted shown.display.height shown.display
-    → TakesRows takes a (first_rows count s.display) b → c ≡ b → Adds sink (closing_of (standing_in c)) (output_in c) end
+    (s : State) (a b c : R) (end : Output W)
+    → TakesRows takes a (showing s.display) b → c ≡ b → Adds sink (closing_of (standing_in c)) (output_in c) end
     → Adds sink (last_rows_from row_text_of after_row after_command closing_of (standing_in a) (map leaving (showing s.display))) (output_in a) end
-adds-ending {R} {W} {S} sink takes takes_command passes_on output_in standing_in row_text_of after_row after_command closing_of writes_row writes_command writes_nothing s shown count a b c end is many taken same closed =
+adds-ending {R} {W} {S} sink takes takes_command passes_on output_in standing_in row_text_of after_row after_command closing_of writes_row writes_command writes_nothing s a b c end taken same closed =
     let d : Display = s.display in
-    let count_is : count ≡ used_rows is_unprinted d.height d = many ∙ ap (λ (x : State). used_rows is_unprinted x.display.height x.display) is in
-    let took : Took takes takes_command passes_on a (map leaving (showing d)) b = took-rows takes takes_command passes_on (showing d) a b (subst (λ k. TakesRows takes a (first_rows k d) b) count_is taken) in
+    let took : Took takes takes_command passes_on a (map leaving (showing d)) b = took-rows takes takes_command passes_on (showing d) a b taken in
     let ended : Adds sink (closing_of (standing_in b)) (output_in b) end = subst (λ (x : R). Adds sink (closing_of (standing_in x)) (output_in x) end) same closed in
     Adds-append sink (rows_from row_text_of after_row after_command (standing_in a) (map leaving (showing d))) (closing_of (after_rows after_row after_command (standing_in a) (map leaving (showing d))))
     (output_in a) (output_in b) end

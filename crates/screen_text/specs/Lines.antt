@@ -8,8 +8,8 @@ use Rattle.anstyle_parse.specs.declared.io.devices.Sink.{Ghosts as SinkOf}
 use Rattle.anstyle_parse.specs.declared.io.output.Output.{Output}
 use Rattle.ansi_screen.specs.declared.cell.Cell.{Cell}
 use Rattle.ansi_screen.specs.Display.{Display}
-use Rattle.ansi_screen.specs.Text.{cell_text, is_unprinted, goes_on, used, used_rows}
-use Rattle.ansi_screen.specs.Leaving.{first_rows}
+use Rattle.ansi_screen.specs.Text.{cell_text, is_unprinted, goes_on, used}
+use Rattle.ansi_screen.specs.Leaving.{swapped, printed_rows}
 use Rattle.screen_text.specs.declared.rows.TextRows.{TextRows}
 use Rattle.screen_text.specs.Rows.{WritesRow, WritesCommand, WritesNothing}
 
@@ -20,7 +20,7 @@ row_text row = flat_map cell_text (take (used is_unprinted row) row) ++ (if goes
 abbrev pub rows_text : List (List Cell) → List ℕ
 rows_text rows = flat_map row_text rows
 
--- whether a line is open behind rows: the last of them goes on
+-- whether a line is open after rows: the last of them goes on
 abbrev pub open_after : Bool → List (List Cell) → Bool
 open_after on [] = on
 open_after on (row ∷ rows) = open_after (goes_on row) rows
@@ -29,9 +29,10 @@ open_after on (row ∷ rows) = open_after (goes_on row) rows
 abbrev pub closing : Bool → List ℕ
 closing on = if on then 0x0A ∷ [] else []
 
--- the rows of a display up to the last in which something was printed
+-- what still shows: the rows up to the last in which something was printed; where the alternate screen shows, those of
+-- the main screen come first
 abbrev pub showing : Display → List (List Cell)
-showing d = first_rows (used_rows is_unprinted d.height d) d
+showing d = (if d.is_alternate then printed_rows (swapped d) else []) ++ printed_rows d
 
 -- the output of a writer of such text; whether the last row that it took goes on
 abbrev pub output_of : {W : Type 0} → TextRows W → Output W

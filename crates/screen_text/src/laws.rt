@@ -84,7 +84,8 @@ pub fn rewritten()
 
 /// Bound: a byte writes at most a screen of rows, and the end of the stream another; a row has at most 12 bytes for
 /// each column, and a line feed. One byte writes so much where all rows are full of characters with two marks, of
-/// four bytes each: the final byte of SU, and on a screen of one row a line feed too.
+/// four bytes each: the final byte of SU, ED and RIS, and on a screen of one row a line feed too. Where the alternate
+/// screen shows, the end writes two, and the call that brought it forward none.
 pub fn bound()
     ensures { (columns rows : ℕ) (bytes : List ℕ) (calls : List Call) → AreCalls bytes calls
         → length (shown_text (new_state columns rows) calls)

@@ -1,4 +1,4 @@
-//! What a terminal showed: the lines of all that scrolled off its screen and of what still shows, as text.
+//! What a terminal showed: the lines of all that left its screen and of what still shows, as text.
 #![tactic(auto)]
 
 ghost use Rattle.std.specs.Prelude.{OnOk};
@@ -16,8 +16,9 @@ pub use option::{NoSize, SHOWN, screen_size};
 pub use performer::ShownWriter;
 pub use rows::{TextRows, WriteRows};
 
-/// Writes what a screen showed of all bytes that the reader gives: each row of the main screen as it scrolls
-/// off at the top, and at the end the rows that still show, in UTF-8.
+/// Writes what a screen showed of all bytes that the reader gives, in UTF-8: each row of the main screen as it scrolls
+/// off at the top, or is erased with all of it (ED 2, RIS), and at the end the rows that still show; where the
+/// alternate screen shows then, those of the main screen first.
 ///
 /// A row that autowrap left and the next one are one line. Cells at a row's end where nothing was printed, or
 /// what was is erased, are left out, and so are rows of such cells at the end. A line feed begins a new line, as

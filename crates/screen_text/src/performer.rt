@@ -1,15 +1,17 @@
 //! The performer that writes what a screen showed.
 ghost use Rattle.std.specs.Prelude.{◌≡◌, []};
+ghost use Rattle.ansi_screen.specs.Leaving.{TakesRows, screen_of as scrolling_screen, taker_of};
+ghost use Rattle.screen_text.specs.Lines.{showing};
 ghost use Rattle.screen_text.specs.Shown.{given, given_all};
 ghost use Rattle.screen_text.specs.Writer.{rows_of, screen_of, text_from, ending_from, Shows};
 
 use crate::rows::WriteRows;
-use ansi_screen::{LeftOut, Screen, Scrolling, TakeCommand};
+use ansi_screen::{Screen, Scrolling, TakeCommand, TakeRow};
 use anstyle_parse::io::{Output, Sink, WritingPerformer};
 use anstyle_parse::{Params, Perform, PerformText};
 
-/// Gives each row of a screen's main screen to a writer of rows as it scrolls off at the top, and when it hands
-/// its output back the rows that still show, as [`write_shown`](crate::write_shown) says.
+/// Gives each row of a screen's main screen to a writer of rows as it leaves, and when it hands its output back the rows
+/// that still show, as [`write_shown`](crate::write_shown) says.
 ///
 /// No memory is taken. A write that fails stops the writing: the fault is kept.
 #[derive(Drop)]
@@ -87,6 +89,17 @@ impl<R: TakeCommand> PerformText for ShownWriter<R> {
     ghost receives_more = { receives-more R.takes R.takes_command R.passes_on };
 }
 
+/// Hands the rows on that still show: where the alternate screen shows, those of the main screen first.
+fn hand_on_showing<R: TakeRow>(scrolling: &mut Scrolling<R>)
+    ensures { TakesRows R.takes (taker_of scrolling.old) (showing (scrolling_screen scrolling.old).display)
+        (taker_of scrolling.new) }
+{
+    if scrolling.screen().is_alternate() {
+        scrolling.hand_on_hidden();
+    }
+    scrolling.hand_on_printed();
+}
+
 /// At the end it writes the rows that still show.
 impl<W: Sink, R: WriteRows<W>> WritingPerformer<W> for ShownWriter<R> {
     ghost use Rattle.screen_text.specs.ShowingProof.{adds-shown, ends-shown};
@@ -107,8 +120,7 @@ impl<W: Sink, R: WriteRows<W>> WritingPerformer<W> for ShownWriter<R> {
 
     fn into_output(self) -> Output<W> {
         let mut scrolling = self.scrolling;
-        let count = scrolling.screen().used_rows(LeftOut::Unprinted);
-        scrolling.hand_on(count);
+        hand_on_showing(&mut scrolling);
         let (_screen, rows) = scrolling.into_parts();
         rows.into_output()
     }

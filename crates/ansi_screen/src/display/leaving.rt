@@ -1,18 +1,30 @@
-//! How many rows leave by a call: they scroll off at the top of the main screen.
-ghost use Rattle.std.specs.Prelude.{◌≡◌, ◌≤◌};
-ghost use Rattle.anstyle_parse.specs.Stream.Call.{print};
+//! How many rows leave by a call: they scroll off at the top of the main screen, or are taken away with all of it.
+ghost use Rattle.std.specs.Prelude.{◌≡◌, ◌≤◌, false};
+ghost use Rattle.anstyle_parse.specs.Stream.Call.{print, esc_dispatch};
 ghost use Rattle.anstyle_parse.specs.Views.Params.{groups_shown};
-ghost use Rattle.ansi_screen.specs.Leaving.{leaving_up, leaving_by_index, is_wrapping, leaving_by_control, leaving_by_escape, leaving_by_function, leaving_by_sequence, leaving, before_scroll};
+ghost use Rattle.ansi_screen.specs.Leaving.{swapped, leaving_up, leaving_by_index, is_wrapping, leaving_by_control, leaving_by_function, leaving_by_sequence, leaving, before_scroll};
 
 use super::{Display, first_of};
-use crate::function::{Function, Setting};
+use crate::function::{Edit, Function, Setting};
+use crate::text::LeftOut;
 use crate::width::{columns, is_shown};
 use anstyle_parse::Params;
+use std::mem;
 
 /// A character takes no more columns.
 const MOST_COLUMNS: usize = 2;
 
+/// The number of ED that erases all of a screen.
+const ALL: u16 = 2;
+
 impl Display {
+    /// The main and the alternate screen change places.
+    pub(crate) fn swap_screens(&mut self)
+        ensures { self.new ≡ swapped self.old }
+    {
+        mem::swap(&mut self.cells, &mut self.hidden);
+    }
+
     /// Of so many rows that scroll up within the margins.
     #[tactic(auto, unfolding(crate::specs::Leaving::leaving_up))]
     fn leaving_up(&self, count: u16) -> usize
@@ -83,14 +95,22 @@ impl Display {
         }
     }
 
-    /// By an escape sequence of which nothing was dropped.
-    #[tactic(auto, unfolding(crate::specs::Leaving::leaving_by_escape))]
-    pub(crate) fn leaving_by_escape(&self, intermediates: &[u8], final_byte: u8) -> usize
-        ensures count { result ≡ leaving_by_escape intermediates.now final_byte self.now }
-        ensures within { result ≤ self.now.height }
+    /// What an escape sequence of which nothing was dropped does before anything scrolls: before RIS the main screen
+    /// shows. The answer is how many rows leave by it.
+    #[tactic(auto, unfolding(crate::specs::Leaving::leaving_by_escape, crate::specs::Leaving::before_escape))]
+    pub(crate) fn begin_escape(&mut self, intermediates: &[u8], final_byte: u8) -> usize
+        ensures marked { self.new ≡ before_scroll (esc_dispatch intermediates.now false final_byte) self.old }
+        ensures count { result ≡ leaving (esc_dispatch intermediates.now false final_byte) self.old }
+        ensures within { result ≤ self.new.height }
     {
         match (intermediates, final_byte) {
             ([], b'D' | b'E') => self.leaving_by_index(),
+            ([], b'c') => {
+                if self.is_alternate {
+                    self.swap_screens();
+                }
+                self.used_rows(LeftOut::Unprinted)
+            }
             _ => 0,
         }
     }
@@ -103,6 +123,13 @@ impl Display {
     {
         match function {
             Function::Sets(Setting::ScrollUp) => self.leaving_up(first_of(params).max(1)),
+            Function::Edits(Edit::EraseInDisplay) => {
+                if first_of(params) == ALL && !self.is_alternate {
+                    self.used_rows(LeftOut::Unprinted)
+                } else {
+                    0
+                }
+            }
             _ => 0,
         }
     }

@@ -87,6 +87,30 @@ fn rows_that_are_left(rt: HostRuntime) -> Result<(), Fail> {
     Ok(())
 }
 
+// What ED 2 and RIS take away leaves first: of the alternate screen nothing, of the main one also where it is hidden.
+#[test]
+fn rows_that_are_taken_away(rt: HostRuntime) -> Result<(), Fail> {
+    let mut scrolling = counting(rt.alloc())?;
+    scrolled_off(&mut scrolling, &[b"ab\x1b[2J", b"\x1b[2J\x1b[3J\x1b[J"]);
+    assert_eq!(rt; scrolling.taker().count, 1);
+    scrolled_off(&mut scrolling, &[b"c\x1b[?1049hd\x1b[2J"]);
+    assert_eq!(rt; scrolling.taker().count, 1);
+    scrolled_off(&mut scrolling, &[b"\x1bc\x1bc"]);
+    assert_eq!(rt; scrolling.taker().count, 2);
+    Ok(())
+}
+
+#[test]
+fn both_screens(rt: HostRuntime) -> Result<(), Fail> {
+    let mut scrolling = counting(rt.alloc())?;
+    scrolled_off(&mut scrolling, &[b"ab\x1b[?1049h"]);
+    scrolling.hand_on_printed();
+    assert_eq!(rt; scrolling.taker().count, 0);
+    scrolling.hand_on_hidden();
+    assert_eq!(rt; scrolling.taker().count, 1);
+    Ok(())
+}
+
 #[test]
 fn commands_are_taken(rt: HostRuntime) -> Result<(), Fail> {
     let mut scrolling = counting(rt.alloc())?;

@@ -8,6 +8,6 @@ returns g c =
     let rows = g.R.WriteRows in
     adds-ending g.W.Sink g.R.TakeRow.takes g.R.TakeCommand.takes_command g.R.TakeRow.passes_on rows.output_in rows.standing_in rows.row_text rows.after_row rows.after_command rows.closing
     g.met.R.WriteRows.writes_row g.met.R.WriteRows.writes_command g.met.R.WriteRows.writes_nothing
-    (screen_of c.args.self.scrolling) c.screen.result.now c.used_rows-count.result
-    (taker_of c.args.self.scrolling) (taker_of c.hand_on.new.self) c.into_parts-screen.result.1 c.into_output.result
-    c.screen.ensures c.used_rows-count.ensures.used c.hand_on.ensures.taken c.into_parts-screen.ensures.taker c.into_output.ensures
+    (screen_of c.args.self.scrolling)
+    (taker_of c.args.self.scrolling) (taker_of c.hand_on_showing.new.scrolling) c.into_parts-screen.result.1 c.into_output.result
+    c.hand_on_showing.ensures c.into_parts-screen.ensures.taker c.into_output.ensures

@@ -6,6 +6,7 @@ import hashlib
 from expected_pages import ADDRESS, DARK_TITLED_HEAD, LIGHT_HEAD, LINKED_HEAD, PAGE_HEAD, PAGE_TAIL, TITLE, TITLED_HEAD
 from expected_shown import SHOWN_HOSTILE, SHOWN_ROWS
 from hostile_streams import BLOCK, SIZE, stream, text, times
+from open_strings import OPEN_STRING, ends_inside
 from safe_rows import SAFE_ROWS
 
 
@@ -25,14 +26,21 @@ class Mode:
     line and its text, which does not depend on what came before; hostile streams, each with
     its text or the digest of it; and what is written before and after each text. `stays` says
     that each text is its own text; `cut` is a stream, and what is written of the bytes before
-    each of its bytes, and of all of them; `waits` says that lines may be written at the end alone."""
+    each of its bytes, and of all of them; `waits` says that lines may be written at the end alone, and
+    `late` that a write which fails may be noticed with 8 KiB held back alone, and that nothing is said of how a stream
+    ends."""
 
-    def __init__(self, words, rows, line, hostile, head=b"", tail=b"", stays=False, cut=None, waits=False):
+    def __init__(self, words, rows, line, hostile, head=b"", tail=b"", stays=False, cut=None, waits=False, late=False):
         self.words, self.rows, self.line, self.hostile = words, rows, line, hostile
-        self.head, self.tail, self.stays, self.cut, self.waits = head, tail, stays, cut, waits
+        self.head, self.tail, self.stays, self.cut, self.waits, self.late = head, tail, stays, cut, waits, late
 
     def whole(self, text):
         return self.head + text + self.tail
+
+    def said(self, name, given):
+        """What the program of this name says of standard input that ends so."""
+        found = None if self.late else OPEN_STRING.search(given)
+        return b"" if found is None else ends_inside(name, "standard input", found.start())
 
     def around(self, blocks):
         yield self.head
@@ -630,9 +638,9 @@ PROGRAMS = [
             )
         ],
         [
-            Mode([], LOG_ROWS, (b"A", lines(b"print U+0041")), []),
-            Mode(["log"], LOG_ROWS, (b"A", lines(b"print U+0041")), LOG_HOSTILE, cut=LOG_CUT),
-            Mode(["canon"], CANON_ROWS, (b"\x1b[mA\n", b"\x1b[0mA\n"), CANON_HOSTILE, stays=True, cut=CANON_CUT),
+            Mode([], LOG_ROWS, (b"A", lines(b"print U+0041")), [], late=True),
+            Mode(["log"], LOG_ROWS, (b"A", lines(b"print U+0041")), LOG_HOSTILE, cut=LOG_CUT, late=True),
+            Mode(["canon"], CANON_ROWS, (b"\x1b[mA\n", b"\x1b[0mA\n"), CANON_HOSTILE, stays=True, cut=CANON_CUT, late=True),
         ],
     ),
     Program(

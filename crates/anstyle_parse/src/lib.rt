@@ -19,7 +19,8 @@
 //! - a byte that breaks a character is not lost with it: the ground state handles it too;
 //! - the text of an operating system command has at most 1024 bytes;
 //! - `size_hint` of [`ParamsIter`] counts groups, not fields;
-//! - [`canon`], [`io`] and [`laws`] are added, and so are `advance_all` and `is_in_char`.
+//! - [`canon`], [`io`] and [`laws`] are added, and so are `advance_all`, `is_in_char`,
+//!   `is_in_string` and `is_in_sequence`.
 #![tactic(auto)]
 
 mod accumulator;

@@ -72,7 +72,7 @@ impl<C: CharAccumulator> Parser<C> {
     ghost use Rattle.std.specs.Prelude.{◌++◌, ◌∷◌, [], IsTrue, ◌↔◌, ◌⊎◌};
     ghost use Rattle.anstyle_parse.specs.Stream.Bytes.{is_cancel, escape_byte};
     ghost use Rattle.std.specs.Bool.{OnFalse};
-    ghost use Rattle.anstyle_parse.specs.Views.Parser.{machine_of, calls_made, IsNew, IsInCharacter, HasOpenString, BreaksCharacter, CanTake, CanTakeAll, IsAfter, IsAfterAscii, AreBelow};
+    ghost use Rattle.anstyle_parse.specs.Views.Parser.{machine_of, calls_made, IsNew, IsInCharacter, IsInString, IsOutOfSequences, HasOpenString, BreaksCharacter, CanTake, CanTakeAll, IsAfter, IsAfterAscii, AreBelow};
     ghost use Rattle.anstyle_parse.specs.Machine.Step.{step, step_calls, machine_after, IsWithinLimits};
     ghost use Rattle.anstyle_parse.specs.Stream.Calls.{Continues, AreCalls, HasReceived};
     ghost use Rattle.anstyle_parse.specs.Stream.Call.{Call};
@@ -215,6 +215,24 @@ impl<C: CharAccumulator> Parser<C> {
         ensures ascii { (before : List ℕ) → IsAfterAscii self.now before → result ≡ false }
     {
         matches!(self.state, State::Utf8)
+    }
+
+    /// Whether a string has begun that is not ended: an operating system command, a device control string after its
+    /// header, or SOS, PM or APC. What comes is its text, up to its end.
+    pub fn is_in_string(&self) -> bool
+        ensures { IsTrue result ↔ IsInString self.now }
+    {
+        matches!(
+            self.state,
+            State::OscString | State::DcsPassthrough | State::DcsIgnore | State::SosPmApcString
+        )
+    }
+
+    /// Whether a sequence has begun, or a string, that is not ended.
+    pub fn is_in_sequence(&self) -> bool
+        ensures { result ≡ false ↔ IsOutOfSequences self.now }
+    {
+        !matches!(self.state, State::Ground | State::Utf8)
     }
 }
 

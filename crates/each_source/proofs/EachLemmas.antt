@@ -1,5 +1,5 @@
 -- Sources that were read, one after another.
-use Rattle.std.proofs.Common.{◌≡◌, ℕ, ◌≤◌, Bool, true, false, List, [], ◌∷◌, ◌++◌, Option, None, Some, is_some, Result, Ok, Err, ◌⊎◌, inl, inr, length, set, get_or, ◌<◌, IsTrue, refl, sym, ap, ◌∙◌, subst, arith}
+use Rattle.std.proofs.Common.{◌≡◌, ℕ, ◌≤◌, Bool, true, false, ◌&&◌, not, List, [], ◌∷◌, ◌++◌, Option, None, Some, is_some, Result, Ok, Err, is_err, ◌⊎◌, inl, inr, length, set, get_or, ◌<◌, IsTrue, refl, sym, ap, ◌∙◌, subst, arith}
 use Rattle.std.specs.List.{flat_map}
 use Rattle.std.specs.Io.KnownBytes.{Appends}
 use Rattle.std.proofs.KnownBytes.{Appends-kept}
@@ -10,22 +10,14 @@ use Rattle.anstyle_parse.specs.declared.io.output.Output.{Output}
 use Rattle.anstyle_parse.specs.Io.AddingProof.{AddsAt, FinishesAt}
 use Rattle.anstyle_parse.specs.Io.Output.{writer_in, fault_in, Adds, Finishes, Writes, Causes}
 use Rattle.anstyle_parse.specs.declared.io.devices.Source.{Ghosts as SourceOf}
-use Rattle.anstyle_parse.specs.declared.io.engine.Stop.{Stop}
-use Rattle.anstyle_parse.specs.declared.io.engine.Stop.TheVariants.{AtEnd, AtFault, AtRead}
 use Rattle.anstyle_parse.specs.Stream.Call.{Call}
-use Rattle.anstyle_parse.specs.Io.Run.{most_reads, StopsAs}
-use Rattle.each_source.specs.Each.{IsRead, AreRead, WritesEach, stopped_by}
-
--- where no fault is kept, the source has ended
-pub ended-stops : (stop : Stop) (at_end : Type 0) (fault : Option Fault) (failed failed_after : Bool) (count : ℕ) → fault ≡ None
-    → StopsAs stop at_end fault failed failed_after count → at_end ⊎ (IsTrue failed_after ⊎ (most_reads ≤ count))
-ended-stops AtEnd at_end fault failed failed_after count none stops = inl stops.0
-ended-stops AtFault at_end fault failed failed_after count none stops = absurd (let clash : false ≡ true = sym (ap is_some none) ∙ stops.0 in cc)
-ended-stops AtRead at_end fault failed failed_after count none stops = inr stops.1
+use Rattle.each_source.specs.declared.Stopped.{Stopped}
+use Rattle.each_source.specs.declared.Stopped.TheVariants.{NoMemory, Stuck, AtFault}
+use Rattle.each_source.specs.Each.{IsRead, AreRead, AreWhole, AddsEach, Reaches, WritesEach, stopped_by}
 
 module _ {R : Type 0} (source : SourceOf R) where
   -- what is known of sources that were read whole is known where less is
-  IsRead-when : {A B : Type 0} (reader after : R) (calls : List Call) → (B → A) → IsRead source A reader after calls → IsRead source B reader after calls
+  pub IsRead-when : {A B : Type 0} (reader after : R) (calls : List Call) → (B → A) → IsRead source A reader after calls → IsRead source B reader after calls
   IsRead-when reader after calls narrows is = record {
     read = is.read;
     consumed = is.consumed;
@@ -111,3 +103,50 @@ module _ {W T : Type 0} (sink : SinkOf W) where
     causes = causes;
   }
   WritesEach-from source text head tail readers readers_after writer new middle final (Err Read) calls before are all which written causes = absurd written
+
+module _ {W : Type 0} (sink : SinkOf W) where
+  -- the same where it came to an end before all sources: without memory, or stuck
+  pub WritesEach-stopped : {R S : Type 0} (source : SourceOf R) (text : List Call → List ℕ) (head tail : List ℕ) (readers readers_after : List R) (writer new : W)
+      (first final : Output W) (answer : Result S Stopped) → is_err answer ≡ true
+      → (added : AddsEach source sink text readers readers_after first final answer)
+      → (fault_in final ≡ None → Appends (sink.contents writer) (sink.contents new) (head ++ flat_map text added.calls))
+      → WritesEach source sink text head tail readers readers_after writer new answer
+  WritesEach-stopped source text head tail readers readers_after writer new first final (Ok done) is added written =
+      absurd (let clash : false ≡ true = is in cc)
+  WritesEach-stopped source text head tail readers readers_after writer new first final (Err NoMemory) is added written = record {
+    calls = added.calls;
+    are_read = AreRead-when source readers readers_after added.calls (λ _. (tt, added.reaches.0)) added.are_read;
+    written = (written added.reaches.0, added.reaches.1);
+    causes = tt;
+  }
+  WritesEach-stopped source text head tail readers readers_after writer new first final (Err Stuck) is added written = record {
+    calls = added.calls;
+    are_read = AreRead-when source readers readers_after added.calls (λ never. absurd never) added.are_read;
+    written = (written added.reaches.0, added.reaches.1);
+    causes = tt;
+  }
+  WritesEach-stopped source text head tail readers readers_after writer new first final (Err (AtFault fault)) is added written = absurd added.reaches
+
+-- what is stuck with no fault is stuck, and so has no fault
+pub not_stuck : (stuck clear : Bool) → (stuck && clear) ≡ false → clear ≡ true → stuck ≡ false
+not_stuck false clear both is = refl
+not_stuck true true both is = absurd (let clash : true ≡ false = both in cc)
+not_stuck true false both is = absurd (let clash : false ≡ true = is in cc)
+
+pub is_clear : (stuck clear : Bool) → (stuck && clear) ≡ true → clear ≡ true
+is_clear true clear both = both
+is_clear false clear both = absurd (let clash : false ≡ true = both in cc)
+
+pub not_is : (clear : Bool) → not clear ≡ false → clear ≡ true
+not_is true is = refl
+not_is false is = absurd (let clash : true ≡ false = is in cc)
+
+-- where no source was left out, all were read, and whole
+pub reached_all : {T : Type 0} (answer : Result T Stopped) (fault : Option Fault) (read given : ℕ) → is_err answer ≡ false
+    → Reaches answer fault read given → fault ≡ None → read ≡ given
+reached_all (Ok done) fault read given is reaches = reaches
+reached_all (Err stopped) fault read given is reaches = absurd (let clash : true ≡ false = is in cc)
+
+pub whole_unless_stopped : {T : Type 0} (answer : Result T Stopped) → is_err answer ≡ false → AreWhole answer
+whole_unless_stopped (Ok done) is = tt
+whole_unless_stopped (Err stopped) is = absurd (let clash : true ≡ false = is in cc)

@@ -12,7 +12,7 @@ use Rattle.anstyle_parse.specs.Stream.Calls.{AreCalls}
 use Rattle.anstyle_parse.specs.Io.Output.{fault_in, Adds, AppendsPrefix}
 use Rattle.anstyle_parse.specs.Io.Run.{most_reads}
 use Rattle.each_source.specs.declared.Stopped.{Stopped}
-use Rattle.each_source.specs.declared.Stopped.TheVariants.{NoMemory, AtFault}
+use Rattle.each_source.specs.declared.Stopped.TheVariants.{NoMemory, Stuck, AtFault}
 
 -- No more is read of a source that gave so many bytes: it is at its end, or a read failed, or as many bytes were
 -- read as reads are made at most.
@@ -34,36 +34,56 @@ AreRead source whole (reader ∷ readers) (after ∷ readers_after) (calls ∷ o
     IsRead source whole reader after calls × AreRead source whole readers readers_after others
 AreRead source whole _ _ (calls ∷ others) = ⊥
 
--- One source was read, and the text of its calls went to the output.
-pub record WritesOne {R W : Type 0} (source : SourceOf R) (sink : SinkOf W) (text : List Call → List ℕ)
-    (reader reader_after : R) (output output_after : Output W) : Type 0 where
+-- A new parser was given what the source gave, and its performer received the calls. Unless the writer is stuck or a
+-- fault is kept, the source has ended.
+pub record Reads {R W P : Type 0} (source : SourceOf R) (receives : P → List Call → P → Type 0)
+    (output_of : P → Output W) (reader reader_after : R) (performer performer_after : P) (is_stuck : Bool) : Type 0 where
+  pub read : List ℕ
   pub calls : List Call
-  pub is_read : IsRead source (fault_in output_after ≡ None) reader reader_after calls
-  pub added : Adds sink (text calls) output output_after
+  pub consumed : Consumes (source.remaining reader) (source.remaining reader_after) read
+  pub are_calls : AreCalls read calls
+  pub received : receives performer calls performer_after
+  pub ended : is_stuck ≡ false → fault_in (output_of performer_after) ≡ None → HasEnded source reader_after (length read)
 
--- Sources were read one after another, and their texts, joined, went to the output: of all, unless the output
--- failed or there was no memory.
-pub record AddsEach {R W : Type 0} (source : SourceOf R) (sink : SinkOf W) (text : List Call → List ℕ)
-    (readers readers_after : List R) (output output_after : Output W) (has_memory : Bool) : Type 0 where
+-- One source was read, and the text of its calls went to the output. It was read whole, unless the output failed or
+-- its writer is stuck.
+pub record WritesOne {R W : Type 0} (source : SourceOf R) (sink : SinkOf W) (text : List Call → List ℕ)
+    (reader reader_after : R) (output output_after : Output W) (is_stuck : Bool) : Type 0 where
+  pub calls : List Call
+  pub is_read : IsRead source ((is_stuck ≡ false) × (fault_in output_after ≡ None)) reader reader_after calls
+  pub added : Adds sink (text calls) output output_after
+  pub clear : is_stuck ≡ true → fault_in output_after ≡ None
+
+-- How many sources of those that are given were read: all, unless the output failed; where there was no memory for the
+-- next performer fewer; and where the writer is stuck some.
+abbrev pub Reaches : {T : Type 0} → Result T Stopped → Option Fault → (read given : ℕ) → Type 0
+Reaches (Ok done) fault read given = fault ≡ None → read ≡ given
+Reaches (Err NoMemory) fault read given = (fault ≡ None) × (read < given)
+Reaches (Err Stuck) fault read given = (fault ≡ None) × (read ≤ given)
+Reaches (Err (AtFault _)) fault read given = ⊥
+
+-- Each source that was read was read whole, unless a write failed or the writer is stuck.
+abbrev pub AreWhole : {T : Type 0} → Result T Stopped → Type 0
+AreWhole (Err (AtFault Write)) = ⊥
+AreWhole (Err Stuck) = ⊥
+AreWhole _ = ⊤
+
+-- Sources were read one after another, and their texts, joined, went to the output.
+pub record AddsEach {R W T : Type 0} (source : SourceOf R) (sink : SinkOf W) (text : List Call → List ℕ)
+    (readers readers_after : List R) (output output_after : Output W) (answer : Result T Stopped) : Type 0 where
   pub calls : List (List Call)
-  pub are_read : AreRead source (fault_in output_after ≡ None) readers readers_after calls
+  pub are_read : AreRead source (AreWhole answer × (fault_in output_after ≡ None)) readers readers_after calls
   pub added : Adds sink (flat_map text calls) output output_after
-  pub all : has_memory ≡ true → fault_in output_after ≡ None → length calls ≡ length readers
-  pub some : has_memory ≡ false → (fault_in output_after ≡ None) × (length calls < length readers)
+  pub reaches : Reaches answer (fault_in output_after) (length calls) (length readers)
 
 -- what stopped it, where the output failed
 abbrev pub stopped_by : {T : Type 0} → Result T Fault → Result T Stopped
 stopped_by (Ok done) = Ok done
 stopped_by (Err fault) = Err (AtFault fault)
 
--- Each source that was read was read whole, unless a write failed.
-abbrev pub AreWhole : {T : Type 0} → Result T Stopped → Type 0
-AreWhole (Err (AtFault Write)) = ⊥
-AreWhole _ = ⊤
-
 -- What is written by the answer: the head, the text of every source and the tail, also where a flush failed;
--- where a write failed, a proper prefix of that; and where there was no memory for the next performer, the head
--- and the texts of the sources before it.
+-- where a write failed, a proper prefix of that; where there was no memory for the next performer, the head and the
+-- texts of the sources before it; and where the writer is stuck, the head and the texts of what was read.
 abbrev pub WritesJoin : {T : Type 0} → Result T Stopped → (before after : Option (List ℕ)) → (head texts tail : List ℕ)
     → (read given : ℕ) → Type 0
 WritesJoin (Ok done) before after head texts tail read given = Appends before after (head ++ (texts ++ tail)) × (read ≡ given)
@@ -71,12 +91,14 @@ WritesJoin (Err (AtFault Flush)) before after head texts tail read given = Appen
 WritesJoin (Err (AtFault Write)) before after head texts tail read given = AppendsPrefix before after (head ++ (texts ++ tail))
 WritesJoin (Err (AtFault Read)) before after head texts tail read given = ⊥
 WritesJoin (Err NoMemory) before after head texts tail read given = Appends before after (head ++ texts) × (read < given)
+WritesJoin (Err Stuck) before after head texts tail read given = Appends before after (head ++ texts) × (read ≤ given)
 
 -- Why: with Ok the writer has failed only if it had before, with a fault it has failed.
 abbrev pub StopsBy : {T : Type 0} → (failed failed_after : Bool) → Result T Stopped → Type 0
 StopsBy failed failed_after (Ok done) = failed_after ≡ failed
 StopsBy failed failed_after (Err (AtFault fault)) = IsTrue failed_after
 StopsBy failed failed_after (Err NoMemory) = ⊤
+StopsBy failed failed_after (Err Stuck) = ⊤
 
 -- A run over sources: the calls of each that was read, what was written, and why no more was.
 pub record WritesEach {R W T : Type 0} (source : SourceOf R) (sink : SinkOf W) (text : List Call → List ℕ)

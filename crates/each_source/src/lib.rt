@@ -2,20 +2,38 @@
 //! written of all is the join of what is written of each.
 #![tactic(auto)]
 
+mod reading;
+
 ghost use Rattle.std.specs.Prelude.{◌≡◌, ◌++◌, ℕ, List, None, OnOk, IfOk, IfErr};
 ghost use Rattle.anstyle_parse.specs.Stream.Call.{Call};
 ghost use Rattle.anstyle_parse.specs.Io.Output.{fault_in, Adds};
 ghost use Rattle.each_source.specs.Each.{WritesOne, AddsEach, WritesEach, stopped_by};
 
-use anstyle_parse::io::{Fault, Output, Sink, Source, WritingPerformer, drive};
+use anstyle_parse::io::{Fault, FromRead, Output, Sink, Source, WritingPerformer};
+use reading::{Ended, read_to};
+use std::io::Read;
 
 /// Why not all was written.
 #[derive(Debug, Clone, Copy, PartialEq, Eq)]
 pub enum Stopped {
     /// There was no memory for the next stream's performer.
     NoMemory,
+    /// What the writer holds back could not be passed on, as to a full disk or a pipe that nobody reads.
+    Stuck,
     /// The output failed: [`Fault::Write`] or [`Fault::Flush`].
     AtFault(Fault),
+}
+
+/// A source that is told where its stream was cut off.
+pub trait Stream: Source {
+    /// The stream has ended inside of a string ([`Parser::is_in_string`](anstyle_parse::Parser::is_in_string)), which
+    /// begins at this byte of it, counted from 0. Of the string, which may be the rest of a text, nothing was written.
+    fn ended_in_string(&self, begin: u64);
+}
+
+/// A reader of std is not told.
+impl<R: Read> Stream for FromRead<R> {
+    fn ended_in_string(&self, _begin: u64) {}
 }
 
 /// Makes the performer of each stream.
@@ -37,29 +55,36 @@ pub trait Begin<P: WritingPerformer<W>, W: Sink> {
 }
 
 /// Writes the text of all that the reader gives, and its ending, to an output with no fault: until the reader
-/// ends or fails, or the output does. `Err` where there is no memory for the performer: then nothing is read.
-fn write_one<P: WritingPerformer<W>, B: Begin<P, W>, R: Source, W: Sink>(
+/// ends or fails, or the output does, or its writer is stuck, which the answer says. `Err` where there is no memory for
+/// the performer: then nothing is read.
+fn write_one<P: WritingPerformer<W>, B: Begin<P, W>, R: Stream, W: Sink>(
     begin: &B,
     reader: &mut R,
     output: Output<W>,
-) -> Result<Output<W>, Output<W>>
+) -> Result<(Output<W>, bool), Output<W>>
     requires { fault_in output ≡ None }
-    ensures written { IfOk result (λ after. WritesOne R.Source W.Sink
-        (λ calls. B.text begin.now calls ++ B.ending begin.now calls) reader.old reader.new output after) }
+    ensures written { IfOk result (λ one. WritesOne R.Source W.Sink
+        (λ calls. B.text begin.now calls ++ B.ending begin.now calls) reader.old reader.new output one.0 one.1) }
     ensures kept { IfErr result (λ after. (after ≡ output) × (reader.new ≡ reader.old)) }
 {
     let mut performer = begin.begin(output)?;
-    let _ = drive::<P, R, W>(reader, &mut performer);
-    Ok(performer.into_output())
+    let ended = read_to::<P, R, W>(reader, &mut performer);
+    let is_stuck = ended.is_stuck();
+    if let Ended::InString(begin) = ended {
+        reader.ended_in_string(begin);
+    }
+    let output = performer.into_output();
+    let is_clear = output.fault().is_none();
+    Ok((output, is_stuck & is_clear))
 }
 
-/// The same of each reader in turn, until the output fails. The answer is false where there was no memory for
-/// the next performer: then the output has no fault.
-fn add_each<P: WritingPerformer<W>, B: Begin<P, W>, R: Source, W: Sink>(
+/// The same of each reader in turn, until the output fails. `Err` where there was no memory for the next performer, or
+/// the writer is stuck: then the output has no fault.
+fn add_each<P: WritingPerformer<W>, B: Begin<P, W>, R: Stream, W: Sink>(
     begin: &B,
     readers: &mut [R],
     output: Output<W>,
-) -> (Output<W>, bool)
+) -> (Output<W>, Result<(), Stopped>)
     ensures { AddsEach R.Source W.Sink
         (λ calls. B.text begin.now calls ++ B.ending begin.now calls)
         readers.old readers.new output result.0 result.1 }
@@ -67,14 +92,19 @@ fn add_each<P: WritingPerformer<W>, B: Begin<P, W>, R: Source, W: Sink>(
     let mut output = output;
     for reader in readers.iter_mut() {
         if output.fault().is_some() {
-            return (output, true);
+            return (output, Ok(()));
         }
         match write_one::<P, B, R, W>(begin, reader, output) {
-            Ok(after) => output = after,
-            Err(after) => return (after, false),
+            Ok((after, is_stuck)) => {
+                if is_stuck {
+                    return (after, Err(Stopped::Stuck));
+                }
+                output = after;
+            }
+            Err(after) => return (after, Err(Stopped::NoMemory)),
         }
     }
-    (output, true)
+    (output, Ok(()))
 }
 
 /// What stopped it, where the output failed.
@@ -97,9 +127,11 @@ fn stopped_by(answer: Result<(), Fault>) -> Result<(), Stopped>
 /// - `Err(AtFault(Fault::Flush))` where that flush failed;
 /// - `Err(AtFault(Fault::Write))` where a write failed: what is written is a proper prefix of all, and nothing was
 ///   read or written after the fault;
+/// - `Err(Stuck)` where what the writer holds back could not be passed on (`Sink::is_stuck`): the texts of what
+///   was read by then were given to the writer, no more is read, and then it is flushed once, whatever that answers;
 /// - `Err(NoMemory)` where `begin` had no memory for the next stream's performer: the texts before it are written,
 ///   and then the writer is flushed once, whatever that answers.
-pub fn write_each<P: WritingPerformer<W>, B: Begin<P, W>, R: Source, W: Sink>(
+pub fn write_each<P: WritingPerformer<W>, B: Begin<P, W>, R: Stream, W: Sink>(
     begin: &B,
     head: &[u8],
     readers: &mut [R],
@@ -116,10 +148,10 @@ pub fn write_each<P: WritingPerformer<W>, B: Begin<P, W>, R: Source, W: Sink>(
 {
     let mut output = Output::new(writer);
     output.put(head);
-    let (mut output, has_memory) = add_each::<P, B, R, W>(begin, readers, output);
-    if !has_memory {
+    let (mut output, added) = add_each::<P, B, R, W>(begin, readers, output);
+    if added.is_err() {
         let (writer, _) = output.finish();
-        return (writer, Err(Stopped::NoMemory));
+        return (writer, added);
     }
     output.put(tail);
     let (writer, answer) = output.finish();

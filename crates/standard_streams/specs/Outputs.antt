@@ -2,9 +2,10 @@
 use Rattle.std.specs.Prelude.{◌≡◌, ℕ, Bool, true, false, List, Option, is_some, Result, Ok, Err, ◌⊎◌}
 use Rattle.std.specs.declared.io.Error.{Error}
 use Rattle.anstyle_parse.specs.declared.io.Fault.{Fault}
+use Rattle.anstyle_parse.specs.declared.io.Fault.TheVariants.{Write}
 use Rattle.anstyle_parse.specs.Io.Buffer.{fault_behind}
 use Rattle.each_source.specs.declared.Stopped.{Stopped}
-use Rattle.each_source.specs.declared.Stopped.TheVariants.{NoMemory, AtFault}
+use Rattle.each_source.specs.declared.Stopped.TheVariants.{NoMemory, Stuck, AtFault}
 use Rattle.standard_streams.specs.Words.{status_after}
 use Rattle.standard_streams.specs.declared.output_file.Target.{Target}
 
@@ -20,11 +21,12 @@ abbrev pub fault_status : (named : Bool) → Fault → Option Error → ℕ
 fault_status true fault error = 1
 fault_status false fault error = status_after fault error
 
--- Where the output failed, or there was no memory, the status says so, and so it does where an input failed. Else it
+-- Where the output failed or is stuck, or there was no memory, the status says so, and so it does where an input failed. Else it
 -- is 0, unless the new file could not take its place.
 abbrev pub EndsAs : {T : Type 0} → (named replacing has_failed : Bool) → (held : List ℕ) → Option Error → Result T Stopped
     → (status : ℕ) → Type 0
 EndsAs named replacing has_failed held error (Err NoMemory) status = status ≡ 1
+EndsAs named replacing has_failed held error (Err Stuck) status = status ≡ fault_status named Write error
 EndsAs named replacing has_failed held error (Err (AtFault fault)) status =
     status ≡ fault_status named (fault_behind fault held) error
 EndsAs named replacing true held error (Ok done) status = status ≡ 1

@@ -4,6 +4,7 @@ ghost use Rattle.std.specs.List.{list_any};
 ghost use Rattle.standard_streams.specs.Inputs.{input_failed, name_of, names_read};
 
 use anstyle_parse::io::Source;
+use each_source::Stream;
 use std::alloc::AllocError;
 use std::fs::File;
 use std::io::Read;
@@ -144,6 +145,32 @@ impl Source for Input<'_> {
     }
 }
 
+impl Stream for Input<'_> {
+    /// Says so on standard error. Where that can't be written nothing is done about it.
+    fn ended_in_string(&self, begin: u64) {
+        let program = self.program;
+        let name = if self.name == STANDARD {
+            "standard input"
+        } else {
+            self.name
+        };
+        let _ = if is_written_quoted(name) {
+            eprintln!(&self.rt;
+                "{program}: {name:?}: ends inside a string that begins at byte {begin}"
+            )
+        } else {
+            eprintln!(&self.rt;
+                "{program}: {name}: ends inside a string that begins at byte {begin}"
+            )
+        };
+    }
+}
+
+/// Whether a name could drive a terminal, or shows nothing: it is written as Rattle writes a text.
+fn is_written_quoted(name: &str) -> bool {
+    name.is_empty() || name.chars().any(|c| c.is_control())
+}
+
 /// Says on standard error why a file failed: its name and the reason. Where that can't be written nothing is
 /// done about it. A name that could drive a terminal is written as Rattle writes a text.
 pub(crate) fn file_failed(rt: &HostRuntime, program: &str, name: &str, error: io::Error) {
@@ -152,7 +179,7 @@ pub(crate) fn file_failed(rt: &HostRuntime, program: &str, name: &str, error: io
         Ok(text) => without_number(text.as_str()),
         Err(_) => "failed",
     };
-    let _ = if name.is_empty() || name.chars().any(|c| c.is_control()) {
+    let _ = if is_written_quoted(name) {
         eprintln!(rt; "{program}: {name:?}: {reason}")
     } else {
         eprintln!(rt; "{program}: {name}: {reason}")

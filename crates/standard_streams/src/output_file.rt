@@ -136,6 +136,10 @@ impl<'a> Target<'a> {
                 self.remove();
                 failed(&self.rt, self.program, "out of memory")
             }
+            Err(Stopped::Stuck) => {
+                self.remove();
+                self.fault_said(Fault::Write, output.into_inner().error())
+            }
             Err(Stopped::AtFault(fault)) => {
                 self.remove();
                 let fault = output.fault_behind(fault);

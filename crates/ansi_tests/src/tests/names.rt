@@ -161,7 +161,7 @@ fn names_of_the_parser(rt: HostRuntime) {
     is_accumulator(&AsciiParser);
     is_kept(&Utf8Parser::default());
     is_accumulator(&DefaultCharAccumulator::default());
-    assert!(rt; !parser.is_in_char());
+    assert!(rt; !parser.is_in_char() && !parser.is_in_string() && !parser.is_in_sequence());
     is_performer(&());
     is_plain(Taken::More);
     is_plain(Taken::Char('a'));

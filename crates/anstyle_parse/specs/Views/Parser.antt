@@ -2,7 +2,7 @@
 use Rattle.std.specs.Prelude.{◌≡◌, ◌≢◌, ◌<◌, ◌⊎◌, ℕ, List, ⊤, IsTrue}
 use Rattle.std.specs.List.{AllByRecursion}
 use Rattle.anstyle_parse.specs.declared.state.definitions.State.{State}
-use Rattle.anstyle_parse.specs.declared.state.definitions.State.TheVariants.{DcsPassthrough, Ground, OscString, Utf8}
+use Rattle.anstyle_parse.specs.declared.state.definitions.State.TheVariants.{DcsIgnore, DcsPassthrough, Ground, OscString, SosPmApcString, Utf8}
 use Rattle.anstyle_parse.specs.declared.parser.Parser.{Parser}
 use Rattle.anstyle_parse.specs.Stream.Characters.{is_lead}
 use Rattle.anstyle_parse.specs.Stream.Call.{Call}
@@ -53,6 +53,14 @@ IsInCharacter parser = parser.state ≡ Utf8
 -- an operating system command or a hooked device control string is open
 abbrev pub HasOpenString : {C : Type 0} → Parser C → Type 0
 HasOpenString parser = (parser.state ≡ OscString) ⊎ (parser.state ≡ DcsPassthrough)
+
+-- a string is open, also one that is ignored: OSC, a device control string after its header, or SOS, PM or APC
+abbrev pub IsInString : {C : Type 0} → Parser C → Type 0
+IsInString parser = HasOpenString parser ⊎ ((parser.state ≡ DcsIgnore) ⊎ (parser.state ≡ SosPmApcString))
+
+-- nothing is open, or a character alone
+abbrev pub IsOutOfSequences : {C : Type 0} → Parser C → Type 0
+IsOutOfSequences parser = (parser.state ≡ Ground) ⊎ (parser.state ≡ Utf8)
 
 -- each byte is below the limit
 abbrev pub AreBelow : ℕ → List ℕ → Type 0

@@ -215,7 +215,7 @@ impl<W: Sink> Sink for Buffer<W> {
         ensures told { OnFalse result (IsTrue (buffer_failed self.new)) }
         ensures same_mode { is_by_line self.new ≡ is_by_line self.old }
     {
-        let went_well = !self.owes_a_fault() && self.hand_on() && self.writer.flush();
+        let went_well = !self.is_stuck() && self.hand_on() && self.writer.flush();
         self.owed = false;
         if !went_well {
             self.failed = true;
@@ -233,24 +233,24 @@ impl<W: Sink> Sink for Buffer<W> {
         ensures not_told { buffer_failed self.new ≡ buffer_failed self.old }
         ensures same_mode { is_by_line self.new ≡ is_by_line self.old }
     {
-        if !self.owes_a_fault() {
+        if !self.is_stuck() {
             self.owed = !self.hand_on();
         }
     }
-}
-
-impl<W: Sink> Buffer<W> {
-    ghost use Rattle.std.specs.Prelude.{IfSome, IfNone, OnSome};
-    ghost use Rattle.anstyle_parse.specs.Io.Buffer.{writer_behind, held_back, is_by_line, buffer_contents, buffer_failed};
 
     /// Whether bytes that are held back could not be passed on, and no answer has said so.
-    fn owes_a_fault(&self) -> bool
+    fn is_stuck(&self) -> bool
         ensures failed { OnTrue result (IsTrue (W.has_failed (writer_behind self.now))) }
         ensures was_a_write { OnTrue result (W.failed_as (writer_behind self.now) AWrite) }
         ensures left { OnTrue result (held_back self.now ≢ []) }
     {
         self.owed && !self.held.is_empty() && self.writer.has_failed_write()
     }
+}
+
+impl<W: Sink> Buffer<W> {
+    ghost use Rattle.std.specs.Prelude.{IfSome, IfNone, OnSome};
+    ghost use Rattle.anstyle_parse.specs.Io.Buffer.{writer_behind, held_back, is_by_line, buffer_contents, buffer_failed};
 
     /// Takes bytes that can't just be held back too. By line, what is held back is handed on and
     /// the bytes are written after it. Else, where there is no room what is held back is handed on
@@ -273,7 +273,7 @@ impl<W: Sink> Buffer<W> {
         ensures told { IfNone result (IsTrue (buffer_failed self.new)) }
         ensures same_mode { is_by_line self.new ≡ is_by_line self.old }
     {
-        if self.owes_a_fault() {
+        if self.is_stuck() {
             self.owed = false;
             self.failed = true;
             return None;

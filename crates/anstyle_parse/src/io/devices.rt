@@ -99,12 +99,19 @@ pub trait Sink {
     }
 
     /// Hands on what is held back, where bytes are held back, and is no flush. Where that fails
-    /// nothing is answered: what could not be handed on stays held back, and a later write or the
-    /// flush says so. A writer that holds nothing back does nothing.
+    /// nothing is answered: what could not be handed on stays held back, a later write or the
+    /// flush says so, and [`is_stuck`](Sink::is_stuck) tells it before. A writer that holds nothing
+    /// back does nothing.
     fn pass_on(&mut self)
         ensures nothing_passed { Keeps (contents self.old) (contents self.new) }
         ensures not_told { has_failed self.new ≡ has_failed self.old }
     {}
+
+    /// Whether bytes that are held back could not be passed on, and no answer has said so. With false
+    /// nothing is known.
+    fn is_stuck(&self) -> bool {
+        false
+    }
 }
 
 /// A reader of std as a [`Source`]. An error of whatever kind is a failure, `Interrupted`

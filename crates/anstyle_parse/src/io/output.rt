@@ -133,6 +133,12 @@ impl<W: Sink> Output<W> {
         }
     }
 
+    /// Whether the writer holds bytes back that it could not pass on ([`Sink::is_stuck`]). With false
+    /// nothing is known.
+    pub fn is_stuck(&self) -> bool {
+        self.writer.is_stuck()
+    }
+
     /// The fault that stopped it.
     pub fn fault(&self) -> Option<Fault>
         ensures { result ≡ fault_in self.now }

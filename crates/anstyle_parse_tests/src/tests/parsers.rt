@@ -105,6 +105,32 @@ fn unfinished_character(rt: HostRuntime) {
     assert!(rt; !parser.is_in_char());
 }
 
+// After each, whether a sequence is open, and whether it is a string.
+#[test]
+fn open_sequences(rt: HostRuntime) {
+    let rows: [(&[u8], bool, bool); 14] = [
+        (b"", false, false),
+        (b"a\xe2", false, false),
+        (b"\x1b", true, false),
+        (b"\x1b(", true, false),
+        (b"\x1b[1", true, false),
+        (b"\x1b[1m", false, false),
+        (b"\x1bP1", true, false),
+        (b"\x1bP1q", true, true),
+        (b"\x1bP1:2qa", true, true),
+        (b"\x1b]0;a", true, true),
+        (b"\x1b]0;a\x07", false, false),
+        (b"\x1bX", true, true),
+        (b"\x1b_a\x07", true, true),
+        (b"\x1b^a\x1b\\", false, false),
+    ];
+    for (bytes, is_open, is_string) in rows {
+        let parser = parser_after(bytes);
+        assert_eq!(rt; parser.is_in_sequence(), is_open);
+        assert_eq!(rt; parser.is_in_string(), is_string);
+    }
+}
+
 #[test]
 fn ascii_alone(rt: HostRuntime) {
     let mut parser = Parser::<AsciiParser>::default();

@@ -1,5 +1,5 @@
 -- The head, the texts of the sources, and the tail.
-use Rattle.std.proofs.Common.{◌++◌, ℕ, List, sym, subst}
+use Rattle.std.proofs.Common.{◌≡◌, ◌++◌, ℕ, List, Bool, true, false, None, Ok, Err, is_err, length, sym, ap, ◌∙◌, subst}
 use Rattle.std.specs.List.{flat_map}
 use Rattle.std.specs.Io.KnownBytes.{Appends}
 use Rattle.anstyle_parse.specs.Stream.Call.{Call}
@@ -8,11 +8,11 @@ use Rattle.anstyle_parse.proofs.Written.Output.{Adds-append, Writes-finish, Caus
 use Rattle.each_source.specs.Each.{WritesEach, stopped_by}
 use Rattle.each_source.specs.declared.Stopped.{Stopped}
 use Rattle.std.specs.Prelude.{Result}
-use Rattle.each_source.proofs.EachLemmas.{AreRead-when, written_whole, clear_or_written, WritesEach-from}
+use Rattle.each_source.proofs.EachLemmas.{AreRead-when, written_whole, clear_or_written, WritesEach-from, WritesEach-stopped, reached_all, whole_unless_stopped}
 use Rattle.each_source.proofs.write_each.Goals as goal
 
-pub returns-then-not-has_memory-clause-joined : goal.returns-then-not-has_memory-clause-joined
-returns-then-not-has_memory-clause-joined g c =
+pub returns-then-is_err-clause-joined : goal.returns-then-is_err-clause-joined
+returns-then-is_err-clause-joined g c =
     let sink = g.W.Sink in
     let d = c.add_each-output.ensures in
     let text : List Call → List ℕ = λ calls. g.B.Begin.text c.args.begin.now calls ++ g.B.Begin.ending c.args.begin.now calls in
@@ -21,15 +21,11 @@ returns-then-not-has_memory-clause-joined g c =
     let start = c.new-output.result in
     let first = c.put.new.self in
     let middle = c.add_each-output.result.0 in
-    let some = d.some c.if-not-has_memory.true in
     let both = Adds-append sink head texts start first middle c.put.ensures d.added in
-    let whole = written_whole sink (head ++ texts) start middle c.finish-writer.result.0 c.finish-writer.result.1 c.new-output.ensures.no_fault some.0 both c.finish-writer.ensures.finishes in
-    record {
-      calls = d.calls;
-      are_read = AreRead-when g.R.Source c.args.readers.now c.add_each-output.new.readers d.calls (λ _. some.0) d.are_read;
-      written = (subst (λ w. Appends (sink.contents w) (sink.contents c.finish-writer.result.0) (head ++ texts)) c.new-output.ensures.writer whole, some.1);
-      causes = tt;
-    }
+    WritesEach-stopped sink g.R.Source text head c.args.tail.now c.args.readers.now c.add_each-output.new.readers c.args.writer c.finish-writer.result.0 first middle
+    c.add_each-output.result.1 (sym c.is_err.ensures.value ∙ c.if-is_err.true) d
+    (λ none. subst (λ w. Appends (sink.contents w) (sink.contents c.finish-writer.result.0) (head ++ texts)) c.new-output.ensures.writer
+    (written_whole sink (head ++ texts) start middle c.finish-writer.result.0 c.finish-writer.result.1 c.new-output.ensures.no_fault none both c.finish-writer.ensures.finishes))
 
 pub returns-clause-joined : goal.returns-clause-joined
 returns-clause-joined g c =
@@ -50,10 +46,10 @@ returns-clause-joined g c =
     let none = c.new-output.ensures.no_fault in
     let finishes = c.finish-writer-2.ensures.finishes in
     let added = Adds-append sink head (texts ++ tail) start first final c.put.ensures (Adds-append sink texts tail first middle final d.added c.put-2.ensures) in
-    let all = d.all c.if-not-has_memory.false in
+    let reached = reached_all c.add_each-output.result.1 _ _ _ (sym c.is_err.ensures.value ∙ c.if-is_err.false) d.reaches in
     let Ran : W → Result (Unit {0}) Stopped → Type 0 = λ w a. WritesEach g.R.Source sink text head tail c.args.readers.now c.add_each-output.new.readers w new a in
     let ran = WritesEach-from sink g.R.Source text head tail c.args.readers.now c.add_each-output.new.readers start.writer new middle final answer d.calls
-    (Adds-no_fault R W (Unit {0}) g.R.Source sink tail middle final c.put-2.ensures) d.are_read all
+    (Adds-no_fault R W (Unit {0}) g.R.Source sink tail middle final c.put-2.ensures) (AreRead-when g.R.Source c.args.readers.now c.add_each-output.new.readers d.calls (λ none. (whole_unless_stopped c.add_each-output.result.1 (sym c.is_err.ensures.value ∙ c.if-is_err.false), none)) d.are_read) reached
     (clear_or_written sink (head ++ (texts ++ tail)) start final new answer none added finishes)
     (Writes-finish sink (head ++ (texts ++ tail)) start final new answer none added finishes)
     (Causes-finish sink (head ++ (texts ++ tail)) start final new answer none added finishes) in

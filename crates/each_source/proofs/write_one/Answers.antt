@@ -1,10 +1,9 @@
 -- What the performer received is written, and then its ending.
-use Rattle.std.proofs.Common.{◌++◌, [], ℕ, List, IsTrue, ap₂, subst}
-use Rattle.std.specs.Io.KnownBytes.{IsAtEnd}
+use Rattle.std.proofs.Common.{◌≡◌, ◌++◌, [], ℕ, List, Bool, true, false, not, None, is_some, sym, ap, ◌∙◌, ap₂, subst}
 use Rattle.anstyle_parse.specs.Io.Output.{Adds, fault_in}
 use Rattle.anstyle_parse.proofs.Written.Run.{Adds-unless_stopped, Adds-no_fault}
-use Rattle.anstyle_parse.proofs.Written.Output.{Adds-append}
-use Rattle.each_source.proofs.EachLemmas.{ended-stops}
+use Rattle.anstyle_parse.proofs.Written.Output.{Adds-append, None-from_is_some}
+use Rattle.each_source.proofs.EachLemmas.{not_stuck, is_clear, not_is}
 use Rattle.each_source.proofs.write_one.Goals as goal
 
 pub returns-clause-written : goal.returns-clause-written
@@ -12,31 +11,31 @@ returns-clause-written g c =
     let R = g.row.R.Denot in
     let W = g.row.W.Denot in
     let sink = g.W.Sink in
-    let d = c.drive.ensures in
+    let d = c.read_to-ended.ensures in
     let begun = c.in_ok-performer.ensures in
     let performer = c.in_ok-performer.performer in
-    let after = c.drive.new.performer in
+    let after = c.read_to-ended.new.performer in
     let start = g.P.WritingPerformer.output_in performer in
     let middle = g.P.WritingPerformer.output_in after in
-    let final = c.into_output.result in
+    let final = c.into_output-output.result in
     let written = g.P.WritingPerformer.text_from performer d.calls in
     let left = g.P.WritingPerformer.ending_from performer d.calls in
     let performed : Adds sink written start middle = g.met.P.WritingPerformer.adds performer d.calls after d.received in
     let own : Adds sink left middle final =
     Adds-unless_stopped R W (Unit {0}) g.R.Source sink (g.P.WritingPerformer.ending_from after []) left middle final
-    (λ clear. g.met.P.WritingPerformer.ends performer d.calls after d.received clear) c.into_output.ensures in
+    (λ clear. g.met.P.WritingPerformer.ends performer d.calls after d.received clear) c.into_output-output.ensures in
     let both : Adds sink (written ++ left) start final = Adds-append sink written left start middle final performed own in
     let text = subst (λ (t : List ℕ). Adds sink t start final) (ap₂ (λ t e. t ++ e) (begun.text d.calls) (begun.ending d.calls)) both in
+    let faulty : is_some (fault_in final) ≡ not c.is_none-is_clear.result = ap is_some (sym c.fault.ensures) ∙ c.is_none-is_clear.ensures in
+    let none_is_clear : fault_in final ≡ None → c.is_none-is_clear.result ≡ true = λ none. not_is (c.is_none-is_clear.result) (sym faulty ∙ ap is_some none) in
     record {
       calls = d.calls;
       is_read = record {
         read = d.read;
         consumed = d.consumed;
         are_calls = d.are_calls;
-        ended = λ none. ended-stops c.drive.result
-            (IsTrue g.R.Source.zero_is_end → IsAtEnd (g.R.Source.remaining c.drive.new.reader)) (fault_in middle)
-            (g.R.Source.has_failed c.args.reader.now) (g.R.Source.has_failed c.drive.new.reader) _
-            (Adds-no_fault R W (Unit {0}) g.R.Source sink left middle final own none) d.stops;
+        ended = λ whole. d.ended (sym c.is_stuck-is_stuck.ensures ∙ not_stuck c.is_stuck-is_stuck.result c.is_none-is_clear.result whole.0 (none_is_clear whole.1)) (Adds-no_fault R W (Unit {0}) g.R.Source sink left middle final own whole.1);
       };
+      clear = λ stuck. None-from_is_some (fault_in final) (faulty ∙ ap not (is_clear c.is_stuck-is_stuck.result c.is_none-is_clear.result stuck));
       added = subst (λ o. Adds sink (g.B.Begin.text c.args.begin.now d.calls ++ g.B.Begin.ending c.args.begin.now d.calls) o final) begun.output text;
     }

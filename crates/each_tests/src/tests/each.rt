@@ -6,13 +6,13 @@ ghost use Rattle.each_tests.specs.Ending.{no_text};
 
 use ansi_strip::Stripper;
 use anstyle_parse::io::{Buffer, CallWriter, Fault, FromRead, FromWrite, Output, Sink};
-use each_source::{Begin, Stopped, write_each};
+use each_source::{Begin, Stopped, Stream, write_each};
 use standard_streams::{
     Destination, Input, Line, OUTPUT, Place, Target, given_line, have_failed, inputs, line_of,
 };
 use std::process::{Abort, ExitCode};
 use std::test::Fail;
-use test_streams::{Paper, Tape};
+use test_streams::{Paper, TROUBLES, Tape};
 
 /// Each stream is stripped.
 struct Stripping;
@@ -85,6 +85,28 @@ fn after_a_write_that_fails_nothing_is_read(rt: HostRuntime) -> Result<(), Fail>
     Ok(())
 }
 
+/// Three bytes by which the buffer is stuck: of them and of what comes after no more is read.
+#[test]
+fn after_what_cannot_be_passed_on_nothing_is_read(rt: HostRuntime) -> Result<(), Fail> {
+    for trouble in TROUBLES {
+        let mut readers = [
+            FromRead::new(Tape::by_byte(b"ABC")),
+            FromRead::new(Tape::new(b"D")),
+        ];
+        let paper = Paper::narrow(rt.alloc(), 1, trouble);
+        let writer = Buffer::new(FromWrite::new(paper));
+        let (writer, answer) = write_each(&Stripping, b"", readers.as_mut_slice(), writer, b"");
+        assert_eq!(rt; answer, Err(Stopped::Stuck));
+        let paper = writer.into_inner().into_inner();
+        assert_eq!(rt; paper.text.as_slice(), b"A".as_slice());
+        assert_eq!(rt; paper.writes, 2);
+        let [first, second] = readers;
+        assert_eq!(rt; first.into_inner().reads, 2);
+        assert_eq!(rt; second.into_inner().reads, 0);
+    }
+    Ok(())
+}
+
 #[test]
 fn the_words_of_a_line(rt: HostRuntime) -> Result<(), Fail> {
     let alloc = rt.alloc();
@@ -130,6 +152,7 @@ pub fn names_of_files(rt: HostRuntime) -> Result<ExitCode, ExitCode> {
         return Err(ExitCode::SUCCESS);
     };
     let readers: &mut [Input<'_>] = inputs.as_mut_slice();
+    Input::new(rt, "", "").ended_in_string(0);
     let (target, output): (Target<'_>, Destination) = Target::open(rt, "", None)?;
     let writer = Buffer::new(FromWrite::new(output));
     let ran = write_each(&Stripping, b"", readers, writer, b"");

@@ -1,0 +1,23 @@
+-- What is read so far has gone to the performer, and nothing failed.
+use Rattle.std.proofs.Common.{◌≡◌, ◌≤◌, List, ℕ, None, length}
+use Rattle.std.specs.Io.KnownBytes.{Consumes}
+use Rattle.anstyle_parse.specs.Views.Accumulator.{front_of}
+use Rattle.anstyle_parse.specs.Stream.Call.{Call}
+use Rattle.anstyle_parse.specs.Stream.Calls.{AreCalls}
+use Rattle.anstyle_parse.specs.Views.Parser.{IsAfter}
+use Rattle.anstyle_parse.specs.Io.Output.{fault_in}
+use Rattle.each_source.proofs.reading.read_to.Given as goal
+
+abbrev pub invariant-loop-turn : goal.invariant-loop-turn
+invariant-loop-turn g l = record {
+  read : List ℕ;
+  calls : List Call;
+  consumed : Consumes (g.R.Source.remaining l.initial.reader) (g.R.Source.remaining l.reader) read;
+  are_calls : AreCalls read calls;
+  received : g.P.PerformText.receives l.initial.performer calls l.performer;
+  stands : IsAfter front_of l.parser read;
+  no_fault : fault_in (g.P.WritingPerformer.output_in l.performer) ≡ None;
+  not_failed : g.R.Source.has_failed l.reader ≡ g.R.Source.has_failed l.initial.reader;
+  counted : l.turn ≤ length read;
+  room : length l.piece ≡ 4096;
+}

@@ -1,0 +1,112 @@
+//! What one source gives, to a performer, as long as what that writes gets on.
+ghost use Rattle.std.specs.Prelude.{◌≡◌, false, None, IfSome, IfNone};
+ghost use Rattle.anstyle_parse.specs.Io.Output.{fault_in};
+ghost use Rattle.each_source.specs.Each.{Reads};
+ghost use Rattle.each_source.specs.Ended.{is_stuck, HasNoEscape, IsLastEscape};
+
+use anstyle_parse::io::{Sink, Source, WritingPerformer};
+use anstyle_parse::{Parser, Utf8Parser};
+
+/// The bytes that one read is asked for.
+const PIECE: usize = 4096;
+
+const ESCAPE: u8 = 0x1B;
+
+/// How the reading of a source came to an end.
+#[derive(Clone, Copy)]
+pub(crate) enum Ended {
+    /// The source is at its end or has failed, or the output keeps a fault.
+    Over,
+    /// The source is at its end, inside of a string that begins at this byte of it.
+    InString(u64),
+    /// What the writer holds back can't be passed on.
+    Stuck,
+}
+
+impl Ended {
+    pub(crate) fn is_stuck(self) -> bool
+        ensures { result ≡ is_stuck self }
+    {
+        matches!(self, Ended::Stuck)
+    }
+}
+
+/// Where the last sequence of a stream begins, as its pieces come.
+#[derive(Clone, Copy)]
+struct LastSequence {
+    /// How many bytes have come.
+    read: u64,
+    begins: u64,
+}
+
+impl LastSequence {
+    /// A piece more, after which a sequence is open or not. A sequence that is open begins with the last ESC.
+    fn take(&mut self, piece: &[u8], is_open: bool) {
+        if is_open {
+            if let Some(place) = last_escape(piece) {
+                self.begins = self.read.saturating_add(place as u64);
+            }
+        }
+        self.read = self.read.saturating_add(piece.len() as u64);
+    }
+}
+
+/// Where the last ESC stands.
+fn last_escape(bytes: &[u8]) -> Option<usize>
+    ensures last { IfSome result (λ place. IsLastEscape place bytes.now) }
+    ensures none { IfNone result (HasNoEscape bytes.now) }
+{
+    let mut rest = bytes;
+    'rest: while let Some((last, before)) = rest.split_last() {
+        if *last == ESCAPE {
+            return Some(before.len());
+        }
+        rest = before;
+    }
+    None
+}
+
+/// Gives what the reader gives to a new parser, in pieces of at most 4096 bytes, until the reader ends or fails, the
+/// performer's output keeps a fault, or what its writer holds back can't be passed on. At most 2^64 - 1 reads are made.
+/// What was written of a piece is passed on before the next read.
+pub(crate) fn read_to<P: WritingPerformer<W>, R: Source, W: Sink>(
+    reader: &mut R,
+    performer: &mut P,
+) -> Ended
+    requires { fault_in (P.output_in performer.old) ≡ None }
+    ensures { Reads R.Source P.receives P.output_in reader.old reader.new performer.old performer.new
+        (is_stuck result) }
+{
+    let mut parser = Parser::<Utf8Parser>::new();
+    let mut last = LastSequence { read: 0, begins: 0 };
+    let mut piece = [0; PIECE];
+    for turn in 0..u64::MAX {
+        match reader.read(&mut piece) {
+            None => return Ended::Over,
+            Some(0) => return at_end(&parser, last.begins),
+            Some(count) => {
+                parser.advance_heeded(performer, &piece[..count]);
+                last.take(&piece[..count], parser.is_in_sequence());
+                performer.pass_on();
+                if performer.output().fault().is_some() {
+                    return Ended::Over;
+                }
+                if performer.output().is_stuck() {
+                    return Ended::Stuck;
+                }
+            }
+        }
+    }
+    Ended::Over
+}
+
+/// How a stream ends whose last sequence begins there.
+fn at_end(parser: &Parser<Utf8Parser>, begins: u64) -> Ended
+    ensures { is_stuck result ≡ false }
+{
+    if parser.is_in_string() {
+        Ended::InString(begins)
+    } else {
+        Ended::Over
+    }
+}

@@ -6,7 +6,7 @@ import hashlib
 from expected_pages import ADDRESS, DARK_TITLED_HEAD, LIGHT_HEAD, LINKED_HEAD, PAGE_HEAD, PAGE_TAIL, TITLE, TITLED_HEAD
 from expected_shown import SHOWN_HOSTILE, SHOWN_ROWS
 from hostile_streams import BLOCK, SIZE, stream, text, times
-from open_strings import OPEN_STRING, ends_inside
+from open_strings import said
 from safe_rows import SAFE_ROWS
 
 
@@ -37,10 +37,9 @@ class Mode:
     def whole(self, text):
         return self.head + text + self.tail
 
-    def said(self, name, given):
-        """What the program of this name says of standard input that ends so."""
-        found = None if self.late else OPEN_STRING.search(given)
-        return b"" if found is None else ends_inside(name, "standard input", found.start())
+    def said(self, program, blocks):
+        """What the program says of standard input that comes in these blocks."""
+        return b"" if self.late else said(program, blocks)
 
     def around(self, blocks):
         yield self.head

@@ -24,15 +24,19 @@ pub(crate) fn cut(cells: &mut [Cell], place: usize)
 /// How many cells are cleared one by one, before they are copied.
 const FEW: usize = 8;
 
+/// How many cells are copied at once at most: so few that they stay in the processor's nearest memory.
+const BLOCK: usize = 64;
+
 /// Clears all of these cells, without a look at halves of wide characters: a few one by one, and then as many as are
-/// cleared by a copy of these, again and again.
+/// cleared, or a block, by a copy of the first ones, again and again.
 pub(crate) fn clear(cells: &mut [Cell], blank: Cell)
     ensures { cells.new ≡ erased blank cells.old }
 {
     let mut cleared = cells.len().min(FEW);
     cells[..cleared].fill(blank);
     'copies: while cleared < cells.len() {
-        let count = cleared.min(cells.len() - cleared);
+        let most = cleared.min(BLOCK);
+        let count = most.min(cells.len() - cleared);
         let (front, rest) = cells.split_at_mut(cleared);
         rest[..count].copy_from_slice(&front[..count]);
         cleared += count;
@@ -180,8 +184,37 @@ pub(crate) fn put_run(cells: &mut [Cell], place: usize, run: &[u8], style: Style
     fill(&mut cells[place..place + run.len()], run, style, link);
 }
 
-/// Fills the cells with these characters. All cells are made alike first, by copies, and then each gets its character.
+/// How many cells are filled by copies at least; fewer are written one by one.
+const LONG: usize = 24;
+
+/// Fills the cells with these characters.
+#[inline(always)]
 fn fill(cells: &mut [Cell], run: &[u8], style: Style, link: u32)
+    requires { length cells.old ≡ length run.now }
+    ensures { cells.new ≡ glyphs run.now style link }
+{
+    if run.len() < LONG {
+        fill_each(cells, run, style, link);
+    } else {
+        fill_by_copies(cells, run, style, link);
+    }
+}
+
+/// The same, cell by cell.
+#[inline(always)]
+fn fill_each(cells: &mut [Cell], run: &[u8], style: Style, link: u32)
+    requires { length cells.old ≡ length run.now }
+    ensures { cells.new ≡ glyphs run.now style link }
+{
+    for (i, byte) in run.iter().enumerate() {
+        cells[i] = Cell::printed(char::from(*byte), style, link, Part::Whole);
+    }
+}
+
+/// The same, where all cells are made alike first, by copies, and then each gets its character. It is out of line, so that
+/// a short run does not pay for it.
+#[inline(never)]
+fn fill_by_copies(cells: &mut [Cell], run: &[u8], style: Style, link: u32)
     requires { length cells.old ≡ length run.now }
     ensures { cells.new ≡ glyphs run.now style link }
 {

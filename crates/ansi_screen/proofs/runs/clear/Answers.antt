@@ -26,10 +26,10 @@ copies-smaller c =
     let new = c.copy_from_slice.new.self in
     let k = c.min-count.result in
     let some = before.some (omega (arith, c.copies-test.true)) in
-    let few : k ≤ length rest = omega (arith, c.min-count.ensures, c.split_at_mut-front.ensures.back_len) in
+    let few : k ≤ length rest = omega (arith, c.min-most.ensures, c.min-count.ensures, c.split_at_mut-front.ensures.back_len) in
     let short : length new ≡ k = c.copy_from_slice.ensures.len ∙ length-take-le k rest few in
     let long = length-copied k c.copies.cells front rest new c.split_at_mut-front.ensures.value short few in
-    omega (arith, some, c.copies-test.true, c.min-count.ensures, long)
+    omega (arith, some, c.copies-test.true, c.min-most.ensures, c.min-count.ensures, long)
 
 pub copies-preserved : goal.copies-preserved
 copies-preserved c =
@@ -39,14 +39,14 @@ copies-preserved c =
     let new = c.copy_from_slice.new.self in
     let n = c.copies.cleared in
     let k = c.min-count.result in
-    let few : k ≤ length rest = omega (arith, c.min-count.ensures, c.split_at_mut-front.ensures.back_len) in
+    let few : k ≤ length rest = omega (arith, c.min-most.ensures, c.min-count.ensures, c.split_at_mut-front.ensures.back_len) in
     let short : length new ≡ k = c.copy_from_slice.ensures.len ∙ length-take-le k rest few in
     let long = length-copied k c.copies.cells front rest new c.split_at_mut-front.ensures.value short few in
     record {
       long = long ∙ before.long;
-      within = omega (arith, long, before.within, c.min-count.ensures);
+      within = omega (arith, long, before.within, c.min-most.ensures, c.min-count.ensures);
       some = λ is. omega (arith, before.some (omega (arith, is, long)));
-      cleared = cleared-more n k c.args.blank front rest new (omega (arith, c.min-count.ensures))
+      cleared = cleared-more n k c.args.blank front rest new (omega (arith, c.min-most.ensures, c.min-count.ensures))
           (c.split_at_mut-front.ensures.front ∙ before.cleared) c.copy_from_slice.ensures.after;
     }
 

@@ -4,7 +4,7 @@ use Rattle.std.specs.Prelude.{replicate}
 use Rattle.ansi_screen.specs.declared.cell.Part.TheVariants.{Whole}
 use Rattle.ansi_screen.specs.Cells.{printed_cell}
 use Rattle.ansi_screen.specs.Runs.{glyphs}
-use Rattle.ansi_screen.proofs.runs.fill.Given as goal
+use Rattle.ansi_screen.proofs.runs.fill_by_copies.Given as goal
 
 abbrev pub invariant-loop-i : goal.invariant-loop-i
 invariant-loop-i l =

@@ -1,6 +1,6 @@
 -- One character more.
 use Rattle.ansi_screen.proofs.RunLemmas.{fill-on}
-use Rattle.ansi_screen.proofs.runs.fill.Goals as goal
+use Rattle.ansi_screen.proofs.runs.fill_by_copies.Goals as goal
 
 pub loop-i-preserved : goal.loop-i-preserved
 loop-i-preserved c =

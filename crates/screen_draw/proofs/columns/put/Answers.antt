@@ -1,5 +1,5 @@
 -- One row more.
-use Rattle.std.proofs.Common.{refl, arith}
+use Rattle.std.proofs.Common.{arith}
 use Rattle.screen_draw.proofs.ColumnLemmas.{rows-none, rows-more, rows-ended}
 use Rattle.screen_draw.proofs.columns.put.Goals as goal
 

@@ -1,8 +1,8 @@
 -- The columns of each row that can have changed, and those that surely have not.
-use Rattle.std.proofs.Common.{◌≡◌, ℕ, ◌+◌, ◌-◌, ◌*◌, ◌<◌, ◌≤◌, List, length, take, drop, set, refl, ap, sym, ◌∙◌, subst, arith, ⊎_elim, [], Bool, true, false}
+use Rattle.std.proofs.Common.{◌≡◌, ℕ, ◌+◌, ◌-◌, ◌*◌, ◌<◌, ◌≤◌, List, length, take, drop, replicate, set, refl, ap, sym, ◌∙◌, subst, arith, ⊎_elim, [], Bool, true, false}
 use Rattle.std.specs.Prelude.{min, max, if◌then◌else◌}
 use Rattle.std.proofs.lemmas.Bool.{cases_lt}
-use Rattle.std.proofs.lemmas.List.{take-take, drop-drop, drop-take, drop_all, length-take, length-set, get_or-set_other}
+use Rattle.std.proofs.lemmas.List.{take-take, drop-drop, drop-take, drop_all, length-take, length-set, get_or-set_other, get_or-replicate, get_or_past, length-replicate}
 use Rattle.std.proofs.lemmas.Grind.{get_or-set_at}
 use Rattle.ansi_screen.specs.declared.cell.Cell.{Cell}
 use Rattle.ansi_screen.specs.Display.{Display, IsSized, row_cells, most_columns}
@@ -10,7 +10,7 @@ use Rattle.ansi_screen.proofs.RowLemmas.{Same}
 use Rattle.screen_draw.specs.declared.changed.Changed.{Changed}
 use Rattle.screen_draw.specs.declared.columns.Span.{Span}
 use Rattle.screen_draw.specs.Changed.{Keeps}
-use Rattle.screen_draw.specs.Columns.{KeepsColumns, span_at, KeepsSpans, TracksRows}
+use Rattle.screen_draw.specs.Columns.{KeepsColumns, span_at, KeepsSpans, whole_span, PutsRows, AreEmptyBeside}
 
 -- fewer cells are kept too
 pub columns-wider : (l r left right : ℕ) (olds news : List Cell) → left ≤ l → r ≤ right → KeepsColumns l r olds news
@@ -79,7 +79,7 @@ row-short row d = omega (arith, length-take d.width (drop (row * d.width) d.cell
 -- Rows change, of which all columns are tracked.
 pub spans-rows : (olds news : List Span) (first changed : Changed) (past : ℕ) (s d e : Display) → IsSized e → Keeps first s d → Keeps changed d e
     → past ≡ min changed.past e.height
-    → TracksRows olds changed.first past news → KeepsSpans olds s d → KeepsSpans news s e
+    → PutsRows olds changed.first past whole_span news → KeepsSpans olds s d → KeepsSpans news s e
 spans-rows olds news first changed past s d e sized a b is_past notes columns = λ row inside noted.
     let old_row : row < d.height = subst (λ n. row < n) b.height inside in
     let stays : span_at news row ≡ span_at olds row → row_cells row e ≡ row_cells row d
@@ -93,52 +93,46 @@ spans-rows olds news first changed past s d e sized a b is_past notes columns = 
     ⊎_elim
     (λ (among : row < past).
     let limit : e.width ≤ most_columns = sized.columns_limit in
-    columns-whole (span_at news row).left (span_at news row).right (row_cells row s) (row_cells row e) (notes.left row from among)
-    (omega (arith, notes.right row from among, row-short row s, a.width, b.width)) (omega (arith, notes.right row from among, row-short row e)))
+    let left : (span_at news row).left ≡ 0 = ap (λ (span : Span). span.left) (notes.among row from among) in
+    let right : (span_at news row).right ≡ most_columns = ap (λ (span : Span). span.right) (notes.among row from among) in
+    columns-whole (span_at news row).left (span_at news row).right (row_cells row s) (row_cells row e) left
+    (omega (arith, right, row-short row s, a.width, b.width)) (omega (arith, right, row-short row e)))
     (λ (behind : past ≤ row). stays (notes.below row behind) (b.below row inside (omega arith)))
     (cases_lt row past))
     (cases_lt row changed.first)
 
 -- rows, one after another
-pub rows-none : (spans : List Span) (first : ℕ) → TracksRows spans first first spans
-rows-none spans first = record {
-  left = λ row from less. absurd (omega arith);
-  right = λ row from less. absurd (omega arith);
+pub rows-none : (spans : List Span) (first : ℕ) (span : Span) → PutsRows spans first first span spans
+rows-none spans first span = record {
+  among = λ row from less. absurd (omega arith);
   above = λ row less. refl;
   below = λ row more. refl;
   long = refl;
 }
 
-pub rows-more : (olds news : List Span) (first row : ℕ) (whole : Span) → first ≤ row → row < length news → whole.left ≡ 0
-    → whole.right ≡ most_columns → TracksRows olds first row news → TracksRows olds first (row + 1) (set news row whole)
-rows-more olds news first row whole from inside left right notes =
+pub rows-more : (olds news : List Span) (first row : ℕ) (span : Span) → first ≤ row → row < length news
+    → PutsRows olds first row span news → PutsRows olds first (row + 1) span (set news row span)
+rows-more olds news first row span from inside puts =
     let none : Span = record { left = most_columns; right = 0 } in
-    let there : (k : ℕ) → k ≡ row → span_at (set news row whole) k ≡ whole =
-    λ k is. get_or-set_at news row k whole none is inside in
-    let other : (k : ℕ) → (k ≡ row → ⊥) → span_at (set news row whole) k ≡ span_at news k =
-    λ k differs. get_or-set_other news row k whole none differs in
+    let other : (k : ℕ) → (k ≡ row → ⊥) → span_at (set news row span) k ≡ span_at news k =
+    λ k differs. get_or-set_other news row k span none differs in
     record {
-      left = λ k above less. ⊎_elim
-          (λ (before : k < row). ap (λ (span : Span). span.left) (other k (λ same. omega arith)) ∙ notes.left k above before)
-          (λ (at : row ≤ k). ap (λ (span : Span). span.left) (there k (omega arith)) ∙ left)
+      among = λ k above less. ⊎_elim
+          (λ (before : k < row). other k (λ same. omega arith) ∙ puts.among k above before)
+          (λ (at : row ≤ k). get_or-set_at news row k span none (omega arith) inside)
           (cases_lt k row);
-      right = λ k above less. ⊎_elim
-          (λ (before : k < row). ap (λ (span : Span). span.right) (other k (λ same. omega arith)) ∙ notes.right k above before)
-          (λ (at : row ≤ k). ap (λ (span : Span). span.right) (there k (omega arith)) ∙ right)
-          (cases_lt k row);
-      above = λ k less. other k (λ same. omega arith) ∙ notes.above k less;
-      below = λ k more. other k (λ same. omega arith) ∙ notes.below k (omega arith);
-      long = length-set news row whole ∙ notes.long;
+      above = λ k less. other k (λ same. omega arith) ∙ puts.above k less;
+      below = λ k more. other k (λ same. omega arith) ∙ puts.below k (omega arith);
+      long = length-set news row span ∙ puts.long;
     }
 
-pub rows-ended : (olds news : List Span) (first past row : ℕ) → past ≤ row → row ≤ max first past → TracksRows olds first row news
-    → TracksRows olds first past news
-rows-ended olds news first past row to most notes = record {
-  left = λ k from less. notes.left k from (omega arith);
-  right = λ k from less. notes.right k from (omega arith);
-  above = notes.above;
-  below = λ k more. ⊎_elim (λ (before : k < first). notes.above k before) (λ (at : first ≤ k). notes.below k (omega arith)) (cases_lt k first);
-  long = notes.long;
+pub rows-ended : (olds news : List Span) (first past row : ℕ) (span : Span) → past ≤ row → row ≤ max first past
+    → PutsRows olds first row span news → PutsRows olds first past span news
+rows-ended olds news first past row span to most puts = record {
+  among = λ k from less. puts.among k from (omega arith);
+  above = puts.above;
+  below = λ k more. ⊎_elim (λ (before : k < first). puts.above k before) (λ (at : first ≤ k). puts.below k (omega arith)) (cases_lt k first);
+  long = puts.long;
 }
 
 -- where all columns of all rows can have changed, none is kept
@@ -151,3 +145,16 @@ spans-either true true olds news s d e same step columns = spans-all [] s e refl
 spans-either true false olds news s d e same step columns = cc same
 spans-either false true olds news s d e same step columns = cc same
 spans-either false false olds news s d e same step columns = step columns
+
+-- where each span is empty, so is each beside some rows
+pub none-empty : (count first : ℕ) → AreEmptyBeside first 0 (replicate count (record { left = most_columns; right = 0 }))
+none-empty count first = record { above = λ row less. at row; below = λ row more. at row; inside = omega arith }
+  where
+    none : Span
+    none = record { left = most_columns; right = 0 }
+
+    at : (row : ℕ) → (span_at (replicate count none) row).right ≡ 0
+    at row = ap (λ (span : Span). span.right) (⊎_elim
+        (λ (within : row < count). get_or-replicate count row none none within)
+        (λ (past : count ≤ row). get_or_past (replicate count none) row none (omega (arith, past, length-replicate count none)))
+        (cases_lt row count))

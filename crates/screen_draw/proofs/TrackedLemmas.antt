@@ -28,12 +28,18 @@ tracks-step old new call middle nothing step is same none widens rows columns =
           subst (λ (s : State). KeepsSpans (spans_of new.columns) shown s.display) (sym same) (columns shown d keeps kept before);
     }
 
--- so it shows a piece more
-pub tracked-shows : (first : State) (bytes piece : List ℕ) (calls : List Call) (old new : Tracked) → Shows first bytes old.screen
-    → Continues bytes piece calls → TracksAll old calls new → Shows first (bytes ++ piece) new.screen
-tracked-shows first bytes piece calls old new shows continues tracks =
+-- A screen that has taken the calls of a piece more shows it.
+pub shows-more : (first : State) (bytes piece : List ℕ) (calls : List Call) (old new : State) → Shows first bytes old
+    → Continues bytes piece calls → new ≡ after_all calls old → Shows first (bytes ++ piece) new
+shows-more first bytes piece calls old new shows continues is =
     let before : List Call = shows.0 in (
       before ++ calls,
       continues before shows.1,
-      tracks.screen ∙ (ap (after_all calls) shows.2 ∙ sym (after_all-append before calls first)),
+      is ∙ (ap (after_all calls) shows.2 ∙ sym (after_all-append before calls first)),
     )
+
+-- so it does where it is tracked
+pub tracked-shows : (first : State) (bytes piece : List ℕ) (calls : List Call) (old new : Tracked) → Shows first bytes old.screen
+    → Continues bytes piece calls → TracksAll old calls new → Shows first (bytes ++ piece) new.screen
+tracked-shows first bytes piece calls old new shows continues tracks =
+    shows-more first bytes piece calls old.screen new.screen shows continues tracks.screen

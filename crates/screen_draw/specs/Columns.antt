@@ -1,14 +1,18 @@
 -- Which columns of each row can have changed.
-use Rattle.std.specs.Prelude.{◌≡◌, ◌<◌, ◌≤◌, ℕ, List, [], length, take, drop, get_or, if◌then◌else◌}
+use Rattle.std.specs.Prelude.{◌≡◌, ◌<◌, ◌≤◌, ℕ, Bool, List, [], length, take, drop, get_or, if◌then◌else◌}
 use Rattle.ansi_screen.specs.declared.cell.Cell.{Cell}
 use Rattle.ansi_screen.specs.Display.{Display, row_cells, most_columns}
-use Rattle.screen_draw.specs.declared.columns.Columns.{Columns}
 use Rattle.screen_draw.specs.declared.columns.Span.{Span}
 
 -- A row has kept its cells before one column, and those from another one on.
 pub record KeepsColumns (left right : ℕ) (olds news : List Cell) : Type 0 where
   pub front : take left news ≡ take left olds
   pub back : drop right news ≡ drop right olds
+
+-- what is tracked: all columns of all rows, or of each row those of its span
+pub record Columns : Type 0 where
+  pub are_all : Bool
+  pub spans : List Span
 
 -- what is tracked, row by row: nothing, where all columns of all rows can have changed
 abbrev pub spans_of : Columns → List Span
@@ -36,10 +40,19 @@ pub record TracksSpan (olds : List Span) (row left right : ℕ) (news : List Spa
   pub others : (other : ℕ) → (other ≡ row → ⊥) → span_at news other ≡ span_at olds other
   pub long : length news ≡ length olds
 
--- All columns are tracked of the rows from one up to another, and of other rows as much as before.
-pub record TracksRows (olds : List Span) (first past : ℕ) (news : List Span) : Type 0 where
-  pub left : (row : ℕ) → first ≤ row → row < past → (span_at news row).left ≡ 0
-  pub right : (row : ℕ) → first ≤ row → row < past → (span_at news row).right ≡ most_columns
+-- all columns of a row
+abbrev pub whole_span : Span
+whole_span = record { left = 0; right = most_columns }
+
+-- The rows from one up to another have this span, and other rows the one that they had.
+pub record PutsRows (olds : List Span) (first past : ℕ) (span : Span) (news : List Span) : Type 0 where
+  pub among : (row : ℕ) → first ≤ row → row < past → span_at news row ≡ span
   pub above : (row : ℕ) → row < first → span_at news row ≡ span_at olds row
   pub below : (row : ℕ) → past ≤ row → span_at news row ≡ span_at olds row
   pub long : length news ≡ length olds
+
+-- Of other rows than those from one up to another no column is tracked.
+pub record AreEmptyBeside (first past : ℕ) (spans : List Span) : Type 0 where
+  pub above : (row : ℕ) → row < first → (span_at spans row).right ≡ 0
+  pub below : (row : ℕ) → past ≤ row → (span_at spans row).right ≡ 0
+  pub inside : past ≤ length spans

@@ -2,9 +2,10 @@
 ghost use Rattle.std.specs.Prelude.{◌≡◌, ◌≤◌, ◌<◌, ℕ, [], List, length};
 ghost use Rattle.ansi_screen.specs.Display.{most_columns, most_rows};
 ghost use Rattle.ansi_screen.specs.declared.cell.Cell.{Cell};
-ghost use Rattle.screen_draw.specs.Columns.{KeepsColumns, span_at, KeepsSpan};
+ghost use Rattle.screen_draw.specs.Columns.{KeepsColumns, span_at, whole_span, spans_of, KeepsSpan, TracksSpan, PutsRows};
 
 use ansi_screen::{MAX_COLUMNS, MAX_ROWS};
+use std::marker::Model;
 
 /// The columns from `left` up to `right`; none, where `right` is not greater than `left`.
 #[derive(Clone, Copy)]
@@ -29,11 +30,35 @@ pub(crate) struct Columns {
     /// All columns of all rows can have changed, whatever the spans are.
     are_all: bool,
     spans: [Span; MAX_ROWS],
+    /// The span of each other row than those from `first` up to `past` is empty.
+    first: usize,
+    past: usize,
+}
+
+impl Model for Columns {
+    ghost use Rattle.screen_draw.specs.Columns.{Columns, AreEmptyBeside};
+
+    ghost Value = { Columns };
+
+    ghost view = { λ s. record {
+      are_all = s.are_all;
+      spans = s.spans;
+    } };
+
+    ghost invariant = { λ s. AreEmptyBeside s.first s.past s.spans };
+}
+
+/// The rows from `first` up to `past` have this span.
+fn put(spans: &mut [Span], first: usize, past: usize, span: Span)
+    requires { past ≤ length spans.old }
+    ensures { PutsRows spans.old first past span spans.new }
+{
+    for row in first..past {
+        spans[row] = span;
+    }
 }
 
 impl Columns {
-    ghost use Rattle.screen_draw.specs.Columns.{spans_of, TracksSpan, TracksRows};
-
     /// All columns of all rows.
     pub(crate) fn all() -> Columns
         ensures { spans_of result ≡ [] }
@@ -41,6 +66,8 @@ impl Columns {
         Columns {
             are_all: true,
             spans: [NONE; MAX_ROWS],
+            first: MAX_ROWS,
+            past: 0,
         }
     }
 
@@ -51,16 +78,16 @@ impl Columns {
         if self.are_all { &[] } else { &self.spans }
     }
 
-    /// No column of so many rows any more.
-    pub(crate) fn forget(&mut self, rows: usize)
-        requires { rows ≤ most_rows }
-        ensures rows { rows ≤ length (spans_of self.new) }
-        ensures none { (row : ℕ) → row < rows → (span_at (spans_of self.new) row).right ≡ 0 }
+    /// No column of any row any more. It takes time of the rows of which some were tracked since the last time, and of
+    /// those between them.
+    pub(crate) fn forget(&mut self)
+        ensures rows { length (spans_of self.new) ≡ most_rows }
+        ensures none { (row : ℕ) → (span_at (spans_of self.new) row).right ≡ 0 }
     {
+        put(&mut self.spans, self.first, self.past, NONE);
+        self.first = MAX_ROWS;
+        self.past = 0;
         self.are_all = false;
-        for row in 0..rows {
-            self.spans[row] = NONE;
-        }
     }
 
     /// The columns of a row from `left` up to `right` too.
@@ -76,6 +103,8 @@ impl Columns {
             left: span.left.min(left as u16),
             right: span.right.max(right as u16),
         };
+        self.first = self.first.min(row);
+        self.past = self.past.max(row + 1);
     }
 
     /// All columns of all rows too.
@@ -89,11 +118,11 @@ impl Columns {
     pub(crate) fn track_rows(&mut self, first: usize, past: usize)
         requires { past ≤ most_rows }
         ensures all { self.new.are_all ≡ self.old.are_all }
-        ensures rows { TracksRows self.old.spans first past self.new.spans }
+        ensures rows { PutsRows self.old.spans first past whole_span self.new.spans }
     {
-        for row in first..past {
-            self.spans[row] = WHOLE;
-        }
+        put(&mut self.spans, first, past, WHOLE);
+        self.first = self.first.min(first);
+        self.past = self.past.max(past);
     }
 }
 

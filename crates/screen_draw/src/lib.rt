@@ -132,6 +132,8 @@ pub fn update<W: Sink>(shown: &Screen, wanted: &Screen, output: &mut Output<W>)
 /// All has to be noted in which what is wanted differs from what is shown. So it is where both have the same size and
 /// nothing was forgotten; and where both were the same when [`Noting::forget`] was called, whatever `wanted` has taken
 /// since ([`laws::noted`]).
+// Out of line `tests/cells` finds it, and counts what it alone takes; so too the next one.
+#[inline(never)]
 pub fn update_noted<W: Sink>(shown: &Screen, wanted: &Noting, output: &mut Output<W>)
     requires noted { HasNoted wanted.now shown.now.display }
 
@@ -163,7 +165,6 @@ pub fn update_noted<W: Sink>(shown: &Screen, wanted: &Noting, output: &mut Outpu
 }
 
 /// Writes what [`update`] writes, and compares of each row those columns alone that can have changed.
-// Out of line `bench/cells.py` finds it, and counts what it alone takes.
 #[inline(never)]
 pub(crate) fn update_noted_columns<W: Sink>(
     shown: &Screen,

@@ -119,9 +119,8 @@ impl Tracked {
             → row < self.new.screen.display.height → row_cells row self.new.screen.display ≡ row_cells row shown }
         ensures frame { (shown : Display) → HasTracked self.new shown → KeepsFrame shown self.new.screen.display }
     {
-        let rows = self.screen.rows();
-        self.changed = Changed::nothing(rows);
-        self.columns.forget(rows);
+        self.changed = Changed::nothing(self.screen.rows());
+        self.columns.forget();
     }
 
     /// What can have changed.

@@ -1,10 +1,16 @@
 //! Updates, behind each piece of a stream.
-ghost use Rattle.std.specs.Prelude.{◌≡◌, None};
+ghost use Rattle.std.specs.Prelude.{◌≡◌, ◌++◌, ℕ, List, None};
 ghost use Rattle.anstyle_parse.specs.Io.Output.{fault_in};
+ghost use Rattle.anstyle_parse.specs.Views.Accumulator.{front_of};
+ghost use Rattle.anstyle_parse.specs.Views.Parser.{IsAfter};
+ghost use Rattle.ansi_screen.specs.After.{State, Shows};
 ghost use Rattle.screen_draw.specs.Noting.{screen_of};
+ghost use Rattle.screen_draw.specs.Tracked.{HasTracked};
 ghost use Rattle.screen_draw.specs.Updates.{Follows};
 
+use crate::changed::Changed;
 use crate::noting::Noting;
+use crate::tracked::Tracked;
 use crate::{draw, update_noted_columns};
 use ansi_screen::Screen;
 use anstyle_parse::io::{Fault, Output, Sink, Source};
@@ -13,12 +19,65 @@ use anstyle_parse::{Parser, Utf8Parser};
 /// The bytes that one read is asked for: as many as a pipe of Linux holds.
 const PIECE: usize = 65_536;
 
+/// In the time in which a byte is taken as many cells are copied. At 120x40 a cell took 0.5 ns, and a byte of short
+/// sequences 4.4.
+const CELLS_A_BYTE: usize = 8;
+
+/// Of so many cells two screens take 1 MB, which a processor holds near. Where there are more, a cell took 3.3 ns at 300x100,
+/// and 8 at 1000x1000, which is counted as a byte.
+const NEAR_CELLS: usize = 13_000;
+
+/// In the time in which a parser is copied as many cells are.
+const PARSER_CELLS: usize = 64;
+
+/// Whether less time goes by where a screen comes to another one by [`Screen::catch_up`], and a parser is copied, than
+/// where so many bytes are taken a second time.
+fn is_copied(changed: Changed, screen: &Screen, bytes: usize) -> bool {
+    let rows = changed
+        .past
+        .min(screen.rows())
+        .saturating_sub(changed.first);
+    let covered_rows = if changed.is_framed { screen.rows() } else { 0 };
+    let cells = (rows + covered_rows) * screen.columns() + PARSER_CELLS;
+    cells <= bytes || (cells <= NEAR_CELLS && cells / CELLS_A_BYTE <= bytes)
+}
+
+/// The screen that is shown, and the parser that has made it, come to where the wanted one and its parser are, which
+/// have taken a piece more: by a copy of what can have changed, or by taking the piece a second time.
+fn come_after(
+    shown: &mut Screen,
+    behind: &mut Parser<Utf8Parser>,
+    wanted: &Tracked,
+    parser: &Parser<Utf8Parser>,
+    piece: &[u8],
+)
+    requires { HasTracked wanted.now shown.old.display }
+    ensures screen { (first : State) (before : List ℕ) → Shows first before shown.old
+        → IsAfter front_of behind.old before → Shows first (before ++ piece.now) wanted.now.screen
+        → shown.new ≡ wanted.now.screen }
+    ensures parser { (before : List ℕ) → IsAfter front_of behind.old before
+        → IsAfter front_of parser.now (before ++ piece.now) → IsAfter front_of behind.new (before ++ piece.now) }
+{
+    let changed = wanted.changed();
+    let screen = wanted.screen();
+    if is_copied(changed, screen, piece.len()) {
+        // (a clone never fails)
+        if let Ok(clone) = parser.clone() {
+            shown.catch_up(screen, changed.first, changed.past, changed.is_framed);
+            *behind = clone;
+            return;
+        }
+    }
+    behind.advance_texts(shown, piece);
+}
+
 /// Draws a screen, and after each read of at most 65,536 bytes the update to the screen that all bytes so far lead
 /// to, until the reader ends or fails or a write fails, of which none has before. What was written is handed on before
 /// the next read. At most 2^64 - 1 reads are made. No memory is taken.
 ///
-/// Of the rows only those are compared, and then copied, that the bytes of a read can have changed; of such a row only
-/// the columns are compared that can have changed. Each byte is given to one parser, once.
+/// Of the rows only those are compared that the bytes of a read can have changed, and of such a row only the columns that
+/// can have. Then these rows are copied; or, where they have many cells for the bytes of the read, these are taken a
+/// second time.
 ///
 /// Both screens are the one that is drawn first; in the end `wanted` has the last one. `Err(Fault::Write)` means
 /// that a write failed, and nothing was read after it; `Err(Fault::Read)` that a read failed, or that 2^64 - 1
@@ -41,6 +100,7 @@ pub fn update_to_end<R: Source, W: Sink>(
     if output.fault().is_some() {
         return Err(Fault::Write);
     }
+    let mut behind = Parser::<Utf8Parser>::new();
     let mut parser = Parser::<Utf8Parser>::new();
     let mut piece = [0; PIECE];
     for turn in 0..u64::MAX {
@@ -55,12 +115,12 @@ pub fn update_to_end<R: Source, W: Sink>(
                 if output.fault().is_some() {
                     return Err(Fault::Write);
                 }
-                let changed = wanted.tracked.changed();
-                shown.catch_up(
-                    wanted.screen(),
-                    changed.first,
-                    changed.past,
-                    changed.is_framed,
+                come_after(
+                    shown,
+                    &mut behind,
+                    &wanted.tracked,
+                    &parser,
+                    &piece[..count],
                 );
             }
         }

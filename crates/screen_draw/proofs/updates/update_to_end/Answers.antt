@@ -9,14 +9,13 @@ use Rattle.anstyle_parse.specs.Views.Parser.{IsAfter}
 use Rattle.anstyle_parse.proofs.Canonical.Items.{AreCalls-nil}
 use Rattle.anstyle_parse.proofs.Written.Output.{None-from_is_some}
 use Rattle.ansi_screen.specs.After.{State, Shows}
-use Rattle.screen_draw.specs.Changed.{Keeps}
 use Rattle.screen_draw.specs.Draw.{drawn_calls}
 use Rattle.screen_draw.specs.Drawing.{Draws}
 use Rattle.screen_draw.specs.Update.{update_calls}
 use Rattle.screen_draw.specs.Updates.{IsPiece, joined}
 use Rattle.screen_draw.specs.Tracked.{HasTracked, HasTrackedColumns}
 use Rattle.screen_draw.proofs.TrackedLemmas.{tracked-shows}
-use Rattle.screen_draw.proofs.UpdatesLemmas.{joined-more, last-more, pieces-more, screens-more, text-passed-on, no-updates, begins, draws-more, write-fault, follows, near-noted}
+use Rattle.screen_draw.proofs.UpdatesLemmas.{joined-more, last-more, pieces-more, screens-more, text-passed-on, no-updates, begins, draws-more, write-fault, follows}
 use Rattle.screen_draw.proofs.updates.update_to_end.Goals as goal
 
 pub returns-then-is_some : goal.returns-then-is_some
@@ -43,6 +42,7 @@ loop-turn-init g c = record {
   shows = ([], AreCalls-nil, refl);
   same = c.requires.same;
   stands = c.new-parser.ensures.stands;
+  stands_behind = c.new-behind.ensures.stands;
   no_fault = None-from_is_some (fault_in c.pass_on.new.self) (sym (c.is_some.ensures ∙ ap is_some c.fault.ensures) ∙ c.if-is_some.false);
   not_failed = refl;
   counted = omega arith;
@@ -116,15 +116,12 @@ returns-then-is_some-2 g c =
     )
 
 -- what differs is tracked
-pub catch_up-requires : goal.catch_up-requires
-catch_up-requires g c =
+pub come_after-requires : goal.come_after-requires
+come_after-requires g c =
     let old = c.forget.new.self in
-    let shown = c.loop-turn.shown.display in
     let same : c.loop-turn.shown ≡ old.screen = c.loop-turn.invariant.same ∙ sym c.forget.ensures.screen in
-    let tracked = c.advance_texts.ensures.calls.changed shown (subst (λ (s : State). HasTracked old s.display) (sym same) c.forget.ensures.shown) in
-    near-noted c.changed-changed.result shown c.screen-in-Some.result.now.display
-    (subst (λ changed. Keeps changed shown c.screen-in-Some.result.now.display) (sym c.changed-changed.ensures)
-    (subst (λ (s : State). Keeps c.advance_texts.new.performer.changed shown s.display) (sym c.screen-in-Some.ensures) tracked))
+    c.advance_texts.ensures.calls.changed c.loop-turn.shown.display
+    (subst (λ (s : State). HasTracked old s.display) (sym same) c.forget.ensures.shown)
 
 pub loop-turn-preserved : goal.loop-turn-preserved
 loop-turn-preserved g c =
@@ -140,6 +137,7 @@ loop-turn-preserved g c =
     let shows = tracked-shows first (joined before.pieces) bytes _ c.forget.new.self c.advance_texts.new.performer
     (subst (Shows first (joined before.pieces)) (sym c.forget.ensures.screen) before.shows)
     (c.advance_texts.ensures.stream (joined before.pieces) before.stands) c.advance_texts.ensures.calls in
+    let stands = c.advance_texts.ensures.stands (joined before.pieces) before.stands in
     record {
       pieces = before.pieces ++ bytes ∷ [];
       screens = before.screens ++ next ∷ [];
@@ -152,8 +150,11 @@ loop-turn-preserved g c =
           (before.same ∙ before.is_last)
           c.update_noted_columns.ensures.added c.update_noted_columns.ensures.drawing c.pass_on-in-Some.ensures;
       shows = subst (λ l. Shows first l next) more shows;
-      same = c.catch_up.ensures ∙ c.screen-in-Some.ensures;
-      stands = subst (IsAfter front_of c.advance_texts.new.self) more (c.advance_texts.ensures.stands (joined before.pieces) before.stands);
+      same = c.come_after.ensures.screen first (joined before.pieces)
+          (subst (Shows first (joined before.pieces)) (sym before.same) before.shows) before.stands_behind shows;
+      stands = subst (IsAfter front_of c.advance_texts.new.self) more stands;
+      stands_behind = subst (IsAfter front_of c.come_after.new.behind) more
+          (c.come_after.ensures.parser (joined before.pieces) before.stands_behind stands);
       no_fault = None-from_is_some (fault_in c.pass_on-in-Some.new.self) (sym (c.is_some-in-Some.ensures ∙ ap is_some c.fault-in-Some.ensures) ∙ c.if-is_some-2.false);
       not_failed = c.in-Some.ensures.not_failed ∙ before.not_failed;
       counted = omega (arith, before.counted, is_piece.0, ap length more, length-append (joined before.pieces) bytes);

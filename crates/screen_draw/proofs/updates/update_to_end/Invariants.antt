@@ -22,6 +22,7 @@ invariant-loop-turn g l = record {
   shows : Shows l.initial.wanted.tracked.screen (joined pieces) l.wanted.tracked.screen;
   same : l.shown ≡ l.wanted.tracked.screen;
   stands : IsAfter front_of l.parser (joined pieces);
+  stands_behind : IsAfter front_of l.behind (joined pieces);
   no_fault : fault_in l.output ≡ None;
   not_failed : g.R.Source.has_failed l.reader ≡ g.R.Source.has_failed l.initial.reader;
   counted : l.turn ≤ length (joined pieces);

@@ -4,7 +4,7 @@ each digest of a random stream comes from the sources of the Rust crate (docs/DE
 import hashlib
 
 from expected_pages import ADDRESS, DARK_TITLED_HEAD, LIGHT_HEAD, LINKED_HEAD, PAGE_HEAD, PAGE_TAIL, TITLE, TITLED_HEAD
-from expected_shown import SHOWN_HOSTILE, SHOWN_ROWS
+from expected_shown import SHOWN_HOSTILE, SHOWN_NARROW_ROWS, SHOWN_ROWS
 from hostile_streams import BLOCK, SIZE, stream, text, times
 from open_strings import said
 from safe_rows import SAFE_ROWS
@@ -653,6 +653,7 @@ PROGRAMS = [
             Mode(["--safe"], SAFE_ROWS, (b"\x1b[1mA<\r\n", b"A<\n"), []),
             Mode(["--shown"], SHOWN_ROWS, (b"\x1b[1mA\n", b"A\n"), SHOWN_HOSTILE, stays=True, waits=True),
             Mode(["--shown=9x9", "--shown=80x24"], SHOWN_ROWS[-3:], (b"A\b\n", b"A\n"), [], stays=True, waits=True),
+            Mode(["--shown=20x6"], SHOWN_NARROW_ROWS, (b"A\b\n", b"A\n"), [], stays=True, waits=True),
         ],
         options=["--safe", "--shown", "--shown=COLUMNSxROWS", "--output=FILE"],
         files=[([], []), (["--safe"], ["--safe"]), (["--shown"], ["--shown"])],

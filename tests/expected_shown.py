@@ -19,6 +19,14 @@ SHOWN_ROWS = [
     ("a wide character for which the row has no room", b"a" * 79 + "漢\n".encode(), b"a" * 79 + "漢\n".encode()),
     ("a row that went on and is rewritten", b"a" * 81 + b"\x1b[1;80Hb\x1b[2Hc", b"a" * 79 + b"b\nc\n"),
     ("a row that went on and is erased", b"a" * 81 + b"\x1b[1;9H\x1b[K", b"a" * 8 + b"\na\n"),
+    ("a row in which the one above went on, erased by EL 0", b"a" * 81 + b"\r\x1b[Kb", b"a" * 80 + b"\nb\n"),
+    ("by EL 2", b"a" * 81 + b"\x1b[2K\rb", b"a" * 80 + b"\nb\n"),
+    ("by EL 1", b"a" * 81 + b"\x1b[1K\rb", b"a" * 80 + b"\nb\n"),
+    ("by EL 1, in part", b"a" * 80 + b"bcd\x08\x08\x1b[1K", b"a" * 80 + b"\n  d\n"),
+    ("by ED 0", b"a" * 81 + b"\r\x1b[Jb", b"a" * 80 + b"\nb\n"),
+    ("behind its first column, by EL 0", b"a" * 80 + b"bc\x08\x1b[K", b"a" * 80 + b"b\n"),
+    ("behind its first column, by ED 0", b"a" * 80 + b"bc\x08\x1b[J", b"a" * 80 + b"b\n"),
+    ("a bar wider than the screen, again and again", (b"\r\x1b[K" + b"=" * 85) * 3 + b"\n", (b"=" * 80 + b"\n") * 2 + b"=" * 85 + b"\n"),
     ("characters deleted and inserted", b"a" * 81 + b"\x1b[1H\x1b[P\x1b[@", b" " + b"a" * 79 + b"\na\n"),
     ("blanks that were printed, and others", b"a  \nb\x1b[9C\nc\td\t\n", b"a  \nb\nc       d\n"),
     ("blank lines", b"a\n\n\nb\n\n\n", b"a\n\n\nb\n"),
@@ -39,6 +47,13 @@ SHOWN_ROWS = [
     ("RIS on the alternate screen", b"a\n\x1b[?1049hb\x1bcc", b"a\nc\n"),
     ("the alternate screen with nothing on it", b"a\n\x1b[?1049h", b"a\n"),
     ("colours, titles and a broken character", b"\x1b[31m\x1b]0;t\x07a\xc3\x1b[mb\n", b"a\xef\xbf\xbdb\n"),
+]
+
+# The same of a screen of 20x6.
+SHOWN_NARROW_ROWS = [
+    ("a bar wider than the screen", b"a" * 25 + b"\r\x1b[Kb\n", b"a" * 20 + b"\nb\n"),
+    ("one of the width of the screen", b"a" * 20 + b"\r\x1b[Kb\n", b"b\n"),
+    ("EL at a pending wrap", b"a" * 19 + b"b\x1b[Kc\n", b"a" * 19 + b"c\n"),
 ]
 
 SCROLLS = 2_000_000  # the bytes of a stream of which each few move a whole screen

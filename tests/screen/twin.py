@@ -144,16 +144,20 @@ class Display:
         return lambda run: self.spaces(min(n, len(run))) + run[: max(0, len(run) - n)]
 
     def erase(self, kind, start, end):
-        if kind == 0:
-            self.change(self.here(), end, self.erased)
-        elif kind == 1:
-            self.change(start, self.here() + 1, self.erased)
-        elif kind == 2:
-            self.change(start, end, self.erased)
+        """ED and EL. Where the first cell of the cursor's row is erased, the row above it no longer goes on in it."""
+        if kind > 2:
+            return
+        first = self.here() if kind == 0 else start
+        last = self.here() + 1 if kind == 1 else end
+        if self.cursor.row and first <= self.row_start():
+            self.set_goes_on(self.row_start() - 1, False)
+        self.change(first, last, self.erased)
+
+    def set_goes_on(self, place, on):
+        self.cells[place] = (*self.cells[place][:3], on, self.cells[place][4])
 
     def goes_on(self, on):
-        end = self.row_end() - 1
-        self.cells[end] = (*self.cells[end][:3], on, self.cells[end][4])
+        self.set_goes_on(self.row_end() - 1, on)
 
     def delete_characters(self, n):
         self.goes_on(False)

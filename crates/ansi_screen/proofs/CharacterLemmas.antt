@@ -24,7 +24,7 @@ use Rattle.ansi_screen.specs.declared.function.Function.TheVariants.{Edits, Move
 use Rattle.ansi_screen.specs.Cells.{blank, emptied, with_mark, one_more, is_right, cell_at, marked_before, going_on, cut, within, change, erased, moved_back, moved_on}
 use Rattle.ansi_screen.specs.Display.{Display, here, row_start, row_end, row_cells, fresh}
 use Rattle.ansi_screen.specs.Moves.{to_row, to_column, settled, tabbed, tabbed_back, with_stop}
-use Rattle.ansi_screen.specs.Edits.{with_cells, space, row_going_on, erased_cells, erased_part, erased_display, erased_line, erased_characters, deleted_characters, inserted_characters, rows_up, rows_down, is_in_margins, inserted_lines, deleted_lines, index, reverse_index}
+use Rattle.ansi_screen.specs.Edits.{with_cells, space, row_going_on, erased_cells, erased_part, erased_display, erased_line, erased_characters, deleted_characters, inserted_characters, rows_up, rows_down, is_in_margins, inserted_lines, deleted_lines, index, reverse_index, row_above_ended, erases_from_row, erases_first}
 use Rattle.ansi_screen.specs.Widths.{is_shown, columns}
 use Rattle.ansi_screen.specs.Print.{glyph, wrapped, with_room, with_glyph, put, marked, shown, line_drawing, drawn, draws, printed, printed_again}
 use Rattle.ansi_screen.specs.Modes.{with_charset, restored, with_origin, with_margins, to_alternate, to_main, with_alternate, softly_reset, with_private_mode, with_mode, with_modes, first_field}
@@ -160,6 +160,13 @@ good-erased : (start end : ℕ) (d : Display) → HasGood d → HasGood (erased_
 good-erased start end d s =
     (good-change start end (erased (space d)) d.cells (λ run are. good-replicate (length run) (space d) (good-blank d.cursor.style)) s.0, s.1)
 
+good-above_at : (t : Bool) (d : Display) → HasGood d → HasGood (with_cells (if t then going_on false (row_start d) d.cells else d.cells) d)
+good-above_at true d s = (good-going_on false (row_start d) d.cells s.0, s.1)
+good-above_at false d s = s
+
+good-row_above : (begun : Bool) (d : Display) → HasGood d → HasGood (row_above_ended begun d)
+good-row_above begun d s = good-above_at (begun && nat_lt 0 d.cursor.row) d s
+
 good-part : (kind start end : ℕ) (d : Display) → HasGood d → HasGood (erased_part kind start end d)
 unfolding erased_part
 good-part kind start end d s =
@@ -208,8 +215,12 @@ good-deleted n d s =
 good-edited : (edit : Edit) (n : ℕ) (d : Display) → HasGood d → HasGood (edited edit n d)
 unfolding edited erased_display erased_line erased_characters inserted_lines deleted_lines
 good-edited InsertCharacters n d s = good-inserted (count n) d s
-good-edited EraseInDisplay n d s = good-part n 0 (length d.cells) d s
-good-edited EraseInLine n d s = good-part n (row_start d) (row_end d) d s
+good-edited EraseInDisplay n d s =
+    let begun : Bool = erases_from_row n d in
+    good-part n 0 (length d.cells) (row_above_ended begun d) (good-row_above begun d s)
+good-edited EraseInLine n d s =
+    let begun : Bool = erases_first n d in
+    good-part n (row_start d) (row_end d) (row_above_ended begun d) (good-row_above begun d s)
 good-edited InsertLines n d s =
     good-if (is_in_margins d) (to_column 0 (rows_down (count n) d.cursor.row d.bottom d)) d (good-rows_down (count n) d.cursor.row d.bottom d s) s
 good-edited DeleteLines n d s =

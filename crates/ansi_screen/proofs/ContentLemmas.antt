@@ -17,7 +17,7 @@ use Rattle.ansi_screen.specs.declared.function.Edit.TheVariants.{InsertCharacter
 use Rattle.ansi_screen.specs.Cells.{blank, emptied, with_mark, one_more, is_right, cell_at, marked_before, going_on, cut, within, change, erased, moved_back, moved_on}
 use Rattle.ansi_screen.specs.Display.{Display, here, row_start, row_end}
 use Rattle.ansi_screen.specs.Moves.{to_row, to_column, settled}
-use Rattle.ansi_screen.specs.Edits.{with_cells, space, row_going_on, erased_cells, erased_part, erased_display, erased_line, erased_characters, deleted_characters, inserted_characters, rows_up, rows_down, is_in_margins, inserted_lines, deleted_lines, index, reverse_index}
+use Rattle.ansi_screen.specs.Edits.{with_cells, space, row_going_on, erased_cells, erased_part, erased_display, erased_line, erased_characters, deleted_characters, inserted_characters, rows_up, rows_down, is_in_margins, inserted_lines, deleted_lines, index, reverse_index, row_above_ended, erases_from_row, erases_first}
 use Rattle.ansi_screen.specs.Widths.{is_shown, columns}
 use Rattle.ansi_screen.specs.Print.{glyph, wrapped, with_room, with_glyph, put, marked, shown}
 use Rattle.ansi_screen.specs.After.{edited, count}
@@ -193,6 +193,13 @@ holds-erased start end d s =
     holds-cells (change start end (erased (space d)) d.cells) d
     (cells-change start end (erased (space d)) d.cells (λ run are. cells-replicate (length run) (space d) (cell-blank d.cursor.style s.2)) s.0) s
 
+holds-above_at : (t : Bool) (d : Display) → Holds d → Holds (with_cells (if t then going_on false (row_start d) d.cells else d.cells) d)
+holds-above_at true d s = holds-cells (going_on false (row_start d) d.cells) d (cells-going_on false (row_start d) d.cells s.0) s
+holds-above_at false d s = s
+
+holds-row_above : (begun : Bool) (d : Display) → Holds d → Holds (row_above_ended begun d)
+holds-row_above begun d s = holds-above_at (begun && nat_lt 0 d.cursor.row) d s
+
 holds-part : (kind start end : ℕ) (d : Display) → Holds d → Holds (erased_part kind start end d)
 unfolding erased_part
 holds-part kind start end d s =
@@ -244,8 +251,12 @@ holds-deleted n d s =
 pub holds-edited : (edit : Edit) (n : ℕ) (d : Display) → Holds d → Holds (edited edit n d)
 unfolding edited erased_display erased_line erased_characters inserted_lines deleted_lines
 holds-edited InsertCharacters n d s = holds-inserted (count n) d s
-holds-edited EraseInDisplay n d s = holds-part n 0 (length d.cells) d s
-holds-edited EraseInLine n d s = holds-part n (row_start d) (row_end d) d s
+holds-edited EraseInDisplay n d s =
+    let begun : Bool = erases_from_row n d in
+    holds-part n 0 (length d.cells) (row_above_ended begun d) (holds-row_above begun d s)
+holds-edited EraseInLine n d s =
+    let begun : Bool = erases_first n d in
+    holds-part n (row_start d) (row_end d) (row_above_ended begun d) (holds-row_above begun d s)
 holds-edited InsertLines n d s =
     holds-if (is_in_margins d) (to_column 0 (rows_down (count n) d.cursor.row d.bottom d)) d (holds-rows_down (count n) d.cursor.row d.bottom d s) s
 holds-edited DeleteLines n d s =

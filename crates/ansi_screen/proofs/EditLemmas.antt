@@ -1,7 +1,7 @@
 -- Edits of cells change cells and the cursor alone; and those of the cursor's row no others than its own, where no right
 -- half stands at its ends.
 use Rattle.std.proofs.Common.{◌≡◌, ℕ, ◌+◌, ◌-◌, ◌<◌, ◌≤◌, Bool, true, false, List, [], length, take, drop, refl, sym, ◌∙◌, subst, arith}
-use Rattle.std.specs.Prelude.{min, ◌==◌, if◌then◌else◌}
+use Rattle.std.specs.Prelude.{min, ◌==◌, if◌then◌else◌, ◌&&◌, nat_lt}
 use Rattle.std.proofs.lemmas.List.{length-replicate}
 use Rattle.anstyle_parse.specs.Stream.Call.{csi_dispatch}
 use Rattle.ansi_screen.specs.declared.cell.Cell.{Cell}
@@ -12,15 +12,15 @@ use Rattle.ansi_screen.specs.declared.function.Function.TheVariants.{Edits, Sets
 use Rattle.ansi_screen.specs.declared.function.Setting.{Setting}
 use Rattle.ansi_screen.specs.declared.function.Setting.TheVariants.{ScrollUp, ScrollDown}
 use Rattle.ansi_screen.specs.Alone.{edits_row, edits_cells}
-use Rattle.ansi_screen.specs.Cells.{cut, change, erased, moved_back, deleted, going_on}
+use Rattle.ansi_screen.specs.Cells.{cut, change, erased, moved_back, deleted, inserted, going_on}
 use Rattle.ansi_screen.specs.Display.{Display, IsSized, here, row_start, row_end}
 use Rattle.ansi_screen.specs.Moves.{to_column, settled}
-use Rattle.ansi_screen.specs.Edits.{space, erased_cells, erased_part, erased_display, erased_line, erased_characters, deleted_characters, inserted_characters, rows_up, rows_down, is_in_margins, inserted_lines, deleted_lines}
+use Rattle.ansi_screen.specs.Edits.{with_cells, space, erased_cells, erased_part, erased_display, erased_line, erased_characters, deleted_characters, inserted_characters, rows_up, rows_down, is_in_margins, inserted_lines, deleted_lines, row_above_ended, erases_from_row, erases_first}
 use Rattle.ansi_screen.specs.After.{State, function_of, first_of, count, is_known, edited, set, controlled, sequenced, is_repeat, displayed}
 use Rattle.ansi_screen.proofs.AloneLemmas.{repeats-not}
 use Rattle.ansi_screen.proofs.KeptLemmas.{row-inside}
 use Rattle.ansi_screen.proofs.PairLemmas.{length-cut, length-run, length-back, clear-cut_other}
-use Rattle.ansi_screen.proofs.RowLemmas.{IsFree, Same, same-refl, same-trans, same-if, same-cut, same-change, same-inserted, same-going_on, going_on-free}
+use Rattle.ansi_screen.proofs.RowLemmas.{IsFree, Same, same-refl, same-trans, same-if, same-cut, same-change, same-inserted, same-going_on, same-above, same-wider, going_on-free}
 use Rattle.ansi_screen.proofs.WholeLemmas.{length-going_on}
 
 -- but for the cells and the cursor the same
@@ -40,8 +40,8 @@ edited-part kind start end d =
 edited-by : (edit : Edit) (n : ℕ) (d : Display) → IsEdited d (edited edit n d)
 unfolding edited erased_display erased_line erased_characters deleted_characters inserted_characters inserted_lines deleted_lines rows_up rows_down
 edited-by InsertCharacters n d = refl
-edited-by EraseInDisplay n d = edited-part n 0 (length d.cells) d
-edited-by EraseInLine n d = edited-part n (row_start d) (row_end d) d
+edited-by EraseInDisplay n d = edited-part n 0 (length d.cells) (row_above_ended (erases_from_row n d) d)
+edited-by EraseInLine n d = edited-part n (row_start d) (row_end d) (row_above_ended (erases_first n d) d)
 edited-by InsertLines n d = edited-if (is_in_margins d) d (to_column 0 (rows_down (count n) d.cursor.row d.bottom d)) d refl refl
 edited-by DeleteLines n d = edited-if (is_in_margins d) d (to_column 0 (rows_up (count n) d.cursor.row d.bottom d)) d refl refl
 edited-by DeleteCharacters n d = refl
@@ -86,49 +86,78 @@ module _ (start end from : ℕ) (gap : Cell) (cells : List Cell) (first : start 
       (length-back n gap (take (end - from) (drop from both)) ∙ length-run from end both inside_both))
       (same-cut start end place cells (omega arith) (omega arith) free free_end)
 
--- So do the edits of the cursor's row there, where no right half stands at its ends.
-same-edited : (edit : Edit) (n : ℕ) (d : Display) → edits_row (Edits edit) ≡ true → d.cursor.column < d.width → row_end d ≤ length d.cells
-    → IsFree (row_start d) d.cells → IsFree (row_end d) d.cells → Same (row_start d) (row_end d) (edited edit n d).cells d.cells
-unfolding edited erased_line erased_part erased_characters deleted_characters inserted_characters
-same-edited InsertCharacters n d is column inside free free_end =
-    let cells : List Cell = going_on false (row_end d) d.cells in
-    let long : length cells ≡ length d.cells = length-going_on false (row_end d) d.cells in
-    same-trans (row_start d) (row_end d) _ cells d.cells
-    (same-inserted (row_start d) (row_end d) (here d) (count n) (space d) cells (omega arith) (omega arith) (omega arith)
-    (going_on-free false (row_end d) (row_start d) d.cells free) (going_on-free false (row_end d) (row_end d) d.cells free_end))
-    (same-going_on false (row_start d) (row_end d) d.cells (omega arith))
-same-edited DeleteCharacters n d is column inside free free_end =
-    let cells : List Cell = going_on false (row_end d) d.cells in
-    let long : length cells ≡ length d.cells = length-going_on false (row_end d) d.cells in
-    same-trans (row_start d) (row_end d) _ cells d.cells
-    (same-deleted (row_start d) (row_end d) (here d) (space d) cells (omega arith)
-    (going_on-free false (row_end d) (row_start d) d.cells free) (going_on-free false (row_end d) (row_end d) d.cells free_end)
-    (count n) (omega arith) (omega arith))
-    (same-going_on false (row_start d) (row_end d) d.cells (omega arith))
-same-edited EraseInLine n d is column inside free free_end =
+-- So does EL, but for whether the row above goes on.
+same-part : (kind : ℕ) (d : Display) → d.cursor.column < d.width → row_end d ≤ length d.cells
+    → IsFree (row_start d) d.cells → IsFree (row_end d) d.cells
+    → Same (row_start d) (row_end d) (erased_part kind (row_start d) (row_end d) d).cells d.cells
+unfolding erased_part
+same-part kind d column inside free free_end =
     let start : ℕ = row_start d in
     let end : ℕ = row_end d in
     let up_to : Display = erased_cells start (here d + 1) d in
     let all : Display = erased_cells start end d in
-    same-if (n == 0) start end d.cells (erased_cells (here d) end d) (if n == 1 then up_to else all)
+    same-if (kind == 0) start end d.cells (erased_cells (here d) end d) (if kind == 1 then up_to else all)
     (λ a. same-erased start end (here d) (space d) d.cells (omega arith) free free_end end (omega arith) (omega arith) inside)
-    (λ b. same-if (n == 1) start end d.cells up_to all
+    (λ b. same-if (kind == 1) start end d.cells up_to all
     (λ e. same-erased start end start (space d) d.cells (omega arith) free free_end (here d + 1) (omega arith) (omega arith) inside)
     (λ f. same-erased start end start (space d) d.cells (omega arith) free free_end end (omega arith) (omega arith) inside))
+
+same-line : (kind : ℕ) (d : Display) (t : Bool) → d.cursor.column < d.width → row_end d ≤ length d.cells
+    → IsFree (row_start d) d.cells → IsFree (row_end d) d.cells
+    → Same (row_start d - 1) (row_end d)
+    (erased_part kind (row_start d) (row_end d) (with_cells (if t then going_on false (row_start d) d.cells else d.cells) d)).cells d.cells
+same-line kind d true column inside free free_end =
+    let cells : List Cell = going_on false (row_start d) d.cells in
+    let ended : Display = with_cells cells d in
+    let long : length cells ≡ length d.cells = length-going_on false (row_start d) d.cells in
+    same-trans (row_start d - 1) (row_end d) (erased_part kind (row_start d) (row_end d) ended).cells cells d.cells
+    (same-wider (row_start d) (row_end d) (row_start d - 1) (row_end d) (erased_part kind (row_start d) (row_end d) ended).cells cells
+    (same-part kind ended column (omega (arith, long)) (going_on-free false (row_start d) (row_start d) d.cells free)
+    (going_on-free false (row_start d) (row_end d) d.cells free_end)) (omega arith) (omega arith))
+    (same-above false (row_start d) (row_end d) d.cells (omega arith))
+same-line kind d false column inside free free_end =
+    same-wider (row_start d) (row_end d) (row_start d - 1) (row_end d) (erased_part kind (row_start d) (row_end d) d).cells d.cells
+    (same-part kind d column inside free free_end) (omega arith) (omega arith)
+
+-- So do the edits of the cursor's row there, where no right half stands at its ends; the cell before it says whether the row
+-- above goes on.
+same-edited : (edit : Edit) (n : ℕ) (d : Display) → edits_row (Edits edit) ≡ true → d.cursor.column < d.width → row_end d ≤ length d.cells
+    → IsFree (row_start d) d.cells → IsFree (row_end d) d.cells → Same (row_start d - 1) (row_end d) (edited edit n d).cells d.cells
+unfolding edited erased_line erased_characters deleted_characters inserted_characters
+same-edited InsertCharacters n d is column inside free free_end =
+    let cells : List Cell = going_on false (row_end d) d.cells in
+    let long : length cells ≡ length d.cells = length-going_on false (row_end d) d.cells in
+    same-wider (row_start d) (row_end d) (row_start d - 1) (row_end d) (inserted (count n) (here d) (row_end d) (space d) cells) d.cells
+    (same-trans (row_start d) (row_end d) (inserted (count n) (here d) (row_end d) (space d) cells) cells d.cells
+    (same-inserted (row_start d) (row_end d) (here d) (count n) (space d) cells (omega arith) (omega arith) (omega arith)
+    (going_on-free false (row_end d) (row_start d) d.cells free) (going_on-free false (row_end d) (row_end d) d.cells free_end))
+    (same-going_on false (row_start d) (row_end d) d.cells (omega arith))) (omega arith) (omega arith)
+same-edited DeleteCharacters n d is column inside free free_end =
+    let cells : List Cell = going_on false (row_end d) d.cells in
+    let long : length cells ≡ length d.cells = length-going_on false (row_end d) d.cells in
+    same-wider (row_start d) (row_end d) (row_start d - 1) (row_end d) (deleted (count n) (here d) (row_end d) (space d) cells) d.cells
+    (same-trans (row_start d) (row_end d) (deleted (count n) (here d) (row_end d) (space d) cells) cells d.cells
+    (same-deleted (row_start d) (row_end d) (here d) (space d) cells (omega arith)
+    (going_on-free false (row_end d) (row_start d) d.cells free) (going_on-free false (row_end d) (row_end d) d.cells free_end)
+    (count n) (omega arith) (omega arith))
+    (same-going_on false (row_start d) (row_end d) d.cells (omega arith))) (omega arith) (omega arith)
+same-edited EraseInLine n d is column inside free free_end =
+    same-line n d (erases_first n d && nat_lt 0 d.cursor.row) column inside free free_end
 same-edited EraseCharacters n d is column inside free free_end =
-    same-erased (row_start d) (row_end d) (here d) (space d) d.cells (omega arith) free free_end (min (row_end d) (here d + count n))
-    (omega arith) (omega arith) inside
+    same-wider (row_start d) (row_end d) (row_start d - 1) (row_end d) (erased_characters (count n) d).cells d.cells
+    (same-erased (row_start d) (row_end d) (here d) (space d) d.cells (omega arith) free free_end (min (row_end d) (here d + count n))
+    (omega arith) (omega arith) inside) (omega arith) (omega arith)
 same-edited edit n d is column inside free free_end = cc is
 
 same-controlled : (function : Function) (groups : List (List ℕ)) (d : Display) → edits_row function ≡ true → IsSized d
-    → IsFree (row_start d) d.cells → IsFree (row_end d) d.cells → Same (row_start d) (row_end d) (controlled function groups d).cells d.cells
+    → IsFree (row_start d) d.cells → IsFree (row_end d) d.cells → Same (row_start d - 1) (row_end d) (controlled function groups d).cells d.cells
 unfolding controlled
 same-controlled (Edits edit) groups d is s free free_end =
     let wide : 2 ≤ d.width = s.two_columns in
     let inside : row_end d ≤ length d.cells = omega (arith, row-inside d.cursor.row d.width d.height s.cursor_row, s.cells_fill) in
-    same-if (is_known edit (first_of groups)) (row_start d) (row_end d) d.cells (edited edit (first_of groups) (settled d)) d
+    same-if (is_known edit (first_of groups)) (row_start d - 1) (row_end d) d.cells (edited edit (first_of groups) (settled d)) d
     (λ known. same-edited edit (first_of groups) (settled d) is (omega arith) inside free free_end)
-    (λ none. same-refl (row_start d) (row_end d) d.cells)
+    (λ none. same-refl (row_start d - 1) (row_end d) d.cells)
 same-controlled function groups d is s free free_end = cc is
 
 -- An edit of the cursor's row is one of cells.
@@ -152,9 +181,9 @@ edited-displayed groups false final s is =
 
 pub same-displayed : (groups : List (List ℕ)) (ignore : Bool) (final : ℕ) (s : State) → edits_row (function_of final) ≡ true → IsSized s.display
     → IsFree (row_start s.display) s.display.cells → IsFree (row_end s.display) s.display.cells
-    → Same (row_start s.display) (row_end s.display) (displayed (csi_dispatch groups [] ignore final) s).cells s.display.cells
-same-displayed groups true final s is size free free_end = same-refl (row_start s.display) (row_end s.display) s.display.cells
+    → Same (row_start s.display - 1) (row_end s.display) (displayed (csi_dispatch groups [] ignore final) s).cells s.display.cells
+same-displayed groups true final s is size free free_end = same-refl (row_start s.display - 1) (row_end s.display) s.display.cells
 same-displayed groups false final s is size free free_end =
     let d : Display = s.display in
-    subst (λ (e : Display). Same (row_start d) (row_end d) e.cells d.cells) (sym (shown-by edits_row refl groups final s is))
+    subst (λ (e : Display). Same (row_start d - 1) (row_end d) e.cells d.cells) (sym (shown-by edits_row refl groups final s is))
     (same-controlled (function_of final) groups d is size free free_end)

@@ -1,7 +1,7 @@
 -- Whatever a call does to a screen, it stays one: within its sizes, halves in pairs, and in origin
 -- mode with the cursor within the margins.
 use Rattle.std.proofs.Common.{◌≡◌, ℕ, zero, suc, ◌+◌, ◌-◌, ◌*◌, ◌<◌, ◌≤◌, Bool, true, false, List, length, drop, set, refl, ◌∙◌, arith}
-use Rattle.std.specs.Prelude.{min, max, nat_lt, nat_le, ◌==◌, replicate, if◌then◌else◌}
+use Rattle.std.specs.Prelude.{min, max, nat_lt, nat_le, ◌==◌, replicate, if◌then◌else◌, ◌&&◌}
 use Rattle.std.specs.Fn.{iterate}
 use Rattle.std.proofs.lemmas.List.{length-set, length-replicate}
 use Rattle.std.proofs.lemmas.Bool.{and_parts}
@@ -12,7 +12,7 @@ use Rattle.ansi_screen.specs.declared.place.Place.{Place}
 use Rattle.ansi_screen.specs.Cells.{change, erased, going_on}
 use Rattle.ansi_screen.specs.Display.{Display, here, row_start, row_end, stops}
 use Rattle.ansi_screen.specs.Moves.{to_row, to_column, settled, up, down, to_line, to_position, tabbed, tabbed_back, with_stop, cleared_stops, column_of, before_stop}
-use Rattle.ansi_screen.specs.Edits.{with_cells, space, row_going_on, erased_cells, erased_part, erased_display, erased_line, erased_characters, deleted_characters, inserted_characters, rows_up, rows_down, scrolled_up, scrolled_down, is_in_margins, inserted_lines, deleted_lines, index, reverse_index}
+use Rattle.ansi_screen.specs.Edits.{with_cells, space, row_going_on, erased_cells, erased_part, erased_display, erased_line, erased_characters, deleted_characters, inserted_characters, rows_up, rows_down, scrolled_up, scrolled_down, is_in_margins, inserted_lines, deleted_lines, index, reverse_index, row_above_ended, erases_from_row, erases_first}
 use Rattle.ansi_screen.specs.Reachable.{IsWhole, IsScreen}
 use Rattle.ansi_screen.proofs.PairLemmas.{whole-erased}
 use Rattle.ansi_screen.proofs.WholeLemmas.{whole-deleted, length-deleted, whole-inserted, length-inserted, whole-rows_up, length-rows_up, whole-rows_down, length-rows_down, length-erased, whole-going_on, length-going_on}
@@ -151,17 +151,37 @@ kept-part kind start end d s before behind inside =
     (if kind == 1 then erased_cells start (here d + 1) d else erased_cells start end d) (λ is. after)
     (λ other. kept-if (kind == 1) (erased_cells start (here d + 1) d) (erased_cells start end d) (λ is. up_to) (λ another. all))
 
+long-above_at : (t : Bool) (d : Display) → length (if t then going_on false (row_start d) d.cells else d.cells) ≡ length d.cells
+long-above_at true d = length-going_on false (row_start d) d.cells
+long-above_at false d = refl
+
+pub long-row_above : (begun : Bool) (d : Display) → length (row_above_ended begun d).cells ≡ length d.cells
+long-row_above begun d = long-above_at (begun && nat_lt 0 d.cursor.row) d
+
+pub kept-above_at : (t : Bool) (d : Display) → IsScreen d → IsScreen (with_cells (if t then going_on false (row_start d) d.cells else d.cells) d)
+kept-above_at true d s =
+    kept-cells (going_on false (row_start d) d.cells) d s (length-going_on false (row_start d) d.cells) (whole-going_on d.width false (row_start d) d.cells s.whole)
+kept-above_at false d s = s
+
+pub kept-row_above : (begun : Bool) (d : Display) → IsScreen d → IsScreen (row_above_ended begun d)
+kept-row_above begun d s = kept-above_at (begun && nat_lt 0 d.cursor.row) d s
+
 pub kept-erased_display : (kind : ℕ) (d : Display) → IsScreen d → d.cursor.column < d.width → IsScreen (erased_display kind d)
 unfolding erased_display
 kept-erased_display kind d s inside =
+    let ended : Display = row_above_ended (erases_from_row kind d) d in
+    let screen : IsScreen ended = kept-row_above (erases_from_row kind d) d s in
     let end : row_end d ≤ length d.cells = row_end-inside d s in
-    kept-part kind 0 (length d.cells) d s (omega arith) (omega arith) (omega arith)
+    let long : length ended.cells ≡ length d.cells = long-row_above (erases_from_row kind d) d in
+    kept-part kind 0 (length d.cells) ended screen (omega arith) (omega arith) (omega (arith, long))
 
 pub kept-erased_line : (kind : ℕ) (d : Display) → IsScreen d → d.cursor.column < d.width → IsScreen (erased_line kind d)
 unfolding erased_line
 kept-erased_line kind d s inside =
-    let end : row_end d ≤ length d.cells = row_end-inside d s in
-    kept-part kind (row_start d) (row_end d) d s (omega arith) (omega arith) end
+    let ended : Display = row_above_ended (erases_first kind d) d in
+    let screen : IsScreen ended = kept-row_above (erases_first kind d) d s in
+    let end : row_end d ≤ length ended.cells = row_end-inside ended screen in
+    kept-part kind (row_start d) (row_end d) ended screen (omega arith) (omega arith) end
 
 pub kept-erased_characters : (n : ℕ) (d : Display) → IsScreen d → d.cursor.column < d.width → IsScreen (erased_characters n d)
 unfolding erased_characters

@@ -2,9 +2,9 @@
 use Rattle.std.proofs.Common.{◌≡◌, ℕ, zero, suc, ◌+◌, ◌-◌, ◌*◌, ◌<◌, ◌≤◌, Bool, true, false, ◌&&◌, List, [], ◌∷◌, ◌++◌, length, take, drop, set, refl, ap, sym, ◌∙◌, subst, arith}
 use Rattle.std.specs.Prelude.{min, nat_lt, ◌==◌, replicate, slice_index, if◌then◌else◌, None}
 use Rattle.std.specs.List.{AllByRecursion}
-use Rattle.std.proofs.lemmas.Bool.{and_parts, false≢true, le-ltb, leb-true}
+use Rattle.std.proofs.lemmas.Bool.{and_parts, eqb-true, false≢true, le-ltb, leb-true}
 use Rattle.std.proofs.lemmas.List.{append_assoc, length-set, length-take-le, length-append, take-append-le, take-append-drop, take-take, take_at, take-set-le, drop_at, drop-drop, drop-set-lt, get_or_append_left, set-append_left}
-use Rattle.std.proofs.Math.Nat.{suc-mul}
+use Rattle.std.proofs.Math.Nat.{suc-mul, mul-le-mul_right}
 use borrow.Author.Tests.{ltb-true, ltb-false, eqb-false}
 use Rattle.anstyle_parse.specs.Stream.Bytes.{is_within}
 use Rattle.anstyle_parse.specs.Stream.Call.{print}
@@ -13,16 +13,16 @@ use Rattle.ansi_screen.specs.declared.cell.Cell.{Cell}
 use Rattle.ansi_screen.specs.Cells.{blank, emptied, is_right, cell_at, cut, within, change, erased, moved_on, inserted, with_mark, marked_before, going_on}
 use Rattle.ansi_screen.specs.Display.{Display, here, row_start, row_end}
 use Rattle.ansi_screen.specs.Moves.{to_column, settled}
-use Rattle.ansi_screen.specs.Edits.{space, with_cells, erased_part, erased_line, inserted_characters}
+use Rattle.ansi_screen.specs.Edits.{space, with_cells, erased_part, erased_line, inserted_characters, row_above_ended, erases_first}
 use Rattle.ansi_screen.specs.Widths.{is_shown, is_among, columns}
 use Rattle.ansi_screen.specs.Print.{glyph, wrapped, with_room, with_glyph, put, marked, shown, line_drawing, drawn, draws, printed}
 use Rattle.ansi_screen.specs.After.{State, function_of, is_known, edited, controlled, sequenced, is_repeat, executed, after, after_all}
 use Rattle.ansi_screen.specs.Reachable.{IsScreen}
 use Rattle.ansi_screen.specs.Laws.{carriage_return, erase_rest, printing, text_columns}
 use Rattle.ansi_screen.proofs.PairLemmas.{length-cut, length-run, length-within, length-on, right-on, within-place, clear-cut, clear-cut_other}
-use Rattle.ansi_screen.proofs.WholeLemmas.{length-glyph, right-same, length-marked}
+use Rattle.ansi_screen.proofs.WholeLemmas.{length-glyph, right-same, length-marked, length-going_on}
 use Rattle.ansi_screen.proofs.RangeLemmas.{no_column-below, two_columns-below}
-use Rattle.ansi_screen.proofs.KeptLemmas.{kept-column, kept-going_on, kept-inserted, row_end-inside}
+use Rattle.ansi_screen.proofs.KeptLemmas.{kept-above_at, kept-column, kept-going_on, kept-inserted, row_end-inside}
 use Rattle.ansi_screen.proofs.KeptCalls.{columns-few, kept-printed}
 
 -- lists of cells that differ between two places at most
@@ -193,6 +193,52 @@ same-going_on on start end cells some =
 pub going_on-free : (on : Bool) (end j : ℕ) (cells : List Cell) → IsFree j cells → IsFree j (going_on on end cells)
 unfolding going_on
 going_on-free on end j cells free = right-same cells (end - 1) j (record (cell_at (end - 1) cells) { goes_on = on }) refl free
+
+-- what comes before a place determines what comes before it once the row does not go on that ends there
+going_on-append : (on : Bool) (place : ℕ) (xs ys : List Cell) → 0 < place → length xs ≡ place
+    → going_on on place (xs ++ ys) ≡ going_on on place xs ++ ys
+unfolding going_on
+going_on-append on place xs ys some long =
+    let at : cell_at (place - 1) (xs ++ ys) ≡ cell_at (place - 1) xs = get_or_append_left xs ys (blank plain) (place - 1) (omega arith) in
+    rw at (set-append_left xs ys (place - 1) (record (cell_at (place - 1) xs) { goes_on = on }) (omega arith))
+
+going_on-front : (on : Bool) (place : ℕ) (cells : List Cell) → 0 < place → place ≤ length cells
+    → take place (going_on on place cells) ≡ going_on on place (take place cells)
+going_on-front on place cells some inside =
+    let long : length (take place cells) ≡ place = length-take-le place cells inside in
+    ap (λ l. take place (going_on on place l)) (sym (take-append-drop place cells))
+    ∙ (ap (take place) (going_on-append on place (take place cells) (drop place cells) some long)
+    ∙ take_at (going_on on place (take place cells)) (drop place cells) place (length-going_on on place (take place cells) ∙ long))
+
+going_on-behind : (on : Bool) (place end : ℕ) (cells : List Cell) → 0 < place → place ≤ end → drop end (going_on on place cells) ≡ drop end cells
+unfolding going_on
+going_on-behind on place end cells some last = drop-set-lt end cells (place - 1) (record (cell_at (place - 1) cells) { goes_on = on }) (omega arith)
+
+same-both : (on : Bool) (place end : ℕ) (xs ys : List Cell) → 0 < place → place ≤ end → place ≤ length xs → Same place end xs ys
+    → Same place end (going_on on place xs) (going_on on place ys)
+same-both on place end xs ys some last inside same = record {
+  front = going_on-front on place xs some inside
+      ∙ (ap (going_on on place) same.front ∙ sym (going_on-front on place ys some (omega (arith, same.long))));
+  behind = going_on-behind on place end xs some last ∙ (same.behind ∙ sym (going_on-behind on place end ys some last));
+  long = length-going_on on place xs ∙ (same.long ∙ sym (length-going_on on place ys));
+}
+
+-- the row that ends at a place does not go on, and nothing else is changed
+pub same-above : (on : Bool) (place end : ℕ) (cells : List Cell) → place - 1 < end → Same (place - 1) end (going_on on place cells) cells
+unfolding going_on
+same-above on place end cells last =
+    same-set (place - 1) end (place - 1) cells (record (cell_at (place - 1) cells) { goes_on = on }) (omega arith) last
+
+-- wider
+pub same-wider : (start end first last : ℕ) (xs ys : List Cell) → Same start end xs ys → first ≤ start → end ≤ last → Same first last xs ys
+same-wider start end first last xs ys same from to =
+    let split : end + (last - end) ≡ last = omega arith in
+    record {
+      front = sym (take-take first start xs from) ∙ (ap (take first) same.front ∙ take-take first start ys from);
+      behind = ap (λ k. drop k xs) (sym split) ∙ (sym (drop-drop (last - end) end xs)
+          ∙ (ap (drop (last - end)) same.behind ∙ (drop-drop (last - end) end ys ∙ ap (λ k. drop k ys) split)));
+      long = same.long;
+    }
 
 -- a display with other cells and the cursor in another column
 abbrev in_row : List Cell → ℕ → Display → Display
@@ -555,11 +601,11 @@ module _ (d : Display) (xs ys : List Cell) (screen_xs : IsScreen (with_cells xs 
       (shown-alike character _ refl (omega arith)))
   printed-alike c false is fits = rw is (same-alike (columns c))
 
-  -- and EL leaves the same of them
-  erased-same : (t : Bool) → nat_lt d.cursor.column d.width ≡ t
-      → erased_line 0 (settled (with_cells xs d)) ≡ erased_line 0 (settled (with_cells ys d))
-  unfolding erased_line erased_part
-  erased-same true is =
+  -- and where the rest of the row is erased, they are the same
+  rest-same : (t : Bool) → nat_lt d.cursor.column d.width ≡ t
+      → erased_part 0 (row_start d) (row_end d) (settled (with_cells xs d)) ≡ erased_part 0 (row_start d) (row_end d) (settled (with_cells ys d))
+  unfolding erased_part
+  rest-same true is =
       let before : d.cursor.column < d.width = ltb-true d.cursor.column d.width is in
       let stays : min d.cursor.column (d.width - 1) ≡ d.cursor.column = omega arith in
       let start : ℕ = here d in
@@ -584,7 +630,7 @@ module _ (d : Display) (xs ys : List Cell) (screen_xs : IsScreen (with_cells xs 
       ∙ (ap (λ k. take start cut_ys ++ (replicate k (space d) ++ drop (end - start) (drop start cut_xs))) run
       ∙ ap (λ l. take start cut_ys ++ (replicate (length (take (end - start) (drop start cut_ys))) (space d) ++ l)) rest) in
       rw stays (ap (λ l. with_cells l d) cells)
-  erased-same false is =
+  rest-same false is =
       let past : d.width ≤ d.cursor.column = ltb-false d.cursor.column d.width is in
       let column : d.cursor.column ≤ d.width = screen_xs.sized.cursor_column in
       let full : here d ≡ row_end d = omega arith in
@@ -592,7 +638,35 @@ module _ (d : Display) (xs ys : List Cell) (screen_xs : IsScreen (with_cells xs 
       sym (take-append-drop (row_end d) xs)
       ∙ (ap (λ l. l ++ drop (row_end d) xs) (subst (λ k. take k xs ≡ take k ys) full same.front)
       ∙ (ap (λ l. take (row_end d) ys ++ l) same.behind ∙ take-append-drop (row_end d) ys)) in
-      ap (λ l. erased_line 0 (settled (with_cells l d))) cells
+      ap (λ l. erased_part 0 (row_start d) (row_end d) (settled (with_cells l d))) cells
+
+-- So does EL, by which the row above does not go on, where the cursor stands in the first column.
+above-same : (d : Display) (xs ys : List Cell) (t : Bool) → IsScreen (with_cells xs d) → IsScreen (with_cells ys d)
+    → Same (here d) (row_end d) xs ys → IsFree (here d) xs → IsFree (here d) ys
+    → ((settled d).cursor.column == 0 && nat_lt 0 d.cursor.row) ≡ t
+    → erased_part 0 (row_start d) (row_end d) (settled (with_cells (if t then going_on false (row_start d) xs else xs) d))
+    ≡ erased_part 0 (row_start d) (row_end d) (settled (with_cells (if t then going_on false (row_start d) ys else ys) d))
+above-same d xs ys false screen_xs screen_ys same free_xs free_ys is = rest-same d xs ys screen_xs screen_ys same free_xs free_ys _ refl
+above-same d xs ys true screen_xs screen_ys same free_xs free_ys is =
+    let (first, below) = and_parts ((settled d).cursor.column == 0) (nat_lt 0 d.cursor.row) is in
+    let wide : 2 ≤ d.width = screen_xs.sized.two_columns in
+    let at_first : min d.cursor.column (d.width - 1) ≡ 0 = eqb-true (min d.cursor.column (d.width - 1)) 0 first in
+    let place : here d ≡ row_start d = omega (arith, at_first) in
+    let row : 1 ≤ d.cursor.row = omega (arith, ltb-true 0 d.cursor.row below) in
+    let rows : 1 * d.width ≤ row_start d = mul-le-mul_right {m = 1} {n = d.cursor.row} d.width row in
+    let some : 0 < row_start d = omega (arith, rows) in
+    let inside : row_end d ≤ length xs = row_end-inside (with_cells xs d) screen_xs in
+    let both : Same (here d) (row_end d) (going_on false (row_start d) xs) (going_on false (row_start d) ys) =
+    subst (λ k. Same k (row_end d) (going_on false (row_start d) xs) (going_on false (row_start d) ys)) (sym place)
+    (same-both false (row_start d) (row_end d) xs ys some (omega arith) (omega arith) (subst (λ k. Same k (row_end d) xs ys) place same)) in
+    rest-same d (going_on false (row_start d) xs) (going_on false (row_start d) ys) (kept-above_at true (with_cells xs d) screen_xs)
+    (kept-above_at true (with_cells ys d) screen_ys) both (going_on-free false (row_start d) (here d) xs free_xs)
+    (going_on-free false (row_start d) (here d) ys free_ys) _ refl
+
+erased-same : (d : Display) (xs ys : List Cell) → IsScreen (with_cells xs d) → IsScreen (with_cells ys d) → Same (here d) (row_end d) xs ys
+    → IsFree (here d) xs → IsFree (here d) ys → erased_line 0 (settled (with_cells xs d)) ≡ erased_line 0 (settled (with_cells ys d))
+unfolding erased_line erases_first
+erased-same d xs ys screen_xs screen_ys same free_xs free_ys = above-same d xs ys _ screen_xs screen_ys same free_xs free_ys refl
 
 after-erase : (s : State) → after erase_rest s ≡ record { display = erased_line 0 (settled s.display); last = None }
 unfolding is_repeat sequenced controlled function_of is_known edited
@@ -609,7 +683,7 @@ text-same [] d xs ys s t is_xs is_ys screen_xs screen_ys same free_xs free_ys fi
     let erase : Display → State = λ e. record { display = erased_line 0 (settled e); last = None } in
     after-erase s
     ∙ (ap erase is_xs
-    ∙ (ap (λ e. record { display = e; last = None }) (erased-same d xs ys screen_xs screen_ys same free_xs free_ys _ refl)
+    ∙ (ap (λ e. record { display = e; last = None }) (erased-same d xs ys screen_xs screen_ys same free_xs free_ys)
     ∙ (ap erase (sym is_ys) ∙ sym (after-erase t))))
 text-same (c ∷ text) d xs ys s t is_xs is_ys screen_xs screen_ys same free_xs free_ys fits =
     let next : Alike (columns c) d (printed c (with_cells xs d)) (printed c (with_cells ys d)) =

@@ -14,7 +14,7 @@ use Rattle.ansi_screen.specs.declared.function.Function.{Function}
 use Rattle.ansi_screen.specs.declared.function.Function.TheVariants.{Edits, Moves, Sets, Nothing}
 use Rattle.ansi_screen.specs.Display.{Display, row_start, row_end, fresh}
 use Rattle.ansi_screen.specs.Moves.{to_row, to_column, settled, tabbed, tabbed_back, with_stop}
-use Rattle.ansi_screen.specs.Edits.{row_going_on, erased_part, erased_display, erased_line, erased_characters, deleted_characters, inserted_characters, rows_up, rows_down, is_in_margins, inserted_lines, deleted_lines, index, reverse_index}
+use Rattle.ansi_screen.specs.Edits.{row_going_on, erased_part, erased_display, erased_line, erased_characters, deleted_characters, inserted_characters, rows_up, rows_down, is_in_margins, inserted_lines, deleted_lines, index, reverse_index, row_above_ended, erases_from_row, erases_first}
 use Rattle.ansi_screen.specs.Widths.{is_shown, columns}
 use Rattle.ansi_screen.specs.Print.{wrapped, with_room, with_glyph, put, marked, shown, drawn, draws, printed, printed_again}
 use Rattle.ansi_screen.specs.Modes.{with_charset, restored, with_origin, with_margins, to_alternate, to_main, with_alternate, softly_reset, with_private_mode, with_mode, with_modes, first_field}
@@ -88,8 +88,8 @@ module _ (width height : ℕ) where
   sized-edited : (edit : Edit) (n : ℕ) (d : Display) → HasSize d → HasSize (edited edit n d)
   unfolding edited erased_display erased_line erased_characters inserted_lines deleted_lines
   sized-edited InsertCharacters n d s = sized-inserted (count n) d s
-  sized-edited EraseInDisplay n d s = sized-part n 0 (length d.cells) d s
-  sized-edited EraseInLine n d s = sized-part n (row_start d) (row_end d) d s
+  sized-edited EraseInDisplay n d s = sized-part n 0 (length d.cells) (row_above_ended (erases_from_row n d) d) s
+  sized-edited EraseInLine n d s = sized-part n (row_start d) (row_end d) (row_above_ended (erases_first n d) d) s
   sized-edited InsertLines n d s =
       sized-if (is_in_margins d) (to_column 0 (rows_down (count n) d.cursor.row d.bottom d)) d (sized-rows_down (count n) d.cursor.row d.bottom d s) s
   sized-edited DeleteLines n d s =

@@ -1,17 +1,15 @@
 -- No row leaves by a call that brings the alternate screen forward.
-use Rattle.std.proofs.Common.{◌≡◌, ℕ, zero, suc, ◌+◌, Bool, true, false, List, [], ◌∷◌, refl, inl, inr}
+use Rattle.std.proofs.Common.{◌≡◌, ℕ, zero, suc, ◌+◌, Bool, true, false, List, [], ◌∷◌, length, refl, inl, inr}
 use Rattle.std.specs.Prelude.{◌⊎◌, min, nat_lt, nat_le, ◌==◌, ◌||◌, if◌then◌else◌, Option, None, Some}
 use Rattle.std.specs.Fn.{iterate}
 use Rattle.anstyle_parse.specs.Stream.Call.{Call, print, execute, hook, put as put_byte, unhook, osc_dispatch, csi_dispatch, esc_dispatch}
-use Rattle.ansi_screen.specs.declared.function.Edit.{Edit}
 use Rattle.ansi_screen.specs.declared.function.Edit.TheVariants.{InsertCharacters, EraseInDisplay, EraseInLine, InsertLines, DeleteLines, DeleteCharacters, EraseCharacters}
-use Rattle.ansi_screen.specs.declared.function.Setting.{Setting}
 use Rattle.ansi_screen.specs.declared.function.Setting.TheVariants.{Rendition, SetModes, ResetModes, Margins, ScrollUp, ScrollDown, ForwardTab, ClearStops}
 use Rattle.ansi_screen.specs.declared.function.Function.{Function}
 use Rattle.ansi_screen.specs.declared.function.Function.TheVariants.{Edits, Moves, Sets, Nothing}
 use Rattle.ansi_screen.specs.Display.{Display, fresh}
 use Rattle.ansi_screen.specs.Moves.{to_row, to_column, settled, tabbed}
-use Rattle.ansi_screen.specs.Edits.{row_going_on, erased_part, erased_display, inserted_characters, rows_up, rows_down, index, reverse_index}
+use Rattle.ansi_screen.specs.Edits.{row_going_on, erased_part, erased_display, inserted_characters, rows_up, rows_down, index, reverse_index, row_above_ended, erases_from_row}
 use Rattle.ansi_screen.specs.Widths.{is_shown, columns}
 use Rattle.ansi_screen.specs.Print.{wrapped, with_room, with_glyph, put, marked, shown, drawn, draws, printed, printed_again}
 use Rattle.ansi_screen.specs.Modes.{restored, with_charset}
@@ -141,7 +139,7 @@ main-part kind start end d s = main-if (kind == 0) _ _ s (main-if (kind == 1) _ 
 
 main-erased : (n : ℕ) (d : Display) → IsMain d → IsMain (edited EraseInDisplay n d)
 unfolding edited erased_display
-main-erased n d s = main-part n 0 _ d s
+main-erased n d s = main-part n 0 (length d.cells) (row_above_ended (erases_from_row n d) d) s
 
 main-scrolled : (groups : List (List ℕ)) (d : Display) → IsMain d → IsMain (set_by ScrollUp groups d)
 unfolding set_by

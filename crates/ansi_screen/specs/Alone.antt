@@ -15,7 +15,7 @@ moves_alone (Sets Rendition) = true
 moves_alone (Sets ForwardTab) = true
 moves_alone function = false
 
--- edits of the cursor's row: ICH, DCH, EL and ECH
+-- edits of the cursor's row: ICH, DCH, EL and ECH; by EL the row above may end
 abbrev pub edits_row : Function → Bool
 edits_row (Edits InsertCharacters) = true
 edits_row (Edits DeleteCharacters) = true

@@ -2,7 +2,7 @@
 --
 -- Sources: xterm's ctlseqs; ECMA-48, 8.3 (ED, EL, ECH, ICH, DCH, IL, DL, SU, SD); for IND, RI
 -- and DECSTBM the VT510 manual.
-use Rattle.std.specs.Prelude.{ℕ, ◌+◌, ◌-◌, ◌*◌, min, Bool, false, ◌&&◌, ◌==◌, nat_lt, nat_le, List, length, if◌then◌else◌}
+use Rattle.std.specs.Prelude.{ℕ, ◌+◌, ◌-◌, ◌*◌, min, Bool, true, false, ◌&&◌, ◌==◌, nat_lt, nat_le, List, length, if◌then◌else◌}
 use Rattle.ansi_screen.specs.declared.cell.Cell.{Cell}
 use Rattle.ansi_screen.specs.Cells.{blank, going_on, within, change, erased, moved_back, moved_on, deleted, inserted}
 use Rattle.ansi_screen.specs.Display.{Display, here, row_start, row_end}
@@ -26,11 +26,24 @@ erased_part kind start end d =
     else if kind == 1 then erased_cells start (here d + 1) d
     else erased_cells start end d
 
+-- Where the first cell of the cursor's row is erased, the row above no longer goes on in it: so tmux has it, where all
+-- of the row is.
+abbrev pub row_above_ended : Bool → Display → Display
+row_above_ended is_begun_anew d =
+    with_cells (if is_begun_anew && nat_lt 0 d.cursor.row then going_on false (row_start d) d.cells else d.cells) d
+
+-- whether ED erases this cell and leaves the row above, and whether EL erases this cell
+unfoldable pub erases_from_row : ℕ → Display → Bool
+erases_from_row kind d = kind == 0 && d.cursor.column == 0
+
+unfoldable pub erases_first : ℕ → Display → Bool
+erases_first kind d = if kind == 0 then d.cursor.column == 0 else true
+
 unfoldable pub erased_display : ℕ → Display → Display
-erased_display kind d = erased_part kind 0 (length d.cells) d
+erased_display kind d = erased_part kind 0 (length d.cells) (row_above_ended (erases_from_row kind d) d)
 
 unfoldable pub erased_line : ℕ → Display → Display
-erased_line kind d = erased_part kind (row_start d) (row_end d) d
+erased_line kind d = erased_part kind (row_start d) (row_end d) (row_above_ended (erases_first kind d) d)
 
 -- ECH
 unfoldable pub erased_characters : ℕ → Display → Display

@@ -139,7 +139,8 @@ impl Function {
         )
     }
 
-    /// Whether it changes nothing but cells of the cursor's row and the cursor: ICH, DCH, EL or ECH.
+    /// Whether it changes nothing but cells of the cursor's row, whether the row above goes on in it, and the cursor: ICH,
+    /// DCH, EL or ECH.
     fn edits_row(self) -> bool
         ensures { result ≡ edits_row self }
     {
@@ -183,8 +184,8 @@ pub fn moves_alone(final_byte: u8) -> bool
     Function::of(final_byte).moves_alone()
 }
 
-/// Whether a control sequence without intermediates changes nothing but cells of the cursor's row and the cursor, by its
-/// final byte: ICH, DCH, EL or ECH.
+/// Whether a control sequence without intermediates changes nothing but cells of the cursor's row, whether the row above
+/// goes on in it, and the cursor, by its final byte: ICH, DCH, EL or ECH.
 pub fn edits_row(final_byte: u8) -> bool
     ensures { result ≡ edits_row (function_of final_byte) }
 {

@@ -12,7 +12,7 @@ use Rattle.ansi_screen.specs.declared.place.Place.{Place}
 use Rattle.ansi_screen.specs.Cells.{blank, is_right, cell_at, cut, within, change, marked_before}
 use Rattle.ansi_screen.specs.Display.{Display, here, row_end, home, letters}
 use Rattle.ansi_screen.specs.Moves.{to_position}
-use Rattle.ansi_screen.specs.Edits.{with_cells, erased_cells, erased_characters, erased_display, erased_part}
+use Rattle.ansi_screen.specs.Edits.{with_cells, erased_cells, erased_characters, erases_from_row, erased_display, erased_part}
 use Rattle.ansi_screen.specs.Widths.{is_shown, columns}
 use Rattle.ansi_screen.specs.Print.{wrapped, with_room, with_glyph, put, marked, shown, draws, printed}
 use Rattle.ansi_screen.specs.Modes.{with_private_mode, with_origin}
@@ -163,7 +163,7 @@ after-erase_run n s inside =
 -- ED of all, in the first column
 pub after-clear : (s : State) → s.display.cursor.column < s.display.width
     → (after (sequence (2 ∷ []) 0x4A) s).display ≡ erased_cells 0 (length s.display.cells) s.display
-unfolding sequenced is_repeat function_of controlled is_known edited erased_display erased_part
+unfolding sequenced is_repeat function_of controlled is_known edited erased_display erases_from_row erased_part
 after-clear s inside =
     let column : min s.display.cursor.column (s.display.width - 1) ≡ s.display.cursor.column = omega arith in
     rw column refl

@@ -1,7 +1,7 @@
 -- What edits of cells leave of a display as it was: its frame, and, where they are edits of the cursor's row, all other
 -- rows.
-use Rattle.std.proofs.Common.{◌≡◌, ℕ, ◌+◌, ◌*◌, Bool, true, List, [], refl, sym, subst, arith}
-use Rattle.std.proofs.Math.Nat.{add-mul}
+use Rattle.std.proofs.Common.{◌≡◌, ℕ, zero, suc, ◌+◌, ◌-◌, ◌*◌, ◌≤◌, Bool, true, List, [], refl, sym, subst, arith}
+use Rattle.std.proofs.Math.Nat.{add-mul, suc-mul}
 use Rattle.anstyle_parse.specs.Stream.Call.{csi_dispatch}
 use Rattle.ansi_screen.specs.Alone.{edits_row, edits_cells}
 use Rattle.ansi_screen.specs.Display.{Display, IsSized, row_start, row_end}
@@ -23,18 +23,25 @@ framed-displayed : (groups : List (List ℕ)) (ignore : Bool) (final : ℕ) (s :
 framed-displayed groups ignore final s is =
     framed-edited s.display (displayed (csi_dispatch groups [] ignore final) s) (edited-displayed groups ignore final s is)
 
+-- the row above begins before the cell before a row
+above-begins : (row width : ℕ) → 2 ≤ width → (row - 1) * width ≤ row * width - 1
+above-begins zero width wide = omega arith
+above-begins (suc row) width wide =
+    let above : suc row - 1 ≡ row = omega arith in
+    rw above (omega (arith, suc-mul row width))
+
 -- what is noted for them
 pub widens-row_edit : (groups : List (List ℕ)) (ignore : Bool) (final : ℕ) (screen : State) (changed : Changed) → edits_row (function_of final) ≡ true
     → IsSized screen.display → IsFree (row_start screen.display) screen.display.cells → IsFree (row_end screen.display) screen.display.cells
-    → Widens (csi_dispatch groups [] ignore final) screen changed (with_rows screen.display.cursor.row (screen.display.cursor.row + 1) changed)
+    → Widens (csi_dispatch groups [] ignore final) screen changed (with_rows (screen.display.cursor.row - 1) (screen.display.cursor.row + 1) changed)
 widens-row_edit groups ignore final screen changed is s free free_end = λ shown keeps.
     let d : Display = screen.display in
     let next : Display = displayed (csi_dispatch groups [] ignore final) screen in
     let past : (d.cursor.row + 1) * d.width ≡ d.cursor.row * d.width + 1 * d.width = add-mul d.cursor.row 1 d.width in
-    keeps-within d.cursor.row (d.cursor.row + 1) changed shown d next
-    (within-cells d.cursor.row (d.cursor.row + 1) (row_start d) (row_end d) d next
+    keeps-within (d.cursor.row - 1) (d.cursor.row + 1) changed shown d next
+    (within-cells (d.cursor.row - 1) (d.cursor.row + 1) (row_start d - 1) (row_end d) d next
     (framed-displayed groups ignore final screen (row-cells (function_of final) is)) (same-displayed groups ignore final screen is s free free_end)
-    (omega arith) (omega arith)) keeps
+    (above-begins d.cursor.row d.width s.two_columns) (omega arith)) keeps
 
 pub widens-edit : (groups : List (List ℕ)) (ignore : Bool) (final : ℕ) (screen : State) (changed : Changed) → edits_cells (function_of final) ≡ true
     → Widens (csi_dispatch groups [] ignore final) screen changed (with_rows 0 screen.display.height changed)

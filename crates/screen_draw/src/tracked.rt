@@ -54,7 +54,8 @@ fn is_move(intermediates: &[u8], final_byte: u8) -> bool
     intermediates.is_empty() && moves_alone(final_byte)
 }
 
-/// Whether a control sequence changes cells of the cursor's row and the cursor, and nothing else.
+/// Whether a control sequence changes cells of the cursor's row, whether the row above goes on in it, and the cursor, and
+/// nothing else.
 fn is_row_edit(intermediates: &[u8], final_byte: u8) -> bool
     ensures { result ≡ (length intermediates.now == 0 && edits_row (function_of final_byte)) }
 {
@@ -275,8 +276,8 @@ impl Tracked {
     }
 
     /// What can have changed behind a control sequence too: nothing, if it moves the cursor, selects a style, sets
-    /// modes or is not known; the cursor's row, if it edits that; all rows, if it edits others too or scrolls; and the
-    /// frame too behind all others.
+    /// modes or is not known; the cursor's row and the one above, which may go on in it, if it edits the former; all rows,
+    /// if it edits others too or scrolls; and the frame too behind all others.
     fn by_sequence(
         &self,
         before: Changed,
@@ -291,7 +292,7 @@ impl Tracked {
             before
         } else if is_row_edit(intermediates, final_byte) && self.is_apart() {
             let row = self.screen.cursor().row;
-            before.with_rows(row, row + 1)
+            before.with_rows(row.saturating_sub(1), row + 1)
         } else if is_edit(intermediates, final_byte) {
             self.all_rows(before)
         } else if modes_alone(params, intermediates, final_byte) {

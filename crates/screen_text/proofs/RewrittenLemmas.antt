@@ -8,7 +8,7 @@ use Rattle.anstyle_parse.specs.Stream.Call.{Call, print}
 use Rattle.ansi_screen.specs.Display.{Display}
 use Rattle.ansi_screen.specs.Widths.{is_shown, columns}
 use Rattle.ansi_screen.specs.Print.{printed}
-use Rattle.ansi_screen.specs.Edits.{erased_part, erased_line}
+use Rattle.ansi_screen.specs.Edits.{row_above_ended, erases_first, erased_part, erased_line}
 use Rattle.ansi_screen.specs.After.{State, function_of, is_known, edited, controlled, sequenced, is_repeat, executed, after, after_all}
 use Rattle.ansi_screen.specs.Leaving.{is_wrapping, leaving_by_control, leaving_by_function, leaving_by_sequence, rows_left, all_left}
 use Rattle.ansi_screen.specs.Reachable.{IsScreen}
@@ -163,7 +163,7 @@ rewritten-shown s earlier later before text screen room fits =
 
 -- A row that is erased, and a carriage return: the same as these the other way round, when the rest of the row is erased.
 erased-returned : (s : State) → 2 ≤ s.display.width → after_all (erase_line ∷ carriage_return ∷ []) s ≡ after_all (carriage_return ∷ erase_rest ∷ []) s
-unfolding is_repeat sequenced controlled function_of is_known edited executed erased_line erased_part
+unfolding is_repeat sequenced controlled function_of is_known edited executed erased_line erases_first erased_part
 erased-returned s wide =
     let first : min 0 (s.display.width - 1) ≡ 0 = omega arith in
     let place : s.display.cursor.row * s.display.width + 0 ≡ s.display.cursor.row * s.display.width = omega arith in

@@ -2,7 +2,7 @@
 ghost use Rattle.std.specs.Prelude.{◌≡◌, ◌+◌, ◌*◌, ◌<◌, ◌≤◌, length};
 ghost use Rattle.ansi_screen.specs.Display.{here, row_start, row_end};
 ghost use Rattle.ansi_screen.specs.Moves.{settled};
-ghost use Rattle.ansi_screen.specs.Edits.{space, row_going_on, erased_cells, erased_part, erased_display, erased_line, erased_characters, deleted_characters, inserted_characters, rows_up, rows_down, scrolled_up, scrolled_down, inserted_lines, deleted_lines, index, reverse_index};
+ghost use Rattle.ansi_screen.specs.Edits.{space, row_going_on, row_above_ended, erases_first, erased_cells, erased_part, erased_display, erased_line, erased_characters, deleted_characters, inserted_characters, rows_up, rows_down, scrolled_up, scrolled_down, inserted_lines, deleted_lines, index, reverse_index};
 
 use super::Display;
 use crate::cell::Cell;
@@ -41,15 +41,35 @@ impl Display {
         }
     }
 
+    /// Where the first cell of the cursor's row is erased, the row above no longer goes on in it.
+    fn end_row_above(&mut self, is_begun_anew: bool)
+        ensures { self.new ≡ row_above_ended is_begun_anew self.old }
+    {
+        if is_begun_anew && 0 < self.cursor.row {
+            let start = self.row_start();
+            self.cells.set_goes_on(start, false);
+        }
+    }
+
     /// ED
-    #[tactic(auto, unfolding(crate::specs::Edits::erased_display))]
+    #[tactic(auto, unfolding(crate::specs::Edits::erased_display, crate::specs::Edits::erases_from_row))]
     pub(super) fn erase_display(&mut self, kind: u16)
         requires { self.old.cursor.column < self.old.width }
         ensures { self.new ≡ erased_display kind self.old }
     {
+        let erases_from_row = kind == 0 && self.cursor.column == 0;
+        self.end_row_above(erases_from_row);
         let _ = self.row_start();
         let end = self.cells.len();
         self.erase_part(kind, 0, end);
+    }
+
+    /// Whether EL erases the first cell of the cursor's row.
+    #[tactic(auto, unfolding(crate::specs::Edits::erases_first))]
+    fn erases_first(&self, kind: u16) -> bool
+        ensures { result ≡ erases_first kind self.now }
+    {
+        kind != 0 || self.cursor.column == 0
     }
 
     /// EL
@@ -58,6 +78,8 @@ impl Display {
         requires { self.old.cursor.column < self.old.width }
         ensures { self.new ≡ erased_line kind self.old }
     {
+        let erases_first = self.erases_first(kind);
+        self.end_row_above(erases_first);
         let start = self.row_start();
         let end = start + self.width;
         self.erase_part(kind, start, end);

@@ -1,5 +1,5 @@
--- Nothing, the cursor's row, all rows, nothing by modes, or all of it.
-use Rattle.std.proofs.Common.{◌+◌, length, ap, sym, subst, ◌∙◌}
+-- Nothing, the cursor's row and the one above, all rows, nothing by modes, or all of it.
+use Rattle.std.proofs.Common.{◌+◌, ◌-◌, length, ap, sym, subst, ◌∙◌}
 use Rattle.std.specs.Prelude.{◌==◌}
 use Rattle.std.proofs.lemmas.Bool.{and_parts}
 use Rattle.anstyle_parse.specs.Stream.Call.{csi_dispatch}
@@ -29,8 +29,10 @@ returns-then-is_apart c = λ ignore.
     let apart = c.if-is_apart.true in
     let parts = and_parts (length c.args.intermediates.now == 0) (edits_row (function_of c.args.final_byte)) (sym c.is_row_edit.ensures ∙ c.if-is_row_edit.true) in
     subst (Widens (csi_dispatch (groups_shown c.args.params.now) c.args.intermediates.now ignore c.args.final_byte) screen changed)
-    (sym (c.with_rows.ensures ∙ ap (λ (p : Place). with_rows p.row (p.row + 1) changed) c.cursor-row.ensures))
-    (subst (λ l. Widens (csi_dispatch (groups_shown c.args.params.now) l ignore c.args.final_byte) screen changed (with_rows screen.display.cursor.row (screen.display.cursor.row + 1) changed))
+    (sym (c.with_rows.ensures
+    ∙ (ap (λ k. with_rows k (c.cursor-row.result.row + 1) changed) c.saturating_sub.ensures
+    ∙ ap (λ (p : Place). with_rows (p.row - 1) (p.row + 1) changed) c.cursor-row.ensures)))
+    (subst (λ l. Widens (csi_dispatch (groups_shown c.args.params.now) l ignore c.args.final_byte) screen changed (with_rows (screen.display.cursor.row - 1) (screen.display.cursor.row + 1) changed))
     (sym (none-there c.args.intermediates.now parts.0))
     (widens-row_edit (groups_shown c.args.params.now) ignore c.args.final_byte screen changed parts.1 c.is_apart.ensures.sized (c.is_apart.ensures.row apart) (c.is_apart.ensures.next apart)))
 

@@ -46,8 +46,9 @@ extern "C" {
 #define ANSI_SCREEN_ROW_ROOM(columns) (12 * (size_t)(columns))
 #define ANSI_SCREEN_TEXT_ROOM(columns, rows) ((12 * (size_t)(columns) + 1) * (size_t)(rows))
 
-/* A screen, or none, in 8 bytes: zero bytes are none (`= {0}` in C, `= {}` in C++). It may be moved in memory, but is not copied: of
- * two copies one is used, and closed. It is passed to one call at a time: calls that read it write to it too. */
+/* A screen, or none, in 8 bytes: zero bytes are none (`= {0}` in C, `= {}` in C++). It may be moved in memory, but is not copied
+ * (ansi_screen_copy makes a screen of its own): of two copies of the struct one is used, and closed. It is passed to one call
+ * at a time: calls that read it write to it too. */
 typedef struct ansi_screen {
     void *held;
 } ansi_screen;

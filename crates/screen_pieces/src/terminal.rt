@@ -9,7 +9,8 @@ use std::alloc::{AllocError, Global};
 
 /// A screen that takes its stream in pieces.
 ///
-/// Memory is taken by [`Terminal::new`] alone.
+/// Memory is taken by [`Terminal::new`], [`Terminal::with_history`] and [`Terminal::copy`], and by [`Terminal::draw`] and
+/// [`Terminal::update`] while they work.
 #[derive(Drop)]
 pub struct Terminal {
     parser: Parser,

@@ -29,7 +29,10 @@ fn a_drawing(rt: HostRuntime) -> Result<(), Fail> {
     let mut room = [0; 400];
     let written = terminal.draw(rt.alloc(), &mut room);
     assert_eq!(rt; feed_written(&mut other, &room, written), true);
-    assert_eq!(rt; (other.shows_same(&terminal), terminal.shows_same(&other)), (true, true));
+    assert_eq!(rt;
+        (other.shows_same(&terminal), terminal.shows_same(&other)),
+        (true, true)
+    );
     Ok(())
 }
 
@@ -55,12 +58,18 @@ fn updates(rt: HostRuntime) -> Result<(), Fail> {
 fn copies(rt: HostRuntime) -> Result<(), Fail> {
     let mut terminal = shown(rt.alloc(), b"a\r\nb\r\nc\r\nd\x1b[3")?;
     let mut copy = terminal.copy(rt.alloc())?;
-    assert_eq!(rt; (copy.shows_same(&terminal), copy.history_counts()), (true, (2, 2)));
+    assert_eq!(rt;
+        (copy.shows_same(&terminal), copy.history_counts()),
+        (true, (2, 2))
+    );
     copy.feed(b"1mx\r\n");
     terminal.feed(b"1mx");
     let mut room = [0; 8];
     assert_eq!(rt; (copy.text(&mut room), room), (Ok(3), *b"dx\n\0\0\0\0\0"));
-    assert_eq!(rt; (copy.history_counts(), terminal.history_counts()), ((2, 3), (2, 2)));
+    assert_eq!(rt;
+        (copy.history_counts(), terminal.history_counts()),
+        ((2, 3), (2, 2))
+    );
     assert_eq!(rt; copy.shows_same(&terminal), false);
     assert_eq!(rt; copy.style().foreground.kind, 1);
     Ok(())

@@ -1,8 +1,9 @@
 /* A terminal's screen: what xterm shows after any bytes, as far as cells, styles, the cursor and modes go.
  *
  * A stream comes in pieces of any size, cut anywhere: the screen after it is the same. No input is refused. Memory is
- * taken by ansi_screen_open alone (malloc), and given back by ansi_screen_close (free). The library has no data of its
- * own: threads may call it at the same time, each with a screen of its own.
+ * taken by ansi_screen_open, ansi_screen_open_with and ansi_screen_copy (malloc), and given back by ansi_screen_close (free);
+ * by ansi_screen_draw and ansi_screen_update while they work; and by no other call. The library has no data of its own:
+ * threads may call it at the same time, each with a screen of its own.
  *
  *     ansi_screen screen = {0};
  *     unsigned char text[ANSI_SCREEN_ROW_ROOM(80)];
@@ -45,8 +46,9 @@ extern "C" {
 #define ANSI_SCREEN_ROW_ROOM(columns) (12 * (size_t)(columns))
 #define ANSI_SCREEN_TEXT_ROOM(columns, rows) ((12 * (size_t)(columns) + 1) * (size_t)(rows))
 
-/* A screen, or none, in 8 bytes: zero bytes are none (`= {0}` in C, `= {}` in C++). It may be moved in memory, but is not copied: of
- * two copies one is used, and closed. It is passed to one call at a time: calls that read it write to it too. */
+/* A screen, or none, in 8 bytes: zero bytes are none (`= {0}` in C, `= {}` in C++). It may be moved in memory, but is not copied
+ * (ansi_screen_copy makes a screen of its own): of two copies of the struct one is used, and closed. It is passed to one call
+ * at a time: calls that read it write to it too. */
 typedef struct ansi_screen {
     void *held;
 } ansi_screen;
@@ -112,9 +114,23 @@ typedef struct ansi_modes {
     uint8_t reserved[11];     /* 0 */
 } ansi_modes;
 
+/* What a screen keeps beside what it shows, in 64 bytes: zero bytes are nothing (`= {0}` in C, `= {}` in C++). */
+typedef struct ansi_screen_options {
+    size_t history;     /* so many of the last rows that leave it, of about 40 bytes a cell */
+    size_t reserved[7]; /* 0 */
+} ansi_screen_options;
+
 /* Holds a new screen of so many columns and rows, blank, at the beginning of a stream. What it held is freed. Answers
  * false, and holds none, where that is no size, or where there is no memory. */
 bool ansi_screen_open(ansi_screen *screen, size_t columns, size_t rows);
+
+/* The same, and keeps what the options say. */
+bool ansi_screen_open_with(ansi_screen *screen, size_t columns, size_t rows, const ansi_screen_options *options);
+
+/* Holds in `copy` a screen of its own that stands where `screen` stands: in the midst of a sequence too, with the rows that left
+ * it. What `copy` held is freed. Answers false, and `copy` holds none, where no screen is held that could be copied, or where
+ * there is no memory. */
+bool ansi_screen_copy(ansi_screen *copy, ansi_screen *screen);
 
 /* Frees the screen: then none is held. Closing it again does nothing. */
 void ansi_screen_close(ansi_screen *screen);
@@ -161,6 +177,35 @@ bool ansi_screen_part_text(ansi_screen *screen, size_t row, size_t start, size_t
 
 /* All of the screen: each row without the blanks at its end, and a line feed; without the blank rows at the end. */
 bool ansi_screen_text(ansi_screen *screen, unsigned char *room, size_t size, size_t *written);
+
+/* The two that follow write bytes to the front of `room`, and how many there are to `written`, as those of text do. They take
+ * as much memory while they work (malloc), and give it back; where there is none, they answer false, and `written` is 0. */
+
+/* The bytes after which any terminal of its size shows the screen, whatever it showed before: all but links and which rows go
+ * on. */
+bool ansi_screen_draw(ansi_screen *screen, unsigned char *room, size_t size, size_t *written);
+
+/* The bytes after which a terminal that shows the one screen, as a drawing or an update leaves it, shows the other: what
+ * differs. Answers false, and `written` is 0, where they have different sizes. */
+bool ansi_screen_update(ansi_screen *shown, ansi_screen *wanted, unsigned char *room, size_t size, size_t *written);
+
+/* Answers whether both screens show the same: as many columns and rows, the same cells, the cursor, with the style of what comes
+ * next, and modes. What is not told here does not count, as margins, tabs and rows that left. */
+bool ansi_screen_equal(ansi_screen *one, ansi_screen *other);
+
+/* Rows that leave the screen are those that scroll off at its top, where the upper margin is the first row; and where ED 2 or
+ * RIS takes away all of the main screen, its rows up to the last in which something was printed. Not those that are deleted
+ * or erased otherwise, nor those of the alternate screen. Of as many as were asked for the last are kept. A reset
+ * (ansi_screen_reset) forgets them. */
+
+/* Writes how many rows are kept, and how many have left since the screen was opened or reset. */
+bool ansi_screen_history(ansi_screen *screen, size_t *kept, size_t *left);
+
+/* As ansi_screen_row, of a row that is kept: the oldest has the number 0, and the one that left last `kept` - 1. */
+bool ansi_screen_history_row(ansi_screen *screen, size_t number, ansi_cell *cells, size_t count);
+
+/* As ansi_screen_row_text, of a row that is kept. */
+bool ansi_screen_history_text(ansi_screen *screen, size_t number, unsigned char *room, size_t size, size_t *written);
 
 #ifdef __cplusplus
 }

@@ -26,6 +26,7 @@ static_assert(offsetof(ansi_cell, style) == 16, "of which its style stands after
 static_assert(offsetof(ansi_cell, marks) == 4 && offsetof(ansi_cell, link) == 12, "numbers are first");
 static_assert(offsetof(ansi_cell, mark_count) == 33 && offsetof(ansi_cell, goes_on) == 35, "bytes are last");
 static_assert(sizeof(ansi_modes) == 16, "modes have 16 bytes");
+static_assert(sizeof(ansi_screen_options) == 64, "options have 64 bytes");
 static_assert(offsetof(ansi_modes, reserved) == 5, "of which five are used");
 static_assert(ANSI_SCREEN_ROW_ROOM(1 + 1) == 24 && ANSI_SCREEN_TEXT_ROOM(80, 24) == 23064, "rooms are as they are said");
 static_assert(ANSI_SCREEN_TEXT_ROOM(1 + 1, 1 + 1) == 50, "arguments stand in brackets");
@@ -45,6 +46,14 @@ static bool (*const row_text)(ansi_screen *, size_t, unsigned char *, size_t, si
 static bool (*const part_text)(ansi_screen *, size_t, size_t, size_t, unsigned char *, size_t,
                                size_t *) = ansi_screen_part_text;
 static bool (*const text_of)(ansi_screen *, unsigned char *, size_t, size_t *) = ansi_screen_text;
+static bool (*const draw)(ansi_screen *, unsigned char *, size_t, size_t *) = ansi_screen_draw;
+static bool (*const update)(ansi_screen *, ansi_screen *, unsigned char *, size_t, size_t *) = ansi_screen_update;
+static bool (*const copy_of)(ansi_screen *, ansi_screen *) = ansi_screen_copy;
+static bool (*const are_equal)(ansi_screen *, ansi_screen *) = ansi_screen_equal;
+static bool (*const open_with)(ansi_screen *, size_t, size_t, const ansi_screen_options *) = ansi_screen_open_with;
+static bool (*const history_of)(ansi_screen *, size_t *, size_t *) = ansi_screen_history;
+static bool (*const kept_row)(ansi_screen *, size_t, ansi_cell *, size_t) = ansi_screen_history_row;
+static bool (*const kept_text)(ansi_screen *, size_t, unsigned char *, size_t, size_t *) = ansi_screen_history_text;
 
 enum { ROOM = 4096, GUARD = 0xA5 };
 
@@ -334,12 +343,222 @@ static void resets(void)
     expect(!open_screen(&it, 1, 1) && !it.held, "where that fails it is closed");
 }
 
+/* Both have the same cells, cursor, style and modes, as they are read one by one. */
+static bool reads_equal(ansi_screen *one, ansi_screen *other)
+{
+    size_t columns, rows, row, column;
+    ansi_cell cells[16], others[16];
+    ansi_style style, as;
+    ansi_modes on, are_on;
+
+    if (!size_of(one, &columns, &rows) || !size_of(other, &row, &column) || row != columns || column != rows)
+        return false;
+    if (!cursor_of(one, &row, &column) || !at(other, row, column))
+        return false;
+    for (row = 0; row < rows; row++)
+        if (!row_of(one, row, cells, 16) || !row_of(other, row, others, 16) || memcmp(cells, others, columns * sizeof *cells))
+            return false;
+    return style_of(one, &style) && style_of(other, &as) && !memcmp(&style, &as, sizeof style) && modes_of(one, &on)
+           && modes_of(other, &are_on) && !memcmp(&on, &are_on, sizeof on);
+}
+
+/* The same, as the library has it; both agree. */
+static bool equal(ansi_screen *one, ansi_screen *other)
+{
+    bool is_so = are_equal(one, other);
+
+    expect(is_so == reads_equal(one, other) && is_so == are_equal(other, one), "screens are equal as they are read");
+    return is_so;
+}
+
+static size_t drawn(ansi_screen *screen, unsigned char *room)
+{
+    size_t written = 7, needed = 7;
+
+    memset(room, GUARD, ROOM);
+    expect(draw(screen, room, ROOM, &written) && written && are(room + written, ROOM - written, GUARD), "a screen is drawn");
+    expect(!draw(screen, room, written - 1, &needed) && needed == written, "a byte less is told of a drawing");
+    expect(!draw(screen, room, 0, &needed) && needed == written, "and no room");
+    expect(draw(screen, room, written, &needed) && needed == written, "just enough is enough");
+    return written;
+}
+
+/* Drawings and updates, read by another screen, which then shows the same. */
+static void drawings(void)
+{
+    ansi_screen it = opened(8, 3), other = opened(8, 3), wide = opened(9, 3), none = {0};
+    unsigned char room[ROOM];
+    size_t written = 7;
+
+    expect(equal(&it, &other), "new screens show the same");
+    feed_text(&it, "\033[1;31mred\033[0m \xe4\xb8\xad\r\n\033[?25l\033[4htwo\033[3;3r\033[2;3H");
+    expect(!equal(&it, &other) && !equal(&other, &it), "others do not");
+    feed_text(&other, "what was here \033[?6h\033]0;begun");
+    expect(feed(&other, room, drawn(&it, room)), "a drawing is read");
+    expect(equal(&it, &other) && equal(&other, &it), "and shows the same, whatever was begun");
+    expect(update(&it, &other, room, ROOM, &written) && written == 0, "then nothing is to be updated");
+    feed_text(&it, "\033[32mx\033[?25h");
+    expect(!equal(&it, &other), "a character more is another screen");
+    memset(room, GUARD, sizeof room);
+    expect(update(&other, &it, room, ROOM, &written) && written && are(room + written, ROOM - written, GUARD), "an update is written");
+    expect(!update(&other, &it, room, written - 1, &written), "a byte less is told of an update");
+    expect(update(&other, &it, room, written, &written) && feed(&other, room, written), "an update is read");
+    expect(equal(&it, &other), "and shows the same");
+    written = 7;
+    expect(!update(&it, &wide, room, ROOM, &written) && written == 0 && !equal(&it, &wide), "screens of two sizes have no update");
+    written = 7;
+    expect(!update(&it, &none, room, ROOM, &written) && written == 0 && !equal(&it, &none), "nor has none");
+    expect(!update(&none, &it, room, ROOM, &written) && !equal(&none, &it) && !draw(&none, room, ROOM, &written), "nor is it drawn");
+    shows(&it, "red \xe4\xb8\xad\ntwxo\n", "reading changes nothing");
+    close_screen(&it);
+    close_screen(&other);
+    close_screen(&wide);
+}
+
+static bool counts_are(ansi_screen *screen, size_t kept, size_t left)
+{
+    size_t found_kept = 77, found_left = 77;
+
+    return history_of(screen, &found_kept, &found_left) && found_kept == kept && found_left == left;
+}
+
+static void kept_is(ansi_screen *screen, size_t number, const char *wanted)
+{
+    unsigned char room[ROOM];
+    size_t length = strlen(wanted), written = 7;
+
+    memset(room, GUARD, sizeof room);
+    expect(kept_text(screen, number, room, length, &written) && written == length && !memcmp(room, wanted, length), wanted);
+    expect(are(room + length, sizeof room - length, GUARD), "past the text of a row that left the room is as it was");
+    if (length)
+        expect(!kept_text(screen, number, room, length - 1, &written) && written == length, "a byte less is told of it too");
+}
+
+static ansi_screen opened_with(size_t columns, size_t rows, size_t history)
+{
+    ansi_screen it;
+    ansi_screen_options options;
+
+    memset(&it, 0, sizeof it);
+    memset(&options, 0, sizeof options);
+    options.history = history;
+    expect(open_with(&it, columns, rows, &options), "a screen opens that keeps rows");
+    return it;
+}
+
+/* Rows that left: of four columns and two rows, the last three of them. */
+static void rows_that_left(void)
+{
+    ansi_screen it = opened_with(4, 2, 3), other = opened(4, 2), none = {0};
+    ansi_screen_options options;
+    unsigned char room[8];
+    ansi_cell row[6];
+    size_t written = 7, left = 8;
+
+    expect(counts_are(&it, 0, 0), "at first none has left");
+    feed_text(&it, "a\r\nb\r\nc");
+    expect(counts_are(&it, 1, 1), "one has");
+    kept_is(&it, 0, "a");
+    feed_text(&it, "\r\n\033[1mddddef\033[5;5H\n");
+    expect(counts_are(&it, 3, 4), "four have left, of which three are kept");
+    kept_is(&it, 0, "b");
+    kept_is(&it, 1, "c");
+    kept_is(&it, 2, "dddd");
+    shows(&it, "ef\n", "the rest shows");
+    memset(row, GUARD, sizeof row);
+    expect(kept_row(&it, 2, row, 6) && row[0].character == 'd' && row[0].style.bold == 1 && row[3].goes_on == 1, "a row has its cells");
+    expect(are((unsigned char *)(row + 4), 2 * sizeof *row, GUARD), "and no more");
+    expect(kept_row(&it, 0, row, 4) && row[0].character == 'b' && row[1].character == ' ' && !row[3].goes_on, "and its blanks");
+    memset(row, GUARD, sizeof row);
+    memset(room, GUARD, sizeof room);
+    expect(!kept_row(&it, 2, row, 3) && !kept_row(&it, 3, row, 6) && !kept_row(&it, (size_t)-1, row, 6), "there is no other");
+    expect(!kept_text(&it, 3, room, sizeof room, &written) && written == 0, "nor its text");
+    expect(are((unsigned char *)row, sizeof row, GUARD) && are(room, sizeof room, GUARD), "and nothing is written");
+    feed_text(&it, "\033[?1049h\n\n\n\n\033[?1049l\033[1;1H\033[M");
+    expect(counts_are(&it, 3, 4), "none leaves the alternate screen, and none by DL");
+    feed_text(&it, "\033[Sx");
+    expect(counts_are(&it, 3, 5), "one leaves by SU");
+    kept_is(&it, 2, "");
+    expect(reset(&it) && counts_are(&it, 0, 0), "a reset forgets them");
+    feed_text(&it, "x\r\ny\r\n");
+    expect(counts_are(&it, 1, 1), "and more may leave");
+    kept_is(&it, 0, "x");
+    feed_text(&it, "z\033[2J");
+    expect(counts_are(&it, 3, 3), "the rows that ED 2 erases leave first");
+    kept_is(&it, 1, "y");
+    kept_is(&it, 2, "z");
+    feed_text(&other, "a\r\nb\r\nc");
+    expect(counts_are(&other, 0, 1), "where none is to be kept they are counted");
+    expect(!kept_row(&other, 0, row, 6), "and not kept");
+    memset(&options, 0, sizeof options);
+    options.history = (size_t)-1;
+    expect(!open_with(&other, 4, 2, &options) && !other.held, "there is no memory for so many");
+    expect(!open_with(&other, 1, 2, &options) && !other.held, "nor is that a size");
+    written = 7;
+    expect(!history_of(&none, &written, &left) && written == 7 && left == 8, "no screen has rows that left");
+    expect(!kept_row(&none, 0, row, 6) && !kept_text(&none, 0, room, 8, &written) && written == 0, "nor their cells or text");
+    close_screen(&it);
+}
+
+/* Streams that differ in one thing each: each from the first, and from no copy of itself. */
+static void equality(void)
+{
+    static const char *const streams[] = {
+        "x", "xy", "y", "\033[1mx\033[m", "x\033[1m", "x\033[31m", "x\033[41m", "x\033[4:3m", "x\033[C", "x\n", "x\033[?25l", "x\033[?1049hx",
+        "x\033[?7l", "x\033[4h", "\033[?6hx", "\033]8;;http://a\033\\x\033]8;;\033\\", "x\314\201", "x \b", "\344\270\255", "x\r\n12345678 \033[1;2H"};
+    enum { COUNT = sizeof streams / sizeof *streams };
+    ansi_screen all[COUNT], copy = {0}, none = {0}, small = opened(7, 3), low = opened(8, 2);
+    size_t i, j;
+
+    for (i = 0; i < COUNT; i++) {
+        all[i] = opened(8, 3);
+        feed_text(all + i, streams[i]);
+        for (j = 0; j < i; j++)
+            expect(!equal(all + i, all + j), streams[i]);
+        expect(copy_of(&copy, all + i) && equal(&copy, all + i), "a copy shows the same");
+        feed_text(&copy, "\r\nz");
+        expect(!equal(&copy, all + i), "until it goes on by itself");
+    }
+    feed_text(&small, "x");
+    feed_text(&low, "x");
+    expect(!equal(all, &small) && !equal(all, &low), "sizes differ");
+    feed_text(all, "\033[2;3r\0337\033[1;2H\033)0");
+    feed_text(&copy, "\033cx");
+    expect(equal(all, &copy), "margins, what is saved and character sets are not asked for");
+    expect(!are_equal(all, &none) && !are_equal(&none, all), "no screen is as another");
+    expect(!copy_of(&copy, &none) && !copy.held, "none has a copy");
+    for (i = 0; i < COUNT; i++)
+        close_screen(all + i);
+    close_screen(&small);
+    close_screen(&low);
+}
+
+/* A copy stands where the screen stood, with what has left it, and each goes on by itself. */
+static void copies(void)
+{
+    ansi_screen it = opened_with(4, 2, 3), copy = {0};
+
+    feed_text(&it, "a\r\nb\r\nc\r\nd\r\ne\r\nf\033[3");
+    expect(copy_of(&copy, &it) && counts_are(&copy, 3, 4), "rows that left are copied");
+    kept_is(&copy, 0, "b");
+    kept_is(&copy, 2, "d");
+    feed_text(&copy, "1mx\r\ny");
+    feed_text(&it, ";1mx\r\n\r\n");
+    expect(counts_are(&copy, 3, 5) && counts_are(&it, 3, 6), "each goes on by itself");
+    kept_is(&copy, 2, "e");
+    kept_is(&it, 2, "fx");
+    shows(&copy, "fx\ny\n", "also from within a sequence");
+    close_screen(&it);
+    shows(&copy, "fx\ny\n", "and stays when the other is closed");
+    close_screen(&copy);
+}
+
 int main(int count, char **words)
 {
     long left = count > 1 ? atol(words[1]) : 0;
 
     for (; left > 0; left--) {
-        ansi_screen it = opened(2, 1);
+        ansi_screen it = opened_with(2, 1, left % 3);
         close_screen(&it);
     }
     sizes();
@@ -351,5 +570,9 @@ int main(int count, char **words)
     modes();
     pieces();
     resets();
+    rows_that_left();
+    drawings();
+    equality();
+    copies();
     return failures ? 1 : 0;
 }

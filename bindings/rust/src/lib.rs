@@ -18,17 +18,22 @@
 //! assert_eq!(titles.collect::<Vec<_>>(), [b"title"]);
 //! ```
 //!
-//! With the feature `screen` there is a screen of a terminal too: `screen::Screen`, of a library of its own.
+//! With the feature `screen` there is a screen of a terminal too: `screen::Screen`, of a library of its own. With the
+//! feature `std` all three are writers: `io::StripWriter`, `io::HtmlWriter` and `screen::Screen`.
 //!
 //! What is not called is not linked. No `std` is needed, but an allocator: `Stripper` and `Converter` take no memory.
 #![no_std]
 
 extern crate alloc;
+#[cfg(feature = "std")]
+extern crate std;
 
 use alloc::string::String;
 use alloc::vec::{self, Vec};
 use core::convert::Infallible;
 
+#[cfg(feature = "std")]
+pub mod io;
 #[cfg(feature = "screen")]
 pub mod screen;
 

@@ -10,7 +10,16 @@
 //! assert!(screen.cell(1, 0).unwrap().style.bold);
 //! ```
 //!
-//! Its library takes memory by `malloc`, in [`Screen::new`] alone.
+//! Rows that leave at the top are kept where so many were asked for:
+//!
+//! ```
+//! let mut screen = ansi_proved::screen::Screen::with_history(80, 2, 1000).unwrap();
+//! screen.feed(b"one\r\ntwo\r\nthree");
+//! assert_eq!((screen.history_count(), screen.history_text(0).as_str()), (1, "one"));
+//! ```
+//!
+//! Its library takes memory by `malloc`: in [`Screen::new`], [`Screen::with_history`] and [`Screen::try_clone`], and in
+//! [`Screen::draw`] and [`Screen::update`] while they work.
 
 use alloc::string::String;
 use alloc::vec::{self, Vec};
@@ -57,9 +66,22 @@ struct ModeBytes {
     reserved: [u8; 11],
 }
 
+#[repr(C)]
+struct Options {
+    history: usize,
+    reserved: [usize; 7],
+}
+
 #[link(name = "ansi_screen", kind = "static")]
 unsafe extern "C" {
-    fn ansi_screen_open(screen: *mut Handle, columns: usize, rows: usize) -> bool;
+    fn ansi_screen_open_with(
+        screen: *mut Handle,
+        columns: usize,
+        rows: usize,
+        options: *const Options,
+    ) -> bool;
+
+    fn ansi_screen_copy(copy: *mut Handle, screen: *mut Handle) -> bool;
 
     fn ansi_screen_close(screen: *mut Handle);
 
@@ -100,6 +122,40 @@ unsafe extern "C" {
         row: usize,
         column: usize,
         cell: *mut CellBytes,
+    ) -> bool;
+
+    fn ansi_screen_draw(
+        screen: *mut Handle,
+        room: *mut u8,
+        size: usize,
+        written: *mut usize,
+    ) -> bool;
+
+    fn ansi_screen_update(
+        shown: *mut Handle,
+        wanted: *mut Handle,
+        room: *mut u8,
+        size: usize,
+        written: *mut usize,
+    ) -> bool;
+
+    fn ansi_screen_equal(one: *mut Handle, other: *mut Handle) -> bool;
+
+    fn ansi_screen_history(screen: *mut Handle, kept: *mut usize, left: *mut usize) -> bool;
+
+    fn ansi_screen_history_row(
+        screen: *mut Handle,
+        number: usize,
+        cells: *mut CellBytes,
+        count: usize,
+    ) -> bool;
+
+    fn ansi_screen_history_text(
+        screen: *mut Handle,
+        number: usize,
+        room: *mut u8,
+        size: usize,
+        written: *mut usize,
     ) -> bool;
 }
 
@@ -221,10 +277,23 @@ unsafe impl Send for Screen {}
 impl Screen {
     /// A blank one of so many columns (2 to 1000) and rows (1 to 1000).
     pub fn new(columns: usize, rows: usize) -> Result<Screen, CannotOpen> {
+        Screen::with_history(columns, rows, 0)
+    }
+
+    /// The same, which keeps so many of the last rows that leave it at the top.
+    pub fn with_history(
+        columns: usize,
+        rows: usize,
+        history: usize,
+    ) -> Result<Screen, CannotOpen> {
         let mut handle = Handle {
             held: core::ptr::null_mut(),
         };
-        if !unsafe { ansi_screen_open(&mut handle, columns, rows) } {
+        let options = Options {
+            history,
+            reserved: [0; 7],
+        };
+        if !unsafe { ansi_screen_open_with(&mut handle, columns, rows, &options) } {
             return Err(CannotOpen);
         }
         Ok(Screen {
@@ -288,13 +357,72 @@ impl Screen {
 
     /// The cells of a row, counted from 0. There are none where there is no such row.
     pub fn row(&mut self, row: usize) -> impl Iterator<Item = Cell> {
+        self.cells_by(|handle, cells, count| unsafe { ansi_screen_row(handle, row, cells, count) })
+            .map(cell_of)
+    }
+
+    /// The cells of each row, from the first on.
+    pub fn each_row(&mut self) -> impl Iterator<Item = Vec<Cell>> + '_ {
+        (0..self.rows).map(|row| self.row(row).collect())
+    }
+
+    /// The bytes after which any terminal of its size shows this screen: all but links and which rows go on. Memory is
+    /// taken while they are made; where there is none, there are none.
+    pub fn draw(&mut self) -> Vec<u8> {
+        self.bytes_by(|handle, room, written| unsafe {
+            ansi_screen_draw(handle, room.as_mut_ptr(), room.len(), written)
+        })
+    }
+
+    /// The bytes after which a terminal that shows this screen shows `wanted`: what differs. There are none where the sizes
+    /// do.
+    pub fn update(&mut self, wanted: &mut Screen) -> Vec<u8> {
+        self.bytes_by(|handle, room, written| unsafe {
+            ansi_screen_update(handle, &mut wanted.handle, room.as_mut_ptr(), room.len(), written)
+        })
+    }
+
+    /// How many of the rows that left are kept.
+    pub fn history_count(&mut self) -> usize {
+        self.counts().0
+    }
+
+    /// How many rows have left in all, since the screen was made or reset.
+    pub fn left_count(&mut self) -> usize {
+        self.counts().1
+    }
+
+    fn counts(&mut self) -> (usize, usize) {
+        let (mut kept, mut left) = (0, 0);
+        unsafe { ansi_screen_history(&mut self.handle, &mut kept, &mut left) };
+        (kept, left)
+    }
+
+    /// The cells of a row that left and is kept: the oldest has the number 0. There are none where there is no such row.
+    pub fn history_row(&mut self, number: usize) -> impl Iterator<Item = Cell> {
+        self.cells_by(|handle, cells, count| unsafe {
+            ansi_screen_history_row(handle, number, cells, count)
+        })
+        .map(cell_of)
+    }
+
+    /// The text of such a row, without the blanks at its end; empty where there is none.
+    pub fn history_text(&mut self, number: usize) -> String {
+        self.read(|handle, room, written| unsafe {
+            ansi_screen_history_text(handle, number, room.as_mut_ptr(), room.len(), written)
+        })
+    }
+
+    /// Cells of a row, by a call that writes them; none where it does not.
+    fn cells_by(
+        &mut self,
+        call: impl Fn(*mut Handle, *mut CellBytes, usize) -> bool,
+    ) -> vec::IntoIter<CellBytes> {
         let mut cells: Vec<CellBytes> = vec::from_elem(CellBytes::default(), self.columns);
-        let is_there =
-            unsafe { ansi_screen_row(&mut self.handle, row, cells.as_mut_ptr(), cells.len()) };
-        if !is_there {
+        if !call(&mut self.handle, cells.as_mut_ptr(), cells.len()) {
             cells.clear();
         }
-        cells.into_iter().map(cell_of)
+        cells.into_iter()
     }
 
     /// The text of a row, counted from 0, without the blanks at its end; empty where there is no such row.
@@ -311,16 +439,24 @@ impl Screen {
         })
     }
 
-    /// Reads text by a call, which says how many bytes there are where the room has too few.
-    fn read(&mut self, call: impl Fn(*mut Handle, &mut [u8], &mut usize) -> bool) -> String {
+    /// Reads text by a call.
+    fn read(&mut self, call: impl FnMut(*mut Handle, &mut [u8], &mut usize) -> bool) -> String {
+        // (what the library writes is UTF-8)
+        String::from_utf8(self.bytes_by(call)).unwrap_or_default()
+    }
+
+    /// Reads bytes by a call, which says how many there are where the room has too few.
+    fn bytes_by(
+        &mut self,
+        mut call: impl FnMut(*mut Handle, &mut [u8], &mut usize) -> bool,
+    ) -> Vec<u8> {
         let mut room = Vec::new();
         let mut written = 0;
         while !call(&mut self.handle, &mut room, &mut written) && written > 0 {
             room.resize(written, 0);
         }
         room.truncate(written);
-        // (what the library writes is UTF-8)
-        String::from_utf8(room).unwrap_or_default()
+        room
     }
 }
 
@@ -329,6 +465,50 @@ impl Drop for Screen {
         unsafe { ansi_screen_close(&mut self.handle) };
     }
 }
+
+impl Screen {
+    /// A screen of its own that stands where this one stands: in the midst of a sequence too, with the rows that left it.
+    pub fn try_clone(&self) -> Result<Screen, CannotOpen> {
+        let mut handle = Handle {
+            held: core::ptr::null_mut(),
+        };
+        if !unsafe { ansi_screen_copy(&mut handle, &mut self.lent()) } {
+            return Err(CannotOpen);
+        }
+        Ok(Screen {
+            handle,
+            columns: self.columns,
+            rows: self.rows,
+        })
+    }
+
+    /// A handle of the same screen, for a call that reads it: that writes back what it has read. (No other call is made
+    /// meanwhile, since a screen is not `Sync`.)
+    fn lent(&self) -> Handle {
+        Handle {
+            held: self.handle.held,
+        }
+    }
+}
+
+/// As [`Screen::try_clone`]; it panics where there is no memory.
+impl Clone for Screen {
+    fn clone(&self) -> Screen {
+        self.try_clone().expect("there is no memory for a copy of a screen")
+    }
+}
+
+/// Whether both show the same: as many columns and rows, the same cells, the cursor, with the style of what comes next, and
+/// modes.
+impl PartialEq for Screen {
+    fn eq(&self, other: &Screen) -> bool {
+        // (both handles of one screen are not lent to a call)
+        core::ptr::eq(self, other)
+            || unsafe { ansi_screen_equal(&mut self.lent(), &mut other.lent()) }
+    }
+}
+
+impl Eq for Screen {}
 
 impl fmt::Debug for Screen {
     fn fmt(&self, formatter: &mut fmt::Formatter<'_>) -> fmt::Result {

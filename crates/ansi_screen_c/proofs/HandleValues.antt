@@ -1,12 +1,11 @@
 -- The machine values of a `Handle`. Assumes `Logic`.
 use Rattle.std.proofs.Common.{◌≡◌, ℕ, List, [], ◌∷◌, ◌++◌, refl, subst}
-use mathlib.Core.Bool.{◌&&◌, true}
 use lib.Dec.{T, lit<}
 use seplogic.Ra.Ura.{Ura}
 use mir.Syntax.{ty_ptr, impl, tnil, dnil}
 use mir.Raw.{raw as bare}
-use mir.Val.{Val, vptr, vstruct, of_list, has_ty, WT}
-use base.Logic.{SProp, ent, guard, guard_i, via, snd∗, never, fst∗}
+use mir.Val.{Val, vstruct, of_list, has_ty, WT}
+use base.Logic.{ent, guard, guard_i, via, snd∗, never, fst∗}
 use base.Fraction.{full_share}
 use contract.Monad.{fact_use}
 use types.Logic.{Logic, sem}

@@ -3,7 +3,10 @@ use Rattle.std.specs.Prelude.{◌≡◌, ◌⊎◌, ℕ, List, [], Option, None,
 use Rattle.ansi_screen.specs.After.{new_state}
 use Rattle.ansi_screen.specs.Display.{Display}
 use Rattle.screen_pieces.specs.declared.terminal.Terminal.{Terminal}
-use Rattle.screen_pieces.specs.Terminal.{display_of, StandsAfter}
+use Rattle.screen_pieces.specs.Drawing.{update_of}
+use Rattle.screen_pieces.specs.Terminal.{display_of, history_of, StandsAfter, IsNew}
+use Rattle.screen_pieces.specs.History.{Kept}
+use Rattle.screen_pieces.specs.Same.{ShowSame}
 use Rattle.screen_pieces.specs.Text.{HasText, LacksRoom}
 
 -- A screen is held, of which this holds.
@@ -14,6 +17,10 @@ Holds P (Some terminal) = P terminal
 -- It is a new one, at the beginning of a stream.
 abbrev pub Opens : (columns rows : ℕ) → Option Terminal → Type 0
 Opens columns rows held = Holds (StandsAfter (new_state columns rows) []) held
+
+-- The same, and so many of the rows that leave it are kept.
+abbrev pub OpensWith : (columns rows history : ℕ) → Option Terminal → Type 0
+OpensWith columns rows history held = Holds (IsNew columns rows history) held
 
 -- A screen was held, and one is held now: they are related so.
 abbrev pub Both : (Terminal → Terminal → Type 0) → Option Terminal → Option Terminal → Type 0
@@ -28,3 +35,28 @@ Reads read room room_after written terminal = HasText (read (display_of terminal
 abbrev pub IsRefused : (Display → List ℕ) → (room : List ℕ) (needed : ℕ) → Option Terminal → Type 0
 IsRefused read room needed None = needed ≡ 0
 IsRefused read room needed (Some terminal) = (needed ≡ 0) ⊎ LacksRoom (read (display_of terminal)) room needed
+
+-- the same of what is kept of the rows that left
+abbrev pub ReadsKept : (Kept → List ℕ) → (room room_after : List ℕ) (written : ℕ) → Terminal → Type 0
+ReadsKept read room room_after written terminal = HasText (read (history_of terminal)) room room_after written
+
+abbrev pub IsRefusedKept : (Kept → List ℕ) → (room : List ℕ) (needed : ℕ) → Option Terminal → Type 0
+IsRefusedKept read room needed None = needed ≡ 0
+IsRefusedKept read room needed (Some terminal) = (needed ≡ 0) ⊎ LacksRoom (read (history_of terminal)) room needed
+
+-- The bytes of an update stand at the front of the room; or not: the number is 0, or the room has fewer bytes.
+abbrev pub ReadsUpdate : (room room_after : List ℕ) (written : ℕ) → Terminal → Terminal → Type 0
+ReadsUpdate room room_after written shown wanted = HasText (update_of (display_of shown) (display_of wanted)) room room_after written
+
+abbrev pub LacksUpdate : (room : List ℕ) (needed : ℕ) → Terminal → Terminal → Type 0
+LacksUpdate room needed shown wanted = LacksRoom (update_of (display_of shown) (display_of wanted)) room needed
+
+abbrev pub IsRefusedUpdate : (room : List ℕ) (needed : ℕ) → Option Terminal → Option Terminal → Type 0
+IsRefusedUpdate room needed shown wanted = (needed ≡ 0) ⊎ Both (LacksUpdate room needed) shown wanted
+
+-- Both show the same; the one is the other's copy.
+abbrev pub ShowSameOf : Terminal → Terminal → Type 0
+ShowSameOf one other = ShowSame (display_of one) (display_of other)
+
+abbrev pub IsCopy : Terminal → Terminal → Type 0
+IsCopy terminal copy = copy ≡ terminal

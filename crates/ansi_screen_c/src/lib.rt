@@ -2,15 +2,17 @@
 //! what their caller owes.
 #![tactic(auto)]
 
+mod drawing;
 mod handle;
+mod history;
 mod loose;
+mod same;
 mod text;
 
-ghost use Rattle.std.specs.Prelude.{◌≡◌, ◌≤◌, [], None, IfSome};
+ghost use Rattle.std.specs.Prelude.{◌≡◌, ◌≤◌, None, IfSome};
 ghost use Rattle.std.specs.Bool.{OnTrue, OnFalse};
-ghost use Rattle.ansi_screen.specs.After.{new_state};
 ghost use Rattle.screen_pieces.specs.Styles.{style_of};
-ghost use Rattle.screen_pieces.specs.Terminal.{StandsAfter, Feeds, Begins, HasCell, HasRow, HasModes, display_of};
+ghost use Rattle.screen_pieces.specs.Terminal.{IsNew, Feeds, Begins, HasCell, HasRow, HasModes, display_of};
 ghost use Rattle.ansi_screen_c.specs.Calls.{Opens, Both, Holds};
 
 use ansi_screen::{MAX_COLUMNS, MAX_ROWS, MIN_COLUMNS, MIN_ROWS};
@@ -25,14 +27,19 @@ fn is_size(columns: usize, rows: usize) -> bool
     MIN_COLUMNS <= columns && columns <= MAX_COLUMNS && MIN_ROWS <= rows && rows <= MAX_ROWS
 }
 
-/// A new screen on the heap.
-fn boxed(alloc: Global, columns: usize, rows: usize) -> Option<Box<Terminal>>
-    ensures { IfSome result (λ held. StandsAfter (new_state columns rows) [] held.value) }
+/// A new screen on the heap, which keeps so many of the rows that leave it.
+pub(crate) fn boxed(
+    alloc: Global,
+    columns: usize,
+    rows: usize,
+    history: usize,
+) -> Option<Box<Terminal>>
+    ensures { IfSome result (λ held. IsNew columns rows history held.value) }
 {
     if !is_size(columns, rows) {
         return None;
     }
-    let Ok(terminal) = Terminal::new(alloc, columns, rows) else {
+    let Ok(terminal) = Terminal::with_history(alloc, columns, rows, history) else {
         return None;
     };
     let Ok(held) = Box::new(alloc, terminal) else {
@@ -54,7 +61,7 @@ pub extern "C" fn ansi_screen_open(
     ensures none { OnFalse result (screen.new.value ≡ None) }
 {
     drop(screen.take(alloc));
-    match boxed(alloc, columns, rows) {
+    match boxed(alloc, columns, rows, 0) {
         None => false,
         Some(held) => {
             screen.put(held);

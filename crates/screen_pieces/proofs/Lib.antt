@@ -1,2 +1,5 @@
 pub mod FeedLemmas
 pub mod TextLemmas
+pub mod HistoryLemmas
+pub mod WholeRowLemmas
+pub mod DrawingLemmas

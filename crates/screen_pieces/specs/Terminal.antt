@@ -1,5 +1,5 @@
 -- A screen that takes its stream in pieces.
-use Rattle.std.specs.Prelude.{◌≡◌, ◌<◌, ◌≤◌, ℕ, Bool, List, [], ◌++◌, length, take, drop, map, slice_index_or}
+use Rattle.std.specs.Prelude.{◌≡◌, ◌<◌, ℕ, List, [], ◌++◌, length, take, drop, map, slice_index_or}
 use Rattle.ansi_style.specs.Style.{plain}
 use Rattle.anstyle_parse.specs.Views.Accumulator.{front_of}
 use Rattle.anstyle_parse.specs.Views.Parser.{IsAfter}
@@ -7,32 +7,46 @@ use Rattle.ansi_screen.specs.declared.cell.Cell.{Cell}
 use Rattle.ansi_screen.specs.After.{State, new_state, Shows}
 use Rattle.ansi_screen.specs.Cells.{blank}
 use Rattle.ansi_screen.specs.Display.{Display, row_cells}
+use Rattle.ansi_screen.specs.Leaving.{screen_of as scrolling_screen, taker_of}
 use Rattle.screen_pieces.specs.declared.cell.CellBytes.{CellBytes}
 use Rattle.screen_pieces.specs.declared.modes.ModeBytes.{ModeBytes}
 use Rattle.screen_pieces.specs.declared.terminal.Terminal.{Terminal}
 use Rattle.screen_pieces.specs.Cells.{cell_in}
+use Rattle.screen_pieces.specs.History.{Kept, kept_row, KeepsLeft, SameRoom}
 use Rattle.screen_pieces.specs.Styles.{is_set}
 
 abbrev pub screen_of : Terminal → State
-screen_of terminal = terminal.screen
+screen_of terminal = scrolling_screen terminal.scrolling
 
 abbrev pub display_of : Terminal → Display
 display_of terminal = (screen_of terminal).display
 
--- It stands after the bytes: its screen is the one that they lead to, from a first one on, and its parser stands after
--- them.
+-- what it keeps of the rows that left
+abbrev pub history_of : Terminal → Kept
+history_of terminal = taker_of terminal.scrolling
+
+-- It stands after the bytes: its screen is the one that they lead to, from a first one on, its parser stands after
+-- them, and what it keeps are the last rows that left by them.
 pub record StandsAfter (first : State) (bytes : List ℕ) (terminal : Terminal) : Type 0 where
   pub shows : Shows first bytes (screen_of terminal)
   pub parser : IsAfter front_of terminal.parser bytes
+  pub history : KeepsLeft first bytes (history_of terminal)
 
 -- It takes the next bytes of the stream: whatever bytes it stood after, it stands after these too.
-abbrev pub Feeds : List ℕ → Terminal → Terminal → Type 0
-Feeds piece old new =
-    (first : State) (before : List ℕ) → StandsAfter first before old → StandsAfter first (before ++ piece) new
+pub record Feeds (piece : List ℕ) (old new : Terminal) : Type 0 where
+  pub stands : (first : State) (before : List ℕ) → StandsAfter first before old → StandsAfter first (before ++ piece) new
+  pub room : SameRoom (history_of old) (history_of new)
 
 -- It is one of the same size at the beginning of a stream.
-abbrev pub Begins : Terminal → Terminal → Type 0
-Begins old new = StandsAfter (new_state (display_of old).width (display_of old).height) [] new
+pub record Begins (old new : Terminal) : Type 0 where
+  pub stands : StandsAfter (new_state (display_of old).width (display_of old).height) [] new
+  pub room : SameRoom (history_of old) (history_of new)
+
+-- It is a new screen, with room for so many of the rows that leave it.
+pub record IsNew (columns rows history : ℕ) (terminal : Terminal) : Type 0 where
+  pub stands : StandsAfter (new_state columns rows) [] terminal
+  pub at_most : (history_of terminal).most ≡ history
+  pub in_columns : (history_of terminal).columns ≡ columns
 
 -- the cell of a row and a column
 abbrev pub cell_of : (row column : ℕ) → Display → Cell
@@ -49,6 +63,12 @@ pub record HasRow (row : ℕ) (room room_after : List CellBytes) (terminal : Ter
   pub within : row < (display_of terminal).height
   pub cells : map cell_in (take (display_of terminal).width room_after) ≡ row_cells row (display_of terminal)
   pub untouched : drop (display_of terminal).width room_after ≡ drop (display_of terminal).width room
+
+-- The cells of a row that is kept stand at the front of the room; the rest is as it was.
+pub record HasKeptRow (number : ℕ) (room room_after : List CellBytes) (kept : Kept) : Type 0 where
+  pub within : number < length kept.rows
+  pub cells : map cell_in (take (length (kept_row number kept)) room_after) ≡ kept_row number kept
+  pub untouched : drop (length (kept_row number kept)) room_after ≡ drop (length (kept_row number kept)) room
 
 -- These are the modes: whether the cursor is shown (DECTCEM), the alternate screen shows, autowrap is on (DECAWM), a
 -- character makes room for itself (IRM), lines are counted from the upper margin (DECOM), and lines are drawn.

@@ -5,13 +5,18 @@
 #![tactic(auto)]
 
 mod cell;
+mod drawing;
+mod history;
+pub mod laws;
 mod modes;
 mod reading;
+mod same;
 mod style;
 mod terminal;
 mod text;
 
 pub use cell::CellBytes;
+pub use history::History;
 pub use modes::{ModeBytes, RESERVED_MODES};
 pub use style::{ColorBytes, StyleBytes};
 pub use terminal::Terminal;

@@ -1,25 +1,37 @@
 //! What a screen shows, as plain records and as text.
-ghost use Rattle.std.specs.Prelude.{◌≡◌, ◌≤◌, ◌⊎◌, IfOk, IfErr, IfSome, IfNone};
+ghost use Rattle.std.specs.Prelude.{◌≡◌, ◌≤◌, ◌⊎◌, length, IfOk, IfErr, IfSome, IfNone};
 ghost use Rattle.std.specs.Bool.{OnTrue, OnFalse};
-ghost use Rattle.ansi_screen.specs.Text.{text_of};
+ghost use Rattle.ansi_screen.specs.Text.{row_text, text_of};
 ghost use Rattle.screen_pieces.specs.Styles.{style_of};
 ghost use Rattle.screen_pieces.specs.Text.{HasText, LacksRoom, text_of_row, text_of_part};
+ghost use Rattle.screen_pieces.specs.History.{text_of_kept};
 
 use crate::cell::{CellBytes, put_cells};
 use crate::modes::ModeBytes;
 use crate::style::StyleBytes;
 use crate::terminal::Terminal;
 use crate::text::TextWriter;
+use ansi_screen::Cell;
+
+/// Writes the text of cells without the blanks at their end.
+fn put_text(cells: &[Cell], room: &mut [u8]) -> Result<usize, usize>
+    ensures text { IfOk result (HasText (row_text cells.now) room.old room.new) }
+    ensures refused { IfErr result (LacksRoom (row_text cells.now) room.old) }
+{
+    let mut writer = TextWriter::new(room);
+    writer.put_row(cells);
+    writer.answer()
+}
 
 impl Terminal {
-    ghost use Rattle.screen_pieces.specs.Terminal.{display_of, HasCell, HasRow, HasModes};
+    ghost use Rattle.screen_pieces.specs.Terminal.{display_of, history_of, HasCell, HasRow, HasKeptRow, HasModes};
 
     /// How many columns and rows it has.
     pub fn size(&self) -> (usize, usize)
         ensures columns { result.0 ≡ (display_of self.now).width }
         ensures rows { result.1 ≡ (display_of self.now).height }
     {
-        (self.screen.columns(), self.screen.rows())
+        (self.screen().columns(), self.screen().rows())
     }
 
     /// The row and the column of the cursor, counted from 0. The column is the number of columns where the last one was
@@ -28,7 +40,7 @@ impl Terminal {
         ensures row { result.0 ≡ (display_of self.now).cursor.row }
         ensures column { result.1 ≡ (display_of self.now).cursor.column }
     {
-        let place = self.screen.cursor();
+        let place = self.screen().cursor();
         (place.row, place.column)
     }
 
@@ -36,14 +48,14 @@ impl Terminal {
     pub fn style(&self) -> StyleBytes
         ensures { style_of result ≡ (display_of self.now).cursor.style }
     {
-        StyleBytes::of(self.screen.cursor().style)
+        StyleBytes::of(self.screen().cursor().style)
     }
 
     /// Its modes.
     pub fn modes(&self) -> ModeBytes
         ensures { HasModes result (display_of self.now) }
     {
-        ModeBytes::of(&self.screen)
+        ModeBytes::of(self.screen())
     }
 
     /// The cell of a row and a column, counted from 0; `None` outside of the screen.
@@ -51,10 +63,10 @@ impl Terminal {
         ensures none { IfNone result (((display_of self.now).height ≤ row) ⊎ ((display_of self.now).width ≤ column)) }
         ensures cell { IfSome result (λ bytes. HasCell row column bytes self.now) }
     {
-        if self.screen.rows() <= row || self.screen.columns() <= column {
+        if self.screen().rows() <= row || self.screen().columns() <= column {
             return None;
         }
-        let cells = self.screen.row(row);
+        let cells = self.screen().row(row);
         Some(CellBytes::of(cells[column]))
     }
 
@@ -64,10 +76,10 @@ impl Terminal {
         ensures row { OnTrue result (HasRow row room.old room.new self.now) }
         ensures refused { OnFalse result (room.new ≡ room.old) }
     {
-        if self.screen.rows() <= row || room.len() < self.screen.columns() {
+        if self.screen().rows() <= row || room.len() < self.screen().columns() {
             return false;
         }
-        put_cells(self.screen.row(row), room);
+        put_cells(self.screen().row(row), room);
         true
     }
 
@@ -79,11 +91,11 @@ impl Terminal {
         ensures refused { IfErr result
             (λ needed. (needed ≡ 0) ⊎ LacksRoom (text_of_row row (display_of self.now)) room.old needed) }
     {
-        if self.screen.rows() <= row {
+        if self.screen().rows() <= row {
             return Err(0);
         }
         let mut writer = TextWriter::new(room);
-        writer.put_row(self.screen.row(row));
+        writer.put_row(self.screen().row(row));
         writer.answer()
     }
 
@@ -100,11 +112,11 @@ impl Terminal {
         ensures refused { IfErr result
             (λ needed. (needed ≡ 0) ⊎ LacksRoom (text_of_part row start end (display_of self.now)) room.old needed) }
     {
-        if self.screen.rows() <= row || end < start || self.screen.columns() < end {
+        if self.screen().rows() <= row || end < start || self.screen().columns() < end {
             return Err(0);
         }
         let mut writer = TextWriter::new(room);
-        writer.put_cells(&self.screen.row(row)[start..end]);
+        writer.put_cells(&self.screen().row(row)[start..end]);
         writer.answer()
     }
 
@@ -115,7 +127,44 @@ impl Terminal {
         ensures refused { IfErr result (LacksRoom (text_of (display_of self.now)) room.old) }
     {
         let mut writer = TextWriter::new(room);
-        writer.put_screen(&self.screen);
+        writer.put_screen(self.screen());
         writer.answer()
+    }
+
+    /// How many of the rows that left it are kept, and how many have left in all.
+    pub fn history_counts(&self) -> (usize, usize)
+        ensures kept { result.0 ≡ length (history_of self.now).rows }
+        ensures left { result.1 ≡ (history_of self.now).left }
+    {
+        self.history().counts()
+    }
+
+    /// As [`Terminal::put_row`], of a row that left: of those that are kept the oldest is the first, 0.
+    pub fn put_history_row(&self, number: usize, room: &mut [CellBytes]) -> bool
+        ensures row { OnTrue result (HasKeptRow number room.old room.new (history_of self.now)) }
+        ensures refused { OnFalse result (room.new ≡ room.old) }
+    {
+        match self.history().row(number) {
+            None => false,
+            Some(cells) => {
+                if room.len() < cells.len() {
+                    return false;
+                }
+                put_cells(cells, room);
+                true
+            }
+        }
+    }
+
+    /// As [`Terminal::row_text`], of a row that left.
+    pub fn history_text(&self, number: usize, room: &mut [u8]) -> Result<usize, usize>
+        ensures text { IfOk result (HasText (text_of_kept number (history_of self.now)) room.old room.new) }
+        ensures refused { IfErr result
+            (λ needed. (needed ≡ 0) ⊎ LacksRoom (text_of_kept number (history_of self.now)) room.old needed) }
+    {
+        match self.history().row(number) {
+            None => Err(0),
+            Some(cells) => put_text(cells, room),
+        }
     }
 }

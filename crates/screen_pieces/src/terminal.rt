@@ -2,21 +2,33 @@
 ghost use Rattle.std.specs.Prelude.{◌≡◌, ◌≤◌, [], IfOk};
 ghost use Rattle.ansi_screen.specs.After.{new_state};
 
-use ansi_screen::{MAX_COLUMNS, MAX_ROWS, MIN_COLUMNS, MIN_ROWS, Screen};
+use crate::history::History;
+use ansi_screen::{MAX_COLUMNS, MAX_ROWS, MIN_COLUMNS, MIN_ROWS, Screen, Scrolling};
 use anstyle_parse::{Parser, Perform, Utf8Parser};
 use std::alloc::{AllocError, Global};
 
 /// A screen that takes its stream in pieces.
 ///
-/// Memory is taken by [`Terminal::new`] alone.
+/// Memory is taken by [`Terminal::new`], [`Terminal::with_history`] and [`Terminal::copy`], and by [`Terminal::draw`] and
+/// [`Terminal::update`] while they work.
 #[derive(Drop)]
 pub struct Terminal {
     parser: Parser,
-    pub(crate) screen: Screen,
+    scrolling: Scrolling<History>,
+}
+
+/// A screen as this one is.
+fn copied(alloc: Global, screen: &Screen) -> Result<Screen, AllocError>
+    ensures { IfOk result (λ copy. copy ≡ screen.now) }
+{
+    let (columns, rows) = (screen.columns(), screen.rows());
+    let mut copy = Screen::new(alloc, columns, rows)?;
+    copy.catch_up(screen, 0, rows, true);
+    Ok(copy)
 }
 
 impl Terminal {
-    ghost use Rattle.screen_pieces.specs.Terminal.{screen_of, StandsAfter, Feeds, Begins};
+    ghost use Rattle.screen_pieces.specs.Terminal.{screen_of, history_of, StandsAfter, Feeds, Begins, IsNew};
 
     /// A blank screen of so many columns and rows, at the beginning of a stream. `Err` means that memory is
     /// wanting.
@@ -27,10 +39,40 @@ impl Terminal {
         requires max_rows { rows ≤ MAX_ROWS }
         ensures { IfOk result (λ terminal. StandsAfter (new_state columns rows) [] terminal) }
     {
+        Terminal::with_history(alloc, columns, rows, 0)
+    }
+
+    /// The same, and the last so many rows that leave the screen are kept.
+    pub fn with_history(
+        alloc: Global,
+        columns: usize,
+        rows: usize,
+        history: usize,
+    ) -> Result<Terminal, AllocError>
+        requires min_columns { MIN_COLUMNS ≤ columns }
+        requires max_columns { columns ≤ MAX_COLUMNS }
+        requires min_rows { MIN_ROWS ≤ rows }
+        requires max_rows { rows ≤ MAX_ROWS }
+        ensures { IfOk result (IsNew columns rows history) }
+    {
         let screen = Screen::new(alloc, columns, rows)?;
+        let kept = History::new(alloc, history, columns)?;
         Ok(Terminal {
             parser: Parser::<Utf8Parser>::new(),
-            screen,
+            scrolling: Scrolling::new(screen, kept),
+        })
+    }
+
+    /// Another one that stands where it stands, in all that it shows and keeps. `Err` means that memory is wanting.
+    pub fn copy(&self, alloc: Global) -> Result<Terminal, AllocError>
+        ensures { IfOk result (λ copy. copy ≡ self.now) }
+    {
+        let parser = self.parser.clone()?;
+        let screen = copied(alloc, self.scrolling.screen())?;
+        let kept = self.scrolling.taker().copy(alloc)?;
+        Ok(Terminal {
+            parser,
+            scrolling: Scrolling::new(screen, kept),
         })
     }
 
@@ -38,7 +80,7 @@ impl Terminal {
     pub fn feed(&mut self, piece: &[u8])
         ensures { Feeds piece.now self.old self.new }
     {
-        self.parser.advance_texts(&mut self.screen, piece);
+        self.parser.advance_texts(&mut self.scrolling, piece);
     }
 
     /// Becomes a blank screen of its size, at the beginning of a stream.
@@ -46,7 +88,8 @@ impl Terminal {
         ensures { Begins self.old self.new }
     {
         // ESC c, which makes any screen a new one
-        self.screen.esc_dispatch(&[], false, b'c');
+        self.scrolling.esc_dispatch(&[], false, b'c');
+        self.scrolling.pass_on();
         self.parser = Parser::<Utf8Parser>::new();
     }
 
@@ -54,6 +97,13 @@ impl Terminal {
     pub fn screen(&self) -> &Screen
         ensures { result.now ≡ screen_of self.now }
     {
-        &self.screen
+        self.scrolling.screen()
+    }
+
+    /// The rows that left the screen, of which it keeps the last.
+    pub fn history(&self) -> &History
+        ensures { result.now ≡ history_of self.now }
+    {
+        self.scrolling.taker()
     }
 }

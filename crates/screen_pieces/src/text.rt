@@ -2,6 +2,7 @@
 ghost use Rattle.std.specs.Prelude.{◌≡◌, ◌<◌, ◌≤◌, ◌⊎◌, ◌∷◌, [], length, encode_utf8, IfOk, IfErr};
 ghost use Rattle.std.specs.List.{flat_map};
 ghost use Rattle.ansi_screen.specs.Text.{cell_text, marks_text, row_text, text_of};
+ghost use Rattle.screen_pieces.specs.Text.{HasText, LacksRoom};
 
 use ansi_screen::{Cell, LeftOut, Marks, Screen, used};
 
@@ -10,6 +11,16 @@ use ansi_screen::{Cell, LeftOut, Marks, Screen, used};
 pub(crate) struct TextWriter<'a> {
     into: &'a mut [u8],
     needed: usize,
+}
+
+/// Writes the bytes to the front of the room.
+pub(crate) fn put_bytes(bytes: &[u8], room: &mut [u8]) -> Result<usize, usize>
+    ensures text { IfOk result (HasText bytes.now room.old room.new) }
+    ensures refused { IfErr result (LacksRoom bytes.now room.old) }
+{
+    let mut writer = TextWriter::new(room);
+    writer.put_bytes(bytes);
+    writer.answer()
 }
 
 impl<'a> TextWriter<'a> {

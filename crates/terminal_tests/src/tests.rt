@@ -1,2 +1,4 @@
 //! Rows that were worked by hand.
+mod history;
+mod same;
 mod terminal;

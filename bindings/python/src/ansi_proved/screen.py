@@ -2,6 +2,7 @@
 
 import ctypes
 from collections import namedtuple
+from collections.abc import Sequence
 
 from .library import bytes_of, exact, function, load
 
@@ -50,11 +51,16 @@ class ModeBytes(ctypes.Structure):
     _fields_ = [(name, ctypes.c_ubyte) for name in Modes._fields] + [("reserved", ctypes.c_ubyte * 11)]
 
 
+class Options(ctypes.Structure):
+    _fields_ = [("history", ctypes.c_size_t), ("reserved", ctypes.c_size_t * 7)]
+
+
 class Handle(ctypes.Structure):
     _fields_ = [("held", ctypes.c_void_p)]
 
 
 BLANK = bytes(CellBytes(character=0x20))  # a cell of a new screen
+_DRAWING = 8192  # bytes of room that are tried first
 _WIDTHS = [1, 1, 2, 0]  # of a part: empty, whole, left, right
 _SIZE, _AT = ctypes.c_size_t, ctypes.c_void_p
 _COUNTS = [1, 1, 1, 3]  # the numbers that count of a kind, but for the default, which has none
@@ -64,7 +70,8 @@ def _call(name, answer, *kinds):
     return function(name, answer, *kinds, library=LIBRARY)
 
 
-_open = _call("ansi_screen_open", ctypes.c_bool, _AT, _SIZE, _SIZE)
+_open = _call("ansi_screen_open_with", ctypes.c_bool, _AT, _SIZE, _SIZE, _AT)
+_copy = _call("ansi_screen_copy", ctypes.c_bool, _AT, _AT)
 _close = _call("ansi_screen_close", None, _AT)
 _reset = _call("ansi_screen_reset", ctypes.c_bool, _AT)
 _feed = _call("ansi_screen_feed", ctypes.c_bool, _AT, _AT, _SIZE)
@@ -75,6 +82,12 @@ _cell = _call("ansi_screen_cell", ctypes.c_bool, _AT, _SIZE, _SIZE, _AT)
 _row = _call("ansi_screen_row", ctypes.c_bool, _AT, _SIZE, _AT, _SIZE)
 _row_text = _call("ansi_screen_row_text", ctypes.c_bool, _AT, _SIZE, _AT, _SIZE, _AT)
 _part_text = _call("ansi_screen_part_text", ctypes.c_bool, _AT, _SIZE, _SIZE, _SIZE, _AT, _SIZE, _AT)
+_draw = _call("ansi_screen_draw", ctypes.c_bool, _AT, _AT, _SIZE, _AT)
+_update = _call("ansi_screen_update", ctypes.c_bool, _AT, _AT, _AT, _SIZE, _AT)
+_equal = _call("ansi_screen_equal", ctypes.c_bool, _AT, _AT)
+_history = _call("ansi_screen_history", ctypes.c_bool, _AT, _AT, _AT)
+_history_row = _call("ansi_screen_history_row", ctypes.c_bool, _AT, _SIZE, _AT, _SIZE)
+_history_text = _call("ansi_screen_history_text", ctypes.c_bool, _AT, _SIZE, _AT, _SIZE, _AT)
 
 
 def _color_of(color):
@@ -98,21 +111,76 @@ def _cell_of(cell, styles):
     return Cell(text, style, width, cell.link, bool(cell.goes_on))
 
 
+class History(Sequence):
+    """The last rows that left a screen, at its top or erased with all of it (ED 2, RIS), the oldest first: a sequence of lists of cells.
+
+    It goes on as the screen does: what left since is at its end.
+    """
+
+    def __init__(self, screen):
+        self._screen = screen
+
+    def __len__(self):
+        return self._screen._counts()[0]
+
+    @property
+    def left(self):
+        """How many rows have left in all, since the screen was made or reset."""
+        return self._screen._counts()[1]
+
+    def _number(self, number):
+        count = len(self)
+        place = number + count if number < 0 else number
+        if not 0 <= place < count:
+            raise IndexError("there is no row %d of the %d that are kept" % (number, count))
+        return place
+
+    def __getitem__(self, number):
+        if isinstance(number, slice):
+            return [self[it] for it in range(*number.indices(len(self)))]
+        return self._screen._kept_row(self._number(number))
+
+    def row_text(self, number):
+        """The text of a row, without the blanks at its end."""
+        return self._screen._kept_text(self._number(number))
+
+    @property
+    def display(self):
+        """The text of each row, with the blanks at its end."""
+        return ["".join(cell.text for cell in row) for row in self]
+
+    def text(self):
+        """The text of all rows: each without the blanks at its end, and a newline."""
+        return "".join(self.row_text(number) + "\n" for number in range(len(self)))
+
+    def __repr__(self):
+        return "<History of %d rows, of %d that left>" % self._screen._counts()
+
+
 class Screen:
     """A terminal's screen, which shows what xterm shows after the bytes that it is fed.
 
     A with block closes it, as `close` does, and so does its end. It may be used by one thread at a time.
+
+    history: how many of the last rows that leave it are kept. Each takes some 40 bytes a column, from the beginning on.
     """
 
-    def __init__(self, columns=80, rows=24):
+    def __init__(self, columns=80, rows=24, history=0):
         self._handle = Handle()
         self._at = ctypes.addressof(self._handle)
-        if not (isinstance(columns, int) and isinstance(rows, int)):
-            raise TypeError("columns and rows are int")
+        if not (isinstance(columns, int) and isinstance(rows, int) and isinstance(history, int)):
+            raise TypeError("columns, rows and history are int")
         if not (2 <= columns <= 1000 and 1 <= rows <= 1000):
             raise ValueError("a screen has 2 to 1000 columns and 1 to 1000 rows, and not %dx%d" % (columns, rows))
-        if not _open(self._at, columns, rows):
-            raise MemoryError("there is no memory for a screen of %dx%d" % (columns, rows))
+        if not 0 <= history < 2 ** (8 * ctypes.sizeof(_SIZE)):
+            raise ValueError("there is no history of %d rows" % history)
+        options = Options(history=history)
+        if not _open(self._at, columns, rows, ctypes.addressof(options)):
+            raise MemoryError("there is no memory for a screen of %dx%d and %d rows that left" % (columns, rows, history))
+        self._begin(columns, rows)
+
+    def _begin(self, columns, rows):
+        """What it has beside the screen that it holds."""
         self._columns, self._rows = columns, rows
         self._cells = (CellBytes * columns)()
         self._room = ctypes.create_string_buffer(CELL_BYTES * columns)
@@ -141,6 +209,23 @@ class Screen:
     def reset(self):
         """Makes it a blank screen of its size, at the beginning of a stream."""
         self._held(_reset(self._at))
+
+    def copy(self):
+        """A screen of its own that stands where this one stands: in the midst of a sequence too, with the rows that left it."""
+        self._held(self._handle.held)
+        copy = type(self).__new__(type(self))
+        copy._handle = Handle()
+        copy._at = ctypes.addressof(copy._handle)
+        if not _copy(copy._at, self._at):
+            raise MemoryError("there is no memory for a copy of a screen")
+        copy._begin(self._columns, self._rows)
+        copy._known = list(self._known)
+        return copy
+
+    __copy__ = copy
+
+    def __deepcopy__(self, _):
+        return self.copy()
 
     def close(self):
         """Gives its memory back. It may be closed again."""
@@ -201,6 +286,25 @@ class Screen:
         styles = {}
         return [_cell_of(cell, styles) for cell in self._row_bytes(row)]
 
+    @property
+    def history(self):
+        """The rows that left the screen, of which the last are kept."""
+        return History(self)
+
+    def _counts(self):
+        at = ctypes.addressof(self._numbers)
+        self._held(_history(self._at, at, at + ctypes.sizeof(_SIZE)))
+        return tuple(self._numbers)
+
+    def _kept_row(self, number):
+        self._held(_history_row(self._at, number, ctypes.addressof(self._cells), self._columns))
+        styles = {}
+        return [_cell_of(cell, styles) for cell in self._cells]
+
+    def _kept_text(self, number):
+        self._held(_history_text(self._at, number, *self._rest))
+        return str(self._view[: self._numbers[0]], "utf-8")
+
     def changed(self):
         """The numbers of the rows whose cells are others than when this was asked before, or than on a new screen."""
         before, self._known = self._known, [bytes(self._row_bytes(row)) for row in range(self._rows)]
@@ -232,14 +336,35 @@ class Screen:
         self._held(_modes(self._at, ctypes.addressof(found)))
         return Modes(*(bool(getattr(found, name)) for name in Modes._fields))
 
-    def _shown(self):
-        """What shows, as one value."""
-        rows = [bytes(self._row_bytes(row)) for row in range(self._rows)]
-        return self._columns, self._rows, rows, self.cursor, self.style, self.modes
+    def _bytes_by(self, call, *handles):
+        """The bytes that a call writes, in as much room as it says that it takes."""
+        room, at = ctypes.create_string_buffer(_DRAWING), ctypes.addressof(self._numbers)
+        while not call(*handles, ctypes.addressof(room), len(room), at):
+            if not self._numbers[0]:
+                raise MemoryError("there is no memory for the bytes of a screen")
+            room = ctypes.create_string_buffer(self._numbers[0])
+        return room.raw[: self._numbers[0]]
+
+    def draw(self):
+        """The bytes after which any terminal of its size shows this screen: all but links and which rows go on."""
+        self._held(self._handle.held)
+        return self._bytes_by(_draw, self._at)
+
+    def update(self, wanted):
+        """The bytes after which a terminal that shows this screen shows `wanted`, a screen of the same size: what differs."""
+        self._held(self._handle.held)
+        wanted._held(wanted._handle.held)
+        if (self._columns, self._rows) != (wanted._columns, wanted._rows):
+            raise ValueError("an update leads to a screen of the same size")
+        return b"" if wanted is self else self._bytes_by(_update, self._at, wanted._at)
 
     def __eq__(self, other):
         """Whether both show the same: cells, cursor, the style of what comes next and modes."""
-        return self._shown() == other._shown() if isinstance(other, Screen) else NotImplemented
+        if not isinstance(other, Screen):
+            return NotImplemented
+        self._held(self._handle.held)
+        other._held(other._handle.held)
+        return self is other or _equal(self._at, other._at)
 
     __hash__ = None
 

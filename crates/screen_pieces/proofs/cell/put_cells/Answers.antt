@@ -1,5 +1,5 @@
 -- One cell more is written.
-use Rattle.std.proofs.Common.{◌≡◌, ◌<◌, ◌+◌, List, [], ◌∷◌, ◌++◌, length, take, drop, map, refl, sym, ap, ◌∙◌, arith}
+use Rattle.std.proofs.Common.{◌<◌, [], ◌∷◌, ◌++◌, length, take, map, refl, sym, ap, ◌∙◌, arith}
 use Rattle.std.proofs.lemmas.List.{map-append, take_more, take_more_set, take_all, drop-set-lt}
 use Rattle.screen_pieces.specs.Cells.{cell_in}
 use Rattle.screen_pieces.proofs.cell.put_cells.Goals as goal

@@ -1,11 +1,23 @@
--- ESC c leaves a new screen, and a new parser stands after no bytes.
-use Rattle.std.proofs.Common.{[], ◌∙◌}
+-- ESC c leaves a new screen, a new parser stands after no bytes, and what was kept is forgotten.
+use Rattle.std.proofs.Common.{[], ap, ◌∙◌}
 use Rattle.anstyle_parse.proofs.Canonical.Items.{AreCalls-nil}
 use Rattle.ansi_screen.proofs.LawLemmas.{after-reset}
+use Rattle.ansi_screen.specs.Leaving.{screen_of}
+use Rattle.screen_pieces.specs.History.{Kept}
+use Rattle.screen_pieces.proofs.FeedLemmas.{keeps-none}
+use Rattle.screen_pieces.proofs.HistoryLemmas.{same-room}
 use Rattle.screen_pieces.proofs.terminal.Terminal.reset.Goals as goal
 
 pub returns : goal.returns
-returns c = record {
-  shows = ([], AreCalls-nil, c.esc_dispatch.ensures ∙ after-reset c.args.self.now.screen);
-  parser = c.new-self.ensures.stands;
-}
+returns c =
+    let room = same-room _ _ _ c.esc_dispatch.ensures.taken in record {
+      stands = record {
+        shows = ([], AreCalls-nil, c.pass_on.ensures.screen ∙ c.esc_dispatch.ensures.screen ∙ after-reset (screen_of c.args.self.now.scrolling));
+        parser = c.new-self.ensures.stands;
+        history = ([], AreCalls-nil, keeps-none _ _ _ c.pass_on.ensures.taker);
+      };
+      room = record {
+        most = ap (λ (k : Kept). k.most) c.pass_on.ensures.taker ∙ room.most;
+        columns = ap (λ (k : Kept). k.columns) c.pass_on.ensures.taker ∙ room.columns;
+      };
+    }

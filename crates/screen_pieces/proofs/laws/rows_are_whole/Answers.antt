@@ -1,0 +1,10 @@
+-- A new screen is within its sizes, and each call keeps it so.
+use Rattle.std.proofs.Common.{refl}
+use Rattle.ansi_screen.specs.After.{new_state}
+use Rattle.ansi_screen.proofs.KeptCalls.{new-screen}
+use Rattle.screen_pieces.proofs.WholeRowLemmas.{all-whole}
+use Rattle.screen_pieces.proofs.laws.rows_are_whole.Goals as goal
+
+pub returns : goal.returns
+returns c = λ columns rows calls wide narrow some few.
+    all-whole columns calls (new_state columns rows) (new-screen columns rows wide narrow some few) refl

@@ -13,7 +13,7 @@ use Rattle.ansi_screen.specs.declared.cell.Cell.{Cell}
 use Rattle.ansi_screen.specs.Cells.{blank, emptied, is_right, cell_at, cut, within, change, erased, moved_on, inserted, with_mark, marked_before, going_on}
 use Rattle.ansi_screen.specs.Display.{Display, here, row_start, row_end}
 use Rattle.ansi_screen.specs.Moves.{to_column, settled}
-use Rattle.ansi_screen.specs.Edits.{space, with_cells, erased_part, erased_line, inserted_characters, row_above_ended, erases_first}
+use Rattle.ansi_screen.specs.Edits.{space, with_cells, erased_part, erased_line, inserted_characters, erases_first}
 use Rattle.ansi_screen.specs.Widths.{is_shown, is_among, columns}
 use Rattle.ansi_screen.specs.Print.{glyph, wrapped, with_room, with_glyph, put, marked, shown, line_drawing, drawn, draws, printed}
 use Rattle.ansi_screen.specs.After.{State, function_of, is_known, edited, controlled, sequenced, is_repeat, executed, after, after_all}

@@ -8,7 +8,7 @@ use Rattle.anstyle_parse.specs.Stream.Call.{Call, print}
 use Rattle.ansi_screen.specs.Display.{Display}
 use Rattle.ansi_screen.specs.Widths.{is_shown, columns}
 use Rattle.ansi_screen.specs.Print.{printed}
-use Rattle.ansi_screen.specs.Edits.{row_above_ended, erases_first, erased_part, erased_line}
+use Rattle.ansi_screen.specs.Edits.{erases_first, erased_part, erased_line}
 use Rattle.ansi_screen.specs.After.{State, function_of, is_known, edited, controlled, sequenced, is_repeat, executed, after, after_all}
 use Rattle.ansi_screen.specs.Leaving.{is_wrapping, leaving_by_control, leaving_by_function, leaving_by_sequence, rows_left, all_left}
 use Rattle.ansi_screen.specs.Reachable.{IsScreen}

@@ -35,6 +35,11 @@ cut-other cells place t d inside test is_false =
     cut-none cells place (and_right (nat_lt 0 place) (is_right (cell_at place cells).part)
     (ap (λ (x : Cell). is_right x.part) (get_or_default cells place (blank plain) d inside) ∙ (sym test ∙ is_false)))
 
+pub right-at : (cells : List Cell) (place : ℕ) (t : Bool) (d : Cell) → place < length cells
+    → t ≡ is_right (get_or cells place d).part → t ≡ true → is_right (cell_at place cells).part ≡ true
+right-at cells place t d inside test is_true =
+    ap (λ (x : Cell). is_right x.part) (get_or_default cells place (blank plain) d inside) ∙ (sym test ∙ is_true)
+
 pub cut-past : (cells : List Cell) (place : ℕ) → length cells ≤ place → cells ≡ cut place cells
 cut-past cells place past =
     cut-none cells place (and_right (nat_lt 0 place) (is_right (cell_at place cells).part)

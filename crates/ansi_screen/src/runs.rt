@@ -1,6 +1,6 @@
 //! Edits of cells in a row, or in several.
-ghost use Rattle.std.specs.Prelude.{◌≡◌, ◌+◌, ◌<◌, ◌≤◌, length};
-ghost use Rattle.ansi_screen.specs.Cells.{cut, marked_before, going_on, change, erased, moved_back, moved_on, deleted, inserted};
+ghost use Rattle.std.specs.Prelude.{true, ◌≡◌, ◌+◌, ◌<◌, ◌≤◌, length};
+ghost use Rattle.ansi_screen.specs.Cells.{is_right, cell_at, cut, marked_before, going_on, change, erased, moved_back, moved_on, deleted, inserted};
 ghost use Rattle.ansi_screen.specs.Following.{copied};
 ghost use Rattle.ansi_screen.specs.Print.{glyph};
 ghost use Rattle.ansi_screen.specs.Runs.{glyphs, with_glyphs};
@@ -10,11 +10,23 @@ use crate::shifts::{shift_back, shift_on};
 use ansi_style::Style;
 
 /// Makes blanks of the halves of a wide character whose right half stands at `place`.
-#[tactic(auto, unfolding(crate::specs::Cells::cut))]
+#[inline(always)]
 pub(crate) fn cut(cells: &mut [Cell], place: usize)
     ensures { cells.new ≡ cut place cells.old }
 {
-    if place > 0 && place < cells.len() && cells[place].is_right() {
+    if place < cells.len() && cells[place].is_right() {
+        empty_halves(cells, place);
+    }
+}
+
+/// The same where a right half stands there. That is seldom, so it is out of line.
+#[inline(never)]
+fn empty_halves(cells: &mut [Cell], place: usize)
+    requires within { place < length cells.old }
+    requires right { is_right (cell_at place cells.old).part ≡ true }
+    ensures { cells.new ≡ cut place cells.old }
+{
+    if place > 0 {
         let (left, right) = (cells[place - 1], cells[place]);
         cells[place - 1] = left.emptied();
         cells[place] = right.emptied();

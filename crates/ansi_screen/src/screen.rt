@@ -274,6 +274,7 @@ impl PerformText for Screen {
 
     ghost receives = { Becomes };
 
+    #[inline(always)]
     fn print_text(&mut self, text: &str) {
         print_by_runs(self, text);
     }

@@ -372,7 +372,8 @@ fn names_of_runs(rt: HostRuntime) {
     assert!(rt; is_clear(b"a\n") && !is_clear(b"a\x7F"));
     assert!(rt; is_clear_front(b"a\x7F--------------", 1));
     let (inert, behind) = split_at_driving("a\u{9B}b");
-    assert_eq!(rt; (inert, behind), ("a", "b"));
+    assert_eq!(rt; inert.as_bytes(), b"a".as_slice());
+    assert_eq!(rt; behind.as_bytes(), b"b".as_slice());
 }
 
 #[test]

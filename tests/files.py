@@ -98,6 +98,8 @@ def file_cases(name, path, words, alone, run, differs):
     rows = Rows(name, path, words, alone, run, differs)
     try:
         yield from read_cases(rows)
+        if rows.takes_many:
+            yield from cut_off_cases(rows)
         yield from name_cases(rows)
         yield from growing_cases(rows)
         yield from written_cases(rows)
@@ -147,6 +149,34 @@ def read_cases(rows):
     os.close(reading)
     yield "files into a closed pipe", rows.differs(rows.ran(*rows.two, out=writing), status=141)
     os.close(writing)
+
+
+def cut_off_cases(rows):
+    """Files that end inside of a string: each is said by its name and the byte at which the string begins."""
+    # (a read gives 4,096 bytes)
+    parts = [
+        (b"start\n\x1b]0;title without end\nline2\n", 6),
+        (b"a" * 4095 + b"\x1b]0;title", 4095),
+        (b"a" * 5000 + b"\x1b[m\x1b_b\x07c", 5003),
+        (b"a" * 4090 + b"\x1bP1;2;3;4qtext", 4090),
+        (b"\x1b]0;title\x1b\\\x1b[1", None),
+        (b"\x1bX" + b"a" * 9000, 0),
+    ]
+    names = ["cut%d" % it for it in range(len(parts))]
+    for name, (part, _) in zip(names, parts):
+        rows.put(name, part)
+    line = b"%s: %s: ends inside a string that begins at byte %d\n"
+    said = [line % (rows.name.encode(), name.encode(), begin) for name, (_, begin) in zip(names, parts) if begin is not None]
+    texts = [part for part, _ in parts]
+    for name, (part, begin) in zip(names, parts):
+        err = b"" if begin is None else line % (rows.name.encode(), name.encode(), begin)
+        yield "%s, which ends in a string" % name, rows.differs(rows.ran(name), err=err, out=rows.of_each(part))
+    yield "files that end in strings", rows.differs(rows.ran(*names), err=b"".join(said), out=rows.of_each(*texts))
+    rows.put("a\nb", parts[0][0])
+    err = rows.name.encode() + b': "a\\nb": ends inside a string that begins at byte 6\n'
+    yield "one whose name could drive a terminal", rows.differs(rows.ran("a\nb"), err=err, out=rows.of_each(parts[0][0]))
+    for name in [*names, "a\nb"]:
+        os.remove(rows.at(name))
 
 
 def name_cases(rows):

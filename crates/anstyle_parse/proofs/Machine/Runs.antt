@@ -1,9 +1,9 @@
 -- Runs one after another, and the runs of each kind of bytes.
 use Rattle.std.proofs.Common.{◌≡◌, ℕ, ◌+◌, ◌<◌, ◌≤◌, ◌⊎◌, arith, Bool, IsTrue, cond, eqb, refl, List, length, [], ◌∷◌, ◌++◌, ⊎_elim, inl, map, take, drop, ap, sym, ◌∙◌, subst, append_assoc}
-use Rattle.std.specs.Prelude.{true, false, nat_le, not, ◌&&◌, ◌||◌}
+use Rattle.std.specs.Prelude.{nat_le, ◌||◌}
 use Rattle.std.specs.List.{range_with_len}
 use Rattle.std.proofs.lemmas.List.{length-take-le, take-append-le, take-append-drop}
-use Rattle.std.proofs.lemmas.Bool.{cond-true, cond_both, and_from, and_parts, eqb-true, leb-true, le-leb, or_cases}
+use Rattle.std.proofs.lemmas.Bool.{cond-true, cond_both, and_from, and_parts, leb-true, le-leb, or_cases}
 use Rattle.anstyle_parse.specs.declared.state.definitions.State.{State}
 use Rattle.anstyle_parse.specs.declared.state.definitions.State.TheVariants.{Anywhere, CsiEntry, CsiIgnore, CsiParam, DcsEntry, DcsIgnore, DcsPassthrough, Escape, Ground, OscString, SosPmApcString, Utf8}
 use Rattle.anstyle_parse.specs.declared.state.definitions.Action.{Action}
@@ -13,7 +13,7 @@ use Rattle.anstyle_parse.specs.declared.accumulator.Taken.TheVariants.{More}
 use Rattle.anstyle_parse.specs.declared.parser.Parser.{Parser}
 use Rattle.anstyle_parse.specs.declared.parser.runs.Run.{Run}
 use Rattle.anstyle_parse.specs.declared.parser.runs.Run.TheVariants.{Printed, OfHookedString, OfIgnoredString, OfIgnoredHeader}
-use Rattle.anstyle_parse.specs.Stream.Bytes.{is_within, is_parameter, is_marker, is_final, is_cancel, colon, semicolon}
+use Rattle.anstyle_parse.specs.Stream.Bytes.{is_within, is_parameter, is_marker, is_final, colon, semicolon}
 use Rattle.anstyle_parse.specs.Stream.Characters.{is_lead}
 use Rattle.anstyle_parse.specs.Stream.Arguments.{max_fields, max_osc_bytes, max_osc_parts}
 use Rattle.anstyle_parse.specs.Stream.Call.{Call, Goes, print}
@@ -170,25 +170,6 @@ change_at-final state b is final =
     ⊎_elim
     (λ e. ap (λ s. change_at s b) e ∙ change_at-within CsiEntry 0x40 0x7E (Ground by CsiDispatch) (omega arith) b final refl)
     (λ e. ap (λ s. change_at s b) e ∙ change_at-within CsiParam 0x40 0x7E (Ground by CsiDispatch) (omega arith) b final refl)
-    is
-
--- and to a control: CAN and SUB cancel it, those below ESC are executed else
-pub change_at-cancel : (state : State) (b : ℕ) → (state ≡ CsiEntry) ⊎ (state ≡ CsiParam) → is_cancel b ≡ true → change_at state b ≡ (Ground by Execute)
-unfolding change_at is_within is_cancel
-change_at-cancel state b is cancel =
-    ⊎_elim
-    (λ can. ap (λ n. change_at state n) (eqb-true b 0x18 can) ∙ ⊎_elim (λ e. ap (λ s. change_at s 0x18) e) (λ e. ap (λ s. change_at s 0x18) e) is)
-    (λ sub. ap (λ n. change_at state n) (eqb-true b 0x1A sub) ∙ ⊎_elim (λ e. ap (λ s. change_at s 0x1A) e) (λ e. ap (λ s. change_at s 0x1A) e) is)
-    (or_cases (eqb b 0x18) (eqb b 0x1A) cancel)
-
-pub change_at-executed : (state : State) (b : ℕ) → (state ≡ CsiEntry) ⊎ (state ≡ CsiParam) → b < 0x1B → is_cancel b ≡ false → change_at state b ≡ (Anywhere by Execute)
-unfolding change_at is_within is_cancel
-change_at-executed state b is low other =
-    let test : ℕ → Bool = λ n. nat_le n 0x1A && not (is_cancel n) in
-    let passes : IsTrue (test b) = and_from (nat_le b 0x1A) (not (is_cancel b)) (le-leb b 0x1A (omega (arith, low))) (ap not other) in
-    ⊎_elim
-    (λ e. ap (λ s. change_at s b) e ∙ change_at-where CsiEntry test (Anywhere by Execute) b (omega (arith, low)) passes refl)
-    (λ e. ap (λ s. change_at s b) e ∙ change_at-where CsiParam test (Anywhere by Execute) b (omega (arith, low)) passes refl)
     is
 
 pub change_at-marker : (state : State) (b : ℕ) → state ≡ CsiEntry → IsTrue (is_marker b) → change_at state b ≡ (CsiParam by Collect)

@@ -3,10 +3,10 @@
 //! Each function takes what goes together at the front of the bytes and answers the rest. Its
 //! clause says that going on from where it leaves with the rest is taking all bytes one after
 //! another. A byte that is in no run goes through the table.
-ghost use Rattle.std.specs.Prelude.{true, false, ◌≡◌, ◌≢◌, ◌≤◌, ◌<◌, ◌+◌, ◌-◌, ◌∷◌, ◌⊎◌, ◌||◌, ℕ, IsTrue, length};
+ghost use Rattle.std.specs.Prelude.{◌≡◌, ◌≢◌, ◌≤◌, ◌+◌, ◌-◌, ◌∷◌, ◌⊎◌, ◌||◌, ℕ, IsTrue, length};
 ghost use Rattle.std.specs.Prelude.{map, not};
 ghost use Rattle.std.specs.Simd.Lanes.{mask_l};
-ghost use Rattle.anstyle_parse.specs.Stream.Bytes.{is_within, is_cancel, is_marker, is_final};
+ghost use Rattle.anstyle_parse.specs.Stream.Bytes.{is_within, is_marker, is_final};
 ghost use Rattle.anstyle_parse.specs.Stream.Call.{Goes};
 ghost use Rattle.anstyle_parse.specs.Machine.Table.{◌by◌, change_at};
 ghost use Rattle.anstyle_parse.specs.Views.Runs.{Takes, LeadsTo, LeadsQuietlyTo, KeepsTo, is_of_run, run_calls, AreMade};
@@ -16,7 +16,7 @@ use super::command::is_plain_byte;
 use super::header::is_parameter;
 use crate::accumulator::CharAccumulator;
 use crate::chunks::{CHUNK, outside};
-use crate::controls::{BELL, CANCEL, ESCAPE, SPACE, SUBSTITUTE};
+use crate::controls::{BELL, CANCEL, ESCAPE, SPACE};
 use crate::perform::Perform;
 use crate::state::{Action, State};
 use std::simd::prelude::*;
@@ -491,34 +491,11 @@ fn is_marker(byte: u8) -> bool
     matches!(byte, 0x3C..=0x3F)
 }
 
-/// CAN and SUB, which cancel a sequence.
-#[inline(always)]
-#[tactic(auto, unfolding(crate::specs::Stream::Bytes::is_cancel))]
-fn is_cancel(byte: u8) -> bool
-    ensures { result ≡ is_cancel byte }
-{
-    byte == CANCEL || byte == SUBSTITUTE
-}
-
-/// Where a control leads that is executed in a header, in the words of the table: Anywhere stays there.
-#[inline(always)]
-fn state_behind(control: u8) -> State
-    ensures cancels { is_cancel control ≡ true → result ≡ State.Ground }
-    ensures stays { is_cancel control ≡ false → result ≡ State.Anywhere }
-{
-    if is_cancel(control) {
-        State::Ground
-    } else {
-        State::Anywhere
-    }
-}
-
 /// The header of a control sequence.
 impl<C: CharAccumulator> Parser<C> {
-    ghost use Rattle.anstyle_parse.specs.Views.Parser.{machine_of, CanTakeAll};
-    ghost use Rattle.anstyle_parse.specs.Machine.Step.{step, step_calls};
+    ghost use Rattle.anstyle_parse.specs.Views.Parser.{CanTakeAll};
 
-    /// Fields and the end of the sequence, or a control, as far as they stand here; or another byte.
+    /// Fields and the end of the sequence, as far as they stand here; or another byte.
     #[inline(always)]
     pub(super) fn take_in_header<'a, P: Perform>(
         &mut self,
@@ -538,10 +515,6 @@ impl<C: CharAccumulator> Parser<C> {
                     self.step_by_answer(performer, State::Ground, Action::CsiDispatch, *last);
                     return behind;
                 }
-                if *last < ESCAPE {
-                    self.execute_in_header(performer, *last);
-                    return behind;
-                }
                 self.take_marker(performer, *last, behind)
             }
             None => rest,
@@ -558,18 +531,6 @@ impl<C: CharAccumulator> Parser<C> {
         ensures onward { length result.now ≤ length bytes.now - 1 }
     {
         self.take_in_header(performer, bytes)
-    }
-
-    /// A control in a header, one that is executed: CAN and SUB cancel the sequence, others leave the header as it is.
-    #[inline(always)]
-    fn execute_in_header<P: Perform>(&mut self, performer: &mut P, control: u8)
-        requires header { (self.old.state ≡ State.CsiEntry) ⊎ (self.old.state ≡ State.CsiParam) }
-        requires control { control < 0x1B }
-        ensures machine { machine_of self.new ≡ step C.taken control (machine_of self.old) }
-        ensures calls { Goes P.means performer.old (step_calls C.taken control (machine_of self.old)) performer.new }
-    {
-        let state = state_behind(control);
-        self.step_by_answer(performer, state, Action::Execute, control);
     }
 
     /// A private marker, where the header begins with it; another byte by the table.

@@ -1,7 +1,8 @@
 /* Writes a stream of terminal output as HTML: its text, escaped, in the colours, attributes and links
  * that its escapes select.
  *
- * The text is that of ansi_strip.h: each printed character in UTF-8, tab, line feed and carriage return.
+ * The text is that of ansi_strip.h, here with DEL (7F) and U+0080 to U+009F as characters: each printed character
+ * in UTF-8, tab, line feed and carriage return.
  * The bytes & < > " ' and a carriage return are written as character references. Text that is not plain
  * stands in <span style="..">, and what has a link (OSC 8) to https://, http:// or mailto: in
  * <a rel="nofollow noreferrer" href=".." style="..">, which is opened where the link begins and closed where it

@@ -1,11 +1,12 @@
-/* Strips a stream of its terminal escapes: what is left is the text that it prints.
+/* Strips a stream of its terminal escapes: what is left is the text that it prints, which drives no terminal.
  *
  * Every printed character is left, in UTF-8, and of the controls tab (09), line feed (0A) and
  * carriage return (0D), inside an escape or control sequence too. Such sequences, titles, the targets of links,
  * device control strings with all that is in them and the other controls below 20 leave nothing.
- * DEL (7F) and the characters U+0080 to U+009F count as printed. A character that is broken leaves
- * U+FFFD; bytes that begin no character leave nothing. So well-formed UTF-8 with no control below
- * 20 but these three is left as it is, and what is written is UTF-8, that of each call by itself.
+ * DEL (7F) and the characters U+0080 to U+009F, which some terminals take for controls, leave nothing either.
+ * A character that is broken leaves U+FFFD; bytes that begin no character leave nothing. So well-formed UTF-8
+ * that has none of these, and no control below 20 but those three, is left as it is. What is written is UTF-8,
+ * that of each call by itself.
  *
  * A stream comes in pieces of any size, cut anywhere: what is left of it is the same. There is
  * nothing to allocate or to free, no input is refused, and no call fails but for a room of

@@ -90,11 +90,16 @@ def streams():
     yield "characters that are broken, the longest text", b"\xf0" * 4096 + b"a" + b"\xf0\x9f\x98" * 2000
 
 
-def text_of(stream):
-    """The text of a stream, by the calls that parselog writes: ansi2text leaves DEL and U+0080 to U+009F out of it."""
+def stripped_of(stream):
+    """The stripped text of a stream, by the calls that parselog writes: with DEL and U+0080 to U+009F."""
     done = run(["%s/crates/parselog/out/parselog" % ROOT], stream)
     done.check_returncode()
     return pages.text_of(done.stdout)
+
+
+def text_of(stream):
+    """The same without these characters: text that drives no terminal."""
+    return re.sub("[\x7f-\x9f]", "", stripped_of(stream).decode()).encode()
 
 
 def html_of(stream, styling="both"):
@@ -106,8 +111,8 @@ def html_of(stream, styling="both"):
 
 
 def printed_of(stream):
-    """The same without the controls that lay it out: the characters that are printed."""
-    return re.sub(rb"[\t\n\r]", b"", text_of(stream))
+    """The characters that are printed: stripped text without the controls that lay it out."""
+    return re.sub(rb"[\t\n\r]", b"", stripped_of(stream))
 
 
 def pieces(stream, size):

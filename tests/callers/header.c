@@ -136,6 +136,20 @@ static void longest_text_has_room(void)
     free(room);
 }
 
+/* U+009B is C2 9B, which comes in two pieces; neither it nor DEL is left. */
+static void text_drives_no_terminal(void)
+{
+    ansi_strip state;
+    unsigned char room[16];
+    size_t taken, written;
+
+    memset(&state, 0, sizeof state);
+    expect(feed(&state, (const unsigned char *)"a\302", 2, room, sizeof room, &taken, &written), "there is room");
+    expect(written == 1 && room[0] == 'a', "a character that is begun is not left yet");
+    expect(feed(&state, (const unsigned char *)"\2331m\177~", 5, room, sizeof room, &taken, &written), "there is room");
+    expect(taken == 5 && written == 3 && memcmp(room, "1m~", 3) == 0, "U+009B and DEL leave nothing");
+}
+
 int main(void)
 {
     init_begins_a_stream();
@@ -143,5 +157,6 @@ int main(void)
     counts_have_their_places();
     little_room_is_refused();
     longest_text_has_room();
+    text_drives_no_terminal();
     return failures != 0;
 }

@@ -29,6 +29,15 @@ class Calls(unittest.TestCase):
             self.assertEqual(b"".join(ansi_proved.text_of(pieces)), "hi \u20ac<b>\n".encode())
         self.assertEqual(list(ansi_proved.text_of(io.BytesIO(b"a\x1b[1m\nb"))), [b"a\n", b"b"])
 
+    def test_text_drives_no_terminal(self):
+        rows = [("\x9b31mred\x7f", "31mred"), ("\x80\x9f\xa0", "\xa0"), (300 * "a" + "\x9b", 300 * "a"), (300 * "\u20ac" + "\x7f", 300 * "\u20ac")]
+        for text, wanted in rows:
+            stream = text.encode()
+            self.assertEqual((ansi_proved.strip(text), ansi_proved.strip(stream)), (wanted, wanted.encode()))
+            for size in (1, 2, 3):
+                pieces = [stream[at : at + size] for at in range(0, len(stream), size)]
+                self.assertEqual(b"".join(ansi_proved.text_of(pieces)), wanted.encode())
+
     def test_html(self):
         self.assertEqual(ansi_proved.to_html(STREAM, "light"), LIGHT.encode())
         self.assertEqual(ansi_proved.to_html(STREAM.decode(), "light"), LIGHT)

@@ -244,7 +244,8 @@ fn joined(
     }
 }
 
-/// The text of terminal output.
+/// The text of terminal output. It drives no terminal: DEL and U+0080 to U+009F, which some terminals take for controls,
+/// are left out too.
 pub fn strip(stream: impl AsRef<[u8]>) -> String {
     joined(|write| Stripper::new().strip(stream.as_ref(), write))
 }

@@ -32,6 +32,7 @@ fn csi(parameters: &[&[u16]], action: u8) -> Event {
 fn wholes() {
     assert_eq!(strip(STREAM), "hi \u{20ac}<b>\n");
     assert_eq!(strip("\x1b[1mplain"), "plain");
+    assert_eq!(strip("a\x7fb\u{9b}1m\u{a0}"), "ab1m\u{a0}");
     assert_eq!(to_html(STREAM, Styling::Light), LIGHT);
 }
 
@@ -56,6 +57,20 @@ fn pieces_are_one_stream() {
         converter.end(into(&mut page)).unwrap();
         assert_eq!(text, "hi \u{20ac}<b>\n".as_bytes());
         assert_eq!(page, LIGHT.as_bytes());
+    }
+}
+
+/// U+009B is C2 9B: cut between the two it is left out too, and a byte that follows C2 otherwise is a character.
+#[test]
+fn text_drives_no_terminal_however_it_is_cut() {
+    for (stream, wanted) in [("\u{9b}31mred\x7f", "31mred"), ("\u{9f}\u{a0}", "\u{a0}")] {
+        for size in 1..=stream.len() {
+            let (mut stripper, mut text) = (Stripper::new(), Vec::new());
+            for piece in stream.as_bytes().chunks(size) {
+                stripper.strip(piece, into(&mut text)).unwrap();
+            }
+            assert_eq!(text, wanted.as_bytes(), "{stream:?} in pieces of {size}");
+        }
     }
 }
 

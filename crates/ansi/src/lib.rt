@@ -22,7 +22,7 @@ pub extern "C" fn ansi_strip_init(state: &mut StreamState)
     *state = StreamState::new();
 }
 
-/// Takes bytes from the front of the piece, and writes their stripped text to the front of the
+/// Takes bytes from the front of the piece, and writes their inert text to the front of the
 /// room: [`StreamState::feed`]. The numbers are 0 where it answers false.
 #[unsafe(no_mangle)]
 pub extern "C" fn ansi_strip_feed(

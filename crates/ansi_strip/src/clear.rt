@@ -171,9 +171,9 @@ fn is_short_clear(bytes: &[u8]) -> bool
     }
 }
 
-/// Whether a text is clear, so that no character in it drives a terminal.
+/// Whether a text is clear, so that no character in it drives a terminal: of ASCII alone, with no DEL.
 #[inline(always)]
-pub(crate) fn is_clear(bytes: &[u8]) -> bool
+pub fn is_clear(bytes: &[u8]) -> bool
     ensures { IsTrue result → EachIs is_clear bytes.now }
 {
     if bytes.len() <= BLOCK {
@@ -183,9 +183,9 @@ pub(crate) fn is_clear(bytes: &[u8]) -> bool
     }
 }
 
-/// Whether the first `count` of sixteen bytes are clear. With FF taken off, modulo 100, 7F to FE are 80 and more.
+/// Whether the first `count` of sixteen bytes are clear, as [`is_clear`] says it of a text. With FF taken off, modulo 100, 7F to FE are 80 and more.
 #[inline(always)]
-pub(crate) fn is_clear_front(chunk: &[u8; 16], count: usize) -> bool
+pub fn is_clear_front(chunk: &[u8; 16], count: usize) -> bool
     requires { count ≤ 16 }
     ensures { IsTrue result → EachIs is_clear (take count chunk.now) }
 {

@@ -24,7 +24,7 @@ const LEAD: u8 = 0xC2;
 /// Whether a terminal takes the character for a control, though it is no C0 control: DEL or U+0080 to U+009F.
 #[inline(always)]
 #[tactic(auto, unfolding(crate::specs::Inert::is_driving))]
-pub(crate) fn is_driving(c: char) -> bool
+pub fn is_driving(c: char) -> bool
     ensures { result ≡ is_driving c }
 {
     let number = u32::from(c);
@@ -151,11 +151,12 @@ fn from_driving(bytes: &[u8]) -> &[u8]
     at
 }
 
-/// The front of a text, up to the first such character, and what comes after that.
-pub(crate) fn split_at_driving(text: &str) -> (&str, &str)
+/// The front of a text, up to the first character that [`is_driving`], and what comes after that character.
+pub fn split_at_driving(text: &str) -> (&str, &str)
     ensures characters { filter (λ c. not (is_driving c)) (chars text.now)
         ≡ chars result.0.now ++ filter (λ c. not (is_driving c)) (chars result.1.now) }
     ensures shorter { 0 < length text.now → length result.1.now < length text.now }
+    ensures front { IsUtf8 result.0.now }
     ensures text { IsUtf8 result.1.now }
 {
     let bytes = text.as_bytes();

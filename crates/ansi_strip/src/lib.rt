@@ -21,6 +21,8 @@ mod performer;
 
 use anstyle_parse::canon::{Fault, Sink, Source, write_calls};
 pub use anstyle_parse::is_layout;
+pub use clear::{is_clear, is_clear_front};
+pub use driving::{is_driving, split_at_driving};
 pub use inert::Inert;
 pub use performer::Stripper;
 

@@ -2,15 +2,14 @@
 use Rattle.std.proofs.Common.{◌≡◌, ◌<◌, ◌≤◌, ◌+◌, ◌*◌, ℕ, List, [], ◌++◌, length, take, drop, refl, sym, ap, ◌∙◌, subst, append_assoc, append-nil, arith, zero, suc}
 use Rattle.anstyle_parse.specs.Stream.Call.{Call}
 use Rattle.anstyle_parse.specs.Stream.Calls.{AreCalls, Continues}
-use Rattle.std.specs.Str.{IsUtf8}
 use Rattle.anstyle_parse.specs.Machine.Decoder.{decoded}
 use Rattle.anstyle_parse.specs.Machine.Step.{new_machine, machine_calls}
 use Rattle.anstyle_parse.proofs.Agreement.Whole.{AreCalls-machine}
 use Rattle.anstyle_parse.proofs.Canonical.TextLength.{text_length-continued}
 use Rattle.anstyle_parse.proofs.Lawful.Calls.{lawful}
+use Rattle.ansi_strip.proofs.InertLemmas.{IsInertText-later, length-inert}
 use Rattle.ansi_strip.proofs.PieceLength.{length-stripped_text}
-use Rattle.ansi_strip.proofs.Showable.{IsUtf8-later}
-use Rattle.ansi_strip.specs.Strip.{stripped}
+use Rattle.ansi_strip.specs.Inert.{inert_text, IsInertText}
 use Rattle.anstyle_parse.specs.declared.accumulator.Utf8Parser.{Utf8Parser}
 use Rattle.anstyle_parse.specs.declared.parser.Parser.{Parser}
 use Rattle.anstyle_parse.specs.Views.Accumulator.{front_of}
@@ -28,14 +27,14 @@ Continues-append before first second calls more one two = λ own are.
     subst (λ (l : List ℕ). AreCalls l (own ++ (calls ++ more))) (append_assoc before first second)
     (subst (λ (l : List Call). AreCalls ((before ++ first) ++ second) l) (append_assoc own calls more) (two (own ++ calls) (one own are)))
 
--- what is left of the calls that continue others: it is UTF-8, and not long
-IsUtf8-continued : (before bytes : List ℕ) (calls : List Call) → Continues before bytes calls → IsUtf8 (stripped calls)
-IsUtf8-continued before bytes calls continues =
+-- the inert text of the calls that continue others: it is UTF-8 of inert characters, and not long
+IsInertText-continued : (before bytes : List ℕ) (calls : List Call) → Continues before bytes calls → IsInertText (inert_text calls)
+IsInertText-continued before bytes calls continues =
     let first = machine_calls decoded before (new_machine []) in
-    IsUtf8-later first calls (lawful (before ++ bytes) (first ++ calls) (continues first (AreCalls-machine before)))
+    IsInertText-later first calls (lawful (before ++ bytes) (first ++ calls) (continues first (AreCalls-machine before)))
 
-pub length-continued : (before bytes : List ℕ) (calls : List Call) → Continues before bytes calls → length (stripped calls) ≤ 3 * length bytes + 1
-length-continued before bytes calls continues = omega (arith, length-stripped_text calls, text_length-continued before bytes calls continues)
+pub length-continued : (before bytes : List ℕ) (calls : List Call) → Continues before bytes calls → length (inert_text calls) ≤ 3 * length bytes + 1
+length-continued before bytes calls continues = omega (arith, length-inert calls, length-stripped_text calls, text_length-continued before bytes calls continues)
 
 -- no bytes make no calls
 pub Continues-nil : (before : List ℕ) → Continues before [] []
@@ -56,7 +55,7 @@ pub Feeds-taken : (old new : StreamState) (parser parser_after : Parser Utf8Pars
     → (text_after.written + least_room ≤ length text_after.into.now → taken ≡ length piece) → (text.written + most_text (length piece) ≤ length text.into.now → taken ≡ length piece)
     → (0 < length piece → least_room ≤ length room) → Feeds old new piece room room_after taken written
 Feeds-taken old new parser parser_after piece room room_after text text_after taken written resumed saved empty begins ends counted took all at_once enough =
-    let left = stripped took.calls in
+    let left = inert_text took.calls in
     let count : written ≡ length left = omega (arith, took.puts.written took.fits) in
     let shown : room_after ≡ with_text 0 left room = ends ∙ took.puts.bytes took.fits ∙ ap (λ n. with_text n left text.into.now) empty ∙ ap (λ l. with_text 0 left l) begins in
     let long = Puts-length left text text_after took.fits took.puts in
@@ -64,14 +63,16 @@ Feeds-taken old new parser parser_after piece room room_after text text_after ta
     let front : take written room_after ≡ left =
     ap (λ n. take n room_after) count ∙ ap (λ l. take (length left) l) shown ∙ with_text-front left room in
     let held = pending_of old in
-    let none : taken ≡ 0 → written ≡ 0 = λ e. count ∙ ap (λ l. length (stripped l)) (took.nothing e) in
+    let inert = subst IsInertText (sym front) (IsInertText-continued held (take taken piece) took.calls (took.continues held (resumed held refl))) in
+    let none : taken ≡ 0 → written ≡ 0 = λ e. count ∙ ap (λ l. length (inert_text l)) (took.nothing e) in
     record {
       enough_room = enough;
       taken_fits = took.taken_fits;
       written_fits = omega (arith, took.fits);
       stands = λ before is. saved (before ++ take taken piece) (took.stands before (resumed before is));
       text = λ before is. (took.calls, took.continues before (resumed before is), front);
-      utf8 = subst IsUtf8 (sym front) (IsUtf8-continued held (take taken piece) took.calls (took.continues held (resumed held refl)));
+      utf8 = inert.0;
+      inert = inert;
       untouched = ap (λ n. drop n room_after) count ∙ ap (λ l. drop (length left) l) shown ∙ with_text-rest left room ∙ ap (λ n. drop n room) (sym count);
       some_taken = λ some. taken-some taken written (length piece) (length room) some (enough some) none (λ more. all (omega arith));
       all_taken = λ more. all (omega arith);

@@ -6,7 +6,7 @@ use Rattle.anstyle_parse.specs.Views.Accumulator.{front_of}
 use Rattle.anstyle_parse.specs.Stream.Call.{Call}
 use Rattle.anstyle_parse.specs.Stream.Calls.{Continues}
 use Rattle.anstyle_parse.specs.Views.Parser.{IsAfter}
-use Rattle.ansi_strip.specs.Strip.{stripped}
+use Rattle.ansi_strip.specs.Inert.{inert_text, IsInertText}
 use Rattle.strip_pieces.specs.declared.slice_writer.SliceWriter.{SliceWriter}
 use Rattle.strip_pieces.specs.declared.state.StreamState.{StreamState}
 use Rattle.strip_pieces.specs.SliceWriter.{Puts}
@@ -21,9 +21,9 @@ most_text count = 3 * count + 1
 abbrev pub least_room : ℕ
 least_room = most_text 1
 
--- The text is what is left of the calls by which the bytes continue those before.
+-- The text is the inert text of the calls by which the bytes continue those before.
 abbrev pub IsTextOf : (before bytes text : List ℕ) → Type 0
-IsTextOf before bytes text = (calls : List Call) × Continues before bytes calls × (text ≡ stripped calls)
+IsTextOf before bytes text = (calls : List Call) × Continues before bytes calls × (text ≡ inert_text calls)
 
 -- Bytes were taken from the front of the piece, and their text stands at the front of the room.
 pub record Feeds (old new : StreamState) (piece room room_after : List ℕ) (taken written : ℕ) : Type 0 where
@@ -35,8 +35,10 @@ pub record Feeds (old new : StreamState) (piece room room_after : List ℕ) (tak
   pub stands : (before : List ℕ) → StandsFor old before → StandsFor new (before ++ take taken piece)
   -- and what is written is their text, all of it
   pub text : (before : List ℕ) → StandsFor old before → IsTextOf before (take taken piece) (take written room_after)
-  -- which is UTF-8 by itself
+  -- which is UTF-8 by itself,
   pub utf8 : IsUtf8 (take written room_after)
+  -- and of inert characters alone
+  pub inert : IsInertText (take written room_after)
   -- after the text the room is as it was
   pub untouched : drop written room_after ≡ drop written room
   -- of some bytes at least one was taken, and bytes are left only where less room is left than
@@ -56,7 +58,7 @@ pub record Refuses (old new : StreamState) (piece room room_after : List ℕ) : 
   pub same_state : new ≡ old
   pub same_room : room_after ≡ room
 
--- The parser took bytes from the front of the piece, and what is left of their calls was put
+-- The parser took bytes from the front of the piece, and the inert text of their calls was put
 -- into the room, which has room for it.
 pub record IsTaken (old new : Parser Utf8Parser) (piece : List ℕ)
     (room room_after : SliceWriter) (taken : ℕ) : Type 0 where
@@ -64,7 +66,7 @@ pub record IsTaken (old new : Parser Utf8Parser) (piece : List ℕ)
   pub taken_fits : taken ≤ length piece
   pub stands : (before : List ℕ) → IsAfter front_of old before → IsAfter front_of new (before ++ take taken piece)
   pub continues : (before : List ℕ) → IsAfter front_of old before → Continues before (take taken piece) calls
-  pub puts : Puts (stripped calls) room room_after
-  pub fits : room.written + length (stripped calls) ≤ length room.into.now
-  pub bounded : length (stripped calls) ≤ most_text taken
+  pub puts : Puts (inert_text calls) room room_after
+  pub fits : room.written + length (inert_text calls) ≤ length room.into.now
+  pub bounded : length (inert_text calls) ≤ most_text taken
   pub nothing : taken ≡ 0 → calls ≡ []

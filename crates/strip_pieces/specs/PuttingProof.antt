@@ -1,13 +1,15 @@
 -- No definition, but proofs: the language wants those of a trait's laws among the specs.
 -- Texts that are put one after another are one text.
-use Rattle.std.proofs.Common.{◌≡◌, ◌≤◌, ◌+◌, ℕ, List, [], ◌∷◌, ◌++◌, length, take, drop, refl, sym, ap, ◌∙◌, subst, append_assoc, append-nil, take-append-drop, length-append, length-take, length-drop, arith}
+use Rattle.std.proofs.Common.{◌≡◌, Bool, true, false, cond, filter, ◌≤◌, ◌+◌, ℕ, List, [], ◌∷◌, ◌++◌, length, take, drop, refl, sym, ap, ◌∙◌, subst, append_assoc, append-nil, take-append-drop, length-append, length-take, length-drop, arith}
 use Rattle.std.proofs.lemmas.List.{take_at}
+use Rattle.std.proofs.lemmas.List.Elements.{filter-append}
 use Rattle.std.proofs.lemmas.Grind.{flat_map-append}
 use Rattle.std.proofs.lemmas.Slice.{drop-append-drop}
 use Rattle.anstyle_parse.specs.Stream.Call.{Call}
+use Rattle.ansi_strip.specs.Inert.{is_inert, inert_text}
 use Rattle.ansi_strip.specs.Strip.{stripped_call, stripped}
 use Rattle.strip_pieces.specs.declared.slice_writer.SliceWriter.{SliceWriter}
-use Rattle.strip_pieces.specs.SliceWriter.{with_text, Puts}
+use Rattle.strip_pieces.specs.SliceWriter.{inert_call, with_text, Puts}
 
 -- no text
 with_text-nil : (place : ℕ) (bytes : List ℕ) → with_text place [] bytes ≡ bytes
@@ -55,13 +57,25 @@ Puts-append first second a b c one two =
           ∙ with_text-twice a.written first second a.into.now fits;
     }
 
+-- the inert text of one call, and of two lists
+inert_text-one : (call : Call) → inert_call call ≡ inert_text (call ∷ [])
+inert_text-one call = by (is_inert call)
+  where
+    by : (t : Bool) → cond t (stripped_call call) [] ≡ stripped (cond t (call ∷ []) [])
+    by true = sym (append-nil (stripped_call call))
+    by false = refl
+
+inert_text-more : (calls more : List Call) → inert_text (calls ++ more) ≡ inert_text calls ++ inert_text more
+inert_text-more calls more =
+    ap stripped (filter-append is_inert calls more) ∙ flat_map-append stripped_call (filter is_inert calls) (filter is_inert more)
+
 -- the laws of what a room receives
-pub Puts-none : (room : SliceWriter) → Puts (stripped []) room room
+pub Puts-none : (room : SliceWriter) → Puts (inert_text []) room room
 Puts-none room = Puts-nil room
 
-pub Puts-one : (old : SliceWriter) (call : Call) (new : SliceWriter) → Puts (stripped_call call) old new → Puts (stripped (call ∷ [])) old new
-Puts-one old call new puts = subst (λ t. Puts t old new) (sym (append-nil (stripped_call call))) puts
+pub Puts-one : (old : SliceWriter) (call : Call) (new : SliceWriter) → Puts (inert_call call) old new → Puts (inert_text (call ∷ [])) old new
+Puts-one old call new puts = subst (λ t. Puts t old new) (inert_text-one call) puts
 
-pub Puts-more : (old middle new : SliceWriter) (calls more : List Call) → Puts (stripped calls) old middle → Puts (stripped more) middle new → Puts (stripped (calls ++ more)) old new
+pub Puts-more : (old middle new : SliceWriter) (calls more : List Call) → Puts (inert_text calls) old middle → Puts (inert_text more) middle new → Puts (inert_text (calls ++ more)) old new
 Puts-more old middle new calls more first second =
-    subst (λ t. Puts t old new) (sym (flat_map-append stripped_call calls more)) (Puts-append (stripped calls) (stripped more) old middle new first second)
+    subst (λ t. Puts t old new) (sym (inert_text-more calls more)) (Puts-append (inert_text calls) (inert_text more) old middle new first second)

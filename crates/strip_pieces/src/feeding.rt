@@ -25,8 +25,8 @@ pub struct Fed {
 }
 
 impl StreamState {
-    /// Takes bytes from the front of the piece, and writes their stripped text to the front of
-    /// the room.
+    /// Takes bytes from the front of the piece, and writes their inert text to the front of the room: the text that
+    /// [`strip_inert`](ansi_strip::strip_inert) writes of them, which drives no terminal.
     ///
     /// With `Some` all of their text is written, and the state stands after all bytes so far.
     /// All of the piece is taken, unless less than [`LEAST_ROOM`] is left of the room; with that

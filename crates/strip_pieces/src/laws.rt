@@ -2,7 +2,7 @@
 ghost use Rattle.std.specs.Prelude.{◌≡◌, ◌↔◌, ℕ, List, [], ◌++◌, IsTrue};
 ghost use Rattle.anstyle_parse.specs.Stream.Call.{Call};
 ghost use Rattle.anstyle_parse.specs.Stream.Calls.{AreCalls};
-ghost use Rattle.ansi_strip.specs.Strip.{stripped};
+ghost use Rattle.ansi_strip.specs.Inert.{inert_text};
 ghost use Rattle.strip_pieces.specs.Feed.{IsTextOf};
 ghost use Rattle.strip_pieces.specs.State.{pending_of, StandsFor};
 
@@ -17,13 +17,13 @@ pub fn states()
 {}
 
 /// The texts of pieces, one after another, are the text of the whole; and the text of all bytes
-/// of a stream is what is left of their calls.
+/// of a stream is the inert text of their calls.
 pub fn texts_joined()
     ensures pieces { (before bytes more text rest : List ℕ) → IsTextOf before bytes text
         → IsTextOf (before ++ bytes) more rest
         → IsTextOf before (bytes ++ more) (text ++ rest) }
     ensures whole { (bytes text : List ℕ) → IsTextOf [] bytes text → (calls : List Call)
-        × AreCalls bytes calls × (text ≡ stripped calls) }
+        × AreCalls bytes calls × (text ≡ inert_text calls) }
 {}
 
 /// `==` of what calls took and wrote is equality.

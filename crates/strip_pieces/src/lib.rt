@@ -1,4 +1,4 @@
-//! Strips a stream of its escapes that comes in pieces, with a state that its caller owns.
+//! Strips a stream of its escapes that comes in pieces, with a state that its caller owns. Its text drives no terminal.
 //!
 //! A [`StreamState`] says where the stream stands; [`StreamState::feed`] takes bytes of a piece
 //! and writes their text into a slice. No memory is taken, and no input is refused.

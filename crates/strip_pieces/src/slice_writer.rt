@@ -1,12 +1,14 @@
-//! The performer that writes stripped text into the caller's room.
-ghost use Rattle.std.specs.Prelude.{◌≡◌, ◌-◌, ◌∷◌, [], length};
-ghost use Rattle.ansi_strip.specs.Strip.{stripped_call, stripped};
+//! The performer that writes inert text into the caller's room.
+ghost use Rattle.std.specs.Prelude.{◌≡◌, ◌≤◌, ◌-◌, ◌∷◌, [], length, take, IsUtf8};
+ghost use Rattle.anstyle_parse.specs.Stream.Texts.{layout_calls};
+ghost use Rattle.ansi_strip.specs.Inert.{inert_text};
 
 use crate::front::{CHUNK, put_over};
-use ansi_strip::is_layout;
+use ansi_strip::{is_clear, is_clear_front, is_driving, is_layout, split_at_driving};
 use anstyle_parse::{Params, Perform, PerformText};
+use std::str;
 
-/// Writes what is left of each call after what is written, as far as there is room.
+/// Writes the inert text of each call after what is written, as far as there is room.
 #[derive(Drop)]
 pub(crate) struct SliceWriter<'a> {
     into: &'a mut [u8],
@@ -60,19 +62,62 @@ impl<'a> SliceWriter<'a> {
             self.written = end;
         }
     }
+
+    /// The first `count` of sixteen bytes more. Where there is room for the whole chunk, it is put whole: what the room
+    /// has behind them is put where it was.
+    #[inline(always)]
+    fn put_front(&mut self, chunk: &[u8; 16], count: usize)
+        requires { count ≤ length chunk.now }
+        ensures { Puts (take count chunk.now) self.old self.new }
+    {
+        let start = self.written;
+        if self.into.len() < CHUNK || start > self.into.len() - CHUNK {
+            self.put_bytes(&chunk[..count]);
+            return;
+        }
+        put_over(&mut self.into[start..start + CHUNK], chunk, count);
+        self.written = start + count;
+    }
+
+    /// A text in parts: what stands between the characters that drive a terminal.
+    #[inline(never)]
+    fn put_parts(&mut self, text: &str)
+        ensures { Puts (inert_text (layout_calls text.now)) self.old self.new }
+    {
+        let mut rest = text;
+        'rest: while !rest.is_empty() {
+            let (inert, behind) = split_at_driving(rest);
+            self.put_bytes(inert.as_bytes());
+            rest = behind;
+        }
+    }
+
+    /// The same with a text that is given by its bytes.
+    #[inline(never)]
+    fn put_parts_of(&mut self, bytes: &[u8])
+        requires { IsUtf8 bytes.now }
+        ensures { Puts (inert_text (layout_calls bytes.now)) self.old self.new }
+    {
+        match str::from_utf8(bytes) {
+            Ok(text) => self.put_parts(text),
+            Err(_) => unreachable!(),
+        }
+    }
 }
 
 impl<'a> Perform for SliceWriter<'a> {
-    ghost use Rattle.strip_pieces.specs.SliceWriter.{Puts};
+    ghost use Rattle.strip_pieces.specs.SliceWriter.{inert_call, Puts};
 
-    // What is left of the call is put.
-    ghost means = { λ old call new. Puts (stripped_call call) old new };
+    // The inert text of the call is put.
+    ghost means = { λ old call new. Puts (inert_call call) old new };
 
     // Mostly a character comes in a text.
     #[inline(never)]
     fn print(&mut self, c: char) {
-        let mut bytes = [0; 4];
-        self.put_bytes(c.encode_utf8(&mut bytes).as_bytes());
+        if !is_driving(c) {
+            let mut bytes = [0; 4];
+            self.put_bytes(c.encode_utf8(&mut bytes).as_bytes());
+        }
     }
 
     #[inline]
@@ -101,33 +146,29 @@ impl<'a> Perform for SliceWriter<'a> {
     fn esc_dispatch(&mut self, _intermediates: &[u8], _ignore: bool, _byte: u8) {}
 }
 
-/// A text is left as it is, and so is layout.
+/// A text without characters that drive a terminal is left as it is, and so is layout.
 impl<'a> PerformText for SliceWriter<'a> {
     ghost use Rattle.strip_pieces.specs.SliceWriter.{Puts};
     ghost use Rattle.strip_pieces.specs.PuttingProof.{Puts-none, Puts-one, Puts-more};
 
-    ghost receives = { λ old calls new. Puts (stripped calls) old new };
-
-    #[inline(always)]
-    fn print_text(&mut self, text: &str) {
-        self.put_bytes(text.as_bytes());
-    }
+    ghost receives = { λ old calls new. Puts (inert_text calls) old new };
 
     #[inline(always)]
     fn print_with_layout(&mut self, text: &str) {
-        self.put_bytes(text.as_bytes());
+        if is_clear(text.as_bytes()) {
+            self.put_bytes(text.as_bytes());
+        } else {
+            self.put_parts(text);
+        }
     }
 
-    /// Where there is room for the whole chunk, it is put whole: what the room has behind the text is put where it was.
     #[inline(always)]
     fn print_front(&mut self, chunk: &[u8; 16], count: usize) {
-        let start = self.written;
-        if self.into.len() < CHUNK || start > self.into.len() - CHUNK {
-            self.put_bytes(&chunk[..count]);
-            return;
+        if is_clear_front(chunk, count) {
+            self.put_front(chunk, count);
+        } else {
+            self.put_parts_of(&chunk[..count]);
         }
-        put_over(&mut self.into[start..start + CHUNK], chunk, count);
-        self.written = start + count;
     }
 
     /// Nothing is put for a control sequence. With no room at all the parser reads them: so `resume_in` leads it to

@@ -7,7 +7,8 @@ from .library import FEW, Counts, Idle, Room, address_of, decoded, exact, functi
 
 MOST = 64 << 10  # bytes that one call is given at most
 SHORT = 256  # characters of a str that is looked through sooner than it is stripped
-CLEAN = re.compile("[\t\n\r\x20-\ud7ff\ue000-\U0010ffff]*")  # characters, and controls that are left
+# characters that drive no terminal, and controls that are left
+CLEAN = re.compile("[\t\n\r\x20-\x7e\xa0-\ud7ff\ue000-\U0010ffff]*")
 
 
 class State(ctypes.Structure):
@@ -53,7 +54,7 @@ class Stripper:
 
 
 def text_of(stream):
-    """Gives the text of a stream that comes in pieces, each bytes, a bytearray or a memoryview.
+    """Gives the text of a stream that comes in pieces, each bytes, a bytearray or a memoryview: as `strip` leaves it.
 
     The text of a piece is given before the next piece is asked for. Each part is UTF-8 by itself.
     """
@@ -93,12 +94,15 @@ def is_clean(text):
 
 
 def strip(text):
-    """The text of terminal output: of a str a str, of bytes, a bytearray or a memoryview bytes."""
+    """The text of terminal output: of a str a str, of bytes, a bytearray or a memoryview bytes.
+
+    It drives no terminal: DEL and U+0080 to U+009F, which some terminals take for controls, are left out too.
+    """
     if isinstance(text, str):
         if type(text) is not str:
             text = exact(text)
         if is_clean(text):
-            return text  # (clean text is left as it is: laws::clean_text of ansi_strip)
+            return text  # (clean text is left as it is: laws::inert_clean_text of ansi_strip)
     piece, is_str = whole_of(text)
     if len(piece) > FEW:
         return joined(lambda made: Stripper().texts(piece, made), is_str)

@@ -18,7 +18,11 @@ use ansi_html::put_text;
 use ansi_html::verbatim_length;
 use ansi_strip::Inert;
 use ansi_strip::Stripper;
+use ansi_strip::is_clear;
+use ansi_strip::is_clear_front;
+use ansi_strip::is_driving;
 use ansi_strip::is_layout;
+use ansi_strip::split_at_driving;
 use ansi_strip::strip;
 use ansi_strip::strip_inert;
 use ansi_style::Color;
@@ -364,6 +368,12 @@ fn names_of_runs(rt: HostRuntime) {
         checkpoint(&Parser::<Utf8Parser>::new(), memory(rt.alloc())),
     );
     assert!(rt; MAX_CHECKPOINT > 0 && is_layout(b'\t') && !is_layout(0x07));
+    assert!(rt; is_driving('\u{9B}') && !is_driving('\u{A0}'));
+    assert!(rt; is_clear(b"a\n") && !is_clear(b"a\x7F"));
+    assert!(rt; is_clear_front(b"a\x7F--------------", 1));
+    let (inert, behind) = split_at_driving("a\u{9B}b");
+    assert_eq!(rt; inert.as_bytes(), b"a".as_slice());
+    assert_eq!(rt; behind.as_bytes(), b"b".as_slice());
 }
 
 #[test]

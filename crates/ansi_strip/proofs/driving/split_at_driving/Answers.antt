@@ -53,5 +53,8 @@ returns-clause-shorter c =
     λ some. subst (λ n. n < length text) (ap length (ap (λ n. drop n text) at ∙ sym c.range_from.ensures.value))
     (shorter-parted text stops.passed left c.utf8.text joined (at-cases left stops.at) some)
 
+pub returns-clause-front : goal.returns-clause-front
+returns-clause-front c = c.range.utf8
+
 pub returns-clause-text : goal.returns-clause-text
 returns-clause-text c = c.range_from.utf8

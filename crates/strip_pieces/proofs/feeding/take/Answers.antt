@@ -1,4 +1,4 @@
--- The next bytes continue the calls, and what is left of them fits.
+-- The next bytes continue the calls, and their inert text fits.
 use Rattle.std.proofs.Common.{◌≡◌, ◌+◌, ◌-◌, ℕ, List, [], ◌++◌, length, take, drop, refl, sym, ap, ◌∙◌, subst, arith, lit≤, inl, inr, ⊎_elim, append-nil, append_assoc, length-append, length-take}
 use Rattle.std.proofs.Math.Seq.{take-add}
 use Rattle.anstyle_parse.specs.Views.Accumulator.{front_of, parser_after}
@@ -6,12 +6,12 @@ use Rattle.anstyle_parse.specs.Stream.Call.{Call}
 use Rattle.anstyle_parse.specs.Stream.Calls.{Continues}
 use Rattle.anstyle_parse.specs.Machine.Step.{machine_calls}
 use Rattle.anstyle_parse.specs.Views.Parser.{IsAfter, machine_of}
-use Rattle.ansi_strip.specs.Strip.{stripped_call, stripped}
+use Rattle.ansi_strip.specs.Inert.{inert_text}
+use Rattle.ansi_strip.proofs.InertLemmas.{inert_text-append}
 use Rattle.strip_pieces.specs.SliceWriter.{Puts}
 use Rattle.strip_pieces.specs.PuttingProof.{Puts-nil, Puts-append}
 use Rattle.strip_pieces.proofs.SliceWriterLemmas.{Puts-length}
 use Rattle.strip_pieces.proofs.FeedLemmas.{Continues-append, Continues-nil, length-continued}
-use Rattle.std.proofs.lemmas.Grind.{flat_map-append}
 use Rattle.strip_pieces.proofs.feeding.take.Goals as goal
 
 pub loop-taken-init : goal.loop-taken-init
@@ -48,9 +48,9 @@ loop-taken-preserved c =
     (c.advance_heeded.ensures.stream (before ++ take c.loop-taken.taken piece) (so_far.stands before is))) in
     let front = length-append (take c.loop-taken.taken piece) bytes in
     let begun = length-take c.loop-taken.taken piece in
-    let text = flat_map-append stripped_call so_far.calls more in
-    let long = ap length text ∙ length-append (stripped so_far.calls) (stripped more) in
-    let kept = Puts-length (stripped so_far.calls) c.args.room.now c.loop-taken.room so_far.fits so_far.puts in (
+    let text = inert_text-append so_far.calls more in
+    let long = ap length text ∙ length-append (inert_text so_far.calls) (inert_text more) in
+    let kept = Puts-length (inert_text so_far.calls) c.args.room.now c.loop-taken.room so_far.fits so_far.puts in (
       record {
         calls = so_far.calls ++ more;
         taken_fits = omega (arith, c.min-count.ensures);
@@ -62,13 +62,13 @@ loop-taken-preserved c =
             (Continues-append before (take c.loop-taken.taken piece) bytes so_far.calls more (so_far.continues before is)
             (c.advance_heeded.ensures.stream (before ++ take c.loop-taken.taken piece) (so_far.stands before is)));
         puts = subst (λ (t : List ℕ). Puts t c.args.room.now c.advance_heeded.new.performer) (sym text)
-            (Puts-append (stripped so_far.calls) (stripped more) c.args.room.now c.loop-taken.room c.advance_heeded.new.performer so_far.puts c.advance_heeded.ensures.calls);
+            (Puts-append (inert_text so_far.calls) (inert_text more) c.args.room.now c.loop-taken.room c.advance_heeded.new.performer so_far.puts c.advance_heeded.ensures.calls);
         fits = omega (arith, long, few, counted, kept, so_far.fits, so_far.puts.written so_far.fits, c.min-count.ensures, c.left-in-loop-taken.ensures);
         bounded = omega (arith, all_few, front, begun, counted, so_far.taken_fits, c.min-count.ensures);
         nothing = λ e. absurd (omega (arith, c.min-count.ensures, c.left-in-loop-taken.ensures));
       },
       λ fits. inr (⊎_elim
-          (λ (none : c.loop-taken.taken ≡ 0). omega (arith, fits, ap (λ (l : List Call). length (stripped l)) (so_far.nothing none), kept, so_far.fits, so_far.puts.written so_far.fits, c.min-count.ensures, c.left-in-loop-taken.ensures))
+          (λ (none : c.loop-taken.taken ≡ 0). omega (arith, fits, ap (λ (l : List Call). length (inert_text l)) (so_far.nothing none), kept, so_far.fits, so_far.puts.written so_far.fits, c.min-count.ensures, c.left-in-loop-taken.ensures))
           (λ (all : c.loop-taken.taken ≡ length piece). absurd (omega (arith, all)))
           (c.loop-taken.invariant.1 fits)),
     )

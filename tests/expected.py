@@ -4,7 +4,7 @@ each digest of a random stream comes from the sources of the Rust crate (docs/DE
 import hashlib
 
 from expected_pages import ADDRESS, DARK_TITLED_HEAD, LIGHT_HEAD, LINKED_HEAD, PAGE_HEAD, PAGE_TAIL, TITLE, TITLED_HEAD
-from safe_rows import SAFE_ROWS
+from safe_rows import SAFE_ROWS, SAFE_SHOWN_ROWS
 
 SIZE = 100_000_000  # the bytes of a hostile stream
 BLOCK = 1 << 20
@@ -710,11 +710,12 @@ PROGRAMS = [
         refused_by("ansi2text", ["--page"], ["--Shown"], ["--shown80x24"])
         + [([word], wrong_size(b"ansi2text")) for word in ("--shown=", "--shown=1x1", "--shown=80", "--shown=80x1001", "--shown==80x24")]
         + [(["--shown", "--shown=0x0"], wrong_size(b"ansi2text"))]
-        + [(it, b"ansi2text: --safe and --shown are not taken together (see ansi2text --help)") for it in (["--safe", "--shown"], ["--shown=9x9", "--safe"])],
+        + [(["--safe", "--shown=1x1"], wrong_size(b"ansi2text"))],
         [
             Mode([], STRIP_ROWS, (b"\x1b[1mA\n", b"A\n"), STRIP_HOSTILE, stays=True, cut=STRIP_CUT),
             Mode(["--safe"], SAFE_ROWS, (b"\x1b[1mA<\r\n", b"A<\n"), []),
             Mode(["--shown"], SHOWN_ROWS, (b"\x1b[1mA\n", b"A\n"), SHOWN_HOSTILE, stays=True, waits=True),
+            Mode(["--safe", "--shown=9x9"], SAFE_SHOWN_ROWS, (b"\x1b[1mA<\r\n", b"A<\n"), [], waits=True),
             Mode(["--shown=9x9", "--shown=80x24"], SHOWN_ROWS[-3:], (b"A\b\n", b"A\n"), [], stays=True, waits=True),
         ],
         options=["--safe", "--shown", "--shown=COLUMNSxROWS", "--output=FILE"],

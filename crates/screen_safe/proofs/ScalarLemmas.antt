@@ -14,11 +14,11 @@ use Rattle.ansi_screen.specs.declared.cell.Marks.TheVariants.{Unmarked, One, Two
 use Rattle.ansi_screen.specs.Cells.{is_right}
 use Rattle.ansi_screen.specs.After.{State, new_state, after_all}
 use Rattle.ansi_screen.specs.Leaving.{all_left}
-use Rattle.ansi_screen.specs.Text.{used, used_rows, is_unprinted, goes_on}
-use Rattle.ansi_screen.proofs.CharacterLemmas.{PrintsCharacter, AreGoodMarks, IsGoodCell, AreGood, IsGoodState, good-new, good-after_all, good-left, good-first_rows}
+use Rattle.ansi_screen.specs.Text.{used, is_unprinted, goes_on}
+use Rattle.ansi_screen.proofs.CharacterLemmas.{PrintsCharacter, AreGoodMarks, IsGoodCell, AreGood, IsGoodState, good-new, good-after_all, good-left}
 use Rattle.screen_text.specs.Lines.{open_after, closing, showing}
 use Rattle.screen_text.specs.Shown.{given_all}
-use Rattle.screen_text.proofs.CleanLemmas.{all-print}
+use Rattle.screen_text.proofs.CleanLemmas.{all-print, good-showing}
 use Rattle.screen_safe.specs.Characters.{marks_of, cell_characters, row_characters, rows_characters}
 use Rattle.screen_safe.specs.Shown.{shown_characters}
 
@@ -75,5 +75,5 @@ scalars-shown columns rows bytes calls are =
     scalars-append (rows_characters left) (rows_characters rows_then ++ closing (open_after (open_after false left) rows_then))
     (scalars-rows left (good-left (given_all calls) s prints new))
     (scalars-append (rows_characters rows_then) (closing (open_after (open_after false left) rows_then))
-    (scalars-rows rows_then (good-first_rows (used_rows is_unprinted end.display.height end.display) end.display good.display))
+    (scalars-rows rows_then (good-showing end.display good.display))
     (scalars-if (open_after (open_after false left) rows_then) (0x0A ∷ []) [] scalar-feed tt))

@@ -7,7 +7,7 @@ from expected_pages import ADDRESS, DARK_TITLED_HEAD, LIGHT_HEAD, LINKED_HEAD, P
 from expected_shown import SHOWN_HOSTILE, SHOWN_NARROW_ROWS, SHOWN_ROWS
 from hostile_streams import BLOCK, SIZE, stream, text, times
 from open_strings import said
-from safe_rows import SAFE_ROWS
+from safe_rows import SAFE_ROWS, SAFE_SHOWN_ROWS
 
 
 class Program:
@@ -647,11 +647,12 @@ PROGRAMS = [
         refused_by("ansi2text", ["--page"], ["--Shown"], ["--shown80x24"])
         + [([word], wrong_size(b"ansi2text")) for word in ("--shown=", "--shown=1x1", "--shown=80", "--shown=80x1001", "--shown==80x24")]
         + [(["--shown", "--shown=0x0"], wrong_size(b"ansi2text"))]
-        + [(it, b"ansi2text: --safe and --shown are not taken together (see ansi2text --help)") for it in (["--safe", "--shown"], ["--shown=9x9", "--safe"])],
+        + [(["--safe", "--shown=1x1"], wrong_size(b"ansi2text"))],
         [
             Mode([], STRIP_ROWS, (b"\x1b[1mA\n", b"A\n"), STRIP_HOSTILE, stays=True, cut=STRIP_CUT),
             Mode(["--safe"], SAFE_ROWS, (b"\x1b[1mA<\r\n", b"A<\n"), []),
             Mode(["--shown"], SHOWN_ROWS, (b"\x1b[1mA\n", b"A\n"), SHOWN_HOSTILE, stays=True, waits=True),
+            Mode(["--safe", "--shown=9x9"], SAFE_SHOWN_ROWS, (b"\x1b[1mA<\r\n", b"A<\n"), [], waits=True),
             Mode(["--shown=9x9", "--shown=80x24"], SHOWN_ROWS[-3:], (b"A\b\n", b"A\n"), [], stays=True, waits=True),
             Mode(["--shown=20x6"], SHOWN_NARROW_ROWS, (b"A\b\n", b"A\n"), [], stays=True, waits=True),
         ],

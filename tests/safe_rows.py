@@ -1,4 +1,5 @@
-"""What ansi2text --safe writes of hostile texts, worked by hand from the definition of safe text: rows for tests/expected.py.
+"""What ansi2text --safe writes of hostile texts, and what with --shown=9x9, worked by hand from the definition of safe text: rows for
+tests/expected.py.
 
 Each row is its name, what is read and what is written; a str stands for its UTF-8.
 """
@@ -72,4 +73,20 @@ SAFE_ROWS = rows(
     ("a less sign before one that shows nothing", "<\u200bU+", "<<U+200B>U+"),
     ("a less sign before a line feed", b"<\r\nU+", b"<\nU+"),
     ("a less sign before a joiner that stays", "\u0915\u094d\u200d<U\u094d\u200d", "\u0915\u094d\u200d<U\u094d\u200d"),
+)
+
+# On a screen of 9 columns and 9 rows. (A character of no column stands with the one before it.)
+SAFE_SHOWN_ROWS = rows(
+    ("no bytes", b"", b""),
+    ("a bar that is drawn again", b" 10%\r 50%\r100%\r\n", b"100%\n"),
+    ("an override", "if (a\u202e }\r\n", "if (a<U+202E> }\n"),
+    ("a line that is not ended", "a\u2066", "a<U+2066>\n"),
+    ("rows that scroll off", 12 * "a\u202eb\r\n", 12 * "a<U+202E>b\n"),
+    ("a forged mark", b"<U+202E>\r\n", b"<U+003C>U+202E>\n"),
+    ("a forged mark that wraps", b"12345678<U+0041>\r\n", b"12345678<U+003C>U+0041>\n"),
+    ("a less sign at the end of a line", b"<\r\nU+\r\n", b"<\nU+\n"),
+    ("less signs at the end", b"<\r\n<U", b"<\n<U\n"),
+    ("a family", "\U0001f468\u200d\U0001f469\r\n", "\U0001f468\u200d\U0001f469\n"),
+    ("a joiner among letters", "a\u200db\r\n", "a<U+200D>b\n"),
+    ("controls show nothing on a screen", b"a\x07\x7f\xc2\x9bb\r\n", b"ab\n"),
 )

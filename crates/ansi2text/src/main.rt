@@ -8,12 +8,12 @@ mod words;
 use each_source::write_each;
 use screen_text::{SHOWN, screen_size};
 use standard_streams::{
-    OUTPUT, Target, answered, asked_of, buffered, failed, given_line, have_failed, inputs, misused,
+    OUTPUT, Target, answered, asked_of, buffered, failed, given_line, have_failed, inputs,
     value_of, wrong_size,
 };
 use std::process::ExitCode;
-use streams::{MakingSafe, Showing, Stripping};
-use words::{BOTH, HELP, OPTIONS, asks_for_safe};
+use streams::{MakingSafe, Showing, ShowingSafe, Stripping};
+use words::{HELP, OPTIONS, asks_for_safe};
 
 /// The name at the front of what the program says of failures.
 const PROGRAM: &str = "ansi2text";
@@ -31,9 +31,6 @@ fn main(rt: HostRuntime) -> ExitCode {
         return wrong_size(&rt, PROGRAM);
     };
     let safe = asks_for_safe(options);
-    if safe && size.is_some() {
-        return misused(&rt, BOTH);
-    }
     let Ok(mut inputs) = inputs(rt, PROGRAM, line.files.as_slice()) else {
         return failed(&rt, PROGRAM, "out of memory");
     };
@@ -45,6 +42,15 @@ fn main(rt: HostRuntime) -> ExitCode {
     let ran = match size {
         None if safe => write_each(&MakingSafe, b"", readers, output, b""),
         None => write_each(&Stripping, b"", readers, output, b""),
+        Some(size) if safe => {
+            write_each(
+                &ShowingSafe::new(rt.alloc(), size),
+                b"",
+                readers,
+                output,
+                b"",
+            )
+        }
         Some(size) => write_each(&Showing::new(rt.alloc(), size), b"", readers, output, b""),
     };
     target.ended(have_failed(inputs.as_slice()), ran)

@@ -1,10 +1,12 @@
-//! The performer of each stream: what strips it or makes it safe, or what follows a screen of its own.
+//! The performer of each stream: what strips it or makes it safe, or what follows a screen of its own, as text or as
+//! safe text.
 ghost use Rattle.std.specs.Prelude.{◌≡◌, List, IfOk, IfErr};
 ghost use Rattle.anstyle_parse.specs.Stream.Call.{Call};
 ghost use Rattle.ansi_strip.specs.Inert.{inert_text};
 ghost use Rattle.ansi_screen.specs.Size.{IsTaken};
 ghost use Rattle.ansi2text.specs.Sizes.{screen_of, no_text};
 ghost use Rattle.safe_text.specs.Decided.{decided, undecided};
+ghost use Rattle.screen_safe.specs.Shown.{safe_left, safe_ending};
 ghost use Rattle.screen_text.specs.Shown.{left_text, ending_text};
 
 use ansi_screen::{Screen, Size};
@@ -12,6 +14,7 @@ use ansi_strip::{Inert, Stripper};
 use anstyle_parse::io::{CallWriter, Output, Sink};
 use each_source::Begin;
 use safe_text::SafeWriter;
+use screen_safe::SafeRows;
 use screen_text::{ShownWriter, TextRows};
 use std::alloc::Global;
 
@@ -100,6 +103,52 @@ impl<W: Sink> Begin<ShownWriter<TextRows<W>>, W> for Showing {
     {
         match Screen::new(self.alloc, self.size.columns, self.size.rows) {
             Ok(screen) => Ok(ShownWriter::new(screen, TextRows::new(output))),
+            Err(_) => Err(output),
+        }
+    }
+}
+
+/// Each stream is shown by a screen of this size, and what it showed is made safe.
+#[derive(Drop)]
+pub struct ShowingSafe {
+    alloc: Global,
+    size: Size,
+    ghost taken: { IsTaken size },
+}
+
+impl ShowingSafe {
+    ghost use Rattle.ansi2text.specs.Streams.{safe_size_of};
+
+    /// For screens of a size that screens can have.
+    pub fn new(alloc: Global, size: Size) -> ShowingSafe
+        requires { IsTaken size }
+        ensures { safe_size_of result ≡ size }
+    {
+        ShowingSafe { alloc, size }
+    }
+}
+
+impl<W: Sink> Begin<ShownWriter<SafeRows<W>>, W> for ShowingSafe {
+    ghost use Rattle.screen_safe.specs.Writer.{output_of, standing_of, row_safe, after_row, after_command, closing_safe};
+    ghost use Rattle.screen_text.specs.Writer.{rows_of, text_from, ending_from};
+    ghost use Rattle.ansi2text.specs.Streams.{safe_size_of};
+
+    ghost text = { λ showing. safe_left (screen_of (safe_size_of showing)) };
+
+    ghost ending = { λ showing. safe_ending (screen_of (safe_size_of showing)) };
+
+    fn begin(&self, output: Output<W>) -> Result<ShownWriter<SafeRows<W>>, Output<W>>
+        ensures output { IfOk result (λ performer. output_of (rows_of performer) ≡ output) }
+        ensures text { IfOk result (λ performer. (calls : List Call)
+            → text_from standing_of row_safe after_row after_command performer calls
+            ≡ safe_left (screen_of (safe_size_of self.now)) calls) }
+        ensures ending { IfOk result (λ performer. (calls : List Call)
+            → ending_from standing_of row_safe after_row after_command closing_safe performer calls
+            ≡ safe_ending (screen_of (safe_size_of self.now)) calls) }
+        ensures kept { IfErr result (λ kept. kept ≡ output) }
+    {
+        match Screen::new(self.alloc, self.size.columns, self.size.rows) {
+            Ok(screen) => Ok(ShownWriter::new(screen, SafeRows::new(output))),
             Err(_) => Err(output),
         }
     }

@@ -11,13 +11,9 @@ pub const OPTIONS: &[&str] = &[SAFE, SHOWN, "--shown=", OUTPUT];
 /// What asks for safe text.
 const SAFE: &str = "--safe";
 
-/// What is said where a screen is asked for too.
-pub const BOTH: &str =
-    "ansi2text: --safe and --shown are not taken together (see ansi2text --help)";
-
 /// What `--help` says.
 pub const HELP: &str = "\
-usage: ansi2text [--safe | --shown | --shown=COLUMNSxROWS] [-o FILE] [FILE]..
+usage: ansi2text [--safe] [--shown | --shown=COLUMNSxROWS] [-o FILE] [FILE]..
 
 Writes the text of files without the escapes of terminals: colours, cursor moves,
 titles and the like, so that it drives no terminal. Input is UTF-8. Each file is a
@@ -26,7 +22,8 @@ name files, whatever they begin with.
 
   --safe                  write text that hides nothing and keeps its order, to
                           review: controls and characters that show nothing or
-                          turn text round are written as <U+202E>
+                          turn text round are written as <U+202E>; with --shown
+                          of what a terminal showed
   --shown                 write what a terminal of 80x24 showed instead: the lines
                           that scrolled off, and what stands there at the end
   --shown=COLUMNSxROWS    the same of this size, from 2x1 to 1000x1000

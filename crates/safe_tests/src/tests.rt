@@ -1,2 +1,3 @@
 //! Texts, and every public item by its name.
+mod shown;
 mod texts;

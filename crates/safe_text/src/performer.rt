@@ -197,8 +197,8 @@ impl<W: Sink> SafeWriter<W> {
         }
     }
 
-    /// Takes a character.
-    fn take(&mut self, c: char)
+    /// Takes a character, as one that is printed.
+    pub fn take(&mut self, c: char)
         ensures { Takes W.Sink self.old (c ∷ []) self.new }
     {
         if self.held.goes_on(c) {

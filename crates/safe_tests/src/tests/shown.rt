@@ -1,0 +1,44 @@
+//! Rows of what a screen showed, as safe text, that were worked by hand. (More are rows of tests/safe_rows.py.)
+use ansi_screen::Screen;
+use anstyle_parse::io::{FromRead, FromWrite, Output};
+use screen_safe::laws::{of_the_class, read_back, whole};
+use screen_safe::{SafeRows, write_safe_shown};
+use screen_text::ShownWriter;
+use std::process::Abort;
+use std::test::Fail;
+use test_streams::Tape;
+
+/// What is read, and what a screen of 9 columns and 3 rows showed of it.
+const ROWS: [(&str, &str); 5] = [
+    (" 10%\r 50%\r100%\r\n", "100%\n"),
+    ("a\u{202E}b\r\nc\r\nd\r\ne", "a<U+202E>b\nc\nd\ne\n"),
+    ("12345678<U+0041>\r\n", "12345678<U+003C>U+0041>\n"),
+    ("<\r\nU+\r\n<U", "<\nU+\n<U\n"),
+    (
+        "\u{1F468}\u{200D}\u{1F469}a\u{200D}",
+        "\u{1F468}\u{200D}\u{1F469}a<U+200D>\n",
+    ),
+];
+
+#[test]
+fn texts(rt: HostRuntime) -> Result<(), Fail> {
+    for (given, text) in ROWS {
+        let screen = Screen::new(rt.alloc(), 9, 3)?;
+        let mut reader = FromRead::new(Tape::new(given.as_bytes()));
+        let writer = FromWrite::new(Vec::new(rt.alloc()));
+        let (writer, answer) = write_safe_shown(screen, &mut reader, writer);
+        assert_eq!(rt; writer.into_inner().as_slice(), text.as_bytes());
+        assert_eq!(rt; answer, Ok(()));
+    }
+    Ok(())
+}
+
+#[test]
+fn names(rt: HostRuntime) -> Result<(), Fail> {
+    let rows = SafeRows::new(Output::new(FromWrite::new(Vec::new(rt.alloc()))));
+    let _writer = ShownWriter::new(Screen::new(rt.alloc(), 9, 3)?, rows);
+    whole();
+    of_the_class();
+    read_back();
+    Ok(())
+}

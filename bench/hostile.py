@@ -8,6 +8,8 @@ Usage: bench/hostile.py [--bytes N] [--search ROUNDS] [--seed N] COMMAND ..
     --search ROUNDS first tries the patterns below, and then ROUNDS streams more for each command: those that cost
                     most so far, with a part changed, left out, doubled or put in
 
+A command of `ansi2screen`, or one with `--shown`, gets the patterns and parts for screens too.
+
 Instructions are those of `valgrind --tool=callgrind`, less those of an empty input, as bench/measure.py counts them. A line is a
 stream: its instructions and its bytes of output for each byte, and what it is; the last ones are the dearest of each.
 """
@@ -56,12 +58,48 @@ PATTERNS = {
     "device control strings": (b"", b"\x1bPq\x1b\\"),
     "escape sequences": (b"", b"\x1b(B\x1b7"),
 }
+# The same for screens.
+SCREEN_PATTERNS = {
+    "a character repeated over its row": (b"", b"\rx\x1b[65535b"),
+    "a wide character repeated": (b"", "\r漢\x1b[65535b".encode()),
+    "a character repeated in insert mode": (b"\x1b[4h", b"\rx\x1b[65535b"),
+    "tabs without stops": (b"\x1b[3g", b"\r\t"),
+    "tabs forward and back": (b"", b"\x1b[65535I\x1b[65535Z"),
+    "marks": (b"a", "\u0301".encode()),
+    "marks on a character": (b"", "a\u0301\u0302".encode()),
+    "line feeds": (b"", b"\n"),
+    "letters, each in a line": (b"", b"x\n"),
+    "scrolls of all lines": (b"", b"\x1b[65535S"),
+    "scrolls down": (b"", b"\x1b[65535T"),
+    "reverse index at the top": (b"", b"\x1bM"),
+    "a screen full of E, and reverse index": (b"", b"\x1b#8\x1bM"),
+    "lines inserted": (b"\x1b[H", b"\x1b[65535L"),
+    "characters inserted": (b"", b"\x1b[65535@"),
+    "erased screens": (b"", b"\x1b[2J"),
+    "erased screens, in colours": (b"", b"\x1b[41m\x1b[2J\x1b[42m\x1b[2J"),
+    "resets": (b"", b"\x1bc"),
+    "the alternate screen": (b"", b"\x1b[?1049h\x1b[?1049l"),
+    "links in a screen": (b"", b"\x1b]8;;http://a\x07x"),
+    "long links in a screen": (b"", b"\x1b]8;;https://" + b'"' * 1000 + b"\x07x\n"),
+    "long links on a line feed each": (b"\x1b]8;;https://" + b'"' * 1000 + b"\x07", b"x\n"),
+    "moves to the corners": (b"", b"\x1b[1;1Hx\x1b[999;999Hy"),
+}
 # What the search puts in.
 PARTS = [
     b"x", b"&", b'"', b"\r", b"\n", b"\t", b"\xff", b"\xf0\x9f", b"\xc2\x80", b"\x1b", b"\x18", b"\x07", b";", b":", b"m", b"0", b"\x9c",
     b"\x1b[m", b"\x1b[7m", b"\x1b[27m", b"\x1b[1;4:3;9;53m", b"\x1b[2;38;2;1;2;3m", b"\x1b[48;5;200m", b"\x1b[31m", b"\x1b]8;;\x07",
     b"\x1b]8\x07", b"\x1b]8;;mailto:&\x07", b"\x1b]8;;https://" + b'"' * 100 + b"\x07", b"\x1b]0;a\x07", b"\x1bPq", b"\x1b\\", b"\x1b(B", LONG,
 ]
+# And for screens.
+SCREEN_PARTS = [
+    b"\r\n", b"\x1b[65535b", b"\x1b[65535I", b"\x1b[65535Z", b"\x1b[4h", b"\x1b[65535@", b"\x1b[65535P", b"\x1b[65535L", b"\x1b[65535M",
+    b"\x1b[65535S", b"\x1b[65535T", b"\x1bM", b"\x1b[H", b"\x1b[9;9H", b"\x1b[2J", b"\x1b[K", b"\x1b[3g", b"\x1bH", b"\x1b#8", b"\x1bc",
+    b"\x1b[?1049h", b"\x1b[?1049l", b"\x1b[2;9r", b"\x1b[?6h", b"\x1b7", b"\x1b8", "漢".encode(), "\u0301".encode(), "😀".encode(),
+]
+
+
+def is_of_a_screen(command):
+    return "ansi2screen" in command[0] or any(word.startswith("--shown") for word in command)
 
 
 def stream(pattern, size):
@@ -81,20 +119,20 @@ def cost(command, data, empty):
     return work / len(data), output / len(data)
 
 
-def changed(pick, pattern):
+def changed(pick, pattern, parts):
     """A pattern with a part changed, left out, doubled or put in."""
     begin, unit = (bytearray(it) for it in pattern)
     for _ in range(pick.randint(1, 3)):
         at = unit if pick.random() < 0.8 else begin
         place, way = pick.randint(0, len(at)), pick.randrange(4)
         if way == 0:
-            at[place:place] = pick.choice(PARTS)
+            at[place:place] = pick.choice(parts)
         elif way == 1:
             del at[place : place + pick.randint(1, 8)]
         elif way == 2:
             at[place:place] = at[place : place + pick.randint(1, 16)]
         else:
-            at[place : place + pick.randint(1, 4)] = pick.choice(PARTS)
+            at[place : place + pick.randint(1, 4)] = pick.choice(parts)
     return bytes(begin)[:4096], bytes(unit)[:4096] or b"x"
 
 
@@ -102,13 +140,14 @@ def searched(command, rounds, size, pick):
     """Each pattern with what it costs: those above, and those that the search makes of the dearest ones."""
     empty = measure.instructions(command, os.devnull)
     found = []
-    for name, pattern in PATTERNS.items():
+    patterns, parts = (PATTERNS | SCREEN_PATTERNS, PARTS + SCREEN_PARTS) if is_of_a_screen(command) else (PATTERNS, PARTS)
+    for name, pattern in patterns.items():
         found.append((*cost(command, stream(pattern, size), empty), name, pattern))
         yield found[-1]
     for _ in range(rounds):
         by = pick.randrange(2)
         best = sorted(found, key=lambda it: it[by])[-6:]
-        pattern = changed(pick, pick.choice(best)[3])
+        pattern = changed(pick, pick.choice(best)[3], parts)
         found.append((*cost(command, stream(pattern, size), empty), "found", pattern))
         if any(found[-1][at] > best[-1][at] for at in range(2)):
             yield found[-1]
@@ -128,7 +167,7 @@ def main():
         print(said)
         pick = random.Random(words.seed)
         for work, output, name, (begin, unit) in searched(shlex.split(said), words.search, words.bytes, pick):
-            is_named = name in PATTERNS
+            is_named = name in PATTERNS or name in SCREEN_PATTERNS
             print("%9.1f %8.2f  %s" % (work, output, name if is_named else "%s: %r, %r" % (name, begin[-60:], unit[:120])), flush=True)
 
 

@@ -8,7 +8,9 @@ _arguments \
     '--light[colours for light pages alone]' \
     '--dark[colours for dark pages alone]' \
     '--classes[attributes class in place of style]' \
-    '--stylesheet[write the stylesheet of these classes]' \
+    '--lines[write lines that can be linked to, with numbers]' \
+    '--scroll[wrap no long lines]' \
+    '--stylesheet[write the stylesheet of classes and lines]' \
     '--shown=-[write what a terminal of 80x24, or of this size, showed]::COLUMNSxROWS:' \
     '(-o --output)'{-o,--output=}'[write to this file in place of standard output]:FILE:_files' \
     '(- *)'{-h,--help}'[say what it does]' \

@@ -1,4 +1,4 @@
-/* What filter.c and page.c share: the word that they are given, and a loop that reads, feeds and writes. */
+/* What filter.c, page.c and safe.c share: the word that they are given, and a loop that reads, feeds and writes. */
 #include <errno.h>
 #include <stdbool.h>
 #include <stdio.h>

@@ -2,8 +2,8 @@
  *
  * A stream comes in pieces of any size, cut anywhere: the screen after it is the same. No input is refused. Memory is
  * taken by ansi_screen_open, ansi_screen_open_with and ansi_screen_copy (malloc), and given back by ansi_screen_close (free);
- * by ansi_screen_draw and ansi_screen_update while they work; and by no other call. The library has no data of its own:
- * threads may call it at the same time, each with a screen of its own.
+ * by ansi_screen_draw, ansi_screen_update and ansi_screen_html while they work; and by no other call. The library has no data
+ * of its own: threads may call it at the same time, each with a screen of its own.
  *
  *     ansi_screen screen = {0};
  *     unsigned char text[ANSI_SCREEN_ROW_ROOM(80)];
@@ -19,7 +19,7 @@
  * is to memory of its own that lives as long as the call; it is not null, also where the size beside it is 0; and no two
  * of the pieces of memory overlap. Nothing is kept of a pointer after the call.
  *
- * Not there: changing a screen's size, titles, answers to the host, and the targets of links.
+ * Not there: changing a screen's size, titles, and answers to the host.
  */
 #ifndef ANSI_SCREEN_H
 #define ANSI_SCREEN_H
@@ -45,6 +45,9 @@ extern "C" {
  * of four bytes each at most. */
 #define ANSI_SCREEN_ROW_ROOM(columns) (12 * (size_t)(columns))
 #define ANSI_SCREEN_TEXT_ROOM(columns, rows) ((12 * (size_t)(columns) + 1) * (size_t)(rows))
+
+/* The room in which the URI of a link always fits. */
+#define ANSI_SCREEN_LINK_ROOM 1035
 
 /* A screen, or none, in 8 bytes: zero bytes are none (`= {0}` in C, `= {}` in C++). It may be moved in memory, but is not copied
  * (ansi_screen_copy makes a screen of its own): of two copies of the struct one is used, and closed. It is passed to one call
@@ -178,7 +181,13 @@ bool ansi_screen_part_text(ansi_screen *screen, size_t row, size_t start, size_t
 /* All of the screen: each row without the blanks at its end, and a line feed; without the blank rows at the end. */
 bool ansi_screen_text(ansi_screen *screen, unsigned char *room, size_t size, size_t *written);
 
-/* The two that follow write bytes to the front of `room`, and how many there are to `written`, as those of text do. They take
+/* The URI of a link, by the number that a cell has (`link`): it begins with https://, http:// or mailto:, and has bytes from 21 to
+ * 7E alone, ANSI_SCREEN_LINK_ROOM of them at most. Of a stream the last 1,024 links that began are kept. Where none is kept of
+ * the number, or the URI is another one or was cut, it has no bytes: it answers true, and `written` is 0. RIS begins the numbers
+ * anew: that of a row that left before it may be another link's by then. */
+bool ansi_screen_link(ansi_screen *screen, uint32_t number, unsigned char *room, size_t size, size_t *written);
+
+/* The three that follow write bytes to the front of `room`, and how many there are to `written`, as those of text do. They take
  * as much memory while they work (malloc), and give it back; where there is none, they answer false, and `written` is 0. */
 
 /* The bytes after which any terminal of its size shows the screen, whatever it showed before: all but links and which rows go
@@ -188,6 +197,13 @@ bool ansi_screen_draw(ansi_screen *screen, unsigned char *room, size_t size, siz
 /* The bytes after which a terminal that shows the one screen, as a drawing or an update leaves it, shows the other: what
  * differs. Answers false, and `written` is 0, where they have different sizes. */
 bool ansi_screen_update(ansi_screen *shown, ansi_screen *wanted, unsigned char *room, size_t size, size_t *written);
+
+/* What the screen shows as HTML, which a page has after `<pre>` and a newline: each character in the style of its cell, and in
+ * its link; a row that goes on and the next one are one line, and what was never printed at the end of a row and of the screen
+ * is left out. As long as no row has left, that is what ansi2html(1) writes with --shown, but for the main screen, which this
+ * leaves out where the alternate one shows. `styling` is 0 for light and dark pages, 1 for light ones, 2 for dark ones, and 3 for
+ * classes in place of styles, as in ansi_html.h; any other number is 0. */
+bool ansi_screen_html(ansi_screen *screen, unsigned char styling, unsigned char *room, size_t size, size_t *written);
 
 /* Answers whether both screens show the same: as many columns and rows, the same cells, the cursor, with the style of what comes
  * next, and modes. What is not told here does not count, as margins, tabs and rows that left. */

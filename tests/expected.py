@@ -3,9 +3,11 @@ each digest of a random stream comes from the sources of the Rust crate (docs/DE
 
 import hashlib
 
-from expected_pages import ADDRESS, DARK_TITLED_HEAD, LIGHT_HEAD, LINKED_HEAD, PAGE_HEAD, PAGE_TAIL, TITLE, TITLED_HEAD
+from expected_pages import ADDRESS, DARK_LINED_HEAD, DARK_TITLED_HEAD, LIGHT_HEAD, LIGHT_LINED_HEAD, LINED_HEAD, LINKED_HEAD
+from expected_pages import PAGE_HEAD, PAGE_TAIL, SCROLLED_HEAD, TITLE, TITLED_HEAD, line_rows, numbered
 from expected_shown import SHOWN_HOSTILE, SHOWN_NARROW_ROWS, SHOWN_ROWS
 from hostile_streams import BLOCK, SIZE, stream, text, times
+from log_rows import BEGUN_ROWS, LINES_CUT, READ_ROWS, RETURN_ROWS
 from open_strings import said
 from safe_rows import SAFE_ROWS, SAFE_SHOWN_ROWS
 
@@ -13,17 +15,19 @@ from safe_rows import SAFE_ROWS, SAFE_SHOWN_ROWS
 class Program:
     """A filter of standard input: the words that it refuses, each with the line that it says then;
     its modes; its own options, where it has options; the words with which it writes fragments
-    or a whole page of HTML, if it does; those by which it writes a text of its own, and reads nothing; and with which
-    words it is given files, each beside those by which it writes a text alone, with nothing around it."""
+    or a whole page of HTML, if it does; those by which it writes a text of its own, and reads nothing; with which
+    words it is given files, each beside those by which it writes a text alone, with nothing around it; and those by
+    which it follows a stream."""
 
-    def __init__(self, name, refused, modes, options=None, fragments=(), page=None, written=(), files=()):
+    def __init__(self, name, refused, modes, options=None, fragments=(), page=None, written=(), files=(), following=()):
         self.name, self.refused, self.modes, self.options = name, refused, modes, options
-        self.fragments, self.page, self.written, self.files = fragments, page, written, files
+        self.fragments, self.page, self.written, self.files, self.following = fragments, page, written, files, following
 
 
 class Mode:
     """The words that choose it; rows of what is read and the text for it, by their names; a
-    line and its text, which does not depend on what came before; hostile streams, each with
+    line and its text, which does not depend on what came before, or a function of its number that makes it; hostile streams,
+    each with
     its text or the digest of it; and what is written before and after each text. `stays` says
     that each text is its own text; `cut` is a stream, and what is written of the bytes before
     each of its bytes, and of all of them; `waits` says that lines may be written at the end alone, and
@@ -36,6 +40,14 @@ class Mode:
 
     def whole(self, text):
         return self.head + text + self.tail
+
+    def numbers_lines(self):
+        return callable(self.line[1])
+
+    def times(self, count, before=0):
+        """The text of the line COUNT times, after so many of them."""
+        text = self.line[1]
+        return b"".join(map(text, range(before + 1, before + count + 1))) if self.numbers_lines() else text * count
 
     def said(self, program, blocks):
         """What the program says of standard input that comes in these blocks."""
@@ -63,14 +75,15 @@ ESCAPES = stream(b"", b"\x1b", b"c")
 LEADS = stream(b"", b"\xf0")
 ZEROS = b";".join([b"0"] * 32)
 
-# Each lead byte but the last breaks the one before it.
+# Each lead byte but the last breaks the one before it; for who reads a log the last is broken off at the end.
 BROKEN = SIZE - 1
 # Of what the Rust crate's sources, with the byte that breaks a character handled again, make of
 # random_bytes: its lines, its canonical text, its stripped text. (That is without DEL and U+0080 to
-# U+009F: made of the lines by a few lines of Python, which with these make the text of those sources.)
+# U+009F: made of the lines by a few lines of Python, which with these make the text of those sources; since it is that of
+# what a reader reads, of tests/as_read.py's text of these bytes.)
 LOG_DIGEST = "5c1b5f4578fd31fa299e2a1796cde637ca24e4d72537ed3385a279dda09c02a1"
 CANON_DIGEST = "c05a13fefff40f87c445126e531c1f2f69cfea6bcd5a64bc3b0ba643cc09c535"
-STRIP_DIGEST = "dbe82af2371a4a50078986ed81acbba692ae051b7dbcde1fc744e4881c68aa77"
+STRIP_DIGEST = "7cc7a6e916345efa0f55c3ec8df202a44ef2b97e796922ad04bd50309c9db70b"
 
 
 def lines(*them):
@@ -326,25 +339,32 @@ STRIP_ROWS = [
     ("DEL between characters of several bytes", b"\xe2\x82\xac\x7f\xc2\xa9\x7f", b"\xe2\x82\xac\xc2\xa9"),
     ("U+0085 in a sequence and behind it", b"\x1b[1\xc2\x85mx\xc2\x85\n", b"x\n"),
     ("a character broken by U+009B", b"\xe2\x82\xc2\x9b1m", b"\xef\xbf\xbd1m"),
-    ("bytes of one, but of two characters", b"\xc3\x82\xc2\xa0\xdf\x9b\xc2", b"\xc3\x82\xc2\xa0\xdf\x9b"),
+    ("bytes of one, but of two characters", b"\xc3\x82\xc2\xa0\xdf\x9b\xc2", b"\xc3\x82\xc2\xa0\xdf\x9b\xef\xbf\xbd"),
     ("a broken character", b"\xc3(", b"\xef\xbf\xbd("),
     ("a character broken by a sequence", b"\xc3\x1b[mA", b"\xef\xbf\xbdA"),
     ("text, stripped again", b"hi\n\xc2\xa0\xef\xbf\xbd(", b"hi\n\xc2\xa0\xef\xbf\xbd("),
     ("controls", b"a\tb\x0bc\x0cd\x08e\x00", b"a\tbcde"),
     ("characters", b"\xe2\x82\xac\xf0\x9f\x98\x80", b"\xe2\x82\xac\xf0\x9f\x98\x80"),
-    ("bytes that begin no character", b"a\xff\xc0b", b"ab"),
+    ("bytes that begin no character", b"a\xff\xc0b", b"a\xef\xbf\xbd\xef\xbf\xbdb"),
     ("a link", b"\x1b]8;;http://a/\x1b\\link\x1b]8;;\x1b\\!", b"link!"),
     ("layout in a device control string", b"\x1bPq\n\t\rA", b""),
     ("strings of no call", b"\x1b_a\x9c\x1b^b\x9c\x1bXc\x9cd", b"d"),
     ("escape sequences", b"\x1b(B\x1b7\x1bM.", b"."),
     ("an unfinished sequence", b"text\x1b[3", b"text"),
     ("a character broken by a command", b"\xe2\x82\x1b]0;x\x07\n", b"\xef\xbf\xbd\n"),
+    *READ_ROWS,
+    *BEGUN_ROWS,
+    ("BEL in a control sequence and in text", b"\x1b[\x071mc\x07\n", b"c\n"),
+    ("a string that CAN breaks off", b"\x1b_h\x18i\n", b"i\n"),
 ]
+
+# What --lf writes: of these rows CR LF alone is another text. As dos2unix does it, one CR goes before each LF, and of CR alone none.
+LINES_ROWS = [(name, given, text.replace(b"\r\n", b"\n")) for name, given, text in STRIP_ROWS] + RETURN_ROWS
 
 STRIP_CUT = (b"\x1b[31mhi\x07\x1b[0m\n", [b""] * 6 + [b"h"] + [b"hi"] * 6 + [b"hi\n"])
 
 STRIP_HOSTILE = [
-    (name, blocks, text(b"") if name != "lead bytes" else times(b"\xef\xbf\xbd", BROKEN))
+    (name, blocks, text(b"") if name != "lead bytes" else times(b"\xef\xbf\xbd", SIZE))
     for name, blocks, _ in LOG_HOSTILE[:-1]
 ] + [
     ("random bytes", random_bytes, STRIP_DIGEST),
@@ -408,7 +428,14 @@ def html_rows(scheme):
         ("references", b"&amp;&#60;", b"&amp;amp;&amp;#60;"),
         ("characters", "n\u00e4\u00efve \u20ac \U0001f600".encode(), "n\u00e4\u00efve \u20ac \U0001f600".encode()),
         ("a character broken by markup", b"\xc3<b", "\ufffd&lt;b".encode()),
-        ("bytes that begin no character", b"\xffa\x80\x9bb", b"ab"),
+        ("bytes that begin no character", b"\xffa\x80\x9bb", "\ufffdab".encode()),
+        *(row for row in READ_ROWS if b"\x1b[" not in row[1]),
+        *BEGUN_ROWS,
+        (
+            "a stamp that BEL ends, and a byte of no character in colour",
+            b"\x1b_bk;t=17\x07\x1b[31m\xe4\x1b[m\xa0\n",
+            span(shades(b"#cf222e", b"#ff7b72"), b"\xef\xbf\xbd") + b"\xef\xbf\xbd\n",
+        ),
         ("controls", b"a\x00\x07\x08\x0bb", b"ab"),
         ("a script in a title", b"\x1b]0;<script>alert(1)</script>\x07x", b"x"),
         ("a script in a link", b"\x1b]8;;javascript:alert(1)\x1b\\link\x1b]8;;\x1b\\", b"link"),
@@ -589,6 +616,13 @@ HTML_CUT = (b"\x1b[31mh\x1b[1mi", [b""] * 6 + [RED] * 5 + [RED + BOLD_RED])
 
 HTML_HOSTILE = STRIP_HOSTILE[:-1]
 
+LINE_LINK = b'<a rel="nofollow noreferrer" href="http://a/" %s="%s">%s</a>'
+LINE_ROWS = line_rows(
+    lambda text: span(themed(BOTH, b"color", b"#cf222e", b"#ff7b72"), text),
+    lambda text: LINE_LINK % (b"style", b"color:inherit;", text),
+)
+LINE_CLASS_ROWS = line_rows(lambda text: classed(b"f1", text), lambda text: LINE_LINK % (b"class", b"ansi-link", text))
+
 NO_LANGUAGE = b"ansi2html: a language is a tag of letters, digits and hyphens, as en or pt-BR, 64 at most (see ansi2html --help)"
 
 
@@ -644,20 +678,23 @@ PROGRAMS = [
     ),
     Program(
         "ansi2text",
-        refused_by("ansi2text", ["--page"], ["--Shown"], ["--shown80x24"])
+        refused_by("ansi2text", ["--page"], ["--Shown"], ["--shown80x24"], ["--LF"], ["--lf=1"])
         + [([word], wrong_size(b"ansi2text")) for word in ("--shown=", "--shown=1x1", "--shown=80", "--shown=80x1001", "--shown==80x24")]
         + [(["--shown", "--shown=0x0"], wrong_size(b"ansi2text"))]
         + [(["--safe", "--shown=1x1"], wrong_size(b"ansi2text"))],
         [
             Mode([], STRIP_ROWS, (b"\x1b[1mA\n", b"A\n"), STRIP_HOSTILE, stays=True, cut=STRIP_CUT),
+            Mode(["--lf"], LINES_ROWS, (b"\x1b[1mA\r\n", b"A\n"), STRIP_HOSTILE[:-1], cut=LINES_CUT),
             Mode(["--safe"], SAFE_ROWS, (b"\x1b[1mA<\r\n", b"A<\n"), []),
+            Mode(["--lf", "--safe"], SAFE_ROWS, (b"\x1b[1mA<\r\n", b"A<\n"), []),
             Mode(["--shown"], SHOWN_ROWS, (b"\x1b[1mA\n", b"A\n"), SHOWN_HOSTILE, stays=True, waits=True),
+            Mode(["--shown", "--lf"], SHOWN_ROWS, (b"\x1b[1mA\r\n", b"A\n"), [], stays=True, waits=True),
             Mode(["--safe", "--shown=9x9"], SAFE_SHOWN_ROWS, (b"\x1b[1mA<\r\n", b"A<\n"), [], waits=True),
             Mode(["--shown=9x9", "--shown=80x24"], SHOWN_ROWS[-3:], (b"A\b\n", b"A\n"), [], stays=True, waits=True),
             Mode(["--shown=20x6"], SHOWN_NARROW_ROWS, (b"A\b\n", b"A\n"), [], stays=True, waits=True),
         ],
-        options=["--safe", "--shown", "--shown=COLUMNSxROWS", "--output=FILE"],
-        files=[([], []), (["--safe"], ["--safe"]), (["--shown"], ["--shown"])],
+        options=["--safe", "--lf", "--shown", "--shown=COLUMNSxROWS", "--output=FILE"],
+        files=[([], []), (["--lf"], ["--lf"]), (["--safe"], ["--safe"]), (["--shown"], ["--shown"])],
     ),
     Program(
         "ansi2html",
@@ -671,6 +708,11 @@ PROGRAMS = [
         + [(words, NO_LANGUAGE) for words in (["--lang=\xe9"], ["--page", "--lang", "en_GB"])]
         + [(["--page", word], wrong_size(b"ansi2html")) for word in ("--shown=", "--shown=1x1", "--shown=1001x24")]
         + [(["--stylesheet", "--shown=0x0"], wrong_size(b"ansi2html"))]
+        + [(words, b"ansi2html: lines are those of one file (see ansi2html --help)") for words in (["--lines", "a", "b"], ["-", "--lines", "--page", "-"])]
+        + [
+            (words, b"ansi2html: --lines and --shown are not taken together (see ansi2html --help)")
+            for words in (["--lines", "--shown"], ["--shown=9x9", "--page", "--lines"])
+        ]
         + [(words, b"ansi2html: --stylesheet reads no file (see ansi2html --help)") for words in (["--stylesheet", "log"], ["-", "--stylesheet"])],
         [
             Mode(words, html_rows(scheme) if scheme else CLASS_ROWS, (b"\x1b[mA\n", b"A\n"), hostile, head, tail, cut=cut)
@@ -694,6 +736,17 @@ PROGRAMS = [
             )
         ]
         + [
+            Mode(words, rows, (b"\x1b[mA<\n", lambda number: numbered(number, b"A&lt;\n")), [], head, tail)
+            for words, rows, head, tail in (
+                (["--lines"], LINE_ROWS, b"", b""),
+                (["--lines", "--page", "--lines"], LINE_ROWS, LINED_HEAD, PAGE_TAIL),
+                (["--lines", "--classes", "--css=" + ADDRESS], LINE_CLASS_ROWS, LINKED_HEAD, PAGE_TAIL),
+                (["--light", "--lines", "--page"], LINE_ROWS[:5], LIGHT_LINED_HEAD, PAGE_TAIL),
+                (["--page", "--scroll", "--dark", "--lines"], LINE_ROWS[:5], DARK_LINED_HEAD, PAGE_TAIL),
+            )
+        ]
+        + [Mode(["--scroll", "--page"], html_rows(BOTH)[:5], (b"\x1b[mA<\n", b"A&lt;\n"), [], SCROLLED_HEAD, PAGE_TAIL)]
+        + [
             Mode(words, rows, (b"\x1b[mA<\n", b"A&lt;\n"), [], head, tail, waits=True)
             for words, rows, head, tail in (
                 (["--shown"], SHOWN_HTML_ROWS, b"", b""),
@@ -705,7 +758,8 @@ PROGRAMS = [
             )
         ],
         options=[
-            *("--page", "--title=TEXT", "--css=ADDRESS", "--lang=TAG", "--light", "--dark", "--classes", "--stylesheet"),
+            *("--page", "--title=TEXT", "--css=ADDRESS", "--lang=TAG", "--light", "--dark", "--classes", "--lines", "--scroll"),
+            "--stylesheet",
             *("--shown", "--shown=COLUMNSxROWS", "--output=FILE"),
         ],
         files=[([], []), (["--page"], []), (["--shown", "--page"], ["--shown"])],
@@ -729,5 +783,6 @@ PROGRAMS = [
         [],
         options=["--size=COLUMNSxROWS", "--draw", "--updates", "--output=FILE"],
         files=[([], [])],
+        following=[["--updates"]],
     ),
 ]

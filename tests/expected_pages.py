@@ -47,7 +47,54 @@ LINKED_HEAD = b"""\
 <pre>
 """
 
+# Lines that can be linked to (HTML, 3.2.6 and 7.4.6.4): each is one element of the text, whose `id` is L and its number, with a
+# link of no text to itself that has the number in an attribute, which the page's rules draw.
+def numbered(number, html):
+    return b'<span id="L%d"><a href="#L%d" data-line="%d"></a>%s</span>' % (number, number, number, html)
+
+
+LINE_RULES = b"""\
+pre > [id^=L] { display: block; padding-left: 9ch; }
+pre > [id^=L]:target { box-shadow: inset 4px 0 #bf8700; }
+[data-line] { float: left; margin-left: -8ch; min-width: 7ch; text-align: right; text-decoration: none; %s }
+[data-line]::before { content: attr(data-line); }
+"""
+NUMBER_COLORS = {
+    b"both": b"color: #59636e; color: light-dark(#59636e, #9198a1);",
+    b"light": b"color: #59636e;",
+    b"dark": b"color: #9198a1;",
+}
+TEXT_RULE = b"pre { white-space: pre-wrap; overflow-wrap: anywhere; }\n"
+SIGHT_RULE = b"pre > [id^=L] { content-visibility: auto; contain-intrinsic-height: auto 1lh; }\n"
+LINED_HEAD = PAGE_HEAD.replace(TEXT_RULE, LINE_RULES % NUMBER_COLORS[b"both"] + SIGHT_RULE + TEXT_RULE)
+SCROLLED_HEAD = PAGE_HEAD.replace(TEXT_RULE, b"pre { white-space: pre; }\n")
+
 # The same for light pages alone, and for dark ones: black on white, and white on Chromium's dark ground.
 ROOT = b":root { color-scheme: light dark; }"
 LIGHT_HEAD = PAGE_HEAD.replace(ROOT, b":root { color-scheme: light; color: #000000; background-color: #ffffff; }")
 DARK_TITLED_HEAD = TITLED_HEAD.replace(ROOT, b":root { color-scheme: dark; color: #ffffff; background-color: #121212; }")
+LIGHT_LINED_HEAD = LIGHT_HEAD.replace(TEXT_RULE, LINE_RULES % NUMBER_COLORS[b"light"] + SIGHT_RULE + TEXT_RULE)
+DARK_LINED_HEAD = PAGE_HEAD.replace(ROOT, b":root { color-scheme: dark; color: #ffffff; background-color: #121212; }").replace(
+    TEXT_RULE, LINE_RULES % NUMBER_COLORS[b"dark"] + b"pre { white-space: pre; }\n"
+)
+
+
+def line_rows(red, link):
+    """Rows in lines. What `red` makes of a text is its span, and what `link` makes of one its link to http://a/."""
+    return [
+        ("nothing", b"", b""),
+        ("a line", b"a<\n", numbered(1, b"a&lt;\n")),
+        ("a last line without its line feed", b"a\nb", numbered(1, b"a\n") + numbered(2, b"b")),
+        ("empty lines", b"\n\na", numbered(1, b"\n") + numbered(2, b"\n") + numbered(3, b"a")),
+        ("ten lines", b"x\n" * 10, b"".join(numbered(n, b"x\n") for n in range(1, 11))),
+        ("a carriage return in a line, and before its end", b"a\rb\r\nc\r", numbered(1, b"a&#13;<br>b&#13;\n") + numbered(2, b"c&#13;")),
+        ("a style over lines", b"\x1b[31mh\n\ni\x1b[m\nj", b"".join(numbered(n, it) for n, it in enumerate((red(b"h\n"), red(b"\n"), red(b"i") + b"\n", b"j"), 1))),
+        ("a style after the last line", b"a\n\x1b[31m", numbered(1, b"a\n")),
+        ("a style that begins at a line feed", b"a\x1b[31m\nb", numbered(1, b"a" + red(b"\n")) + numbered(2, red(b"b"))),
+        (
+            "a link over lines",
+            b"\x1b]8;;http://a/\x07a\n\x1b[31mb\n\x1b]8;;\x07c",
+            numbered(1, link(b"a\n")) + numbered(2, link(red(b"b\n"))) + numbered(3, red(b"c")),
+        ),
+        ("a title among the lines", b"a\n\x1b]0;t\x07\x07b\n", numbered(1, b"a\n") + numbered(2, b"b\n")),
+    ]

@@ -1,6 +1,7 @@
 """What `--shown` must write: each row is worked by hand from the rules of a screen."""
 
 from hostile_streams import text, times
+from log_rows import BEGUN_ROWS, READ_ROWS
 
 CLEAR = b"\x1b[H\x1b[2J\x1b[3J"
 BOX = "┌─┐\n│ │\n└─┘\n".encode()
@@ -46,6 +47,8 @@ SHOWN_ROWS = [
     ("the alternate screen, erased by ED 2", b"a\n\x1b[?1049hb\x1b[2J\x1b[Hc\x1b[?1049ld", b"a\nd\n"),
     ("RIS on the alternate screen", b"a\n\x1b[?1049hb\x1bcc", b"a\nc\n"),
     ("the alternate screen with nothing on it", b"a\n\x1b[?1049h", b"a\n"),
+    *READ_ROWS,
+    *((name, given, text + b"\n") for name, given, text in BEGUN_ROWS),
     ("colours, titles and a broken character", b"\x1b[31m\x1b]0;t\x07a\xc3\x1b[mb\n", b"a\xef\xbf\xbdb\n"),
 ]
 

@@ -157,7 +157,7 @@ def cut_off_cases(rows):
     parts = [
         (b"start\n\x1b]0;title without end\nline2\n", 6),
         (b"a" * 4095 + b"\x1b]0;title", 4095),
-        (b"a" * 5000 + b"\x1b[m\x1b_b\x07c", 5003),
+        (b"a" * 5000 + b"\x1b[m\x1b_bc", 5003),
         (b"a" * 4090 + b"\x1bP1;2;3;4qtext", 4090),
         (b"\x1b]0;title\x1b\\\x1b[1", None),
         (b"\x1bX" + b"a" * 9000, 0),

@@ -12,6 +12,7 @@ import textwrap
 import time
 
 from library_shared import *
+from safe_rows import SAFE_ROWS
 
 # Says which names of the package `import *` lacks.
 LACKING = """
@@ -70,6 +71,11 @@ def built_cases(folder):
     for word, wanted in [("strip", text_of(stream)), ("events", printed_of(stream)), ("cloned", text_of(stream))]:
         done = run([folder + "whole", word], stream)
         yield "cargo: %s of a whole" % word, failure(done) or first_difference(done.stdout, wanted)
+    generated = b"".join(given for _, given, _ in SAFE_ROWS)
+    for word in ("safe", "safe in pieces"):
+        for kind, given in [("sequences", stream), ("rows of safe text", generated), ("what waits", b"a<U")]:
+            done = run([folder + "whole", word], given)
+            yield "cargo: %s of %s" % (word, kind), failure(done) or first_difference(done.stdout, safe_of(given))
     done = run([folder + "whole", "asked"], b"\x1b[1mABCD")
     yield "cargo: the first event comes before more pieces are asked for", failure(done) or first_difference(done.stdout, b"4")
     for styling in ("both", "light", "dark", "classes"):
@@ -133,9 +139,9 @@ FIELDS = {
 WHOLES = [b"\x1b[1mA<", bytearray(b"A"), memoryview(b"A"), 2000 * b"\x1b[1mA"]
 STREAMS = [WHOLES, iter(WHOLES), []]
 TYPES = {  # what type checkers are told that each function takes and gives, with what it is then given
-    ("strip", "str", "str"): ["A", "\x1b[1mA", 2000 * "\x1b[1mA"],
-    ("strip", "_Bytes", "bytes"): WHOLES,
-    ("text_of", "Iterable[_Bytes]", "Iterator[bytes]"): STREAMS,
+    ("strip", "str", "bool", "str"): ["A", "\x1b[1mA", 2000 * "\x1b[1mA"],
+    ("strip", "_Bytes", "bool", "bytes"): WHOLES,
+    ("text_of", "Iterable[_Bytes]", "bool", "Iterator[bytes]"): STREAMS,
     ("to_html", "str", "str", "str"): ["A", "\x1b[1mA", 2000 * "\x1b[1mA"],
     ("to_html", "_Bytes", "str", "bytes"): WHOLES,
     ("html_of", "Iterable[_Bytes]", "str", "Iterator[bytes]"): [WHOLES, iter(WHOLES), []],
@@ -155,17 +161,19 @@ def stub_cases():
     wrong = names ^ {*ansi.__all__, "__version__"}
     yield "Python: types are told of each public name", "not so of %s" % sorted(wrong) if wrong else None
     for it in functions:
-        defaults = [None] * (len(it.args.args) - len(it.args.defaults)) + [default.value for default in it.args.defaults]
+        given = [*it.args.args, *it.args.kwonlyargs]
+        defaults = [default.value for default in [*it.args.defaults, *it.args.kw_defaults]]
+        defaults = [None] * (len(given) - len(defaults)) + defaults
         found = inspect.signature(getattr(ansi, it.name)).parameters.values()
         found = [(of.name, None if of.default is of.empty else of.default) for of in found]
-        is_so = found == list(zip((arg.arg for arg in it.args.args), defaults))
+        is_so = found == list(zip((arg.arg for arg in given), defaults))
         yield "Python: what is told to be given to %s" % it.name, None if is_so else "it takes %s" % found
     unions = {it.targets[0].id: ast.unparse(it.value) for it in told if isinstance(it, ast.Assign)}
     for name, of in (("_Bytes", ["bytes", "bytearray", "memoryview"]), ("_Event", FIELDS)):
         found = re.fullmatch(r"Union\[(.*)\]", unions.get(name, ""))
         is_so = found and set(found[1].split(", ")) == set(of)
         yield "Python: what %s is" % name, None if is_so else "it is %s" % unions.get(name)
-    found = [tuple(ast.unparse(it) for it in (*(arg.annotation for arg in of.args.args), of.returns)) for of in functions]
+    found = [tuple(ast.unparse(it) for it in (*(arg.annotation for arg in [*of.args.args, *of.args.kwonlyargs]), of.returns)) for of in functions]
     found = [(of.name, *types) for of, types in zip(functions, found)]
     yield "Python: what is told to come of what", None if found == list(TYPES) else "it is %s" % found
     for (name, kind, *_, answer), given in TYPES.items():

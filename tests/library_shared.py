@@ -20,6 +20,7 @@ PATIENCE = 60  # seconds that a program has
 
 
 sys.path[:0] = [PYTHON, "%s/bench" % ROOT]
+import as_read
 import measure
 import needs
 import pages
@@ -102,10 +103,17 @@ def text_of(stream):
     return re.sub("[\x7f-\x9f]", "", stripped_of(stream).decode()).encode()
 
 
+def safe_of(stream):
+    """What ansi2text --safe writes, of bytes that it reads as the library does, which reads as a terminal."""
+    done = run(["%s/crates/ansi2text/out/ansi2text" % ROOT, "--safe"], as_read.ignored(stream, b"\x1b[m"))  # (it writes 00 out)
+    done.check_returncode()
+    return done.stdout
+
+
 def html_of(stream, styling="both"):
-    """What ansi2html writes in a styling."""
+    """What ansi2html writes in a styling, of bytes that it reads as the library does, which reads as a terminal."""
     words = [] if styling == "both" else ["--" + styling]
-    done = run(["%s/crates/ansi2html/out/ansi2html" % ROOT, *words], stream)
+    done = run(["%s/crates/ansi2html/out/ansi2html" % ROOT, *words], as_read.ignored(stream))
     done.check_returncode()
     return done.stdout
 

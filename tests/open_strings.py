@@ -2,10 +2,10 @@
 
 import re
 
-# A string that is open at the end: OSC up to BEL; SOS, PM and APC, and DCS after its header, up to 9C; all up to ESC, CAN and
-# SUB (ECMA-48, 8.3.27 and others; xterm's ctlseqs, "Operating System Commands").
+# A string that is open at the end: OSC up to BEL; SOS, PM and APC up to BEL or 9C, and DCS after its header up to 9C; all up to
+# ESC, CAN and SUB (ECMA-48, 8.3.27 and others; xterm's ctlseqs, "Operating System Commands"; as a reader of logs reads them).
 OPEN_STRING = re.compile(
-    rb"\x1b[^\x18\x1a\x1b\x20-\x7e]*(?:\][^\x07\x18\x1a\x1b]*|[X^_][^\x18\x1a\x1b\x9c]*"
+    rb"\x1b[^\x18\x1a\x1b\x20-\x7e]*(?:\][^\x07\x18\x1a\x1b]*|[X^_][^\x07\x18\x1a\x1b\x9c]*"
     rb"|P[^\x18\x1a\x1b\x40-\x7e]*[\x40-\x7e][^\x18\x1a\x1b\x9c]*)\Z"
 )
 ENDS = b"\x07\x18\x1a\x9c"

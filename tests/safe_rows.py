@@ -4,6 +4,8 @@ tests/expected.py.
 Each row is its name, what is read and what is written; a str stands for its UTF-8.
 """
 
+from log_rows import BEGUN_ROWS, READ_ROWS
+
 
 def rows(*them):
     encoded = lambda it: it.encode("utf-8") if isinstance(it, str) else it
@@ -73,6 +75,8 @@ SAFE_ROWS = rows(
     ("a less sign before one that shows nothing", "<\u200bU+", "<<U+200B>U+"),
     ("a less sign before a line feed", b"<\r\nU+", b"<\nU+"),
     ("a less sign before a joiner that stays", "\u0915\u094d\u200d<U\u094d\u200d", "\u0915\u094d\u200d<U\u094d\u200d"),
+    *READ_ROWS,
+    *BEGUN_ROWS,
 )
 
 # On a screen of 9 columns and 9 rows. (A character of no column stands with the one before it.)

@@ -7,6 +7,11 @@ SAID = {
         "answers true where bytes were taken, or where there were none",
         "answers false where count is not 0 and size is below ansi_strip_least_room",
     ],
+    "ansi_safe": [
+        "answers true where bytes were taken, or where there were none",
+        "answers false where count is not 0 and size is below ansi_safe_least_room",
+        "answers false where size is below ansi_safe_end_room",
+    ],
     "ansi_html": [
         "answers true where bytes were taken, or where there were none",
         "answers false where count is not 0 and size is below ansi_html_least_room",
@@ -57,7 +62,7 @@ SAID_IN = {
         "the functions that write text or bytes also do where the room is too small: then written is their length. else it is 0",
         "ansi_screen_row and ansi_screen_history_row do where there is room for fewer cells than the screen has columns",
         "the oldest has the number 0",
-        "ansi_screen_draw and ansi_screen_update also do where there is no memory, and ansi_screen_update where the sizes differ",
+        "ansi_screen_draw, ansi_screen_update and ansi_screen_html also do where there is no memory, and ansi_screen_update where the sizes differ",
     ],
     "bindings/python/src/ansi_proved/event.py": ["its first {MAX_OSC_PARTS} parts, of {MAX_OSC_RAW} bytes in all"],
 }
@@ -69,4 +74,4 @@ MEANT = {
     "READER_GONE": ("nobody reads the output any more",),
 }
 ENDS = "ends with status {FAILED} where reading or writing fails, with {MISUSED} for other words"
-ENDING = ["examples/filter.c", "examples/page.c", "bindings/rust/examples/filter.rs", "bindings/rust/examples/page.rs"]
+ENDING = ["examples/filter.c", "examples/page.c", "examples/safe.c", "bindings/rust/examples/filter.rs", "bindings/rust/examples/page.rs"]

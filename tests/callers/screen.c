@@ -48,6 +48,8 @@ static bool (*const part_text)(ansi_screen *, size_t, size_t, size_t, unsigned c
 static bool (*const text_of)(ansi_screen *, unsigned char *, size_t, size_t *) = ansi_screen_text;
 static bool (*const draw)(ansi_screen *, unsigned char *, size_t, size_t *) = ansi_screen_draw;
 static bool (*const update)(ansi_screen *, ansi_screen *, unsigned char *, size_t, size_t *) = ansi_screen_update;
+static bool (*const link_of)(ansi_screen *, uint32_t, unsigned char *, size_t, size_t *) = ansi_screen_link;
+static bool (*const html_of)(ansi_screen *, unsigned char, unsigned char *, size_t, size_t *) = ansi_screen_html;
 static bool (*const copy_of)(ansi_screen *, ansi_screen *) = ansi_screen_copy;
 static bool (*const are_equal)(ansi_screen *, ansi_screen *) = ansi_screen_equal;
 static bool (*const open_with)(ansi_screen *, size_t, size_t, const ansi_screen_options *) = ansi_screen_open_with;
@@ -500,6 +502,110 @@ static void rows_that_left(void)
     close_screen(&it);
 }
 
+static void link_is(ansi_screen *screen, uint32_t number, const char *wanted)
+{
+    unsigned char room[ANSI_SCREEN_LINK_ROOM];
+    size_t length = strlen(wanted), written = 7;
+
+    memset(room, GUARD, sizeof room);
+    expect(link_of(screen, number, room, length, &written) && written == length && !memcmp(room, wanted, length), wanted);
+    expect(are(room + length, sizeof room - length, GUARD), "past a URI the room is as it was");
+    if (length)
+        expect(!link_of(screen, number, room, length - 1, &written) && written == length, "a byte less is told of it");
+}
+
+/* Links by the numbers that cells have: the last 1,024, and those alone that are shown. The parser stores 1,023 bytes of a command
+ * that is whole, 8 among them, and between its 15 parts stand semicolons, 12 of them within the URI. */
+static void links(void)
+{
+    enum { LONGEST = 1034 };
+    static char uri[LONGEST + 2];
+    ansi_screen it = opened(8, 2), none = {0}, copy = {0};
+    ansi_cell cell;
+    char text[64];
+    unsigned char room[8];
+    size_t written = 7;
+    int i;
+
+    feed_text(&it, "a\033]8;;https://b/c\033\\b\033]8;;javascript:1\033\\c\033]8;id=1;mailto:d\007d\033]8;;\033\\e");
+    expect(cell_of(&it, 0, 1, &cell) && cell.link == 1, "a link has a number");
+    link_is(&it, cell.link, "https://b/c");
+    expect(cell_of(&it, 0, 2, &cell) && cell.link == 2, "another one has another");
+    link_is(&it, cell.link, "");
+    link_is(&it, 3, "mailto:d");
+    link_is(&it, 0, "");
+    link_is(&it, 4, "");
+    link_is(&it, 1025, "");
+    link_is(&it, UINT32_MAX, "");
+    expect(copy_of(&copy, &it), "a screen with links is copied");
+    for (i = 4; i <= 1026; i++) {
+        snprintf(text, sizeof text, "\033]8;;http://%d\033\\", i);
+        feed_text(&it, text);
+    }
+    link_is(&it, 1, "");
+    link_is(&it, 2, "");
+    link_is(&it, 3, "mailto:d");
+    link_is(&it, 1025, "http://1025");
+    link_is(&it, 1026, "http://1026");
+    link_is(&copy, 1, "https://b/c");
+    link_is(&copy, 1025, "");
+    expect(reset(&it), "it is reset");
+    link_is(&it, 3, "");
+    link_is(&it, 1026, "");
+    memset(uri, 'a', LONGEST + 1);
+    memcpy(uri, "https://;;;;;;;;;;;;", 20);
+    for (i = LONGEST; i <= LONGEST + 1; i++) {
+        uri[i] = 0;
+        feed_text(&it, "\033]8;;");
+        feed_text(&it, uri);
+        feed_text(&it, "\033\\");
+        link_is(&it, i - LONGEST + 1, i == LONGEST ? uri : "");
+        uri[i] = 'a';
+    }
+    expect(!link_of(&none, 1, room, sizeof room, &written) && written == 0, "no screen has links");
+    close_screen(&it);
+    close_screen(&copy);
+}
+
+static void html_is(ansi_screen *screen, unsigned char styling, const char *wanted)
+{
+    unsigned char room[ROOM];
+    size_t length = strlen(wanted), written = 7;
+
+    memset(room, GUARD, sizeof room);
+    expect(html_of(screen, styling, room, sizeof room, &written) && written == length && !memcmp(room, wanted, length), wanted);
+    expect(are(room + length, sizeof room - length, GUARD), "past the HTML the room is as it was");
+    expect(html_of(screen, styling, room, length, &written) && written == length, "it fits where it just fits");
+    if (length)
+        expect(!html_of(screen, styling, room, length - 1, &written) && written == length, "a byte less is told of HTML");
+}
+
+/* What shows as HTML: the lines, each in its styles and links. */
+static void pages(void)
+{
+    ansi_screen it = opened(6, 4), none = {0};
+    unsigned char room[8];
+    size_t written = 7;
+
+    html_is(&it, 0, "");
+    feed_text(&it, "a<\r\n\033[1mb\033[m \033[31mc\033[m\r\n123456");
+    html_is(&it, 1, "a&lt;\n<span style=\"font-weight:bold;\">b</span> <span style=\"color:#cf222e;\">c</span>\n123456\n");
+    feed_text(&it, "78");
+    html_is(&it, 3, "a&lt;\n<span class=\"ansi-bold\">b</span> <span class=\"ansi-f1\">c</span>\n12345678\n");
+    feed_text(&it, "\033[2J\033[H\033]8;;http://x\033\\l\033]8;;\033\\\033[31mm");
+    html_is(&it, 2, "<a rel=\"nofollow noreferrer\" href=\"http://x\" style=\"color:inherit;\">l</a><span style=\"color:#ff7b72;\">m</span>\n");
+    html_is(&it, 200, "<a rel=\"nofollow noreferrer\" href=\"http://x\" style=\"color:inherit;\">l</a>"
+                      "<span style=\"color:#cf222e;color:light-dark(#cf222e,#ff7b72);\">m</span>\n");
+    feed_text(&it, "\033[m\033[?1049h\033[2;2Halt\033[3;3H   \033[41m\033[K");
+    html_is(&it, 0, "\n alt\n     \n");
+    feed_text(&it, "\033[?1049l\033c\033[3;6Hxy");
+    html_is(&it, 0, "\n\n     xy\n");
+    expect(reset(&it), "a screen with HTML is reset");
+    html_is(&it, 3, "");
+    expect(!html_of(&none, 0, room, sizeof room, &written) && written == 0, "no screen has HTML");
+    close_screen(&it);
+}
+
 /* Streams that differ in one thing each: each from the first, and from no copy of itself. */
 static void equality(void)
 {
@@ -574,5 +680,7 @@ int main(int count, char **words)
     drawings();
     equality();
     copies();
+    links();
+    pages();
     return failures ? 1 : 0;
 }

@@ -1,6 +1,16 @@
-/* Says how many bytes of the stack ansi_html_feed and ansi_html_end take at most, of a stream on standard input:
- * those that are no more as they were, on a stack of a thread's own. */
+/* Says how many bytes of the stack ansi_html_feed and ansi_html_end take at most, of a stream on standard input, or those of
+ * ansi_safe.h where SAFE is defined: those that are no more as they were, on a stack of a thread's own. */
+#ifdef SAFE
+#include "ansi_safe.h"
+#define STATE ansi_safe
+#define FEED ansi_safe_feed
+#define END ansi_safe_end
+#else
 #include "ansi_html.h"
+#define STATE ansi_html
+#define FEED ansi_html_feed
+#define END ansi_html_end
+#endif
 
 #include <pthread.h>
 #include <stdio.h>
@@ -11,7 +21,7 @@ enum { STACK = 256 << 10, MARK = 0xA5 };
 static _Alignas(4096) unsigned char stack[STACK];
 static unsigned char stream[1 << 20], room[16384];
 static size_t count;
-static ansi_html state;
+static STATE state;
 
 static void *nothing(void *given)
 {
@@ -23,11 +33,11 @@ static void *converted(void *given)
     size_t at = 0, taken, written;
 
     while (at < count) {
-        if (!ansi_html_feed(&state, stream + at, count - at, room, sizeof room, &taken, &written))
+        if (!FEED(&state, stream + at, count - at, room, sizeof room, &taken, &written))
             return NULL;
         at += taken;
     }
-    return ansi_html_end(&state, room, sizeof room, &written) ? given : NULL;
+    return END(&state, room, sizeof room, &written) ? given : NULL;
 }
 
 /* The bytes that a thread touches, or 0 where it does not go well. */

@@ -38,6 +38,23 @@ class Calls(unittest.TestCase):
                 pieces = [stream[at : at + size] for at in range(0, len(stream), size)]
                 self.assertEqual(b"".join(ansi_proved.text_of(pieces)), wanted.encode())
 
+    def test_safe_text(self):
+        rows = [
+            ("\x1b[31ma\u202eb\r\n<U+0041>\x07", "a<U+202E>b\n<U+003C>U+0041><U+0007>"),
+            ("\U0001f468\u200d\U0001f469\u200da<U\r", "\U0001f468\u200d\U0001f469<U+200D>a<U<U+000D>"),
+            (3000 * "\u202e" + "<", 3000 * "<U+202E>" + "<"),
+            ("plain\n", "plain\n"),
+        ]
+        for text, wanted in rows:
+            stream = text.encode()
+            self.assertEqual(ansi_proved.strip(text, safe=True), wanted)
+            self.assertEqual(ansi_proved.strip(stream, safe=True), wanted.encode())
+            for size in (1, 2, 3, 5000):
+                pieces = [stream[at : at + size] for at in range(0, len(stream), size)]
+                self.assertEqual(b"".join(ansi_proved.text_of(pieces, safe=True)), wanted.encode())
+        self.assertEqual(ansi_proved.strip("a\u202e", safe=False), "a\u202e")
+        self.assertEqual(list(ansi_proved.text_of([b"a<", b"b"], safe=True)), [b"a", b"<b"])
+
     def test_html(self):
         self.assertEqual(ansi_proved.to_html(STREAM, "light"), LIGHT.encode())
         self.assertEqual(ansi_proved.to_html(STREAM.decode(), "light"), LIGHT)

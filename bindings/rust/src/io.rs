@@ -1,4 +1,4 @@
-//! Writers, with the feature `std`: what is written to them goes on stripped, as HTML, or to a screen.
+//! Writers, with the feature `std`: what is written to them goes on stripped, as safe text, as HTML, or to a screen.
 //!
 //! ```
 //! use ansi_proved::io::StripWriter;
@@ -12,7 +12,7 @@
 //! A write takes all its bytes. Where the writer below fails, what it did not take of their text or HTML is lost, and the
 //! stream goes on after them.
 
-use crate::{Converter, Stripper, Styling};
+use crate::{Converter, SafeStripper, Stripper, Styling};
 use std::io::{Result, Write};
 
 /// Strips a stream, whose text goes on to a writer.
@@ -47,6 +47,52 @@ impl<W: Write> StripWriter<W> {
 impl<W: Write> Write for StripWriter<W> {
     fn write(&mut self, piece: &[u8]) -> Result<usize> {
         let StripWriter { stripper, inner } = self;
+        stripper.strip(piece, |part| inner.write_all(part))?;
+        Ok(piece.len())
+    }
+
+    fn flush(&mut self) -> Result<()> {
+        self.inner.flush()
+    }
+}
+
+/// Makes a stream text that hides nothing, as [`strip_safe`](crate::strip_safe) does, which goes on to a writer.
+#[derive(Clone, Debug)]
+pub struct SafeWriter<W> {
+    stripper: SafeStripper,
+    inner: W,
+}
+
+impl<W: Write> SafeWriter<W> {
+    pub fn new(inner: W) -> SafeWriter<W> {
+        SafeWriter {
+            stripper: SafeStripper::new(),
+            inner,
+        }
+    }
+
+    pub fn get_ref(&self) -> &W {
+        &self.inner
+    }
+
+    pub fn get_mut(&mut self) -> &mut W {
+        &mut self.inner
+    }
+
+    /// Writes what still waits, and hands the writer below back.
+    pub fn finish(self) -> Result<W> {
+        let SafeWriter {
+            mut stripper,
+            mut inner,
+        } = self;
+        stripper.end(|part| inner.write_all(part))?;
+        Ok(inner)
+    }
+}
+
+impl<W: Write> Write for SafeWriter<W> {
+    fn write(&mut self, piece: &[u8]) -> Result<usize> {
+        let SafeWriter { stripper, inner } = self;
         stripper.strip(piece, |part| inner.write_all(part))?;
         Ok(piece.len())
     }

@@ -1,12 +1,13 @@
 //! Strips terminal output of its escapes, shows it as HTML, or reads it as events, by the proved library.
 //!
-//! [`strip`] and [`to_html`] take the whole, [`Stripper`] and [`Converter`] a stream that comes in pieces;
-//! [`events`] takes pieces, and is an iterator.
+//! [`strip`], [`strip_safe`] and [`to_html`] take the whole, [`Stripper`], [`SafeStripper`] and [`Converter`] a stream that
+//! comes in pieces; [`events`] takes pieces, and is an iterator.
 //!
 //! ```
-//! use ansi_proved::{strip, to_html, Event, Styling};
+//! use ansi_proved::{strip, strip_safe, to_html, Event, Styling};
 //!
 //! assert_eq!(strip("\x1b[31mred\x1b[0m <b>"), "red <b>");
+//! assert_eq!(strip_safe("\x1b[31ma\u{202e}b"), "a<U+202E>b");
 //! assert_eq!(
 //!     to_html("\x1b[1mred\x1b[0m <b>", Styling::Both),
 //!     "<span style=\"font-weight:bold;\">red</span> &lt;b&gt;",
@@ -19,9 +20,10 @@
 //! ```
 //!
 //! With the feature `screen` there is a screen of a terminal too: `screen::Screen`, of a library of its own. With the
-//! feature `std` all three are writers: `io::StripWriter`, `io::HtmlWriter` and `screen::Screen`.
+//! feature `std` all are writers: `io::StripWriter`, `io::SafeWriter`, `io::HtmlWriter` and `screen::Screen`.
 //!
-//! What is not called is not linked. No `std` is needed, but an allocator: `Stripper` and `Converter` take no memory.
+//! What is not called is not linked. No `std` is needed, but an allocator: `Stripper`, `SafeStripper` and `Converter` take
+//! no memory.
 #![no_std]
 
 extern crate alloc;
@@ -42,6 +44,13 @@ pub mod screen;
 struct StripState {
     length: usize,
     pending: [u8; 1042],
+}
+
+#[derive(Clone, Debug)]
+#[repr(C)]
+struct SafeState {
+    length: usize,
+    others: [u8; 1056],
 }
 
 #[derive(Clone, Debug)]
@@ -74,6 +83,23 @@ unsafe extern "C" {
         room: *mut u8,
         size: usize,
         taken: *mut usize,
+        written: *mut usize,
+    ) -> bool;
+
+    fn ansi_safe_feed(
+        state: *mut SafeState,
+        piece: *const u8,
+        count: usize,
+        room: *mut u8,
+        size: usize,
+        taken: *mut usize,
+        written: *mut usize,
+    ) -> bool;
+
+    fn ansi_safe_end(
+        state: *mut SafeState,
+        room: *mut u8,
+        size: usize,
         written: *mut usize,
     ) -> bool;
 
@@ -111,8 +137,9 @@ unsafe extern "C" {
 }
 
 const STRIP_ROOM: usize = 4096;
+const SAFE_ROOM: usize = 16384;
 const HTML_ROOM: usize = 16384;
-const END_ROOM: usize = 11;
+const END_ROOM: usize = 20;
 const EVENTS: usize = 1024;
 const EVENTS_ROOM: usize = 16384;
 
@@ -126,6 +153,10 @@ type Feed<State> = unsafe extern "C" fn(
     taken: *mut usize,
     written: *mut usize,
 ) -> bool;
+
+/// A call of the library that ends a stream by its state, and writes into a room.
+type End<State> =
+    unsafe extern "C" fn(state: *mut State, room: *mut u8, size: usize, written: *mut usize) -> bool;
 
 /// Feeds all of the piece, and hands on what each call writes.
 fn feed_all<State, E>(
@@ -156,6 +187,20 @@ fn feed_all<State, E>(
     Ok(())
 }
 
+/// Ends the stream, and hands on what that writes.
+fn end_with<State, E>(
+    end: End<State>,
+    state: &mut State,
+    write: impl FnOnce(&[u8]) -> Result<(), E>,
+) -> Result<(), E> {
+    let mut room = [0; END_ROOM];
+    let mut written = 0;
+    // The references are to memory of their own, and none of them is kept.
+    let is_ended = unsafe { end(state, room.as_mut_ptr(), room.len(), &mut written) };
+    assert!(is_ended, "the room is too small for any end");
+    write(&room[..written])
+}
+
 /// A stream that is stripped, which goes on with each piece. A clone goes on from where it was cloned.
 #[derive(Clone, Debug)]
 pub struct Stripper(StripState);
@@ -183,6 +228,42 @@ impl Stripper {
         write: impl FnMut(&[u8]) -> Result<(), E>,
     ) -> Result<(), E> {
         feed_all(ansi_strip_feed, &mut self.0, piece, &mut [0; STRIP_ROOM], write)
+    }
+}
+
+/// A stream that becomes text that hides nothing, as `ansi2text --safe` writes it, which goes on with each piece. A clone
+/// goes on from where it was cloned.
+#[derive(Clone, Debug)]
+pub struct SafeStripper(SafeState);
+
+impl Default for SafeStripper {
+    fn default() -> SafeStripper {
+        SafeStripper::new()
+    }
+}
+
+impl SafeStripper {
+    /// The beginning of a stream.
+    pub fn new() -> SafeStripper {
+        SafeStripper(SafeState {
+            length: 0,
+            others: [0; 1056],
+        })
+    }
+
+    /// Hands on the text of the piece, in one part or several, each UTF-8 by itself. Where that
+    /// fails, what was not handed on is lost, and the stream goes on after it.
+    pub fn strip<E>(
+        &mut self,
+        piece: &[u8],
+        write: impl FnMut(&[u8]) -> Result<(), E>,
+    ) -> Result<(), E> {
+        feed_all(ansi_safe_feed, &mut self.0, piece, &mut [0; SAFE_ROOM], write)
+    }
+
+    /// Hands on what still waits: a carriage return, `<`, `<U` or a joiner that came last. Then a stream begins.
+    pub fn end<E>(&mut self, write: impl FnOnce(&[u8]) -> Result<(), E>) -> Result<(), E> {
+        end_with(ansi_safe_end, &mut self.0, write)
     }
 }
 
@@ -224,13 +305,7 @@ impl Converter {
 
     /// Hands on what closes the HTML. Then a stream begins, in the same styling.
     pub fn end<E>(&mut self, write: impl FnOnce(&[u8]) -> Result<(), E>) -> Result<(), E> {
-        let mut room = [0; END_ROOM];
-        let mut written = 0;
-        // The references are to memory of their own, and none of them is kept.
-        let is_ended =
-            unsafe { ansi_html_end(&mut self.0, room.as_mut_ptr(), room.len(), &mut written) };
-        assert!(is_ended, "the room is too small for any end");
-        write(&room[..written])
+        end_with(ansi_html_end, &mut self.0, write)
     }
 }
 
@@ -253,6 +328,16 @@ fn joined(
 /// are left out too.
 pub fn strip(stream: impl AsRef<[u8]>) -> String {
     joined(|write| Stripper::new().strip(stream.as_ref(), write))
+}
+
+/// The text of terminal output that hides nothing, as `ansi2text --safe` writes it: what shows nothing, turns the order of
+/// text round or is a control is written visibly, as `<U+202E>`.
+pub fn strip_safe(stream: impl AsRef<[u8]>) -> String {
+    joined(|write| {
+        let mut stripper = SafeStripper::new();
+        stripper.strip(stream.as_ref(), &mut *write)?;
+        stripper.end(write)
+    })
 }
 
 /// The HTML of terminal output: a fragment for a `<pre>`, right after a newline there.

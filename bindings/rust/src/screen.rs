@@ -19,8 +19,9 @@
 //! ```
 //!
 //! Its library takes memory by `malloc`: in [`Screen::new`], [`Screen::with_history`] and [`Screen::try_clone`], and in
-//! [`Screen::draw`] and [`Screen::update`] while they work.
+//! [`Screen::draw`], [`Screen::update`] and [`Screen::to_html`] while they work.
 
+use crate::Styling;
 use alloc::string::String;
 use alloc::vec::{self, Vec};
 use core::ffi::c_void;
@@ -134,6 +135,22 @@ unsafe extern "C" {
     fn ansi_screen_update(
         shown: *mut Handle,
         wanted: *mut Handle,
+        room: *mut u8,
+        size: usize,
+        written: *mut usize,
+    ) -> bool;
+
+    fn ansi_screen_link(
+        screen: *mut Handle,
+        number: u32,
+        room: *mut u8,
+        size: usize,
+        written: *mut usize,
+    ) -> bool;
+
+    fn ansi_screen_html(
+        screen: *mut Handle,
+        styling: u8,
         room: *mut u8,
         size: usize,
         written: *mut usize,
@@ -364,6 +381,22 @@ impl Screen {
     /// The cells of each row, from the first on.
     pub fn each_row(&mut self) -> impl Iterator<Item = Vec<Cell>> + '_ {
         (0..self.rows).map(|row| self.row(row).collect())
+    }
+
+    /// The URI of a link, by the number that a cell has: it begins with `https://`, `http://` or `mailto:`. Empty where none is
+    /// kept of the number (the last 1,024 are), or the URI is another one or was cut.
+    pub fn link(&mut self, number: u32) -> String {
+        self.read(|handle, room, written| unsafe {
+            ansi_screen_link(handle, number, room.as_mut_ptr(), room.len(), written)
+        })
+    }
+
+    /// What it shows as HTML, to stand after `<pre>` and a newline. Memory is taken while it is made; where there is none, it is
+    /// empty.
+    pub fn to_html(&mut self, styling: Styling) -> String {
+        self.read(|handle, room, written| unsafe {
+            ansi_screen_html(handle, styling as u8, room.as_mut_ptr(), room.len(), written)
+        })
     }
 
     /// The bytes after which any terminal of its size shows this screen: all but links and which rows go on. Memory is

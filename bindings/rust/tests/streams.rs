@@ -1,6 +1,6 @@
 //! The calls of the package, as a user makes them: of wholes, of streams in pieces, and where a writer fails.
 
-use ansi_proved::{events, strip, to_html, Converter, Event, Sequence, Stripper, Styling};
+use ansi_proved::{events, strip, strip_safe, to_html, Converter, Event, SafeStripper, Sequence, Stripper, Styling};
 use std::convert::Infallible;
 
 const STREAM: &[u8] = b"\x1b[31mhi\x1b[0m \xe2\x82\xac<b>\x07\n";
@@ -34,6 +34,31 @@ fn wholes() {
     assert_eq!(strip("\x1b[1mplain"), "plain");
     assert_eq!(strip("a\x7fb\u{9b}1m\u{a0}"), "ab1m\u{a0}");
     assert_eq!(to_html(STREAM, Styling::Light), LIGHT);
+    assert_eq!(strip_safe(STREAM), "hi \u{20ac}<b><U+0007>\n");
+    assert_eq!(strip_safe("a\u{202e}b\r\n\u{9b}<U+0041>"), "a<U+202E>b\n<U+009B><U+003C>U+0041>");
+}
+
+/// What waits for the next character comes with it, or at the end, after which a stream begins.
+#[test]
+fn safe_text_however_it_is_cut() {
+    let (stream, wanted) = ("\u{1f468}\u{200d}\u{1f469}\u{200d}a<U+<U\r\n<U\r", "\u{1f468}\u{200d}\u{1f469}<U+200D>a<U+003C>U+<U\n<U<U+000D>");
+    let mut stripper = SafeStripper::default();
+    for size in 1..=stream.len() {
+        let mut text = Vec::new();
+        for piece in stream.as_bytes().chunks(size) {
+            stripper.strip(piece, into(&mut text)).unwrap();
+        }
+        stripper.end(into(&mut text)).unwrap();
+        assert_eq!(text, wanted.as_bytes(), "in pieces of {size}");
+    }
+    let mut text = Vec::new();
+    stripper.strip(b"a<", into(&mut text)).unwrap();
+    assert_eq!(text, b"a");
+    let mut clone = stripper.clone();
+    clone.strip(b"b", into(&mut text)).unwrap();
+    stripper.strip(b"c", into(&mut text)).unwrap();
+    assert_eq!(text, b"a<b<c");
+    assert!(stripper.strip(b"d", |_| Err(())).is_err() && stripper.end(nowhere).is_ok());
 }
 
 #[test]

@@ -1,7 +1,7 @@
 //! The writers, with the feature `std`.
 #![cfg(feature = "std")]
 
-use ansi_proved::io::{HtmlWriter, StripWriter};
+use ansi_proved::io::{HtmlWriter, SafeWriter, StripWriter};
 use ansi_proved::Styling;
 use std::io::{Error, Result, Write};
 
@@ -45,11 +45,29 @@ fn html_goes_on_and_is_closed() {
 }
 
 #[test]
+fn safe_text_goes_on_and_ends() {
+    let mut writer = SafeWriter::new(Vec::new());
+    for piece in [&b"a\x07<"[..], b"U+", b"\xe2\x80", b"\xae\r"] {
+        assert_eq!(writer.write(piece).unwrap(), piece.len());
+    }
+    writer.flush().unwrap();
+    assert_eq!(writer.get_ref(), b"a<U+0007><U+003C>U+<U+202E>");
+    writer.get_mut().clear();
+    assert_eq!(writer.finish().unwrap(), b"<U+000D>");
+}
+
+#[test]
 fn faults_are_told() {
     let mut writer = StripWriter::new(Full(2));
     assert_eq!(writer.write(b"a").unwrap(), 1);
     assert_eq!(writer.write(b"bc").unwrap_err().to_string(), "full");
     assert_eq!(writer.flush().unwrap_err().to_string(), "no flush");
+    let mut writer = SafeWriter::new(Full(1));
+    assert_eq!(writer.write(b"a\r").unwrap(), 2);
+    assert_eq!(writer.flush().unwrap_err().to_string(), "no flush");
+    assert_eq!(writer.finish().err().unwrap().to_string(), "full");
+    let mut writer = SafeWriter::new(Full(0));
+    assert_eq!(writer.write(b"a").unwrap_err().to_string(), "full");
     let mut writer = HtmlWriter::new(Styling::Dark, Full(0));
     assert_eq!(writer.write(b"\x1b[1m").unwrap(), 4);
     assert!(writer.write(b"a").is_err() && writer.finish().is_err());

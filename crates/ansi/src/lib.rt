@@ -1,5 +1,5 @@
-//! The stripper, the HTML and the calls of a stream in pieces, for C and for what calls C. `include/ansi_strip.h`,
-//! `include/ansi_html.h` and `include/ansi_events.h` declare them, and say what their caller owes.
+//! The stripper, safe text, the HTML and the calls of a stream in pieces, for C and for what calls C. `include/ansi_strip.h`,
+//! `include/ansi_safe.h`, `include/ansi_html.h` and `include/ansi_events.h` declare them, and say what their caller owes.
 #![tactic(auto)]
 
 ghost use Rattle.std.specs.Prelude.{◌≡◌, []};
@@ -10,6 +10,7 @@ ghost use Rattle.html_pieces.specs.State.{styling_in, styling_numbered, StandsFo
 ghost use Rattle.html_pieces.specs.Feed.{Feeds as FeedsHtml, Refuses as RefusesHtml, Ends, RefusesEnd};
 
 mod events;
+mod safe;
 
 use html_pieces::HtmlState;
 use strip_pieces::StreamState;

@@ -1,11 +1,12 @@
 -- What stands around the text.
 --
--- Sources: the HTML standard, 13.1 (the syntax of a page), 3.2.6.2 (`lang`, by which a page is
--- read aloud), 4.2.5.4 (its charset, within the first 1,024 bytes) and 4.4.3 (`pre`); CSS Color
--- Adjustment, 2.1 (a page that is drawn light or dark, as its reader has it); CSS Text, 3 and 5.5
--- (long lines are wrapped, spaces are kept); CSS Viewport, 3 (a phone draws it at its own width); HTML, 4.2.4 (a
--- stylesheet of another file), for which Content Security Policy, 6.1.14, wants no leave for rules of the page's own.
-use Rattle.std.specs.Prelude.{ℕ, List, [], ◌∷◌, ◌++◌, codes, Option, None, Some, option_copied}
+-- Sources: the HTML standard, 13.1 (the syntax of a page), 3.2.6.2 (`lang`, by which a page is read aloud),
+-- 4.2.5.4 (its charset, within the first 1,024 bytes) and 4.4.3 (`pre`); CSS Color Adjustment, 2.1 (a page
+-- that is drawn light or dark, as its reader has it); CSS Text, 3 and 5.5 (long lines are wrapped or not,
+-- spaces are kept); CSS Generated Content, 1.2 and 2 (a number that is no text); CSS Viewport, 3 (a phone
+-- draws it at its own width); HTML, 4.2.4 (a stylesheet of another file), for which Content Security Policy,
+-- 6.1.14, wants no leave for rules of the page's own.
+use Rattle.std.specs.Prelude.{ℕ, Bool, List, [], ◌∷◌, ◌++◌, codes, Option, None, Some, option_copied, if◌then◌else◌}
 use Rattle.std.specs.List.{flat_map}
 use Rattle.ansi_html.specs.declared.scheme.Scheme.{Scheme}
 use Rattle.ansi_html.specs.declared.scheme.Scheme.TheVariants.{Light, Dark, Both}
@@ -59,12 +60,44 @@ abbrev pub page_rules : Styling → Scheme → List ℕ
 page_rules (Inline inline) scheme = []
 page_rules Classes scheme = stylesheet scheme
 
+-- How lines look, of which each is an element of the <pre>: a block that leaves room for its number, with a bar where
+-- it is linked to, and the number, which is drawn of an attribute, so that it is no part of the text. Its colour has
+-- WCAG's contrast of 4.5:1 on the page's ground.
+abbrev pub number_color : Scheme → List ℕ
+number_color Light = codes "color: #59636e;"
+number_color Dark = codes "color: #9198a1;"
+number_color Both = codes "color: #59636e; color: light-dark(#59636e, #9198a1);"
+
+abbrev pub line_rules : Scheme → List ℕ
+line_rules scheme =
+    lines (codes "pre > [id^=L] { display: block; padding-left: 9ch; }" ∷
+    codes "pre > [id^=L]:target { box-shadow: inset 4px 0 #bf8700; }" ∷ [])
+    ++ (codes "[data-line] { float: left; margin-left: -8ch; min-width: 7ch; text-align: right; text-decoration: none; "
+    ++ (number_color scheme ++ lines (codes " }" ∷
+    codes "[data-line]::before { content: attr(data-line); }" ∷ [])))
+
+-- A line that is out of sight is not drawn before it is scrolled to (CSS Containment, 4), but where long lines are not wrapped: there
+-- that would cut them off.
+abbrev pub sight_rule : (scrolls : Bool) → List ℕ
+sight_rule scrolls =
+    if scrolls then []
+    else lines (codes "pre > [id^=L] { content-visibility: auto; contain-intrinsic-height: auto 1lh; }" ∷ [])
+
+abbrev pub page_lines : (has_lines scrolls : Bool) → Scheme → List ℕ
+page_lines has_lines scrolls scheme = if has_lines then line_rules scheme ++ sight_rule scrolls else []
+
+-- Long lines are wrapped, or the page scrolls.
+abbrev pub text_rule : (scrolls : Bool) → List ℕ
+text_rule scrolls =
+    if scrolls then lines (codes "pre { white-space: pre; }" ∷ [])
+    else lines (codes "pre { white-space: pre-wrap; overflow-wrap: anywhere; }" ∷ [])
+
 -- How a page looks, by its own rules: it asks for nothing from elsewhere.
-abbrev pub page_style : Styling → Scheme → List ℕ
-page_style styling scheme =
+abbrev pub page_style : Styling → Scheme → (has_lines scrolls : Bool) → List ℕ
+page_style styling scheme has_lines scrolls =
     lines (codes "<style>" ∷ [])
     ++ (page_colors scheme ++ (page_rules styling scheme
-    ++ lines (codes "pre { white-space: pre-wrap; overflow-wrap: anywhere; }" ∷ codes "</style>" ∷ [])))
+    ++ (page_lines has_lines scrolls scheme ++ (text_rule scrolls ++ lines (codes "</style>" ∷ [])))))
 
 -- By the stylesheet at an address, of which the bytes with a meaning in HTML are references.
 abbrev pub page_link : Scheme → (address : List ℕ) → List ℕ
@@ -72,9 +105,12 @@ page_link scheme address =
     named_scheme scheme
     ++ (codes "<link rel=\"stylesheet\" href=\"" ++ (escaped_text address ++ lines (codes "\">" ∷ [])))
 
-abbrev pub page_looks : Styling → Scheme → (address : Option (List ℕ)) → List ℕ
-page_looks styling scheme None = page_style styling scheme
-page_looks styling scheme (Some address) = page_link scheme address
+abbrev pub looks_by : Styling → Scheme → Said → (address : Option (List ℕ)) → List ℕ
+looks_by styling scheme said None = page_style styling scheme said.has_lines said.scrolls
+looks_by styling scheme said (Some address) = page_link scheme address
+
+abbrev pub page_looks : Styling → Scheme → Said → List ℕ
+page_looks styling scheme said = looks_by styling scheme said (option_copied said.stylesheet)
 
 -- The page as far as its text, with what is said of it, of which the bytes with a meaning in HTML are
 -- references.
@@ -82,7 +118,7 @@ abbrev pub page_head : Styling → Scheme → Said → List ℕ
 page_head styling scheme said =
     before_language ++ (escaped_text said.language.now ++ (before_title
     ++ (escaped_text said.title.now ++ (after_title
-    ++ (page_looks styling scheme (option_copied said.stylesheet) ++ before_text)))))
+    ++ (page_looks styling scheme said ++ before_text)))))
 
 -- the page after its text
 abbrev pub page_tail : List ℕ
@@ -96,3 +132,7 @@ head_of Page styling scheme said = page_head styling scheme said
 abbrev pub tail_of : Form → List ℕ
 tail_of Fragment = []
 tail_of Page = page_tail
+
+-- The stylesheet of sites: the rules of the classes, and those of lines.
+abbrev pub site_rules : Scheme → List ℕ
+site_rules scheme = stylesheet scheme ++ line_rules scheme

@@ -62,3 +62,10 @@ abbrev pub language_of : (words : List (List ℕ)) → Option (List ℕ)
 language_of words =
     let tag = unwrap_or (last_value (codes "--lang=") words) default_language in
     if is_tag tag then Some tag else None
+
+-- The text in lines, where some word is --lines; and long lines that are not wrapped, where one is --scroll.
+abbrev pub asks_for_lines : (words : List (List ℕ)) → Bool
+asks_for_lines words = has_word (codes "--lines") words
+
+abbrev pub asks_to_scroll : (words : List (List ℕ)) → Bool
+asks_to_scroll words = has_word (codes "--scroll") words

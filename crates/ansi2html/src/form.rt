@@ -1,10 +1,9 @@
 //! What stands around the text.
 ghost use Rattle.std.specs.Prelude.{◌≡◌, ◌++◌, ℕ, List, option_copied, IfOk, OnOk};
 ghost use Rattle.anstyle_parse.specs.Io.Output.{Adds, Causes, Writes};
-ghost use Rattle.ansi2html.specs.Page.{page_colors, named_scheme, page_rules, page_style, page_link, page_looks, page_head, head_of, tail_of};
+ghost use Rattle.ansi2html.specs.Page.{page_colors, named_scheme, page_rules, number_color, line_rules, sight_rule, page_lines, text_rule, page_style, page_link, page_looks, page_head, head_of, tail_of, site_rules};
 ghost use Rattle.ansi_html.specs.Html.{escaped_text};
 ghost use Rattle.ansi_html.specs.Reader.{Attributes, Place, in_value, seen_from};
-ghost use Rattle.ansi_html.specs.Stylesheet.{stylesheet};
 
 use ansi_html::{Scheme, Styling, put_stylesheet, put_text};
 use anstyle_parse::io::{Fault, FromWrite, Output, Sink};
@@ -28,6 +27,10 @@ pub struct Said<'a> {
     pub title: &'a str,
     /// Where its stylesheet is, in place of rules of its own.
     pub stylesheet: Option<&'a str>,
+    /// Its text is in lines, which have rules.
+    pub has_lines: bool,
+    /// Long lines are not wrapped.
+    pub scrolls: bool,
 }
 
 /// The title of a page that is given none.
@@ -53,15 +56,13 @@ const AFTER_TITLE: &[u8] = b"</title>\n";
 /// What stands before the rules of a page that has them.
 const BEFORE_RULES: &[u8] = b"<style>\n";
 
-/// What stands behind its colours and rules.
-const AFTER_RULES: &[u8] = br#"pre { white-space: pre-wrap; overflow-wrap: anywhere; }
-</style>
-"#;
+/// What stands after its colours and rules.
+const AFTER_RULES: &[u8] = b"</style>\n";
 
-/// What stands before the address of a stylesheet, behind the colours of the page.
+/// What stands before the address of a stylesheet, after the colours of the page.
 const BEFORE_ADDRESS: &[u8] = br#"<link rel="stylesheet" href=""#;
 
-/// What stands behind the address.
+/// What stands after the address.
 const AFTER_ADDRESS: &[u8] = b"\">\n";
 
 /// The end of the head, to the text. Browsers drop the newline after `<pre>`, so that one
@@ -123,13 +124,77 @@ fn put_value<W: Sink>(output: &mut Output<W>, text: &str)
     put_text(output, text);
 }
 
+/// The colour of the numbers of lines.
+fn number_color(scheme: Scheme) -> &'static [u8]
+    ensures { result.now ≡ number_color scheme }
+{
+    match scheme {
+        Scheme::Light => b"color: #59636e;",
+        Scheme::Dark => b"color: #9198a1;",
+        Scheme::Both => b"color: #59636e; color: light-dark(#59636e, #9198a1);",
+    }
+}
+
+/// The rules of lines before the colour of their numbers.
+const BEFORE_NUMBER_COLOR: &[u8] = br#"pre > [id^=L] { display: block; padding-left: 9ch; }
+pre > [id^=L]:target { box-shadow: inset 4px 0 #bf8700; }
+[data-line] { float: left; margin-left: -8ch; min-width: 7ch; text-align: right; text-decoration: none; "#;
+
+/// The rules of lines after it.
+const AFTER_NUMBER_COLOR: &[u8] = br#" }
+[data-line]::before { content: attr(data-line); }
+"#;
+
+/// Writes the rules of lines.
+fn put_line_rules<W: Sink>(output: &mut Output<W>, scheme: Scheme)
+    ensures { Adds W.Sink (line_rules scheme) output.old output.new }
+{
+    output.put(BEFORE_NUMBER_COLOR);
+    output.put(number_color(scheme));
+    output.put(AFTER_NUMBER_COLOR);
+}
+
+/// What has lines out of sight not drawn; it would cut off long lines that are not wrapped.
+fn sight_rule(scrolls: bool) -> &'static [u8]
+    ensures { result.now ≡ sight_rule scrolls }
+{
+    if scrolls {
+        b""
+    } else {
+        b"pre > [id^=L] { content-visibility: auto; contain-intrinsic-height: auto 1lh; }\n"
+    }
+}
+
+/// Writes the rules of lines, where there are lines.
+fn put_lines<W: Sink>(output: &mut Output<W>, has_lines: bool, scrolls: bool, scheme: Scheme)
+    ensures { Adds W.Sink (page_lines has_lines scrolls scheme) output.old output.new }
+{
+    if has_lines {
+        put_line_rules(output, scheme);
+        output.put(sight_rule(scrolls));
+    }
+}
+
+/// How long lines of the text are drawn.
+fn text_rule(scrolls: bool) -> &'static [u8]
+    ensures { result.now ≡ text_rule scrolls }
+{
+    if scrolls {
+        b"pre { white-space: pre; }\n"
+    } else {
+        b"pre { white-space: pre-wrap; overflow-wrap: anywhere; }\n"
+    }
+}
+
 /// Writes the rules of a page, in its head.
-fn put_style<W: Sink>(output: &mut Output<W>, styling: Styling, scheme: Scheme)
-    ensures { Adds W.Sink (page_style styling scheme) output.old output.new }
+fn put_style<W: Sink>(output: &mut Output<W>, styling: Styling, scheme: Scheme, said: Said<'_>)
+    ensures { Adds W.Sink (page_style styling scheme said.entry.has_lines said.entry.scrolls) output.old output.new }
 {
     output.put(BEFORE_RULES);
     output.put(colors(scheme));
     put_rules(output, styling, scheme);
+    put_lines(output, said.has_lines, said.scrolls, scheme);
+    output.put(text_rule(said.scrolls));
     output.put(AFTER_RULES);
 }
 
@@ -144,16 +209,11 @@ fn put_link<W: Sink>(output: &mut Output<W>, scheme: Scheme, address: &str)
 }
 
 /// Writes what says how a page looks: its rules, or where a stylesheet is.
-fn put_looks<W: Sink>(
-    output: &mut Output<W>,
-    styling: Styling,
-    scheme: Scheme,
-    address: Option<&str>,
-)
-    ensures { Adds W.Sink (page_looks styling scheme (option_copied address.entry)) output.old output.new }
+fn put_looks<W: Sink>(output: &mut Output<W>, styling: Styling, scheme: Scheme, said: Said<'_>)
+    ensures { Adds W.Sink (page_looks styling scheme said.entry) output.old output.new }
 {
-    match address {
-        None => put_style(output, styling, scheme),
+    match said.stylesheet {
+        None => put_style(output, styling, scheme, said),
         Some(address) => put_link(output, scheme, address),
     }
 }
@@ -167,7 +227,7 @@ fn put_head<W: Sink>(output: &mut Output<W>, styling: Styling, scheme: Scheme, s
     output.put(BEFORE_TITLE);
     put_text(output, said.title);
     output.put(AFTER_TITLE);
-    put_looks(output, styling, scheme, said.stylesheet);
+    put_looks(output, styling, scheme, said);
     output.put(BEFORE_TEXT);
 }
 
@@ -207,10 +267,18 @@ impl Form {
     }
 }
 
-/// Writes the stylesheet for pages of the scheme. The writer is handed back, flushed; the answer is that of
-/// a write or of the flush that failed.
+/// Writes the rules of the classes and of lines.
+fn put_site_rules<W: Sink>(output: &mut Output<W>, scheme: Scheme)
+    ensures { Adds W.Sink (site_rules scheme) output.old output.new }
+{
+    put_stylesheet(output, scheme);
+    put_line_rules(output, scheme);
+}
+
+/// Writes the stylesheet for pages of the scheme: the rules of the classes and of lines. The writer is handed back,
+/// flushed; the answer is that of a write or of the flush that failed.
 pub fn write_stylesheet<W: Sink>(scheme: Scheme, writer: W) -> (W, Result<(), Fault>)
-    ensures written { Writes (stylesheet scheme) (W.contents writer) (W.contents result.0) result.1 }
+    ensures written { Writes (site_rules scheme) (W.contents writer) (W.contents result.0) result.1 }
 
     // With Ok nothing of it is held back.
     ensures handed_on { OnOk result.1 (W.holds_nothing result.0) }
@@ -219,6 +287,6 @@ pub fn write_stylesheet<W: Sink>(scheme: Scheme, writer: W) -> (W, Result<(), Fa
     ensures causes { Causes (W.has_failed writer) (W.has_failed result.0) result.1 }
 {
     let mut output = Output::new(writer);
-    put_stylesheet(&mut output, scheme);
+    put_site_rules(&mut output, scheme);
     output.finish()
 }

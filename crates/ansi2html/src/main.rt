@@ -15,10 +15,10 @@ use standard_streams::{
     value_of, wrong_size,
 };
 use std::process::ExitCode;
-use streams::{Converting, Showing};
+use streams::{Converting, Lining, Showing};
 use words::{
-    HELP, NO_FILES, NO_LANGUAGE, OPTIONS, asks_for_stylesheet, form, language, scheme,
-    stylesheet_address, styling, title,
+    HELP, NO_FILES, NO_LANGUAGE, NOT_SHOWN, ONE_FILE, OPTIONS, asks_for_lines, asks_for_stylesheet,
+    asks_to_scroll, form, language, scheme, stylesheet_address, styling, title,
 };
 
 /// The name at the front of what the program says of failures.
@@ -43,6 +43,13 @@ fn main(rt: HostRuntime) -> ExitCode {
         }
         return stylesheet(rt, options, scheme);
     }
+    let has_lines = asks_for_lines(options);
+    if has_lines && line.files.len() > 1 {
+        return misused(&rt, ONE_FILE);
+    }
+    if has_lines && size.is_some() {
+        return misused(&rt, NOT_SHOWN);
+    }
     let styling = styling(options, scheme);
     let form = form(options);
     let Some(language) = language(options) else {
@@ -52,6 +59,8 @@ fn main(rt: HostRuntime) -> ExitCode {
         language,
         title: title(options),
         stylesheet: stylesheet_address(options),
+        has_lines,
+        scrolls: asks_to_scroll(options),
     };
     let Ok(head) = form.head(rt.alloc(), styling, scheme, said) else {
         return failed(&rt, PROGRAM, "out of memory");
@@ -66,6 +75,7 @@ fn main(rt: HostRuntime) -> ExitCode {
     };
     let (readers, output) = (inputs.as_mut_slice(), buffered(output));
     let ran = match size {
+        None if has_lines => write_each(&Lining { styling }, head, readers, output, tail),
         None => write_each(&Converting { styling }, head, readers, output, tail),
         Some(size) => {
             let showing = Showing::new(rt.alloc(), size, styling);

@@ -2,11 +2,12 @@
 ghost use Rattle.std.specs.Prelude.{◌≡◌, List, IfOk, IfErr};
 ghost use Rattle.anstyle_parse.specs.Stream.Call.{Call};
 ghost use Rattle.ansi_html.specs.Html.{html_text, html_ending};
+ghost use Rattle.ansi_html.specs.Lines.{lined_text, lined_ending};
 ghost use Rattle.ansi_screen.specs.Size.{IsTaken};
 ghost use Rattle.screen_html.specs.Shown.{left_html, ending_html};
 ghost use Rattle.ansi2html.specs.Sizes.{screen_of};
 
-use ansi_html::{HtmlWriter, Styling};
+use ansi_html::{HtmlWriter, LinesWriter, Styling};
 use ansi_screen::{Screen, Size};
 use anstyle_parse::io::{Output, Sink};
 use each_source::Begin;
@@ -37,6 +38,32 @@ impl<W: Sink> Begin<HtmlWriter<W>, W> for Converting {
         ensures kept { IfErr result (λ kept. kept ≡ output) }
     {
         Ok(HtmlWriter::new(self.styling, output))
+    }
+}
+
+/// The stream is written in lines, with its styles said in this way.
+#[derive(Debug, Clone, Copy, PartialEq, Eq)]
+pub struct Lining {
+    pub styling: Styling,
+}
+
+impl<W: Sink> Begin<LinesWriter<W>, W> for Lining {
+    ghost use Rattle.ansi_html.specs.Liner.{output_of, text_from, ending_from};
+    ghost use Rattle.ansi2html.specs.Streams.{lined_as};
+
+    ghost text = { λ lining. lined_text (lined_as lining) };
+
+    ghost ending = { λ _. lined_ending };
+
+    fn begin(&self, output: Output<W>) -> Result<LinesWriter<W>, Output<W>>
+        ensures output { IfOk result (λ performer. output_of performer ≡ output) }
+        ensures text { IfOk result (λ performer. (calls : List Call)
+            → text_from performer calls ≡ lined_text (lined_as self.now) calls) }
+        ensures ending { IfOk result (λ performer. (calls : List Call)
+            → ending_from performer calls ≡ lined_ending calls) }
+        ensures kept { IfErr result (λ kept. kept ≡ output) }
+    {
+        Ok(LinesWriter::new(self.styling, output))
     }
 }
 

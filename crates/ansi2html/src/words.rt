@@ -2,7 +2,7 @@
 ghost use Rattle.std.specs.Prelude.{◌≡◌, codes, map, string_bytes, option_copied, unwrap_or};
 ghost use Rattle.std.specs.List.{list_all};
 ghost use Rattle.standard_streams.specs.Options.{last_value};
-ghost use Rattle.ansi2html.specs.Words.{asks_for_page, form_of, scheme_after, scheme_of, styling_of, asks_for_stylesheet, default_title, is_tag_byte, is_tag, language_of};
+ghost use Rattle.ansi2html.specs.Words.{asks_for_page, form_of, scheme_after, scheme_of, styling_of, asks_for_stylesheet, default_title, is_tag_byte, is_tag, language_of, asks_for_lines, asks_to_scroll};
 
 use crate::form::{Form, LANGUAGE, TITLE};
 use ansi_html::{Scheme, Styling};
@@ -20,6 +20,8 @@ pub const OPTIONS: &[&str] = &[
     "--dark",
     "--classes",
     "--stylesheet",
+    "--lines",
+    "--scroll",
     SHOWN,
     "--shown=",
     OUTPUT,
@@ -44,11 +46,18 @@ pub const NO_LANGUAGE: &str =
 /// What is said where files are named beside `--stylesheet`.
 pub const NO_FILES: &str = "ansi2html: --stylesheet reads no file (see ansi2html --help)";
 
+/// What is said where lines are asked for of more than one file.
+pub const ONE_FILE: &str = "ansi2html: lines are those of one file (see ansi2html --help)";
+
+/// What is said where lines are asked for of what a terminal showed.
+pub const NOT_SHOWN: &str =
+    "ansi2html: --lines and --shown are not taken together (see ansi2html --help)";
+
 /// What `--help` says.
 pub const HELP: &str = "\
 usage: ansi2html [--page] [--title=TEXT] [--css=ADDRESS] [--lang=TAG]
-                 [--light | --dark] [--classes] [--shown | --shown=COLUMNSxROWS]
-                 [-o FILE] [FILE]..
+                 [--light | --dark] [--classes] [--lines] [--scroll]
+                 [--shown | --shown=COLUMNSxROWS] [-o FILE] [FILE]..
        ansi2html --stylesheet [--light | --dark] [-o FILE]
 
 Writes the text of files as HTML, in its colours: a fragment, to be put into a <pre>
@@ -67,7 +76,12 @@ all values but a size.
   --dark                  colours for dark pages alone, no lighter than #1e1e1e
   --classes               attributes class in place of style, for sites that
                           forbid inline styles; colours are snapped to the 256
-  --stylesheet            write the stylesheet of these classes, and read nothing
+  --lines                 each line in an element of its own with its number, to link
+                          to: page.html#L10; numbers are not copied with the text.
+                          A page draws them; a fragment needs the rules that
+                          --stylesheet writes. For one FILE, and not with --shown
+  --scroll                long lines are not wrapped: the page scrolls
+  --stylesheet            write the stylesheet of classes and lines, and read nothing
   --shown                 write what a terminal of 80x24 showed instead: the lines
                           that scrolled off, and what stands there at the end;
                           of its links the last 1,024 that began are kept
@@ -77,9 +91,11 @@ all values but a size.
   -h, --help              say this
   --version               say which version it is
 
-Examples, a log as a page, a listing, and a build with its progress bars as they ended:
+Examples, a log as a page, a listing, a log whose lines can be linked to, and a build with
+its progress bars as they ended:
   ansi2html --page -o log.html log
   ls --color=always | ansi2html --title 'My files' > listing.html
+  ansi2html --page --lines -o build.html build.log
   ansi2html --page --shown recording > build.html
 ";
 
@@ -188,4 +204,18 @@ fn is_tag_byte(byte: u8) -> bool
     ensures { result ≡ is_tag_byte byte }
 {
     matches!(byte, b'0'..=b'9' | b'A'..=b'Z' | b'a'..=b'z' | b'-')
+}
+
+/// Whether the text is asked for in lines.
+pub fn asks_for_lines(words: &[String]) -> bool
+    ensures { result ≡ asks_for_lines (map string_bytes words.now) }
+{
+    has_word(words, "--lines")
+}
+
+/// Whether long lines are asked not to be wrapped.
+pub fn asks_to_scroll(words: &[String]) -> bool
+    ensures { result ≡ asks_to_scroll (map string_bytes words.now) }
+{
+    has_word(words, "--scroll")
 }

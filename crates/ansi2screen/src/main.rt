@@ -62,12 +62,20 @@ fn main(rt: HostRuntime) -> ExitCode {
     };
     let mut output = Output::new(buffered(output));
     let read = match &mut wanted {
-        Some(wanted) => update_to_end(&mut reader, &mut screen, wanted, &mut output),
-        None => show_to_end(&mut reader, &mut screen, form, &mut output),
+        Some(wanted) => {
+            update_to_end(&mut reader, &mut screen, wanted, &mut output).map_err(stopped_by)
+        }
+        None => show_to_end(&mut reader, &mut screen, form, &mut output).map_err(Stopped::AtFault),
     };
     let (writer, answer) = output.finish();
-    target.ended(
-        reader.has_failed(),
-        (writer, read.and(answer).map_err(Stopped::AtFault)),
-    )
+    let ran = (writer, read.and(answer.map_err(Stopped::AtFault)));
+    target.ended(reader.has_failed(), ran)
+}
+
+/// Why no more was followed, in the words of a program's end.
+fn stopped_by(stopped: screen_draw::Stopped) -> Stopped {
+    match stopped {
+        screen_draw::Stopped::Stuck => Stopped::Stuck,
+        screen_draw::Stopped::AtFault(fault) => Stopped::AtFault(fault),
+    }
 }

@@ -6,14 +6,15 @@ mod streams;
 mod words;
 
 use each_source::write_each;
-use screen_text::{SHOWN, screen_size};
+use screen_safe::SafeRows;
+use screen_text::{SHOWN, ShownWriter, TextRows, screen_size};
 use standard_streams::{
     OUTPUT, Target, answered, asked_of, buffered, failed, given_line, have_failed, inputs,
     value_of, wrong_size,
 };
 use std::process::ExitCode;
-use streams::{MakingSafe, Showing, ShowingSafe, Stripping};
-use words::{HELP, OPTIONS, asks_for_safe};
+use streams::{MakingSafe, Showing, Stripping, StrippingLines};
+use words::{HELP, OPTIONS, asks_for_line_feeds, asks_for_safe};
 
 /// The name at the front of what the program says of failures.
 const PROGRAM: &str = "ansi2text";
@@ -41,17 +42,18 @@ fn main(rt: HostRuntime) -> ExitCode {
     let (readers, output) = (inputs.as_mut_slice(), buffered(output));
     let ran = match size {
         None if safe => write_each(&MakingSafe, b"", readers, output, b""),
-        None => write_each(&Stripping, b"", readers, output, b""),
-        Some(size) if safe => {
-            write_each(
-                &ShowingSafe::new(rt.alloc(), size),
-                b"",
-                readers,
-                output,
-                b"",
-            )
+        None if asks_for_line_feeds(options) => {
+            write_each(&StrippingLines, b"", readers, output, b"")
         }
-        Some(size) => write_each(&Showing::new(rt.alloc(), size), b"", readers, output, b""),
+        None => write_each(&Stripping, b"", readers, output, b""),
+        Some(size) => {
+            let showing = Showing::new(rt.alloc(), size);
+            if safe {
+                write_each::<ShownWriter<SafeRows<_>>, _, _, _>(&showing, b"", readers, output, b"")
+            } else {
+                write_each::<ShownWriter<TextRows<_>>, _, _, _>(&showing, b"", readers, output, b"")
+            }
+        }
     };
     target.ended(have_failed(inputs.as_slice()), ran)
 }

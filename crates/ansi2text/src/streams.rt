@@ -1,16 +1,17 @@
 //! The performer of each stream: what strips it or makes it safe, or what follows a screen of its own, as text or as
 //! safe text.
-ghost use Rattle.std.specs.Prelude.{◌≡◌, List, IfOk, IfErr};
+ghost use Rattle.std.specs.Prelude.{◌≡◌, List, filter, IfOk, IfErr};
 ghost use Rattle.anstyle_parse.specs.Stream.Call.{Call};
-ghost use Rattle.ansi_strip.specs.Inert.{inert_text};
+ghost use Rattle.ansi_strip.specs.Inert.{inert_text, is_inert};
+ghost use Rattle.ansi_strip.specs.LineFeeds.{decided, waiting};
 ghost use Rattle.ansi_screen.specs.Size.{IsTaken};
 ghost use Rattle.ansi2text.specs.Sizes.{screen_of, no_text};
-ghost use Rattle.safe_text.specs.Decided.{decided, undecided};
+ghost use Rattle.safe_text.specs.Decided.{decided as safe_decided, undecided as safe_undecided};
 ghost use Rattle.screen_safe.specs.Shown.{safe_left, safe_ending};
 ghost use Rattle.screen_text.specs.Shown.{left_text, ending_text};
 
 use ansi_screen::{Screen, Size};
-use ansi_strip::{Inert, Stripper};
+use ansi_strip::{Inert, LineFeeds, Stripper};
 use anstyle_parse::io::{CallWriter, Output, Sink};
 use each_source::Begin;
 use safe_text::SafeWriter;
@@ -40,6 +41,31 @@ impl<W: Sink> Begin<Inert<Stripper<W>>, W> for Stripping {
     }
 }
 
+/// The same, without each carriage return right before a line feed.
+#[derive(Debug, Clone, Copy, PartialEq, Eq)]
+pub struct StrippingLines;
+
+impl<W: Sink> Begin<Inert<LineFeeds<W>>, W> for StrippingLines {
+    ghost use Rattle.ansi_strip.specs.LineWriter.{output_of, text_from, ending_from};
+    ghost use Rattle.ansi_strip.specs.Passing.{performer_in};
+
+    // Joined they are the text without these (`whole` of `ansi_strip::laws::line_feeds`).
+    ghost text = { λ _ calls. decided (inert_text calls) };
+
+    ghost ending = { λ _ calls. waiting (inert_text calls) };
+
+    fn begin(&self, output: Output<W>) -> Result<Inert<LineFeeds<W>>, Output<W>>
+        ensures output { IfOk result (λ performer. output_of (performer_in performer) ≡ output) }
+        ensures text { IfOk result (λ performer. (calls : List Call)
+            → text_from (performer_in performer) (filter is_inert calls) ≡ decided (inert_text calls)) }
+        ensures ending { IfOk result (λ performer. (calls : List Call)
+            → ending_from (performer_in performer) (filter is_inert calls) ≡ waiting (inert_text calls)) }
+        ensures kept { IfErr result (λ kept. kept ≡ output) }
+    {
+        Ok(Inert::over(output))
+    }
+}
+
 /// Of each stream safe text is made.
 #[derive(Debug, Clone, Copy, PartialEq, Eq)]
 pub struct MakingSafe;
@@ -47,22 +73,22 @@ pub struct MakingSafe;
 impl<W: Sink> Begin<SafeWriter<W>, W> for MakingSafe {
     ghost use Rattle.safe_text.specs.Writer.{output_of, text_from, ending_from};
 
-    ghost text = { λ _. decided };
+    ghost text = { λ _. safe_decided };
 
-    ghost ending = { λ _. undecided };
+    ghost ending = { λ _. safe_undecided };
 
     fn begin(&self, output: Output<W>) -> Result<SafeWriter<W>, Output<W>>
         ensures output { IfOk result (λ performer. output_of performer ≡ output) }
-        ensures text { IfOk result (λ performer. (calls : List Call) → text_from performer calls ≡ decided calls) }
+        ensures text { IfOk result (λ performer. (calls : List Call) → text_from performer calls ≡ safe_decided calls) }
         ensures ending { IfOk result (λ performer. (calls : List Call)
-            → ending_from performer calls ≡ undecided calls) }
+            → ending_from performer calls ≡ safe_undecided calls) }
         ensures kept { IfErr result (λ kept. kept ≡ output) }
     {
         Ok(SafeWriter::over(output))
     }
 }
 
-/// Each stream is shown by a screen of this size.
+/// Each stream is shown by a screen of this size: as text or as safe text, as the type of its performer says.
 #[derive(Drop)]
 pub struct Showing {
     alloc: Global,
@@ -82,6 +108,7 @@ impl Showing {
     }
 }
 
+/// What each showed is text.
 impl<W: Sink> Begin<ShownWriter<TextRows<W>>, W> for Showing {
     ghost use Rattle.screen_text.specs.Lines.{output_of, is_open, row_text_at, after_row, after_command, closing};
     ghost use Rattle.screen_text.specs.Writer.{rows_of, text_from, ending_from};
@@ -108,43 +135,24 @@ impl<W: Sink> Begin<ShownWriter<TextRows<W>>, W> for Showing {
     }
 }
 
-/// Each stream is shown by a screen of this size, and what it showed is made safe.
-#[derive(Drop)]
-pub struct ShowingSafe {
-    alloc: Global,
-    size: Size,
-    ghost taken: { IsTaken size },
-}
-
-impl ShowingSafe {
-    ghost use Rattle.ansi2text.specs.Streams.{safe_size_of};
-
-    /// For screens of a size that screens can have.
-    pub fn new(alloc: Global, size: Size) -> ShowingSafe
-        requires { IsTaken size }
-        ensures { safe_size_of result ≡ size }
-    {
-        ShowingSafe { alloc, size }
-    }
-}
-
-impl<W: Sink> Begin<ShownWriter<SafeRows<W>>, W> for ShowingSafe {
+/// What each showed is made safe.
+impl<W: Sink> Begin<ShownWriter<SafeRows<W>>, W> for Showing {
     ghost use Rattle.screen_safe.specs.Writer.{output_of, standing_of, row_safe, after_row, after_command, closing_safe};
     ghost use Rattle.screen_text.specs.Writer.{rows_of, text_from, ending_from};
-    ghost use Rattle.ansi2text.specs.Streams.{safe_size_of};
+    ghost use Rattle.ansi2text.specs.Streams.{size_of};
 
-    ghost text = { λ showing. safe_left (screen_of (safe_size_of showing)) };
+    ghost text = { λ showing. safe_left (screen_of (size_of showing)) };
 
-    ghost ending = { λ showing. safe_ending (screen_of (safe_size_of showing)) };
+    ghost ending = { λ showing. safe_ending (screen_of (size_of showing)) };
 
     fn begin(&self, output: Output<W>) -> Result<ShownWriter<SafeRows<W>>, Output<W>>
         ensures output { IfOk result (λ performer. output_of (rows_of performer) ≡ output) }
         ensures text { IfOk result (λ performer. (calls : List Call)
             → text_from standing_of row_safe after_row after_command performer calls
-            ≡ safe_left (screen_of (safe_size_of self.now)) calls) }
+            ≡ safe_left (screen_of (size_of self.now)) calls) }
         ensures ending { IfOk result (λ performer. (calls : List Call)
             → ending_from standing_of row_safe after_row after_command closing_safe performer calls
-            ≡ safe_ending (screen_of (safe_size_of self.now)) calls) }
+            ≡ safe_ending (screen_of (size_of self.now)) calls) }
         ensures kept { IfErr result (λ kept. kept ≡ output) }
     {
         match Screen::new(self.alloc, self.size.columns, self.size.rows) {

@@ -1,19 +1,22 @@
 //! The words of the program: its options, and what it says of itself.
 ghost use Rattle.std.specs.Prelude.{◌≡◌, map, string_bytes};
-ghost use Rattle.ansi2text.specs.Words.{asks_for_safe};
+ghost use Rattle.ansi2text.specs.Words.{asks_for_safe, asks_for_line_feeds};
 
 use screen_text::SHOWN;
 use standard_streams::{OUTPUT, has_word};
 
 /// The options.
-pub const OPTIONS: &[&str] = &[SAFE, SHOWN, "--shown=", OUTPUT];
+pub const OPTIONS: &[&str] = &[SAFE, LINE_FEEDS, SHOWN, "--shown=", OUTPUT];
 
 /// What asks for safe text.
 const SAFE: &str = "--safe";
 
+/// What asks for lines that end with a line feed alone.
+const LINE_FEEDS: &str = "--lf";
+
 /// What `--help` says.
 pub const HELP: &str = "\
-usage: ansi2text [--safe] [--shown | --shown=COLUMNSxROWS] [-o FILE] [FILE]..
+usage: ansi2text [--safe] [--lf] [--shown | --shown=COLUMNSxROWS] [-o FILE] [FILE]..
 
 Writes the text of files without the escapes of terminals: colours, cursor moves,
 titles and the like, so that it drives no terminal. Input is UTF-8. Each file is a
@@ -24,6 +27,9 @@ name files, whatever they begin with.
                           review: controls and characters that show nothing or
                           turn text round are written as <U+202E>; with --shown
                           of what a terminal showed
+  --lf                    drop a carriage return right before a line feed, as
+                          dos2unix does: each line of a recording by script ends
+                          with both; --safe and --shown never write both
   --shown                 write what a terminal of 80x24 showed instead: the lines
                           that scrolled off, and what stands there at the end
   --shown=COLUMNSxROWS    the same of this size, from 2x1 to 1000x1000
@@ -32,10 +38,11 @@ name files, whatever they begin with.
   -h, --help              say this
   --version               say which version it is
 
-Examples, a log as text, the text of a build as it runs, what a terminal showed, and
-a stranger's text to review:
+Examples, a log as text, the text of a build as it runs, the lines of a recording,
+what a terminal showed, and a stranger's text to review:
   ansi2text log > log.txt
   make 2>&1 | ansi2text -o build.log
+  ansi2text --lf recording > lines.txt
   ansi2text --shown recording
   ansi2text --safe log
 ";
@@ -45,4 +52,11 @@ pub fn asks_for_safe(words: &[String]) -> bool
     ensures { result ≡ asks_for_safe (map string_bytes words.now) }
 {
     has_word(words, SAFE)
+}
+
+/// Whether the words ask for lines that end with a line feed alone.
+pub fn asks_for_line_feeds(words: &[String]) -> bool
+    ensures { result ≡ asks_for_line_feeds (map string_bytes words.now) }
+{
+    has_word(words, LINE_FEEDS)
 }

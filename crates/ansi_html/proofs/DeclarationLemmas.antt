@@ -69,7 +69,7 @@ AreSafe-append (x ∷ first) second a b =
     let parts = and_parts (is_safe x) (list_all is_safe first) a in
     and_from (is_safe x) (list_all is_safe (first ++ second)) parts.0 (AreSafe-append first second parts.1 b)
 
-safe_between : (b : ℕ) → 0x27 ≤ b → b < 0x80 → is_safe b ≡ true
+pub safe_between : (b : ℕ) → 0x27 ≤ b → b < 0x80 → is_safe b ≡ true
 unfolding is_safe
 safe_between b low high =
     and_from (nat_le 0x20 b) (nat_lt b 0x80 && (not (eqb b 0x22) && not (eqb b 0x26))) (le-leb 0x20 b (omega (arith, low)))

@@ -32,3 +32,7 @@ pub mod StyledLemmas
 pub mod StyledWriterLemmas
 pub mod WriterLemmas
 pub mod PieceLemmas
+pub mod LinerLemmas
+pub mod LineTagLemmas
+pub mod LineLemmas
+pub mod NumberLemmas

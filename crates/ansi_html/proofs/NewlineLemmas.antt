@@ -39,7 +39,7 @@ normalized-same (b ∷ bytes) none =
     ap (λ (t : Bool). if t then 0x0A ∷ normalized_from true bytes else b ∷ normalized_from false bytes) (false-from_not (eqb b 0x0D) parts.0)
     ∙ ap (λ l. b ∷ l) (normalized-same bytes parts.1)
 
-HasNoReturn-safe : (bytes : List ℕ) → AreSafe bytes → HasNoReturn bytes
+pub HasNoReturn-safe : (bytes : List ℕ) → AreSafe bytes → HasNoReturn bytes
 unfolding is_not_return
 HasNoReturn-safe [] safe = refl
 HasNoReturn-safe (b ∷ bytes) safe =

@@ -73,7 +73,7 @@ read-escaped bytes =
     ∙ read-text no_attributes bytes
 
 -- a value without a quote or a reference
-seen-value : (opened : List Attributes) (so_far : Attributes) (name value bytes rest : List ℕ) → AreSafe bytes
+pub seen-value : (opened : List Attributes) (so_far : Attributes) (name value bytes rest : List ℕ) → AreSafe bytes
     → seen_from (in_value opened so_far name value) (bytes ++ rest) ≡ seen_from (in_value opened so_far name (value ++ bytes)) rest
 seen-value opened so_far name value [] rest safe = ap (λ v. seen_from (in_value opened so_far name v) rest) (sym (append-nil value))
 seen-value opened so_far name value (b ∷ bytes) rest safe =
@@ -141,14 +141,14 @@ seen-span : (opened : List Attributes) (styling : Styling) (value rest : List �
     ≡ seen_from (in_text (within (in_force opened) (attributes_by styling value []) ∷ opened)) rest
 seen-span opened styling value rest safe = seen-attribute opened styling [] value rest safe
 
-seen-link : (styling : Styling) (link value rest : List ℕ) → AreSafe value
-    → seen_from (in_text []) ((codes "<a rel=\"nofollow noreferrer\" href=\"" ++ (escaped_text link ++ (codes "\"" ++ attribute_text styling value))) ++ rest)
-    ≡ seen_from (in_text (within no_attributes (attributes_by styling value link) ∷ [])) rest
-seen-link styling link value rest safe =
+seen-link : (opened : List Attributes) (styling : Styling) (link value rest : List ℕ) → AreSafe value
+    → seen_from (in_text opened) ((codes "<a rel=\"nofollow noreferrer\" href=\"" ++ (escaped_text link ++ (codes "\"" ++ attribute_text styling value))) ++ rest)
+    ≡ seen_from (in_text (within (in_force opened) (attributes_by styling value link) ∷ opened)) rest
+seen-link opened styling link value rest safe =
     let tag = attribute_text styling value in
-    ap (λ l. seen_from (in_value [] no_attributes (codes "href") []) l) (append_assoc (escaped_text link) (codes "\"" ++ tag) rest)
-    ∙ seen-escaped_value [] no_attributes (codes "href") [] link (codes "\"" ++ (tag ++ rest))
-    ∙ seen-attribute [] styling link value rest safe
+    ap (λ l. seen_from (in_value opened no_attributes (codes "href") []) l) (append_assoc (escaped_text link) (codes "\"" ++ tag) rest)
+    ∙ seen-escaped_value opened no_attributes (codes "href") [] link (codes "\"" ++ (tag ++ rest))
+    ∙ seen-attribute opened styling link value rest safe
 
 -- what a link's own tag says, and what a span's does
 abbrev linked : Styling → (link : List ℕ) → Attributes
@@ -157,15 +157,15 @@ linked styling link = attributes_by styling (value_of styling true plain) link
 abbrev spanned : Styling → Style → Attributes
 spanned styling style = attributes_by styling (value_of styling false style) []
 
--- the elements that are open where a link's text stands, and that of a span in those
-abbrev link_open : Styling → (link : List ℕ) → List Attributes
-link_open styling link = if is_none link then [] else within no_attributes (linked styling link) ∷ []
+-- the elements that are open where a link's text stands in some, and that of a span in those
+abbrev link_open : (below : List Attributes) → Styling → (link : List ℕ) → List Attributes
+link_open below styling link = if is_none link then below else within (in_force below) (linked styling link) ∷ below
 
 abbrev span_open : Styling → Style → List Attributes → List Attributes
 span_open styling style opened = if is_plain style then opened else within (in_force opened) (spanned styling style) ∷ opened
 
-abbrev pub open_in : Styling → Element → List Attributes
-open_in styling element = span_open styling element.style (link_open styling element.link)
+abbrev pub open_in : (below : List Attributes) → Styling → Element → List Attributes
+open_in below styling element = span_open styling element.style (link_open below styling element.link)
 
 seen-span_begin : (opened : List Attributes) (styling : Styling) (style : Style) (rest : List ℕ)
     → seen_from (in_text opened) (span_begin styling style ++ rest) ≡ seen_from (in_text (span_open styling style opened)) rest
@@ -188,58 +188,58 @@ seen-span_end opened styling shown rest = by_case (is_plain shown)
     by_case true = refl
     by_case false = refl
 
-seen-link_begin : (styling : Styling) (link rest : List ℕ)
-    → seen_from (in_text []) (link_begin styling link ++ rest) ≡ seen_from (in_text (link_open styling link)) rest
-seen-link_begin styling link rest = by_case (is_none link)
+seen-link_begin : (below : List Attributes) (styling : Styling) (link rest : List ℕ)
+    → seen_from (in_text below) (link_begin styling link ++ rest) ≡ seen_from (in_text (link_open below styling link)) rest
+seen-link_begin below styling link rest = by_case (is_none link)
   where
     by_case : (none : Bool)
-        → seen_from (in_text [])
+        → seen_from (in_text below)
         ((if none then [] else codes "<a rel=\"nofollow noreferrer\" href=\"" ++ (escaped_text link ++ (codes "\"" ++ attribute_text styling (value_of styling true plain)))) ++ rest)
-        ≡ seen_from (in_text (if none then [] else within no_attributes (linked styling link) ∷ [])) rest
+        ≡ seen_from (in_text (if none then below else within (in_force below) (linked styling link) ∷ below)) rest
     by_case true = refl
-    by_case false = seen-link styling link (value_of styling true plain) rest (AreSafe-value styling true plain)
+    by_case false = seen-link below styling link (value_of styling true plain) rest (AreSafe-value styling true plain)
 
-seen-link_end : (styling : Styling) (link rest : List ℕ)
-    → seen_from (in_text (link_open styling link)) (link_end link ++ rest) ≡ seen_from (in_text []) rest
-seen-link_end styling link rest = by_case (is_none link)
+seen-link_end : (below : List Attributes) (styling : Styling) (link rest : List ℕ)
+    → seen_from (in_text (link_open below styling link)) (link_end link ++ rest) ≡ seen_from (in_text below) rest
+seen-link_end below styling link rest = by_case (is_none link)
   where
     by_case : (none : Bool)
-        → seen_from (in_text (if none then [] else within no_attributes (linked styling link) ∷ [])) ((if none then [] else codes "</a>") ++ rest) ≡ seen_from (in_text []) rest
+        → seen_from (in_text (if none then below else within (in_force below) (linked styling link) ∷ below)) ((if none then [] else codes "</a>") ++ rest) ≡ seen_from (in_text below) rest
     by_case true = refl
     by_case false = refl
 
-seen-element_begin : (styling : Styling) (element : Element) (rest : List ℕ)
-    → seen_from (in_text []) (element_begin styling element ++ rest) ≡ seen_from (in_text (open_in styling element)) rest
-seen-element_begin styling element rest =
-    ap (seen_from (in_text [])) (append_assoc (link_begin styling element.link) (span_begin styling element.style) rest)
-    ∙ seen-link_begin styling element.link (span_begin styling element.style ++ rest)
-    ∙ seen-span_begin (link_open styling element.link) styling element.style rest
+seen-element_begin : (below : List Attributes) (styling : Styling) (element : Element) (rest : List ℕ)
+    → seen_from (in_text below) (element_begin styling element ++ rest) ≡ seen_from (in_text (open_in below styling element)) rest
+seen-element_begin below styling element rest =
+    ap (seen_from (in_text below)) (append_assoc (link_begin styling element.link) (span_begin styling element.style) rest)
+    ∙ seen-link_begin below styling element.link (span_begin styling element.style ++ rest)
+    ∙ seen-span_begin (link_open below styling element.link) styling element.style rest
 
-pub seen-element_end : (rest : List ℕ) (styling : Styling) (shown : Element)
-    → seen_from (in_text (open_in styling shown)) (element_end shown ++ rest) ≡ seen_from (in_text []) rest
-seen-element_end rest styling shown =
-    ap (seen_from (in_text (open_in styling shown))) (append_assoc (span_end shown.style) (link_end shown.link) rest)
-    ∙ seen-span_end (link_open styling shown.link) styling shown.style (link_end shown.link ++ rest)
-    ∙ seen-link_end styling shown.link rest
+pub seen-element_end : (below : List Attributes) (rest : List ℕ) (styling : Styling) (shown : Element)
+    → seen_from (in_text (open_in below styling shown)) (element_end shown ++ rest) ≡ seen_from (in_text below) rest
+seen-element_end below rest styling shown =
+    ap (seen_from (in_text (open_in below styling shown))) (append_assoc (span_end shown.style) (link_end shown.link) rest)
+    ∙ seen-span_end (link_open below styling shown.link) styling shown.style (link_end shown.link ++ rest)
+    ∙ seen-link_end below styling shown.link rest
 
-seen-change : (styling : Styling) (shown next : Element) (rest : List ℕ)
-    → seen_from (in_text (open_in styling shown)) (change styling shown next ++ rest) ≡ seen_from (in_text (open_in styling next)) rest
-seen-change styling shown next rest = by_case (are_same shown next) (bytes_eq shown.link next.link) refl refl
+seen-change : (below : List Attributes) (styling : Styling) (shown next : Element) (rest : List ℕ)
+    → seen_from (in_text (open_in below styling shown)) (change styling shown next ++ rest) ≡ seen_from (in_text (open_in below styling next)) rest
+seen-change below styling shown next rest = by_case (are_same shown next) (bytes_eq shown.link next.link) refl refl
   where
     by_case : (same linked_so : Bool) → are_same shown next ≡ same → bytes_eq shown.link next.link ≡ linked_so
-        → seen_from (in_text (open_in styling shown))
+        → seen_from (in_text (open_in below styling shown))
         ((if same then [] else if linked_so then span_end shown.style ++ span_begin styling next.style else element_end shown ++ element_begin styling next) ++ rest)
-        ≡ seen_from (in_text (open_in styling next)) rest
-    by_case true linked_so is links = ap (λ s. seen_from (in_text (open_in styling s)) rest) (are_same-same shown next is)
+        ≡ seen_from (in_text (open_in below styling next)) rest
+    by_case true linked_so is links = ap (λ s. seen_from (in_text (open_in below styling s)) rest) (are_same-same shown next is)
     by_case false true is links =
-        ap (seen_from (in_text (open_in styling shown))) (append_assoc (span_end shown.style) (span_begin styling next.style) rest)
-        ∙ seen-span_end (link_open styling shown.link) styling shown.style (span_begin styling next.style ++ rest)
-        ∙ seen-span_begin (link_open styling shown.link) styling next.style rest
-        ∙ ap (λ link. seen_from (in_text (span_open styling next.style (link_open styling link))) rest) ((bytes_eq-Decides shown.link next.link).0 links)
+        ap (seen_from (in_text (open_in below styling shown))) (append_assoc (span_end shown.style) (span_begin styling next.style) rest)
+        ∙ seen-span_end (link_open below styling shown.link) styling shown.style (span_begin styling next.style ++ rest)
+        ∙ seen-span_begin (link_open below styling shown.link) styling next.style rest
+        ∙ ap (λ link. seen_from (in_text (span_open styling next.style (link_open below styling link))) rest) ((bytes_eq-Decides shown.link next.link).0 links)
     by_case false false is links =
-        ap (seen_from (in_text (open_in styling shown))) (append_assoc (element_end shown) (element_begin styling next) rest)
-        ∙ seen-element_end (element_begin styling next ++ rest) styling shown
-        ∙ seen-element_begin styling next rest
+        ap (seen_from (in_text (open_in below styling shown))) (append_assoc (element_end shown) (element_begin styling next) rest)
+        ∙ seen-element_end below (element_begin styling next ++ rest) styling shown
+        ∙ seen-element_begin below styling next rest
 
 -- Names of a link's text: that of the link, and those of the span.
 joined_names : (names : List Class) → both_names (class_name Link) (class_names names) ≡ class_names (Link ∷ names)
@@ -253,7 +253,7 @@ unfolding colors_css classes_of
 attributes-plain (Inline scheme) = refl
 attributes-plain Classes = refl
 
--- What holds in the elements that are open is what is said of the style and the link.
+-- What holds in the elements that are open, in some in which nothing holds, is what is said of the style and the link.
 held-none : (styling : Styling) (style : Style) → within no_attributes (spanned styling style) ≡ spanned styling style
 held-none (Inline scheme) style = refl
 held-none Classes style = refl
@@ -267,30 +267,34 @@ unfolding colors_css classes_of
 held-both (Inline scheme) style link = refl
 held-both Classes style link = ap (λ (names : List ℕ). attributes_by Classes names link) (joined_names (classes_of false style))
 
-pub held : (styling : Styling) (element : Element) → in_force (open_in styling element) ≡ attributes_of styling element
-held styling element = by_case (is_plain element.style) (is_none element.link) refl refl
+pub held : (below : List Attributes) → in_force below ≡ no_attributes → (styling : Styling) (element : Element)
+    → in_force (open_in below styling element) ≡ attributes_of styling element
+held below outermost styling element = by_case (is_plain element.style) (is_none element.link) refl refl
   where
     no_link : is_none element.link ≡ true → element.link ≡ []
     no_link none = nil_from_length element.link (eqb-true (length element.link) 0 none)
 
     by_case : (plain_is none : Bool) → is_plain element.style ≡ plain_is → is_none element.link ≡ none
-        → in_force (if plain_is then (if none then [] else within no_attributes (linked styling element.link) ∷ [])
-        else within (in_force (if none then [] else within no_attributes (linked styling element.link) ∷ [])) (spanned styling element.style)
-        ∷ (if none then [] else within no_attributes (linked styling element.link) ∷ []))
+        → in_force (if plain_is then (if none then below else within (in_force below) (linked styling element.link) ∷ below)
+        else within (in_force (if none then below else within (in_force below) (linked styling element.link) ∷ below)) (spanned styling element.style)
+        ∷ (if none then below else within (in_force below) (linked styling element.link) ∷ below))
         ≡ attributes_by styling (if none then value_of styling false element.style else value_of styling true element.style) element.link
     by_case true true is none =
-        sym (attributes-plain styling)
+        outermost ∙ sym (attributes-plain styling)
         ∙ ap₂ (λ style link. attributes_by styling (value_of styling false style) link) (sym (are_equal-same element.style plain is)) (sym (no_link none))
     by_case true false is none =
-        held-link styling element.link none
+        ap (λ (outer : Attributes). within outer (linked styling element.link)) outermost
+        ∙ held-link styling element.link none
         ∙ ap (λ style. attributes_by styling (value_of styling true style) element.link) (sym (are_equal-same element.style plain is))
     by_case false true is none =
-        held-none styling element.style ∙ ap (λ link. attributes_by styling (value_of styling false element.style) link) (sym (no_link none))
+        ap (λ (outer : Attributes). within outer (spanned styling element.style)) outermost
+        ∙ held-none styling element.style ∙ ap (λ link. attributes_by styling (value_of styling false element.style) link) (sym (no_link none))
     by_case false false is none =
-        ap (λ (outer : Attributes). within outer (spanned styling element.style)) (held-link styling element.link none)
+        ap (λ (outer : Attributes). within (within outer (linked styling element.link)) (spanned styling element.style)) outermost
+        ∙ ap (λ (outer : Attributes). within outer (spanned styling element.style)) (held-link styling element.link none)
         ∙ held-both styling element.style element.link
 
--- the line break behind 0D, and a text
+-- the line break after 0D, and a text
 abbrev pub breaks : (returned is_line_feed : Bool) → List Seen
 breaks returned is_line_feed = if returned && not is_line_feed then break ∷ [] else []
 
@@ -313,45 +317,45 @@ seen-line_break opened rest returned is_line_feed = by_case (returned && not is_
 
 module _ (styling : Styling) where
   -- text of a style is seen with its declarations
-  pub seen-text : (at : Standing) (is_line_feed : Bool) (bytes rest : List ℕ)
-      → seen_from (in_text (open_in styling at.shown)) (text_html styling at is_line_feed bytes ++ rest)
-      ≡ seen_text styling at is_line_feed bytes ++ seen_from (in_text (open_in styling (after_text at.shown at.selected bytes))) rest
+  pub seen-text : (below : List Attributes) → in_force below ≡ no_attributes → (at : Standing) (is_line_feed : Bool) (bytes rest : List ℕ)
+      → seen_from (in_text (open_in below styling at.shown)) (text_html styling at is_line_feed bytes ++ rest)
+      ≡ seen_text styling at is_line_feed bytes ++ seen_from (in_text (open_in below styling (after_text at.shown at.selected bytes))) rest
   unfolding text_html
-  seen-text at is_line_feed [] rest = refl
-  seen-text at is_line_feed (b ∷ bytes) rest =
+  seen-text below outermost at is_line_feed [] rest = refl
+  seen-text below outermost at is_line_feed (b ∷ bytes) rest =
       let changed = change styling at.shown at.selected in
       let broken = line_break at.returned is_line_feed in
       let escaped_bytes = escaped_text (b ∷ bytes) in
-      let opened = open_in styling at.selected in
-      ap (seen_from (in_text (open_in styling at.shown))) (append_assoc (changed ++ broken) escaped_bytes rest ∙ append_assoc changed broken (escaped_bytes ++ rest))
-      ∙ seen-change styling at.shown at.selected (broken ++ (escaped_bytes ++ rest))
+      let opened = open_in below styling at.selected in
+      ap (seen_from (in_text (open_in below styling at.shown))) (append_assoc (changed ++ broken) escaped_bytes rest ∙ append_assoc changed broken (escaped_bytes ++ rest))
+      ∙ seen-change below styling at.shown at.selected (broken ++ (escaped_bytes ++ rest))
       ∙ seen-line_break opened (escaped_bytes ++ rest) at.returned is_line_feed
       ∙ ap (λ l. breaks at.returned is_line_feed ++ l) (seen-escaped_text opened (b ∷ bytes) rest)
-      ∙ ap (λ (attributes : Attributes). breaks at.returned is_line_feed ++ (map (text attributes) (b ∷ bytes) ++ seen_from (in_text opened) rest)) (held styling at.selected)
+      ∙ ap (λ (attributes : Attributes). breaks at.returned is_line_feed ++ (map (text attributes) (b ∷ bytes) ++ seen_from (in_text opened) rest)) (held below outermost styling at.selected)
       ∙ sym (append_assoc (breaks at.returned is_line_feed) (map (text (attributes_of styling at.selected)) (b ∷ bytes)) (seen_from (in_text opened) rest))
 
   seen-html_from : (at : Standing) (calls : List Call)
-      → seen_from (in_text (open_in styling at.shown)) (html_from styling at calls ++ element_end (standing_at_end at calls).shown) ≡ seen_calls styling at calls
-  seen-html_from at [] = ap (seen_from (in_text (open_in styling at.shown))) (sym (append-nil (element_end at.shown))) ∙ seen-element_end [] styling at.shown
+      → seen_from (in_text (open_in [] styling at.shown)) (html_from styling at calls ++ element_end (standing_at_end at calls).shown) ≡ seen_calls styling at calls
+  seen-html_from at [] = ap (seen_from (in_text (open_in [] styling at.shown))) (sym (append-nil (element_end at.shown))) ∙ seen-element_end [] [] styling at.shown
   seen-html_from at (call ∷ calls) =
       let bytes = stripped_call call in
       let after = standing_after call at in
       let rest = html_from styling after calls ++ element_end (standing_at_end after calls).shown in
-      ap (seen_from (in_text (open_in styling at.shown))) (append_assoc (call_html styling at call) (html_from styling after calls) (element_end (standing_at_end after calls).shown))
-      ∙ seen-text at (is_executed 0x0A call) bytes rest
+      ap (seen_from (in_text (open_in [] styling at.shown))) (append_assoc (call_html styling at call) (html_from styling after calls) (element_end (standing_at_end after calls).shown))
+      ∙ seen-text [] refl at (is_executed 0x0A call) bytes rest
       ∙ ap (λ l. seen_text styling at (is_executed 0x0A call) bytes ++ l) (seen-html_from after calls)
 
   -- in no element none is opened
-  pub open-none : open_in styling no_element ≡ []
-  open-none = ap (λ (plain_is : Bool). if plain_is then [] else within no_attributes (spanned styling plain) ∷ []) (are_equal-refl plain)
+  pub open-none : (below : List Attributes) → open_in below styling no_element ≡ below
+  open-none below = ap (λ (plain_is : Bool). if plain_is then below else within (in_force below) (spanned styling plain) ∷ below) (are_equal-refl plain)
 
   pub seen-html : (calls : List Call) → seen (html styling calls) ≡ seen_calls styling at_start calls
   seen-html calls =
       ap (seen_from (in_text [])) (normalized-html styling calls)
-      ∙ ap (λ opened. seen_from (in_text opened) (html styling calls)) (sym open-none) ∙ seen-html_from at_start calls
+      ∙ ap (λ opened. seen_from (in_text opened) (html styling calls)) (sym (open-none [])) ∙ seen-html_from at_start calls
 
   -- line breaks are not read
-  read-seen_text : (at : Standing) (is_line_feed : Bool) (bytes : List ℕ) → flat_map read_of (seen_text styling at is_line_feed bytes) ≡ map (under (attributes_of styling at.selected)) bytes
+  pub read-seen_text : (at : Standing) (is_line_feed : Bool) (bytes : List ℕ) → flat_map read_of (seen_text styling at is_line_feed bytes) ≡ map (under (attributes_of styling at.selected)) bytes
   read-seen_text at is_line_feed [] = refl
   read-seen_text at is_line_feed (b ∷ bytes) = by_case (at.returned && not is_line_feed)
     where

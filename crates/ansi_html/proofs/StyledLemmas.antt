@@ -59,14 +59,14 @@ module _ (styling : Styling) where
       (HasNoReturn-text styling (before shown it) false it.text) (HasNoReturn-styled (behind shown it) texts)
 
   seen-styled : (shown : Element) (texts : List Styled)
-      → seen_from (in_text (open_in styling shown)) (styled_html styling shown texts ++ element_end (shown_after shown texts)) ≡ seen_styled styling texts
+      → seen_from (in_text (open_in [] styling shown)) (styled_html styling shown texts ++ element_end (shown_after shown texts)) ≡ seen_styled styling texts
   seen-styled shown [] =
-      ap (seen_from (in_text (open_in styling shown))) (sym (append-nil (element_end shown))) ∙ seen-element_end [] styling shown
+      ap (seen_from (in_text (open_in [] styling shown))) (sym (append-nil (element_end shown))) ∙ seen-element_end [] [] styling shown
   seen-styled shown (it ∷ texts) =
       let here = text_html styling (before shown it) false it.text in
       let close = element_end (shown_after (behind shown it) texts) in
-      ap (seen_from (in_text (open_in styling shown))) (append_assoc here (styled_html styling (behind shown it) texts) close)
-      ∙ seen-text styling (before shown it) false it.text (styled_html styling (behind shown it) texts ++ close)
+      ap (seen_from (in_text (open_in [] styling shown))) (append_assoc here (styled_html styling (behind shown it) texts) close)
+      ∙ seen-text styling [] refl (before shown it) false it.text (styled_html styling (behind shown it) texts ++ close)
       ∙ ap₂ (λ a b. a ++ b) (seen_text-styled styling shown it it.text) (seen-styled (behind shown it) texts)
 
   seen-all : (texts : List Styled) → seen (all_html styling texts) ≡ seen_styled styling texts
@@ -74,7 +74,7 @@ module _ (styling : Styling) where
       ap (seen_from (in_text [])) (normalized-same (all_html styling texts)
       (HasNoReturn-append (styled_html styling no_element texts) (element_end (shown_after no_element texts))
       (HasNoReturn-styled no_element texts) (HasNoReturn-end (shown_after no_element texts))))
-      ∙ ap (λ opened. seen_from (in_text opened) (all_html styling texts)) (sym (open-none styling)) ∙ seen-styled no_element texts
+      ∙ ap (λ opened. seen_from (in_text opened) (all_html styling texts)) (sym (open-none styling [])) ∙ seen-styled no_element texts
 
   read-seen_styled : (texts : List Styled) → flat_map read_of (seen_styled styling texts) ≡ all_shown styling texts
   read-seen_styled [] = refl

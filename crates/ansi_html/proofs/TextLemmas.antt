@@ -28,13 +28,13 @@ layout_ascii : (b : ℕ) → is_layout b ≡ true → b < 0x80
 layout_ascii b is = let low = layout-low b is in omega arith
 
 -- ASCII is UTF-8
-IsUtf8-ascii : (bytes : List ℕ) → list_all (λ b. nat_lt b 0x80) bytes ≡ true → IsUtf8 bytes
+pub IsUtf8-ascii : (bytes : List ℕ) → list_all (λ b. nat_lt b 0x80) bytes ≡ true → IsUtf8 bytes
 IsUtf8-ascii [] low = IsUtf8-nil
 IsUtf8-ascii (b ∷ bytes) low =
     let parts = and_parts (nat_lt b 0x80) (list_all (λ x. nat_lt x 0x80) bytes) low in
     IsUtf8-append (b ∷ []) bytes (IsUtf8-byte b (ltb-true b 0x80 parts.0)) (IsUtf8-ascii bytes parts.1)
 
-IsUtf8-safe : (bytes : List ℕ) → AreSafe bytes → IsUtf8 bytes
+pub IsUtf8-safe : (bytes : List ℕ) → AreSafe bytes → IsUtf8 bytes
 IsUtf8-safe [] safe = IsUtf8-nil
 IsUtf8-safe (b ∷ bytes) safe =
     let parts = and_parts (is_safe b) (list_all is_safe bytes) safe in

@@ -1,5 +1,5 @@
 -- A link that was not cut is all that its command says.
-use Rattle.std.proofs.Common.{◌≡◌, ◌≢◌, ◌<◌, ℕ, zero, suc, Bool, true, false, ◌&&◌, eqb, cond, List, [], ◌∷◌, ◌++◌, codes, length, take, filter, refl, sym, ap, ◌∙◌, subst, arith, length-take}
+use Rattle.std.proofs.Common.{◌≡◌, ◌≢◌, ◌<◌, ℕ, zero, suc, Bool, true, false, ◌&&◌, eqb, cond, not, List, [], ◌∷◌, ◌++◌, codes, length, take, filter, refl, sym, ap, ◌∙◌, subst, arith, length-take}
 use Rattle.std.specs.Prelude.{nat_lt, if◌then◌else◌}
 use Rattle.std.specs.List.{concat, slice_split, onto_first, join_with_byte}
 use Rattle.std.proofs.lemmas.Bool.{and_parts, ltb-true}
@@ -8,6 +8,9 @@ use Rattle.std.proofs.lemmas.List.Splits.{join_with_byte-slice_split}
 use Rattle.std.proofs.lemmas.Slice.Eq.{bytes_eq-Decides}
 use Rattle.anstyle_parse.specs.Stream.Bytes.{semicolon}
 use Rattle.anstyle_parse.specs.Stream.Arguments.{is_kept, through_stored, parts_of}
+use Rattle.anstyle_parse.specs.Stream.Items.{EachIs}
+use Rattle.anstyle_parse.proofs.Lists.Parts.{AllByRecursion-take, slice_split-each}
+use Rattle.anstyle_parse.proofs.Lists.Passing.{EachLacks}
 use Rattle.ansi_html.specs.Links.{is_link_command, is_whole, is_linkable, uri_of, link_of, SaysLink}
 
 split : List ℕ → List (List ℕ)
@@ -69,13 +72,26 @@ joined_whole kept whole =
     ∙ join_with_byte-slice_split semicolon (through_stored 1024 kept)
     ∙ through_stored-all 1024 kept (subst (λ l. length (concat l) < 1024) few stored)
 
+-- the parts lack the separator
+lacking : (kept : List ℕ) → EachLacks semicolon (take 16 (split (through_stored 1024 kept)))
+unfolding split
+lacking kept =
+    let stored = through_stored 1024 kept in
+    AllByRecursion-take (EachIs (λ b. not (eqb b semicolon))) 16 (split stored) (slice_split-each (λ b. true) semicolon stored (each stored))
+  where
+    each : (bytes : List ℕ) → EachIs (λ b. true) bytes
+    each [] = tt
+    each (b ∷ bytes) = (refl, each bytes)
+
 parted : (parts : List (List ℕ)) (kept : List ℕ) → is_link_command parts ≡ true → uri_of parts ≢ [] → join_with_byte semicolon parts ≡ kept
-    → (params : List ℕ) × (kept ≡ codes "8;" ++ (params ++ (semicolon ∷ uri_of parts)))
-parted [] kept command some joined = absurd (some refl)
-parted (number ∷ []) kept command some joined = absurd (some refl)
-parted (number ∷ params ∷ []) kept command some joined = absurd (some refl)
-parted (number ∷ params ∷ first ∷ others) kept command some joined = (
+    → EachLacks semicolon parts
+    → (params : List ℕ) × EachIs (λ b. not (eqb b semicolon)) params × (kept ≡ codes "8;" ++ (params ++ (semicolon ∷ uri_of parts)))
+parted [] kept command some joined lacks = absurd (some refl)
+parted (number ∷ []) kept command some joined lacks = absurd (some refl)
+parted (number ∷ params ∷ []) kept command some joined lacks = absurd (some refl)
+parted (number ∷ params ∷ first ∷ others) kept command some joined lacks = (
   params,
+  lacks.1.0,
   sym joined ∙ ap (λ l. l ++ (semicolon ∷ (params ++ (semicolon ∷ join_with_byte semicolon (first ∷ others))))) ((bytes_eq-Decides number (codes "8")).0 command),
 )
 
@@ -85,5 +101,9 @@ says_link text command some =
     let parts = parts_of text in
     let kept = filter is_kept text in
     let from = from_whole parts some in
-    let said = parted parts kept command (λ none. some (from.1 ∙ none)) (joined_whole kept from.0) in
-    record { params = said.0; whole = said.1 ∙ ap (λ l. codes "8;" ++ (said.0 ++ (semicolon ∷ l))) (sym from.1) }
+    let said = parted parts kept command (λ none. some (from.1 ∙ none)) (joined_whole kept from.0) (lacking kept) in
+    record {
+      params = said.0;
+      no_separator = said.1;
+      whole = said.2 ∙ ap (λ l. codes "8;" ++ (said.0 ++ (semicolon ∷ l))) (sym from.1);
+    }

@@ -15,3 +15,6 @@ pub mod Styled
 pub mod ShownLinks
 pub mod Writer
 pub mod AddingProof
+pub mod Lines
+pub mod Liner
+pub mod LiningProof

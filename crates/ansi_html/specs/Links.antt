@@ -3,7 +3,7 @@
 -- Source: Egmont Koblinger, "Hyperlinks (a.k.a. HTML-like anchors) in terminal emulators" (the gist
 -- egmontkob/eb114294efbcd5adb1944c9f3cb5feda): `OSC 8 ; params ; URI ST` begins a link, and
 -- `OSC 8 ; ; ST` ends it. A link is its URI, and none is the empty list.
-use Rattle.std.specs.Prelude.{◌≡◌, ℕ, ◌⊎◌, Bool, false, ◌||◌, ◌&&◌, nat_le, nat_lt, nat_eq, ◌==◌, List, [], ◌∷◌, ◌++◌, codes, length, filter, IsTrue, if◌then◌else◌}
+use Rattle.std.specs.Prelude.{◌≡◌, ℕ, ◌⊎◌, Bool, false, ◌||◌, ◌&&◌, nat_le, nat_lt, nat_eq, ◌==◌, not, List, [], ◌∷◌, ◌++◌, codes, length, filter, IsTrue, if◌then◌else◌}
 use Rattle.std.specs.Str.{bytes_eq}
 use Rattle.std.specs.List.{list_all, concat, starts_with, join_with_byte}
 use Rattle.anstyle_parse.specs.Stream.Bytes.{semicolon}
@@ -45,7 +45,7 @@ is_link_command (number ∷ others) = bytes_eq number (codes "8")
 abbrev pub is_whole : List (List ℕ) → Bool
 is_whole parts = nat_lt (length parts) max_osc_parts && nat_lt (length (concat parts)) max_osc_bytes
 
--- the URI of such a command: all behind the second separator, also where the parser parted it
+-- the URI of such a command: all after the second separator, also where the parser parted it
 abbrev pub uri_of : List (List ℕ) → List ℕ
 uri_of [] = []
 uri_of (number ∷ []) = []
@@ -56,9 +56,10 @@ unfoldable pub link_of : List (List ℕ) → List ℕ
 link_of parts = if is_whole parts && is_linkable (uri_of parts) then uri_of parts else []
 
 -- The text of a command says a link: that is all of it, but for the controls that a parser drops,
--- behind `8;`, the parameters and a separator.
+-- after `8;`, the parameters, which have no separator, and one separator.
 pub record SaysLink (text link : List ℕ) : Type 0 where
   pub params : List ℕ
+  pub no_separator : EachIs (λ b. not (b == semicolon)) params
   pub whole : filter is_kept text ≡ codes "8;" ++ (params ++ (semicolon ∷ link))
 
 -- the link after a call

@@ -24,7 +24,8 @@ ghost use Rattle.ansi_html.specs.declared.scheme.Scheme.{Scheme};
 ghost use Rattle.ansi_html.specs.Css.{selects_both, colors_css};
 ghost use Rattle.ansi_html.specs.Links.{IsLink, is_link_command, link_of, SaysLink};
 ghost use Rattle.ansi_html.specs.Html.{no_element, html_text, html_ending, html, html_of_a_byte, html_of_an_end, escaped_text, value_of};
-ghost use Rattle.ansi_html.specs.Reader.{no_attributes, byte_of, href_of, under, read, normalized, drawn, ends_in_return, shown_from};
+ghost use Rattle.ansi_html.specs.Reader.{no_attributes, byte_of, href_of, under, seen, read, normalized, drawn, ends_in_return, shown_from};
+ghost use Rattle.ansi_html.specs.Lines.{lined_text, lined_ending, lined_html, AreLines};
 ghost use Rattle.ansi_html.specs.Grammar.{AreReadable, IsFragment};
 ghost use Rattle.ansi_html.specs.declared.class.Class.{Class};
 ghost use Rattle.ansi_html.specs.Classes.{class_name, classes_of};
@@ -36,6 +37,8 @@ pub mod contrast;
 mod css;
 mod digits;
 pub mod laws;
+mod line;
+mod lines;
 mod link;
 mod nearest;
 mod palette;
@@ -49,6 +52,7 @@ mod uri;
 mod verbatim;
 
 use anstyle_parse::canon::{Fault, Output, Sink, Source, write_calls_by};
+pub use lines::LinesWriter;
 pub use link::{Link, is_link_command};
 pub use performer::HtmlWriter;
 use performer::put_escaped;
@@ -119,7 +123,7 @@ pub fn convert<R: Source, W: Sink>(
     // A link's URI begins with https://, http:// or mailto:, and is visible ASCII.
     ensures links { (calls : List Call) → AllByRecursion IsLink (map href_of (read (html styling calls))) }
 
-    // It is the whole URI that a command says, none that was cut.
+    // It is the whole URI that a command says, all after its second `;`, and none that was cut.
     ensures whole_links { (text : List ℕ) → IsTrue (is_link_command (parts_of text)) → link_of (parts_of text) ≢ []
         → SaysLink text (link_of (parts_of text)) }
 
@@ -139,6 +143,47 @@ pub fn convert<R: Source, W: Sink>(
     let mut output = Output::new(writer);
     output.put(head);
     write_calls_by(HtmlWriter::new(styling, output), reader, tail)
+}
+
+/// Writes the same in lines that can be linked to: each line of the text, with the line feed at its end, is one
+/// element, `<span id="L…">…</span>`, and what a style or a link goes on over stands in each of its lines anew. First
+/// in it stands `<a href="#L…" data-line="…"></a>`, a link of no text to the line itself: a stylesheet may draw the
+/// number there, which is then no part of the text and is not copied with it. Lines are numbered from 1; after 2^64 - 1
+/// of them the number stays. What is read, written and answered otherwise is as for [`convert`].
+pub fn convert_lines<R: Source, W: Sink>(
+    styling: Styling,
+    head: &[u8],
+    reader: &mut R,
+    writer: W,
+    tail: &[u8],
+) -> (W, Result<(), Fault>)
+    // What is written is the head, the HTML in lines of the calls of what was read, and the tail.
+    ensures runs { RunsToEnding R.Source W.Sink
+        (λ calls. head.now ++ lined_text styling calls) (λ calls. lined_ending calls ++ tail.now)
+        reader.old reader.new writer result.0 result.1 }
+
+    // With Ok nothing of it is held back.
+    ensures handed_on { OnOk result.1 (W.holds_nothing result.0) }
+
+    // A reader sees what it sees of the HTML that `convert` writes: text, line breaks, styles and links,
+    ensures same { (calls : List Call) → seen (lined_html styling calls) ≡ seen (html styling calls) }
+
+    // so that it reads the bytes of the stripped text, each with its style and its link.
+    ensures read_back { (calls : List Call) → read (lined_html styling calls) ≡ shown_from styling no_element calls }
+    ensures text { (calls : List Call) → map byte_of (read (lined_html styling calls)) ≡ stripped calls }
+
+    // Each line is one element, with its number, in which nothing stands but what may stand in the HTML that
+    // `convert` writes.
+    ensures numbered { (bytes : List ℕ) (calls : List Call) → AreCalls bytes calls
+        → AreLines styling 0 (lined_html styling calls) }
+
+    // It is UTF-8, whatever was read.
+    ensures utf8 { (bytes : List ℕ) (calls : List Call) → AreCalls bytes calls
+        → IsUtf8 (lined_html styling calls) }
+{
+    let mut output = Output::new(writer);
+    output.put(head);
+    write_calls_by(LinesWriter::new(styling, output), reader, tail)
 }
 
 /// Writes the stylesheet for HTML by [`Styling::Classes`], for the pages of `scheme`: for each class that a style can

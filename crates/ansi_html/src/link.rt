@@ -102,6 +102,21 @@ impl Links {
         self.has_next = false;
     }
 
+    /// The last text has no link any more; the one for what comes stays.
+    #[inline(always)]
+    pub(crate) fn end_shown(&mut self)
+        ensures shown { shown_link self.new ≡ [] }
+        ensures selected { selected_link self.new ≡ selected_link self.old }
+    {
+        self.shows_second = self.shows_second != !self.has_next;
+        self.has_next = true;
+        if self.shows_second {
+            self.second.clear();
+        } else {
+            self.first.clear();
+        }
+    }
+
     /// Selects the link of a command that is OSC 8.
     pub(crate) fn select(&mut self, parts: &[&[u8]])
         ensures shown { shown_link self.new ≡ shown_link self.old }
@@ -148,7 +163,7 @@ impl Link {
     }
 
     /// Becomes the same as another.
-    pub(crate) fn assign(&mut self, other: &Link)
+    pub fn assign(&mut self, other: &Link)
         ensures { link_in self.new ≡ link_in other.now }
     {
         self.uri.clear();

@@ -5,11 +5,13 @@ ghost use Rattle.ansi_style.specs.Style.{plain};
 ghost use Rattle.ansi_html.specs.Classes.{class_names, classes_of};
 ghost use Rattle.ansi_html.specs.Grammar.{is_special, AreClear, BeginWithClear};
 ghost use Rattle.ansi_html.specs.ShownLinks.{has_next, shown_link, selected_link};
+ghost use Rattle.ansi_html.specs.Lines.{line_begin, line_end, ended};
 ghost use Rattle.ansi_html.specs.Html.{line_break, beginning, value_of, attribute_text, span_begin, span_end, link_begin, link_end, element, element_begin, element_end, change, escaped, escaped_text};
 
 use crate::chunks::{CHUNK, clear_count, specials};
 use crate::class::put_classes;
 use crate::css::is_plain;
+use crate::line::put_line_begin;
 use crate::link::{Links, is_link_command};
 use crate::scheme::{Scheme, Styling};
 use crate::standing::{Element, Standing};
@@ -139,6 +141,31 @@ impl<W: Sink> HtmlWriter<W> {
             self.returned = false;
             put_line_break(&mut self.output, is_line_feed);
         }
+    }
+
+    /// Begins the element of a line, where no element is open.
+    #[inline(never)]
+    pub(crate) fn begin_line(&mut self, number: u64)
+        ensures styling { styling_of self.new ≡ styling_of self.old }
+        ensures standing { standing_of self.new ≡ standing_of self.old }
+        ensures added { Adds W.Sink (line_begin number) (output_of self.old) (output_of self.new) }
+    {
+        put_line_begin(&mut self.output, number);
+    }
+
+    /// Ends the element that is open, and that of the line around it. What is selected stays.
+    #[inline(never)]
+    pub(crate) fn end_line(&mut self)
+        ensures styling { styling_of self.new ≡ styling_of self.old }
+        ensures standing { standing_of self.new ≡ ended (standing_of self.old) }
+        ensures added { Adds W.Sink (element_end (standing_of self.old).shown ++ line_end)
+            (output_of self.old) (output_of self.new) }
+    {
+        put_end(&mut self.output, &self.shown, self.links.shown());
+        self.output.put(b"</span>");
+        self.has_selected = true;
+        self.shown = Style::default();
+        self.links.end_shown();
     }
 
     /// Writes text of no byte with a meaning in HTML.

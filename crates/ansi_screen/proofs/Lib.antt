@@ -10,6 +10,7 @@ pub mod WholeLemmas
 pub mod KeptLemmas
 pub mod KeptCalls
 pub mod RangeLemmas
+pub mod TableLemmas
 pub mod TextLemmas
 pub mod CallLemmas
 pub mod RepeatLemmas

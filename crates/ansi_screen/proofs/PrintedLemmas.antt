@@ -1,7 +1,7 @@
 -- Texts that come into their cells at once.
-use Rattle.std.proofs.Common.{◌≡◌, ℕ, zero, suc, ◌+◌, ◌-◌, ◌<◌, ◌≤◌, Bool, true, false, ◌&&◌, List, [], ◌∷◌, ◌++◌, length, get_or, take, refl, ap, ap₂, sym, ◌∙◌, subst, arith}
+use Rattle.std.proofs.Common.{◌≡◌, ◌≢◌, ℕ, zero, suc, ◌+◌, ◌-◌, ◌<◌, ◌≤◌, Bool, true, false, ◌&&◌, List, [], ◌∷◌, ◌++◌, length, get_or, take, refl, ap, ap₂, sym, ◌∙◌, subst, arith}
 use Rattle.std.specs.Prelude.{nat_lt, nat_le, not, ◌==◌, Option}
-use Rattle.std.proofs.lemmas.Bool.{le-ltb, lt-leb, and_parts, leb-true}
+use Rattle.std.proofs.lemmas.Bool.{le-ltb, lt-leb, ne_eqb, and_parts, leb-true}
 use Rattle.std.specs.Prelude.{min}
 use Rattle.std.proofs.lemmas.List.{length-take-le, map-append}
 use Rattle.anstyle_parse.proofs.Lists.Parts.{AllByRecursion-take}
@@ -50,6 +50,22 @@ unfolding printed shown put wrapped with_room with_glyph
 one-printed c d is one stays letters room =
     let fits : nat_lt d.width (d.cursor.column + 1) ≡ false = le-ltb d.width (d.cursor.column + 1) room in
     rw (is, letters, one, fits, fits, stays) refl
+
+-- any character that takes columns for which the row has room, out of insert mode
+pub shown-at-once : (n c : ℕ) (d : Display) → n ≡ columns c → n ≢ 0 → d.cursor.column + n ≤ d.width → d.inserts ≡ false → with_glyph n c d ≡ shown c d
+unfolding shown put wrapped with_room
+shown-at-once n c d is some room stays =
+    let none : (columns c == 0) ≡ false = ne_eqb (columns c) 0 (λ e. some (is ∙ e)) in
+    let fits : nat_lt d.width (d.cursor.column + columns c) ≡ false = le-ltb d.width (d.cursor.column + columns c) (omega (arith, is, room)) in
+    rw (is, none, fits, fits, stays) refl
+
+pub shown-there : (n m c : ℕ) (v d new : Display) → v ≡ d → n ≡ columns c → m ≡ n → n ≢ 0 → v.cursor.column + m ≤ v.width → v.inserts ≡ false
+    → new ≡ with_glyph n c d → new ≡ shown c d
+shown-there n m c v d new same is from some room stays put =
+    let fits : v.cursor.column + n ≤ v.width = omega (arith, from, room) in
+    put
+    ∙ shown-at-once n c d is some (subst (λ (x : Display). x.cursor.column + n ≤ x.width) same fits)
+    (subst (λ (x : Display). x.inserts ≡ false) same stays)
 
 module _ (c : ℕ) (text : List ℕ) (d : Display) (ascii : is_printed_ascii c ≡ true) (room : HasRoom (length (c ∷ text)) d) where
   first-printed : printed c d ≡ with_run (c ∷ []) d

@@ -1,17 +1,22 @@
 -- The text of rows, cell by cell and row by row.
-use Rattle.std.proofs.Common.{◌≡◌, ℕ, suc, ◌+◌, ◌-◌, ◌<◌, ◌≤◌, Bool, true, false, List, [], ◌∷◌, ◌++◌, length, get_or, take, refl, ap, sym, ◌∙◌, subst, arith, add-one}
-use Rattle.std.specs.Prelude.{◌==◌}
+use Rattle.std.proofs.Common.{◌≡◌, ℕ, suc, ◌+◌, ◌-◌, ◌<◌, ◌≤◌, Bool, true, false, List, [], ◌∷◌, ◌++◌, length, get_or, take, drop, set, refl, ap, ap₂, sym, ◌∙◌, subst, arith, add-one}
+use Rattle.std.specs.Prelude.{◌==◌, encode_utf8}
 use Rattle.std.specs.List.{flat_map}
 use Rattle.std.proofs.lemmas.Bool.{ne_eqb}
 use Rattle.std.proofs.lemmas.Grind.{flat_map-append}
-use Rattle.std.proofs.lemmas.List.{take_more, length-take-le, flat_map_more, append_assoc}
+use Rattle.std.proofs.Math.Seq.{take-append-add}
+use Rattle.std.proofs.lemmas.List.{take_more, length-take-le, length-append, length-drop, nil_from_length, flat_map_more, append_assoc, append-nil}
+use borrow.Rule.Slice.PartMut.{put_mid}
 use Rattle.anstyle_parse.specs.declared.io.devices.Sink.{Ghosts as SinkOf}
 use Rattle.anstyle_parse.specs.declared.io.output.Output.{Output}
 use Rattle.anstyle_parse.specs.Io.Output.{Adds}
 use Rattle.anstyle_parse.proofs.Written.Output.{Adds-append, Adds-append3}
 use Rattle.ansi_screen.specs.declared.cell.Cell.{Cell}
+use Rattle.ansi_screen.specs.declared.cell.Marks.{Marks}
+use Rattle.ansi_screen.specs.declared.cell.Marks.TheVariants.{Unmarked, One, Two}
+use Rattle.ansi_screen.specs.Cells.{is_right}
 use Rattle.ansi_screen.specs.Display.{Display, row_cells}
-use Rattle.ansi_screen.specs.Text.{used, cell_text, row_text, rows_text}
+use Rattle.ansi_screen.specs.Text.{used, marks_text, is_unmarked, cell_text, row_text, rows_text}
 
 -- one cell more, which is left out at the end, or is not
 module _ (is_left_out : Cell → Bool) where
@@ -94,3 +99,60 @@ module _ {W : Type 0} (sink : SinkOf W) where
       ap (λ (l : List Cell). (rows_text row d ++ row_text l) ++ 0x0A ∷ []) same ∙ append_assoc (rows_text row d) (row_text (row_cells row d)) (0x0A ∷ []) in
       subst (λ t. Adds sink t a e) (whole ∙ ap (λ n. rows_text n d) (sym (add-one row)))
       (Adds-append3 sink (rows_text row d) (row_text cells) (0x0A ∷ []) a b c e first second third)
+
+-- one cell more, as bytes
+pub text-more : (cells : List Cell) (i : ℕ) (d : Cell) (bytes more : List ℕ) → i < length cells → bytes ≡ flat_map cell_text (take i cells)
+    → more ≡ cell_text (get_or cells i d) → bytes ++ more ≡ flat_map cell_text (take (i + 1) cells)
+text-more cells i d bytes more inside is one =
+    ap₂ (λ x y. x ++ y) is one
+    ∙ (flat_map_more cell_text [] (take i cells) (get_or cells i d) ∙ ap (λ l. flat_map cell_text l) (sym (take_more cells i d inside)))
+
+-- A block of bytes after some are written to what comes after its first ones.
+module _ (size filled : ℕ) (block bytes : List ℕ) (long : length block ≡ size) (inside : filled ≤ size) where
+  written : put_mid filled (size - filled) block bytes ≡ take filled block ++ bytes
+  written =
+      let none = nil_from_length (drop (size - filled) (drop filled block))
+      (omega (arith, long, length-drop (size - filled) (drop filled block), length-drop filled block)) in
+      ap (λ l. take filled block ++ (bytes ++ l)) none ∙ ap (λ l. take filled block ++ l) (append-nil bytes)
+
+  front-long : length (take filled block) ≡ filled
+  front-long = length-take-le filled block (omega (arith, long, inside))
+
+  pub length-filled : length bytes ≡ size - filled → length (put_mid filled (size - filled) block bytes) ≡ size
+  length-filled rest = ap length written ∙ omega (arith, length-append (take filled block) bytes, front-long, rest, inside)
+
+  pub filled-more : (n : ℕ) → take (filled + n) (put_mid filled (size - filled) block bytes) ≡ take filled block ++ take n bytes
+  filled-more n =
+      ap (take (filled + n)) written
+      ∙ (ap (λ k. take (k + n) (take filled block ++ bytes)) (sym front-long) ∙ take-append-add (take filled block) bytes n)
+
+-- a cell without marks
+pub unmarked-right : (cell : Cell) → is_right cell.part ≡ true → cell_text cell ≡ []
+unfolding cell_text
+unmarked-right cell is = rw is refl
+
+no-marks : (marks : Marks) → is_unmarked marks ≡ true → marks_text marks ≡ []
+no-marks Unmarked is = refl
+no-marks (One first) is = cc
+no-marks (Two first second) is = cc
+
+pub unmarked-other : (cell : Cell) → is_right cell.part ≡ false → is_unmarked cell.marks ≡ true → cell_text cell ≡ encode_utf8 cell.character
+unfolding cell_text
+unmarked-other cell is none = rw (is, no-marks cell.marks none) (append-nil (encode_utf8 cell.character))
+
+-- the front of a list after some are set there
+pub set-one : (l : List ℕ) (a : ℕ) → 1 ≤ length l → take 1 (set l 0 a) ≡ a ∷ []
+set-one [] a inside = absurd (omega (arith, inside))
+set-one (x ∷ l) a inside = refl
+
+pub set-two : (l : List ℕ) (a b : ℕ) → 2 ≤ length l → take 2 (set (set l 0 a) 1 b) ≡ a ∷ b ∷ []
+set-two [] a b inside = absurd (omega (arith, inside))
+set-two (x ∷ l) a b inside = ap (λ t. a ∷ t) (set-one l b (omega (arith, inside)))
+
+pub set-three : (l : List ℕ) (a b d : ℕ) → 3 ≤ length l → take 3 (set (set (set l 0 a) 1 b) 2 d) ≡ a ∷ b ∷ d ∷ []
+set-three [] a b d inside = absurd (omega (arith, inside))
+set-three (x ∷ l) a b d inside = ap (λ t. a ∷ t) (set-two l b d (omega (arith, inside)))
+
+pub set-four : (l : List ℕ) (a b d e : ℕ) → 4 ≤ length l → take 4 (set (set (set (set l 0 a) 1 b) 2 d) 3 e) ≡ a ∷ b ∷ d ∷ e ∷ []
+set-four [] a b d e inside = absurd (omega (arith, inside))
+set-four (x ∷ l) a b d e inside = ap (λ t. a ∷ t) (set-three l b d e (omega (arith, inside)))

@@ -1,10 +1,13 @@
 -- Control functions that change the cursor alone, those that change cells and the cursor alone, and control sequences
 -- that change modes and the cursor alone.
-use Rattle.std.specs.Prelude.{ℕ, Bool, true, false, ◌&&◌, ◌||◌, not, ◌==◌, List, [], ◌∷◌, if◌then◌else◌}
+use Rattle.std.specs.Prelude.{ℕ, ◌-◌, Bool, true, false, ◌&&◌, ◌||◌, not, ◌==◌, List, [], ◌∷◌, if◌then◌else◌}
 use Rattle.ansi_screen.specs.declared.function.Edit.TheVariants.{InsertCharacters, EraseInLine, DeleteCharacters, EraseCharacters}
 use Rattle.ansi_screen.specs.declared.function.Function.{Function}
 use Rattle.ansi_screen.specs.declared.function.Function.TheVariants.{Edits, Moves, Sets, Nothing}
 use Rattle.ansi_screen.specs.declared.function.Setting.TheVariants.{Rendition, SetModes, ResetModes, ScrollUp, ScrollDown, ForwardTab}
+use Rattle.ansi_screen.specs.Cells.{cell_at}
+use Rattle.ansi_screen.specs.Display.{Display, row_start}
+use Rattle.ansi_screen.specs.Edits.{erases_first}
 use Rattle.ansi_screen.specs.Modes.{first_field}
 use Rattle.ansi_screen.specs.After.{function_of}
 
@@ -22,6 +25,15 @@ edits_row (Edits DeleteCharacters) = true
 edits_row (Edits EraseInLine) = true
 edits_row (Edits EraseCharacters) = true
 edits_row function = false
+
+abbrev pub is_erase_in_line : Function → Bool
+is_erase_in_line (Edits EraseInLine) = true
+is_erase_in_line function = false
+
+-- The row above goes on in the cursor's row, and ends: by EL of the first cell of that, which has this number.
+abbrev pub ends_above : Function → ℕ → Display → Bool
+ends_above function number d =
+    is_erase_in_line function && (erases_first number d && (cell_at (row_start d - 1) d.cells).goes_on)
 
 -- edits of cells in whatever rows: these, ED, IL and DL; SU and SD
 abbrev pub edits_cells : Function → Bool

@@ -12,7 +12,7 @@ use Rattle.ansi_screen.specs.declared.text.LeftOut.TheVariants.{Blanks, Unprinte
 use Rattle.ansi_screen.specs.Cells.{is_right, cell_at}
 use Rattle.ansi_screen.specs.Display.{Display, row_cells}
 
--- the characters of no column that came behind a cell's own
+-- the characters of no column that came after a cell's own
 abbrev pub marks_text : Marks → List ℕ
 marks_text Unmarked = []
 marks_text (One first) = encode_utf8 first

@@ -1,10 +1,12 @@
-//! Control sequences that leave all cells as they are.
+//! Control sequences that leave all cells as they are, and those that leave the row above.
 ghost use Rattle.std.specs.Prelude.{◌≡◌};
 ghost use Rattle.anstyle_parse.specs.Views.Params.{groups_shown};
-ghost use Rattle.ansi_screen.specs.Alone.{keep_screen, modes_alone};
+ghost use Rattle.ansi_screen.specs.After.{first_of, function_of};
+ghost use Rattle.ansi_screen.specs.Alone.{keep_screen, modes_alone, ends_above};
 
-use crate::display::first_field;
+use crate::display::{first_field, first_of};
 use crate::function::Function;
+use crate::screen::Screen;
 use anstyle_parse::Params;
 
 /// The mode by which the alternate screen comes and goes.
@@ -42,5 +44,17 @@ pub fn modes_alone(params: &Params, intermediates: &[u8], final_byte: u8) -> boo
             }
         }
         _ => true,
+    }
+}
+
+impl Screen {
+    /// Whether a control sequence without intermediates ends the row above the cursor's: EL does, where that row goes on
+    /// in the cursor's and the first cell of this one is erased.
+    pub fn ends_row_above(&self, params: &Params, final_byte: u8) -> bool
+        ensures { result ≡ ends_above (function_of final_byte) (first_of (groups_shown params.now)) self.now.display }
+    {
+        Function::of(final_byte).is_erase_in_line()
+            && self.display().erases_first(first_of(params))
+            && self.display().is_continued()
     }
 }

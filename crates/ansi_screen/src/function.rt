@@ -1,7 +1,7 @@
 //! Control functions by their final byte.
 ghost use Rattle.std.specs.Prelude.{◌≡◌};
 ghost use Rattle.ansi_screen.specs.After.{function_of, is_known};
-ghost use Rattle.ansi_screen.specs.Alone.{moves_alone, edits_row, edits_cells, sets_alone};
+ghost use Rattle.ansi_screen.specs.Alone.{moves_alone, edits_row, is_erase_in_line, edits_cells, sets_alone};
 
 /// Edits of cells.
 #[derive(Clone, Copy)]
@@ -153,6 +153,13 @@ impl Function {
                     | Edit::EraseCharacters
             )
         )
+    }
+
+    /// Whether it is EL.
+    pub(crate) fn is_erase_in_line(self) -> bool
+        ensures { result ≡ is_erase_in_line self }
+    {
+        matches!(self, Function::Edits(Edit::EraseInLine))
     }
 
     /// Whether it changes nothing but cells and the cursor: an edit of cells, SU or SD.

@@ -27,22 +27,23 @@ pub const MAX_ROWS: usize = 1000;
 #[derive(Drop)]
 pub struct Screen {
     display: Display,
-    /// What REP repeats: the character of the call just before.
-    last: Option<char>,
+    /// The character of the call just before, where that printed one: REP repeats it if it takes columns.
+    printed: Option<char>,
 }
 
 impl Model for Screen {
-    ghost use Rattle.ansi_screen.specs.After.{State};
+    ghost use Rattle.std.specs.Option.{option_and_then};
+    ghost use Rattle.ansi_screen.specs.After.{State, repeatable};
 
     ghost Value = { State };
 
     ghost view = { λ s. record {
       display = s.display;
-      last = s.last;
+      last = option_and_then repeatable s.printed;
     } };
 }
 
-/// What REP repeats behind a character.
+/// What REP repeats after a character.
 #[tactic(auto, unfolding(crate::specs::After::repeatable))]
 fn repeatable(c: char) -> Option<char>
     ensures { result ≡ repeatable c }
@@ -84,7 +85,7 @@ impl Screen {
         let display = Display::new(alloc, columns, rows)?;
         Ok(Screen {
             display,
-            last: None,
+            printed: None,
         })
     }
 
@@ -144,7 +145,7 @@ impl Screen {
     {
         self.display
             .catch_up(other.display(), first, past, is_framed);
-        self.last = other.last;
+        self.printed = other.printed;
     }
 
     /// What a character does before anything scrolls: where autowrap comes before it, the cursor's row
@@ -188,9 +189,16 @@ impl Screen {
         let count = self.display.room().min(run.len());
         if count > 0 {
             self.display.put_run(&run[..count]);
-            self.last = repeatable(char::from(run[count - 1]));
+            self.printed = Some(char::from(run[count - 1]));
         }
         count
+    }
+
+    /// What REP repeats.
+    fn last(&self) -> Option<char>
+        ensures { result ≡ self.now.last }
+    {
+        self.printed.and_then(repeatable)
     }
 
     /// What it shows.
@@ -209,46 +217,47 @@ impl Perform for Screen {
 
     fn print(&mut self, c: char) {
         self.display.print(c);
-        self.last = repeatable(c);
+        self.printed = Some(c);
     }
 
     fn execute(&mut self, byte: u8) {
         self.display.execute(byte);
-        self.last = None;
+        self.printed = None;
     }
 
     fn hook(&mut self, _params: &Params, _intermediates: &[u8], _ignore: bool, _action: u8) {
-        self.last = None;
+        self.printed = None;
     }
 
     fn put(&mut self, _byte: u8) {
-        self.last = None;
+        self.printed = None;
     }
 
     fn unhook(&mut self) {
-        self.last = None;
+        self.printed = None;
     }
 
     fn osc_dispatch(&mut self, params: &[&[u8]], _bell_terminated: bool) {
         self.display.command(params);
-        self.last = None;
+        self.printed = None;
     }
 
     fn csi_dispatch(&mut self, params: &Params, intermediates: &[u8], ignore: bool, action: u8) {
         if !ignore && is_repeat(intermediates, action) {
             let count = first_of(params).max(1);
-            self.display.repeat(count, self.last);
+            let last = self.last();
+            self.display.repeat(count, last);
         } else if !ignore {
             self.display.sequence(params, intermediates, action);
         }
-        self.last = None;
+        self.printed = None;
     }
 
     fn esc_dispatch(&mut self, intermediates: &[u8], ignore: bool, byte: u8) {
         if !ignore {
             self.display.designate(intermediates, byte);
         }
-        self.last = None;
+        self.printed = None;
     }
 }
 

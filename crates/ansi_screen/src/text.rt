@@ -1,16 +1,19 @@
 //! What a screen shows, as text.
-ghost use Rattle.std.specs.Prelude.{◌≡◌, ◌-◌, ◌≤◌, ◌<◌, [], ◌∷◌, length, take, IsTrue};
+ghost use Rattle.std.specs.Prelude.{◌≡◌, ◌-◌, ◌≤◌, ◌<◌, [], ◌∷◌, length, take, encode_utf8, IsTrue};
 ghost use Rattle.std.specs.List.{flat_map};
 ghost use Rattle.anstyle_parse.specs.Io.Output.{Adds};
-ghost use Rattle.ansi_screen.specs.Text.{is_blank, is_unprinted, left_out, used, goes_on, cell_text, row_text, used_rows, rows_text, text_of, marks_text};
+ghost use Rattle.ansi_screen.specs.Text.{is_blank, is_unprinted, left_out, used, goes_on, is_unmarked, cell_text, row_text, used_rows, rows_text, text_of, marks_text};
 
 use crate::cell::{Cell, Marks, Part};
 use crate::display::Display;
 use crate::screen::Screen;
 use anstyle_parse::io::{Output, Sink};
 
-/// How many cells are written at once, at most.
-const BLOCK: usize = 64;
+/// How many bytes are written at once, at most.
+const BLOCK: usize = 128;
+
+/// How many bytes a character has, at most.
+const LONGEST: usize = 4;
 
 /// Whether the cell is a space without marks, in whatever style.
 #[tactic(auto, unfolding(crate::specs::Text::is_blank))]
@@ -130,16 +133,31 @@ pub fn put_cells<W: Sink>(output: &mut Output<W>, cells: &[Cell])
     let mut block = [0; BLOCK];
     let mut rest = cells;
     'rest: while let Some((first, further)) = rest.split_first() {
-        let count = copy_ascii(rest, &mut block);
+        let (count, filled) = copy_unmarked(rest, &mut block);
         if count == 0 {
             put_cell(output, *first);
             rest = further;
         } else {
-            output.put(&block[..count]);
+            output.put(&block[..filled]);
             let (_, others) = rest.split_at(count);
             rest = others;
         }
     }
+}
+
+/// Copies the text of cells without marks at the front into the block: of those that have one byte each, or of
+/// others. Answers how many cells and how many bytes there are.
+#[inline]
+fn copy_unmarked(cells: &[Cell], block: &mut [u8; BLOCK]) -> (usize, usize)
+    ensures text { take result.1 block.new ≡ flat_map cell_text (take result.0 cells.now) }
+    ensures within { result.0 ≤ length cells.now }
+    ensures room { result.1 ≤ BLOCK }
+{
+    let count = copy_ascii(cells, block);
+    if count > 0 {
+        return (count, count);
+    }
+    copy_others(cells, block)
 }
 
 /// Whether a cell's text is its character alone, in one byte.
@@ -169,6 +187,79 @@ fn copy_ascii(cells: &[Cell], block: &mut [u8; BLOCK]) -> usize
         block[i] = cell.character as u8;
     }
     count
+}
+
+/// Copies the text of the cells at the front into the block, as far as it has room, up to one that has marks or one
+/// byte. Answers how many cells and how many bytes there are.
+fn copy_others(cells: &[Cell], block: &mut [u8; BLOCK]) -> (usize, usize)
+    ensures text { take result.1 block.new ≡ flat_map cell_text (take result.0 cells.now) }
+    ensures within { result.0 ≤ length cells.now }
+    ensures room { result.1 ≤ BLOCK }
+{
+    let count = cells.len().min(BLOCK / LONGEST);
+    let mut filled = 0;
+    for i in 0..count {
+        let cell = &cells[i];
+        if !is_unmarked(cell) || is_ascii_alone(cell) {
+            return (i, filled);
+        }
+        filled += copy_unmarked_cell(cell, &mut block[filled..]);
+    }
+    (count, filled)
+}
+
+/// Whether a cell has no marks.
+#[inline(always)]
+fn is_unmarked(cell: &Cell) -> bool
+    ensures { result ≡ is_unmarked cell.now.marks }
+{
+    matches!(cell.marks, Marks::Unmarked)
+}
+
+/// Copies a cell's character to the front of these bytes, unless it is a right half, and answers how many bytes it has.
+#[inline(always)]
+fn copy_unmarked_cell(cell: &Cell, bytes: &mut [u8]) -> usize
+    requires unmarked { IsTrue (is_unmarked cell.now.marks) }
+    requires room { LONGEST ≤ length bytes.old }
+    ensures text { take result bytes.new ≡ cell_text cell.now }
+    ensures few { result ≤ LONGEST }
+{
+    if cell.is_right() {
+        return 0;
+    }
+    copy_character(cell.character, bytes)
+}
+
+/// Copies a character to the front of these bytes, in UTF-8, and answers how many bytes it has.
+#[inline(always)]
+fn copy_character(c: char, bytes: &mut [u8]) -> usize
+    requires { LONGEST ≤ length bytes.old }
+    ensures text { take result bytes.new ≡ encode_utf8 c }
+    ensures few { result ≤ LONGEST }
+{
+    let number = u32::from(c);
+    if number < 0x80 {
+        bytes[0] = number as u8;
+        return 1;
+    }
+    let last = (0x80 + number % 64) as u8;
+    if number < 0x800 {
+        bytes[0] = (0xC0 + number / 64) as u8;
+        bytes[1] = last;
+        return 2;
+    }
+    let third = (0x80 + number / 64 % 64) as u8;
+    if number < 0x10000 {
+        bytes[0] = (0xE0 + number / 4096) as u8;
+        bytes[1] = third;
+        bytes[2] = last;
+        return 3;
+    }
+    bytes[0] = (0xF0 + number / 262144) as u8;
+    bytes[1] = (0x80 + number / 4096 % 64) as u8;
+    bytes[2] = third;
+    bytes[3] = last;
+    4
 }
 
 /// Writes the row, without the blanks at its end.

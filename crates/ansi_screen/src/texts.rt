@@ -50,6 +50,7 @@ pub(crate) fn print_by_runs<P: PutRuns>(performer: &mut P, text: &str)
 
 /// Prints printed ASCII. Where a row has no more room, the next character is printed by itself: autowrap may come
 /// before it, by which a row may leave.
+#[inline(always)]
 fn print_run<P: PutRuns>(performer: &mut P, run: &[u8])
     requires { EachIs is_printed_ascii run.now }
     ensures { P.receives performer.old (printing run.now) performer.new }

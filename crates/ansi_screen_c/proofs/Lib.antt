@@ -1,4 +1,4 @@
 pub mod Values
 pub mod HandleValues
 pub mod FeedLemmas
-pub mod DrawLemmas
+pub mod ToldLemmas

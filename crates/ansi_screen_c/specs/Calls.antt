@@ -60,3 +60,11 @@ ShowSameOf one other = ShowSame (display_of one) (display_of other)
 
 abbrev pub IsCopy : Terminal → Terminal → Type 0
 IsCopy terminal copy = copy ≡ terminal
+
+-- Bytes of a screen stand at the front of the room; or not, as above.
+abbrev pub ReadsOf : (Terminal → List ℕ) → (room room_after : List ℕ) (written : ℕ) → Terminal → Type 0
+ReadsOf read room room_after written terminal = HasText (read terminal) room room_after written
+
+abbrev pub IsRefusedOf : (Terminal → List ℕ) → (room : List ℕ) (needed : ℕ) → Option Terminal → Type 0
+IsRefusedOf read room needed None = needed ≡ 0
+IsRefusedOf read room needed (Some terminal) = (needed ≡ 0) ⊎ LacksRoom (read terminal) room needed

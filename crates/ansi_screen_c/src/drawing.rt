@@ -5,6 +5,7 @@ ghost use Rattle.screen_pieces.specs.Drawing.{drawing_of};
 ghost use Rattle.ansi_screen_c.specs.Calls.{Both, Holds, Reads, IsRefused, ReadsUpdate, IsRefusedUpdate};
 
 use crate::handle::Handle;
+use crate::told;
 use std::alloc::Global;
 
 /// Writes the bytes after which a terminal of its size shows the screen to the front of the room, and how many there are.
@@ -29,16 +30,7 @@ pub extern "C" fn ansi_screen_draw(
         Some(held) => {
             let answer = held.draw(alloc, room);
             screen.put(held);
-            match answer {
-                Ok(length) => {
-                    *written = length;
-                    true
-                }
-                Err(needed) => {
-                    *written = needed;
-                    false
-                }
-            }
+            told(answer, written)
         }
     }
 }
@@ -71,16 +63,7 @@ pub extern "C" fn ansi_screen_update(
                 let answer = first.update(alloc, &second, room);
                 shown.put(first);
                 wanted.put(second);
-                match answer {
-                    Ok(length) => {
-                        *written = length;
-                        true
-                    }
-                    Err(needed) => {
-                        *written = needed;
-                        false
-                    }
-                }
+                told(answer, written)
             }
         },
     }

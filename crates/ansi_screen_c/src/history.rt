@@ -5,8 +5,8 @@ ghost use Rattle.screen_pieces.specs.History.{text_of_kept};
 ghost use Rattle.screen_pieces.specs.Terminal.{HasKeptRow, history_of};
 ghost use Rattle.ansi_screen_c.specs.Calls.{OpensWith, Holds, ReadsKept, IsRefusedKept};
 
-use crate::boxed;
 use crate::handle::Handle;
+use crate::{boxed, told};
 use screen_pieces::CellBytes;
 use std::alloc::Global;
 
@@ -114,16 +114,7 @@ pub extern "C" fn ansi_screen_history_text(
         Some(held) => {
             let answer = held.history_text(number, room);
             screen.put(held);
-            match answer {
-                Ok(length) => {
-                    *written = length;
-                    true
-                }
-                Err(needed) => {
-                    *written = needed;
-                    false
-                }
-            }
+            told(answer, written)
         }
     }
 }

@@ -6,6 +6,7 @@ mod drawing;
 mod handle;
 mod history;
 mod loose;
+mod page;
 mod same;
 mod text;
 
@@ -25,6 +26,23 @@ fn is_size(columns: usize, rows: usize) -> bool
     ensures { OnTrue result ((2 ≤ columns) × (columns ≤ 1000) × (1 ≤ rows) × (rows ≤ 1000)) }
 {
     MIN_COLUMNS <= columns && columns <= MAX_COLUMNS && MIN_ROWS <= rows && rows <= MAX_ROWS
+}
+
+/// Tells an answer by its number, which is written, and by whether it is one.
+pub(crate) fn told(answer: Result<usize, usize>, written: &mut usize) -> bool
+    ensures ok { OnTrue result (answer ≡ Ok written.new) }
+    ensures err { OnFalse result (answer ≡ Err written.new) }
+{
+    match answer {
+        Ok(length) => {
+            *written = length;
+            true
+        }
+        Err(needed) => {
+            *written = needed;
+            false
+        }
+    }
 }
 
 /// A new screen on the heap, which keeps so many of the rows that leave it.

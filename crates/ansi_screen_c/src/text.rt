@@ -6,6 +6,7 @@ ghost use Rattle.screen_pieces.specs.Text.{text_of_row, text_of_part};
 ghost use Rattle.ansi_screen_c.specs.Calls.{Holds, Reads, IsRefused};
 
 use crate::handle::Handle;
+use crate::told;
 use std::alloc::Global;
 
 /// Writes the text of the screen to the front of the room, and how many bytes it has. It answers false where no screen
@@ -29,16 +30,7 @@ pub extern "C" fn ansi_screen_text(
         Some(held) => {
             let answer = held.text(room);
             screen.put(held);
-            match answer {
-                Ok(length) => {
-                    *written = length;
-                    true
-                }
-                Err(needed) => {
-                    *written = needed;
-                    false
-                }
-            }
+            told(answer, written)
         }
     }
 }
@@ -65,16 +57,7 @@ pub extern "C" fn ansi_screen_row_text(
         Some(held) => {
             let answer = held.row_text(row, room);
             screen.put(held);
-            match answer {
-                Ok(length) => {
-                    *written = length;
-                    true
-                }
-                Err(needed) => {
-                    *written = needed;
-                    false
-                }
-            }
+            told(answer, written)
         }
     }
 }
@@ -104,16 +87,7 @@ pub extern "C" fn ansi_screen_part_text(
         Some(held) => {
             let answer = held.part_text(row, start, end, room);
             screen.put(held);
-            match answer {
-                Ok(length) => {
-                    *written = length;
-                    true
-                }
-                Err(needed) => {
-                    *written = needed;
-                    false
-                }
-            }
+            told(answer, written)
         }
     }
 }

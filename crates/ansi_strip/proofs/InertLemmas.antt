@@ -117,16 +117,16 @@ pub inert-all_shown : (calls : List Call) → AreShown calls → filter is_inert
 inert-all_shown calls shown = filter-all is_inert calls (each-inert calls shown)
 
 -- inert text, piece by piece
-IsInertText-nil : IsInertText []
+pub IsInertText-nil : IsInertText []
 IsInertText-nil = (IsUtf8-nil, subst (EachIs is_inert_character) (sym chars-nil) tt)
 
-IsInertText-append : (first second : List ℕ) → IsInertText first → IsInertText second → IsInertText (first ++ second)
+pub IsInertText-append : (first second : List ℕ) → IsInertText first → IsInertText second → IsInertText (first ++ second)
 IsInertText-append first second one two = (
   IsUtf8-append first second one.0 two.0,
   subst (EachIs is_inert_character) (sym (chars-append first second one.0)) (EachIs-append is_inert_character (chars first) (chars second) one.1 two.1),
 )
 
-IsInertText-encode : (c : ℕ) → IsScalar c → is_inert_character c ≡ true → IsInertText (encode_utf8 c)
+pub IsInertText-encode : (c : ℕ) → IsScalar c → is_inert_character c ≡ true → IsInertText (encode_utf8 c)
 IsInertText-encode c scalar is =
     let utf8 = IsUtf8-encode c scalar in
     let one = chars_past_char (encode_utf8 c) [] c utf8 (sym (append-nil (encode_utf8 c))) ∙ ap (λ l. c ∷ l) chars-nil in

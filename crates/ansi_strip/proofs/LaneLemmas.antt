@@ -34,15 +34,18 @@ mask-beginnings n few bytes long =
     ap (λ l. mask_l l % 2 ^ 64) (ap (map (top 7)) both ∙ beginning-lanes bytes)
     ∙ mask_l-mod (map may_begin_driving bytes) 64 (omega (arith, few, long, length-map bytes may_begin_driving))
 
--- where no bit is set, all are clear
-pub clear-unset : (bytes : List ℕ) → mask_l (map may_begin_driving bytes) ≡ 0 → EachIs is_clear bytes
-clear-unset [] none = tt
-clear-unset (b ∷ bytes) none = by (clear-unset bytes) (may_begin_driving b) refl none
+-- where no bit is set, none passes the test: all are clear
+pub each-unset : (test : ℕ → Bool) (bytes : List ℕ) → mask_l (map test bytes) ≡ 0 → EachIs (λ b. not (test b)) bytes
+each-unset test [] none = tt
+each-unset test (b ∷ bytes) none = by (each-unset test bytes) (test b) refl none
   where
-    by : (mask_l (map may_begin_driving bytes) ≡ 0 → EachIs is_clear bytes) → (t : Bool) → may_begin_driving b ≡ t
-        → cond t 1 0 + 2 * mask_l (map may_begin_driving bytes) ≡ 0 → EachIs is_clear (b ∷ bytes)
+    by : (mask_l (map test bytes) ≡ 0 → EachIs (λ c. not (test c)) bytes) → (t : Bool) → test b ≡ t
+        → cond t 1 0 + 2 * mask_l (map test bytes) ≡ 0 → EachIs (λ c. not (test c)) (b ∷ bytes)
     by rest true is some = absurd (omega (arith, some))
     by rest false is none = (ap not is, rest (omega (arith, none)))
+
+pub clear-unset : (bytes : List ℕ) → mask_l (map may_begin_driving bytes) ≡ 0 → EachIs is_clear bytes
+clear-unset bytes none = each-unset may_begin_driving bytes none
 
 -- whether two bytes are clear: where, with FF taken off, neither is 80 or more
 abbrev minus : ℕ → ℕ → ℕ

@@ -7,3 +7,5 @@ pub mod InertLemmas
 pub mod EightBitLemmas
 pub mod LaneLemmas
 pub mod PassLemmas
+pub mod LineFeedLemmas
+pub mod LineTextLemmas

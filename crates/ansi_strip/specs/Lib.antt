@@ -5,3 +5,6 @@ pub mod EightBit
 pub mod Passing
 pub mod PassingProof
 pub mod Driving
+pub mod LineFeeds
+pub mod LineWriter
+pub mod TakingProof

@@ -6,6 +6,7 @@ ghost use Rattle.anstyle_parse.specs.Stream.Call.{Call};
 ghost use Rattle.anstyle_parse.specs.Stream.Calls.{AreCalls, Continues};
 ghost use Rattle.ansi_strip.specs.EightBit.{AreEightBitCalls, is_shown};
 ghost use Rattle.ansi_strip.specs.Inert.{is_inert, inert_text, IsInertText};
+ghost use Rattle.ansi_strip.specs.LineFeeds.{without_returns, HasNone, waiting, decided};
 ghost use Rattle.ansi_strip.specs.Strip.{is_left, IsClean, stripped};
 
 use anstyle_parse::laws::{bounds, calls_are_lawful, calls_of_bytes, replay};
@@ -140,3 +141,12 @@ pub fn inert_cut_before_escape()
 {
     calls_of_bytes();
 }
+
+/// What a [`LineFeeds`](crate::LineFeeds) writes of a text, and then what waits at its end, is the text without each
+/// carriage return right before a line feed. A text that has none is left as it is; and inert text without these is
+/// inert text.
+pub fn line_feeds()
+    ensures whole { (text : List ℕ) → decided text ++ waiting text ≡ without_returns text }
+    ensures same { (text : List ℕ) → HasNone text → without_returns text ≡ text }
+    ensures inert { (text : List ℕ) → IsInertText text → IsInertText (without_returns text) }
+{}

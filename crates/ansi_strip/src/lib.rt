@@ -17,13 +17,16 @@ mod clear;
 mod driving;
 mod inert;
 pub mod laws;
+mod line_feeds;
 mod performer;
+mod returns;
 
 use anstyle_parse::canon::{Fault, Sink, Source, write_calls};
 pub use anstyle_parse::is_layout;
 pub use clear::{is_clear, is_clear_front};
 pub use driving::{is_driving, split_at_driving};
 pub use inert::Inert;
+pub use line_feeds::LineFeeds;
 pub use performer::Stripper;
 
 /// Writes the stripped text of all bytes that the reader gives: each printed character in

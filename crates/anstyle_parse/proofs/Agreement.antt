@@ -5,3 +5,4 @@ pub mod Headers
 pub mod Strings
 pub mod Whole
 pub mod Forgotten
+pub mod Fronts

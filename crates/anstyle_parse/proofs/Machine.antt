@@ -14,3 +14,8 @@ pub mod Runs
 pub mod Texts
 pub mod Passing
 pub mod Lanes
+pub mod AsRead
+pub mod AsReadTo
+pub mod AsReadStreams
+pub mod AsReadTwice
+pub mod AsReadText

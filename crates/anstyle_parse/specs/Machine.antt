@@ -6,3 +6,4 @@ pub mod Packed
 pub mod Decoder
 pub mod Step
 pub mod Stands
+pub mod AsRead

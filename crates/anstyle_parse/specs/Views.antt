@@ -11,4 +11,5 @@ pub mod DecodingProof
 pub mod Runs
 pub mod Texts
 pub mod Passing
+pub mod AsRead
 pub mod CanonWriter

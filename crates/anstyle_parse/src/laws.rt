@@ -2,9 +2,10 @@
 //!
 //! They hold of all bytes and all calls. The first is what the crate promises; of the others
 //! nearly each speaks of definitions alone, and is the contract of a function that does nothing.
-ghost use Rattle.std.specs.Prelude.{◌≡◌, ◌≤◌, ◌+◌, ◌*◌, ◌↔◌, ℕ, List, [], ◌∷◌, ◌++◌, length, min, IsTrue};
+ghost use Rattle.std.specs.Prelude.{◌≡◌, ◌≢◌, ◌≤◌, ◌+◌, ◌*◌, ◌↔◌, ℕ, List, [], ◌∷◌, ◌++◌, length, min, IsTrue};
 ghost use Rattle.std.specs.Cmp.{IsEquivalence};
-ghost use Rattle.std.specs.List.{flat_map, sum_by};
+ghost use Rattle.std.specs.List.{AllByRecursion, flat_map, sum_by};
+ghost use Rattle.std.specs.Str.{IsUtf8};
 ghost use Rattle.anstyle_parse.specs.Views.Accumulator.{front_of, parser_after};
 ghost use Rattle.anstyle_parse.specs.Stream.Bytes.{escape_byte, is_cancel};
 ghost use Rattle.anstyle_parse.specs.Stream.Call.{Call, Goes};
@@ -16,8 +17,9 @@ ghost use Rattle.anstyle_parse.specs.Stream.Items.{Item, IsDivision};
 ghost use Rattle.anstyle_parse.specs.Laws.Lawful.{AreLawful, AreMade};
 ghost use Rattle.anstyle_parse.specs.Laws.TextLength.{text_length};
 ghost use Rattle.anstyle_parse.specs.Io.Output.{Adds};
+ghost use Rattle.anstyle_parse.specs.Machine.AsRead.{as_read};
 ghost use Rattle.anstyle_parse.specs.Machine.Step.{machine_calls};
-ghost use Rattle.anstyle_parse.specs.Views.Parser.{machine_of, IsAfter, IsAfterAscii};
+ghost use Rattle.anstyle_parse.specs.Views.Parser.{machine_of, AreBelow, IsAfter, IsAfterAscii};
 ghost use Rattle.anstyle_parse.specs.Machine.State.{state_number, action_number};
 
 use crate::accumulator::{AsciiParser, CharAccumulator, Taken, Utf8Parser};
@@ -156,6 +158,14 @@ pub fn canonical_text<W: Sink>()
     ensures { (calls : List Call) (old new : CanonWriter W)
         → Goes ⟦<CanonWriter<W> as Perform>⟧.means old calls new
         → Adds W.Sink (canon calls) (output_of old) (output_of new) }
+{}
+
+/// A log as it is read ([`Parser::advance_log`]), read again, is the same; and well-formed UTF-8 without ESC is read as
+/// it is.
+pub fn read_logs()
+    ensures again { (bytes : List ℕ) → as_read (as_read bytes) ≡ as_read bytes }
+    ensures text { (bytes : List ℕ) → AreBelow 0x100 bytes → IsUtf8 bytes
+        → AllByRecursion (λ b. b ≢ escape_byte) bytes → as_read bytes ≡ bytes }
 {}
 
 /// Forgotten: after one ESC byte nothing counts that came before.

@@ -1,7 +1,8 @@
 //! The parser: a state, what a sequence has said so far, and an accumulator of characters.
 //!
-//! Calls go downwards: the public ones here and in `texts`, many bytes in `runs`, one byte in
+//! Calls go downwards: the public ones here, in `texts`, `passing` and `as_read`, many bytes in `runs`, one byte in
 //! `step`, what a sequence has said in `header` and `command`.
+mod as_read;
 mod command;
 mod header;
 mod passing;

@@ -1,5 +1,5 @@
 -- Sources that were read, one after another.
-use Rattle.std.proofs.Common.{◌≡◌, ℕ, ◌≤◌, Bool, true, false, ◌&&◌, not, List, [], ◌∷◌, ◌++◌, Option, None, Some, is_some, Result, Ok, Err, is_err, ◌⊎◌, inl, inr, length, set, get_or, ◌<◌, IsTrue, refl, sym, ap, ◌∙◌, subst, arith}
+use Rattle.std.proofs.Common.{◌≡◌, ℕ, Bool, true, false, ◌&&◌, not, List, [], ◌∷◌, ◌++◌, Option, None, Some, Result, Ok, Err, is_err, ◌⊎◌, inl, inr, length, set, get_or, ◌<◌, refl, sym, ◌∙◌, subst, arith}
 use Rattle.std.specs.List.{flat_map}
 use Rattle.std.specs.Io.KnownBytes.{Appends}
 use Rattle.std.proofs.KnownBytes.{Appends-kept}
@@ -20,6 +20,7 @@ module _ {R : Type 0} (source : SourceOf R) where
   pub IsRead-when : {A B : Type 0} (reader after : R) (calls : List Call) → (B → A) → IsRead source A reader after calls → IsRead source B reader after calls
   IsRead-when reader after calls narrows is = record {
     read = is.read;
+    at_end = is.at_end;
     consumed = is.consumed;
     are_calls = is.are_calls;
     ended = λ b. is.ended (narrows b);

@@ -9,6 +9,7 @@ use Rattle.anstyle_parse.specs.declared.io.devices.Source.{Ghosts as SourceOf}
 use Rattle.anstyle_parse.specs.declared.io.output.Output.{Output}
 use Rattle.anstyle_parse.specs.Stream.Call.{Call}
 use Rattle.anstyle_parse.specs.Stream.Calls.{AreCalls}
+use Rattle.anstyle_parse.specs.Machine.AsRead.{as_read, as_read_whole}
 use Rattle.anstyle_parse.specs.Io.Output.{fault_in, Adds, AppendsPrefix}
 use Rattle.anstyle_parse.specs.Io.Run.{most_reads}
 use Rattle.each_source.specs.declared.Stopped.{Stopped}
@@ -20,12 +21,18 @@ abbrev pub HasEnded : {R : Type 0} → SourceOf R → R → ℕ → Type 0
 HasEnded source reader count =
     (IsTrue source.zero_is_end → IsAtEnd (source.remaining reader)) ⊎ (IsTrue (source.has_failed reader) ⊎ (most_reads ≤ count))
 
--- What a source gave, and its calls by a parser of its own; where it was read whole, why no more was read.
+-- What is read of what a source gave, as of a log; where no more comes, a character that is begun is broken off.
+abbrev pub text_read : (at_end : Bool) → List ℕ → List ℕ
+text_read true bytes = as_read_whole bytes
+text_read false bytes = as_read bytes
+
+-- What a source gave, and the calls of what is read of it; where it was read whole, why no more was read.
 pub record IsRead {R : Type 0} (source : SourceOf R) (whole : Type 0) (reader reader_after : R) (calls : List Call) : Type 0 where
   pub read : List ℕ
+  pub at_end : Bool
   pub consumed : Consumes (source.remaining reader) (source.remaining reader_after) read
-  pub are_calls : AreCalls read calls
-  pub ended : whole → HasEnded source reader_after (length read)
+  pub are_calls : AreCalls (text_read at_end read) calls
+  pub ended : whole → IsTrue at_end × HasEnded source reader_after (length read)
 
 -- The first sources were read, each with its calls, and the others were not touched.
 abbrev pub AreRead : {R : Type 0} → SourceOf R → (whole : Type 0) → (readers readers_after : List R) → List (List Call) → Type 0
@@ -34,16 +41,18 @@ AreRead source whole (reader ∷ readers) (after ∷ readers_after) (calls ∷ o
     IsRead source whole reader after calls × AreRead source whole readers readers_after others
 AreRead source whole _ _ (calls ∷ others) = ⊥
 
--- A new parser was given what the source gave, and its performer received the calls. Unless the writer is stuck or a
--- fault is kept, the source has ended.
+-- A new parser was given what the source gave, and its performer received the calls of what is read of that. Unless the
+-- writer is stuck or a fault is kept, the source has ended.
 pub record Reads {R W P : Type 0} (source : SourceOf R) (receives : P → List Call → P → Type 0)
     (output_of : P → Output W) (reader reader_after : R) (performer performer_after : P) (is_stuck : Bool) : Type 0 where
   pub read : List ℕ
+  pub at_end : Bool
   pub calls : List Call
   pub consumed : Consumes (source.remaining reader) (source.remaining reader_after) read
-  pub are_calls : AreCalls read calls
+  pub are_calls : AreCalls (text_read at_end read) calls
   pub received : receives performer calls performer_after
-  pub ended : is_stuck ≡ false → fault_in (output_of performer_after) ≡ None → HasEnded source reader_after (length read)
+  pub ended : is_stuck ≡ false → fault_in (output_of performer_after) ≡ None
+      → IsTrue at_end × HasEnded source reader_after (length read)
 
 -- One source was read, and the text of its calls went to the output. It was read whole, unless the output failed or
 -- its writer is stuck.
@@ -100,7 +109,7 @@ StopsBy failed failed_after (Err (AtFault fault)) = IsTrue failed_after
 StopsBy failed failed_after (Err NoMemory) = ⊤
 StopsBy failed failed_after (Err Stuck) = ⊤
 
--- A run over sources: the calls of each that was read, what was written, and why no more was.
+-- A run over sources: the calls of what is read of each, what was written, and why no more was.
 pub record WritesEach {R W T : Type 0} (source : SourceOf R) (sink : SinkOf W) (text : List Call → List ℕ)
     (head tail : List ℕ) (readers readers_after : List R) (writer writer_after : W) (answer : Result T Stopped) : Type 0 where
   pub calls : List (List Call)

@@ -119,8 +119,8 @@ fn stopped_by(answer: Result<(), Fault>) -> Result<(), Stopped>
 
 /// Writes the head, the text of each reader in turn, and the tail.
 ///
-/// Each reader is a stream of its own: it goes to a new parser, in pieces of at most 4096 bytes, and to a performer
-/// of its own, which `begin` makes. A read that fails ends its stream, and the next reader goes on: whether one has
+/// Each reader is a stream of its own: it goes to a new parser, in pieces of at most 4096 bytes, as a reader of logs reads
+/// them ([`Parser::advance_log`](anstyle_parse::Parser::advance_log)), and to a performer of its own, which `begin` makes. A read that fails ends its stream, and the next reader goes on: whether one has
 /// failed the readers say. The writer is always handed back. The answer is
 ///
 /// - `Ok(())` where each reader was read to its end or to a failed read, and the flush that followed went well;

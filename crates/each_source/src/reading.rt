@@ -66,9 +66,9 @@ fn last_escape(bytes: &[u8]) -> Option<usize>
     None
 }
 
-/// Gives what the reader gives to a new parser, in pieces of at most 4096 bytes, until the reader ends or fails, the
-/// performer's output keeps a fault, or what its writer holds back can't be passed on. At most 2^64 - 1 reads are made.
-/// What was written of a piece is passed on before the next read.
+/// Gives what the reader gives to a new parser, as a reader of logs reads it ([`Parser::advance_log`]), in pieces of at
+/// most 4096 bytes, until the reader ends or fails, the performer's output keeps a fault, or what its writer holds back
+/// can't be passed on. At most 2^64 - 1 reads are made. What was written of a piece is passed on before the next read.
 pub(crate) fn read_to<P: WritingPerformer<W>, R: Source, W: Sink>(
     reader: &mut R,
     performer: &mut P,
@@ -82,10 +82,16 @@ pub(crate) fn read_to<P: WritingPerformer<W>, R: Source, W: Sink>(
     let mut piece = [0; PIECE];
     for turn in 0..u64::MAX {
         match reader.read(&mut piece) {
-            None => return Ended::Over,
-            Some(0) => return at_end(&parser, last.begins),
+            None => {
+                parser.end_log(performer);
+                return Ended::Over;
+            }
+            Some(0) => {
+                parser.end_log(performer);
+                return at_end(&parser, last.begins);
+            }
             Some(count) => {
-                parser.advance_heeded(performer, &piece[..count]);
+                parser.advance_log(performer, &piece[..count]);
                 last.take(&piece[..count], parser.is_in_sequence());
                 performer.pass_on();
                 if performer.output().fault().is_some() {
@@ -97,6 +103,7 @@ pub(crate) fn read_to<P: WritingPerformer<W>, R: Source, W: Sink>(
             }
         }
     }
+    parser.end_log(performer);
     Ended::Over
 }
 

@@ -5,7 +5,7 @@ use Rattle.std.specs.List.{AllByRecursion, join_with_byte}
 use Rattle.std.proofs.lemmas.Fmt.{decimal_nonempty}
 use Rattle.anstyle_parse.specs.Machine.Decoder.{decoded}
 use Rattle.anstyle_parse.specs.Machine.Stands.{StandsAfter}
-use Rattle.anstyle_parse.specs.Machine.Step.{Machine, AccumulatorStep, new_machine, step, step_calls, machine_calls}
+use Rattle.anstyle_parse.specs.Machine.Step.{Machine, new_machine, machine_calls}
 use Rattle.anstyle_parse.specs.Laws.Checkpoint.{checkpoint_text}
 use Rattle.anstyle_parse.specs.Laws.Lawful.{IsGroup, is_stored, AreParts, AreLawfulFrom}
 use Rattle.anstyle_parse.specs.Stream.Arguments.{max_field, after_marker}
@@ -22,19 +22,12 @@ use Rattle.anstyle_parse.proofs.Canonical.Parts.{stored-no_semicolon}
 use Rattle.anstyle_parse.proofs.Lawful.Calls.{lawful}
 use Rattle.anstyle_parse.proofs.Lists.Parts.{spaced, length-join_with_byte}
 use Rattle.anstyle_parse.proofs.Lists.Passing.{AllByRecursion-weaker}
-use Rattle.anstyle_parse.proofs.Machine.CallCounts.{step_calls-few}
 use Rattle.anstyle_parse.proofs.Resume.Whole.{checkpoint_stands, length-checkpoint}
 use Rattle.ansi_strip.proofs.Showable.{IsScalar-character}
 use Rattle.event_pieces.specs.Event.{group_bytes, groups_bytes, call_bytes, calls_bytes}
-use Rattle.event_pieces.specs.Feed.{most_events, most_room}
+use Rattle.event_pieces.specs.Feed.{most_room}
 use Rattle.event_pieces.specs.Writer.{IsPlain, ArePlain}
 use Rattle.event_pieces.specs.AddingProof.{AllByRecursion-back}
-
--- two calls for each byte at most
-pub length-calls : {A : Type 0} (adds : AccumulatorStep A) (bytes : List ℕ) (m : Machine A) → length (machine_calls adds bytes m) ≤ most_events (length bytes)
-length-calls adds [] m = omega arith
-length-calls adds (b ∷ bytes) m =
-    omega (arith, length-append (step_calls adds b m) (machine_calls adds bytes (step adds b m)), step_calls-few adds b m, length-calls adds bytes (step adds b m))
 
 -- the bytes of fields, and the fields in decimal
 length-group_bytes : (group : List ℕ) → length (group_bytes group) ≡ 3 * length group

@@ -3,12 +3,11 @@ ghost use Rattle.std.specs.Prelude.{◌≡◌, ◌<◌, ◌≤◌, ◌++◌, ℕ
 ghost use Rattle.html_pieces.specs.Sizes.{most_html, capacity};
 ghost use Rattle.html_pieces.specs.Feed.{Takes, Feeds, Refuses, Ends, RefusesEnd};
 
-use crate::buffer::{CAPACITY, HtmlBuffer};
 use crate::state::HtmlState;
 use ansi_html::{HtmlWriter, verbatim_length};
 use anstyle_parse::canon::{Output, WritingPerformer};
 use anstyle_parse::{Parser, Utf8Parser};
-use strip_pieces::Fed;
+use strip_pieces::{Fed, LentBytes, put_front};
 
 /// The bytes of room with which a stream always goes on: what one byte may lead to, where it opens a link
 /// of 1,035 bytes.
@@ -16,6 +15,9 @@ pub const LEAST_ROOM: usize = 6534;
 
 /// The bytes of room that the end of a stream needs.
 pub const END_ROOM: usize = 11;
+
+/// The bytes of HTML that are held at most before they go to the room.
+const CAPACITY: usize = 16384;
 
 /// The bytes of a piece that a call takes at most.
 const MOST_TAKEN: usize = 4096;
@@ -84,11 +86,11 @@ impl HtmlState {
             return None;
         }
         let mut held = [0; END_ROOM];
-        let output = Output::new(HtmlBuffer::new(room.len(), &mut held));
+        let output = Output::new(LentBytes::new(room.len(), &mut held));
         let writer = HtmlWriter::resume(self.styling(), self.standing(), output);
         let (buffer, _) = writer.into_output().finish();
         *self = HtmlState::new(self.styling());
-        Some(put_front(room, buffer.html()))
+        Some(put_front(room, buffer.bytes()))
     }
 
     /// Takes the verbatim text at the front of the piece, if that is all of it, or more than half of it and more than what
@@ -226,7 +228,7 @@ impl HtmlState {
         ensures little_room { IfNone result
             (min (length room.old) (length lent.old) < most_html (length piece.now)) }
     {
-        let output = Output::new(HtmlBuffer::new(room.len(), lent));
+        let output = Output::new(LentBytes::new(room.len(), lent));
         let mut writer = HtmlWriter::new(self.styling(), output);
         writer.go_on(self.standing());
         let mut parser = Parser::<Utf8Parser>::new();
@@ -238,7 +240,7 @@ impl HtmlState {
         self.stream.save(&parser);
         self.save(writer.standing());
         let (buffer, _) = writer.suspend().finish();
-        let html = buffer.html();
+        let html = buffer.bytes();
         let faded = self.html_of_a_byte - self.html_of_a_byte / FADES;
         self.html_of_a_byte = faded.max((html.len() / piece.len().max(1)).min(255) as u8);
         Some(put_front(room, html))
@@ -255,14 +257,4 @@ fn next_try(bytes: usize, room: usize, html_of_a_byte: usize) -> usize
         return 0;
     }
     count
-}
-
-/// Writes HTML to the front of the room, and answers how long it is.
-fn put_front(room: &mut [u8], html: &[u8]) -> usize
-    requires { length html.now ≤ length room.old }
-    ensures length { result ≡ length html.now }
-    ensures written { room.new ≡ html.now ++ drop (length html.now) room.old }
-{
-    room[..html.len()].copy_from_slice(html);
-    html.len()
 }

@@ -14,7 +14,6 @@
 //! ```
 #![tactic(auto)]
 
-mod buffer;
 mod feeding;
 pub mod laws;
 mod state;

@@ -1,4 +1,4 @@
-//! The tests of `safe_text`, through its public calls.
+//! The tests of `safe_text` and `safe_pieces`, through their public calls.
 #![tactic(auto)]
 
 #[cfg(test)]

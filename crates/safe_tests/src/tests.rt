@@ -1,3 +1,4 @@
-//! Texts, and every public item by its name.
+//! Texts, whole and in pieces, and every public item by its name.
+mod pieces;
 mod shown;
 mod texts;

@@ -7,3 +7,4 @@ pub mod PlainLemmas
 pub mod WholeLemmas
 pub mod ReadLemmas
 pub mod CallLemmas
+pub mod PieceLemmas

@@ -27,7 +27,7 @@ pub whole-encoded : (before : ℕ) (cs : List ℕ) → encode_utf8_all (decided_
 whole-encoded before cs = sym (encodes-append (decided_from before cs) (undecided_from before cs)) ∙ ap encode_utf8_all (whole-from before cs)
 
 -- what holds of a line feed, of what is written visibly, and of each character that is left, holds of all
-all-append : (P : ℕ → Type 0) (xs ys : List ℕ) → AllByRecursion P xs → AllByRecursion P ys → AllByRecursion P (xs ++ ys)
+pub all-append : (P : ℕ → Type 0) (xs ys : List ℕ) → AllByRecursion P xs → AllByRecursion P ys → AllByRecursion P (xs ++ ys)
 all-append P [] ys a b = b
 all-append P (x ∷ xs) ys a b = (a.0, all-append P xs ys a.1 b)
 

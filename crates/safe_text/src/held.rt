@@ -5,8 +5,8 @@ ghost use Rattle.safe_text.specs.Decided.{waits};
 ghost use Rattle.safe_text.specs.Held.{held_characters, goes_on};
 
 /// What waits.
-#[derive(Debug, Clone, Copy, PartialEq, Eq)]
-pub(crate) enum Held {
+#[derive(Debug, Clone, Copy)]
+pub enum Held {
     Nothing,
     /// A carriage return: it goes before a line feed.
     Return,

@@ -20,7 +20,8 @@ mod plain;
 
 use anstyle_parse::canon::{Fault, Sink, Source, write_calls};
 pub use classes::is_shown;
-pub use performer::SafeWriter;
+pub use held::Held;
+pub use performer::{SafeWriter, Standing};
 
 /// Writes the safe text of all bytes that the reader gives: of their calls, each character that is printed and each
 /// control that is executed, in UTF-8. Escape and control sequences, titles, links and device control strings leave

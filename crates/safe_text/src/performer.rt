@@ -16,13 +16,22 @@ use anstyle_parse::{Params, Perform, PerformText};
 /// In place of a character, where there is none.
 const NONE: char = '\0';
 
+/// Where the safe text of a stream stands.
+#[derive(Debug, Clone, Copy)]
+pub struct Standing {
+    /// The character that is written last: U+0000 where there is none.
+    pub before: char,
+    /// What waits for the next one.
+    pub held: Held,
+}
+
 /// Writes each character that is printed and each control that is executed: itself where it shows, is blank or
 /// stays between its neighbours, a line feed for the end of a line, and else visibly, as `<U+202E>`. All other
 /// calls write nothing.
 ///
 /// [`write_safe`](crate::write_safe) drives it from a reader to a writer. By hand it is made over an
 /// [`Output`], and hands it back. No memory is taken. A write that fails stops it: nothing
-/// more is written, and the fault is kept.
+/// more is written, and the fault is kept. A text in pieces is suspended and resumed where it stands.
 #[derive(Drop)]
 pub struct SafeWriter<W> {
     output: Output<W>,
@@ -76,7 +85,43 @@ fn put_visible<W: Sink>(output: &mut Output<W>, c: char)
 }
 
 impl<W: Sink> SafeWriter<W> {
+    ghost use Rattle.safe_text.specs.Held.{held_characters};
     ghost use Rattle.safe_text.specs.Writer.{output_of, before_in, held_in, Takes, Releases};
+
+    /// One that writes to this output, and goes on where the safe text of a stream stands.
+    #[inline]
+    pub fn resume(standing: Standing, output: Output<W>) -> SafeWriter<W>
+        ensures output { output_of result ≡ output }
+        ensures before { before_in result ≡ standing.before }
+        ensures held { held_in result ≡ held_characters standing.held }
+    {
+        let before = standing.before;
+        let held = standing.held;
+        SafeWriter {
+            output,
+            before,
+            held,
+        }
+    }
+
+    /// Where the safe text stands.
+    #[inline]
+    pub fn standing(&self) -> Standing
+        ensures before { result.before ≡ before_in self.now }
+        ensures held { held_characters result.held ≡ held_in self.now }
+    {
+        let before = self.before;
+        let held = self.held;
+        Standing { before, held }
+    }
+
+    /// Hands the output back. What waits is not written: the text goes on.
+    #[inline]
+    pub fn suspend(self) -> Output<W>
+        ensures { result ≡ output_of self }
+    {
+        self.output
+    }
 
     /// Writes a character as it is.
     #[inline]

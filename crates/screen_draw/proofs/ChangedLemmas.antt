@@ -123,17 +123,6 @@ within-cells first past start end d e framed same from to = record {
       ap (λ (w : ℕ). take w (drop (row * w) e.cells)) framed.width ∙ row-below d.width past start end row e.cells d.cells same to more;
 }
 
--- wider
-pub same-wider : (start end first last : ℕ) (xs ys : List Cell) → Same start end xs ys → first ≤ start → end ≤ last → Same first last xs ys
-same-wider start end first last xs ys same from to =
-    let split : end + (last - end) ≡ last = omega arith in
-    record {
-      front = sym (take-take first start xs from) ∙ (ap (take first) same.front ∙ take-take first start ys from);
-      behind = ap (λ k. drop k xs) (sym split) ∙ (sym (drop-drop (last - end) end xs)
-          ∙ (ap (drop (last - end)) same.behind ∙ (drop-drop (last - end) end ys ∙ ap (λ k. drop k ys) split)));
-      long = same.long;
-    }
-
 -- What was kept before a step is kept behind it, but for the rows that it changes.
 row-still : (row : ℕ) (d e : Display) → Still d e → row_cells row e ≡ row_cells row d
 row-still row d e still =

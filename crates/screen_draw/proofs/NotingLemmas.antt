@@ -21,12 +21,12 @@ use Rattle.ansi_screen.proofs.KeptCalls.{columns-few}
 use Rattle.ansi_screen.proofs.CellLemmas.{cut-none}
 use Rattle.ansi_screen.proofs.PairLemmas.{length-cut, clear-cut_other}
 use Rattle.ansi_screen.proofs.RangeLemmas.{no_column-below, two_columns-below}
-use Rattle.ansi_screen.proofs.RowLemmas.{IsFree, drawn-if, same-if, Same, same-refl, same-trans, same-set, same-within, same-change, same-going_on, going_on-free, marked-between}
+use Rattle.ansi_screen.proofs.RowLemmas.{IsFree, drawn-if, same-if, Same, same-refl, same-trans, same-set, same-within, same-wider, same-change, same-going_on, going_on-free, marked-between}
 use Rattle.ansi_screen.proofs.SizeLemmas.{sized-after}
 use Rattle.ansi_screen.proofs.WholeLemmas.{length-glyph, length-going_on}
 use Rattle.screen_draw.specs.declared.changed.Changed.{Changed}
 use Rattle.screen_draw.specs.Changed.{Keeps, with_rows, Widens, begins_with_right}
-use Rattle.screen_draw.proofs.ChangedLemmas.{Framed, Within, Still, framed-refl, framed-trans, framed-if, framed-cells, still-refl, still-trans, still-if, still-place, within-cells, row-fits, same-wider, keeps-still, keeps-within, keeps-framed}
+use Rattle.screen_draw.proofs.ChangedLemmas.{Framed, Within, Still, framed-refl, framed-trans, framed-if, framed-cells, still-refl, still-trans, still-if, still-place, within-cells, row-fits, keeps-still, keeps-within, keeps-framed}
 
 -- control sequences that change the cursor alone
 pub widens-moves : (groups : List (List ℕ)) (ignore : Bool) (final : ℕ) (screen : State) (changed : Changed) → moves_alone (function_of final) ≡ true

@@ -20,7 +20,7 @@ use Rattle.ansi_screen.proofs.KeptCalls.{columns-few}
 use Rattle.ansi_screen.proofs.PartLemmas.{text_calls-append}
 use Rattle.ansi_screen.proofs.PrintedLemmas.{after-printing}
 use Rattle.ansi_screen.proofs.RangeLemmas.{two_columns-below}
-use Rattle.ansi_screen.proofs.RowLemmas.{drawn-if, Same, same-refl, same-trans}
+use Rattle.ansi_screen.proofs.RowLemmas.{drawn-if, Same, same-refl, same-trans, same-wider}
 use Rattle.ansi_screen.proofs.WholeLemmas.{length-glyph}
 use Rattle.screen_draw.specs.declared.tracked.Tracked.{Tracked}
 use Rattle.screen_draw.specs.declared.changed.Changed.{Changed}
@@ -28,7 +28,7 @@ use Rattle.screen_draw.specs.declared.columns.Span.{Span}
 use Rattle.screen_draw.specs.Changed.{Keeps, with_rows}
 use Rattle.screen_draw.specs.Columns.{KeepsColumns, span_at, spans_of, KeepsSpans, TracksSpan}
 use Rattle.screen_draw.specs.Tracked.{TracksAll, FitsInRow, tracks-none, tracks-more}
-use Rattle.screen_draw.proofs.ChangedLemmas.{Within, framed-refl, framed-trans, row-fits, same-wider, keeps-within}
+use Rattle.screen_draw.proofs.ChangedLemmas.{Within, framed-refl, framed-trans, row-fits, keeps-within}
 use Rattle.screen_draw.proofs.ColumnLemmas.{columns-wider, columns-trans, row-columns, spans-either}
 use Rattle.screen_draw.proofs.NotingLemmas.{same-marked_at, same-changed, same-far, within-far}
 

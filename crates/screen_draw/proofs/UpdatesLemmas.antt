@@ -1,12 +1,12 @@
 -- A terminal that follows a stream shows behind each piece what the bytes so far lead to.
-use Rattle.std.proofs.Common.{◌≡◌, ℕ, zero, suc, true, List, [], ◌∷◌, ◌++◌, take, None, Some, is_some, length, Result, refl, ap, sym, ◌∙◌, subst, inl, inr, append_assoc, append-nil}
+use Rattle.std.proofs.Common.{◌≡◌, ℕ, zero, suc, Bool, true, List, [], ◌∷◌, ◌++◌, take, None, Some, is_some, length, Result, Err, refl, ap, sym, ◌∙◌, subst, inl, inr, append_assoc, append-nil}
 use Rattle.std.specs.Prelude.{◌⊎◌, IsTrue}
 use Rattle.std.specs.Io.KnownBytes.{Consumes, IsAtEnd}
 use Rattle.std.specs.List.{AllByRecursion}
 use Rattle.std.proofs.lemmas.Bool.{false≢true}
 use Rattle.std.proofs.lemmas.Grind.{flat_map-append}
 use Rattle.anstyle_parse.specs.declared.io.Fault.{Fault}
-use Rattle.anstyle_parse.specs.declared.io.Fault.TheVariants.{Write}
+use Rattle.anstyle_parse.specs.declared.io.Fault.TheVariants.{Read, Write, Flush}
 use Rattle.anstyle_parse.specs.declared.io.devices.Sink.{Ghosts as SinkOf}
 use Rattle.anstyle_parse.specs.declared.io.devices.Source.{Ghosts as SourceOf}
 use Rattle.anstyle_parse.specs.declared.io.output.Output.{Output}
@@ -20,18 +20,17 @@ use Rattle.anstyle_parse.proofs.Written.Output.{Adds-append}
 use Rattle.ansi_screen.specs.After.{State, after_all, Shows}
 use Rattle.ansi_screen.specs.Reachable.{IsScreen, HasContents}
 use Rattle.ansi_screen.specs.Display.{Display}
-use Rattle.ansi_screen.specs.Following.{HasFrameOf, IsNear}
 use Rattle.ansi_screen.proofs.KeptCalls.{kept-after_all}
 use Rattle.ansi_screen.proofs.ContentCalls.{contents-after_all}
 use Rattle.ansi_screen.proofs.SizeLemmas.{HasSize, sized-after_all}
 use Rattle.ansi_screen.proofs.LawLemmas.{after_all-append, Shows-only}
-use Rattle.screen_draw.specs.declared.changed.Changed.{Changed}
-use Rattle.screen_draw.specs.Changed.{Keeps, KeepsFrame}
+use Rattle.screen_draw.specs.declared.updates.Stopped.{Stopped}
+use Rattle.screen_draw.specs.declared.updates.Stopped.TheVariants.{Stuck, AtFault}
 use Rattle.screen_draw.specs.Draw.{drawn_calls}
 use Rattle.screen_draw.specs.Drawing.{IsDrawing, Draws}
 use Rattle.screen_draw.specs.Redrawn.{as_shown}
 use Rattle.screen_draw.specs.Update.{update_calls}
-use Rattle.screen_draw.specs.Updates.{updates_calls, followed_calls, last_of, AreScreens, joined, IsPiece, StopsBy, LeadsTo, Follows}
+use Rattle.screen_draw.specs.Updates.{updates_calls, followed_calls, last_of, AreScreens, joined, IsPiece, StopsBy, LeadsTo, Follows, GetsOn}
 use Rattle.screen_draw.proofs.DrawLemmas.{both-drawing, drawing-lawful, draws-append}
 use Rattle.screen_draw.proofs.RedrawnLemmas.{redrawn-is}
 use Rattle.screen_draw.proofs.UpdatedLemmas.{updated-is}
@@ -175,8 +174,17 @@ module _ {W : Type 0} (sink : SinkOf W) where
   fault_at text a b (inl all) some = absurd (false≢true (ap is_some (sym all.no_fault) ∙ some))
   fault_at text a b (inr prefix) some = prefix.fault
 
-  pub write-fault : (text : List ℕ) (a b : Output W) → Adds sink text a b → fault_in a ≡ None → is_some (fault_in b) ≡ true → fault_in b ≡ Some Write
+  write-fault : (text : List ℕ) (a b : Output W) → Adds sink text a b → fault_in a ≡ None → is_some (fault_in b) ≡ true → fault_in b ≡ Some Write
   write-fault text a b added none some = fault_at text a b (subst (λ f. AddsAt f sink text a b) none added) some
+
+  -- what is read no more, since what was written does not get on
+  pub stops-there : (T at_end : Type 0) (failed failed_after : Bool) (count : ℕ) (text : List ℕ) (a b : Output W) → Adds sink text a b
+      → fault_in a ≡ None → (stopped : Stopped) → GetsOn {T = T} (Err stopped) (fault_in b) → failed_after ≡ failed
+      → StopsBy {T = T} (Err stopped) at_end (fault_in b) failed failed_after count
+  stops-there T at_end failed failed_after count text a b added none Stuck gets kept = (gets, kept)
+  stops-there T at_end failed failed_after count text a b added none (AtFault Write) gets kept = (write-fault text a b added none gets, kept)
+  stops-there T at_end failed failed_after count text a b added none (AtFault Read) gets kept = absurd gets
+  stops-there T at_end failed failed_after count text a b added none (AtFault Flush) gets kept = absurd gets
 
 -- what was handed on is no text
 pub text-passed-on : {W : Type 0} (sink : SinkOf W) (text : List ℕ) (a b c : Output W) → Adds sink text a b → Adds sink [] b c → Adds sink text a c
@@ -203,7 +211,7 @@ draws-more sink first shown screen screens a b c d before same added drawing non
     (draws-append sink (updates_calls first screens) calls a b d before (passed-on sink calls b c d more none))
 
 -- a reader was followed
-pub follows : {R W T : Type 0} (source : SourceOf R) (sink : SinkOf W) (reader reader_after : R) (first last : State) (a b c : Output W) (answer : Result T Fault)
+pub follows : {R W T : Type 0} (source : SourceOf R) (sink : SinkOf W) (reader reader_after : R) (first last : State) (a b c : Output W) (answer : Result T Stopped)
     (pieces : List (List ℕ)) (screens : List State)
     → Consumes (source.remaining reader) (source.remaining reader_after) (joined pieces) → AllByRecursion IsPiece pieces
     → AreScreens first [] pieces screens → last ≡ last_of first screens
@@ -238,24 +246,3 @@ begins sink shown first a b c same added drawing none =
 -- no update yet
 pub no-updates : {W : Type 0} (sink : SinkOf W) (a : Output W) → Draws sink [] a a
 no-updates sink a = record { added = Adds-nil sink a; drawing = tt }
-
--- A screen is near to one that has noted what differs.
-near-frame : (shown d : Display) → KeepsFrame shown d → HasFrameOf d shown
-near-frame shown d keeps = record {
-  alternate = sym keeps.alternate;
-  hidden = sym keeps.hidden;
-  saved = sym keeps.saved;
-  hidden_saved = sym keeps.hidden_saved;
-  top = sym keeps.top;
-  bottom = sym keeps.bottom;
-  tabs = sym keeps.tabs;
-}
-
-pub near-noted : (changed : Changed) (shown d : Display) → Keeps changed shown d → IsNear changed.first changed.past changed.is_framed d shown
-near-noted changed shown d keeps = record {
-  width = sym keeps.width;
-  height = sym keeps.height;
-  above = λ row below before. sym (keeps.above row below before);
-  below = λ row below behind. sym (keeps.below row below behind);
-  frame = λ unframed. near-frame shown d (keeps.frame unframed);
-}

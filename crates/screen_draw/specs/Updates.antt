@@ -1,5 +1,5 @@
 -- What a terminal is given that follows a stream: a drawing, and an update behind each piece that was read.
-use Rattle.std.specs.Prelude.{◌≡◌, ◌<◌, ◌≤◌, ℕ, Bool, List, [], ◌∷◌, ◌++◌, length, take, Option, None, Some, Result, Err, ⊤, IsTrue}
+use Rattle.std.specs.Prelude.{◌≡◌, ◌<◌, ◌≤◌, ℕ, Bool, List, [], ◌∷◌, ◌++◌, length, take, Option, None, Some, IsSome, Result, Ok, Err, ⊤, IsTrue}
 use Rattle.std.specs.List.{AllByRecursion, flat_map}
 use Rattle.std.specs.Io.KnownBytes.{Consumes, IsAtEnd}
 use Rattle.anstyle_parse.specs.declared.io.Fault.{Fault}
@@ -14,6 +14,8 @@ use Rattle.anstyle_parse.specs.Stream.Calls.{AreCalls}
 use Rattle.anstyle_parse.specs.Stream.Canon.{canon}
 use Rattle.ansi_screen.specs.After.{State, Shows}
 use Rattle.ansi_screen.specs.Reachable.{IsScreen, HasContents}
+use Rattle.screen_draw.specs.declared.updates.Stopped.{Stopped}
+use Rattle.screen_draw.specs.declared.updates.Stopped.TheVariants.{Stuck, AtFault}
 use Rattle.screen_draw.specs.Draw.{drawn_calls}
 use Rattle.screen_draw.specs.Redrawn.{as_shown}
 use Rattle.screen_draw.specs.Update.{update_calls}
@@ -51,11 +53,22 @@ most_piece = 65536
 abbrev pub IsPiece : List ℕ → Type 0
 IsPiece piece = (0 < length piece) × (length piece ≤ most_piece)
 
--- Why no more was read: a write failed; or as `EndsAs` has it.
-abbrev pub StopsBy : {T : Type 0} → Result T Fault → (at_end : Type 0) → (fault : Option Fault)
+-- Whether what was written gets on: the output keeps no fault; or one; or none, but its writer could not pass on what it
+-- holds back.
+abbrev pub GetsOn : {T : Type 0} → Result T Stopped → (fault : Option Fault) → Type 0
+GetsOn (Ok done) fault = fault ≡ None
+GetsOn (Err Stuck) fault = fault ≡ None
+GetsOn (Err (AtFault Write)) fault = IsSome fault
+GetsOn (Err (AtFault _)) fault = ⊥
+
+-- Why no more was read: a write failed; or all was given to the writer, which could not pass on what it holds back; or as
+-- `EndsAs` has it.
+abbrev pub StopsBy : {T : Type 0} → Result T Stopped → (at_end : Type 0) → (fault : Option Fault)
     → (failed failed_after : Bool) → ℕ → Type 0
-StopsBy (Err Write) at_end fault failed failed_after count = (fault ≡ Some Write) × (failed_after ≡ failed)
-StopsBy answer at_end fault failed failed_after count = (fault ≡ None) × EndsAs answer at_end failed failed_after count
+StopsBy (Err Stuck) at_end fault failed failed_after count = (fault ≡ None) × (failed_after ≡ failed)
+StopsBy (Err (AtFault Write)) at_end fault failed failed_after count = (fault ≡ Some Write) × (failed_after ≡ failed)
+StopsBy {T} (Err (AtFault other)) at_end fault failed failed_after count = (fault ≡ None) × EndsAs {T = T} (Err other) at_end failed failed_after count
+StopsBy {T} (Ok done) at_end fault failed failed_after count = (fault ≡ None) × EndsAs {T = T} (Ok done) at_end failed failed_after count
 
 -- A terminal of the size of a screen shows another one by these bytes, whatever it showed before.
 abbrev pub LeadsTo : State → List ℕ → State → Type 0
@@ -65,7 +78,7 @@ LeadsTo first bytes wanted = (old new : State) → IsScreen first.display → Ha
 
 -- A reader's bytes were followed, from a screen on.
 pub record Follows {R W T : Type 0} (source : SourceOf R) (sink : SinkOf W) (reader reader_after : R)
-    (first last : State) (output output_after : Output W) (answer : Result T Fault) : Type 0 where
+    (first last : State) (output output_after : Output W) (answer : Result T Stopped) : Type 0 where
   -- what each read gave, and the screens behind it
   pub pieces : List (List ℕ)
   pub screens : List State

@@ -49,7 +49,7 @@ use changed::Changed;
 pub use noting::Noting;
 pub use showing::{Form, show_to_end};
 use tracked::Tracked;
-pub use updates::update_to_end;
+pub use updates::{Stopped, update_to_end};
 use whole::{put_all, put_update};
 
 /// Writes the bytes that make a terminal of the screen's size show it.
@@ -132,7 +132,7 @@ pub fn update<W: Sink>(shown: &Screen, wanted: &Screen, output: &mut Output<W>)
 /// All has to be noted in which what is wanted differs from what is shown. So it is where both have the same size and
 /// nothing was forgotten; and where both were the same when [`Noting::forget`] was called, whatever `wanted` has taken
 /// since ([`laws::noted`]).
-// Out of line `tests/cells` finds it, and counts what it alone takes; so too the next one.
+// Out of line `tests/cells` finds it, and counts what it alone takes, in `draw_tests`; and the next one in `ansi2screen`.
 #[inline(never)]
 pub fn update_noted<W: Sink>(shown: &Screen, wanted: &Noting, output: &mut Output<W>)
     requires noted { HasNoted wanted.now shown.now.display }

@@ -1,7 +1,7 @@
 //! A screen of which it is tracked what can have changed.
 ghost use Rattle.std.specs.Prelude.{◌≡◌, true, false, ◌<◌, ◌+◌, ◌-◌, ℕ, Bool, List, ◌&&◌, ◌||◌, ◌==◌, nat_lt, length, if◌then◌else◌};
-ghost use Rattle.ansi_screen.specs.After.{function_of};
-ghost use Rattle.ansi_screen.specs.Alone.{moves_alone, edits_row, edits_cells, modes_alone};
+ghost use Rattle.ansi_screen.specs.After.{first_of, function_of};
+ghost use Rattle.ansi_screen.specs.Alone.{moves_alone, edits_row, edits_cells, ends_above, modes_alone};
 ghost use Rattle.anstyle_parse.specs.Stream.Call.{print, execute, csi_dispatch, esc_dispatch};
 ghost use Rattle.screen_draw.specs.Changed.{Widens};
 
@@ -275,8 +275,22 @@ impl Tracked {
         }
     }
 
+    /// The first row in which an edit of the cursor's row changes cells: this one, or the one above it, where that ends.
+    fn first_edited(&self, params: &Params, final_byte: u8) -> usize
+        ensures { result ≡ if ends_above (function_of final_byte) (first_of (groups_shown params.now))
+            self.now.screen.display
+            then self.now.screen.display.cursor.row - 1 else self.now.screen.display.cursor.row }
+    {
+        let row = self.screen.cursor().row;
+        if self.screen.ends_row_above(params, final_byte) {
+            row.saturating_sub(1)
+        } else {
+            row
+        }
+    }
+
     /// What can have changed behind a control sequence too: nothing, if it moves the cursor, selects a style, sets
-    /// modes or is not known; the cursor's row and the one above, which may go on in it, if it edits the former; all rows,
+    /// modes or is not known; the cursor's row, and the one above if that ends, if it edits the former; all rows,
     /// if it edits others too or scrolls; and the frame too behind all others.
     fn by_sequence(
         &self,
@@ -292,7 +306,7 @@ impl Tracked {
             before
         } else if is_row_edit(intermediates, final_byte) && self.is_apart() {
             let row = self.screen.cursor().row;
-            before.with_rows(row.saturating_sub(1), row + 1)
+            before.with_rows(self.first_edited(params, final_byte), row + 1)
         } else if is_edit(intermediates, final_byte) {
             self.all_rows(before)
         } else if modes_alone(params, intermediates, final_byte) {

@@ -1,12 +1,12 @@
 //! Updates, behind each piece of a stream.
-ghost use Rattle.std.specs.Prelude.{◌≡◌, ◌++◌, ℕ, List, None};
-ghost use Rattle.anstyle_parse.specs.Io.Output.{fault_in};
+ghost use Rattle.std.specs.Prelude.{◌≡◌, ◌++◌, [], ℕ, List, None};
+ghost use Rattle.anstyle_parse.specs.Io.Output.{fault_in, Adds};
 ghost use Rattle.anstyle_parse.specs.Views.Accumulator.{front_of};
 ghost use Rattle.anstyle_parse.specs.Views.Parser.{IsAfter};
 ghost use Rattle.ansi_screen.specs.After.{State, Shows};
 ghost use Rattle.screen_draw.specs.Noting.{screen_of};
 ghost use Rattle.screen_draw.specs.Tracked.{HasTracked};
-ghost use Rattle.screen_draw.specs.Updates.{Follows};
+ghost use Rattle.screen_draw.specs.Updates.{Follows, GetsOn};
 
 use crate::changed::Changed;
 use crate::noting::Noting;
@@ -71,23 +71,51 @@ fn come_after(
     behind.advance_texts(shown, piece);
 }
 
+/// Why no more was followed.
+#[derive(Debug, Clone, Copy, PartialEq, Eq)]
+pub enum Stopped {
+    /// What the writer holds back could not be passed on, as to a full disk or a pipe that nobody reads.
+    Stuck,
+    /// The reader or the output failed: [`Fault::Read`] or [`Fault::Write`].
+    AtFault(Fault),
+}
+
+/// Hands on what was written, and answers what keeps it from getting on.
+fn hand_on<W: Sink>(output: &mut Output<W>) -> Result<(), Stopped>
+    ensures passed { Adds W.Sink [] output.old output.new }
+    ensures answer { GetsOn result (fault_in output.new) }
+{
+    output.pass_on();
+    if output.fault().is_some() {
+        Err(Stopped::AtFault(Fault::Write))
+    } else if output.is_stuck() {
+        Err(Stopped::Stuck)
+    } else {
+        Ok(())
+    }
+}
+
 /// Draws a screen, and after each read of at most 65,536 bytes the update to the screen that all bytes so far lead
-/// to, until the reader ends or fails or a write fails, of which none has before. What was written is handed on before
-/// the next read. At most 2^64 - 1 reads are made. No memory is taken.
+/// to, until the reader ends or fails, or a write fails, of which none has before, or what the writer holds back can't be
+/// passed on. What was written is handed on before the next read. At most 2^64 - 1 reads are made. No memory is taken.
 ///
 /// Of the rows only those are compared that the bytes of a read can have changed, and of such a row only the columns that
 /// can have. Then these rows are copied; or, where they have many cells for the bytes of the read, these are taken a
 /// second time.
 ///
-/// Both screens are the one that is drawn first; in the end `wanted` has the last one. `Err(Fault::Write)` means
-/// that a write failed, and nothing was read after it; `Err(Fault::Read)` that a read failed, or that 2^64 - 1
-/// reads all gave bytes.
+/// Both screens are the one that is drawn first; in the end `wanted` has the last one. The answer is
+///
+/// - `Ok(())` where the reader is at its end;
+/// - `Err(AtFault(Fault::Read))` where a read failed, or 2^64 - 1 reads all gave bytes;
+/// - `Err(AtFault(Fault::Write))` where a write failed: nothing was read after it;
+/// - `Err(Stuck)` where what the writer holds back could not be passed on ([`Output::is_stuck`]): all was given to the
+///   writer, and nothing was read after it.
 pub fn update_to_end<R: Source, W: Sink>(
     reader: &mut R,
     shown: &mut Screen,
     wanted: &mut Noting,
     output: &mut Output<W>,
-) -> Result<(), Fault>
+) -> Result<(), Stopped>
     requires same { shown.old ≡ screen_of wanted.old }
     requires no_fault { fault_in output.old ≡ None }
     ensures { Follows R.Source W.Sink reader.old reader.new (screen_of wanted.old) (screen_of wanted.new)
@@ -96,25 +124,19 @@ pub fn update_to_end<R: Source, W: Sink>(
     // The sizes of both are within their limits.
     let _ = wanted.screen().columns();
     draw(shown, output);
-    output.pass_on();
-    if output.fault().is_some() {
-        return Err(Fault::Write);
-    }
+    hand_on(output)?;
     let mut behind = Parser::<Utf8Parser>::new();
     let mut parser = Parser::<Utf8Parser>::new();
     let mut piece = [0; PIECE];
     for turn in 0..u64::MAX {
         match reader.read(&mut piece) {
-            None => return Err(Fault::Read),
+            None => return Err(Stopped::AtFault(Fault::Read)),
             Some(0) => return Ok(()),
             Some(count) => {
                 wanted.tracked.forget();
                 parser.advance_texts(&mut wanted.tracked, &piece[..count]);
                 update_noted_columns(shown, &wanted.tracked, output);
-                output.pass_on();
-                if output.fault().is_some() {
-                    return Err(Fault::Write);
-                }
+                hand_on(output)?;
                 come_after(
                     shown,
                     &mut behind,
@@ -125,5 +147,5 @@ pub fn update_to_end<R: Source, W: Sink>(
             }
         }
     }
-    Err(Fault::Read)
+    Err(Stopped::AtFault(Fault::Read))
 }

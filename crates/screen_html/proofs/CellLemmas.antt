@@ -2,11 +2,11 @@
 use Rattle.std.proofs.Common.{ℕ, Bool, true, false, List, [], ◌∷◌, ◌++◌, map, take, sym, subst}
 use Rattle.std.specs.Prelude.{encode_utf8, if◌then◌else◌}
 use Rattle.std.specs.List.{AllByRecursion}
-use Rattle.anstyle_parse.specs.Stream.Call.{Call}
+use Rattle.anstyle_parse.specs.Stream.Call.{Call, print, execute, hook, put, unhook, osc_dispatch, csi_dispatch, esc_dispatch}
 use Rattle.anstyle_parse.specs.Stream.Calls.{AreCalls}
 use Rattle.anstyle_parse.proofs.Lawful.Calls.{lawful}
 use Rattle.anstyle_parse.proofs.Lists.Parts.{AllByRecursion-take}
-use Rattle.ansi_strip.proofs.Showable.{AreShowable-lawful}
+use Rattle.ansi_strip.proofs.Showable.{AreShowable, IsShowable, AreShowable-lawful}
 use Rattle.ansi_html.specs.Styled.{Styled, bytes_of}
 use Rattle.ansi_screen.specs.declared.cell.Cell.{Cell}
 use Rattle.ansi_screen.specs.declared.cell.Marks.{Marks}
@@ -14,8 +14,8 @@ use Rattle.ansi_screen.specs.declared.cell.Marks.TheVariants.{Unmarked, One, Two
 use Rattle.ansi_screen.specs.Cells.{is_right}
 use Rattle.ansi_screen.specs.After.{State, new_state, after_all}
 use Rattle.ansi_screen.specs.Text.{marks_text, cell_text, used, is_unprinted, goes_on}
-use Rattle.ansi_screen.specs.Leaving.{all_left}
-use Rattle.ansi_screen.proofs.CharacterLemmas.{PrintsCharacter, IsGood, AreGoodMarks, IsGoodCell, AreGood, IsGoodState, good-new, good-after_all, good-left}
+use Rattle.ansi_screen.specs.Leaving.{all_left, printed_count, printed_rows}
+use Rattle.ansi_screen.proofs.CharacterLemmas.{PrintsCharacter, IsGood, AreGoodMarks, IsGoodCell, AreGood, IsGoodState, good-new, good-after_all, good-left, good-first_rows}
 use Rattle.screen_text.specs.Lines.{open_after, showing}
 use Rattle.screen_text.specs.Shown.{given_all}
 use Rattle.screen_text.proofs.CleanLemmas.{all-print, good-showing}
@@ -23,6 +23,22 @@ use Rattle.screen_text.specs.Rows.{Handed, leaving, command, all_handed}
 use Rattle.screen_html.specs.Links.{Kept, no_links, links_after}
 use Rattle.screen_html.proofs.HandedLemmas.{rows_in, rows_in-handed}
 use Rattle.screen_html.specs.Shown.{cell_styled, line_feed, row_styled, rows_styled, handed_styled, links_behind, closing_styled, shown_styled}
+use Rattle.screen_html.specs.Page.{page_styled}
+
+-- calls that may be shown print characters
+prints-call : (call : Call) → IsShowable call → PrintsCharacter call
+prints-call (print c) is = is
+prints-call (execute byte) is = tt
+prints-call (hook groups intermediates ignore final) is = tt
+prints-call (put byte) is = tt
+prints-call unhook is = tt
+prints-call (osc_dispatch parts bell) is = tt
+prints-call (csi_dispatch groups intermediates ignore final) is = tt
+prints-call (esc_dispatch intermediates ignore final) is = tt
+
+prints-all : (calls : List Call) → AreShowable calls → AllByRecursion PrintsCharacter calls
+prints-all [] are = tt
+prints-all (call ∷ calls) are = (prints-call call are.0, prints-all calls are.1)
 
 module _ (Holds : List ℕ → Type 0) (none : Holds []) (both : (first second : List ℕ) → Holds first → Holds second → Holds (first ++ second))
     (character : (c : ℕ) → IsGood c → Holds (encode_utf8 c)) (feed : Holds (0x0A ∷ [])) where
@@ -92,3 +108,17 @@ module _ (Holds : List ℕ → Type 0) (none : Holds []) (both : (first second :
       (all-append (rows_styled links last) (closing_styled (open_after (open_after false left) last))
       (of-rows links last (good-showing behind.display good.display))
       (of-closing (open_after (open_after false left) last)))
+
+  -- of a page, after the calls of a stream
+  pub of-page : (links : List Kept) (columns rows : ℕ) (bytes : List ℕ) (calls : List Call) → AreCalls bytes calls
+      → AllByRecursion (λ it. Holds (bytes_of it)) (page_styled links (after_all calls (new_state columns rows)).display)
+  of-page links columns rows bytes calls are =
+      let s : State = new_state columns rows in
+      let prints : AllByRecursion PrintsCharacter calls = prints-all calls (AreShowable-lawful false calls (lawful bytes calls are)) in
+      let new : IsGoodState s = record { display = good-new columns rows; last = tt } in
+      let behind : State = after_all calls s in
+      let good : IsGoodState behind = good-after_all calls s prints new in
+      let last : List (List Cell) = printed_rows behind.display in
+      all-append (rows_styled links last) (closing_styled (open_after false last))
+      (of-rows links last (good-first_rows (printed_count behind.display) behind.display good.display))
+      (of-closing (open_after false last))

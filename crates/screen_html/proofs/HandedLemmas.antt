@@ -9,13 +9,15 @@ use Rattle.ansi_html.proofs.SoundLemmas.{IsSound, IsSound-none, IsSound-of}
 use Rattle.ansi_html.proofs.StyledLemmas.{HaveLinks}
 use Rattle.ansi_screen.specs.declared.cell.Cell.{Cell}
 use Rattle.ansi_screen.specs.After.{State, after, after_all}
-use Rattle.ansi_screen.specs.Leaving.{rows_left, all_left}
+use Rattle.ansi_screen.specs.Display.{Display}
+use Rattle.ansi_screen.specs.Leaving.{rows_left, all_left, printed_rows}
 use Rattle.ansi_screen.specs.Text.{used, is_unprinted, goes_on}
 use Rattle.screen_text.specs.Lines.{open_after, showing}
 use Rattle.screen_text.specs.Rows.{Handed, leaving, command, commands, all_handed}
 use Rattle.screen_text.specs.Shown.{given_all}
 use Rattle.screen_html.specs.Links.{Kept, kept, no_links, most_kept, place_of, link_at, links_after}
 use Rattle.screen_html.specs.Shown.{cell_styled, line_feed, row_styled, rows_styled, handed_styled, links_behind, closing_styled, shown_styled}
+use Rattle.screen_html.specs.Page.{page_styled, links_by, all_links}
 
 -- the rows alone
 abbrev pub rows_in : List Handed → List (List Cell)
@@ -46,15 +48,47 @@ rows_in-handed (call ∷ calls) s =
     ∙ rows_in-rows rows (commands call s ++ later)
     ∙ ap (λ l. rows ++ l) (rows_in-commands call s later ∙ rows_in-handed calls (after call s))
 
+-- nothing is written where no row is handed on
+pub handed-none : (links : List Kept) (all : List Handed) → rows_in all ≡ [] → handed_styled links all ≡ []
+handed-none links [] none = refl
+handed-none links (leaving row ∷ others) none = cc
+handed-none links (command number parts ∷ others) none = handed-none (links_after number parts links) others none
+
+-- The links behind what is handed on are those after the calls.
+behind-rows : (rows : List (List Cell)) (others : List Handed) (links : List Kept) → links_behind links (map leaving rows ++ others) ≡ links_behind links others
+behind-rows [] others links = refl
+behind-rows (row ∷ rows) others links = behind-rows rows others links
+
+behind-commands : (call : Call) (s : State) (others : List Handed) (links : List Kept)
+    → links_behind links (commands call s ++ others) ≡ links_behind (links_by call (after call s) links) others
+behind-commands (osc_dispatch parts bell) s others links = refl
+behind-commands (print c) s others links = refl
+behind-commands (execute byte) s others links = refl
+behind-commands (hook groups intermediates ignore final) s others links = refl
+behind-commands (put byte) s others links = refl
+behind-commands unhook s others links = refl
+behind-commands (csi_dispatch groups intermediates ignore final) s others links = refl
+behind-commands (esc_dispatch intermediates ignore final) s others links = refl
+
+pub behind-handed : (calls : List Call) (s : State) (links : List Kept) → links_behind links (all_handed calls s) ≡ all_links calls s links
+behind-handed [] s links = refl
+behind-handed (call ∷ calls) s links =
+    let rows = rows_left call s.display in
+    let later = all_handed calls (after call s) in
+    ap (links_behind links) (append_assoc (map leaving rows) (commands call s) later)
+    ∙ behind-rows rows (commands call s ++ later) links
+    ∙ behind-commands call s later links
+    ∙ behind-handed calls (after call s) (links_by call (after call s) links)
+
 -- each link that is kept may stand in the HTML
-abbrev AreKept : List Kept → Type 0
+abbrev pub AreKept : List Kept → Type 0
 AreKept links = AllByRecursion (λ (it : Kept). IsSound it.link) links
 
 kept-replicate : (n : ℕ) → AreKept (replicate n (kept 0 []))
 kept-replicate zero = tt
 kept-replicate (suc n) = (IsSound-none, kept-replicate n)
 
-kept-none : AreKept no_links
+pub kept-none : AreKept no_links
 kept-none = kept-replicate most_kept
 
 kept-set : (links : List Kept) (i : ℕ) (it : Kept) → IsSound it.link → AreKept links → AreKept (set links i it)
@@ -79,7 +113,7 @@ kept-if : (t : Bool) (one other : List Kept) → AreKept one → AreKept other �
 kept-if true one other are others = are
 kept-if false one other are others = others
 
-kept-after : (number : ℕ) (parts : List (List ℕ)) (links : List Kept) → AreKept links → AreKept (links_after number parts links)
+pub kept-after : (number : ℕ) (parts : List (List ℕ)) (links : List Kept) → AreKept links → AreKept (links_after number parts links)
 unfolding links_after
 kept-after number parts links are =
     kept-if (is_link_command parts && not (number == 0)) (set links (number % most_kept) (kept number (link_of parts))) links
@@ -120,6 +154,12 @@ links-handed : (links : List Kept) (all : List Handed) → AreKept links → Hav
 links-handed links [] are = tt
 links-handed links (leaving row ∷ others) are = links-append (row_styled links row) (handed_styled links others) (links-row links row are) (links-handed links others are)
 links-handed links (command number parts ∷ others) are = links-handed (links_after number parts links) others (kept-after number parts links are)
+
+-- of a page
+pub links-on_page : (links : List Kept) (d : Display) → AreKept links → HaveLinks (page_styled links d)
+links-on_page links d are =
+    links-append (rows_styled links (printed_rows d)) (closing_styled (open_after false (printed_rows d))) (links-rows links (printed_rows d) are)
+    (links-closing (open_after false (printed_rows d)))
 
 pub links-shown : (s : State) (calls : List Call) → HaveLinks (shown_styled s calls)
 links-shown s calls =

@@ -5,3 +5,5 @@ pub mod HandedLemmas
 pub mod CellLemmas
 pub mod WholeLemmas
 pub mod LastLemmas
+pub mod PageLemmas
+pub mod PlainTextLemmas

@@ -10,8 +10,9 @@ use Rattle.ansi_html.specs.Styled.{Styled, styled_html, shown_after, all_html, b
 use Rattle.ansi_html.proofs.StyledLemmas.{styled_html-append, shown_after-append}
 use Rattle.ansi_screen.specs.declared.cell.Cell.{Cell}
 use Rattle.ansi_screen.specs.After.{State, after_all}
+use Rattle.ansi_screen.specs.Display.{Display}
 use Rattle.ansi_screen.specs.Text.{cell_text, used, is_unprinted, goes_on}
-use Rattle.ansi_screen.specs.Leaving.{all_left}
+use Rattle.ansi_screen.specs.Leaving.{all_left, printed_rows}
 use Rattle.screen_text.specs.declared.performer.ShownWriter.{ShownWriter}
 use Rattle.screen_text.specs.Lines.{row_text, rows_text, open_after, closing, showing, row_text_at, after_row as after_line, after_command as after_text_command}
 use Rattle.screen_text.specs.Rows.{Handed, leaving, command, all_handed, rows_from, after_rows, last_rows_from}
@@ -20,6 +21,7 @@ use Rattle.screen_html.specs.Links.{Kept, no_links, links_after}
 use Rattle.screen_text.specs.Shown.{given_all, shown_text}
 use Rattle.screen_text.specs.Writer.{rows_of, screen_of, text_from, ending_from}
 use Rattle.screen_html.specs.Shown.{cell_styled, line_feed, row_styled, rows_styled, handed_styled, links_behind, closing_styled, left_styled, ending_styled, shown_styled, left_html, ending_html, shown_html}
+use Rattle.screen_html.specs.Page.{page_styled, page_text}
 use Rattle.screen_html.specs.Writer.{Between, row_html, after_row, after_command, closing_html}
 
 abbrev between : Styling → Element → List Kept → Bool → Between
@@ -134,6 +136,12 @@ bytes-handed links on [] = refl
 bytes-handed links on (leaving row ∷ others) =
     bytes-append (row_styled links row) (handed_styled links others) ∙ ap₂ (λ a b. a ++ b) (bytes-row links row) (bytes-handed links (goes_on row) others)
 bytes-handed links on (command number parts ∷ others) = bytes-handed (links_after number parts links) on others
+
+-- of a page
+pub bytes-page : (links : List Kept) (d : Display) → all_bytes (page_styled links d) ≡ page_text d
+bytes-page links d =
+    bytes-append (rows_styled links (printed_rows d)) (closing_styled (open_after false (printed_rows d)))
+    ∙ ap₂ (λ a b. a ++ b) (bytes-rows links (printed_rows d)) (bytes-closing (open_after false (printed_rows d)))
 
 pub bytes-shown : (s : State) (calls : List Call) → all_bytes (shown_styled s calls) ≡ shown_text s calls
 bytes-shown s calls =

@@ -1,29 +1,36 @@
 -- The HTML of what a screen showed is read back, has the text's lines, stands in the grammar, is UTF-8, and is bounded.
-use Rattle.std.proofs.Common.{◌≡◌, ◌≤◌, ℕ, ◌+◌, ◌*◌, length, true, eqb, List, [], ◌∷◌, ◌++◌, map, refl, sym, ap, ◌∙◌, subst, arith}
-use Rattle.std.specs.Prelude.{encode_utf8, not}
+use Rattle.std.proofs.Common.{◌≡◌, ◌≤◌, ℕ, ◌+◌, ◌*◌, length, true, false, eqb, List, [], ◌∷◌, ◌++◌, map, refl, sym, ap, ap₂, ◌∙◌, subst, arith}
+use Rattle.std.specs.Prelude.{encode_utf8, not, if◌then◌else◌}
 use Rattle.std.specs.List.{list_all, AllByRecursion}
 use Rattle.std.specs.Str.{IsUtf8}
 use Rattle.std.proofs.lemmas.Bool.{and_from, ne_eqb}
 use Rattle.std.proofs.lemmas.Grind.{flat_map-append}
 use Rattle.std.proofs.lemmas.Str.{IsUtf8-append, IsUtf8-nil}
-use Rattle.anstyle_parse.specs.Stream.Call.{Call, print, execute}
+use Rattle.anstyle_parse.specs.Stream.Call.{Call, print, execute, hook, put, unhook, osc_dispatch, csi_dispatch, esc_dispatch}
 use Rattle.anstyle_parse.specs.Stream.Calls.{AreCalls}
 use Rattle.ansi_html.specs.declared.scheme.Styling.{Styling}
 use Rattle.ansi_html.specs.Links.{IsLink}
 use Rattle.ansi_html.specs.Grammar.{IsFragment}
 use Rattle.ansi_html.specs.Html.{escaped, escaped_text}
 use Rattle.ansi_html.specs.Reader.{byte_of, href_of, read, drawn}
-use Rattle.ansi_html.specs.Styled.{all_shown}
+use Rattle.ansi_html.specs.Styled.{Styled, all_html, all_shown}
 use Rattle.ansi_html.proofs.LawfulText.{is_textual, AreTextual, ArePrinted, ArePrinted-encode, AreTextual-printed}
 use Rattle.ansi_html.proofs.NewlineLemmas.{is_not_return, HasNoReturn, HasNoReturn-append}
 use Rattle.ansi_html.proofs.StyledLemmas.{links-styled, read-styled, text-styled, drawn-styled, IsFragment-styled, IsUtf8-styled, length-styled}
 use Rattle.ansi_html.proofs.TextLemmas.{IsUtf8-stripped}
-use Rattle.ansi_screen.specs.After.{State, new_state}
-use Rattle.screen_text.specs.Shown.{shown_text}
-use Rattle.screen_html.specs.Shown.{shown_styled, shown_html}
-use Rattle.screen_html.proofs.HandedLemmas.{links-shown}
-use Rattle.screen_html.proofs.CellLemmas.{of-shown}
-use Rattle.screen_html.proofs.ShownLemmas.{shown_html-all, bytes-shown}
+use Rattle.ansi_screen.specs.declared.cell.Cell.{Cell}
+use Rattle.ansi_screen.specs.After.{State, new_state, after, after_all}
+use Rattle.ansi_screen.specs.Display.{Display}
+use Rattle.ansi_screen.specs.Leaving.{all_left, swapped, printed_rows}
+use Rattle.screen_text.specs.Lines.{open_after}
+use Rattle.screen_text.specs.Rows.{all_handed}
+use Rattle.screen_text.specs.Shown.{given_all, shown_text}
+use Rattle.screen_html.specs.Shown.{rows_styled, closing_styled, shown_styled, shown_html}
+use Rattle.screen_html.specs.Links.{Kept, no_links}
+use Rattle.screen_html.specs.Page.{page_styled, page_html, page_text, links_by, all_links}
+use Rattle.screen_html.proofs.HandedLemmas.{AreKept, kept-none, kept-after, rows_in-handed, handed-none, behind-handed, links-on_page, links-shown}
+use Rattle.screen_html.proofs.CellLemmas.{of-shown, of-page}
+use Rattle.screen_html.proofs.ShownLemmas.{shown_html-all, bytes-page, bytes-shown}
 
 AreTextual-append : (first second : List ℕ) → AreTextual first → AreTextual second → AreTextual (first ++ second)
 AreTextual-append [] second are others = others
@@ -85,3 +92,79 @@ module _ (styling : Styling) where
         subst IsUtf8 (sym (shown_html-all styling new calls))
         (IsUtf8-styled styling (shown_styled new calls) (links-shown new calls)
         (of-shown (λ text. IsUtf8 (escaped_text text)) IsUtf8-nil IsUtf8-escaped (λ c good. IsUtf8-stripped (print c) good.0) (IsUtf8-stripped (execute 0x0A) tt) columns rows bytes calls are))
+
+-- the links that are kept after the calls of a stream may stand in the HTML
+kept-by : (call : Call) (s : State) (links : List Kept) → AreKept links → AreKept (links_by call s links)
+kept-by (osc_dispatch parts bell) s links are = kept-after s.display.link parts links are
+kept-by (print c) s links are = are
+kept-by (execute byte) s links are = are
+kept-by (hook groups intermediates ignore final) s links are = are
+kept-by (put byte) s links are = are
+kept-by unhook s links are = are
+kept-by (csi_dispatch groups intermediates ignore final) s links are = are
+kept-by (esc_dispatch intermediates ignore final) s links are = are
+
+kept-all : (calls : List Call) (s : State) (links : List Kept) → AreKept links → AreKept (all_links calls s links)
+kept-all [] s links are = are
+kept-all (call ∷ calls) s links are = kept-all calls (after call s) (links_by call (after call s) links) (kept-by call (after call s) links are)
+
+-- Where no row has left and the main screen shows, a page has all that the screen showed.
+styled-page : (s : State) (calls : List Call) → all_left (given_all calls) s ≡ [] → (after_all (given_all calls) s).display.is_alternate ≡ false
+    → shown_styled s calls ≡ page_styled (all_links (given_all calls) s no_links) (after_all (given_all calls) s).display
+styled-page s calls none is_main =
+    let given : List Call = given_all calls in
+    let d : Display = (after_all given s).display in
+    let rows : List (List Cell) = printed_rows d in
+    let links : List Kept = all_links given s no_links in
+    ap₂ (λ (a : List Styled) b. a ++ b) (handed-none no_links (all_handed given s) (rows_in-handed given s ∙ none))
+    (ap₂ (λ (l : List Kept) (rs : List (List Cell)). rows_styled l rs ++ closing_styled (open_after (open_after false (all_left given s)) rs)) (behind-handed given s no_links)
+    (ap (λ t. (if t then printed_rows (swapped d) else []) ++ rows) is_main)
+    ∙ ap (λ (left : List (List Cell)). rows_styled links rows ++ closing_styled (open_after (open_after false left) rows)) none)
+
+-- what holds of pages
+module _ (styling : Styling) where
+  pub whole-page : (s : State) (calls : List Call) → all_left (given_all calls) s ≡ [] → (after_all (given_all calls) s).display.is_alternate ≡ false
+      → shown_html styling s calls ≡ page_html styling (all_links (given_all calls) s no_links) (after_all (given_all calls) s).display
+  whole-page s calls none is_main = shown_html-all styling s calls ∙ ap (λ (texts : List Styled). all_html styling texts) (styled-page s calls none is_main)
+
+  pub read-page : (links : List Kept) (d : Display) → read (page_html styling links d) ≡ all_shown styling (page_styled links d)
+  read-page links d = read-styled styling (page_styled links d)
+
+  pub text-page : (links : List Kept) (d : Display) → map byte_of (read (page_html styling links d)) ≡ page_text d
+  text-page links d = text-styled styling (page_styled links d) ∙ bytes-page links d
+
+  pub links-page : (s : State) (calls : List Call)
+      → AllByRecursion IsLink (map href_of (read (page_html styling (all_links calls s no_links) (after_all calls s).display)))
+  links-page s calls =
+      links-styled styling (page_styled (all_links calls s no_links) (after_all calls s).display)
+      (links-on_page (all_links calls s no_links) (after_all calls s).display (kept-all calls s no_links kept-none))
+
+  pub length-page : (s : State) (calls : List Call)
+      → length (page_html styling (all_links calls s no_links) (after_all calls s).display) ≤ 6527 * length (page_text (after_all calls s).display) + 11
+  length-page s calls =
+      let links : List Kept = all_links calls s no_links in
+      let d : Display = (after_all calls s).display in
+      omega (arith, length-styled styling (page_styled links d) (links-on_page links d (kept-all calls s no_links kept-none)), ap length (bytes-page links d))
+
+  module _ (columns rows : ℕ) (bytes : List ℕ) (calls : List Call) (are : AreCalls bytes calls) where
+    abbrev links_there : List Kept
+    links_there = all_links calls (new_state columns rows) no_links
+
+    abbrev there : Display
+    there = (after_all calls (new_state columns rows)).display
+
+    pub drawn-page : drawn (page_html styling links_there there) ≡ page_text there
+    drawn-page =
+        drawn-styled styling (page_styled links_there there)
+        (of-page HasNoReturn refl HasNoReturn-append (λ c good. HasNoReturn-printed (encode_utf8 c) (ArePrinted-encode c good.0)) no_return-feed links_there columns rows bytes calls are)
+        ∙ bytes-page links_there there
+
+    pub IsFragment-page : IsFragment styling (page_html styling links_there there)
+    IsFragment-page =
+        IsFragment-styled styling (page_styled links_there there) (links-on_page links_there there (kept-all calls (new_state columns rows) no_links kept-none))
+        (of-page AreTextual tt AreTextual-append (λ c good. AreTextual-printed (encode_utf8 c) (ArePrinted-encode c good.0)) (textual_feed, tt) links_there columns rows bytes calls are)
+
+    pub IsUtf8-page : IsUtf8 (page_html styling links_there there)
+    IsUtf8-page =
+        IsUtf8-styled styling (page_styled links_there there) (links-on_page links_there there (kept-all calls (new_state columns rows) no_links kept-none))
+        (of-page (λ text. IsUtf8 (escaped_text text)) IsUtf8-nil IsUtf8-escaped (λ c good. IsUtf8-stripped (print c) good.0) (IsUtf8-stripped (execute 0x0A) tt) links_there columns rows bytes calls are)

@@ -1,10 +1,26 @@
-//! Laws of links. Each is the contract of a function that does nothing.
-ghost use Rattle.std.specs.Prelude.{◌≡◌, ◌<◌, ◌≤◌, ◌+◌, ℕ, List, [], ◌∷◌, ◌++◌, length};
-ghost use Rattle.ansi_html.specs.Links.{link_of};
-ghost use Rattle.screen_html.specs.Links.{Kept, most_kept, numbered, AreLinkCommands, link_at};
+//! Laws of links, of pages and of plain text. Each is the contract of a function that does nothing.
+ghost use Rattle.std.specs.Prelude.{◌≡◌, ◌<◌, ◌≤◌, ◌+◌, ◌*◌, ℕ, false, List, [], ◌∷◌, ◌++◌, length, map};
+ghost use Rattle.std.specs.List.{AllByRecursion};
+ghost use Rattle.std.specs.Str.{IsUtf8};
+ghost use Rattle.anstyle_parse.specs.Stream.Call.{Call};
+ghost use Rattle.anstyle_parse.specs.Stream.Calls.{AreCalls};
+ghost use Rattle.ansi_html.specs.declared.scheme.Styling.{Styling};
+ghost use Rattle.ansi_html.specs.Grammar.{IsFragment};
+ghost use Rattle.ansi_html.specs.Html.{html};
+ghost use Rattle.ansi_html.specs.Links.{IsLink, link_of};
+ghost use Rattle.ansi_html.specs.Reader.{byte_of, href_of, read, drawn};
+ghost use Rattle.ansi_html.specs.Styled.{all_shown};
+ghost use Rattle.ansi_screen.specs.After.{State, new_state, after_all};
+ghost use Rattle.ansi_screen.specs.Display.{Display};
+ghost use Rattle.ansi_screen.specs.Leaving.{all_left};
+ghost use Rattle.screen_text.specs.Laws.{ArePlain, LastIsNotEmpty, lines_bytes};
+ghost use Rattle.screen_text.specs.Shown.{given_all};
+ghost use Rattle.screen_html.specs.Links.{Kept, most_kept, no_links, numbered, AreLinkCommands, link_at};
+ghost use Rattle.screen_html.specs.Shown.{shown_html};
+ghost use Rattle.screen_html.specs.Page.{page_styled, page_html, page_text, all_links};
 
 /// Which link a number has: that of the command which got it since the last reset, where fewer than 1,024 links began
-/// behind it (`kept`), and else none (`lost`), whatever the table had before that reset.
+/// after it (`kept`), and else none (`lost`), whatever the table had before that reset.
 pub fn last_links()
     ensures kept { (before : List Kept) (earlier later : List (List (List ℕ))) (parts : List (List ℕ))
         → length before ≡ most_kept → AreLinkCommands (earlier ++ parts ∷ later) → length later < most_kept
@@ -12,4 +28,42 @@ pub fn last_links()
     ensures lost { (before : List Kept) (earlier later : List (List (List ℕ))) (parts : List (List ℕ))
         → length before ≡ most_kept → AreLinkCommands (earlier ++ parts ∷ later) → most_kept ≤ length later
         → link_at (length earlier + 1) (numbered 1 (earlier ++ parts ∷ later) before) ≡ [] }
+{}
+
+/// The HTML of what a screen shows: reading it gives each cell's characters with the declarations of its style or its classes,
+/// and its link (`read_back`), and so the text of the rows that show (`text`). With the links of the stream that led there, each
+/// begins with https://, http:// or mailto: (`links`), and it has at most 6527 bytes for each byte of the text, and 11 more
+/// (`bound`). From a new screen on its lines are those of the text, no markup comes in (`grammar`), and it is UTF-8. Where no row
+/// has left and the main screen shows, it is all that `convert_shown` writes (`whole`).
+pub fn page()
+    ensures read_back { (styling : Styling) (links : List Kept) (d : Display)
+        → read (page_html styling links d) ≡ all_shown styling (page_styled links d) }
+    ensures text { (styling : Styling) (links : List Kept) (d : Display)
+        → map byte_of (read (page_html styling links d)) ≡ page_text d }
+    ensures links { (styling : Styling) (s : State) (calls : List Call) → AllByRecursion IsLink
+        (map href_of (read (page_html styling (all_links calls s no_links) (after_all calls s).display))) }
+    ensures bound { (styling : Styling) (s : State) (calls : List Call)
+        → length (page_html styling (all_links calls s no_links) (after_all calls s).display)
+        ≤ 6527 * length (page_text (after_all calls s).display) + 11 }
+    ensures lines { (styling : Styling) (columns rows : ℕ) (bytes : List ℕ) (calls : List Call) → AreCalls bytes calls
+        → drawn (page_html styling (all_links calls (new_state columns rows) no_links)
+        (after_all calls (new_state columns rows)).display) ≡ page_text (after_all calls (new_state columns rows)).display }
+    ensures grammar { (styling : Styling) (columns rows : ℕ) (bytes : List ℕ) (calls : List Call) → AreCalls bytes calls
+        → IsFragment styling (page_html styling (all_links calls (new_state columns rows) no_links)
+        (after_all calls (new_state columns rows)).display) }
+    ensures utf8 { (styling : Styling) (columns rows : ℕ) (bytes : List ℕ) (calls : List Call) → AreCalls bytes calls
+        → IsUtf8 (page_html styling (all_links calls (new_state columns rows) no_links)
+        (after_all calls (new_state columns rows)).display) }
+    ensures whole { (styling : Styling) (s : State) (calls : List Call) → all_left (given_all calls) s ≡ []
+        → (after_all (given_all calls) s).display.is_alternate ≡ false → shown_html styling s calls
+        ≡ page_html styling (all_links (given_all calls) s no_links) (after_all (given_all calls) s).display }
+{}
+
+/// Plain text needs no screen: of lines of characters of one column or two, each with a line feed, of which the last is
+/// not empty, however long and however many, the HTML on a screen of any size is that of `ansi_html::convert`, byte for
+/// byte.
+pub fn plain_text()
+    ensures { (styling : Styling) (columns rows : ℕ) (lines : List (List ℕ)) (calls : List Call) → 2 ≤ columns
+        → 1 ≤ rows → ArePlain lines → LastIsNotEmpty lines → AreCalls (lines_bytes lines) calls
+        → shown_html styling (new_state columns rows) calls ≡ html styling calls }
 {}

@@ -33,6 +33,7 @@ ghost use Rattle.screen_html.specs.Shown.{shown_styled, left_html, ending_html, 
 
 mod alike;
 pub mod laws;
+mod page;
 mod rows;
 mod runs;
 mod table;
@@ -40,9 +41,10 @@ mod table;
 use ansi_html::Styling;
 use ansi_screen::Screen;
 use anstyle_parse::io::{Fault, Output, Sink, Source, write_calls_by};
+pub use page::write_screen;
 pub use rows::HtmlRows;
 use screen_text::ShownWriter;
-pub use table::LinkMemory;
+pub use table::{LinkMemory, LinkTable};
 
 /// Writes what a screen showed of all bytes that the reader gives as HTML: the lines of
 /// [`screen_text::write_shown`], each character in the style of its cell, said as `styling` has it. `head` is
@@ -95,7 +97,7 @@ pub fn convert_shown<R: Source, W: Sink>(
     // A link's URI begins with https://, http:// or mailto:, and is visible ASCII.
     ensures links { (calls : List Call) → AllByRecursion IsLink (map href_of (read (shown_html styling screen calls))) }
 
-    // It is the whole URI that a command says, none that was cut.
+    // It is the whole URI that a command says, all after its second `;`, and none that was cut.
     ensures whole_links { (text : List ℕ) → IsTrue (is_link_command (parts_of text)) → link_of (parts_of text) ≢ []
         → SaysLink text (link_of (parts_of text)) }
 

@@ -62,7 +62,7 @@ fn put_cells<W: Sink>(writer: &mut StyledWriter<W>, links: &LinkTable, cells: &[
 }
 
 /// Ends a line, and the element that is open.
-fn put_line_feed<W: Sink>(writer: &mut StyledWriter<W>, links: &LinkTable)
+pub(crate) fn put_line_feed<W: Sink>(writer: &mut StyledWriter<W>, links: &LinkTable)
     ensures { WritesStyled W.Sink writer.old (line_feed ∷ []) writer.new }
 {
     writer.select(Style::default(), links.none());
@@ -71,7 +71,7 @@ fn put_line_feed<W: Sink>(writer: &mut StyledWriter<W>, links: &LinkTable)
 
 /// Writes a row, without the cells at its end where nothing was printed; with a line feed, unless
 /// it goes on.
-fn put_row<W: Sink>(writer: &mut StyledWriter<W>, links: &LinkTable, row: &[Cell])
+pub(crate) fn put_row<W: Sink>(writer: &mut StyledWriter<W>, links: &LinkTable, row: &[Cell])
     ensures { WritesStyled W.Sink writer.old (row_styled links.now row.now) writer.new }
 {
     let end = used(row, LeftOut::Unprinted);

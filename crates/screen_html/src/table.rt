@@ -1,7 +1,7 @@
 //! The links of a stream by their numbers.
 ghost use Rattle.std.specs.Prelude.{◌≡◌, ◌<◌, ◌≤◌, ◌%◌, ℕ, [], length, map, IfOk, vec_capacity};
 ghost use Rattle.ansi_html.specs.ShownLinks.{link_in};
-ghost use Rattle.screen_html.specs.Places.{all_kept};
+ghost use Rattle.screen_html.specs.Places.{kept_in, all_kept};
 
 use ansi_html::{Link, is_link_command};
 use std::alloc::{AllocError, Global};
@@ -54,7 +54,7 @@ impl LinkMemory {
 
 /// The links of a stream by the numbers that a screen gives them: the last 1,024 that began.
 #[derive(Drop)]
-pub(crate) struct LinkTable {
+pub struct LinkTable {
     /// A link's place is its number modulo `MOST_KEPT`. Those past the last place that had a link keep none: there is memory
     /// for them, which is not written.
     places: Vec<Place>,
@@ -79,11 +79,30 @@ impl LinkTable {
     ghost use Rattle.screen_html.specs.Links.{no_links, link_at, links_after};
 
     /// One that has no link yet. `Err` means that memory is wanting.
-    fn new(alloc: Global) -> Result<LinkTable, AllocError>
+    pub fn new(alloc: Global) -> Result<LinkTable, AllocError>
         ensures { IfOk result (λ table. table ≡ no_links) }
     {
         Ok(LinkTable {
             places: Vec::with_capacity(alloc, MOST_KEPT)?,
+            none: Link::none(),
+        })
+    }
+
+    /// Forgets all links.
+    pub fn clear(&mut self)
+        ensures { self.new ≡ no_links }
+    {
+        self.places.clear();
+    }
+
+    /// Another one that keeps the same links. `Err` means that memory is wanting.
+    pub fn copy(&self, alloc: Global) -> Result<LinkTable, AllocError>
+        ensures { IfOk result (λ copy. copy ≡ self.now) }
+    {
+        let mut places = Vec::with_capacity(alloc, MOST_KEPT)?;
+        put_copies(self.places.as_slice(), &mut places);
+        Ok(LinkTable {
+            places,
             none: Link::none(),
         })
     }
@@ -97,7 +116,7 @@ impl LinkTable {
 
     /// The link of a number; none where it is no more kept.
     #[tactic(auto, unfolding(crate::specs::Links::link_at))]
-    pub(crate) fn link(&self, number: u32) -> &Link
+    pub fn link(&self, number: u32) -> &Link
         ensures { link_in result.now ≡ link_at number self.now }
     {
         let places = self.places.as_slice();
@@ -111,7 +130,7 @@ impl LinkTable {
 
     /// Keeps the link of a command, behind which the one of this number is in force.
     #[tactic(auto, unfolding(crate::specs::Links::links_after))]
-    pub(crate) fn take_command(&mut self, number: u32, parts: &[&[u8]])
+    pub fn take_command(&mut self, number: u32, parts: &[&[u8]])
         ensures { self.new ≡ links_after number (map (λ part. part.now) parts.now) self.old }
     {
         if is_link_command(parts) && number != 0 {
@@ -121,6 +140,24 @@ impl LinkTable {
             place.number = number;
             place.link.select(parts);
         }
+    }
+}
+
+/// Writes copies of places.
+fn put_copies(places: &[Place], copies: &mut Vec<Place>)
+    requires few { length places.now ≤ 1024 }
+    requires none { copies.old.items ≡ [] }
+    requires room { 1024 ≤ vec_capacity copies.old }
+    ensures kept { map kept_in copies.new.items ≡ map kept_in places.now }
+    ensures room { 1024 ≤ vec_capacity copies.new }
+{
+    for place in places {
+        let mut link = Link::none();
+        link.assign(&place.link);
+        copies.push_reserved(Place {
+            number: place.number,
+            link,
+        });
     }
 }
 

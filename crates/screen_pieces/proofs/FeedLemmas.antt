@@ -6,8 +6,8 @@ use Rattle.anstyle_parse.proofs.Division.Only.{AreCalls-only}
 use Rattle.ansi_screen.specs.After.{State, Shows, after_all}
 use Rattle.ansi_screen.specs.Leaving.{TakesRows, all_left}
 use Rattle.ansi_screen.specs.TextsProof.{after_all-append, all_left-append}
-use Rattle.screen_pieces.specs.History.{Kept, kept_of, KeepsLeft}
-use Rattle.screen_pieces.proofs.HistoryLemmas.{Takes, kept-all, same-room}
+use Rattle.screen_pieces.specs.History.{Kept, kept_of, KeepsLeft, Takes}
+use Rattle.screen_pieces.proofs.HistoryLemmas.{kept-all, same-room}
 
 pub shows-more : (first old new : State) (before more : List ℕ) (made : List Call) → Continues before more made
     → new ≡ after_all made old → Shows first before old → Shows first (before ++ more) new

@@ -7,7 +7,7 @@ use Rattle.std.proofs.Math.Seq.{get_or-append_right}
 use Rattle.std.specs.Prelude.{slice_set, slice_index_or}
 use Rattle.ansi_screen.specs.declared.cell.Cell.{Cell}
 use Rattle.ansi_screen.specs.Leaving.{TakesRows}
-use Rattle.screen_pieces.specs.History.{keep_last, fitted, Kept, kept_of, kept_after, SameRoom}
+use Rattle.screen_pieces.specs.History.{keep_last, fitted, Kept, kept_of, kept_after, Takes, SameRoom}
 use Rattle.screen_pieces.specs.Ring.{turned}
 use Rattle.screen_pieces.specs.Text.{most_length}
 
@@ -30,10 +30,6 @@ kept-one most columns before row =
     let left : min (min (length before) most_length + 1) most_length ≡ min (length (before ++ row ∷ [])) most_length =
     omega (arith, length-append before (row ∷ [])) in
     ap₂ (λ rs n. record { most = most; columns = columns; rows = rs; left = n }) rows left
-
--- what a row does to what is kept
-abbrev pub Takes : Kept → List Cell → Kept → Type 0
-Takes old row new = new ≡ kept_after row old
 
 pub kept-all : (most columns : ℕ) (before rows : List (List Cell)) (old new : Kept) → TakesRows Takes old rows new
     → old ≡ kept_of most columns before → new ≡ kept_of most columns (before ++ rows)

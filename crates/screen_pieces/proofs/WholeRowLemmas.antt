@@ -1,5 +1,5 @@
 -- Each row that leaves a screen has a cell in each column.
-use Rattle.std.proofs.Common.{◌≡◌, ◌≤◌, ◌<◌, ◌+◌, ◌-◌, ◌*◌, ℕ, zero, suc, min, Bool, true, false, List, [], ◌∷◌, ◌++◌, length, take, drop, map, refl, sym, ap, ap₂, ◌∙◌, subst, append-nil, length-take, length-drop, arith}
+use Rattle.std.proofs.Common.{◌≡◌, ◌≤◌, ◌<◌, ◌-◌, ◌*◌, ℕ, zero, suc, Bool, true, false, List, [], ◌∷◌, ◌++◌, length, take, drop, map, refl, ap, ap₂, ◌∙◌, subst, append-nil, length-take, length-drop, arith}
 use Rattle.std.specs.Prelude.{replicate, ◌==◌, if◌then◌else◌}
 use Rattle.std.proofs.lemmas.List.{map-append, take_all}
 use Rattle.anstyle_parse.specs.Stream.Call.{Call, print, execute, hook, put, unhook, osc_dispatch, csi_dispatch, esc_dispatch}
@@ -13,7 +13,7 @@ use Rattle.ansi_screen.specs.Leaving.{swapped, main_screen, leaving, is_wrapping
 use Rattle.ansi_screen.specs.Reachable.{IsScreen}
 use Rattle.ansi_screen.proofs.KeptCalls.{kept-after}
 use Rattle.ansi_screen.proofs.KeptLemmas.{kept-if, kept-going_on, row-inside}
-use Rattle.ansi_screen.proofs.SizeLemmas.{HasSize, sized-after, few-leave}
+use Rattle.ansi_screen.proofs.SizeLemmas.{sized-after, few-leave}
 use Rattle.screen_pieces.specs.History.{fitted}
 
 pub fitted-whole : (columns : ℕ) (row : List Cell) → length row ≡ columns → fitted columns row ≡ row

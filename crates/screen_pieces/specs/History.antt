@@ -41,6 +41,10 @@ kept_after row kept = record kept {
   left = min (kept.left + 1) most_length;
 }
 
+-- what a row that leaves does to what is kept
+abbrev pub Takes : Kept → List Cell → Kept → Type 0
+Takes old row new = new ≡ kept_after row old
+
 -- Kept are the last of the rows that left by the bytes, from a first screen on.
 abbrev pub KeepsLeft : State → List ℕ → Kept → Type 0
 KeepsLeft first bytes kept =

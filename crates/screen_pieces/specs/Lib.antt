@@ -4,5 +4,8 @@ pub mod Text
 pub mod Drawing
 pub mod History
 pub mod Ring
+pub mod Watched
+pub mod WatchedProof
 pub mod Terminal
 pub mod Same
+pub mod Page

@@ -1,6 +1,8 @@
 -- A screen that takes its stream in pieces.
 use Rattle.std.specs.Prelude.{◌≡◌, ◌<◌, ℕ, List, [], ◌++◌, length, take, drop, map, slice_index_or}
 use Rattle.ansi_style.specs.Style.{plain}
+use Rattle.anstyle_parse.specs.Stream.Call.{Call}
+use Rattle.anstyle_parse.specs.Stream.Calls.{AreCalls}
 use Rattle.anstyle_parse.specs.Views.Accumulator.{front_of}
 use Rattle.anstyle_parse.specs.Views.Parser.{IsAfter}
 use Rattle.ansi_screen.specs.declared.cell.Cell.{Cell}
@@ -8,6 +10,8 @@ use Rattle.ansi_screen.specs.After.{State, new_state, Shows}
 use Rattle.ansi_screen.specs.Cells.{blank}
 use Rattle.ansi_screen.specs.Display.{Display, row_cells}
 use Rattle.ansi_screen.specs.Leaving.{screen_of as scrolling_screen, taker_of}
+use Rattle.screen_html.specs.Links.{Kept as KeptLink, no_links}
+use Rattle.screen_html.specs.Page.{all_links}
 use Rattle.screen_pieces.specs.declared.cell.CellBytes.{CellBytes}
 use Rattle.screen_pieces.specs.declared.modes.ModeBytes.{ModeBytes}
 use Rattle.screen_pieces.specs.declared.terminal.Terminal.{Terminal}
@@ -16,21 +20,30 @@ use Rattle.screen_pieces.specs.History.{Kept, kept_row, KeepsLeft, SameRoom}
 use Rattle.screen_pieces.specs.Styles.{is_set}
 
 abbrev pub screen_of : Terminal → State
-screen_of terminal = scrolling_screen terminal.scrolling
+screen_of terminal = scrolling_screen terminal.watched.scrolling
 
 abbrev pub display_of : Terminal → Display
 display_of terminal = (screen_of terminal).display
 
 -- what it keeps of the rows that left
 abbrev pub history_of : Terminal → Kept
-history_of terminal = taker_of terminal.scrolling
+history_of terminal = taker_of terminal.watched.scrolling
+
+-- the links that it keeps, by their numbers
+abbrev pub links_of : Terminal → List KeptLink
+links_of terminal = terminal.watched.links
+
+-- Kept are the last of the links that began by the bytes, from a first screen on.
+abbrev pub KeepsLinks : State → List ℕ → List KeptLink → Type 0
+KeepsLinks first bytes links = (calls : List Call) × AreCalls bytes calls × (links ≡ all_links calls first no_links)
 
 -- It stands after the bytes: its screen is the one that they lead to, from a first one on, its parser stands after
--- them, and what it keeps are the last rows that left by them.
+-- them, and what it keeps are the last rows that left by them and the last links that began.
 pub record StandsAfter (first : State) (bytes : List ℕ) (terminal : Terminal) : Type 0 where
   pub shows : Shows first bytes (screen_of terminal)
   pub parser : IsAfter front_of terminal.parser bytes
   pub history : KeepsLeft first bytes (history_of terminal)
+  pub links : KeepsLinks first bytes (links_of terminal)
 
 -- It takes the next bytes of the stream: whatever bytes it stood after, it stands after these too.
 pub record Feeds (piece : List ℕ) (old new : Terminal) : Type 0 where

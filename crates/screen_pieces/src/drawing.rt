@@ -13,7 +13,7 @@ use screen_draw::{draw, update};
 use std::alloc::Global;
 
 /// What was written to it; `None` where memory was wanting.
-fn collected(output: Output<FromWrite<Vec<u8>>>) -> Option<Vec<u8>>
+pub(crate) fn collected(output: Output<FromWrite<Vec<u8>>>) -> Option<Vec<u8>>
     ensures no_fault { IfSome result (λ bytes. fault_in output ≡ None) }
     ensures bytes { IfSome result (λ bytes. bytes.items ≡ (writer_of (writer_in output)).items) }
 {

@@ -9,11 +9,13 @@ mod drawing;
 mod history;
 pub mod laws;
 mod modes;
+mod page;
 mod reading;
 mod same;
 mod style;
 mod terminal;
 mod text;
+mod watched;
 
 pub use cell::CellBytes;
 pub use history::History;

@@ -94,9 +94,7 @@ impl Terminal {
         if self.screen().rows() <= row {
             return Err(0);
         }
-        let mut writer = TextWriter::new(room);
-        writer.put_row(self.screen().row(row));
-        writer.answer()
+        put_text(self.screen().row(row), room)
     }
 
     /// The same with the cells of a row from the column `start` up to the column `end`, blanks too. `Err` also has 0 where

@@ -3,18 +3,20 @@ ghost use Rattle.std.specs.Prelude.{◌≡◌, ◌≤◌, [], IfOk};
 ghost use Rattle.ansi_screen.specs.After.{new_state};
 
 use crate::history::History;
+use crate::watched::Watched;
 use ansi_screen::{MAX_COLUMNS, MAX_ROWS, MIN_COLUMNS, MIN_ROWS, Screen, Scrolling};
 use anstyle_parse::{Parser, Perform, Utf8Parser};
+use screen_html::LinkTable;
 use std::alloc::{AllocError, Global};
 
 /// A screen that takes its stream in pieces.
 ///
-/// Memory is taken by [`Terminal::new`], [`Terminal::with_history`] and [`Terminal::copy`], and by [`Terminal::draw`] and
-/// [`Terminal::update`] while they work.
+/// Memory is taken by [`Terminal::new`], [`Terminal::with_history`] and [`Terminal::copy`], and by [`Terminal::draw`],
+/// [`Terminal::update`] and [`Terminal::html`] while they work.
 #[derive(Drop)]
 pub struct Terminal {
     parser: Parser,
-    scrolling: Scrolling<History>,
+    watched: Watched,
 }
 
 /// A screen as this one is.
@@ -28,7 +30,7 @@ fn copied(alloc: Global, screen: &Screen) -> Result<Screen, AllocError>
 }
 
 impl Terminal {
-    ghost use Rattle.screen_pieces.specs.Terminal.{screen_of, history_of, StandsAfter, Feeds, Begins, IsNew};
+    ghost use Rattle.screen_pieces.specs.Terminal.{screen_of, history_of, links_of, StandsAfter, Feeds, Begins, IsNew};
 
     /// A blank screen of so many columns and rows, at the beginning of a stream. `Err` means that memory is
     /// wanting.
@@ -57,9 +59,13 @@ impl Terminal {
     {
         let screen = Screen::new(alloc, columns, rows)?;
         let kept = History::new(alloc, history, columns)?;
+        let links = LinkTable::new(alloc)?;
         Ok(Terminal {
             parser: Parser::<Utf8Parser>::new(),
-            scrolling: Scrolling::new(screen, kept),
+            watched: Watched {
+                scrolling: Scrolling::new(screen, kept),
+                links,
+            },
         })
     }
 
@@ -68,11 +74,15 @@ impl Terminal {
         ensures { IfOk result (λ copy. copy ≡ self.now) }
     {
         let parser = self.parser.clone()?;
-        let screen = copied(alloc, self.scrolling.screen())?;
-        let kept = self.scrolling.taker().copy(alloc)?;
+        let screen = copied(alloc, self.screen())?;
+        let kept = self.history().copy(alloc)?;
+        let links = self.links().copy(alloc)?;
         Ok(Terminal {
             parser,
-            scrolling: Scrolling::new(screen, kept),
+            watched: Watched {
+                scrolling: Scrolling::new(screen, kept),
+                links,
+            },
         })
     }
 
@@ -80,7 +90,7 @@ impl Terminal {
     pub fn feed(&mut self, piece: &[u8])
         ensures { Feeds piece.now self.old self.new }
     {
-        self.parser.advance_texts(&mut self.scrolling, piece);
+        self.parser.advance_texts(&mut self.watched, piece);
     }
 
     /// Becomes a blank screen of its size, at the beginning of a stream.
@@ -88,8 +98,9 @@ impl Terminal {
         ensures { Begins self.old self.new }
     {
         // ESC c, which makes any screen a new one
-        self.scrolling.esc_dispatch(&[], false, b'c');
-        self.scrolling.pass_on();
+        self.watched.scrolling.esc_dispatch(&[], false, b'c');
+        self.watched.scrolling.pass_on();
+        self.watched.links.clear();
         self.parser = Parser::<Utf8Parser>::new();
     }
 
@@ -97,13 +108,20 @@ impl Terminal {
     pub fn screen(&self) -> &Screen
         ensures { result.now ≡ screen_of self.now }
     {
-        self.scrolling.screen()
+        self.watched.scrolling.screen()
     }
 
     /// The rows that left the screen, of which it keeps the last.
     pub fn history(&self) -> &History
         ensures { result.now ≡ history_of self.now }
     {
-        self.scrolling.taker()
+        self.watched.scrolling.taker()
+    }
+
+    /// The links of its cells, of which it keeps the last.
+    pub fn links(&self) -> &LinkTable
+        ensures { result.now ≡ links_of self.now }
+    {
+        &self.watched.links
     }
 }

@@ -1,4 +1,4 @@
--- The text of a row of printed cells, with blanks behind them.
+-- The text of a row of printed cells, with blanks after them.
 use Rattle.std.proofs.Common.{◌≡◌, ℕ, zero, suc, ◌-◌, ◌<◌, Bool, true, false, List, [], ◌∷◌, ◌++◌, length, take, set, refl, ap, sym, ◌∙◌, arith}
 use Rattle.std.specs.Prelude.{replicate, nat_eq, ◌==◌, encode_utf8}
 use Rattle.std.specs.List.{AllByRecursion, flat_map}
@@ -11,13 +11,23 @@ use Rattle.ansi_screen.specs.Print.{glyph}
 use Rattle.ansi_screen.specs.Text.{cell_text, used, is_unprinted, goes_on}
 use Rattle.screen_text.specs.Lines.{row_text}
 
--- so many blank cells, and cells with blanks behind them
+-- so many blank cells, and cells with blanks after them
 abbrev pub spaces : ℕ → List Cell
 spaces n = replicate n (blank plain)
 
--- a cell that was printed, and not as the last before a wrap
+-- a cell that is plain, and in no link; rows of them
+abbrev pub IsPlainCell : Cell → Type 0
+IsPlainCell cell = (cell.style ≡ plain) × (cell.link ≡ 0)
+
+abbrev pub ArePlainCells : List Cell → Type 0
+ArePlainCells cells = AllByRecursion IsPlainCell cells
+
+abbrev pub ArePlainRows : List (List Cell) → Type 0
+ArePlainRows rows = AllByRecursion ArePlainCells rows
+
+-- a cell that was printed plainly, and not as the last before a wrap
 abbrev pub IsPrinted : Cell → Type 0
-IsPrinted cell = (is_unprinted cell ≡ false) × (cell.goes_on ≡ false)
+IsPrinted cell = (is_unprinted cell ≡ false) × (cell.goes_on ≡ false) × IsPlainCell cell
 
 abbrev pub ArePrinted : List Cell → Type 0
 ArePrinted cells = AllByRecursion IsPrinted cells
@@ -39,7 +49,24 @@ pub printed-append : (cells more : List Cell) → ArePrinted cells → ArePrinte
 printed-append [] more are others = others
 printed-append (x ∷ cells) more are others = (are.0, printed-append cells more are.1 others)
 
--- such a row does not go on
+pub printed-parts : (cells more : List Cell) → ArePrinted (cells ++ more) → ArePrinted cells × ArePrinted more
+printed-parts [] more are = (tt, are)
+printed-parts (x ∷ cells) more are = let parts = printed-parts cells more are.1 in ((are.0, parts.0), parts.1)
+
+-- such a row is plain
+pub plain-spaces : (n : ℕ) → ArePlainCells (spaces n)
+plain-spaces zero = tt
+plain-spaces (suc n) = ((refl, refl), plain-spaces n)
+
+pub plain-printed : (cells : List Cell) (n : ℕ) → ArePrinted cells → ArePlainCells (cells ++ spaces n)
+plain-printed [] n are = plain-spaces n
+plain-printed (x ∷ cells) n are = (are.0.2, plain-printed cells n are.1)
+
+pub plain-rows_append : (rows more : List (List Cell)) → ArePlainRows rows → ArePlainRows more → ArePlainRows (rows ++ more)
+plain-rows_append [] more are others = others
+plain-rows_append (row ∷ rows) more are others = (are.0, plain-rows_append rows more are.1 others)
+
+-- and does not go on
 off-spaces : (n i : ℕ) → (cell_at i (spaces n)).goes_on ≡ false
 off-spaces zero i = refl
 off-spaces (suc n) zero = refl
@@ -66,6 +93,19 @@ text-ended cells n are =
 -- The mark that a row goes on changes nothing else.
 abbrev pub mark : ℕ → List Cell → List Cell
 mark i row = set row i (record (cell_at i row) { goes_on = true })
+
+plain-set : (i : ℕ) (row : List Cell) (x : Cell) → IsPlainCell x → ArePlainCells row → ArePlainCells (set row i x)
+plain-set i [] x is are = are
+plain-set zero (y ∷ row) x is are = (is, are.1)
+plain-set (suc i) (y ∷ row) x is are = (are.0, plain-set i row x is are.1)
+
+plain-at : (i : ℕ) (row : List Cell) → ArePlainCells row → IsPlainCell (cell_at i row)
+plain-at i [] are = (refl, refl)
+plain-at zero (x ∷ row) are = are.0
+plain-at (suc i) (x ∷ row) are = plain-at i row are.1
+
+pub plain-mark : (i : ℕ) (row : List Cell) → ArePlainCells row → ArePlainCells (mark i row)
+plain-mark i row are = plain-set i row (record (cell_at i row) { goes_on = true }) (plain-at i row are) are
 
 used-mark : (i : ℕ) (row : List Cell) → used is_unprinted (mark i row) ≡ used is_unprinted row
 unfolding is_unprinted
@@ -102,8 +142,8 @@ text-marked cells n width are long some =
 glyph-at : (n c : ℕ) (t : Bool) → nat_eq n 2 ≡ t → ArePrinted (glyph n c plain 0) × (flat_map cell_text (glyph n c plain 0) ≡ encode_utf8 c)
 unfolding is_unprinted cell_text
 glyph-at n c true is =
-    rw is (((refl, refl), ((refl, refl), tt)), append-nil (encode_utf8 c ++ []) ∙ append-nil (encode_utf8 c))
-glyph-at n c false is = rw is (((refl, refl), tt), append-nil (encode_utf8 c ++ []) ∙ append-nil (encode_utf8 c))
+    rw is (((refl, refl, (refl, refl)), ((refl, refl, (refl, refl)), tt)), append-nil (encode_utf8 c ++ []) ∙ append-nil (encode_utf8 c))
+glyph-at n c false is = rw is (((refl, refl, (refl, refl)), tt), append-nil (encode_utf8 c ++ []) ∙ append-nil (encode_utf8 c))
 
 pub printed-glyph : (n c : ℕ) → ArePrinted (glyph n c plain 0)
 printed-glyph n c = (glyph-at n c _ refl).0

@@ -14,7 +14,7 @@ use Rattle.ansi_screen.specs.Widths.{is_shown, columns}
 use Rattle.ansi_screen.specs.Print.{glyph, wrapped, with_room, with_glyph, put, shown, printed}
 use Rattle.ansi_screen.specs.Leaving.{leaving_up, leaving_by_index, first_rows}
 use Rattle.ansi_screen.proofs.PlainLemmas.{plain, at, cut-blanks}
-use Rattle.screen_text.proofs.RowTextLemmas.{spaces, ArePrinted}
+use Rattle.screen_text.proofs.RowTextLemmas.{spaces, ArePrinted, ArePlainCells, ArePlainRows, plain-rows_append}
 
 -- the cells of rows, and rows that are so long
 abbrev pub joined : List (List Cell) → List Cell
@@ -122,7 +122,7 @@ leaves-first width height row column cells last some =
     let one : min 1 height ≡ 1 = omega arith in
     rw (last, one) refl
 
--- a row behind others, whose first is another then
+-- a row after others, whose first is another then
 first-of : (rows : List (List Cell)) (row : List Cell)
     → (first : List Cell) × (others : List (List Cell)) × (rows ++ row ∷ [] ≡ first ∷ others) × (length others ≡ length rows)
 first-of [] row = (row, [], refl, refl)
@@ -144,6 +144,7 @@ pub record Typed (width height : ℕ) (left all : List (List Cell)) (current : L
   pub room : length current ≤ width
   pub printed : ArePrinted current
   pub split : left ++ full ≡ all
+  pub even : ArePlainRows all
   pub scrolled : (left ≡ []) ⊎ (length full + 1 ≡ height)
 
 -- what a move to the next row leaves, and the rows that leave by it
@@ -154,10 +155,10 @@ pub record Next (width height : ℕ) (left all : List (List Cell)) (d e : Displa
 
 pub next-row : (width height rest : ℕ) (left all full : List (List Cell)) (row : List Cell) (t : Bool) → (length full + 1 == height) ≡ t
     → AreLong width full → length row ≡ width → length full < height → length full * width + (width + rest) ≡ height * width
-    → left ++ full ≡ all → (left ≡ []) ⊎ (length full + 1 ≡ height)
+    → left ++ full ≡ all → ArePlainRows all → ArePlainCells row → (left ≡ []) ⊎ (length full + 1 ≡ height)
     → Next width height left (all ++ row ∷ []) (at width height (joined full ++ (row ++ spaces rest)) (length full) 0)
     (index (at width height (joined full ++ (row ++ spaces rest)) (length full) 0))
-next-row width height rest left all full row false other are long below fill split scrolled =
+next-row width height rest left all full row false other are long below fill split even plain_row scrolled =
     let cells : List Cell = joined full ++ (row ++ spaces rest) in
     let d : Display = at width height cells (length full) 0 in
     let no : length full + 1 ≡ height → ⊥ = eqb-false (length full + 1) height other in
@@ -180,13 +181,14 @@ next-row width height rest left all full row false other are long below fill spl
         printed = tt;
         split = ap (λ l. l ++ (full ++ row ∷ [])) (append-nil left)
             ∙ (sym (append_assoc left full (row ∷ [])) ∙ ap (λ l. l ++ row ∷ []) split);
+        even = plain-rows_append all (row ∷ []) even (plain_row, tt);
         scrolled = elim scrolled [
           | inl none ↦ inl (append-nil left ∙ none)
           | inr last ↦ absurd (no last)
         ];
       };
     }
-next-row width height rest left all full row true last are long below fill split scrolled =
+next-row width height rest left all full row true last are long below fill split even plain_row scrolled =
     let parts = first-of full row in
     let first : List Cell = parts.0 in
     let others : List (List Cell) = parts.1 in
@@ -225,6 +227,7 @@ next-row width height rest left all full row true last are long below fill split
         printed = tt;
         split = append_assoc left (first ∷ []) others
             ∙ (ap (λ l. left ++ l) (sym is) ∙ (sym (append_assoc left full (row ∷ [])) ∙ ap (λ l. l ++ row ∷ []) split));
+        even = plain-rows_append all (row ∷ []) even (plain_row, tt);
         scrolled = inr (omega arith);
       };
     }

@@ -16,11 +16,11 @@ use Rattle.ansi_screen.specs.Leaving.{is_wrapping, leaving_up, leaving_by_index,
 use Rattle.ansi_screen.specs.Laws.{carriage_return, line_feed}
 use Rattle.ansi_screen.proofs.PlainLemmas.{plain, at, return-first}
 use Rattle.ansi_screen.proofs.WholeLemmas.{length-glyph}
-use Rattle.screen_text.proofs.RowTextLemmas.{spaces, mark, length-mark, printed-append, printed-glyph}
+use Rattle.screen_text.proofs.RowTextLemmas.{spaces, mark, plain-printed, plain-mark, length-mark, printed-append, printed-glyph}
 use Rattle.screen_text.proofs.RewrittenLemmas.{fits-left, return-left}
 use Rattle.screen_text.proofs.TypedLemmas.{joined, AreLong, length-joined, spaces-split, put-room, put-wrapped, Typed, Next, next-row}
 
--- cells with blanks behind them, of which some fill a row
+-- cells with blanks after them, of which some fill a row
 pub spaces-behind : (cells : List Cell) (n k : ℕ) → k ≤ n → cells ++ spaces n ≡ (cells ++ spaces k) ++ spaces (n - k)
 spaces-behind cells n k few =
     let together : n ≡ k + (n - k) = omega arith in
@@ -87,6 +87,7 @@ module _ (width height : ℕ) (left all : List (List Cell)) (current : List Cell
         room = omega arith;
         printed = printed-append current run typed.printed (printed-glyph n c);
         split = typed.split;
+        even = typed.even;
         scrolled = typed.scrolled;
       }
 
@@ -123,7 +124,7 @@ typed-feed width height left all current s typed =
     ap (executed 0x0A) returned ∙ feed-index width height row_there (joined typed.full ++ (row ++ spaces rest)) in
     let next : Next width height left (all ++ row ∷ []) first (index first) =
     next-row width height rest left all typed.full row _ refl typed.long (row-long width height left all current d typed) typed.below
-    (row-fill width height left all current d typed) typed.split typed.scrolled in
+    (row-fill width height left all current d typed) typed.split typed.even (plain-printed current (width - length current) typed.printed) typed.scrolled in
     let out : all_left (carriage_return ∷ line_feed ∷ []) s ≡ next.out =
     ap (λ l. l ++ (rows_left line_feed (executed 0x0D d) ++ [])) (return-left d)
     ∙ (append-nil (rows_left line_feed (executed 0x0D d))
@@ -199,7 +200,8 @@ typed-wrap width height c left all current d typed wide is some few full =
     let first : Display = at width height (joined typed.full ++ (row ++ spaces rest)) row_there 0 in
     let next : Next width height left (all ++ row ∷ []) first (index first) =
     next-row width height rest left all typed.full row _ refl typed.long (length-mark (width - 1) line ∙ long) typed.below
-    (row-fill width height left all current d typed) typed.split typed.scrolled in
+    (row-fill width height left all current d typed) typed.split typed.even
+    (plain-mark (width - 1) line (plain-printed current (width - length current) typed.printed)) typed.scrolled in
     let out : rows_left (print c) d ≡ next.out =
     ap (λ e. rows_left (print c) e) typed.is
     ∙ (wrap-left width height row_there (length current) c cells is some full

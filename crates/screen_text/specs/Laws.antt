@@ -13,6 +13,10 @@ most_cell_bytes = 12
 abbrev pub IsEnded : List ℕ → Type 0
 IsEnded text = (text ≡ []) ⊎ ((front : List ℕ) × (text ≡ front ++ 0x0A ∷ []))
 
+-- its last line is empty
+abbrev pub HasEmptyEnd : List ℕ → Type 0
+HasEmptyEnd text = (text ≡ 0x0A ∷ []) ⊎ ((front : List ℕ) × (text ≡ front ++ 0x0A ∷ 0x0A ∷ []))
+
 -- a character that is shown in one column or in two; lines of them
 abbrev pub IsPlain : ℕ → Type 0
 IsPlain c = (is_character c ≡ true) × (is_shown c ≡ true) × (columns c ≢ 0)
@@ -33,7 +37,7 @@ line_bytes line = flat_map encode_utf8 line ++ 0x0A ∷ []
 abbrev pub lines_bytes : List (List ℕ) → List ℕ
 lines_bytes lines = flat_map line_bytes lines
 
--- the same behind a terminal's line, which puts a carriage return before each line feed
+-- the same after a terminal's line, which puts a carriage return before each line feed
 abbrev pub recorded_line : List ℕ → List ℕ
 recorded_line line = flat_map encode_utf8 line ++ 0x0D ∷ 0x0A ∷ []
 

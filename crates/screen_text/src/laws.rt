@@ -10,7 +10,7 @@ ghost use Rattle.ansi_screen.specs.Reachable.{IsScreen};
 ghost use Rattle.ansi_screen.specs.Laws.{carriage_return, line_feed, erase_rest, printing, text_columns, lines_text, FitsIn};
 ghost use Rattle.ansi_screen.specs.Text.{text_of};
 ghost use Rattle.screen_text.specs.Shown.{given_all, shown_text};
-ghost use Rattle.screen_text.specs.Laws.{most_cell_bytes, erase_line, IsEnded, IsPlain, ArePlain, LastIsNotEmpty, HasNoBlankEnd, lines_bytes, recorded_bytes, empty_lines};
+ghost use Rattle.screen_text.specs.Laws.{most_cell_bytes, erase_line, IsEnded, IsPlain, ArePlain, LastIsNotEmpty, HasEmptyEnd, HasNoBlankEnd, lines_bytes, recorded_bytes, empty_lines};
 
 /// What a new screen showed of any bytes is clean text: UTF-8 with no C0 control but line feeds, and so
 /// without escapes; `ansi_strip` leaves it as it is (`ansi_strip::laws::clean_text`).
@@ -55,6 +55,15 @@ pub fn plain_screen()
     ensures { (columns rows : ℕ) (lines : List (List ℕ)) (new : State) → length lines ≤ rows
         → AllByRecursion (FitsIn columns) lines → AllByRecursion HasNoBlankEnd lines → LastIsNotEmpty lines
         → Shows (new_state columns rows) (lines_text lines) new → text_of new.display ≡ lines_bytes lines }
+{}
+
+/// A text that was shown is shown as it is: on a screen of any size, what is shown of the text that a screen showed of
+/// any bytes is that text, byte for byte, unless its last line is empty (`plain_text` says what is left of such lines).
+pub fn shown_twice()
+    ensures { (columns rows width height : ℕ) (bytes text : List ℕ) (calls again : List Call)
+        → IsScreen (new_state columns rows).display → 2 ≤ width → 1 ≤ height
+        → AreCalls bytes calls → text ≡ shown_text (new_state columns rows) calls → (HasEmptyEnd text → ⊥)
+        → AreCalls text again → shown_text (new_state width height) again ≡ text }
 {}
 
 /// A carriage return before a line feed changes nothing: a stream that was recorded on a terminal shows what the

@@ -6,6 +6,7 @@ ghost use Rattle.standard_streams.specs.Inputs.{input_failed, name_of, names_rea
 use anstyle_parse::io::Source;
 use each_source::Stream;
 use std::alloc::AllocError;
+use std::fmt::Display;
 use std::fs::File;
 use std::io::Read;
 use std::rt::{HostRuntime, Stdin};
@@ -146,44 +147,41 @@ impl Source for Input<'_> {
 }
 
 impl Stream for Input<'_> {
-    /// Says so on standard error. Where that can't be written nothing is done about it.
+    /// Says so on standard error.
     fn ended_in_string(&self, begin: u64) {
-        let program = self.program;
         let name = if self.name == STANDARD {
             "standard input"
         } else {
             self.name
         };
-        let _ = if is_written_quoted(name) {
-            eprintln!(&self.rt;
-                "{program}: {name:?}: ends inside a string that begins at byte {begin}"
-            )
-        } else {
-            eprintln!(&self.rt;
-                "{program}: {name}: ends inside a string that begins at byte {begin}"
-            )
-        };
+        let what = format_args!("ends inside a string that begins at byte {begin}");
+        say_of(&self.rt, self.program, name, &what);
     }
 }
 
-/// Whether a name could drive a terminal, or shows nothing: it is written as Rattle writes a text.
-fn is_written_quoted(name: &str) -> bool {
-    name.is_empty() || name.chars().any(|c| c.is_control())
-}
-
-/// Says on standard error why a file failed: its name and the reason. Where that can't be written nothing is
-/// done about it. A name that could drive a terminal is written as Rattle writes a text.
+/// Says on standard error why a file failed.
 pub(crate) fn file_failed(rt: &HostRuntime, program: &str, name: &str, error: io::Error) {
     let text = format!(in rt.alloc(); "{error}");
     let reason = match &text {
         Ok(text) => without_number(text.as_str()),
         Err(_) => "failed",
     };
+    say_of(rt, program, name, &reason);
+}
+
+/// Says something of a file on standard error, after the program's name and the file's. Where that can't be written
+/// nothing is done about it. A name that could drive a terminal is written as Rattle writes a text.
+fn say_of(rt: &HostRuntime, program: &str, name: &str, what: &impl Display) {
     let _ = if is_written_quoted(name) {
-        eprintln!(rt; "{program}: {name:?}: {reason}")
+        eprintln!(rt; "{program}: {name:?}: {what}")
     } else {
-        eprintln!(rt; "{program}: {name}: {reason}")
+        eprintln!(rt; "{program}: {name}: {what}")
     };
+}
+
+/// Whether a name could drive a terminal, or shows nothing: it is written as Rattle writes a text.
+fn is_written_quoted(name: &str) -> bool {
+    name.is_empty() || name.chars().any(|c| c.is_control())
 }
 
 /// The words of an error, without its number, which stands behind them.

@@ -1,12 +1,13 @@
 -- Pieces of a stream one after another, and how much text they lead to.
-use Rattle.std.proofs.Common.{◌≡◌, ◌<◌, ◌≤◌, ◌+◌, ◌*◌, ℕ, List, [], ◌++◌, length, take, drop, refl, sym, ap, ◌∙◌, subst, append_assoc, append-nil, arith, zero, suc}
+use Rattle.std.proofs.Common.{◌≡◌, ◌<◌, ◌≤◌, ◌+◌, ◌*◌, ℕ, List, [], ◌∷◌, ◌++◌, length, take, drop, refl, sym, ap, ◌∙◌, subst, append_assoc, append-nil, arith, zero, suc, length-append}
 use Rattle.anstyle_parse.specs.Stream.Call.{Call}
 use Rattle.anstyle_parse.specs.Stream.Calls.{AreCalls, Continues}
 use Rattle.anstyle_parse.specs.Machine.Decoder.{decoded}
-use Rattle.anstyle_parse.specs.Machine.Step.{new_machine, machine_calls}
+use Rattle.anstyle_parse.specs.Machine.Step.{Machine, AccumulatorStep, new_machine, step, step_calls, machine_calls}
 use Rattle.anstyle_parse.proofs.Agreement.Whole.{AreCalls-machine}
 use Rattle.anstyle_parse.proofs.Canonical.TextLength.{text_length-continued}
 use Rattle.anstyle_parse.proofs.Lawful.Calls.{lawful}
+use Rattle.anstyle_parse.proofs.Machine.CallCounts.{step_calls-few}
 use Rattle.ansi_strip.proofs.InertLemmas.{IsInertText-later, length-inert}
 use Rattle.ansi_strip.proofs.PieceLength.{length-stripped_text}
 use Rattle.ansi_strip.specs.Inert.{inert_text, IsInertText}
@@ -35,6 +36,12 @@ IsInertText-continued before bytes calls continues =
 
 pub length-continued : (before bytes : List ℕ) (calls : List Call) → Continues before bytes calls → length (inert_text calls) ≤ 3 * length bytes + 1
 length-continued before bytes calls continues = omega (arith, length-inert calls, length-stripped_text calls, text_length-continued before bytes calls continues)
+
+-- two calls for each byte at most
+pub length-machine_calls : {A : Type 0} (adds : AccumulatorStep A) (bytes : List ℕ) (m : Machine A) → length (machine_calls adds bytes m) ≤ 2 * length bytes
+length-machine_calls adds [] m = omega arith
+length-machine_calls adds (b ∷ bytes) m =
+    omega (arith, length-append (step_calls adds b m) (machine_calls adds bytes (step adds b m)), step_calls-few adds b m, length-machine_calls adds bytes (step adds b m))
 
 -- no bytes make no calls
 pub Continues-nil : (before : List ℕ) → Continues before [] []

@@ -2,4 +2,5 @@ pub mod SliceWriter
 pub mod State
 pub mod Feed
 pub mod Saved
+pub mod Lent
 pub mod PuttingProof

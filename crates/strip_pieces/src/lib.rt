@@ -14,10 +14,12 @@
 mod feeding;
 mod front;
 pub mod laws;
+mod lent;
 mod saved;
 mod slice_writer;
 mod state;
 
 pub use feeding::{Fed, LEAST_ROOM};
 pub use front::put_over;
+pub use lent::{LentBytes, put_front};
 pub use state::StreamState;

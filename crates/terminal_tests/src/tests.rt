@@ -1,4 +1,5 @@
 //! Rows that were worked by hand.
 mod history;
+mod page;
 mod same;
 mod terminal;

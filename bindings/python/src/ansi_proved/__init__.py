@@ -3,6 +3,7 @@ r"""Strips terminal output of its escapes, shows it as HTML, as events or on a s
     import ansi_proved
 
     text = ansi_proved.strip("\x1b[31mred\x1b[0m <b>")
+    shown = ansi_proved.strip("\x1b[31ma\u202eb", safe=True)  # "a<U+202E>b"
     page = "<pre>\n" + ansi_proved.to_html("\x1b[31mred\x1b[0m <b>") + "</pre>"
 
     with open("log", "rb") as log:
@@ -25,11 +26,11 @@ r"""Strips terminal output of its escapes, shows it as HTML, as events or on a s
 `strip` and `to_html` take the whole: a str, and give a str; or bytes, a bytearray or a memoryview, and give
 bytes. `text_of` and `html_of` take a stream that comes in pieces of bytes, such as a list or a file, and give
 bytes, those of a piece before the next piece is asked for. `events` takes a whole or such a stream. Anything else
-is a TypeError in words.
+is a TypeError in words. With `safe=True`, `strip` and `text_of` give text that hides nothing, as `ansi2text --safe`.
 
 HTML has a styling: "both", "light", "dark" or "classes" (include/ansi_html.h says what they are); another one
-is a ValueError. What the text is, include/ansi_strip.h says, and what events there are, include/ansi_events.h; what a
-screen shows, include/ansi_screen.h. `Screen` is loaded where it is first named, from a library of its own.
+is a ValueError. What the text is, include/ansi_strip.h says, and with `safe=True` include/ansi_safe.h; what events there
+are, include/ansi_events.h; what a screen shows, include/ansi_screen.h. `Screen` is loaded where it is first named, from a library of its own.
 
 The shared library is `libansi.so` beside this file, or what the variable ANSI_LIBRARY names (`libansi_screen.so`, and
 ANSI_SCREEN_LIBRARY). Where there is none, the import is an ImportError that says so. Events are made in C where the extension `_events` was built, and else in Python.

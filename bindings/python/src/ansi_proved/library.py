@@ -4,6 +4,9 @@ import ctypes
 import os
 
 FEW = 1024  # bytes of a whole that goes through what an earlier one went through
+MOST = 4096  # bytes that one call of a Converter takes at most
+CALL_ROOM, END_ROOM = 16384, 20  # bytes that one such call, and an end, write at most
+ROOM = 64 << 10  # bytes that are handed on at once, at most
 FOLDER = os.path.dirname(os.path.abspath(__file__))
 
 
@@ -117,3 +120,76 @@ def decoded(view):
 def joined(parts_by, is_str):
     """All parts as a str or as bytes: they are made by one of two functions, and each is UTF-8 by itself."""
     return "".join(list(parts_by(decoded))) if is_str else b"".join(parts_by(bytes))
+
+
+class Converter:
+    """A stream that becomes text of another kind, which goes on with each piece: by its state, what feeds it and what ends
+    it. What was not written yet, or has to be closed, comes at the end."""
+
+    def __init__(self, state, feed, end):
+        self._state, self._feed, self._end = state, feed, end
+        self._counts, self._room = Counts(), Room(CALL_ROOM)
+
+    def texts(self, piece, made=bytes):
+        """The text of the bytes that come next, in parts that are made of memory, each UTF-8 by itself."""
+        if len(piece) > MOST and self._room.size < ROOM:
+            self._room = Room(ROOM)
+        state, room, counts = ctypes.addressof(self._state), self._room, self._counts
+        feed, (taken, written) = self._feed, counts.places()
+        at, filled, most = address_of(piece), 0, room.size - CALL_ROOM
+        end = at + len(piece)
+        while at < end:
+            if not feed(state, at, min(MOST, end - at), room.address + filled, CALL_ROOM, taken, written):
+                raise RuntimeError("the library asks for more room than the headers of this version")
+            at += counts.taken
+            filled += counts.written
+            if filled > most:
+                yield made(room.view[:filled])
+                filled = 0
+        if filled:
+            yield made(room.view[:filled])
+
+    def ends(self, made=bytes):
+        """What comes at the end, in no part or one."""
+        room, (_, written) = self._room, self._counts.places()
+        self._end(ctypes.addressof(self._state), room.address, room.size, written)
+        if self._counts.written:
+            yield made(room.view[: self._counts.written])
+
+
+class ShortConverter:
+    """Converts wholes of FEW bytes at most, each a stream of its own."""
+
+    def __init__(self, state, feed, end):
+        self._state, self._feed, self._end = state, feed, end
+        self._counts, self._room = Counts(), Room(CALL_ROOM + END_ROOM)
+        self._state_at, self._places = ctypes.addressof(state), self._counts.places()
+
+    def text(self, piece):
+        """The text of a whole, as memory that the next one is written to; or None where there is not room enough
+        for it at once, and then this one is not to be used again."""
+        room, counts, (taken, written) = self._room, self._counts, self._places
+        self._feed(self._state_at, piece, len(piece), room.address, CALL_ROOM, taken, written)
+        count = counts.written
+        if counts.taken < len(piece) or not self._end(self._state_at, room.address + count, END_ROOM, written):
+            return None
+        return room.view[: count + counts.written]  # (and where a stream has ended the next one begins)
+
+
+def parts_of(converter, pieces, made=bytes):
+    """The text of pieces by a Converter, and what comes at the end."""
+    for piece in pieces:
+        yield from converter.texts(piece, made)
+    yield from converter.ends(made)
+
+
+def converted(piece, is_str, converter, idle):
+    """The text of a whole as a str or as bytes, by a new Converter, or where it is short by one of those that are idle."""
+    if len(piece) <= FEW:
+        short = idle.taken()
+        view = short.text(piece)
+        if view is not None:
+            text = (decoded if is_str else bytes)(view)
+            idle.append(short)
+            return text
+    return joined(lambda made: parts_of(converter(), [piece], made), is_str)

@@ -4,6 +4,7 @@ import ctypes
 from collections import namedtuple
 from collections.abc import Sequence
 
+from .html import number_of
 from .library import bytes_of, exact, function, load
 
 LIBRARY = load("libansi_screen.so", "ANSI_SCREEN_LIBRARY")
@@ -61,6 +62,7 @@ class Handle(ctypes.Structure):
 
 BLANK = bytes(CellBytes(character=0x20))  # a cell of a new screen
 _DRAWING = 8192  # bytes of room that are tried first
+_LINK = 1035  # the bytes that a URI has at most
 _WIDTHS = [1, 1, 2, 0]  # of a part: empty, whole, left, right
 _SIZE, _AT = ctypes.c_size_t, ctypes.c_void_p
 _COUNTS = [1, 1, 1, 3]  # the numbers that count of a kind, but for the default, which has none
@@ -84,6 +86,8 @@ _row_text = _call("ansi_screen_row_text", ctypes.c_bool, _AT, _SIZE, _AT, _SIZE,
 _part_text = _call("ansi_screen_part_text", ctypes.c_bool, _AT, _SIZE, _SIZE, _SIZE, _AT, _SIZE, _AT)
 _draw = _call("ansi_screen_draw", ctypes.c_bool, _AT, _AT, _SIZE, _AT)
 _update = _call("ansi_screen_update", ctypes.c_bool, _AT, _AT, _AT, _SIZE, _AT)
+_link = _call("ansi_screen_link", ctypes.c_bool, _AT, ctypes.c_uint32, _AT, _SIZE, _AT)
+_html = _call("ansi_screen_html", ctypes.c_bool, _AT, ctypes.c_ubyte, _AT, _SIZE, _AT)
 _equal = _call("ansi_screen_equal", ctypes.c_bool, _AT, _AT)
 _history = _call("ansi_screen_history", ctypes.c_bool, _AT, _AT, _AT)
 _history_row = _call("ansi_screen_history_row", ctypes.c_bool, _AT, _SIZE, _AT, _SIZE)
@@ -344,6 +348,20 @@ class Screen:
                 raise MemoryError("there is no memory for the bytes of a screen")
             room = ctypes.create_string_buffer(self._numbers[0])
         return room.raw[: self._numbers[0]]
+
+    def link(self, number):
+        """The URI of a link, by the number that a cell has, as a str; "" where it is none that is kept or shown."""
+        if not 0 <= number < 2**32:
+            raise ValueError("a link has a number below 2**32, and not %d" % number)
+        room, at = ctypes.create_string_buffer(_LINK), ctypes.addressof(self._numbers)
+        self._held(_link(self._at, number, ctypes.addressof(room), len(room), at))
+        return room.raw[: self._numbers[0]].decode("ascii")
+
+    def to_html(self, styling="both"):
+        """What it shows as HTML, to paste after <pre> and a newline: of the stylings that STYLINGS names."""
+        number = number_of(styling)
+        self._held(self._handle.held)
+        return self._bytes_by(lambda at, *rest: _html(at, number, *rest), self._at).decode("utf-8")
 
     def draw(self):
         """The bytes after which any terminal of its size shows this screen: all but links and which rows go on."""

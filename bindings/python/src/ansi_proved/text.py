@@ -4,6 +4,7 @@ import ctypes
 import re
 
 from .library import FEW, Counts, Idle, Room, address_of, decoded, exact, function, joined, pieces_of, whole_of
+from .safe import safe as safe_text, safe_of
 
 MOST = 64 << 10  # bytes that one call is given at most
 SHORT = 256  # characters of a str that is looked through sooner than it is stripped
@@ -53,11 +54,14 @@ class Stripper:
                 yield made(room.view[: counts.written])
 
 
-def text_of(stream):
+def text_of(stream, *, safe=False):
     """Gives the text of a stream that comes in pieces, each bytes, a bytearray or a memoryview: as `strip` leaves it.
 
-    The text of a piece is given before the next piece is asked for. Each part is UTF-8 by itself.
+    The text of a piece is given before the next piece is asked for, but where it is safe for a carriage return, a `<`, a
+    `<U` or a joiner that comes last. Each part is UTF-8 by itself.
     """
+    if safe:
+        return safe_of(stream)
     pieces, stripper = pieces_of(stream), Stripper()
     return (text for piece in pieces for text in stripper.texts(piece))
 
@@ -93,11 +97,15 @@ def is_clean(text):
     return 2 * len(begin) > 3 * min(len(text), 4096) and CLEAN.match(text).end() == len(text)
 
 
-def strip(text):
+def strip(text, *, safe=False):
     """The text of terminal output: of a str a str, of bytes, a bytearray or a memoryview bytes.
 
-    It drives no terminal: DEL and U+0080 to U+009F, which some terminals take for controls, are left out too.
+    It drives no terminal: DEL and U+0080 to U+009F, which some terminals take for controls, are left out too. Where it is
+    to be safe, it hides nothing, as that of `ansi2text --safe`: what shows nothing, turns the order of text round or is a
+    control is written visibly, as `<U+202E>`.
     """
+    if safe:
+        return safe_text(text)
     if isinstance(text, str):
         if type(text) is not str:
             text = exact(text)

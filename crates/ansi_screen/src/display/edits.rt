@@ -66,7 +66,7 @@ impl Display {
 
     /// Whether EL erases the first cell of the cursor's row.
     #[tactic(auto, unfolding(crate::specs::Edits::erases_first))]
-    fn erases_first(&self, kind: u16) -> bool
+    pub(crate) fn erases_first(&self, kind: u16) -> bool
         ensures { result ≡ erases_first kind self.now }
     {
         kind != 0 || self.cursor.column == 0

@@ -1,6 +1,7 @@
 //! What decides what a call does, as it stands.
-ghost use Rattle.std.specs.Prelude.{◌≡◌, ◌≤◌, length};
-ghost use Rattle.ansi_screen.specs.Display.{IsSized, row_end};
+ghost use Rattle.std.specs.Prelude.{◌≡◌, ◌≤◌, ◌-◌, length};
+ghost use Rattle.ansi_screen.specs.Cells.{cell_at};
+ghost use Rattle.ansi_screen.specs.Display.{IsSized, row_start, row_end};
 
 use crate::cell::Cell;
 use crate::display::Display;
@@ -28,6 +29,15 @@ impl Display {
         ensures within { result ≤ length self.now.cells }
     {
         self.row_start() + self.width
+    }
+
+    /// Whether the row above the cursor's goes on in it.
+    pub(crate) fn is_continued(&self) -> bool
+        ensures { result ≡ (cell_at (row_start self.now - 1) self.now.cells).goes_on }
+    {
+        let cells = self.cells();
+        let last = self.row_start().saturating_sub(1);
+        last < cells.len() && cells[last].goes_on
     }
 
     /// What DECSC saved on the screen that shows.

@@ -39,7 +39,7 @@ impl Display {
         }
     }
 
-    /// A character that is shown.
+    /// A character that is shown. Mostly the row has room for it, and no cell moves.
     #[tactic(auto, unfolding(crate::specs::Print::shown))]
     fn show(&mut self, c: char)
         ensures { self.new ≡ shown c self.old }
@@ -47,6 +47,8 @@ impl Display {
         let columns = columns(c);
         if columns == 0 {
             self.mark(c);
+        } else if self.cursor.column + usize::from(columns) <= self.width && !self.inserts {
+            self.put_glyph(columns, c);
         } else {
             self.wrap(columns);
             self.put_character(columns, c);

@@ -2,6 +2,7 @@
 //! type of theirs has of a trait of std: what is gone is missed here.
 use ansi_html::Element;
 use ansi_html::HtmlWriter;
+use ansi_html::LinesWriter;
 use ansi_html::Link;
 use ansi_html::Scheme;
 use ansi_html::Standing;
@@ -12,11 +13,13 @@ use ansi_html::contrast::Rgb;
 use ansi_html::contrast::WHITE;
 use ansi_html::contrast::linear;
 use ansi_html::convert;
+use ansi_html::convert_lines;
 use ansi_html::is_link_command;
 use ansi_html::put_stylesheet;
 use ansi_html::put_text;
 use ansi_html::verbatim_length;
 use ansi_strip::Inert;
+use ansi_strip::LineFeeds;
 use ansi_strip::Stripper;
 use ansi_strip::is_clear;
 use ansi_strip::is_clear_front;
@@ -77,6 +80,7 @@ use anstyle_parse::laws::forgotten;
 use anstyle_parse::laws::front_of_a_character;
 use anstyle_parse::laws::headline;
 use anstyle_parse::laws::lawful_exactly;
+use anstyle_parse::laws::read_logs;
 use anstyle_parse::laws::replay;
 use anstyle_parse::laws::state_as_number;
 use anstyle_parse::state::Action;
@@ -193,6 +197,7 @@ fn names_of_the_laws(rt: HostRuntime) {
     calls_are_lawful();
     calls_of_bytes();
     replay();
+    read_logs();
     equal_texts();
     canonical_again();
     bounds();
@@ -218,6 +223,7 @@ fn names_of_the_laws(rt: HostRuntime) {
     ansi_strip::laws::inert_twice();
     ansi_strip::laws::inert_length();
     ansi_strip::laws::inert_utf8();
+    ansi_strip::laws::line_feeds();
     ansi_strip::laws::inert_clean_text();
     ansi_strip::laws::inert_cut_before_escape();
     ansi_style::laws::reset();
@@ -354,7 +360,21 @@ fn names_of_runs(rt: HostRuntime) {
     assert_well(&rt, strip_inert(&mut reader(), memory(rt.alloc())));
     assert_well(
         &rt,
+        write_calls::<LineFeeds<Memory>, Reader, Memory>(&mut reader(), memory(rt.alloc())),
+    );
+    assert_well(
+        &rt,
         convert(
+            Styling::Inline(Scheme::Both),
+            b"<",
+            &mut reader(),
+            memory(rt.alloc()),
+            b">",
+        ),
+    );
+    assert_well(
+        &rt,
+        convert_lines(
             Styling::Inline(Scheme::Both),
             b"<",
             &mut reader(),
@@ -390,6 +410,9 @@ fn names_of_writers(rt: HostRuntime) {
     );
     is_writing(&writer);
     assert_well(&rt, write_calls_by(writer, &mut reader(), b">"));
+    let lines = LinesWriter::new(Styling::Classes, Output::new(memory(rt.alloc())));
+    is_writing(&lines);
+    assert_well(&rt, write_calls_by(lines, &mut reader(), b">"));
     let mut style = Style::default();
     assert_eq!(rt; perform_to_end(&mut reader(), &mut style), Ok(()));
     assert!(rt; style != Style::default());

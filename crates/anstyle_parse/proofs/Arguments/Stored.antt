@@ -14,6 +14,7 @@ use Rattle.anstyle_parse.specs.Views.Parser.{CanTakeAll, AreBelow}
 use Rattle.anstyle_parse.specs.Stream.Items.{EachIs}
 use Rattle.anstyle_parse.proofs.Arguments.Lengths.{cut_same}
 use Rattle.anstyle_parse.proofs.Machine.Steps.{storing-other}
+use Rattle.anstyle_parse.specs.Views.Runs.{is_of_command}
 use Rattle.anstyle_parse.proofs.Machine.Runs.{step-stored}
 
 -- what holds with an Ok holds where there is one
@@ -41,6 +42,11 @@ CanTakeAll-later takes parser text left can =
 
 not_separator : (b : ℕ) → IsTrue (not (b == semicolon)) → b ≡ semicolon → ⊥
 not_separator b plain = eqb-false b semicolon (not-true (b == semicolon) plain)
+
+-- plain text is text of a command
+pub plain_of_command : (text : List ℕ) → EachIs is_plain_text text → EachIs is_of_command text
+plain_of_command [] plain = tt
+plain_of_command (b ∷ text) plain = ((and_parts (is_within 0x20 0xFF b) (not (b == semicolon)) plain.0).0, plain_of_command text plain.1)
 
 module _ {A : Type 0} (adds : AccumulatorStep A) where
   -- the machine with more text in its open part

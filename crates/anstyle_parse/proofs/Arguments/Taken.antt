@@ -1,5 +1,5 @@
 -- The bytes of fields, taken at once.
-use Rattle.std.proofs.Common.{◌≡◌, ◌≢◌, ℕ, zero, suc, take, drop, ◌<◌, ◌≤◌, Bool, true, false, IsTrue, eqb, List, [], ◌∷◌, ◌++◌, length, ◌+◌, ◌-◌, ◌*◌, refl, sym, ap, subst, ◌∙◌, arith, length-append, ◌⊎◌, ⊎_elim, inl, inr}
+use Rattle.std.proofs.Common.{◌≡◌, ◌≢◌, ℕ, zero, suc, take, drop, ◌<◌, ◌≤◌, Bool, true, false, IsTrue, eqb, List, [], ◌∷◌, ◌++◌, length, ◌+◌, ◌-◌, ◌*◌, refl, sym, ap, subst, ◌∙◌, arith, length-append, append-nil, ◌⊎◌, ⊎_elim, inl, inr}
 use Rattle.std.specs.Prelude.{fold, nat_le, ⊤}
 use Rattle.std.proofs.lemmas.Bool.{and_parts, and_from, leb-true, le-leb, ne_eqb, cond-false}
 use Rattle.anstyle_parse.specs.declared.state.definitions.State.{State}
@@ -181,19 +181,23 @@ module _ {C : Type 0} (takes : C → ℕ → Type 0) (adds : AccumulatorStep C) 
     (is : machine_of new ≡ with_header_of (heading_of new.header) (record (machine_of old) { state = CsiParam }))
     (some : length left < length bytes) where
   led_by : (fields : List ℕ) → bytes ≡ fields ++ left → EachIs is_parameter fields
-      → heading_of new.header ≡ fold (λ m b. after_param b m) (heading_of old.header) fields → LeadsQuietlyTo takes adds old bytes new left
+      → heading_of new.header ≡ fold (λ m b. after_param b m) (heading_of old.header) fields → LeadsQuietlyTo takes adds is_parameter old bytes new left
   led_by [] whole each taken = absurd (omega (arith, some, ap length whole))
   led_by (b ∷ fields) whole each taken =
       let m = machine_of old in
       let at : Machine C = record m { state = CsiParam } in
       let ends : machine_of new ≡ fields_after at (b ∷ fields) =
       is ∙ (ap (λ h. with_header_of h at) taken ∙ fields-with_header (b ∷ fields) (heading_of old.header) at) in
-      let run = header_run adds b fields left m header each in
+      let run = header_run adds b fields [] m header each in
+      let all = append-nil (b ∷ fields) in
       record {
+        passed = b ∷ fields;
+        joined = whole;
+        each = each;
+        machine = ends ∙ (run.0 ∙ ap (λ l. machine_after adds l m) all);
+        none = sym (run.1 ∙ ap (λ l. machine_calls adds l m) all);
         can = CanTakeAll-in_header takes old new (b ∷ fields) left (ap (λ (x : Machine C). x.state) is) (subst (CanTakeAll takes old) whole can);
-        machine = ap (λ x. machine_after adds left x) ends ∙ (run.0 ∙ ap (λ l. machine_after adds l m) (sym whole));
-        calls = ap (λ x. machine_calls adds left x) ends ∙ (run.1 ∙ ap (λ l. machine_calls adds l m) (sym whole));
       }
 
-  pub LeadsQuietlyTo-fields : TakesFields (heading_of old.header) bytes (heading_of new.header) left → LeadsQuietlyTo takes adds old bytes new left
+  pub LeadsQuietlyTo-fields : TakesFields (heading_of old.header) bytes (heading_of new.header) left → LeadsQuietlyTo takes adds is_parameter old bytes new left
   LeadsQuietlyTo-fields fields = led_by fields.fields fields.whole fields.each fields.taken

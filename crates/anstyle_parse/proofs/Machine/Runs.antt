@@ -1,9 +1,9 @@
 -- Runs one after another, and the runs of each kind of bytes.
 use Rattle.std.proofs.Common.{◌≡◌, ℕ, ◌+◌, ◌<◌, ◌≤◌, ◌⊎◌, arith, Bool, IsTrue, cond, eqb, refl, List, length, [], ◌∷◌, ◌++◌, ⊎_elim, inl, map, take, drop, ap, sym, ◌∙◌, subst, append_assoc}
-use Rattle.std.specs.Prelude.{nat_le, ◌||◌}
+use Rattle.std.specs.Prelude.{true, false, nat_le, not, ◌&&◌, ◌||◌}
 use Rattle.std.specs.List.{range_with_len}
 use Rattle.std.proofs.lemmas.List.{length-take-le, take-append-le, take-append-drop}
-use Rattle.std.proofs.lemmas.Bool.{cond-true, cond_both, and_from, and_parts, leb-true, le-leb, or_cases}
+use Rattle.std.proofs.lemmas.Bool.{cond-true, cond_both, and_from, and_parts, eqb-true, leb-true, le-leb, or_cases}
 use Rattle.anstyle_parse.specs.declared.state.definitions.State.{State}
 use Rattle.anstyle_parse.specs.declared.state.definitions.State.TheVariants.{Anywhere, CsiEntry, CsiIgnore, CsiParam, DcsEntry, DcsIgnore, DcsPassthrough, Escape, Ground, OscString, SosPmApcString, Utf8}
 use Rattle.anstyle_parse.specs.declared.state.definitions.Action.{Action}
@@ -13,7 +13,7 @@ use Rattle.anstyle_parse.specs.declared.accumulator.Taken.TheVariants.{More}
 use Rattle.anstyle_parse.specs.declared.parser.Parser.{Parser}
 use Rattle.anstyle_parse.specs.declared.parser.runs.Run.{Run}
 use Rattle.anstyle_parse.specs.declared.parser.runs.Run.TheVariants.{Printed, OfHookedString, OfIgnoredString, OfIgnoredHeader}
-use Rattle.anstyle_parse.specs.Stream.Bytes.{is_within, is_parameter, is_marker, is_final, colon, semicolon}
+use Rattle.anstyle_parse.specs.Stream.Bytes.{is_within, is_parameter, is_marker, is_final, is_cancel, colon, semicolon}
 use Rattle.anstyle_parse.specs.Stream.Characters.{is_lead}
 use Rattle.anstyle_parse.specs.Stream.Arguments.{max_fields, max_osc_bytes, max_osc_parts}
 use Rattle.anstyle_parse.specs.Stream.Call.{Call, Goes, print}
@@ -21,7 +21,9 @@ use Rattle.anstyle_parse.specs.Machine.Table.{Change, ◌by◌, change_at}
 use Rattle.anstyle_parse.specs.Machine.Step.{Machine, AccumulatorStep, Completes, IsWhole, print_answer, state_after_answer, after_answer, answer_calls, after_change, change_calls, after_clear, field_count, after_param, stored_count, after_osc_put, step, step_calls, machine_after, machine_calls}
 use Rattle.anstyle_parse.specs.Views.Parser.{machine_of, CanTakeAll}
 use Rattle.anstyle_parse.specs.Stream.Items.{EachIs}
-use Rattle.anstyle_parse.specs.Views.Runs.{LeadsTo, Takes, LeadsQuietlyTo, KeepsTo, is_of_run, run_action, run_calls, AreMade}
+use Rattle.anstyle_parse.specs.Views.Runs.{LeadsTo, Takes, LeadsQuietlyTo, KeepsTo, begins_nothing, is_of_command, is_of_run, run_action, run_calls, AreMade}
+use Rattle.anstyle_parse.proofs.Agreement.Whole.{machine_after-append, machine_calls-append}
+use Rattle.anstyle_parse.proofs.Bytes.Passing.{EachIs-append}
 use Rattle.anstyle_parse.proofs.Machine.Steps.{Goes-append, after_change-moves, step-at, step_calls-at, step-outside, step_calls_from-outside}
 use Rattle.anstyle_parse.proofs.Machine.Table.{same_below}
 use Rattle.anstyle_parse.proofs.Streams.{CanTakeAll-rest}
@@ -172,6 +174,25 @@ change_at-final state b is final =
     (λ e. ap (λ s. change_at s b) e ∙ change_at-within CsiParam 0x40 0x7E (Ground by CsiDispatch) (omega arith) b final refl)
     is
 
+-- and to a control: CAN and SUB cancel it, those below ESC are executed else
+pub change_at-cancel : (state : State) (b : ℕ) → (state ≡ CsiEntry) ⊎ (state ≡ CsiParam) → is_cancel b ≡ true → change_at state b ≡ (Ground by Execute)
+unfolding change_at is_within is_cancel
+change_at-cancel state b is cancel =
+    ⊎_elim
+    (λ can. ap (λ n. change_at state n) (eqb-true b 0x18 can) ∙ ⊎_elim (λ e. ap (λ s. change_at s 0x18) e) (λ e. ap (λ s. change_at s 0x18) e) is)
+    (λ sub. ap (λ n. change_at state n) (eqb-true b 0x1A sub) ∙ ⊎_elim (λ e. ap (λ s. change_at s 0x1A) e) (λ e. ap (λ s. change_at s 0x1A) e) is)
+    (or_cases (eqb b 0x18) (eqb b 0x1A) cancel)
+
+pub change_at-executed : (state : State) (b : ℕ) → (state ≡ CsiEntry) ⊎ (state ≡ CsiParam) → b < 0x1B → is_cancel b ≡ false → change_at state b ≡ (Anywhere by Execute)
+unfolding change_at is_within is_cancel
+change_at-executed state b is low other =
+    let test : ℕ → Bool = λ n. nat_le n 0x1A && not (is_cancel n) in
+    let passes : IsTrue (test b) = and_from (nat_le b 0x1A) (not (is_cancel b)) (le-leb b 0x1A (omega (arith, low))) (ap not other) in
+    ⊎_elim
+    (λ e. ap (λ s. change_at s b) e ∙ change_at-where CsiEntry test (Anywhere by Execute) b (omega (arith, low)) passes refl)
+    (λ e. ap (λ s. change_at s b) e ∙ change_at-where CsiParam test (Anywhere by Execute) b (omega (arith, low)) passes refl)
+    is
+
 pub change_at-marker : (state : State) (b : ℕ) → state ≡ CsiEntry → IsTrue (is_marker b) → change_at state b ≡ (CsiParam by Collect)
 unfolding change_at is_within is_marker
 change_at-marker state b is marker =
@@ -262,6 +283,10 @@ module _ {A : Type 0} (adds : AccumulatorStep A) (b : ℕ) where
       ∙ change_at-within OscString 0x20 0xFF (Anywhere by OscPut) (omega arith) b
       (and_from (nat_le 0x20 b) (nat_le b 0xFF) (le-leb 0x20 b low) (le-leb b 0xFF (omega arith))) refl)
 
+pub command_text : (b : ℕ) → 0x20 ≤ b → b < 0x100 → IsTrue (is_of_command b)
+unfolding is_within
+command_text b low high = and_from (nat_le 0x20 b) (nat_le b 0xFF) (le-leb 0x20 b low) (le-leb b 0xFF (omega arith))
+
 pub state-storing : {A : Type 0} (b : ℕ) (m : Machine A) → (after_osc_put b m).state ≡ m.state
 state-storing b m =
     cond_both (eqb (stored_count m) max_osc_bytes) _ _ (same_state m) (λ _. refl)
@@ -275,7 +300,7 @@ length-Completes adds before now (b ∷ bytes) c left complete =
 
 -- a whole character in Ground: its bytes make one call, and leave the machine as it is
 module _ {A : Type 0} (adds : AccumulatorStep A) (m : Machine A) where
-  reading : A → Machine A
+  unfoldable pub reading : A → Machine A
   reading now = record m { state = Utf8; accumulator = now }
 
   abbrev there : A → Machine A
@@ -309,7 +334,7 @@ module _ {A : Type 0} (adds : AccumulatorStep A) (m : Machine A) where
       ))
       complete
 
-  begun : (before : A) (first : ℕ) → IsTrue (is_lead first) → (adds before first).1 ≡ More
+  pub begun : (before : A) (first : ℕ) → IsTrue (is_lead first) → (adds before first).1 ≡ More
       → (step adds first (there before) ≡ reading (adds before first).0) × (step_calls adds first (there before) ≡ [])
   unfolding reading change_at is_within is_lead
   begun before first lead none =
@@ -457,45 +482,63 @@ module _ {C P : Type 0} (takes : C → ℕ → Type 0) (adds : AccumulatorStep C
         performed = (after, goes, refl);
       }
 
-  -- a run with no call
-  pub LeadsTo-quiet : (old new : Parser C) (performer : P) (bytes left : List ℕ) → LeadsQuietlyTo takes adds old bytes new left
+  -- bytes that make no call
+  pub LeadsTo-quiet : {test : ℕ → Bool} (old new : Parser C) (performer : P) (bytes left : List ℕ) → LeadsQuietlyTo takes adds test old bytes new left
       → LeadsTo takes adds means old performer bytes new performer left
-  LeadsTo-quiet old new performer bytes left quiet = record {
-    can = quiet.can;
-    machine = quiet.machine;
-    made = [];
-    joined = sym quiet.calls;
-    performed = refl;
-  }
+  LeadsTo-quiet old new performer bytes left quiet =
+      let m = machine_of old in
+      record {
+        can = quiet.can;
+        machine = ap (machine_after adds left) quiet.machine ∙ sym (machine_after-append adds quiet.passed left m)
+            ∙ ap (λ l. machine_after adds l m) (sym quiet.joined);
+        made = [];
+        joined = ap (λ l. machine_calls adds l m) quiet.joined ∙ machine_calls-append adds quiet.passed left m
+            ∙ ap (λ calls. calls ++ machine_calls adds left (machine_after adds quiet.passed m)) quiet.none
+            ∙ ap (machine_calls adds left) (sym quiet.machine);
+        performed = refl;
+      }
 
-module _ {C : Type 0} (takes : C → ℕ → Type 0) (adds : AccumulatorStep C) where
-  pub LeadsQuietlyTo-same : (parser : Parser C) (bytes : List ℕ) → CanTakeAll takes parser bytes → LeadsQuietlyTo takes adds parser bytes parser bytes
-  LeadsQuietlyTo-same parser bytes can = record { can = can; machine = refl; calls = refl }
-
-  pub LeadsQuietlyTo-first : {p q r : Parser C} {xs ys zs left : List ℕ} → ys ≡ left
-      → LeadsQuietlyTo takes adds p xs q ys → (CanTakeAll takes q left → LeadsQuietlyTo takes adds q left r zs) → LeadsQuietlyTo takes adds p xs r zs
-  LeadsQuietlyTo-first {p = p} {q = q} {xs = xs} same first second =
-      let S : List ℕ → Type 0 = λ l. LeadsQuietlyTo takes adds p xs q l in
-      let begun = subst S same first in
-      let further = second begun.can in
-      record { can = further.can; machine = further.machine ∙ begun.machine; calls = further.calls ∙ begun.calls }
-
-  pub LeadsQuietlyTo-byte : (old new : Parser C) (b : ℕ) (left : List ℕ) → CanTakeAll takes old (b ∷ left)
-      → machine_of new ≡ step adds b (machine_of old) → step_calls adds b (machine_of old) ≡ [] → LeadsQuietlyTo takes adds old (b ∷ left) new left
-  LeadsQuietlyTo-byte old new b left can stepped none = record {
-    can = CanTakeAll-rest takes adds old new b left stepped can;
-    machine = ap (λ m. machine_after adds left m) stepped;
-    calls = ap (λ m. machine_calls adds left m) stepped ∙ sym (ap (λ calls. calls ++ machine_calls adds left (step adds b (machine_of old))) none);
-  }
+module _ {C : Type 0} (takes : C → ℕ → Type 0) (adds : AccumulatorStep C) (test : ℕ → Bool) where
+  pub LeadsQuietlyTo-same : (parser : Parser C) (bytes : List ℕ) → CanTakeAll takes parser bytes → LeadsQuietlyTo takes adds test parser bytes parser bytes
+  LeadsQuietlyTo-same parser bytes can = record { passed = []; joined = refl; each = tt; machine = refl; none = refl; can = can }
 
   pub LeadsQuietlyTo-trans : {p q r : Parser C} {xs ys zs : List ℕ}
-      → LeadsQuietlyTo takes adds p xs q ys → LeadsQuietlyTo takes adds q ys r zs → LeadsQuietlyTo takes adds p xs r zs
-  LeadsQuietlyTo-trans first second =
-      record { can = second.can; machine = second.machine ∙ first.machine; calls = second.calls ∙ first.calls }
+      → LeadsQuietlyTo takes adds test p xs q ys → LeadsQuietlyTo takes adds test q ys r zs → LeadsQuietlyTo takes adds test p xs r zs
+  LeadsQuietlyTo-trans {p = p} {zs = zs} first second =
+      let m = machine_of p in
+      record {
+        passed = first.passed ++ second.passed;
+        joined = first.joined ∙ ap (λ l. first.passed ++ l) second.joined ∙ sym (append_assoc first.passed second.passed zs);
+        each = EachIs-append test first.passed second.passed first.each second.each;
+        machine = second.machine ∙ ap (machine_after adds second.passed) first.machine ∙ sym (machine_after-append adds first.passed second.passed m);
+        none = machine_calls-append adds first.passed second.passed m
+            ∙ ap (λ calls. calls ++ machine_calls adds second.passed (machine_after adds first.passed m)) first.none
+            ∙ ap (machine_calls adds second.passed) (sym first.machine) ∙ second.none;
+        can = second.can;
+      }
 
-  -- a byte that begins nothing
-  pub LeadsQuietlyTo-nothing : (parser : Parser C) (b : ℕ) (left : List ℕ) → CanTakeAll takes parser (b ∷ left) → parser.state ≡ Ground
-      → IsTrue (is_within 0x9D 0xC1 b || is_within 0xF5 0xFF b) → LeadsQuietlyTo takes adds parser (b ∷ left) parser left
-  LeadsQuietlyTo-nothing parser b left can ground nothing =
-      let stepped = step-by adds (machine_of parser) b (Anywhere by Nop) (λ h. absurd (cc (ground, h))) (change_at-nothing parser.state b ground nothing) in
-      LeadsQuietlyTo-byte parser parser b left can (sym stepped.0) stepped.1
+  pub LeadsQuietlyTo-first : {p q r : Parser C} {xs ys zs left : List ℕ} → ys ≡ left
+      → LeadsQuietlyTo takes adds test p xs q ys → (CanTakeAll takes q left → LeadsQuietlyTo takes adds test q left r zs) → LeadsQuietlyTo takes adds test p xs r zs
+  LeadsQuietlyTo-first {p = p} {q = q} {xs = xs} same first second =
+      let S : List ℕ → Type 0 = λ l. LeadsQuietlyTo takes adds test p xs q l in
+      let begun = subst S same first in
+      LeadsQuietlyTo-trans begun (second begun.can)
+
+  pub LeadsQuietlyTo-byte : (old new : Parser C) (b : ℕ) (left : List ℕ) → CanTakeAll takes old (b ∷ left) → IsTrue (test b)
+      → machine_of new ≡ step adds b (machine_of old) → step_calls adds b (machine_of old) ≡ [] → LeadsQuietlyTo takes adds test old (b ∷ left) new left
+  LeadsQuietlyTo-byte old new b left can passes stepped none = record {
+    passed = b ∷ [];
+    joined = refl;
+    each = (passes, tt);
+    machine = stepped;
+    none = ap (λ calls. calls ++ []) none;
+    can = CanTakeAll-rest takes adds old new b left stepped can;
+  }
+
+-- a byte that begins nothing
+pub LeadsQuietlyTo-nothing : {C : Type 0} (takes : C → ℕ → Type 0) (adds : AccumulatorStep C) (parser : Parser C) (b : ℕ) (left : List ℕ)
+    → CanTakeAll takes parser (b ∷ left) → parser.state ≡ Ground
+    → IsTrue (begins_nothing b) → LeadsQuietlyTo takes adds begins_nothing parser (b ∷ left) parser left
+LeadsQuietlyTo-nothing takes adds parser b left can ground nothing =
+    let stepped = step-by adds (machine_of parser) b (Anywhere by Nop) (λ h. absurd (cc (ground, h))) (change_at-nothing parser.state b ground nothing) in
+    LeadsQuietlyTo-byte takes adds begins_nothing parser parser b left can nothing (sym stepped.0) stepped.1

@@ -161,7 +161,7 @@ IsTextAt-front parser bytes chunk left count ground empty some within front each
 -- Characters of a text in the ground state, where none is begun: each is printed or executed, and
 -- the machine stays as it is.
 module _ (m : Machine Utf8Parser) (ground : m.state ≡ Ground) (empty : m.accumulator.decoder ≡ Empty) where
-  pub Prints : List ℕ → List Call → List ℕ → Type 0
+  unfoldable pub Prints : List ℕ → List Call → List ℕ → Type 0
   Prints bytes calls left = (machine_after parser_after bytes m ≡ machine_after parser_after left m) × (machine_calls parser_after bytes m ≡ calls ++ machine_calls parser_after left m)
 
   ascii-taken : (b : ℕ) (left : List ℕ) → IsTrue (is_within 0x20 0x7F b) → Prints (b ∷ left) (print b ∷ []) left
@@ -224,7 +224,7 @@ module _ (m : Machine Utf8Parser) (ground : m.state ≡ Ground) (empty : m.accum
       )
 
 -- a front of no bytes
-decoder-Empty : (front : Front) → bytes_of front ≡ [] → front ≡ Empty
+pub decoder-Empty : (front : Front) → bytes_of front ≡ [] → front ≡ Empty
 decoder-Empty Empty e = refl
 decoder-Empty (One a) e = cc
 decoder-Empty (Two a b) e = cc

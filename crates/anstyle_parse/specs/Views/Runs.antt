@@ -1,5 +1,5 @@
 -- What a run of bytes that are taken at once leads to, and which bytes are runs.
-use Rattle.std.specs.Prelude.{◌≡◌, ◌≢◌, ◌≤◌, ℕ, Bool, List, [], ◌∷◌, ◌++◌, length, IsTrue}
+use Rattle.std.specs.Prelude.{◌≡◌, ◌≢◌, ◌≤◌, ◌||◌, ℕ, Bool, List, [], ◌∷◌, ◌++◌, length, IsTrue}
 use Rattle.anstyle_parse.specs.declared.state.definitions.State.{State}
 use Rattle.anstyle_parse.specs.declared.state.definitions.State.TheVariants.{Anywhere, Utf8}
 use Rattle.anstyle_parse.specs.declared.state.definitions.Action.{Action}
@@ -9,6 +9,7 @@ use Rattle.anstyle_parse.specs.declared.parser.runs.Run.{Run}
 use Rattle.anstyle_parse.specs.declared.parser.runs.Run.TheVariants.{Printed, OfHookedString, OfIgnoredString, OfIgnoredHeader}
 use Rattle.anstyle_parse.specs.Stream.Bytes.{is_within}
 use Rattle.anstyle_parse.specs.Stream.Call.{Call, Goes, print, put}
+use Rattle.anstyle_parse.specs.Stream.Items.{EachIs}
 use Rattle.anstyle_parse.specs.Machine.Table.{◌by◌, change_at}
 use Rattle.anstyle_parse.specs.Machine.Step.{AccumulatorStep, machine_after, machine_calls}
 use Rattle.anstyle_parse.specs.Views.Parser.{machine_of, CanTakeAll}
@@ -32,12 +33,24 @@ pub record Takes {C P : Type 0} (takes : C → ℕ → Type 0) (adds : Accumulat
   pub leads : LeadsTo takes adds means old before (first ∷ behind) new after left
   pub within : length left ≤ length behind
 
--- the same with no call on the way
-pub record LeadsQuietlyTo {C : Type 0} (takes : C → ℕ → Type 0) (adds : AccumulatorStep C)
+-- Bytes at the front that all pass a test are taken, with no call, and these are left.
+pub record LeadsQuietlyTo {C : Type 0} (takes : C → ℕ → Type 0) (adds : AccumulatorStep C) (test : ℕ → Bool)
     (old : Parser C) (bytes : List ℕ) (new : Parser C) (left : List ℕ) : Type 0 where
+  pub passed : List ℕ
+  pub joined : bytes ≡ passed ++ left
+  pub each : EachIs test passed
+  pub machine : machine_of new ≡ machine_after adds passed (machine_of old)
+  pub none : machine_calls adds passed (machine_of old) ≡ []
+  -- what is left can be taken
   pub can : CanTakeAll takes new left
-  pub machine : machine_after adds left (machine_of new) ≡ machine_after adds bytes (machine_of old)
-  pub calls : machine_calls adds left (machine_of new) ≡ machine_calls adds bytes (machine_of old)
+
+-- the text of a command is all but controls; its separators are part of it
+abbrev pub is_of_command : ℕ → Bool
+is_of_command b = is_within 0x20 0xFF b
+
+-- a high byte that is no control and begins no character
+abbrev pub begins_nothing : ℕ → Bool
+begins_nothing b = is_within 0x9D 0xC1 b || is_within 0xF5 0xFF b
 
 -- the bytes of a run
 abbrev pub is_of_run : Run → ℕ → Bool

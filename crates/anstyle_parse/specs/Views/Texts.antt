@@ -1,5 +1,5 @@
 -- What a text that is handed on at once leads to.
-use Rattle.std.specs.Prelude.{◌≡◌, ℕ, ◌<◌, Bool, not, ◌||◌, List, [], ◌∷◌, ◌++◌, length, ⊤, IsTrue}
+use Rattle.std.specs.Prelude.{◌≡◌, ℕ, ◌<◌, ◌⊎◌, Bool, not, ◌||◌, List, [], ◌∷◌, ◌++◌, length, ⊤, IsTrue}
 use Rattle.std.specs.Str.{encode_utf8_all}
 use Rattle.anstyle_parse.specs.declared.accumulator.Utf8Parser.{Utf8Parser}
 use Rattle.anstyle_parse.specs.declared.parser.Parser.{Parser}
@@ -7,7 +7,7 @@ use Rattle.anstyle_parse.specs.declared.state.definitions.State.TheVariants.{Gro
 use Rattle.anstyle_parse.specs.Stream.Bytes.{is_within}
 use Rattle.anstyle_parse.specs.Stream.Call.{Call}
 use Rattle.anstyle_parse.specs.Stream.Items.{EachIs}
-use Rattle.anstyle_parse.specs.Stream.Texts.{is_layout}
+use Rattle.anstyle_parse.specs.Stream.Texts.{is_layout, layout_calls}
 use Rattle.anstyle_parse.specs.Laws.Lawful.{is_character}
 use Rattle.anstyle_parse.specs.Machine.Step.{machine_after, machine_calls}
 use Rattle.anstyle_parse.specs.Views.Accumulator.{front_of, parser_after}
@@ -38,6 +38,12 @@ pub record IsTextAt (parser : Parser Utf8Parser) (bytes text left : List ℕ) : 
   pub printed : EachIs is_text_character characters
   pub encoded : text ≡ encode_utf8_all characters
   pub joined : bytes ≡ text ++ left
+
+-- The performer has received the calls of such a text at the front, and what comes after it is left; or nothing is done.
+abbrev pub TakesText : {P : Type 0} → (P → List Call → P → Type 0) → Parser Utf8Parser → P → List ℕ → P → List ℕ → Type 0
+TakesText receives parser before bytes after left =
+    ((after ≡ before) × (left ≡ bytes))
+    ⊎ ((text : List ℕ) × IsTextAt parser bytes text left × receives before (layout_calls text) after)
 
 -- Going on from here with what is left is going from the start with all bytes, and what calls
 -- are made on the way the performer has received.

@@ -1,7 +1,7 @@
 //! The header of a sequence: its markers and intermediates, and its fields.
 ghost use Rattle.std.specs.Prelude.{◌≡◌, ◌≤◌, ◌<◌, ◌+◌, ◌*◌, ◌-◌, ◌∷◌, [], ℕ, List, IsTrue, length, take, drop, ⊤};
 ghost use Rattle.anstyle_parse.specs.Stream.Arguments.{max_collected, max_field};
-ghost use Rattle.anstyle_parse.specs.Stream.Bytes.{is_within, is_parameter};
+ghost use Rattle.anstyle_parse.specs.Stream.Bytes.{is_within, is_parameter, is_marker, is_final};
 ghost use Rattle.anstyle_parse.specs.Stream.Items.{EachIs};
 ghost use Rattle.anstyle_parse.specs.Views.Fields.{number_with, TakesDigits, TakesFields};
 
@@ -172,6 +172,24 @@ pub(super) fn is_parameter(byte: u8) -> bool
     ensures { result ≡ is_parameter byte }
 {
     matches!(byte, b'0'..=b';')
+}
+
+/// What ends a control sequence.
+#[inline(always)]
+#[tactic(auto, unfolding(crate::specs::Stream::Bytes::is_within, crate::specs::Stream::Bytes::is_final))]
+pub(super) fn is_final_byte(byte: u8) -> bool
+    ensures { result ≡ is_final byte }
+{
+    matches!(byte, 0x40..=0x7E)
+}
+
+/// What says that a control sequence is private.
+#[inline(always)]
+#[tactic(auto, unfolding(crate::specs::Stream::Bytes::is_within, crate::specs::Stream::Bytes::is_marker))]
+pub(super) fn is_marker(byte: u8) -> bool
+    ensures { result ≡ is_marker byte }
+{
+    matches!(byte, 0x3C..=0x3F)
 }
 
 /// Takes digits at the front into a number, and answers the rest.

@@ -4,7 +4,7 @@ ghost use Rattle.anstyle_parse.specs.Views.Accumulator.{front_of, parser_after};
 ghost use Rattle.anstyle_parse.specs.Views.Passing.{PassFields, BeginWithSequence, LeadsInEffectTo};
 
 use super::Parser;
-use super::runs::is_final_byte;
+use super::header::is_final_byte;
 use crate::accumulator::Utf8Parser;
 use crate::chunks::{CHUNK, beyond_fields};
 use crate::controls::ESCAPE;
@@ -31,7 +31,7 @@ fn after_fields(bytes: &[u8]) -> &[u8]
 
 /// What comes after a control sequence of fields alone, if one stands at the front, whole.
 #[inline(always)]
-fn after_sequence(bytes: &[u8]) -> Option<&[u8]>
+pub(super) fn after_sequence(bytes: &[u8]) -> Option<&[u8]>
     ensures sequence { IfSome result (λ left. BeginWithSequence bytes.now left.now) }
     ensures within { IfSome result (λ left. length left.now < length bytes.now) }
 {

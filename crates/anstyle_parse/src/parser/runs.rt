@@ -3,17 +3,17 @@
 //! Each function takes what goes together at the front of the bytes and answers the rest. Its
 //! clause says that going on from where it leaves with the rest is taking all bytes one after
 //! another. A byte that is in no run goes through the table.
-ghost use Rattle.std.specs.Prelude.{◌≡◌, ◌≢◌, ◌≤◌, ◌+◌, ◌-◌, ◌∷◌, ◌⊎◌, ◌||◌, ℕ, IsTrue, length};
+ghost use Rattle.std.specs.Prelude.{◌≡◌, ◌≢◌, ◌≤◌, ◌+◌, ◌-◌, ◌∷◌, ◌⊎◌, ℕ, IsTrue, length};
 ghost use Rattle.std.specs.Prelude.{map, not};
 ghost use Rattle.std.specs.Simd.Lanes.{mask_l};
-ghost use Rattle.anstyle_parse.specs.Stream.Bytes.{is_within, is_marker, is_final};
+ghost use Rattle.anstyle_parse.specs.Stream.Bytes.{is_within, is_parameter};
 ghost use Rattle.anstyle_parse.specs.Stream.Call.{Goes};
 ghost use Rattle.anstyle_parse.specs.Machine.Table.{◌by◌, change_at};
-ghost use Rattle.anstyle_parse.specs.Views.Runs.{Takes, LeadsTo, LeadsQuietlyTo, KeepsTo, is_of_run, run_calls, AreMade};
+ghost use Rattle.anstyle_parse.specs.Views.Runs.{Takes, LeadsTo, LeadsQuietlyTo, KeepsTo, begins_nothing, is_of_command, is_of_run, run_calls, AreMade};
 
 use super::Parser;
 use super::command::is_plain_byte;
-use super::header::is_parameter;
+use super::header::{is_final_byte, is_marker, is_parameter};
 use crate::accumulator::CharAccumulator;
 use crate::chunks::{CHUNK, outside};
 use crate::controls::{BELL, CANCEL, ESCAPE, SPACE};
@@ -38,7 +38,7 @@ impl Run {
     /// Whether the byte is of the run.
     #[inline(always)]
     #[tactic(auto, unfolding(crate::specs::Stream::Bytes::is_within))]
-    fn has(self, byte: u8) -> bool
+    pub(super) fn has(self, byte: u8) -> bool
         ensures { result ≡ is_of_run self byte }
     {
         match self {
@@ -63,7 +63,7 @@ impl Run {
 
     /// A bit for each byte of a chunk, the lowest for the first: whether it is none of the run.
     #[inline(always)]
-    fn others(self, chunk: &[u8; CHUNK]) -> u64
+    pub(super) fn others(self, chunk: &[u8; CHUNK]) -> u64
         ensures { result ≡ mask_l (map (λ b. not (is_of_run self b)) chunk.now) }
     {
         outside(u8x16::from_array(*chunk), self.count())
@@ -71,7 +71,7 @@ impl Run {
 
     /// Makes the call of a byte of the run, if it has one.
     #[inline(always)]
-    fn call<P: Perform>(self, performer: &mut P, byte: u8)
+    pub(super) fn call<P: Perform>(self, performer: &mut P, byte: u8)
         ensures { Goes P.means performer.old (run_calls self byte) performer.new }
     {
         match self {
@@ -93,7 +93,7 @@ impl Run {
 
     /// The same for each of fewer.
     #[inline(always)]
-    fn call_few<P: Perform>(self, performer: &mut P, bytes: &[u8])
+    pub(super) fn call_few<P: Perform>(self, performer: &mut P, bytes: &[u8])
         ensures { AreMade P.means (λ b. run_calls self b) performer.old bytes.now performer.new }
     {
         for byte in bytes {
@@ -258,7 +258,7 @@ impl<C: CharAccumulator> Parser<C> {
 #[inline(always)]
 #[tactic(auto, unfolding(crate::specs::Stream::Bytes::is_within))]
 fn begins_nothing(byte: u8) -> bool
-    ensures { result ≡ (is_within 0x9D 0xC1 byte || is_within 0xF5 0xFF byte) }
+    ensures { result ≡ begins_nothing byte }
 {
     matches!(byte, 0x9D..=0xC1 | 0xF5..=0xFF)
 }
@@ -333,9 +333,10 @@ impl<C: CharAccumulator> Parser<C> {
     #[inline(always)]
     fn take_nothing<'a>(&self, first: u8, behind: &'a [u8]) -> &'a [u8]
         requires ground { self.now.state ≡ State.Ground }
-        requires nothing { IsTrue (is_within 0x9D 0xC1 first || is_within 0xF5 0xFF first) }
+        requires nothing { IsTrue (begins_nothing first) }
         requires can { CanTakeAll C.takes self.now (first ∷ behind.now) }
-        ensures leads { LeadsQuietlyTo C.takes C.taken self.now (first ∷ behind.now) self.now result.now }
+        ensures leads { LeadsQuietlyTo C.takes C.taken begins_nothing
+            self.now (first ∷ behind.now) self.now result.now }
         ensures within { length result.now ≤ length behind.now }
     {
         let mut rest = behind;
@@ -394,7 +395,7 @@ impl<C: CharAccumulator> Parser<C> {
 
     /// ESC and `[`: the header is forgotten once, for both.
     #[inline(always)]
-    fn begin_control_sequence(&mut self)
+    pub(super) fn begin_control_sequence(&mut self)
         requires { self.old.state ≡ State.Ground }
         ensures { machine_of self.new ≡ step C.taken 0x5B (step C.taken 0x1B (machine_of self.old)) }
     {
@@ -473,24 +474,6 @@ impl<C: CharAccumulator> Parser<C> {
     }
 }
 
-/// What ends a control sequence.
-#[inline(always)]
-#[tactic(auto, unfolding(crate::specs::Stream::Bytes::is_within, crate::specs::Stream::Bytes::is_final))]
-pub(super) fn is_final_byte(byte: u8) -> bool
-    ensures { result ≡ is_final byte }
-{
-    matches!(byte, 0x40..=0x7E)
-}
-
-/// What says that a control sequence is private.
-#[inline(always)]
-#[tactic(auto, unfolding(crate::specs::Stream::Bytes::is_within, crate::specs::Stream::Bytes::is_marker))]
-fn is_marker(byte: u8) -> bool
-    ensures { result ≡ is_marker byte }
-{
-    matches!(byte, 0x3C..=0x3F)
-}
-
 /// The header of a control sequence.
 impl<C: CharAccumulator> Parser<C> {
     ghost use Rattle.anstyle_parse.specs.Views.Parser.{CanTakeAll};
@@ -533,7 +516,7 @@ impl<C: CharAccumulator> Parser<C> {
         self.take_in_header(performer, bytes)
     }
 
-    /// A private marker, where the header begins with it; another byte by the table.
+    /// A private marker, where the header begins with it; or another byte.
     #[inline(always)]
     fn take_marker<'a, P: Perform>(
         &mut self,
@@ -541,7 +524,8 @@ impl<C: CharAccumulator> Parser<C> {
         first: u8,
         behind: &'a [u8],
     ) -> &'a [u8]
-        requires { CanTakeAll C.takes self.old (first ∷ behind.now) }
+        requires header { (self.old.state ≡ State.CsiEntry) ⊎ (self.old.state ≡ State.CsiParam) }
+        requires can { CanTakeAll C.takes self.old (first ∷ behind.now) }
         ensures { Takes C.takes C.taken P.means self.old performer.old first behind.now
             self.new performer.new result.now }
     {
@@ -550,16 +534,36 @@ impl<C: CharAccumulator> Parser<C> {
                 self.step_by_answer(performer, State::CsiParam, Action::Collect, first);
                 behind
             }
-            _ => self.take_by_table(performer, first, behind),
+            _ => self.take_other_in_header(performer, first, behind),
         }
+    }
+
+    /// A control that is executed; another byte by the table. It is out of line, so that the loop stays small.
+    #[inline(never)]
+    fn take_other_in_header<'a, P: Perform>(
+        &mut self,
+        performer: &mut P,
+        first: u8,
+        behind: &'a [u8],
+    ) -> &'a [u8]
+        requires header { (self.old.state ≡ State.CsiEntry) ⊎ (self.old.state ≡ State.CsiParam) }
+        requires can { CanTakeAll C.takes self.old (first ∷ behind.now) }
+        ensures { Takes C.takes C.taken P.means self.old performer.old first behind.now
+            self.new performer.new result.now }
+    {
+        if first < ESCAPE {
+            self.execute_in_header(performer, first);
+            return behind;
+        }
+        self.take_by_table(performer, first, behind)
     }
 
     /// The bytes of fields. Often there are none.
     #[inline(always)]
-    fn take_fields<'a>(&mut self, bytes: &'a [u8]) -> &'a [u8]
+    pub(super) fn take_fields<'a>(&mut self, bytes: &'a [u8]) -> &'a [u8]
         requires header { (self.old.state ≡ State.CsiEntry) ⊎ (self.old.state ≡ State.CsiParam) }
         requires can { CanTakeAll C.takes self.old bytes.now }
-        ensures leads { LeadsQuietlyTo C.takes C.taken self.old bytes.now self.new result.now }
+        ensures leads { LeadsQuietlyTo C.takes C.taken is_parameter self.old bytes.now self.new result.now }
         ensures header { (self.new.state ≡ State.CsiEntry) ⊎ (self.new.state ≡ State.CsiParam) }
         ensures within { length result.now ≤ length bytes.now }
     {
@@ -662,11 +666,12 @@ impl<C: CharAccumulator> Parser<C> {
 
     /// Text of the command: a byte of it, and what follows up to a control.
     #[inline(always)]
-    fn store_text<'a>(&mut self, first: u8, behind: &'a [u8]) -> &'a [u8]
+    pub(super) fn store_text<'a>(&mut self, first: u8, behind: &'a [u8]) -> &'a [u8]
         requires command { self.old.state ≡ State.OscString }
         requires text { 0x20 ≤ first }
         requires can { CanTakeAll C.takes self.old (first ∷ behind.now) }
-        ensures leads { LeadsQuietlyTo C.takes C.taken self.old (first ∷ behind.now) self.new result.now }
+        ensures leads { LeadsQuietlyTo C.takes C.taken is_of_command
+            self.old (first ∷ behind.now) self.new result.now }
         ensures command { self.new.state ≡ State.OscString }
         ensures within { length result.now ≤ length behind.now }
     {
@@ -686,7 +691,8 @@ impl<C: CharAccumulator> Parser<C> {
         requires command { self.old.state ≡ State.OscString }
         requires text { 0x20 ≤ first }
         requires can { CanTakeAll C.takes self.old (first ∷ behind.now) }
-        ensures leads { LeadsQuietlyTo C.takes C.taken self.old (first ∷ behind.now) self.new result.now }
+        ensures leads { LeadsQuietlyTo C.takes C.taken is_of_command
+            self.old (first ∷ behind.now) self.new result.now }
         ensures command { self.new.state ≡ State.OscString }
         ensures within { length result.now ≤ length behind.now }
     {
@@ -702,7 +708,7 @@ impl<C: CharAccumulator> Parser<C> {
     fn store_plain<'a>(&mut self, bytes: &'a [u8]) -> &'a [u8]
         requires command { self.old.state ≡ State.OscString }
         requires can { CanTakeAll C.takes self.old bytes.now }
-        ensures leads { LeadsQuietlyTo C.takes C.taken self.old bytes.now self.new result.now }
+        ensures leads { LeadsQuietlyTo C.takes C.taken is_of_command self.old bytes.now self.new result.now }
         ensures command { self.new.state ≡ State.OscString }
         ensures within { length result.now ≤ length bytes.now }
     {

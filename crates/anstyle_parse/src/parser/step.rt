@@ -1,6 +1,7 @@
 //! One byte: where the table leads, and the actions on the way.
-ghost use Rattle.std.specs.Prelude.{◌≡◌, ◌≢◌, ◌≤◌, ◌∷◌, [], length};
+ghost use Rattle.std.specs.Prelude.{true, false, ◌≡◌, ◌≢◌, ◌≤◌, ◌<◌, ◌⊎◌, ◌∷◌, [], length};
 ghost use Rattle.anstyle_parse.specs.Stream.Arguments.{max_osc_parts};
+ghost use Rattle.anstyle_parse.specs.Stream.Bytes.{is_cancel};
 ghost use Rattle.anstyle_parse.specs.Stream.Call.{Goes, osc_dispatch};
 ghost use Rattle.anstyle_parse.specs.Stream.Groups.{total, cut};
 ghost use Rattle.anstyle_parse.specs.Machine.Step.{exit_action as exit_of, entry_action as entry_of};
@@ -8,7 +9,7 @@ ghost use Rattle.anstyle_parse.specs.Machine.Step.{exit_action as exit_of, entry
 use super::Parser;
 use super::command::{MAX_OSC_PARTS, set_parts};
 use crate::accumulator::{CharAccumulator, Taken};
-use crate::controls::BELL;
+use crate::controls::{BELL, CANCEL, SUBSTITUTE};
 use crate::perform::Perform;
 use crate::state::{Action, State, state_change};
 
@@ -112,6 +113,18 @@ impl<C: CharAccumulator> Parser<C> {
         self.change_state(performer, Action::Nop, state, action, byte);
     }
 
+    /// A control that is executed in the header of a control sequence, where CAN and SUB break off the sequence.
+    #[inline(always)]
+    pub(super) fn execute_in_header<P: Perform>(&mut self, performer: &mut P, control: u8)
+        requires header { (self.old.state ≡ State.CsiEntry) ⊎ (self.old.state ≡ State.CsiParam) }
+        requires control { control < 0x1B }
+        ensures machine { machine_of self.new ≡ step C.taken control (machine_of self.old) }
+        ensures calls { Goes P.means performer.old (step_calls C.taken control (machine_of self.old)) performer.new }
+    {
+        let state = state_after(control);
+        self.step_by_answer(performer, state, Action::Execute, control);
+    }
+
     /// A byte that ends an operating system command, of which it is known where it leads.
     #[inline(always)]
     pub(super) fn end_command<P: Perform>(&mut self, performer: &mut P, state: State, byte: u8)
@@ -133,6 +146,28 @@ impl<C: CharAccumulator> Parser<C> {
     {
         self.change_state(performer, Action::Unhook, State::Escape, Action::Nop, byte);
     }
+}
+
+/// Where a control leads that is executed in a header, in the words of the table: Anywhere keeps the state.
+#[inline(always)]
+fn state_after(control: u8) -> State
+    ensures cancels { is_cancel control ≡ true → result ≡ State.Ground }
+    ensures stays { is_cancel control ≡ false → result ≡ State.Anywhere }
+{
+    if breaks_off(control) {
+        State::Ground
+    } else {
+        State::Anywhere
+    }
+}
+
+/// CAN and SUB, which break off a sequence.
+#[inline(always)]
+#[tactic(auto, unfolding(crate::specs::Stream::Bytes::is_cancel))]
+fn breaks_off(byte: u8) -> bool
+    ensures { result ≡ is_cancel byte }
+{
+    byte == CANCEL || byte == SUBSTITUTE
 }
 
 /// A change of state, and its actions.

@@ -2,7 +2,7 @@
 ghost use Rattle.std.specs.Prelude.{◌≡◌, ◌≤◌, ◌<◌, ◌++◌, ◌∷◌, [], ℕ, List, IfSome, IsTrue, length, take};
 ghost use Rattle.anstyle_parse.specs.Stream.Items.{EachIs};
 ghost use Rattle.anstyle_parse.specs.Views.Accumulator.{front_of, parser_after};
-ghost use Rattle.anstyle_parse.specs.Views.Texts.{is_text_byte, BeginWithText, IsTextAt, LeadsByTextTo};
+ghost use Rattle.anstyle_parse.specs.Views.Texts.{is_text_byte, BeginWithText, IsTextAt, TakesText, LeadsByTextTo};
 
 use super::Parser;
 use crate::accumulator::Utf8Parser;
@@ -203,6 +203,7 @@ impl Parser<Utf8Parser> {
         requires { self.now.state ≡ State.Ground }
         ensures leads { LeadsByTextTo P.receives self.now performer.old bytes.now
             self.now performer.new result.now }
+        ensures taken { TakesText P.receives self.now performer.old bytes.now performer.new result.now }
         ensures within { length result.now ≤ length bytes.now }
     {
         let Some((first, _)) = bytes.split_first() else {

@@ -104,6 +104,17 @@ pub fn lines_of_texts(first: &[u8], second: &[u8]) -> ArrayString<512> {
     text
 }
 
+/// The calls that a new parser makes of a log in two pieces, as it is read.
+pub fn lines_of_log(first: &[u8], second: &[u8]) -> ArrayString<512> {
+    let mut parser = Parser::<Utf8Parser>::new();
+    let mut lines = Lines::new();
+    parser.advance_log(&mut lines, first);
+    parser.advance_log(&mut lines, second);
+    parser.end_log(&mut lines);
+    let Lines { text } = lines;
+    text
+}
+
 /// A new parser that took these bytes, whatever it called.
 pub fn parser_after(bytes: &[u8]) -> Parser
     ensures { IsAfter front_of result bytes.now }

@@ -4,7 +4,7 @@ ghost use Rattle.std.specs.Prelude.{[], Some, false, refl, ⊤};
 ghost use Rattle.std.proofs.lemmas.Bool.{false≢true};
 ghost use Rattle.anstyle_parse.specs.declared.accumulator.Taken.{Taken};
 
-use super::lines::{Lines, lines_of, lines_of_texts, parser_after};
+use super::lines::{Lines, lines_of, lines_of_log, lines_of_texts, parser_after};
 use anstyle_parse::{AsciiParser, CharAccumulator, Parser, Taken};
 use std::test::Fail;
 
@@ -190,5 +190,17 @@ fn texts_at_every_cut(rt: HostRuntime) {
     for cut in 0..stream.len() + 1 {
         let (first, second) = stream.split_at(cut);
         assert!(rt; lines_of_texts(first, second).as_str() == want);
+    }
+}
+
+// In two pieces, cut at any place, a log is read as one: Latin-1, a stamp that BEL ends, a broken character, a command.
+#[test]
+fn logs_at_every_cut(rt: HostRuntime) {
+    let stream = b"M\xFCA\x1B_k\xA0\x07B\xE2\x82\xA3\xE2\xBF\xF5\x1B]\xFF\x07\xC3";
+    let want = "print U+004D\nprint U+FFFD\nprint U+0041\nprint U+0042\nprint U+20A3\n\
+        print U+FFFD\nprint U+FFFD\nosc_dispatch true FF\nprint U+FFFD\n";
+    for cut in 0..stream.len() + 1 {
+        let (first, second) = stream.split_at(cut);
+        assert!(rt; lines_of_log(first, second).as_str() == want);
     }
 }

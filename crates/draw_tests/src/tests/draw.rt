@@ -75,6 +75,21 @@ fn what_moves_alone_what_edits_and_what_is_shown(rt: HostRuntime) {
     assert!(rt; is_shown('\u{ad}') && !is_shown('\u{85}'));
 }
 
+/// EL of a row's first cell ends the row above, which goes on in it: so tmux has it.
+#[test]
+fn what_ends_the_row_above(rt: HostRuntime) -> Result<(), Fail> {
+    let mut screen = Screen::new(rt.alloc(), 3, 2)?;
+    let mut parser = Parser::<Utf8Parser>::new();
+    let none = Params::default();
+    parser.advance_all(&mut screen, b"abcd");
+    assert!(rt; !screen.ends_row_above(&none, b'K'));
+    parser.advance_all(&mut screen, b"\r");
+    assert!(rt; screen.ends_row_above(&none, b'K') && !screen.ends_row_above(&none, b'X'));
+    parser.advance_all(&mut screen, b"\x1b[K");
+    assert!(rt; !screen.ends_row_above(&none, b'K'));
+    Ok(())
+}
+
 /// What was written, where no write failed.
 fn bytes_of(rt: &impl Abort, output: Output<FromWrite<Vec<u8>>>) -> Vec<u8> {
     let (sink, answer) = output.finish();
@@ -260,11 +275,12 @@ fn show_piece<W: Sink>(
     behind.advance_all(shown, piece);
 }
 
-/// A character, and the next one, which stands where the cursor is, in its style.
+/// A character, the next one, which stands where the cursor is, in its style, and a bell. `tests/cells` counts what these take
+/// on a screen of 20x6.
 #[test]
 fn updates_of_what_is_noted(rt: HostRuntime) -> Result<(), Fail> {
-    let mut first = Screen::new(rt.alloc(), 9, 3)?;
-    let mut last = Noting::new(Screen::new(rt.alloc(), 9, 3)?);
+    let mut first = Screen::new(rt.alloc(), 20, 6)?;
+    let mut last = Noting::new(Screen::new(rt.alloc(), 20, 6)?);
     let mut parser = Parser::<Utf8Parser>::new();
     let mut behind = Parser::<Utf8Parser>::new();
     let mut output = Output::new(FromWrite::new(Vec::new(rt.alloc())));
@@ -282,6 +298,14 @@ fn updates_of_what_is_noted(rt: HostRuntime) -> Result<(), Fail> {
         &mut first,
         &mut last,
         b"Y",
+        &mut output,
+    );
+    show_piece(
+        &mut parser,
+        &mut behind,
+        &mut first,
+        &mut last,
+        b"\x07",
         &mut output,
     );
     let written = bytes_of(&rt, output);

@@ -1,5 +1,5 @@
 -- The head, the texts of the sources, and the tail.
-use Rattle.std.proofs.Common.{◌≡◌, ◌++◌, ℕ, List, Bool, true, false, None, Ok, Err, is_err, length, sym, ap, ◌∙◌, subst}
+use Rattle.std.proofs.Common.{◌++◌, ℕ, List, sym, ◌∙◌, subst}
 use Rattle.std.specs.List.{flat_map}
 use Rattle.std.specs.Io.KnownBytes.{Appends}
 use Rattle.anstyle_parse.specs.Stream.Call.{Call}

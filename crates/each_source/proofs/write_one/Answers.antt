@@ -1,5 +1,5 @@
 -- What the performer received is written, and then its ending.
-use Rattle.std.proofs.Common.{◌≡◌, ◌++◌, [], ℕ, List, Bool, true, false, not, None, is_some, sym, ap, ◌∙◌, ap₂, subst}
+use Rattle.std.proofs.Common.{◌≡◌, ◌++◌, [], ℕ, List, true, not, None, is_some, sym, ap, ◌∙◌, ap₂, subst}
 use Rattle.anstyle_parse.specs.Io.Output.{Adds, fault_in}
 use Rattle.anstyle_parse.proofs.Written.Run.{Adds-unless_stopped, Adds-no_fault}
 use Rattle.anstyle_parse.proofs.Written.Output.{Adds-append, None-from_is_some}
@@ -32,6 +32,7 @@ returns-clause-written g c =
       calls = d.calls;
       is_read = record {
         read = d.read;
+        at_end = d.at_end;
         consumed = d.consumed;
         are_calls = d.are_calls;
         ended = λ whole. d.ended (sym c.is_stuck-is_stuck.ensures ∙ not_stuck c.is_stuck-is_stuck.result c.is_none-is_clear.result whole.0 (none_is_clear whole.1)) (Adds-no_fault R W (Unit {0}) g.R.Source sink left middle final own whole.1);

@@ -3,7 +3,7 @@ use super::assert_written;
 use ansi_html::{Scheme, Styling};
 use ansi_screen::Screen;
 use anstyle_parse::io::{Fault, FromRead, FromWrite, Output, write_calls_by};
-use screen_html::laws::last_links;
+use screen_html::laws::{last_links, plain_text};
 use screen_html::{HtmlRows, LinkMemory, convert_shown};
 use screen_text::{ShownWriter, WriteRows};
 use std::alloc::{AllocError, Global};
@@ -51,4 +51,5 @@ fn by_classes(rt: HostRuntime) -> Result<(), Fail> {
 #[test]
 fn laws(_rt: HostRuntime) {
     last_links();
+    plain_text();
 }

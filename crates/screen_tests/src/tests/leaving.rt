@@ -6,7 +6,9 @@ use ansi_screen::{
 };
 use ansi_style::Style;
 use anstyle_parse::io::{FromRead, FromWrite, Output, write_calls_by};
-use screen_text::laws::{bound, clean, lines, plain_screen, plain_text, returned, rewritten};
+use screen_text::laws::{
+    bound, clean, lines, plain_screen, plain_text, returned, rewritten, shown_twice,
+};
 use screen_text::{NoSize, SHOWN, ShownWriter, TextRows, screen_size, write_shown};
 use std::alloc::{AllocError, Global};
 use std::test::Fail;
@@ -145,6 +147,7 @@ fn laws(_rt: HostRuntime) {
     lines();
     plain_text();
     plain_screen();
+    shown_twice();
     returned();
     rewritten();
     bound();

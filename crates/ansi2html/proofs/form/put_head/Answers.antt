@@ -1,6 +1,5 @@
 -- The parts of the head, one after another.
 use Rattle.std.proofs.Common.{◌++◌, List, ℕ}
-use Rattle.std.specs.Prelude.{option_copied}
 use Rattle.anstyle_parse.specs.Io.Output.{Adds}
 use Rattle.anstyle_parse.proofs.Written.Output.{Adds-append}
 use Rattle.ansi_html.specs.Html.{escaped_text}
@@ -12,7 +11,7 @@ returns g c =
     let said = c.args.said in
     let language = escaped_text said.language.now in
     let title = escaped_text said.title.now in
-    let looks = page_looks c.args.styling c.args.scheme (option_copied said.stylesheet) in
+    let looks = page_looks c.args.styling c.args.scheme said in
     let end = c.put-4.new.self in
     let add = Adds-append g.W.Sink in
     add before_language (language ++ (before_title ++ (title ++ (after_title ++ (looks ++ before_text))))) c.args.output.now c.put.new.self end c.put.ensures

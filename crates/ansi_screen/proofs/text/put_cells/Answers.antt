@@ -23,9 +23,9 @@ pub rest-preserved : goal.rest-preserved
 rest-preserved g c =
     let (passed, joined, added) = c.rest.invariant in
     let rest = c.rest.rest.now in
-    let n = c.copy_ascii-count.result in (
+    let n = c.copy_unmarked-count.result.0 in (
       passed ++ take n rest,
       joined ∙ ap (λ l. passed ++ l) (sym (take-append-drop n rest) ∙ ap (λ l. take n rest ++ l) (sym c.split_at.ensures.back))
           ∙ sym (append_assoc passed (take n rest) c.split_at.result.1.now),
-      Adds-cells g.W.Sink passed (take n rest) _ c.args.output.now c.rest.output c.put.new.self added c.put.ensures c.copy_ascii-count.ensures.text,
+      Adds-cells g.W.Sink passed (take n rest) _ c.args.output.now c.rest.output c.put.new.self added c.put.ensures c.copy_unmarked-count.ensures.text,
     )

@@ -1,25 +1,10 @@
--- By the range.
-use Rattle.std.proofs.Common.{sym, ap, ◌∙◌, refl}
-use Rattle.ansi_screen.specs.Widths.{columns}
-use Rattle.ansi_screen.proofs.RangeLemmas.{columns-latin, columns-lines, columns-chinese, columns-korean, columns-faces}
+-- The table has the columns of each character.
+use Rattle.std.proofs.Common.{◌≤◌, sym, subst}
+use Rattle.ansi_screen.proofs.TableLemmas.{table, columns-le}
 use Rattle.ansi_screen.proofs.width.columns.Goals as goal
 
-pub returns-then-number-lt768-clause-columns : goal.returns-then-number-lt768-clause-columns
-returns-then-number-lt768-clause-columns c =
-    sym (columns-latin c.from-number.result c.if-number-lt768.true) ∙ ap columns c.from-number.ensures
+pub looked_up-requires : goal.looked_up-requires
+looked_up-requires c = table
 
-pub returns-then-is_between-clause-columns : goal.returns-then-is_between-clause-columns
-returns-then-is_between-clause-columns c =
-    sym (columns-lines c.from-number.result (c.if-is_between.ensures.low refl) (c.if-is_between.ensures.high refl)) ∙ ap columns c.from-number.ensures
-
-pub returns-then-is_between-2-clause-columns : goal.returns-then-is_between-2-clause-columns
-returns-then-is_between-2-clause-columns c =
-    sym (columns-chinese c.from-number.result (c.if-is_between-2.ensures.low refl) (c.if-is_between-2.ensures.high refl)) ∙ ap columns c.from-number.ensures
-
-pub returns-then-is_between-3-clause-columns : goal.returns-then-is_between-3-clause-columns
-returns-then-is_between-3-clause-columns c =
-    sym (columns-korean c.from-number.result (c.if-is_between-3.ensures.low refl) (c.if-is_between-3.ensures.high refl)) ∙ ap columns c.from-number.ensures
-
-pub returns-then-is_between-4-clause-columns : goal.returns-then-is_between-4-clause-columns
-returns-then-is_between-4-clause-columns c =
-    sym (columns-faces c.from-number.result (c.if-is_between-4.ensures.low refl) (c.if-is_between-4.ensures.high refl)) ∙ ap columns c.from-number.ensures
+pub returns-clause-few : goal.returns-clause-few
+returns-clause-few c = subst (λ n. n ≤ 2) (sym c.looked_up.ensures) (columns-le c.args.c)

@@ -1,15 +1,17 @@
 -- What was held is drawn.
 use Rattle.screen_pieces.specs.Drawing.{drawing_of}
-use Rattle.ansi_screen_c.specs.Calls.{Reads}
-use Rattle.ansi_screen_c.proofs.DrawLemmas.{holds, refused}
+use Rattle.ansi_screen_c.specs.Calls.{Holds, Reads, IsRefused}
+use Rattle.ansi_screen_c.proofs.ToldLemmas.{is-told, is-refused}
 use Rattle.ansi_screen_c.proofs.drawing.ansi_screen_draw.Goals as goal
 
-pub returns-in-Ok-clause-text : goal.returns-in-Ok-clause-text
-returns-in-Ok-clause-text c =
-    holds (Reads drawing_of c.args.room.now c.draw-answer.new.room c.in-Ok.length) c.in-Some.held.value c.deref.result.now c.args.screen.now.value
-    c.in-Some.ensures.taken c.deref.ensures c.in-Ok.ensures.text
+pub returns-in-Some-clause-text : goal.returns-in-Some-clause-text
+returns-in-Some-clause-text c =
+    is-told (λ n was. Holds (Reads drawing_of c.args.room.now c.draw-answer.new.room n) was) c.draw-answer.result c.in-Some.held.value c.deref.result.now
+    c.args.screen.now.value c.in-Some.ensures.taken c.deref.ensures c.told.result c.told.new.written
+    c.told.ensures.ok c.draw-answer.ensures.text
 
-pub returns-in-Err-clause-refused : goal.returns-in-Err-clause-refused
-returns-in-Err-clause-refused c =
-    refused drawing_of c.args.room.now c.in-Err.needed c.in-Some.held.value c.deref.result.now c.args.screen.now.value
-    c.in-Some.ensures.taken c.deref.ensures c.in-Err.ensures.refused
+pub returns-in-Some-clause-refused : goal.returns-in-Some-clause-refused
+returns-in-Some-clause-refused c =
+    is-refused (λ n was. IsRefused drawing_of c.args.room.now n was) c.draw-answer.result c.in-Some.held.value c.deref.result.now
+    c.args.screen.now.value c.in-Some.ensures.taken c.deref.ensures c.told.result c.told.new.written
+    c.told.ensures.err c.draw-answer.ensures.refused

@@ -2,6 +2,7 @@
 use Rattle.std.proofs.Common.{◌≡◌, ◌≤◌, List, ℕ, None, length}
 use Rattle.std.specs.Io.KnownBytes.{Consumes}
 use Rattle.anstyle_parse.specs.Views.Accumulator.{front_of}
+use Rattle.anstyle_parse.specs.Machine.AsRead.{as_read}
 use Rattle.anstyle_parse.specs.Stream.Call.{Call}
 use Rattle.anstyle_parse.specs.Stream.Calls.{AreCalls}
 use Rattle.anstyle_parse.specs.Views.Parser.{IsAfter}
@@ -13,9 +14,9 @@ invariant-loop-turn g l = record {
   read : List ℕ;
   calls : List Call;
   consumed : Consumes (g.R.Source.remaining l.initial.reader) (g.R.Source.remaining l.reader) read;
-  are_calls : AreCalls read calls;
+  are_calls : AreCalls (as_read read) calls;
   received : g.P.PerformText.receives l.initial.performer calls l.performer;
-  stands : IsAfter front_of l.parser read;
+  stands : IsAfter front_of l.parser (as_read read);
   no_fault : fault_in (g.P.WritingPerformer.output_in l.performer) ≡ None;
   not_failed : g.R.Source.has_failed l.reader ≡ g.R.Source.has_failed l.initial.reader;
   counted : l.turn ≤ length read;

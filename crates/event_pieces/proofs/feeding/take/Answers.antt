@@ -7,11 +7,11 @@ use Rattle.anstyle_parse.specs.Machine.Stands.{seen}
 use Rattle.anstyle_parse.specs.Stream.Call.{Call}
 use Rattle.anstyle_parse.specs.Stream.Calls.{Continues}
 use Rattle.anstyle_parse.specs.Views.Parser.{IsAfter, machine_of}
-use Rattle.strip_pieces.proofs.FeedLemmas.{Continues-append, Continues-nil}
+use Rattle.strip_pieces.proofs.FeedLemmas.{Continues-append, Continues-nil, length-machine_calls}
 use Rattle.event_pieces.specs.Event.{calls_bytes}
 use Rattle.event_pieces.specs.Writer.{IsPlain, Suits, Has}
 use Rattle.event_pieces.specs.AddingProof.{AllByRecursion-append, same_events_length, same_room_length}
-use Rattle.event_pieces.proofs.Bounds.{length-calls, plain-continued, room-continued}
+use Rattle.event_pieces.proofs.Bounds.{plain-continued, room-continued}
 use Rattle.event_pieces.proofs.FeedLemmas.{Has-nothing}
 use Rattle.event_pieces.proofs.feeding.take.Goals as goal
 
@@ -51,7 +51,7 @@ loop-taken-preserved c =
     let machine = seen front_of (machine_of c.loop-taken.parser) in
     let plain = plain-continued (before ++ take done piece) bytes more machine stands c.advance_texts.ensures.stream in
     let room = room-continued (before ++ take done piece) bytes more machine stands c.advance_texts.ensures.stream in
-    let few = length-calls parser_after bytes (machine_of c.loop-taken.parser) in
+    let few = length-machine_calls parser_after bytes (machine_of c.loop-taken.parser) in
     let suits : Suits more c.loop-taken.writer = record {
       events_fit = omega (arith, few, some_bytes, c.sure_bytes-sure.ensures.events, c.events_left-in-loop-taken.ensures, c.loop-taken-test.true);
       room_fits = omega (arith, room, some_bytes, c.sure_bytes-sure.ensures.room, c.room_left-in-loop-taken.ensures);

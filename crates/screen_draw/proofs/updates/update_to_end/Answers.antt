@@ -1,13 +1,12 @@
 -- A piece more is read, and its update written.
-use Rattle.std.proofs.Common.{◌≡◌, ◌<◌, [], ◌∷◌, ◌++◌, is_some, length, take, refl, sym, ap, ◌∙◌, arith, length-append, length-take, subst, inl, inr, append-nil}
+use Rattle.std.proofs.Common.{◌≡◌, ◌<◌, [], ◌∷◌, ◌++◌, length, take, refl, sym, ap, ◌∙◌, arith, length-append, length-take, subst, inl, inr, append-nil}
 use Rattle.std.proofs.KnownBytes.{Consumes-nil, Consumes-kept, Consumes-trans}
 use Rattle.std.specs.Io.KnownBytes.{Consumes}
-use Rattle.anstyle_parse.specs.Io.Output.{fault_in}
+use Rattle.std.proofs.lemmas.Result.{err_from_is_err_and}
 use Rattle.anstyle_parse.specs.Stream.Canon.{canon}
 use Rattle.anstyle_parse.specs.Views.Accumulator.{front_of}
 use Rattle.anstyle_parse.specs.Views.Parser.{IsAfter}
 use Rattle.anstyle_parse.proofs.Canonical.Items.{AreCalls-nil}
-use Rattle.anstyle_parse.proofs.Written.Output.{None-from_is_some}
 use Rattle.ansi_screen.specs.After.{State, Shows}
 use Rattle.screen_draw.specs.Draw.{drawn_calls}
 use Rattle.screen_draw.specs.Drawing.{Draws}
@@ -15,20 +14,19 @@ use Rattle.screen_draw.specs.Update.{update_calls}
 use Rattle.screen_draw.specs.Updates.{IsPiece, joined}
 use Rattle.screen_draw.specs.Tracked.{HasTracked, HasTrackedColumns}
 use Rattle.screen_draw.proofs.TrackedLemmas.{tracked-shows}
-use Rattle.screen_draw.proofs.UpdatesLemmas.{joined-more, last-more, pieces-more, screens-more, text-passed-on, no-updates, begins, draws-more, write-fault, follows}
+use Rattle.screen_draw.proofs.UpdatesLemmas.{joined-more, last-more, pieces-more, screens-more, text-passed-on, no-updates, begins, draws-more, stops-there, follows}
 use Rattle.screen_draw.proofs.updates.update_to_end.Goals as goal
 
-pub returns-then-is_some : goal.returns-then-is_some
-returns-then-is_some g c =
+pub returns-in_err-hand_on : goal.returns-in_err-hand_on
+returns-in_err-hand_on g c =
+    let given = err_from_is_err_and c.from_residual.result c.from_residual.ensures.1 in
     let first = c.args.wanted.now.tracked.screen in
-    let drawn : Draws g.W.Sink (drawn_calls first.display) c.args.output.now c.pass_on.new.self =
-    begins g.W.Sink c.args.shown.now first _ _ _ c.requires.same c.draw.ensures.text c.draw.ensures.only c.pass_on.ensures in
-    follows g.R.Source g.W.Sink _ _ first first c.args.output.now c.pass_on.new.self c.pass_on.new.self _ [] []
-    (Consumes-nil (g.R.Source.remaining c.args.reader.now)) tt tt refl drawn (no-updates g.W.Sink c.pass_on.new.self) (
-      write-fault g.W.Sink _ c.args.output.now c.pass_on.new.self drawn.added c.requires.no_fault
-          (sym (c.is_some.ensures ∙ ap is_some c.fault.ensures) ∙ c.if-is_some.true),
-      refl,
-    )
+    let drawn : Draws g.W.Sink (drawn_calls first.display) c.args.output.now c.hand_on.new.output =
+    begins g.W.Sink c.args.shown.now first _ _ _ c.requires.same c.draw.ensures.text c.draw.ensures.only c.hand_on.ensures.passed in
+    rw (given.1, given.2)
+    (follows g.R.Source g.W.Sink _ _ first first c.args.output.now c.hand_on.new.output c.hand_on.new.output _ [] []
+    (Consumes-nil (g.R.Source.remaining c.args.reader.now)) tt tt refl drawn (no-updates g.W.Sink c.hand_on.new.output)
+    (stops-there g.W.Sink (Unit {0}) _ _ _ _ _ c.args.output.now c.hand_on.new.output drawn.added c.requires.no_fault _ c.in_err-hand_on.ensures.answer refl))
 
 pub loop-turn-init : goal.loop-turn-init
 loop-turn-init g c = record {
@@ -38,12 +36,12 @@ loop-turn-init g c = record {
   each = tt;
   are_screens = tt;
   is_last = refl;
-  draws = no-updates g.W.Sink c.pass_on.new.self;
+  draws = no-updates g.W.Sink c.hand_on.new.output;
   shows = ([], AreCalls-nil, refl);
   same = c.requires.same;
   stands = c.new-parser.ensures.stands;
   stands_behind = c.new-behind.ensures.stands;
-  no_fault = None-from_is_some (fault_in c.pass_on.new.self) (sym (c.is_some.ensures ∙ ap is_some c.fault.ensures) ∙ c.if-is_some.false);
+  no_fault = c.in_ok-hand_on.ensures.answer;
   not_failed = refl;
   counted = omega arith;
   room = refl;
@@ -52,10 +50,10 @@ loop-turn-init g c = record {
 pub returns-in-None : goal.returns-in-None
 returns-in-None g c =
     let before = c.loop-turn.invariant in
-    follows g.R.Source g.W.Sink _ _ c.args.wanted.now.tracked.screen c.loop-turn.wanted.tracked.screen c.args.output.now c.pass_on.new.self c.loop-turn.output _ before.pieces before.screens
+    follows g.R.Source g.W.Sink _ _ c.args.wanted.now.tracked.screen c.loop-turn.wanted.tracked.screen c.args.output.now c.hand_on.new.output c.loop-turn.output _ before.pieces before.screens
     (Consumes-kept _ _ _ (joined before.pieces) before.consumed c.in-None.ensures.nothing_passed)
     before.each before.are_screens before.is_last
-    (begins g.W.Sink c.args.shown.now c.args.wanted.now.tracked.screen _ _ _ c.requires.same c.draw.ensures.text c.draw.ensures.only c.pass_on.ensures)
+    (begins g.W.Sink c.args.shown.now c.args.wanted.now.tracked.screen _ _ _ c.requires.same c.draw.ensures.text c.draw.ensures.only c.hand_on.ensures.passed)
     before.draws (before.no_fault, inl c.in-None.ensures.failed)
 
 pub returns-in-Some-eq0 : goal.returns-in-Some-eq0
@@ -65,11 +63,11 @@ returns-in-Some-eq0 g c =
     subst (λ n. Consumes (g.R.Source.remaining c.loop-turn.reader) (g.R.Source.remaining c.read.new.self) (take n c.read.new.into))
     c.in-Some-eq0.field-0-test c.in-Some-eq0.ensures.passed in
     let room : 0 < length c.read.new.into = omega (arith, c.read.auto.into, before.room) in
-    follows g.R.Source g.W.Sink _ _ c.args.wanted.now.tracked.screen c.loop-turn.wanted.tracked.screen c.args.output.now c.pass_on.new.self c.loop-turn.output _ before.pieces before.screens
+    follows g.R.Source g.W.Sink _ _ c.args.wanted.now.tracked.screen c.loop-turn.wanted.tracked.screen c.args.output.now c.hand_on.new.output c.loop-turn.output _ before.pieces before.screens
     (subst (Consumes (g.R.Source.remaining c.args.reader.now) (g.R.Source.remaining c.read.new.self)) (append-nil (joined before.pieces))
     (Consumes-trans _ _ _ (joined before.pieces) [] before.consumed none))
     before.each before.are_screens before.is_last
-    (begins g.W.Sink c.args.shown.now c.args.wanted.now.tracked.screen _ _ _ c.requires.same c.draw.ensures.text c.draw.ensures.only c.pass_on.ensures)
+    (begins g.W.Sink c.args.shown.now c.args.wanted.now.tracked.screen _ _ _ c.requires.same c.draw.ensures.text c.draw.ensures.only c.hand_on.ensures.passed)
     before.draws (before.no_fault, (λ zero. c.in-Some-eq0.ensures.end c.in-Some-eq0.field-0-test room zero, c.in-Some-eq0.ensures.not_failed ∙ before.not_failed))
 
 pub update_noted_columns-requires : goal.update_noted_columns-requires
@@ -83,8 +81,9 @@ update_noted_columns-requires g c =
           (subst (λ (s : State). HasTrackedColumns old s.display) (sym same) c.forget.ensures.columns);
     }
 
-pub returns-then-is_some-2 : goal.returns-then-is_some-2
-returns-then-is_some-2 g c =
+pub returns-in_err-hand_on-in-Some : goal.returns-in_err-hand_on-in-Some
+returns-in_err-hand_on-in-Some g c =
+    let given = err_from_is_err_and c.from_residual-in_err-hand_on-in-Some.result c.from_residual-in_err-hand_on-in-Some.ensures.1 in
     let before = c.loop-turn.invariant in
     let first = c.args.wanted.now.tracked.screen in
     let next = c.advance_texts.new.performer.screen in
@@ -92,28 +91,27 @@ returns-then-is_some-2 g c =
     let shows = tracked-shows first (joined before.pieces) bytes _ c.forget.new.self c.advance_texts.new.performer
     (subst (Shows first (joined before.pieces)) (sym c.forget.ensures.screen) before.shows)
     (c.advance_texts.ensures.stream (joined before.pieces) before.stands) c.advance_texts.ensures.calls in
-    let drawn : Draws g.W.Sink (drawn_calls first.display) c.args.output.now c.pass_on.new.self =
-    begins g.W.Sink c.args.shown.now first _ _ _ c.requires.same c.draw.ensures.text c.draw.ensures.only c.pass_on.ensures in
+    let drawn : Draws g.W.Sink (drawn_calls first.display) c.args.output.now c.hand_on.new.output =
+    begins g.W.Sink c.args.shown.now first _ _ _ c.requires.same c.draw.ensures.text c.draw.ensures.only c.hand_on.ensures.passed in
     let last = text-passed-on g.W.Sink (canon (update_calls c.loop-turn.shown.display next.display)) _ _ _
-    c.update_noted_columns.ensures.added c.pass_on-in-Some.ensures in
+    c.update_noted_columns.ensures.added c.hand_on-in-Some.ensures.passed in
     let is_piece : IsPiece bytes = (
       omega (arith, length-take c.in-Some.count c.read.new.into, c.in-Some.ensures.within, c.in-Some.count-test),
       omega (arith, length-take c.in-Some.count c.read.new.into, c.read.auto.into, before.room),
     ) in
     let updated = draws-more g.W.Sink first c.loop-turn.shown next before.screens _ _ _ _ before.draws
     (before.same ∙ before.is_last)
-    c.update_noted_columns.ensures.added c.update_noted_columns.ensures.drawing c.pass_on-in-Some.ensures in
-    follows g.R.Source g.W.Sink _ _ first next c.args.output.now c.pass_on.new.self c.pass_on-in-Some.new.self _
+    c.update_noted_columns.ensures.added c.update_noted_columns.ensures.drawing c.hand_on-in-Some.ensures.passed in
+    rw (given.1, given.2)
+    (follows g.R.Source g.W.Sink _ _ first next c.args.output.now c.hand_on.new.output c.hand_on-in-Some.new.output _
     (before.pieces ++ bytes ∷ []) (before.screens ++ next ∷ [])
     (subst (Consumes (g.R.Source.remaining c.args.reader.now) (g.R.Source.remaining c.read.new.self)) (sym (joined-more before.pieces bytes))
     (Consumes-trans _ _ _ _ _ before.consumed c.in-Some.ensures.passed))
     (pieces-more IsPiece before.pieces bytes before.each is_piece)
     (screens-more first next [] bytes before.pieces before.screens before.are_screens shows)
-    (sym (last-more first next before.screens)) drawn updated (
-      write-fault g.W.Sink _ c.loop-turn.output c.pass_on-in-Some.new.self last before.no_fault
-          (sym (c.is_some-in-Some.ensures ∙ ap is_some c.fault-in-Some.ensures) ∙ c.if-is_some-2.true),
-      c.in-Some.ensures.not_failed ∙ before.not_failed,
-    )
+    (sym (last-more first next before.screens)) drawn updated
+    (stops-there g.W.Sink (Unit {0}) _ _ _ _ _ c.loop-turn.output c.hand_on-in-Some.new.output last before.no_fault _ c.in_err-hand_on-in-Some.ensures.answer
+    (c.in-Some.ensures.not_failed ∙ before.not_failed)))
 
 -- what differs is tracked
 pub come_after-requires : goal.come_after-requires
@@ -148,14 +146,14 @@ loop-turn-preserved g c =
       is_last = sym (last-more first next before.screens);
       draws = draws-more g.W.Sink first c.loop-turn.shown next before.screens _ _ _ _ before.draws
           (before.same ∙ before.is_last)
-          c.update_noted_columns.ensures.added c.update_noted_columns.ensures.drawing c.pass_on-in-Some.ensures;
+          c.update_noted_columns.ensures.added c.update_noted_columns.ensures.drawing c.hand_on-in-Some.ensures.passed;
       shows = subst (λ l. Shows first l next) more shows;
       same = c.come_after.ensures.screen first (joined before.pieces)
           (subst (Shows first (joined before.pieces)) (sym before.same) before.shows) before.stands_behind shows;
       stands = subst (IsAfter front_of c.advance_texts.new.self) more stands;
       stands_behind = subst (IsAfter front_of c.come_after.new.behind) more
           (c.come_after.ensures.parser (joined before.pieces) before.stands_behind stands);
-      no_fault = None-from_is_some (fault_in c.pass_on-in-Some.new.self) (sym (c.is_some-in-Some.ensures ∙ ap is_some c.fault-in-Some.ensures) ∙ c.if-is_some-2.false);
+      no_fault = c.in_ok-hand_on-in-Some.ensures.answer;
       not_failed = c.in-Some.ensures.not_failed ∙ before.not_failed;
       counted = omega (arith, before.counted, is_piece.0, ap length more, length-append (joined before.pieces) bytes);
       room = c.read.auto.into ∙ before.room;
@@ -164,7 +162,7 @@ loop-turn-preserved g c =
 pub returns : goal.returns
 returns g c =
     let before = c.loop-turn.invariant in
-    follows g.R.Source g.W.Sink _ _ c.args.wanted.now.tracked.screen c.loop-turn.wanted.tracked.screen c.args.output.now c.pass_on.new.self c.loop-turn.output _ before.pieces before.screens
+    follows g.R.Source g.W.Sink _ _ c.args.wanted.now.tracked.screen c.loop-turn.wanted.tracked.screen c.args.output.now c.hand_on.new.output c.loop-turn.output _ before.pieces before.screens
     before.consumed before.each before.are_screens before.is_last
-    (begins g.W.Sink c.args.shown.now c.args.wanted.now.tracked.screen _ _ _ c.requires.same c.draw.ensures.text c.draw.ensures.only c.pass_on.ensures)
+    (begins g.W.Sink c.args.shown.now c.args.wanted.now.tracked.screen _ _ _ c.requires.same c.draw.ensures.text c.draw.ensures.only c.hand_on.ensures.passed)
     before.draws (before.no_fault, inr (omega (arith, before.counted, c.loop-turn-test.false)))

@@ -1,6 +1,6 @@
 use Rattle.std.proofs.Common.{◌∷◌, List, ℕ, arith, subst}
 use Rattle.anstyle_parse.specs.Views.Parser.{CanTakeAll}
-use Rattle.anstyle_parse.specs.Views.Runs.{LeadsQuietlyTo}
+use Rattle.anstyle_parse.specs.Views.Runs.{LeadsQuietlyTo, is_of_command}
 use Rattle.anstyle_parse.proofs.Machine.Runs.{LeadsQuietlyTo-trans}
 use Rattle.anstyle_parse.proofs.parser.Parser.store_text.Goals as goal
 
@@ -11,9 +11,9 @@ store_byte-rest-requires-in-Some-clause-can g c =
 pub text-preserved : goal.text-preserved
 text-preserved g c =
     let n = g.C.CharAccumulator in
-    let passed = subst (λ (l : List ℕ). LeadsQuietlyTo n.takes n.taken c.args.self.now (c.args.first ∷ c.args.behind.now) c.text.self l) c.in-Some.ensures.cases.0 c.text.invariant.leads in
+    let passed = subst (λ (l : List ℕ). LeadsQuietlyTo n.takes n.taken is_of_command c.args.self.now (c.args.first ∷ c.args.behind.now) c.text.self l) c.in-Some.ensures.cases.0 c.text.invariant.leads in
     record {
-      leads = LeadsQuietlyTo-trans n.takes n.taken passed c.store_byte-rest-in-Some.ensures.leads;
+      leads = LeadsQuietlyTo-trans n.takes n.taken is_of_command passed c.store_byte-rest-in-Some.ensures.leads;
       command = c.store_byte-rest-in-Some.ensures.command;
       within = omega (arith, c.store_byte-rest-in-Some.ensures.within, c.in-Some.ensures.cases.1, c.text.invariant.within);
     }

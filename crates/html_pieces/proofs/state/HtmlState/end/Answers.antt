@@ -1,13 +1,11 @@
 -- What closes the element fits, and is written.
-use Rattle.std.proofs.Common.{◌≡◌, ℕ, List, length, take, drop, sym, ap, ap₂, ◌∙◌, arith}
-use Rattle.std.proofs.Math.Seq.{take-append_seam, drop-append_seam}
+use Rattle.std.proofs.Common.{◌≡◌, length, ap, ◌∙◌, arith}
 use Rattle.anstyle_parse.specs.Io.Output.{writer_in, fault_in}
 use Rattle.ansi_html.specs.Html.{Standing, element_end}
 use Rattle.ansi_html.specs.Writer.{output_of, standing_of as writer_standing, kept}
 use Rattle.ansi_html.proofs.LengthLemmas.{length-end}
 use Rattle.html_pieces.specs.State.{standing_of}
-use Rattle.html_pieces.specs.Styles.{behind}
-use Rattle.html_pieces.proofs.BufferLemmas.{held-all, no_fault-within}
+use Rattle.strip_pieces.proofs.LentLemmas.{held-all, no_fault-within, put-front, put-behind}
 use Rattle.html_pieces.proofs.state.HtmlState.end.Goals as goal
 
 pub returns-clause-ended : goal.returns-clause-ended
@@ -24,16 +22,14 @@ returns-clause-ended c =
     let without = ap fault_in c.resume-writer.ensures.output ∙ c.new-output.ensures.no_fault in
     let no_fault = no_fault-within text c.new.result old new begins c.new.ensures.nothing without c.into_output.ensures (omega (arith, short, c.new.ensures.limit)) in
     let whole = held-all text c.new.result old new begins c.new.ensures.nothing without c.into_output.ensures buffer c.finish-buffer.result.1 no_fault c.finish-buffer.ensures.finishes in
-    let html = c.html.ensures ∙ ap behind whole in
-    let rest = drop (length c.html.result.now) c.args.room.now in
-    let front = ap₂ (λ n (l : List ℕ). take n l) c.put_front.ensures.length c.put_front.ensures.written ∙ take-append_seam c.html.result.now rest ∙ html in
+    let html = c.bytes.ensures ∙ whole.1 in
+    let front = put-front c.bytes.result.now c.args.room.now c.put_front.new.room c.put_front.result c.put_front.ensures.length c.put_front.ensures.written ∙ html in
     let closes = front ∙ ap (λ (s : Standing). element_end s.shown) at in
     record {
       enough_room = omega arith;
       written_fits = omega (arith, c.put_front.ensures.length, ap length html, short);
       closes = closes;
-      untouched = ap₂ (λ n (l : List ℕ). drop n l) c.put_front.ensures.length c.put_front.ensures.written
-          ∙ drop-append_seam c.html.result.now rest ∙ ap (λ n. drop n c.args.room.now) (sym c.put_front.ensures.length);
+      untouched = put-behind c.bytes.result.now c.args.room.now c.put_front.new.room c.put_front.result c.put_front.ensures.length c.put_front.ensures.written;
       html = λ before is calls are. closes ∙ ap (λ (s : Standing). element_end s.shown) (is.standing calls are);
       begins = c.new-2.ensures.begins;
       styling = c.new-2.ensures.styling ∙ c.styling-2.ensures;

@@ -1,9 +1,8 @@
 -- The HTML goes on from where the state says that it stands.
-use Rattle.std.proofs.Common.{◌≡◌, ◌≤◌, ℕ, List, ◌++◌, length, take, drop, refl, sym, ap, ap₂, ◌∙◌, subst, arith, length-append, length-drop, length-take}
+use Rattle.std.proofs.Common.{◌≡◌, ◌≤◌, ◌++◌, length, refl, sym, ap, ap₂, ◌∙◌, subst, arith, length-take}
 use Rattle.anstyle_parse.specs.Views.Accumulator.{parser_after}
 use Rattle.anstyle_parse.specs.Machine.Step.{machine_calls}
 use Rattle.anstyle_parse.specs.Views.Parser.{machine_of}
-use Rattle.std.proofs.Math.Seq.{take-append_seam, drop-append_seam}
 use Rattle.std.specs.Option.{is_some}
 use Rattle.anstyle_parse.specs.Io.Output.{writer_in, fault_in, Finishes}
 use Rattle.strip_pieces.specs.declared.state.StreamState.{StreamState}
@@ -12,11 +11,10 @@ use Rattle.ansi_html.specs.Html.{Standing, html_from, standing_at_end}
 use Rattle.ansi_html.specs.Writer.{output_of, styling_of, standing_of as writer_standing, kept}
 use Rattle.ansi_html.proofs.SoundLemmas.{AreSound}
 use Rattle.ansi_html.proofs.PieceLemmas.{length-html_continued, AreSound-at_end}
-use Rattle.html_pieces.specs.contracts.buffer.HtmlBufferSink.TheImpl.{ghosts}
+use Rattle.strip_pieces.specs.contracts.lent.LentBytesSink.TheImpl.{ghosts}
 use Rattle.html_pieces.specs.State.{styling_in, standing_of}
 use Rattle.html_pieces.proofs.StateLemmas.{AreSound-kept, kept-sound}
-use Rattle.html_pieces.specs.Styles.{first_of, behind}
-use Rattle.html_pieces.proofs.BufferLemmas.{held-all, longer, no_fault-of, some_fault-of}
+use Rattle.strip_pieces.proofs.LentLemmas.{held-all, longer, no_fault-of, some_fault-of, put-front, put-behind, put-length}
 use Rattle.html_pieces.proofs.state.HtmlState.take_through.Goals as goal
 
 pub returns-then-is_some-clause-little_room : goal.returns-then-is_some-clause-little_room
@@ -72,14 +70,13 @@ returns-clause-taken c =
     (ap writer_in (c.go_on.ensures.output ∙ c.new-writer.ensures.output) ∙ c.new-output.ensures.writer) c.new.ensures.nothing
     (ap fault_in (c.go_on.ensures.output ∙ c.new-writer.ensures.output) ∙ c.new-output.ensures.no_fault) taken.added buffer c.finish-buffer.result.1 no_fault
     (subst (λ output. Finishes ghosts output buffer c.finish-buffer.result.1) c.suspend.ensures c.finish-buffer.ensures.finishes) in
-    let html = c.html-html.ensures ∙ ap behind whole in
+    let html = c.bytes-html.ensures ∙ whole.1 in
     let stands = taken.standing ∙ ap (λ (s : Standing). standing_at_end s calls) at in
     let is_sound : AreSound (standing_at_end (standing_of state) calls) = AreSound-at_end calls (standing_of state) (AreSound-kept _) in
-    let rest = drop (length c.html-html.result.now) c.args.room.now in
-    let fits : length c.html-html.result.now ≤ length c.args.room.now = omega (arith, ap length c.html-html.ensures, length-take buffer.written buffer.into.now, buffer.within, ap first_of whole, c.new.ensures.limit) in
+    let fits : length c.bytes-html.result.now ≤ length c.args.room.now = omega (arith, ap length c.bytes-html.ensures, length-take buffer.written buffer.into.now, buffer.within, whole.0, c.new.ensures.limit) in
     record {
       calls = calls;
-      same_length = omega (arith, fits, ap length c.put_front.ensures.written, length-append c.html-html.result.now rest, length-drop (length c.html-html.result.now) c.args.room.now);
+      same_length = put-length c.bytes-html.result.now c.args.room.now c.put_front.new.room c.put_front.result c.put_front.ensures.length c.put_front.ensures.written fits;
       continues = λ before is. c.advance_texts.ensures.stream before (c.resume_in.ensures before c.new-parser.ensures.stands is);
       stream = λ before is.
           subst (λ (stream : StreamState). StreamStandsFor stream (before ++ piece)) (sym c.save-2.ensures.stream)
@@ -87,8 +84,6 @@ returns-clause-taken c =
       styling = c.save-2.ensures.styling;
       standing = ap kept (c.save-2.ensures.standing ∙ c.standing-2.ensures ∙ stands) ∙ kept-sound _ is_sound;
       written_fits = omega (arith, c.put_front.ensures.length, fits);
-      html = ap₂ (λ n (l : List ℕ). take n l) c.put_front.ensures.length c.put_front.ensures.written ∙ take-append_seam c.html-html.result.now rest ∙ html ∙ ap₂ (λ it s. html_from it s calls) styling at;
-      untouched = ap₂ (λ n (l : List ℕ). drop n l) c.put_front.ensures.length c.put_front.ensures.written
-          ∙ drop-append_seam c.html-html.result.now rest
-          ∙ ap (λ n. drop n c.args.room.now) (sym c.put_front.ensures.length);
+      html = put-front c.bytes-html.result.now c.args.room.now c.put_front.new.room c.put_front.result c.put_front.ensures.length c.put_front.ensures.written ∙ html ∙ ap₂ (λ it s. html_from it s calls) styling at;
+      untouched = put-behind c.bytes-html.result.now c.args.room.now c.put_front.new.room c.put_front.result c.put_front.ensures.length c.put_front.ensures.written;
     }

@@ -12,9 +12,10 @@ pub returns : goal.returns
 returns c =
     let room = same-room _ _ _ c.esc_dispatch.ensures.taken in record {
       stands = record {
-        shows = ([], AreCalls-nil, c.pass_on.ensures.screen ∙ c.esc_dispatch.ensures.screen ∙ after-reset (screen_of c.args.self.now.scrolling));
+        shows = ([], AreCalls-nil, c.pass_on.ensures.screen ∙ c.esc_dispatch.ensures.screen ∙ after-reset (screen_of c.args.self.now.watched.scrolling));
         parser = c.new-self.ensures.stands;
         history = ([], AreCalls-nil, keeps-none _ _ _ c.pass_on.ensures.taker);
+        links = ([], AreCalls-nil, c.clear.ensures);
       };
       room = record {
         most = ap (λ (k : Kept). k.most) c.pass_on.ensures.taker ∙ room.most;

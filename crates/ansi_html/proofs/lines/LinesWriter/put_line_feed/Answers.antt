@@ -1,0 +1,10 @@
+-- A line feed is text, after which the line ends.
+use Rattle.ansi_html.proofs.LinerLemmas.{TakesCall-feed}
+use Rattle.ansi_html.proofs.lines.LinesWriter.put_line_feed.Goals as goal
+
+pub returns : goal.returns
+returns g c =
+    let is = c.begin_text.ensures in
+    let ends = c.end_line.ensures in
+    TakesCall-feed g.W.Sink c.args.self.now c.begin_text.new.self (record { styling = is.styling; standing = is.standing; added = is.added })
+    c.execute.new.self c.end_line.new.self c.execute.ensures ends.styling ends.standing ends.added

@@ -1,0 +1,163 @@
+//! The performer that writes HTML in lines.
+ghost use Rattle.std.specs.Prelude.{◌≡◌, true};
+ghost use Rattle.anstyle_parse.specs.Stream.Call.{execute};
+ghost use Rattle.anstyle_parse.specs.Io.Output.{Adds};
+ghost use Rattle.ansi_html.specs.Lines.{lined, text_number, before_text};
+
+use crate::line::next_number;
+use crate::performer::HtmlWriter;
+use crate::scheme::Styling;
+use ansi_strip::is_layout;
+use anstyle_parse::io::{Output, Sink, WritingPerformer};
+use anstyle_parse::{Params, Perform, PerformText};
+
+/// Writes the text of a stream as [`HtmlWriter`] does, in lines that can be linked to.
+///
+/// Each line of the text, with the line feed at its end, stands in `<span id="L…">…</span>`, in which a link of no text
+/// to the line has its number, counted from 1: `<a href="#L…" data-line="…"></a>`. What a style or a link goes on over
+/// stands in each of its lines anew. A line begins before its first text, so after a last line feed there is none.
+/// After 2^64 - 1 lines the number stays.
+#[derive(Drop)]
+pub struct LinesWriter<W> {
+    html: HtmlWriter<W>,
+    /// The number of the last line that began; 0 where none did.
+    number: u64,
+    /// That line is open.
+    is_open: bool,
+}
+
+impl<W: Sink> LinesWriter<W> {
+    ghost use Rattle.ansi_html.specs.Liner.{output_of, styling_of, lined_of, IsNew, TakesCall};
+
+    /// One that writes to this output, says styles in this way, and has received no call.
+    /// Nothing is written.
+    pub fn new(styling: Styling, output: Output<W>) -> LinesWriter<W>
+        ensures output { output_of result ≡ output }
+        ensures new { IsNew styling result }
+    {
+        LinesWriter {
+            html: HtmlWriter::new(styling, output),
+            number: 0,
+            is_open: false,
+        }
+    }
+
+    /// Text of a line may follow: where none is open, the next one begins.
+    #[inline]
+    fn begin_text(&mut self)
+        ensures styling { styling_of self.new ≡ styling_of self.old }
+        ensures standing { lined_of self.new
+            ≡ lined (lined_of self.old).at (text_number (lined_of self.old)) true }
+        ensures added { Adds W.Sink (before_text (lined_of self.old)) (output_of self.old) (output_of self.new) }
+    {
+        if !self.is_open {
+            self.number = next_number(self.number);
+            self.is_open = true;
+            self.html.begin_line(self.number);
+        }
+    }
+
+    /// Writes a line feed, and ends its line.
+    fn put_line_feed(&mut self)
+        ensures { TakesCall W.Sink self.old (execute 0x0A) self.new }
+    {
+        self.begin_text();
+        self.html.execute(b'\n');
+        self.html.end_line();
+        self.is_open = false;
+    }
+}
+
+impl<W: Sink> Perform for LinesWriter<W> {
+    ghost use Rattle.ansi_html.specs.Liner.{TakesCall};
+
+    ghost means = { TakesCall W.Sink };
+
+    fn print(&mut self, c: char) {
+        self.begin_text();
+        self.html.print(c);
+    }
+
+    fn execute(&mut self, byte: u8) {
+        if byte == b'\n' {
+            self.put_line_feed();
+        } else if is_layout(byte) {
+            self.begin_text();
+            self.html.execute(byte);
+        }
+    }
+
+    fn hook(&mut self, _params: &Params, _intermediates: &[u8], _ignore: bool, _action: u8) {}
+
+    fn put(&mut self, _byte: u8) {}
+
+    fn unhook(&mut self) {}
+
+    fn osc_dispatch(&mut self, params: &[&[u8]], bell_terminated: bool) {
+        self.html.osc_dispatch(params, bell_terminated);
+    }
+
+    fn csi_dispatch(&mut self, params: &Params, intermediates: &[u8], ignore: bool, action: u8) {
+        self.html
+            .csi_dispatch(params, intermediates, ignore, action);
+    }
+
+    fn esc_dispatch(&mut self, _intermediates: &[u8], _ignore: bool, _byte: u8) {}
+}
+
+/// What stands between line feeds, tabs and carriage returns is written at once.
+impl<W: Sink> PerformText for LinesWriter<W> {
+    ghost use Rattle.ansi_html.specs.Liner.{TakesCalls};
+    ghost use Rattle.ansi_html.specs.LiningProof.{TakesCalls-none, TakesCalls-one, TakesCalls-more};
+
+    ghost receives = { TakesCalls W.Sink };
+
+    fn print_text(&mut self, text: &str) {
+        if !text.is_empty() {
+            self.begin_text();
+            self.html.print_text(text);
+        }
+    }
+
+    ghost receives_none = { TakesCalls-none W.Sink };
+
+    ghost receives_one = { TakesCalls-one W.Sink };
+
+    ghost receives_more = { TakesCalls-more W.Sink };
+}
+
+/// What is still to be written is the end of the elements that are open.
+impl<W: Sink> WritingPerformer<W> for LinesWriter<W> {
+    ghost use Rattle.ansi_html.specs.Liner.{output_of, text_from, ending_from};
+    ghost use Rattle.ansi_html.specs.LiningProof.{ending_from-taken};
+
+    ghost output_in = { output_of };
+
+    ghost text_from = { text_from };
+
+    ghost ending_from = { ending_from };
+
+    fn output(&self) -> &Output<W> {
+        self.html.output()
+    }
+
+    fn pass_on(&mut self) {
+        self.html.pass_on();
+    }
+
+    fn into_output(self) -> Output<W> {
+        let LinesWriter {
+            mut html,
+            is_open,
+            ..
+        } = self;
+        if is_open {
+            html.end_line();
+        }
+        html.into_output()
+    }
+
+    ghost adds = { λ _ _ _ taken. taken.added };
+
+    ghost ends = { λ old calls new taken _. ending_from-taken W.Sink old new calls taken };
+}

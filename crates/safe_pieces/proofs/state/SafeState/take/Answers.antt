@@ -1,0 +1,63 @@
+-- The safe text goes on from where the state says that it stands.
+use Rattle.std.proofs.Common.{◌≤◌, List, ℕ, ◌++◌, length, refl, sym, ap, ap₂, ◌∙◌, subst, arith}
+use Rattle.std.specs.Str.{encode_utf8_all}
+use Rattle.anstyle_parse.specs.Views.Accumulator.{parser_after}
+use Rattle.anstyle_parse.specs.Machine.Step.{machine_calls}
+use Rattle.anstyle_parse.specs.Views.Parser.{machine_of}
+use Rattle.anstyle_parse.specs.Io.Output.{writer_in, fault_in, Finishes}
+use Rattle.strip_pieces.specs.contracts.lent.LentBytesSink.TheImpl.{ghosts}
+use Rattle.strip_pieces.specs.declared.state.StreamState.{StreamState}
+use Rattle.strip_pieces.specs.State.{pending_of, StandsFor as StreamStandsFor}
+use Rattle.strip_pieces.proofs.FeedLemmas.{length-machine_calls}
+use Rattle.strip_pieces.proofs.LentLemmas.{put-front, put-behind, put-length}
+use Rattle.safe_text.specs.Decided.{decided_from, last_from, waiting}
+use Rattle.safe_text.specs.Safe.{characters}
+use Rattle.safe_pieces.proofs.FeedLemmas.{text-short, text-held}
+use Rattle.safe_pieces.proofs.state.SafeState.take.Goals as goal
+
+pub save-requires : goal.save-requires
+save-requires c =
+    let held = pending_of c.args.self.now.stream in
+    (held ++ c.args.piece.now, c.advance_heeded.ensures.stands held (c.resume_in.ensures held c.new-parser.ensures.stands refl))
+
+pub put_front-requires : goal.put_front-requires
+put_front-requires c =
+    let calls = machine_calls parser_after c.args.piece.now (machine_of c.resume_in.new.parser) in
+    let few = length-machine_calls parser_after c.args.piece.now (machine_of c.resume_in.new.parser) in
+    let written = text-held c.new.result c.resume-writer.result c.advance_heeded.new.performer calls c.finish-buffer.result.0 c.finish-buffer.result.1
+    (ap writer_in c.resume-writer.ensures.output ∙ c.new-output.ensures.writer) c.new.ensures.nothing (ap fault_in c.resume-writer.ensures.output ∙ c.new-output.ensures.no_fault)
+    c.advance_heeded.ensures.calls (omega (arith, few, c.new.ensures.limit, c.requires.lent))
+    (subst (λ output. Finishes ghosts output c.finish-buffer.result.0 c.finish-buffer.result.1) c.suspend.ensures c.finish-buffer.ensures.finishes) in
+    omega (arith, ap length c.bytes.ensures, ap length written, text-short c.resume-writer.result calls, few, c.requires.room)
+
+pub returns : goal.returns
+returns c =
+    let piece = c.args.piece.now in
+    let writer = c.resume-writer.result in
+    let taken = c.advance_heeded.ensures.calls in
+    let calls = machine_calls parser_after piece (machine_of c.resume_in.new.parser) in
+    let before = c.resume-writer.ensures.before ∙ c.standing.ensures.before in
+    let held = c.resume-writer.ensures.held ∙ c.standing.ensures.held in
+    let few = length-machine_calls parser_after piece (machine_of c.resume_in.new.parser) in
+    let written = c.bytes.ensures ∙ text-held c.new.result writer c.advance_heeded.new.performer calls c.finish-buffer.result.0 c.finish-buffer.result.1
+    (ap writer_in c.resume-writer.ensures.output ∙ c.new-output.ensures.writer) c.new.ensures.nothing (ap fault_in c.resume-writer.ensures.output ∙ c.new-output.ensures.no_fault)
+    taken (omega (arith, few, c.new.ensures.limit, c.requires.lent))
+    (subst (λ output. Finishes ghosts output c.finish-buffer.result.0 c.finish-buffer.result.1) c.suspend.ensures c.finish-buffer.ensures.finishes) in
+    let room = c.args.room.now in
+    let bytes = c.bytes.result.now in
+    let fits : length bytes ≤ length room = omega (arith, ap length written, text-short writer calls, few, c.requires.room) in
+    record {
+      calls = calls;
+      continues = λ before is. c.advance_heeded.ensures.stream before (c.resume_in.ensures before c.new-parser.ensures.stands is);
+      stream = λ before is.
+          subst (λ (stream : StreamState). StreamStandsFor stream (before ++ piece)) (sym c.save-2.ensures.stream)
+          (c.save.ensures (before ++ piece) (c.advance_heeded.ensures.stands before (c.resume_in.ensures before c.new-parser.ensures.stands is)));
+      last = c.save-2.ensures.before ∙ c.standing-2.ensures.before ∙ taken.before ∙ ap₂ (λ b (h : List ℕ). last_from b (h ++ characters calls)) before held;
+      held = c.save-2.ensures.held ∙ c.standing-2.ensures.held ∙ taken.held ∙ ap (λ (h : List ℕ). waiting (h ++ characters calls)) held;
+      few_calls = few;
+      same_length = put-length bytes room c.put_front.new.room c.put_front.result c.put_front.ensures.length c.put_front.ensures.written fits;
+      written_fits = omega (arith, c.put_front.ensures.length, ap length written, text-short writer calls, few, c.requires.room);
+      text = put-front bytes room c.put_front.new.room c.put_front.result c.put_front.ensures.length c.put_front.ensures.written
+          ∙ written ∙ ap₂ (λ b (h : List ℕ). encode_utf8_all (decided_from b (h ++ characters calls))) before held;
+      untouched = put-behind bytes room c.put_front.new.room c.put_front.result c.put_front.ensures.length c.put_front.ensures.written;
+    }

@@ -1,0 +1,47 @@
+-- What a state of a stream and its safe text stands for.
+use Rattle.std.specs.Prelude.{◌≡◌, ℕ, ◌==◌, ◌&&◌, ◌||◌, nat_lt, nat_le, List, if◌then◌else◌}
+use Rattle.anstyle_parse.specs.Stream.Call.{Call}
+use Rattle.anstyle_parse.specs.Stream.Calls.{AreCalls}
+use Rattle.strip_pieces.specs.State.{StandsFor as StreamStandsFor}
+use Rattle.safe_text.specs.declared.held.Held.{Held}
+use Rattle.safe_text.specs.declared.held.Held.TheVariants.{Nothing, Return, Less, LessU, Space, NonJoiner, Joiner, TextSelector, EmojiSelector}
+use Rattle.safe_text.specs.Held.{held_characters}
+use Rattle.safe_text.specs.Safe.{characters}
+use Rattle.safe_text.specs.Decided.{last_from, waiting}
+use Rattle.safe_pieces.specs.declared.state.SafeState.{SafeState}
+
+-- a number that is none of a character counts for none: 0
+abbrev pub character_numbered : ℕ → ℕ
+character_numbered n = if nat_lt n 0xD800 || nat_le 0xE000 n && nat_lt n 0x110000 then n else 0
+
+-- any other number is nothing
+abbrev pub held_numbered : ℕ → Held
+held_numbered number =
+    if number == 1 then Return
+    else if number == 2 then Less
+    else if number == 3 then LessU
+    else if number == 4 then Space
+    else if number == 5 then NonJoiner
+    else if number == 6 then Joiner
+    else if number == 7 then TextSelector
+    else if number == 8 then EmojiSelector
+    else Nothing
+
+-- the character that is written last, and those that wait
+abbrev pub before_in : SafeState → ℕ
+before_in state = character_numbered state.before
+
+abbrev pub held_in : SafeState → List ℕ
+held_in state = held_characters (held_numbered state.held)
+
+-- The state stands for the bytes before: its stream does, and its safe text stands where it does after their calls.
+pub record StandsFor (state : SafeState) (before : List ℕ) : Type 0 where
+  pub stream : StreamStandsFor state.stream before
+  pub last : (calls : List Call) → AreCalls before calls → before_in state ≡ last_from 0 (characters calls)
+  pub held : (calls : List Call) → AreCalls before calls → held_in state ≡ waiting (characters calls)
+
+-- the numbers of a state are zero (the bytes behind a length of 0 may be any)
+pub record IsZero (state : SafeState) : Type 0 where
+  pub stream : state.stream.length ≡ 0
+  pub before : state.before ≡ 0
+  pub held : state.held ≡ 0

@@ -1,0 +1,100 @@
+//! The state of a stream and its safe text between pieces.
+ghost use Rattle.std.specs.Prelude.{◌≡◌, []};
+ghost use Rattle.safe_text.specs.Held.{held_characters};
+ghost use Rattle.safe_pieces.specs.State.{character_numbered, held_numbered, before_in, held_in, StandsFor};
+
+use safe_text::{Held, Standing};
+use strip_pieces::StreamState;
+
+/// Where a stream and its safe text stand between two pieces.
+///
+/// Any bytes in it are a valid state, and zero bytes are one that begins a stream. It owns nothing, and may be copied or
+/// written down.
+#[repr(C)]
+#[derive(Clone, Copy)]
+pub struct SafeState {
+    pub stream: StreamState,
+    /// The number of the character that is written last, and 0 where there is none; any other number counts for 0.
+    pub before: u32,
+    /// What waits for the next character: 1 a carriage return, 2 `<`, 3 `<U`, 4 to 8 U+200B, U+200C, U+200D, U+FE0E and
+    /// U+FE0F; any other number is nothing.
+    pub held: u8,
+}
+
+/// The character of a number.
+fn character_at(number: u32) -> char
+    ensures { result ≡ character_numbered number }
+{
+    match char::from_u32(number) {
+        Some(c) => c,
+        None => '\0',
+    }
+}
+
+/// The number of what waits.
+fn held_number(held: Held) -> u8
+    ensures { held_numbered result ≡ held }
+{
+    match held {
+        Held::Nothing => 0,
+        Held::Return => 1,
+        Held::Less => 2,
+        Held::LessU => 3,
+        Held::Space => 4,
+        Held::NonJoiner => 5,
+        Held::Joiner => 6,
+        Held::TextSelector => 7,
+        Held::EmojiSelector => 8,
+    }
+}
+
+/// What waits, by its number.
+fn held_at(number: u8) -> Held
+    ensures { result ≡ held_numbered number }
+{
+    match number {
+        1 => Held::Return,
+        2 => Held::Less,
+        3 => Held::LessU,
+        4 => Held::Space,
+        5 => Held::NonJoiner,
+        6 => Held::Joiner,
+        7 => Held::TextSelector,
+        8 => Held::EmojiSelector,
+        _ => Held::Nothing,
+    }
+}
+
+impl SafeState {
+    /// A state that begins a stream.
+    pub fn new() -> SafeState
+        ensures { StandsFor result [] }
+    {
+        SafeState {
+            stream: StreamState::new(),
+            before: 0,
+            held: 0,
+        }
+    }
+
+    /// Where the safe text stands.
+    pub(crate) fn standing(&self) -> Standing
+        ensures before { result.before ≡ before_in self.now }
+        ensures held { held_characters result.held ≡ held_in self.now }
+    {
+        Standing {
+            before: character_at(self.before),
+            held: held_at(self.held),
+        }
+    }
+
+    /// The safe text stands there.
+    pub(crate) fn save(&mut self, standing: Standing)
+        ensures before { before_in self.new ≡ standing.before }
+        ensures held { held_in self.new ≡ held_characters standing.held }
+        ensures stream { self.new.stream ≡ self.old.stream }
+    {
+        self.before = u32::from(standing.before);
+        self.held = held_number(standing.held);
+    }
+}

@@ -1,0 +1,64 @@
+//! What a screen shows as HTML, and the URIs of its links, in the caller's room.
+ghost use Rattle.std.specs.Prelude.{◌≡◌, ◌⊎◌, IfOk, IfErr, IfSome};
+ghost use Rattle.screen_html.specs.Links.{link_at};
+ghost use Rattle.screen_html.specs.Page.{page_html};
+ghost use Rattle.screen_pieces.specs.Page.{styling_numbered, html_of};
+ghost use Rattle.screen_pieces.specs.Text.{HasText, LacksRoom};
+
+use crate::drawing::collected;
+use crate::terminal::Terminal;
+use crate::text::put_bytes;
+use ansi_html::{Scheme, Styling};
+use ansi_screen::Screen;
+use anstyle_parse::io::{FromWrite, Output};
+use screen_html::{LinkTable, write_screen};
+use std::alloc::Global;
+
+/// The styling of a number: 1 for light pages, 2 for dark ones, 3 by classes, and any other for both.
+fn styling_at(number: u8) -> Styling
+    ensures { result ≡ styling_numbered number }
+{
+    match number {
+        1 => Styling::Inline(Scheme::Light),
+        2 => Styling::Inline(Scheme::Dark),
+        3 => Styling::Classes,
+        _ => Styling::Inline(Scheme::Both),
+    }
+}
+
+/// The HTML of a screen; `None` where memory was wanting.
+fn page(alloc: Global, screen: &Screen, links: &LinkTable, styling: Styling) -> Option<Vec<u8>>
+    ensures { IfSome result (λ bytes. bytes.items ≡ page_html styling links.now screen.now.display) }
+{
+    let output = Output::new(FromWrite::new(Vec::new(alloc)));
+    collected(write_screen(screen, links, styling, output))
+}
+
+impl Terminal {
+    ghost use Rattle.screen_pieces.specs.Terminal.{links_of};
+
+    /// Writes what it shows as HTML to the front of the room, in the styling of a number: 1 for light pages, 2 for dark ones, 3
+    /// by classes, and any other for both. It answers how many bytes there are. `Err` has 0 where memory is wanting, which is
+    /// taken while they are made; and else how many bytes there are, which the room has not; then what stands in the room does
+    /// not count.
+    pub fn html(&self, alloc: Global, styling: u8, room: &mut [u8]) -> Result<usize, usize>
+        ensures text { IfOk result (HasText (html_of styling self.now) room.old room.new) }
+        ensures refused { IfErr result
+            (λ needed. (needed ≡ 0) ⊎ LacksRoom (html_of styling self.now) room.old needed) }
+    {
+        match page(alloc, self.screen(), self.links(), styling_at(styling)) {
+            None => Err(0),
+            Some(bytes) => put_bytes(bytes.as_slice(), room),
+        }
+    }
+
+    /// Writes the URI of a link to the front of the room, and answers how many bytes it has; none where no link of the number
+    /// is kept, or its URI is not one that is shown. `Err` has how many bytes there are, which the room has not; then what stands
+    /// in the room does not count.
+    pub fn link_uri(&self, number: u32, room: &mut [u8]) -> Result<usize, usize>
+        ensures text { IfOk result (HasText (link_at number (links_of self.now)) room.old room.new) }
+        ensures refused { IfErr result (LacksRoom (link_at number (links_of self.now)) room.old) }
+    {
+        put_bytes(self.links().link(number).uri(), room)
+    }
+}

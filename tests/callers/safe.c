@@ -1,0 +1,194 @@
+/* What include/ansi_safe.h declares, and what a caller rests on: sizes, numbers, types, false answers, any bytes in a
+ * state, what waits, the end. tests/library compiles it as C and as C++, and with the sanitizers. Says what is wrong on
+ * standard error and ends with status 1. */
+#include "ansi_safe.h"
+#include "ansi_safe.h" /* (a second time: it guards itself) */
+#include "ansi_events.h" /* (and these stand beside it) */
+#include "ansi_html.h"
+#include "ansi_strip.h"
+
+#define CALLER "safe.c"
+#include "expect.h"
+
+#include <assert.h>
+#include <stdio.h>
+#include <stdlib.h>
+#include <string.h>
+
+static_assert(sizeof(struct ansi_safe) == 1064, "a state has 1,064 bytes");
+static_assert(offsetof(ansi_safe, others) == sizeof(size_t), "nothing stands between");
+static_assert(ANSI_SAFE_LEAST_ROOM == 40 && ANSI_SAFE_END_ROOM == 20, "what one byte and an end may need");
+static_assert(ANSI_SAFE_ROOM(0) == 40, "twenty bytes for each, and forty more");
+static_assert(ANSI_SAFE_ROOM(1 + 1) == 80, "the count stands in brackets");
+static_assert(2 * ANSI_SAFE_ROOM(1) == 120, "and so does the whole");
+static_assert(ANSI_SAFE_ROOM(0x60000000) == 0x780000028, "also of a large count");
+
+/* The types: with another one this is a warning, and warnings are errors. */
+static void (*const init)(ansi_safe *) = ansi_safe_init;
+static bool (*const feed)(ansi_safe *, const unsigned char *, size_t, unsigned char *, size_t,
+                          size_t *, size_t *) = ansi_safe_feed;
+static bool (*const end)(ansi_safe *, unsigned char *, size_t, size_t *) = ansi_safe_end;
+
+enum { AFTER = 64, SIZE = 16384 };
+
+static unsigned char room[SIZE + AFTER];
+
+/* A state, and bytes after it that no call may touch. */
+struct guarded {
+    ansi_safe state;
+    unsigned char after[AFTER];
+};
+
+static struct guarded it;
+static size_t taken, written;
+
+/* The stream goes on with this text, in all of the room. */
+static bool goes_on(const char *text, size_t size)
+{
+    memset(room, 0x7E, sizeof room);
+    taken = written = 7;
+    return feed(&it.state, (const unsigned char *)text, strlen(text), room, size, &taken, &written);
+}
+
+static bool is_written(const char *text)
+{
+    return written == strlen(text) && memcmp(room, text, written) == 0 && are(room + written, AFTER, 0x7E);
+}
+
+static bool ends(size_t size)
+{
+    memset(room, 0x7E, sizeof room);
+    written = 7;
+    return end(&it.state, room, size, &written);
+}
+
+static void init_begins_a_stream(void)
+{
+    memset(&it, 0xA5, sizeof it);
+    init(&it.state);
+    expect(goes_on("a\033[1mb", SIZE) && taken == 6 && is_written("ab"), "a stream begins");
+    expect(are(it.after, AFTER, 0xA5), "what follows the state is as it was");
+    expect(goes_on("<\033[", SIZE) && is_written(""), "a less sign waits");
+    init(&it.state);
+    expect(goes_on("mU+", SIZE) && is_written("mU+"), "and none does once a stream begins");
+}
+
+/* What waits for the next character, that one, and what is then written; and what is written where none comes. */
+static void what_waits_is_written(void)
+{
+    static const char *const rows[][4] = {
+        {"\r", "\n", "\n", "<U+000D>"},
+        {"\r", "x", "<U+000D>x", "<U+000D>"},
+        {"<", "x", "<x", "<"},
+        {"<U", "+", "<U+003C>U+", "<U"},
+        {"<U", "<", "<U", "<U"},
+        {"\xE2\x80\x8D", "\xF0\x9F\x91\xA9", "<U+200D>\xF0\x9F\x91\xA9", "<U+200D>"},
+        {"\xE2\x80\x8B", "a", "<U+200B>a", "<U+200B>"},
+        {"\xE2\x80\x8C", "a", "<U+200C>a", "<U+200C>"},
+        {"\xEF\xB8\x8E", "a", "<U+FE0E>a", "<U+FE0E>"},
+        {"\xEF\xB8\x8F", "a", "<U+FE0F>a", "<U+FE0F>"},
+    };
+    size_t at;
+
+    memset(&it, 0, sizeof it);
+    for (at = 0; at < sizeof rows / sizeof *rows; at++) {
+        ansi_safe copy;
+
+        init(&it.state);
+        expect(goes_on(rows[at][0], SIZE) && is_written(""), "it waits");
+        copy = it.state;
+        expect(goes_on(rows[at][1], SIZE) && is_written(rows[at][2]), "then it is decided");
+        it.state = copy;
+        expect(ends(ANSI_SAFE_END_ROOM) && is_written(rows[at][3]), "a copy goes on as the state did, and ends");
+        expect(goes_on("+", SIZE) && is_written("+"), "then a stream begins");
+    }
+    init(&it.state);
+    expect(goes_on("\xF0\x9F\x91\xA8", SIZE) && is_written("\xF0\x9F\x91\xA8"), "an emoji");
+    expect(goes_on("\xE2\x80\x8D", SIZE) && is_written(""), "a joiner waits behind it");
+    expect(goes_on("\033[1m\xF0\x9F\x91\xA9", SIZE) && is_written("\xE2\x80\x8D\xF0\x9F\x91\xA9"), "and stays between two");
+    expect(goes_on("\xE2\x80\x8D", SIZE) && ends(SIZE) && is_written("<U+200D>"), "at the end it does not");
+}
+
+static void little_room_is_refused(void)
+{
+    ansi_safe before;
+    size_t size;
+
+    init(&it.state);
+    goes_on("\033[1mx\r", SIZE);
+    before = it.state;
+    for (size = 0; size < ANSI_SAFE_LEAST_ROOM; size++) {
+        expect(!goes_on("x", size) && taken == 0 && written == 0, "little room is refused");
+        expect(memcmp(&it.state, &before, sizeof before) == 0, "the state is as it was");
+        expect(are(room, sizeof room, 0x7E), "the room is as it was");
+    }
+    for (size = 0; size < ANSI_SAFE_END_ROOM; size++) {
+        expect(!ends(size) && written == 0 && are(room, sizeof room, 0x7E), "little room for an end is refused");
+        expect(memcmp(&it.state, &before, sizeof before) == 0, "the state is as it was");
+    }
+    expect(goes_on("", 0) && taken == 0 && written == 0, "no bytes need no room");
+    expect(goes_on("x", ANSI_SAFE_LEAST_ROOM) && taken == 1 && is_written("<U+000D>x"), "the least room suffices");
+}
+
+/* One byte that breaks a character off, behind a carriage return: as much as a byte is thought to lead to, or nearly so. */
+static void one_byte_leads_to_much(void)
+{
+    init(&it.state);
+    expect(goes_on("\r\xF0\x9F\x91", SIZE) && is_written(""), "a character is begun");
+    expect(goes_on("\a", ANSI_SAFE_LEAST_ROOM) && is_written("<U+000D>\xEF\xBF\xBD<U+0007>"), "nineteen bytes of one");
+    init(&it.state);
+    expect(goes_on("<U\xF3\xA0\x81", SIZE) && is_written(""), "a tag is begun");
+    expect(goes_on("\x81", ANSI_SAFE_LEAST_ROOM) && is_written("<U<U+E0041>"), "and written");
+}
+
+/* Whatever a state holds, text is text. */
+static void any_bytes_are_a_state(void)
+{
+    unsigned char *bytes = (unsigned char *)&it.state;
+    unsigned seed = 1, turn;
+    size_t at;
+
+    for (turn = 0; turn < 400; turn++) {
+        for (at = 0; at < sizeof it.state; at++)
+            bytes[at] = turn < 256 ? (unsigned char)turn : (unsigned char)((seed = seed * 1103515245 + 12345) >> 16);
+        memset(it.after, 0xA5, AFTER);
+        expect(goes_on("\030<x", SIZE) && taken == 3, "any bytes are a state");
+        expect(written >= 2 && memcmp(room + written - 2, "<x", 2) == 0, "its text is written");
+        expect(are(it.after, AFTER, 0xA5), "what follows the state is as it was");
+        expect(ends(SIZE) && written == 0, "it has an end");
+    }
+}
+
+/* In room for what they may lead to all bytes are taken at once, and at least one in the least room. */
+static void much_is_taken_at_once(void)
+{
+    static unsigned char large[ANSI_SAFE_ROOM(100000) + AFTER], piece[100000];
+    static const char text[] = "x<\t\r\a\x9B";
+    size_t turn, at;
+
+    for (turn = 0; turn < sizeof text - 1; turn++) {
+        memset(&it, 0, sizeof it);
+        memset(large, 0x7E, sizeof large);
+        memset(piece, text[turn], sizeof piece);
+        expect(feed(&it.state, piece, sizeof piece, large, sizeof large - AFTER, &taken, &written), "there is room");
+        expect(taken == sizeof piece, "all is taken");
+        expect(are(large + sizeof large - AFTER, AFTER, 0x7E), "past the room nothing is written");
+        for (at = 0; at < 100; at += taken) {
+            expect(feed(&it.state, piece + at, 100 - at, room, ANSI_SAFE_LEAST_ROOM, &taken, &written), "there is room");
+            expect(taken > 0 && written <= ANSI_SAFE_LEAST_ROOM, "some is taken");
+            if (taken == 0)
+                break;
+        }
+    }
+}
+
+int main(void)
+{
+    init_begins_a_stream();
+    what_waits_is_written();
+    little_room_is_refused();
+    one_byte_leads_to_much();
+    any_bytes_are_a_state();
+    much_is_taken_at_once();
+    return failures != 0;
+}

@@ -22,6 +22,8 @@ COMPLETED = $(PROGRAMS)
 TESTS = asked browser cells classes contrast costs dist documents install library links packages programs screen_library screen_twin vectors
 # what the library does: each has a header and a manual page of its own
 INTERFACES = ansi_events ansi_html ansi_safe ansi_screen ansi_strip
+# the functions that a manual page names: by each of them `man` finds that page
+FUNCTIONS_OF = sed -n 's/^\.Nm \(ansi_[a-z_]*\).*/\1/p'
 VERSION := $(shell sed -n 's/^pub const VERSION: &str = "\(.*\)";$$/\1/p' crates/standard_streams/src/options.rt)
 MAJOR := $(firstword $(subst ., ,$(VERSION)))
 
@@ -60,6 +62,15 @@ MODULES_IN = $(shell $(PYTHON) -c '$(LOOKS_IN) \
     found = [it.get_path("purelib", way, vars={"base": given}).replace("/local/local/", "/local/") for way in ways]; \
     print(*[at for at in found if at.startswith(given + "/lib/") and at in known][:1] or found[-1:])' $(PREFIX))
 MODULES = $(DESTDIR)$(MODULES_IN)/$(notdir $(PACKAGE))
+# A program that is linked to the library starts once the loader knows of it: by ldconfig, which root may run, where the loader looks in
+# that folder (ldconfig lists those); else by LD_LIBRARY_PATH. (Debian has ldconfig where users do not look for programs.)
+LOADING = PATH="$$PATH:/usr/sbin:/sbin"; looks=; \
+    for folder in $$(ldconfig -NXv 2> /dev/null | sed -n 's|^\(/[^:]*\):.*|\1|p'); do [ $$folder -ef $(LIB) ] && looks=yes; done; \
+    if [ -z "$$looks" ]; then \
+        echo "The loader does not look in $(LIB): LD_LIBRARY_PATH has to name it, for programs that are linked to what is there."; \
+    elif ! ldconfig 2> /dev/null; then \
+        echo "ldconfig has to be run as root, before programs start that are linked to what is in $(LIB)."; \
+    fi
 
 BUILT = $(foreach name,$(PROGRAMS),crates/$(name)/out/$(name))
 SOURCES := crates.txt $(shell find crates -path '*/out' -prune -o -path '*/must-fail' -prune -o -type f ! -name README.md -print)
@@ -147,6 +158,9 @@ install-native: programs $(SHARED) $(SCREEN_SHARED)
 	for name in $(INTERFACES); do \
 	    $(INSTALL) -m 644 include/$$name.h $(HEADERS)/$$name.h && \
 	    $(INSTALL) -m 644 man/$$name.3 $(MAN)/man3/$$name.3 || exit 1; \
+	    for function in $$($(FUNCTIONS_OF) man/$$name.3); do \
+	        echo ".so man3/$$name.3" > $(MAN)/man3/$$function.3 && chmod 644 $(MAN)/man3/$$function.3 || exit 1; \
+	    done; \
 	done
 	$(INSTALL) -m 644 $(ARCHIVE) $(LIB)/libansi.a
 	$(INSTALL) $(SHARED) $(LIB)/libansi.so.$(VERSION)
@@ -169,11 +183,15 @@ install: all install-native
 	$(if $(PYTHON_HEADERS),$(INSTALL) $(EXTENSION) $(MODULES)/$(notdir $(EXTENSION)))
 	@$(PYTHON) -c '$(LOOKS_IN) \
 	    given in known or print("$(PYTHON) does not look in %s: PYTHONPATH has to name it." % given)' $(MODULES_IN)
+	@$(if $(DESTDIR),,$(LOADING))
 
 uninstall:
 	for name in $(PROGRAMS); do rm -f $(BIN)/$$name $(MAN)/man1/$$name.1; done
 	for name in $(COMPLETED); do rm -f $(BASH)/$$name $(ZSH)/_$$name $(FISH)/$$name.fish; done
-	for name in $(INTERFACES); do rm -f $(HEADERS)/$$name.h $(MAN)/man3/$$name.3; done
+	for name in $(INTERFACES); do \
+	    rm -f $(HEADERS)/$$name.h $(MAN)/man3/$$name.3; \
+	    for function in $$($(FUNCTIONS_OF) man/$$name.3); do rm -f $(MAN)/man3/$$function.3; done; \
+	done
 	for name in ansi ansi_screen; do \
 	    rm -f $(LIB)/lib$$name.a $(LIB)/pkgconfig/$$name.pc $(LIB)/lib$$name.so $(LIB)/lib$$name.so.$(MAJOR); \
 	    rm -f $(LIB)/lib$$name.so.$(VERSION); \

@@ -7,7 +7,10 @@
 #include "ansi_strip.h"
 
 #define CALLER "html.c"
-#include "expect.h"
+#define STATE ansi_html
+#define FEED ansi_html_feed
+#define END ansi_html_end
+#include "stream.h"
 
 #include <assert.h>
 #include <stdio.h>
@@ -20,44 +23,10 @@ static_assert(ANSI_HTML_BOTH == 0 && ANSI_HTML_LIGHT == 1, "stylings have the nu
 static_assert(ANSI_HTML_DARK == 2 && ANSI_HTML_CLASSES == 3, "stylings have the numbers that are told apart below");
 static_assert(ANSI_HTML_LEAST_ROOM == 6534 && ANSI_HTML_END_ROOM == 11, "what one byte and an end may need");
 
-/* The types: with another one this is a warning, and warnings are errors. */
+/* The type: with another one this is a warning, and warnings are errors. */
 static void (*const init)(ansi_html *, unsigned char) = ansi_html_init;
-static bool (*const feed)(ansi_html *, const unsigned char *, size_t, unsigned char *, size_t,
-                          size_t *, size_t *) = ansi_html_feed;
-static bool (*const end)(ansi_html *, unsigned char *, size_t, size_t *) = ansi_html_end;
 
-enum { AFTER = 64, SIZE = 16384, STYLING = 3185 };
-
-static unsigned char room[SIZE + AFTER];
-
-/* A state, and bytes after it that no call may touch. */
-struct guarded {
-    ansi_html state;
-    unsigned char after[AFTER];
-};
-
-static struct guarded it;
-static size_t taken, written;
-
-/* The stream goes on with this text, in all of the room. */
-static bool goes_on(const char *text, size_t size)
-{
-    memset(room, 0x7E, sizeof room);
-    taken = written = 7;
-    return feed(&it.state, (const unsigned char *)text, strlen(text), room, size, &taken, &written);
-}
-
-static bool is_written(const char *html)
-{
-    return written == strlen(html) && memcmp(room, html, written) == 0 && are(room + written, AFTER, 0x7E);
-}
-
-static bool ends(size_t size)
-{
-    memset(room, 0x7E, sizeof room);
-    written = 7;
-    return end(&it.state, room, size, &written);
-}
+enum { STYLING = 3185 };
 
 /* The styling is the last byte but one that is used of a state. */
 static void init_begins_a_stream(void)
@@ -97,22 +66,15 @@ static void stylings_are_told_apart(void)
 
 static void little_room_is_refused(void)
 {
-    ansi_html before;
     size_t size;
 
     init(&it.state, ANSI_HTML_BOTH);
     goes_on("\033]8;;https://a/\007link\r\033[1m", SIZE);
-    before = it.state;
-    for (size = 0; size < ANSI_HTML_LEAST_ROOM; size += size < 16 ? 1 : 726) {
-        expect(!goes_on("x", size) && taken == 0 && written == 0, "little room is refused");
-        expect(memcmp(&it.state, &before, sizeof before) == 0, "the state is as it was");
-        expect(are(room, sizeof room, 0x7E), "the room is as it was");
-    }
+    for (size = 0; size < ANSI_HTML_LEAST_ROOM; size += size < 16 ? 1 : 726)
+        refuses(size);
     expect(!goes_on("x", ANSI_HTML_LEAST_ROOM - 1), "one byte less than the least room is refused");
-    for (size = 0; size < ANSI_HTML_END_ROOM; size++) {
-        expect(!ends(size) && written == 0 && are(room, sizeof room, 0x7E), "little room for an end is refused");
-        expect(memcmp(&it.state, &before, sizeof before) == 0, "the state is as it was");
-    }
+    for (size = 0; size < ANSI_HTML_END_ROOM; size++)
+        refuses_to_end(size);
     expect(goes_on("", 0) && taken == 0 && written == 0, "no bytes need no room");
     expect(goes_on("x", ANSI_HTML_LEAST_ROOM) && taken == 1, "the least room suffices");
     expect(written > 6 && memcmp(room, "<span ", 6) == 0, "a span is opened in the link");
@@ -135,22 +97,12 @@ static void long_link_stays_in_the_state(void)
     expect(ends(SIZE) && is_written("</a>"), "a link is closed");
 }
 
-/* Whatever a state holds, text is text and a link is no script. */
-static void any_bytes_are_a_state(void)
+/* Whatever a state holds, a link is no script. */
+static void no_link_is_a_script(void)
 {
     unsigned char *bytes = (unsigned char *)&it.state;
-    unsigned seed = 1, turn;
     size_t at;
 
-    for (turn = 0; turn < 400; turn++) {
-        for (at = 0; at < sizeof it.state; at++)
-            bytes[at] = turn < 256 ? (unsigned char)turn : (unsigned char)((seed = seed * 1103515245 + 12345) >> 16);
-        memset(it.after, 0xA5, AFTER);
-        expect(goes_on("\030<x", SIZE) && taken == 3, "any bytes are a state");
-        expect(written >= 5 && memcmp(room + written - 5, "&lt;x", 5) == 0, "its text is written");
-        expect(are(it.after, AFTER, 0xA5), "what follows the state is as it was");
-        expect(ends(SIZE), "it has an end");
-    }
     init(&it.state, ANSI_HTML_LIGHT);
     goes_on("\033]8;;https://a/\007x", SIZE);
     for (at = 0; at + 8 <= sizeof it.state; at++)
@@ -182,7 +134,8 @@ int main(void)
     stylings_are_told_apart();
     little_room_is_refused();
     long_link_stays_in_the_state();
-    any_bytes_are_a_state();
+    any_bytes_are_a_state("&lt;x", true);
+    no_link_is_a_script();
     much_is_taken_in_parts();
     return failures != 0;
 }

@@ -8,7 +8,10 @@
 #include "ansi_strip.h"
 
 #define CALLER "safe.c"
-#include "expect.h"
+#define STATE ansi_safe
+#define FEED ansi_safe_feed
+#define END ansi_safe_end
+#include "stream.h"
 
 #include <assert.h>
 #include <stdio.h>
@@ -23,44 +26,8 @@ static_assert(ANSI_SAFE_ROOM(1 + 1) == 80, "the count stands in brackets");
 static_assert(2 * ANSI_SAFE_ROOM(1) == 120, "and so does the whole");
 static_assert(ANSI_SAFE_ROOM(0x60000000) == 0x780000028, "also of a large count");
 
-/* The types: with another one this is a warning, and warnings are errors. */
+/* The type: with another one this is a warning, and warnings are errors. */
 static void (*const init)(ansi_safe *) = ansi_safe_init;
-static bool (*const feed)(ansi_safe *, const unsigned char *, size_t, unsigned char *, size_t,
-                          size_t *, size_t *) = ansi_safe_feed;
-static bool (*const end)(ansi_safe *, unsigned char *, size_t, size_t *) = ansi_safe_end;
-
-enum { AFTER = 64, SIZE = 16384 };
-
-static unsigned char room[SIZE + AFTER];
-
-/* A state, and bytes after it that no call may touch. */
-struct guarded {
-    ansi_safe state;
-    unsigned char after[AFTER];
-};
-
-static struct guarded it;
-static size_t taken, written;
-
-/* The stream goes on with this text, in all of the room. */
-static bool goes_on(const char *text, size_t size)
-{
-    memset(room, 0x7E, sizeof room);
-    taken = written = 7;
-    return feed(&it.state, (const unsigned char *)text, strlen(text), room, size, &taken, &written);
-}
-
-static bool is_written(const char *text)
-{
-    return written == strlen(text) && memcmp(room, text, written) == 0 && are(room + written, AFTER, 0x7E);
-}
-
-static bool ends(size_t size)
-{
-    memset(room, 0x7E, sizeof room);
-    written = 7;
-    return end(&it.state, room, size, &written);
-}
 
 static void init_begins_a_stream(void)
 {
@@ -111,21 +78,14 @@ static void what_waits_is_written(void)
 
 static void little_room_is_refused(void)
 {
-    ansi_safe before;
     size_t size;
 
     init(&it.state);
     goes_on("\033[1mx\r", SIZE);
-    before = it.state;
-    for (size = 0; size < ANSI_SAFE_LEAST_ROOM; size++) {
-        expect(!goes_on("x", size) && taken == 0 && written == 0, "little room is refused");
-        expect(memcmp(&it.state, &before, sizeof before) == 0, "the state is as it was");
-        expect(are(room, sizeof room, 0x7E), "the room is as it was");
-    }
-    for (size = 0; size < ANSI_SAFE_END_ROOM; size++) {
-        expect(!ends(size) && written == 0 && are(room, sizeof room, 0x7E), "little room for an end is refused");
-        expect(memcmp(&it.state, &before, sizeof before) == 0, "the state is as it was");
-    }
+    for (size = 0; size < ANSI_SAFE_LEAST_ROOM; size++)
+        refuses(size);
+    for (size = 0; size < ANSI_SAFE_END_ROOM; size++)
+        refuses_to_end(size);
     expect(goes_on("", 0) && taken == 0 && written == 0, "no bytes need no room");
     expect(goes_on("x", ANSI_SAFE_LEAST_ROOM) && taken == 1 && is_written("<U+000D>x"), "the least room suffices");
 }
@@ -139,24 +99,6 @@ static void one_byte_leads_to_much(void)
     init(&it.state);
     expect(goes_on("<U\xF3\xA0\x81", SIZE) && is_written(""), "a tag is begun");
     expect(goes_on("\x81", ANSI_SAFE_LEAST_ROOM) && is_written("<U<U+E0041>"), "and written");
-}
-
-/* Whatever a state holds, text is text. */
-static void any_bytes_are_a_state(void)
-{
-    unsigned char *bytes = (unsigned char *)&it.state;
-    unsigned seed = 1, turn;
-    size_t at;
-
-    for (turn = 0; turn < 400; turn++) {
-        for (at = 0; at < sizeof it.state; at++)
-            bytes[at] = turn < 256 ? (unsigned char)turn : (unsigned char)((seed = seed * 1103515245 + 12345) >> 16);
-        memset(it.after, 0xA5, AFTER);
-        expect(goes_on("\030<x", SIZE) && taken == 3, "any bytes are a state");
-        expect(written >= 2 && memcmp(room + written - 2, "<x", 2) == 0, "its text is written");
-        expect(are(it.after, AFTER, 0xA5), "what follows the state is as it was");
-        expect(ends(SIZE) && written == 0, "it has an end");
-    }
 }
 
 /* In room for what they may lead to all bytes are taken at once, and at least one in the least room. */
@@ -188,7 +130,7 @@ int main(void)
     what_waits_is_written();
     little_room_is_refused();
     one_byte_leads_to_much();
-    any_bytes_are_a_state();
+    any_bytes_are_a_state("<x", false);
     much_is_taken_at_once();
     return failures != 0;
 }

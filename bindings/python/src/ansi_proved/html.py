@@ -4,7 +4,9 @@ import ctypes
 import re
 from functools import partial
 
-from .library import Converter, Idle, ShortConverter, converted, exact, function, parts_of, pieces_of, whole_of
+from .library import (
+    END, FEED, Converter, Idle, ShortConverter, converted, exact, function, parts_of, pieces_of, whole_of
+)  # fmt: skip
 
 LONG = 1024  # characters at the beginning that are plain, and sooner taken by themselves
 # characters that are their own HTML, and HT and LF: all but the five that are escaped and other controls
@@ -19,14 +21,8 @@ class State(ctypes.Structure):
 
 
 _init = function("ansi_html_init", None, ctypes.c_void_p, ctypes.c_ubyte)
-_feed = function(
-    "ansi_html_feed", ctypes.c_bool,
-    ctypes.c_void_p, ctypes.c_void_p, ctypes.c_size_t,
-    ctypes.c_void_p, ctypes.c_size_t, ctypes.c_void_p, ctypes.c_void_p,
-)  # fmt: skip
-_end = function(
-    "ansi_html_end", ctypes.c_bool, ctypes.c_void_p, ctypes.c_void_p, ctypes.c_size_t, ctypes.c_void_p
-)
+_feed = function("ansi_html_feed", *FEED)
+_end = function("ansi_html_end", *END)
 
 
 def number_of(styling):

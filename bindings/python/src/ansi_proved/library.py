@@ -34,6 +34,13 @@ def function(name, answer, *kinds, library=LIBRARY):
     return found
 
 
+# What calls answer and take that take bytes from the front of a piece, and that end a stream: its state; where the piece is, and how
+# long; where the room is, and how long; and where they write how many bytes were taken, and how many were written.
+FEED = [ctypes.c_bool, ctypes.c_void_p, ctypes.c_void_p, ctypes.c_size_t, ctypes.c_void_p, ctypes.c_size_t]
+FEED += [ctypes.c_void_p, ctypes.c_void_p]
+END = [ctypes.c_bool, ctypes.c_void_p, ctypes.c_void_p, ctypes.c_size_t, ctypes.c_void_p]
+
+
 class Counts(ctypes.Structure):
     """How many bytes a call has taken, and how many it has written."""
 

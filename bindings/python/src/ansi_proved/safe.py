@@ -4,7 +4,9 @@ import ctypes
 import re
 from functools import partial
 
-from .library import Converter, Idle, ShortConverter, converted, exact, function, parts_of, pieces_of, whole_of
+from .library import (
+    END, FEED, Converter, Idle, ShortConverter, converted, exact, function, parts_of, pieces_of, whole_of
+)  # fmt: skip
 
 PLAIN = re.compile("[\t\n\x20-;=-~]*")  # characters that are left wherever they stand
 
@@ -15,14 +17,8 @@ class State(ctypes.Structure):
     _fields_ = [("length", ctypes.c_size_t), ("others", ctypes.c_ubyte * 1056)]
 
 
-_feed = function(
-    "ansi_safe_feed", ctypes.c_bool,
-    ctypes.c_void_p, ctypes.c_void_p, ctypes.c_size_t,
-    ctypes.c_void_p, ctypes.c_size_t, ctypes.c_void_p, ctypes.c_void_p,
-)  # fmt: skip
-_end = function(
-    "ansi_safe_end", ctypes.c_bool, ctypes.c_void_p, ctypes.c_void_p, ctypes.c_size_t, ctypes.c_void_p
-)
+_feed = function("ansi_safe_feed", *FEED)
+_end = function("ansi_safe_end", *END)
 
 
 def _made(kind):

@@ -3,7 +3,7 @@
 import ctypes
 import re
 
-from .library import FEW, Counts, Idle, Room, address_of, decoded, exact, function, joined, pieces_of, whole_of
+from .library import FEED, FEW, Counts, Idle, Room, address_of, decoded, exact, function, joined, pieces_of, whole_of
 from .safe import safe as safe_text, safe_of
 
 MOST = 64 << 10  # bytes that one call is given at most
@@ -18,11 +18,7 @@ class State(ctypes.Structure):
     _fields_ = [("length", ctypes.c_size_t), ("pending", ctypes.c_ubyte * 1042)]
 
 
-_feed = function(
-    "ansi_strip_feed", ctypes.c_bool,
-    ctypes.c_void_p, ctypes.c_void_p, ctypes.c_size_t,
-    ctypes.c_void_p, ctypes.c_size_t, ctypes.c_void_p, ctypes.c_void_p,
-)  # fmt: skip
+_feed = function("ansi_strip_feed", *FEED)
 
 
 def room_of(count):

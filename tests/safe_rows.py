@@ -130,7 +130,7 @@ SAFE_SHOWN_ROWS = rows(
     # hidden text
     ("hidden text", b"a\x1b[8mbc\x1b[28md\r\n", b"a<U+hidden>bc<U+shown>d\n"),
     ("hidden text that is written over", b"\x1b[8mabc\x1b[m\rxy\r\n", b"xy<U+hidden>c<U+shown>\n"),
-    ("hidden text that is erased", b"a\x1b[8mbc\x1b[m\x1b[3D\x1b[K\r\n", b"\n"),
+    ("hidden text that is erased", b"a\x1b[8mbc\x1b[m\x1b[3D\x1b[K\r\nd\r\n", b"\nd\n"),
     ("hidden text to the end of a row", b"\x1b[8mab\r\ncd\x1b[m\r\n", b"<U+hidden>ab<U+shown>\n<U+hidden>cd<U+shown>\n"),
     ("hidden text that wraps", b"\x1b[8m12345678abc\x1b[md\r\n", b"<U+hidden>12345678a<U+shown><U+hidden>bc<U+shown>d\n"),
     ("a wide character that is hidden", "\x1b[8m\u5b57\x1b[ma\r\n", "<U+hidden>\u5b57<U+shown>a\n"),

@@ -9,7 +9,7 @@ from expected_shown import SHOWN_HOSTILE, SHOWN_NARROW_ROWS, SHOWN_ROWS
 from hostile_streams import BLOCK, SIZE, stream, text, times
 from log_rows import BEGUN_ROWS, LINES_CUT, READ_ROWS, RETURN_ROWS
 from open_strings import said
-from safe_rows import SAFE_ROWS, SAFE_SHOWN_ROWS
+from safe_rows import HIDDEN_ROWS, SAFE_ROWS, SAFE_SHOWN_ROWS
 
 
 class Program:
@@ -685,8 +685,8 @@ PROGRAMS = [
         [
             Mode([], STRIP_ROWS, (b"\x1b[1mA\n", b"A\n"), STRIP_HOSTILE, stays=True, cut=STRIP_CUT),
             Mode(["--lf"], LINES_ROWS, (b"\x1b[1mA\r\n", b"A\n"), STRIP_HOSTILE[:-1], cut=LINES_CUT),
-            Mode(["--safe"], SAFE_ROWS, (b"\x1b[1mA<\r\n", b"A<\n"), []),
-            Mode(["--lf", "--safe"], SAFE_ROWS, (b"\x1b[1mA<\r\n", b"A<\n"), []),
+            Mode(["--safe"], SAFE_ROWS + HIDDEN_ROWS, (b"\x1b[1mA<\r\n", b"A<\n"), []),
+            Mode(["--lf", "--safe"], SAFE_ROWS + HIDDEN_ROWS, (b"\x1b[1mA<\r\n", b"A<\n"), []),
             Mode(["--shown"], SHOWN_ROWS, (b"\x1b[1mA\n", b"A\n"), SHOWN_HOSTILE, stays=True, waits=True),
             Mode(["--shown", "--lf"], SHOWN_ROWS, (b"\x1b[1mA\r\n", b"A\n"), [], stays=True, waits=True),
             Mode(["--safe", "--shown=9x9"], SAFE_SHOWN_ROWS, (b"\x1b[1mA<\r\n", b"A<\n"), [], waits=True),

@@ -41,6 +41,8 @@ def row_cases(ansi):
             front, back = front and front + "\n", wanted.decode()
             why = first_difference(ansi.strip(front + text, safe=True), front + back)
             yield "safe: %s, a str behind %d characters" % (name, len(front)), why
+    found = ansi.strip(b"a\x1b[8mb\x1b[mc", safe=True)  # (the library does not mark it, as ansi2text does)
+    yield "safe: hidden text", first_difference(found, b"abc")
 
 
 def stream_cases(ansi):

@@ -27,7 +27,7 @@ SAFE_ROWS = rows(
     ("DEL", b"rm\x7f\x7fls", b"rm<U+007F><U+007F>ls"),
     ("CSI and OSC as characters", "\u009b8mx\u009d0;t", "<U+009B>8mx<U+009D>0;t"),
     ("a C1 control as a byte", b"a\x84b\x85", b"a<U+0084>b<U+0085>"),
-    ("sequences, a title and a device control string", b"\x1b[8ma\x1b]0;t\x07\x1bPq#\x1b\\b", b"ab"),
+    ("sequences, a title and a device control string", b"\x1b[7ma\x1b]0;t\x07\x1bPq#\x1b\\b", b"ab"),
     ("a broken character", b"a\xe2\x80(", "a\ufffd("),
     # the order of text
     ("an override", "if (a\u202e } \u2066// b\u2069", "if (a<U+202E> } <U+2066>// b<U+2069>"),
@@ -79,6 +79,40 @@ SAFE_ROWS = rows(
     *BEGUN_ROWS,
 )
 
+# Hidden text, as Select Graphic Rendition hides it, which the programs mark.
+HIDDEN_ROWS = rows(
+    ("hidden text, until 28", b"user \x1b[8msecret\x1b[28m ok\n", b"user <U+hidden>secret<U+shown> ok\n"),
+    ("hidden text, until 0", b"\x1b[8ma\x1b[0mb", b"<U+hidden>a<U+shown>b"),
+    ("hidden text, until a sequence with no code", b"\x1b[8ma\x1b[mb", b"<U+hidden>a<U+shown>b"),
+    ("hidden text at the end", b"a\x1b[8mb", b"a<U+hidden>b<U+shown>"),
+    ("hidden text that ends with a line", b"\x1b[8ma\n\x1b[mb\n", b"<U+hidden>a<U+shown>\nb\n"),
+    ("hidden text of two lines", b"\x1b[8ma\r\nb\r\n\x1b[m", b"<U+hidden>a<U+shown>\n<U+hidden>b<U+shown>\n"),
+    ("hidden text with a tab and a control", b"\x1b[8ma\tb\x07\x1b[m", b"<U+hidden>a<U+shown>\t<U+hidden>b<U+shown><U+0007>"),
+    ("hidden among other codes", b"\x1b[1;8;31ma\x1b[1;28;31mb", b"<U+hidden>a<U+shown>b"),
+    ("hidden and shown at once", b"\x1b[8;28ma\x1b[28;8mb", b"a<U+hidden>b<U+shown>"),
+    ("another colour of hidden text", b"\x1b[8ma\x1b[31mb\x1b[m", b"<U+hidden>ab<U+shown>"),
+    ("hidden text, a title and a link", b"\x1b[8ma\x1b]0;t\x07b\x1b]8;;https://e.org\x07c\x1b[m", b"<U+hidden>abc<U+shown>"),
+    ("nothing that is hidden", b"a\x1b[8m\x1b[28mb\x1b[8m\n\x1b[m", b"ab\n"),
+    ("hidden, shown and hidden, with no text between", b"\x1b[8ma\x1b[28m\x1b[8mb\x1b[m", b"<U+hidden>ab<U+shown>"),
+    ("8 as a part of a colour", b"\x1b[38;5;8ma\x1b[48;2;8;8;8mb\x1b[38:5:8mc\x1b[58;5;8md", b"abcd"),
+    ("8 in another sequence", b"\x1b[8Ja\x1b[?8mb\x1b[8 mc\x1b[>8md", b"abcd"),
+    ("28 in another sequence", b"\x1b[8ma\x1b[?28mb\x1b[28lc", b"<U+hidden>abc<U+shown>"),
+    ("a sequence that is cancelled", b"\x1b[8\x18ma", b"<U+0018>ma"),
+    ("no reset by the terminal's", b"\x1b[8ma\x1bcb\x1b[!pc", b"<U+hidden>abc<U+shown>"),
+    ("a character of two bytes", b"\x1b[8m\xc3\xa9\x1b[m\xc3\xa9", "<U+hidden>\u00e9<U+shown>\u00e9"),
+    ("a broken character", b"\x1b[8m\xe2\x82\x1b[ma", "<U+hidden>\ufffd<U+shown>a"),
+    ("hidden blanks", b"a\x1b[8m  \x1b[mb", b"a<U+hidden>  <U+shown>b"),
+    ("what shows nothing in hidden text", "\x1b[8ma\u202e\x1b[mb", "<U+hidden>a<U+202E><U+shown>b"),
+    # nothing of a stream looks as a mark, nor does what stands beside one
+    ("forged marks", b"<U+hidden>a<U+shown>", b"<U+003C>U+hidden>a<U+003C>U+shown>"),
+    ("forged marks in hidden text", b"\x1b[8ma<U+shown>b\x1b[m", b"<U+hidden>a<U+003C>U+shown>b<U+shown>"),
+    ("a less sign before a mark that hides", b"<\x1b[8mU+\x1b[m", b"<<U+hidden>U+<U+shown>"),
+    ("a less sign before a mark that shows", b"\x1b[8m<U\x1b[m+", b"<U+hidden><U<U+shown>+"),
+    ("a CR before a mark", b"a\r\x1b[8mb", b"a<U+000D><U+hidden>b<U+shown>"),
+    ("a joiner before a mark", "\U0001f468\u200d\x1b[8m\U0001f469", "\U0001f468<U+200D><U+hidden>\U0001f469<U+shown>"),
+    ("a joiner behind a mark", "\U0001f468\x1b[8m\u200d\U0001f469", "\U0001f468<U+hidden><U+200D>\U0001f469<U+shown>"),
+)
+
 # On a screen of 9 columns and 9 rows. (A character of no column stands with the one before it.)
 SAFE_SHOWN_ROWS = rows(
     ("no bytes", b"", b""),
@@ -93,4 +127,13 @@ SAFE_SHOWN_ROWS = rows(
     ("a family", "\U0001f468\u200d\U0001f469\r\n", "\U0001f468\u200d\U0001f469\n"),
     ("a joiner among letters", "a\u200db\r\n", "a<U+200D>b\n"),
     ("controls show nothing on a screen", b"a\x07\x7f\xc2\x9bb\r\n", b"ab\n"),
+    # hidden text
+    ("hidden text", b"a\x1b[8mbc\x1b[28md\r\n", b"a<U+hidden>bc<U+shown>d\n"),
+    ("hidden text that is written over", b"\x1b[8mabc\x1b[m\rxy\r\n", b"xy<U+hidden>c<U+shown>\n"),
+    ("hidden text that is erased", b"a\x1b[8mbc\x1b[m\x1b[3D\x1b[K\r\nd\r\n", b"\nd\n"),
+    ("hidden text to the end of a row", b"\x1b[8mab\r\ncd\x1b[m\r\n", b"<U+hidden>ab<U+shown>\n<U+hidden>cd<U+shown>\n"),
+    ("hidden text that wraps", b"\x1b[8m12345678abc\x1b[md\r\n", b"<U+hidden>12345678a<U+shown><U+hidden>bc<U+shown>d\n"),
+    ("a wide character that is hidden", "\x1b[8m\u5b57\x1b[ma\r\n", "<U+hidden>\u5b57<U+shown>a\n"),
+    ("a place between where nothing was printed", b"\x1b[8ma\x1b[Cb\x1b[m\r\n", b"<U+hidden>a<U+shown> <U+hidden>b<U+shown>\n"),
+    ("forged marks on a screen", b"<U+shown>\r\n", b"<U+003C>U+shown>\n"),
 )

@@ -6,7 +6,7 @@ Usage: make_ranges.py [FOLDER]          (/usr/share/unicode)
 
 Hidden: the general categories Cc, Zl and Zp of UnicodeData.txt, Default_Ignorable_Code_Point of
 DerivedCoreProperties.txt, Bidi_Control of PropList.txt, and the interlinear annotation, U+FFF9 to
-U+FFFB. Those by which a joiner may stand: Extended_Pictographic of emoji-data.txt; the canonical
+U+FFFB; and the two numbers past the last character that stand for marks (specs/Safe.antt). Those by which a joiner may stand: Extended_Pictographic of emoji-data.txt; the canonical
 combining class 9 (Virama) of UnicodeData.txt; Joining_Type D and L, and D and R, of
 ArabicShaping.txt; and the line breaking class SA of LineBreak.txt. It writes specs/Ranges.antt and
 src/classes/ranges.rt beside itself; with the same files it writes the same.
@@ -18,6 +18,7 @@ import sys
 HERE = os.path.dirname(os.path.realpath(__file__))
 CONTROLS = ("Cc", "Zl", "Zp")
 ANNOTATION = range(0xFFF9, 0xFFFC)
+MARKS = range(0x110000, 0x110002)
 VIRAMA = "9"
 
 
@@ -82,12 +83,12 @@ def lines_of(found):
 
 def tables(folder):
     data = list(characters(folder))
-    hidden = {each for each, category, _ in data if category in CONTROLS} | set(ANNOTATION)
+    hidden = {each for each, category, _ in data if category in CONTROLS} | set(ANNOTATION) | set(MARKS)
     hidden |= having(folder, "DerivedCoreProperties.txt", 0, ["Default_Ignorable_Code_Point"])
     hidden |= having(folder, "PropList.txt", 0, ["Bidi_Control"])
     # the fields of ArabicShaping.txt: name, joining type, joining group
     return (
-        ("hidden", "Cc, Zl and Zp; Default_Ignorable_Code_Point; Bidi_Control; U+FFF9 to U+FFFB", hidden),
+        ("hidden", "Cc, Zl and Zp; Default_Ignorable_Code_Point; Bidi_Control; U+FFF9 to U+FFFB; two marks", hidden),
         ("pictographic", "Extended_Pictographic", having(folder, "emoji/emoji-data.txt", 0, ["Extended_Pictographic"])),
         ("virama", "Canonical_Combining_Class 9", {each for each, _, combining in data if combining == VIRAMA}),
         ("joins_next", "Joining_Type D and L", having(folder, "ArabicShaping.txt", 1, ["D", "L"])),

@@ -231,8 +231,8 @@ impl Stripper {
     }
 }
 
-/// A stream that becomes text that hides nothing, as `ansi2text --safe` writes it, which goes on with each piece. A clone
-/// goes on from where it was cloned.
+/// A stream that becomes text that hides nothing, as `ansi2text --safe` writes it but for marks, which goes on with each
+/// piece. A clone goes on from where it was cloned.
 #[derive(Clone, Debug)]
 pub struct SafeStripper(SafeState);
 
@@ -331,7 +331,7 @@ pub fn strip(stream: impl AsRef<[u8]>) -> String {
 }
 
 /// The text of terminal output that hides nothing, as `ansi2text --safe` writes it: what shows nothing, turns the order of
-/// text round or is a control is written visibly, as `<U+202E>`.
+/// text round or is a control is written visibly, as `<U+202E>`. But text that a stream hides (SGR 8) is not marked.
 pub fn strip_safe(stream: impl AsRef<[u8]>) -> String {
     joined(|write| {
         let mut stripper = SafeStripper::new();

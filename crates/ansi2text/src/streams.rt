@@ -6,7 +6,7 @@ ghost use Rattle.ansi_strip.specs.Inert.{inert_text, is_inert};
 ghost use Rattle.ansi_strip.specs.LineFeeds.{decided, waiting};
 ghost use Rattle.ansi_screen.specs.Size.{IsTaken};
 ghost use Rattle.ansi2text.specs.Sizes.{screen_of, no_text};
-ghost use Rattle.safe_text.specs.Decided.{decided as safe_decided, undecided as safe_undecided};
+ghost use Rattle.safe_text.specs.Marks.{decided_marked, undecided_marked};
 ghost use Rattle.screen_safe.specs.Shown.{safe_left, safe_ending};
 ghost use Rattle.screen_text.specs.Shown.{left_text, ending_text};
 
@@ -14,7 +14,7 @@ use ansi_screen::{Screen, Size};
 use ansi_strip::{Inert, LineFeeds, Stripper};
 use anstyle_parse::io::{CallWriter, Output, Sink};
 use each_source::Begin;
-use safe_text::SafeWriter;
+use safe_text::MarkingWriter;
 use screen_safe::SafeRows;
 use screen_text::{ShownWriter, TextRows};
 use std::alloc::Global;
@@ -66,25 +66,25 @@ impl<W: Sink> Begin<Inert<LineFeeds<W>>, W> for StrippingLines {
     }
 }
 
-/// Of each stream safe text is made.
+/// Of each stream safe text is made, with marks where hidden text begins and ends.
 #[derive(Debug, Clone, Copy, PartialEq, Eq)]
 pub struct MakingSafe;
 
-impl<W: Sink> Begin<SafeWriter<W>, W> for MakingSafe {
-    ghost use Rattle.safe_text.specs.Writer.{output_of, text_from, ending_from};
+impl<W: Sink> Begin<MarkingWriter<W>, W> for MakingSafe {
+    ghost use Rattle.safe_text.specs.MarkingWriter.{output_in, text_from, ending_from};
 
-    ghost text = { λ _. safe_decided };
+    ghost text = { λ _. decided_marked };
 
-    ghost ending = { λ _. safe_undecided };
+    ghost ending = { λ _. undecided_marked };
 
-    fn begin(&self, output: Output<W>) -> Result<SafeWriter<W>, Output<W>>
-        ensures output { IfOk result (λ performer. output_of performer ≡ output) }
-        ensures text { IfOk result (λ performer. (calls : List Call) → text_from performer calls ≡ safe_decided calls) }
+    fn begin(&self, output: Output<W>) -> Result<MarkingWriter<W>, Output<W>>
+        ensures output { IfOk result (λ performer. output_in performer ≡ output) }
+        ensures text { IfOk result (λ performer. (calls : List Call) → text_from performer calls ≡ decided_marked calls) }
         ensures ending { IfOk result (λ performer. (calls : List Call)
-            → ending_from performer calls ≡ safe_undecided calls) }
+            → ending_from performer calls ≡ undecided_marked calls) }
         ensures kept { IfErr result (λ kept. kept ≡ output) }
     {
-        Ok(SafeWriter::over(output))
+        Ok(MarkingWriter::over(output))
     }
 }
 

@@ -25,8 +25,9 @@ name files, whatever they begin with.
 
   --safe                  write text that hides nothing and keeps its order, to
                           review: controls and characters that show nothing or
-                          turn text round are written as <U+202E>; with --shown
-                          of what a terminal showed
+                          turn text round are written as <U+202E>, and hidden
+                          text stands between <U+hidden> and <U+shown>; with
+                          --shown of what a terminal showed
   --lf                    drop a carriage return right before a line feed, as
                           dos2unix does: each line of a recording by script ends
                           with both; --safe and --shown never write both

@@ -14,7 +14,7 @@ pub fn states()
 {}
 
 /// The safe text of pieces, one after another, and then what ends it, is the safe text of the whole stream, however it
-/// is cut: what [`write_safe`](safe_text::write_safe) writes.
+/// is cut: what [`write_safe`](safe_text::write_safe) writes where no text is hidden, which alone it marks.
 pub fn safe_joined()
     ensures pieces { (before bytes more text rest : List ℕ) → IsSafeOf before bytes text
         → IsSafeOf (before ++ bytes) more rest

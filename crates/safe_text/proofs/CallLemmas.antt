@@ -56,7 +56,7 @@ scalars-lawful true (csi_dispatch gs is ig f ∷ calls) lawful = absurd lawful
 scalars-lawful true (esc_dispatch is ig f ∷ calls) lawful = absurd lawful
 
 -- which are below 110000
-scalar-below : (c : ℕ) → IsScalar c → c < 0x1000000
+pub scalar-below : (c : ℕ) → IsScalar c → c < 0x1000000
 scalar-below c is = ⊎_elim (λ h. omega (arith, h)) (λ h. omega (arith, h.1)) (scalar_cases c is)
 
 pub all-below : (cs : List ℕ) → AllByRecursion IsScalar cs → AllByRecursion (λ c. c < 0x1000000) cs

@@ -5,6 +5,9 @@ pub mod VisibleLemmas
 pub mod WriterLemmas
 pub mod PlainLemmas
 pub mod WholeLemmas
+pub mod MarkLemmas
 pub mod ReadLemmas
 pub mod CallLemmas
+pub mod MarkedLemmas
 pub mod PieceLemmas
+pub mod HiddenLemmas

@@ -1,14 +1,16 @@
 -- What is decided and what is written at the end are the safe text; and what it holds.
-use Rattle.std.proofs.Common.{◌≡◌, ℕ, ◌*◌, ◌≤◌, Bool, true, false, eqb-true, List, [], ◌∷◌, ◌++◌, length, refl, sym, ap, ◌∙◌, subst, arith, append_assoc, length-append, IsTrue}
+use Rattle.std.proofs.Common.{◌≡◌, ℕ, ◌*◌, ◌≤◌, Bool, true, false, eqb-true, List, [], ◌∷◌, ◌++◌, length, refl, sym, ap, ◌∙◌, subst, ◌⊎◌, inl, ⊎_elim, arith, append_assoc, length-append, IsTrue}
 use Rattle.std.specs.Prelude.{not, ◌==◌, ◌&&◌, ◌||◌, encode_utf8, if◌then◌else◌}
 use Rattle.std.specs.List.{AllByRecursion}
 use Rattle.std.specs.Char.{IsScalar}
 use Rattle.std.specs.Str.{encode_utf8_all, all_scalars, IsUtf8, chars}
+use Rattle.std.proofs.lemmas.Bool.{or_cases}
 use Rattle.std.proofs.lemmas.Str.{encodes-append, chars-encodes, length-encode, len_utf8_bounds}
 use Rattle.safe_text.specs.Classes.{is_among, is_shown, is_joiner, stays, is_of_safe_text}
-use Rattle.safe_text.specs.Safe.{visible, next_of, begins_mark, is_line_end, is_of_line_end, is_safe, written_as, written, last_written, safe_from, AreSafeFrom}
+use Rattle.safe_text.specs.Safe.{hides, shows, visible, next_of, begins_mark, is_line_end, is_of_line_end, is_safe, written_as, written, last_written, safe_from, AreSafeFrom}
 use Rattle.safe_text.specs.Decided.{is_decided, decided_from, waiting, last_from, undecided_from}
-use Rattle.safe_text.specs.TakingProof.{stays-none}
+use Rattle.safe_text.specs.Marks.{is_mark}
+use Rattle.safe_text.specs.TakingProof.{written-more, last_written-more, stays-none}
 use Rattle.safe_text.proofs.WriterLemmas.{written-line_end, written-safe}
 use Rattle.safe_text.proofs.VisibleLemmas.{visible-class, visible-scalar, encode-visible, length-visible}
 
@@ -25,6 +27,27 @@ whole-from before (c ∷ cs) = by (whole-from (last_written before c cs) cs) (is
 
 pub whole-encoded : (before : ℕ) (cs : List ℕ) → encode_utf8_all (decided_from before cs) ++ encode_utf8_all (undecided_from before cs) ≡ encode_utf8_all (safe_from before cs)
 whole-encoded before cs = sym (encodes-append (decided_from before cs) (undecided_from before cs)) ∙ ap encode_utf8_all (whole-from before cs)
+
+-- what is decided of characters, and then the rest of their safe text with that of others
+pub decided-then-safe : (before : ℕ) (cs more : List ℕ) → decided_from before cs ++ safe_from (last_from before cs) (waiting cs ++ more) ≡ safe_from before (cs ++ more)
+decided-then-safe before [] more = refl
+decided-then-safe before (c ∷ cs) more = by (decided-then-safe (last_written before c cs) cs more) (is_decided c cs) refl
+  where
+    by : decided_from (last_written before c cs) cs ++ safe_from (last_from (last_written before c cs) cs) (waiting cs ++ more) ≡ safe_from (last_written before c cs) (cs ++ more)
+        → (t : Bool) → is_decided c cs ≡ t
+        → (if t then written before c cs ++ decided_from (last_written before c cs) cs else [])
+        ++ safe_from (if t then last_from (last_written before c cs) cs else before) ((if t then waiting cs else c ∷ cs) ++ more)
+        ≡ safe_from before (c ∷ (cs ++ more))
+    by rest true is =
+        rw (written-more before c cs more is, last_written-more before c cs more is)
+        (append_assoc (written before c cs) (decided_from (last_written before c cs) cs) (safe_from (last_from (last_written before c cs) cs) (waiting cs ++ more))
+        ∙ ap (λ l. written before c cs ++ l) rest)
+    by rest false is = refl
+
+pub encoded-then-safe : (before : ℕ) (cs more : List ℕ)
+    → encode_utf8_all (decided_from before cs) ++ encode_utf8_all (safe_from (last_from before cs) (waiting cs ++ more)) ≡ encode_utf8_all (safe_from before (cs ++ more))
+encoded-then-safe before cs more =
+    sym (encodes-append (decided_from before cs) (safe_from (last_from before cs) (waiting cs ++ more))) ∙ ap encode_utf8_all (decided-then-safe before cs more)
 
 -- what holds of a line feed, of what is written visibly, and of each character that is left, holds of all
 pub all-append : (P : ℕ → Type 0) (xs ys : List ℕ) → AllByRecursion P xs → AllByRecursion P ys → AllByRecursion P (xs ++ ys)
@@ -77,12 +100,40 @@ pub all-scalars : (cs : List ℕ) → AllByRecursion IsScalar cs → all_scalars
 all-scalars [] are = refl
 all-scalars (c ∷ cs) are = rw (are.0, all-scalars cs are.1) refl
 
+-- A mark is none, but it is never left as it is.
+abbrev pub IsItem : ℕ → Type 0
+IsItem c = IsScalar c ⊎ (is_mark c ≡ true)
+
+mark-unsafe : (before : ℕ) (after : List ℕ) → (is_safe before hides after ≡ false) × (is_safe before shows after ≡ false)
+unfolding is_shown is_among stays
+mark-unsafe before after = (refl, refl)
+
+left-scalar : (before c : ℕ) (after : List ℕ) → IsItem c → is_safe before c after ≡ true → IsScalar c
+left-scalar before c after item safe =
+    let unsafe = mark-unsafe before after in
+    let at : (k : ℕ) → is_safe before k after ≡ false → (c == k) ≡ true → IsScalar c =
+    λ k none same. absurd (cc (sym safe ∙ subst (λ n. is_safe before n after ≡ false) (sym (eqb-true c k same)) none)) in
+    ⊎_elim (λ scalar. scalar) (λ is. ⊎_elim (at hides unsafe.0) (at shows unsafe.1) (or_cases (c == hides) (c == shows) is)) item
+
+pub items-scalars : (before : ℕ) (cs : List ℕ) → AllByRecursion IsItem cs → all_scalars (safe_from before cs) ≡ true
+items-scalars before cs are =
+    all-scalars (safe_from before cs) (safe-all IsScalar IsItem refl visible-scalar left-scalar before cs are)
+
+pub all-items : (cs : List ℕ) → AllByRecursion IsScalar cs → AllByRecursion IsItem cs
+all-items [] are = tt
+all-items (c ∷ cs) are = (inl are.0, all-items cs are.1)
+
 pub safe-scalars : (before : ℕ) (cs : List ℕ) → AllByRecursion IsScalar cs → all_scalars (safe_from before cs) ≡ true
-safe-scalars before cs are =
-    all-scalars (safe_from before cs) (safe-all IsScalar IsScalar refl visible-scalar (λ before c after scalar _. scalar) before cs are)
+safe-scalars before cs are = items-scalars before cs (all-items cs are)
+
+pub items-chars : (before : ℕ) (cs : List ℕ) → AllByRecursion IsItem cs → chars (encode_utf8_all (safe_from before cs)) ≡ safe_from before cs
+items-chars before cs are = chars-encodes (safe_from before cs) (items-scalars before cs are)
 
 pub safe-chars : (before : ℕ) (cs : List ℕ) → AllByRecursion IsScalar cs → chars (encode_utf8_all (safe_from before cs)) ≡ safe_from before cs
 safe-chars before cs are = chars-encodes (safe_from before cs) (safe-scalars before cs are)
+
+pub items-utf8 : (before : ℕ) (cs : List ℕ) → AllByRecursion IsItem cs → IsUtf8 (encode_utf8_all (safe_from before cs))
+items-utf8 before cs are = (safe_from before cs, (items-scalars before cs are, refl))
 
 pub safe-utf8 : (before : ℕ) (cs : List ℕ) → AllByRecursion IsScalar cs → IsUtf8 (encode_utf8_all (safe_from before cs))
 safe-utf8 before cs are = (safe_from before cs, (safe-scalars before cs are, refl))

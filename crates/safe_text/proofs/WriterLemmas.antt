@@ -10,9 +10,10 @@ use Rattle.anstyle_parse.proofs.Written.Output.{Adds-nil, Adds-append}
 use Rattle.safe_text.specs.declared.held.Held.{Held}
 use Rattle.safe_text.specs.declared.held.Held.TheVariants.{Nothing, Return, Less, LessU, Space, NonJoiner, Joiner, TextSelector, EmojiSelector}
 use Rattle.safe_text.specs.declared.performer.SafeWriter.{SafeWriter}
-use Rattle.safe_text.specs.Classes.{is_among, is_shown, is_joiner, stays}
+use Rattle.safe_text.specs.Classes.{is_among, is_shown, is_joiner, space_stays, non_joiner_stays, joiner_stays, selector_stays, stays}
 use Rattle.safe_text.specs.Safe.{visible, next_of, is_line_end, is_of_line_end, is_safe, written, last_written, safe_from}
 use Rattle.safe_text.specs.Decided.{waits, is_decided, decided_from, waiting, last_from, undecided_from, written_before, last_before}
+use Rattle.safe_text.specs.Marks.{mark_of}
 use Rattle.safe_text.specs.Held.{held_characters, goes_on}
 use Rattle.safe_text.specs.TakingProof.{safe-by, waits-parts, held-waits}
 use Rattle.safe_text.specs.Writer.{output_of, before_in, held_in, ending_from, Takes, Releases}
@@ -265,6 +266,50 @@ module _ {W : Type 0} (sink : SinkOf W) where
         before = second.before ∙ (ap₂ last_from first.before there ∙ sym at.1);
         held = second.held ∙ (ap waiting there ∙ sym at.2);
       }
+
+-- a mark comes as no character would that a joiner, a carriage return or `<U` stays before
+as-none : (held : Held) (before : ℕ) (hidden : Bool)
+    → (written_before before (held_characters held) (mark_of hidden ∷ []) ≡ written_before before (held_characters held) (0 ∷ []))
+    × (last_before before (held_characters held) (mark_of hidden ∷ []) ≡ last_before before (held_characters held) (0 ∷ []))
+    × (goes_on held (mark_of hidden) ≡ false)
+unfolding written last_written is_shown is_among stays space_stays non_joiner_stays joiner_stays selector_stays
+as-none Nothing before hidden = (refl, refl, refl)
+as-none Return before true = (refl, refl, refl)
+as-none Return before false = (refl, refl, refl)
+as-none Less before true = (refl, refl, refl)
+as-none Less before false = (refl, refl, refl)
+as-none LessU before true = (refl, refl, refl)
+as-none LessU before false = (refl, refl, refl)
+as-none Space before true = (refl, refl, refl)
+as-none Space before false = (refl, refl, refl)
+as-none NonJoiner before true = (refl, refl, refl)
+as-none NonJoiner before false = (refl, refl, refl)
+as-none Joiner before true = (refl, refl, refl)
+as-none Joiner before false = (refl, refl, refl)
+as-none TextSelector before true = (refl, refl, refl)
+as-none TextSelector before false = (refl, refl, refl)
+as-none EmojiSelector before true = (refl, refl, refl)
+as-none EmojiSelector before false = (refl, refl, refl)
+
+-- a mark waits for nothing, ends no line and does not show
+mark-parts : (hidden : Bool) → (waits (mark_of hidden) ≡ false) × (is_line_end (mark_of hidden) ≡ false) × (is_shown (mark_of hidden) ≡ false)
+unfolding is_shown is_among is_joiner
+mark-parts true = (refl, refl, refl)
+mark-parts false = (refl, refl, refl)
+
+pub mark-taken : {W : Type 0} (sink : SinkOf W) (old middle new : SafeWriter W) (hidden : Bool) → Releases sink old (0 ∷ []) middle
+    → held_in new ≡ held_in middle → before_in new ≡ 0x3E → Adds sink (visible (mark_of hidden)) (output_of middle) (output_of new) → Takes sink old (mark_of hidden ∷ []) new
+mark-taken sink old middle new hidden released held before added =
+    let same = as-none old.held (before_in old) hidden in
+    let parts = mark-parts hidden in
+    let then_released : Releases sink old (mark_of hidden ∷ []) middle =
+    record {
+      added = subst (λ l. Adds sink (encode_utf8_all l) (output_of old) (output_of middle)) (sym same.0) released.added;
+      before = released.before ∙ sym same.1;
+      held = released.held;
+    } in
+    released-taken sink old middle new (mark_of hidden) same.2 then_released
+    (hidden-taken sink middle new (mark_of hidden) released.held parts.0 parts.1 parts.2 held before added)
 
 -- at the end no more comes, and what waits is written
 ending-held : (held : Held) (before : ℕ) → written_before before (held_characters held) (0 ∷ []) ≡ safe_from before (held_characters held)

@@ -3,7 +3,10 @@ pub mod Classes
 pub mod Safe
 pub mod Reading
 pub mod Decided
+pub mod Marks
 pub mod Held
 pub mod Plain
 pub mod Writer
 pub mod TakingProof
+pub mod MarkingWriter
+pub mod MarkingProof

@@ -1,6 +1,6 @@
 -- Reading safe text: which characters it names.
 use Rattle.std.specs.Prelude.{ℕ, ◌+◌, ◌-◌, ◌*◌, Bool, true, false, ◌&&◌, ◌==◌, nat_lt, not, List, [], ◌∷◌, ◌++◌, if◌then◌else◌}
-use Rattle.safe_text.specs.Safe.{begins_mark, rest_of, is_line_end, is_of_line_end}
+use Rattle.safe_text.specs.Safe.{hides, shows, next_of, begins_mark, rest_of, is_line_end, is_of_line_end}
 
 -- the value of a digit of base 16
 unfoldable pub hex_value : ℕ → ℕ
@@ -11,13 +11,18 @@ abbrev pub number_from : (n : ℕ) → List ℕ → ℕ
 number_from n [] = n
 number_from n (c ∷ cs) = if c == 0x3E then n else number_from (n * 16 + hex_value c) cs
 
--- The characters of a text, where `<U+`, digits and `>` are the one with that number: in the midst of such a one up
--- to its `>` nothing more.
+-- what a name says: a mark, by the first letter of `hidden` or `shown`, or the character with a number
+abbrev pub named : List ℕ → ℕ
+named cs =
+    if next_of cs == 0x68 then hides else if next_of cs == 0x73 then shows else number_from 0 cs
+
+-- The characters and the marks of a text, where `<U+`, a name and `>` are the one with that name: in the midst of such a
+-- one up to its `>` nothing more.
 abbrev pub read_from : (within : Bool) → List ℕ → List ℕ
 read_from within [] = []
 read_from true (c ∷ cs) = read_from (not (c == 0x3E)) cs
 read_from false (c ∷ cs) =
-    if c == 0x3C && begins_mark cs then number_from 0 (rest_of (rest_of cs)) ∷ read_from true cs
+    if c == 0x3C && begins_mark cs then named (rest_of (rest_of cs)) ∷ read_from true cs
     else c ∷ read_from false cs
 
 abbrev pub read_back : List ℕ → List ℕ

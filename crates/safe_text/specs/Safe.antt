@@ -1,7 +1,7 @@
 -- Safe text: the characters of a stream, each as it is or written visibly.
 use Rattle.std.specs.List.{flat_map}
 use Rattle.std.specs.Str.{chars, encode_utf8_all}
-use Rattle.std.specs.Prelude.{ℕ, ◌+◌, ◌/◌, ◌%◌, Bool, true, false, ◌&&◌, ◌||◌, ◌==◌, nat_lt, not, List, [], ◌∷◌, ◌++◌, ⊤, IsTrue, if◌then◌else◌}
+use Rattle.std.specs.Prelude.{ℕ, ◌+◌, ◌/◌, ◌%◌, Bool, true, false, ◌&&◌, ◌||◌, ◌==◌, nat_lt, not, List, [], ◌∷◌, ◌++◌, ⊤, IsTrue, if◌then◌else◌, codes}
 use Rattle.anstyle_parse.specs.Stream.Call.{Call, print, execute}
 use Rattle.safe_text.specs.Classes.{is_shown, stays}
 
@@ -29,9 +29,21 @@ hex_digits n =
     else if nat_lt n 0x100000 then hex_digit (n / 0x10000 % 16) ∷ low_digits n
     else hex_digit (n / 0x100000 % 16) ∷ hex_digit (n / 0x10000 % 16) ∷ low_digits n
 
--- A character that is written visibly, as `less` does: `<U+`, its number, `>`.
+-- Two marks may stand among characters, as numbers past the last one: here text begins that is hidden, and here it ends
+-- (specs/Marks.antt).
+abbrev pub hides : ℕ
+hides = 0x110000
+
+abbrev pub shows : ℕ
+shows = 0x110001
+
+-- what names a character, its number, or a mark: `hidden` or `shown`
+abbrev pub name_of : ℕ → List ℕ
+name_of c = if c == hides then codes "hidden" else if c == shows then codes "shown" else hex_digits c
+
+-- What is written visibly, a character as `less` does: `<U+`, its name, `>`.
 unfoldable pub visible : ℕ → List ℕ
-visible c = 0x3C ∷ 0x55 ∷ 0x2B ∷ (hex_digits c ++ 0x3E ∷ [])
+visible c = 0x3C ∷ 0x55 ∷ 0x2B ∷ (name_of c ++ 0x3E ∷ [])
 
 -- what comes first, or 0, and what comes after it
 abbrev pub next_of : List ℕ → ℕ

@@ -1,5 +1,5 @@
 //! Writes a stream as text that is safe to show: without its escapes, and without characters that hide text or
-//! turn its order round. What shows nothing is written visibly, as `<U+202E>`.
+//! turn its order round. What shows nothing is written visibly, as `<U+202E>`, and text that is drawn hidden is marked.
 //!
 //! ```
 //! let mut reader = FromRead::new(log);
@@ -10,17 +10,19 @@
 
 ghost use Rattle.std.specs.Prelude.{OnOk};
 ghost use Rattle.anstyle_parse.specs.Io.Run.{RunsToEnding};
-ghost use Rattle.safe_text.specs.Decided.{decided, undecided};
+ghost use Rattle.safe_text.specs.Marks.{decided_marked, undecided_marked};
 
 mod classes;
 mod held;
 pub mod laws;
+mod marking;
 mod performer;
 mod plain;
 
 use anstyle_parse::canon::{Fault, Sink, Source, write_calls};
 pub use classes::is_shown;
 pub use held::Held;
+pub use marking::MarkingWriter;
 pub use performer::{SafeWriter, Standing};
 
 /// Writes the safe text of all bytes that the reader gives: of their calls, each character that is printed and each
@@ -33,6 +35,7 @@ pub use performer::{SafeWriter, Standing};
 ///   (`specs/Classes.antt`).
 /// - Each other one is written visibly, as `less` does: `<U+`, its number in base 16, `>`. So is the `<` of a
 ///   `<U+` that stands in the stream.
+/// - Between `<U+hidden>` and `<U+shown>` stands text that Select Graphic Rendition hides (`specs/Marks.antt`).
 ///
 /// The bytes are read in pieces of at most 4096; no memory is taken. The writer is always
 /// handed back. The answer is
@@ -45,13 +48,14 @@ pub use performer::{SafeWriter, Standing};
 ///   read or written after the fault.
 ///
 /// What is decided as characters come and what waits for the next one are the safe text ([`laws::whole`]). Each
-/// character of it is of the class ([`laws::of_the_class`]), it names the characters of the stream
-/// ([`laws::read_back`]), and safe text is left as it is ([`laws::safe_stays`]).
+/// character of it is of the class ([`laws::of_the_class`]), it names the characters of the stream and the marks
+/// ([`laws::read_back`], [`laws::marks`]), and safe text is left as it is ([`laws::safe_stays`]).
 pub fn write_safe<R: Source, W: Sink>(reader: &mut R, writer: W) -> (W, Result<(), Fault>)
-    ensures runs { RunsToEnding R.Source W.Sink decided undecided reader.old reader.new writer result.0 result.1 }
+    ensures runs { RunsToEnding R.Source W.Sink decided_marked undecided_marked
+        reader.old reader.new writer result.0 result.1 }
 
     // With Ok nothing of it is held back.
     ensures handed_on { OnOk result.1 (W.holds_nothing result.0) }
 {
-    write_calls::<SafeWriter<W>, R, W>(reader, writer)
+    write_calls::<MarkingWriter<W>, R, W>(reader, writer)
 }

@@ -5,6 +5,7 @@ ghost use Rattle.anstyle_parse.specs.Stream.Items.{EachIs};
 ghost use Rattle.safe_text.specs.Classes.{is_joiner};
 ghost use Rattle.safe_text.specs.Safe.{hex_digit, visible, is_line_end};
 ghost use Rattle.safe_text.specs.Decided.{waits, decided, undecided};
+ghost use Rattle.safe_text.specs.Marks.{mark_of};
 ghost use Rattle.safe_text.specs.Plain.{is_plain};
 
 use crate::classes::{is_shown, stays};
@@ -82,6 +83,14 @@ fn put_visible<W: Sink>(output: &mut Output<W>, c: char)
             b'<', b'U', b'+', sixth, fifth, high, third, second, low, b'>',
         ]);
     }
+}
+
+/// A mark, as it is written.
+#[tactic(auto, unfolding(crate::specs::Safe::visible))]
+fn mark_text(hidden: bool) -> &'static [u8]
+    ensures { result.now ≡ visible (mark_of hidden) }
+{
+    if hidden { b"<U+hidden>" } else { b"<U+shown>" }
 }
 
 impl<W: Sink> SafeWriter<W> {
@@ -252,6 +261,16 @@ impl<W: Sink> SafeWriter<W> {
             self.release(c);
             self.begin(c);
         }
+    }
+
+    /// Takes a mark: text begins that is hidden, or that is not.
+    #[inline(never)]
+    pub fn mark(&mut self, hidden: bool)
+        ensures { Takes W.Sink self.old (mark_of hidden ∷ []) self.new }
+    {
+        self.release(NONE);
+        self.output.put(mark_text(hidden));
+        self.before = '>';
     }
 
     /// Takes plain text, where nothing waits: it is written at once.

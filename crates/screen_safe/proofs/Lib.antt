@@ -1,3 +1,4 @@
 pub mod TakenLemmas
 pub mod RowLemmas
 pub mod ScalarLemmas
+pub mod MarkedLemmas

@@ -14,41 +14,21 @@ use Rattle.ansi_screen.specs.After.{State, after, after_all}
 use Rattle.ansi_screen.specs.Cells.{is_right}
 use Rattle.ansi_screen.specs.Leaving.{all_left, rows_left}
 use Rattle.ansi_screen.specs.Text.{cell_text, marks_text, is_unprinted, goes_on, used}
-use Rattle.safe_text.specs.Safe.{written, last_written, safe_from}
-use Rattle.safe_text.specs.Decided.{is_decided, decided_from, waiting, last_from}
-use Rattle.safe_text.specs.TakingProof.{written-more, last_written-more, decided_from-append, waiting-append, last_from-append}
+use Rattle.safe_text.specs.Safe.{safe_from}
+use Rattle.safe_text.specs.Decided.{decided_from, waiting, last_from}
+use Rattle.safe_text.specs.TakingProof.{decided_from-append, waiting-append, last_from-append}
+use Rattle.safe_text.proofs.WholeLemmas.{encoded-then-safe}
 use Rattle.screen_text.specs.declared.performer.ShownWriter.{ShownWriter}
 use Rattle.screen_text.specs.Lines.{row_text, rows_text, open_after, closing, showing}
 use Rattle.screen_text.specs.Rows.{Handed, leaving, commands, all_handed, rows_from, after_rows, last_rows_from}
 use Rattle.screen_text.specs.Shown.{given_all, shown_text}
 use Rattle.screen_text.specs.Writer.{rows_of, screen_of, text_from, ending_from}
-use Rattle.screen_safe.specs.Characters.{marks_of, cell_characters, row_characters, rows_characters}
-use Rattle.screen_safe.specs.Shown.{left_characters, ending_characters, shown_characters, safe_left, safe_ending, safe_shown}
+use Rattle.screen_safe.specs.Characters.{marks_of, cell_characters, row_characters, rows_characters, row_marked, rows_marked}
+use Rattle.screen_safe.specs.Shown.{shown_characters, left_marked, ending_marked, safe_left, safe_ending, safe_shown}
 use Rattle.screen_safe.specs.Writer.{Between, standing_after, row_safe, after_row, after_command, closing_safe}
 
--- what is decided of characters, and then the rest of their safe text with that of others
-decided-then-safe : (before : ℕ) (cs more : List ℕ) → decided_from before cs ++ safe_from (last_from before cs) (waiting cs ++ more) ≡ safe_from before (cs ++ more)
-decided-then-safe before [] more = refl
-decided-then-safe before (c ∷ cs) more = by (decided-then-safe (last_written before c cs) cs more) (is_decided c cs) refl
-  where
-    by : decided_from (last_written before c cs) cs ++ safe_from (last_from (last_written before c cs) cs) (waiting cs ++ more) ≡ safe_from (last_written before c cs) (cs ++ more)
-        → (t : Bool) → is_decided c cs ≡ t
-        → (if t then written before c cs ++ decided_from (last_written before c cs) cs else [])
-        ++ safe_from (if t then last_from (last_written before c cs) cs else before) ((if t then waiting cs else c ∷ cs) ++ more)
-        ≡ safe_from before (c ∷ (cs ++ more))
-    by rest true is =
-        rw (written-more before c cs more is, last_written-more before c cs more is)
-        (append_assoc (written before c cs) (decided_from (last_written before c cs) cs) (safe_from (last_from (last_written before c cs) cs) (waiting cs ++ more))
-        ∙ ap (λ l. written before c cs ++ l) rest)
-    by rest false is = refl
-
-encoded-then-safe : (before : ℕ) (cs more : List ℕ)
-    → encode_utf8_all (decided_from before cs) ++ encode_utf8_all (safe_from (last_from before cs) (waiting cs ++ more)) ≡ encode_utf8_all (safe_from before (cs ++ more))
-encoded-then-safe before cs more =
-    sym (encodes-append (decided_from before cs) (safe_from (last_from before cs) (waiting cs ++ more))) ∙ ap encode_utf8_all (decided-then-safe before cs more)
-
 pub safe-joined : (s : State) (calls : List Call) → safe_left s calls ++ safe_ending s calls ≡ safe_shown s calls
-safe-joined s calls = encoded-then-safe 0 (left_characters s calls) (ending_characters s calls)
+safe-joined s calls = encoded-then-safe 0 (left_marked s calls) (ending_marked s calls)
 
 -- the text of all characters so far
 abbrev so_far : List ℕ → List ℕ
@@ -66,27 +46,27 @@ stands cs more on =
 
 rows-safe : (cs : List ℕ) (on : Bool) (rows : List (List Cell)) (others : List Handed)
     → so_far cs ++ rows_from row_safe after_row after_command (standing_after cs on) (map leaving rows ++ others)
-    ≡ so_far (cs ++ rows_characters rows) ++ rows_from row_safe after_row after_command (standing_after (cs ++ rows_characters rows) (open_after on rows)) others
+    ≡ so_far (cs ++ rows_marked rows) ++ rows_from row_safe after_row after_command (standing_after (cs ++ rows_marked rows) (open_after on rows)) others
 rows-safe cs on [] others =
     ap (λ l. so_far l ++ rows_from row_safe after_row after_command (standing_after l on) others) (sym (append-nil cs))
 rows-safe cs on (row ∷ rows) others =
-    let one : List ℕ = row_characters row in
+    let one : List ℕ = row_marked row in
     let text : List ℕ = row_safe (standing_after cs on) row in
     let rest : Between → List ℕ = λ at. rows_from row_safe after_row after_command at (map leaving rows ++ others) in
     sym (append_assoc (so_far cs) text (rest (after_row (standing_after cs on) row)))
     ∙ ap₂ (λ l at. l ++ rest at) (grown cs one) (stands cs one (goes_on row))
     ∙ rows-safe (cs ++ one) (goes_on row) rows others
-    ∙ ap (λ l. so_far l ++ rows_from row_safe after_row after_command (standing_after l (open_after (goes_on row) rows)) others) (append_assoc cs one (rows_characters rows))
+    ∙ ap (λ l. so_far l ++ rows_from row_safe after_row after_command (standing_after l (open_after (goes_on row) rows)) others) (append_assoc cs one (rows_marked rows))
 
 rows-stand : (cs : List ℕ) (on : Bool) (rows : List (List Cell)) (others : List Handed)
     → after_rows after_row after_command (standing_after cs on) (map leaving rows ++ others)
-    ≡ after_rows after_row after_command (standing_after (cs ++ rows_characters rows) (open_after on rows)) others
+    ≡ after_rows after_row after_command (standing_after (cs ++ rows_marked rows) (open_after on rows)) others
 rows-stand cs on [] others = ap (λ l. after_rows after_row after_command (standing_after l on) others) (sym (append-nil cs))
 rows-stand cs on (row ∷ rows) others =
-    let one : List ℕ = row_characters row in
+    let one : List ℕ = row_marked row in
     ap (λ at. after_rows after_row after_command at (map leaving rows ++ others)) (stands cs one (goes_on row))
     ∙ rows-stand (cs ++ one) (goes_on row) rows others
-    ∙ ap (λ l. after_rows after_row after_command (standing_after l (open_after (goes_on row) rows)) others) (append_assoc cs one (rows_characters rows))
+    ∙ ap (λ l. after_rows after_row after_command (standing_after l (open_after (goes_on row) rows)) others) (append_assoc cs one (rows_marked rows))
 
 -- commands are no text
 commands_text : (call : Call) (s : State) (at : Between) (others : List Handed)
@@ -116,46 +96,46 @@ open_after-append on [] more = refl
 open_after-append on (row ∷ rows) more = open_after-append (goes_on row) rows more
 
 -- the rows that leave by calls
-later-characters : (cs : List ℕ) (rows more : List (List Cell)) → (cs ++ rows_characters rows) ++ rows_characters more ≡ cs ++ rows_characters (rows ++ more)
-later-characters cs rows more =
-    append_assoc cs (rows_characters rows) (rows_characters more) ∙ ap (λ l. cs ++ l) (sym (flat_map-append row_characters rows more))
+later-marked : (cs : List ℕ) (rows more : List (List Cell)) → (cs ++ rows_marked rows) ++ rows_marked more ≡ cs ++ rows_marked (rows ++ more)
+later-marked cs rows more =
+    append_assoc cs (rows_marked rows) (rows_marked more) ∙ ap (λ l. cs ++ l) (sym (flat_map-append row_marked rows more))
 
 handed-safe : (calls : List Call) (s : State) (cs : List ℕ) (on : Bool)
-    → so_far cs ++ rows_from row_safe after_row after_command (standing_after cs on) (all_handed calls s) ≡ so_far (cs ++ rows_characters (all_left calls s))
+    → so_far cs ++ rows_from row_safe after_row after_command (standing_after cs on) (all_handed calls s) ≡ so_far (cs ++ rows_marked (all_left calls s))
 handed-safe [] s cs on = append-nil (so_far cs) ∙ ap so_far (sym (append-nil cs))
 handed-safe (call ∷ calls) s cs on =
     let rows = rows_left call s.display in
     let later = all_handed calls (after call s) in
-    let reached = cs ++ rows_characters rows in
+    let reached = cs ++ rows_marked rows in
     ap (λ l. so_far cs ++ rows_from row_safe after_row after_command (standing_after cs on) l) (append_assoc (map leaving rows) (commands call s) later)
     ∙ rows-safe cs on rows (commands call s ++ later)
     ∙ ap (λ l. so_far reached ++ l) (commands_text call s (standing_after reached (open_after on rows)) later)
     ∙ handed-safe calls (after call s) reached (open_after on rows)
-    ∙ ap so_far (later-characters cs rows (all_left calls (after call s)))
+    ∙ ap so_far (later-marked cs rows (all_left calls (after call s)))
 
 handed-stand : (calls : List Call) (s : State) (cs : List ℕ) (on : Bool)
     → after_rows after_row after_command (standing_after cs on) (all_handed calls s)
-    ≡ standing_after (cs ++ rows_characters (all_left calls s)) (open_after on (all_left calls s))
+    ≡ standing_after (cs ++ rows_marked (all_left calls s)) (open_after on (all_left calls s))
 handed-stand [] s cs on = ap (λ l. standing_after l on) (sym (append-nil cs))
 handed-stand (call ∷ calls) s cs on =
     let rows = rows_left call s.display in
     let later = all_handed calls (after call s) in
-    let reached = cs ++ rows_characters rows in
+    let reached = cs ++ rows_marked rows in
     ap (after_rows after_row after_command (standing_after cs on)) (append_assoc (map leaving rows) (commands call s) later)
     ∙ rows-stand cs on rows (commands call s ++ later)
     ∙ commands_stand call s (standing_after reached (open_after on rows)) later
     ∙ handed-stand calls (after call s) reached (open_after on rows)
-    ∙ ap₂ standing_after (later-characters cs rows (all_left calls (after call s))) (sym (open_after-append on rows (all_left calls (after call s))))
+    ∙ ap₂ standing_after (later-marked cs rows (all_left calls (after call s))) (sym (open_after-append on rows (all_left calls (after call s))))
 
 -- the rows that still show, and the end of the last
 last-safe : (cs : List ℕ) (on : Bool) (rows : List (List Cell))
     → last_rows_from row_safe after_row after_command closing_safe (standing_after cs on) (map leaving rows)
-    ≡ encode_utf8_all (safe_from (last_from 0 cs) (waiting cs ++ (rows_characters rows ++ closing (open_after on rows))))
+    ≡ encode_utf8_all (safe_from (last_from 0 cs) (waiting cs ++ (rows_marked rows ++ closing (open_after on rows))))
 last-safe cs on [] = refl
 last-safe cs on (row ∷ rows) =
-    let one : List ℕ = row_characters row in
+    let one : List ℕ = row_marked row in
     let at : Between = standing_after cs on in
-    let behind : List ℕ = rows_characters rows ++ closing (open_after (goes_on row) rows) in
+    let behind : List ℕ = rows_marked rows ++ closing (open_after (goes_on row) rows) in
     let rest : Between → List ℕ = λ b. last_rows_from row_safe after_row after_command closing_safe b (map leaving rows) in
     append_assoc (row_safe at row) (rows_from row_safe after_row after_command (after_row at row) (map leaving rows))
     (closing_safe (after_rows after_row after_command (after_row at row) (map leaving rows)))
@@ -164,7 +144,7 @@ last-safe cs on (row ∷ rows) =
     ∙ ap₂ (λ b h. row_safe at row ++ encode_utf8_all (safe_from b (h ++ behind))) (last_from-append 0 cs one) (waiting-append cs one)
     ∙ encoded-then-safe (last_from 0 cs) (waiting cs ++ one) behind
     ∙ ap (λ l. encode_utf8_all (safe_from (last_from 0 cs) l))
-    (append_assoc (waiting cs) one behind ∙ ap (λ l. waiting cs ++ l) (sym (append_assoc one (rows_characters rows) (closing (open_after (goes_on row) rows)))))
+    (append_assoc (waiting cs) one behind ∙ ap (λ l. waiting cs ++ l) (sym (append_assoc one (rows_marked rows) (closing (open_after (goes_on row) rows)))))
 
 -- what a new writer writes
 module _ {R : Type 0} (standing_in : R → Between) (s : State) (performer : ShownWriter R) (is : screen_of performer ≡ s)
@@ -180,7 +160,7 @@ module _ {R : Type 0} (standing_in : R → Between) (s : State) (performer : Sho
       (after_rows after_row after_command at (all_handed (given_all calls) x)) (map leaving (showing (after_all (given_all calls) x).display))) new is
       ∙ ap (λ at. last_rows_from row_safe after_row after_command closing_safe at (map leaving (showing (after_all (given_all calls) s).display)))
       (handed-stand (given_all calls) s [] false)
-      ∙ last-safe (left_characters s calls) (open_after false (all_left (given_all calls) s)) (showing (after_all (given_all calls) s).display)
+      ∙ last-safe (left_marked s calls) (open_after false (all_left (given_all calls) s)) (showing (after_all (given_all calls) s).display)
 
 -- The characters are those of the text.
 encoded-marks : (marks : Marks) → encode_utf8_all (marks_of marks) ≡ marks_text marks

@@ -1,6 +1,5 @@
 -- What a writer of safe text has taken: the characters of cells and rows, and the end of the last line.
 use Rattle.std.proofs.Common.{◌≡◌, ℕ, Bool, true, false, List, [], ◌∷◌, ◌++◌, take, refl, sym, ap, ap₂, ◌∙◌, subst, append-nil}
-use Rattle.std.specs.List.{flat_map}
 use Rattle.std.specs.Str.{encode_utf8_all}
 use Rattle.anstyle_parse.specs.declared.io.devices.Sink.{Ghosts as SinkOf}
 use Rattle.anstyle_parse.specs.declared.io.output.Output.{Output}
@@ -16,7 +15,7 @@ use Rattle.safe_text.specs.Writer.{output_of, before_in, held_in, text_by, endin
 use Rattle.safe_text.specs.TakingProof.{held-waits, Takes-none, Takes-append}
 use Rattle.safe_text.proofs.WholeLemmas.{whole-encoded}
 use Rattle.screen_text.specs.Lines.{closing}
-use Rattle.screen_safe.specs.Characters.{marks_of, cell_characters, row_characters}
+use Rattle.screen_safe.specs.Characters.{marks_of, cell_characters, cells_marked, row_marked}
 
 -- a right half has no characters, and any other cell its own and its marks
 pub characters-right : (cell : Cell) → is_right cell.part ≡ true → cell_characters cell ≡ []
@@ -37,18 +36,18 @@ ending-held writer =
 module _ {W : Type 0} (sink : SinkOf W) where
   -- a row's cells, and a line feed
   pub takes-row : (row : List Cell) (count : ℕ) (a b c : SafeWriter W) → count ≡ used is_unprinted row → goes_on row ≡ false
-      → Takes sink a (flat_map cell_characters (take count row)) b → Takes sink b (0x0A ∷ []) c → Takes sink a (row_characters row) c
+      → Takes sink a (cells_marked false (take count row)) b → Takes sink b (0x0A ∷ []) c → Takes sink a (row_marked row) c
   takes-row row count a b c same ends first second =
-      let cells : Takes sink a (flat_map cell_characters (take (used is_unprinted row) row)) b =
-      subst (λ k. Takes sink a (flat_map cell_characters (take k row)) b) same first in
-      rw ends (Takes-append sink a b c (flat_map cell_characters (take (used is_unprinted row) row)) (0x0A ∷ []) cells second)
+      let cells : Takes sink a (cells_marked false (take (used is_unprinted row) row)) b =
+      subst (λ k. Takes sink a (cells_marked false (take k row)) b) same first in
+      rw ends (Takes-append sink a b c (cells_marked false (take (used is_unprinted row) row)) (0x0A ∷ []) cells second)
 
   -- and one that goes on
   pub takes-open-row : (row : List Cell) (count : ℕ) (a b : SafeWriter W) → count ≡ used is_unprinted row → goes_on row ≡ true
-      → Takes sink a (flat_map cell_characters (take count row)) b → Takes sink a (row_characters row) b
+      → Takes sink a (cells_marked false (take count row)) b → Takes sink a (row_marked row) b
   takes-open-row row count a b same on first =
-      let cells : List ℕ = flat_map cell_characters (take (used is_unprinted row) row) in
-      let taken : Takes sink a cells b = subst (λ k. Takes sink a (flat_map cell_characters (take k row)) b) same first in
+      let cells : List ℕ = cells_marked false (take (used is_unprinted row) row) in
+      let taken : Takes sink a cells b = subst (λ k. Takes sink a (cells_marked false (take k row)) b) same first in
       rw on (subst (λ cs. Takes sink a cs b) (sym (append-nil cells)) taken)
 
   -- handing on what the output holds back writes nothing

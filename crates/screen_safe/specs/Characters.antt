@@ -1,11 +1,12 @@
 -- The characters of rows, as `screen_text` writes them in UTF-8.
-use Rattle.std.specs.Prelude.{ℕ, List, [], ◌∷◌, ◌++◌, take, if◌then◌else◌}
+use Rattle.std.specs.Prelude.{ℕ, Bool, false, List, [], ◌∷◌, ◌++◌, take, if◌then◌else◌}
 use Rattle.std.specs.List.{flat_map}
 use Rattle.ansi_screen.specs.declared.cell.Cell.{Cell}
 use Rattle.ansi_screen.specs.declared.cell.Marks.{Marks}
 use Rattle.ansi_screen.specs.declared.cell.Marks.TheVariants.{Unmarked, One, Two}
 use Rattle.ansi_screen.specs.Cells.{is_right}
 use Rattle.ansi_screen.specs.Text.{is_unprinted, goes_on, used}
+use Rattle.safe_text.specs.Marks.{mark_between}
 
 -- the characters of no column that came behind a cell's own
 abbrev pub marks_of : Marks → List ℕ
@@ -24,3 +25,17 @@ row_characters row =
 
 abbrev pub rows_characters : List (List Cell) → List ℕ
 rows_characters rows = flat_map row_characters rows
+
+-- The characters of cells with marks where hidden text begins and ends (`crates/safe_text/specs/Marks.antt`), as the
+-- cells' styles say it; at their end it ends, so that each row has its own marks.
+abbrev pub cells_marked : (on : Bool) → List Cell → List ℕ
+cells_marked on [] = mark_between on false
+cells_marked on (cell ∷ cells) =
+    mark_between on cell.style.hidden ++ (cell_characters cell ++ cells_marked cell.style.hidden cells)
+
+abbrev pub row_marked : List Cell → List ℕ
+row_marked row =
+    cells_marked false (take (used is_unprinted row) row) ++ (if goes_on row then [] else 0x0A ∷ [])
+
+abbrev pub rows_marked : List (List Cell) → List ℕ
+rows_marked rows = flat_map row_marked rows

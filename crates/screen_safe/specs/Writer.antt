@@ -11,7 +11,7 @@ use Rattle.safe_text.specs.Writer.{output_of as safe_output, before_in, held_in}
 use Rattle.screen_text.specs.Lines.{closing}
 use Rattle.screen_text.specs.Rows.{WritesRow, WritesCommand, WritesNothing}
 use Rattle.screen_safe.specs.declared.rows.SafeRows.{SafeRows}
-use Rattle.screen_safe.specs.Characters.{row_characters}
+use Rattle.screen_safe.specs.Characters.{row_marked}
 
 -- Where it stands between two rows: the character that is written last, those that wait for the next one, and whether
 -- a line is open.
@@ -25,12 +25,12 @@ abbrev pub standing_after : List ℕ → Bool → Between
 standing_after cs on = record { before = last_from 0 cs; held = waiting cs; is_open = on }
 
 abbrev pub row_safe : Between → List Cell → List ℕ
-row_safe at row = encode_utf8_all (decided_from at.before (at.held ++ row_characters row))
+row_safe at row = encode_utf8_all (decided_from at.before (at.held ++ row_marked row))
 
 abbrev pub after_row : Between → List Cell → Between
 after_row at row = record {
-  before = last_from at.before (at.held ++ row_characters row);
-  held = waiting (at.held ++ row_characters row);
+  before = last_from at.before (at.held ++ row_marked row);
+  held = waiting (at.held ++ row_marked row);
   is_open = goes_on row;
 }
 

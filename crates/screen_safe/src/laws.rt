@@ -6,9 +6,10 @@ ghost use Rattle.anstyle_parse.specs.Stream.Call.{Call};
 ghost use Rattle.anstyle_parse.specs.Stream.Calls.{AreCalls};
 ghost use Rattle.ansi_screen.specs.After.{State, new_state};
 ghost use Rattle.safe_text.specs.Classes.{is_of_safe_text};
+ghost use Rattle.safe_text.specs.Marks.{without_marks};
 ghost use Rattle.safe_text.specs.Reading.{read_back, with_line_feeds};
 ghost use Rattle.screen_text.specs.Shown.{shown_text};
-ghost use Rattle.screen_safe.specs.Shown.{shown_characters, safe_left, safe_ending, safe_shown};
+ghost use Rattle.screen_safe.specs.Shown.{shown_characters, shown_marked, safe_left, safe_ending, safe_shown};
 
 /// What is written as rows leave, and then at the end, is the safe text of all characters that the screen showed; and
 /// these are the characters of [`screen_text::write_shown`]'s text.
@@ -25,9 +26,13 @@ pub fn of_the_class()
         → AllByRecursion (λ c. IsTrue (is_of_safe_text c)) (chars (safe_shown (new_state columns rows) calls)) }
 {}
 
-/// Nothing is lost unseen: read back, it gives exactly the characters that the screen showed.
+/// Nothing is lost unseen: read back, it gives exactly the characters that the screen showed, with marks where hidden
+/// text begins and ends.
 pub fn read_back()
-    ensures { (columns rows : ℕ) (bytes : List ℕ) (calls : List Call) → AreCalls bytes calls
+    ensures names { (columns rows : ℕ) (bytes : List ℕ) (calls : List Call) → AreCalls bytes calls
         → read_back (chars (safe_shown (new_state columns rows) calls))
-        ≡ with_line_feeds (shown_characters (new_state columns rows) calls) }
+        ≡ with_line_feeds (shown_marked (new_state columns rows) calls) }
+    ensures characters { (columns rows : ℕ) (bytes : List ℕ) (calls : List Call) → AreCalls bytes calls
+        → without_marks (shown_marked (new_state columns rows) calls)
+        ≡ shown_characters (new_state columns rows) calls }
 {}

@@ -1,7 +1,8 @@
 //! Rows as safe text.
-ghost use Rattle.std.specs.List.{flat_map};
+ghost use Rattle.std.specs.Prelude.{false};
+ghost use Rattle.safe_text.specs.Marks.{mark_between};
 ghost use Rattle.safe_text.specs.Writer.{Takes};
-ghost use Rattle.screen_safe.specs.Characters.{marks_of, cell_characters, row_characters};
+ghost use Rattle.screen_safe.specs.Characters.{marks_of, cell_characters, cells_marked, row_marked};
 
 use ansi_screen::{Cell, LeftOut, Marks, TakeCommand, TakeRow, goes_on, used};
 use anstyle_parse::io::{CallWriter, Output, Sink, WritingPerformer};
@@ -32,21 +33,35 @@ fn take_cell<W: Sink>(writer: &mut SafeWriter<W>, cell: Cell)
     }
 }
 
-/// The same of cells, one after another.
-fn take_cells<W: Sink>(writer: &mut SafeWriter<W>, cells: &[Cell])
-    ensures { Takes W.Sink writer.old (flat_map cell_characters cells.now) writer.new }
+/// Marks that text is hidden that comes next, or that it is not, where it was otherwise before.
+#[inline]
+fn take_mark<W: Sink>(writer: &mut SafeWriter<W>, before: bool, hidden: bool)
+    ensures { Takes W.Sink writer.old (mark_between before hidden) writer.new }
 {
+    if hidden != before {
+        writer.mark(hidden);
+    }
+}
+
+/// The same of cells, one after another, with marks where hidden text begins and ends.
+fn take_cells<W: Sink>(writer: &mut SafeWriter<W>, cells: &[Cell])
+    ensures { Takes W.Sink writer.old (cells_marked false cells.now) writer.new }
+{
+    let mut is_hidden = false;
     let mut rest = cells;
     'rest: while let Some((first, further)) = rest.split_first() {
+        take_mark(writer, is_hidden, first.style.hidden);
+        is_hidden = first.style.hidden;
         take_cell(writer, *first);
         rest = further;
     }
+    take_mark(writer, is_hidden, false);
 }
 
 /// The characters of a row, without the cells at its end where nothing was printed; with a line feed, unless it goes
 /// on.
 fn take_characters<W: Sink>(writer: &mut SafeWriter<W>, row: &[Cell])
-    ensures { Takes W.Sink writer.old (row_characters row.now) writer.new }
+    ensures { Takes W.Sink writer.old (row_marked row.now) writer.new }
 {
     let end = used(row, LeftOut::Unprinted);
     take_cells(writer, &row[..end]);

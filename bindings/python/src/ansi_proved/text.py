@@ -98,7 +98,7 @@ def strip(text, *, safe=False):
 
     It drives no terminal: DEL and U+0080 to U+009F, which some terminals take for controls, are left out too. Where it is
     to be safe, it hides nothing, as that of `ansi2text --safe`: what shows nothing, turns the order of text round or is a
-    control is written visibly, as `<U+202E>`.
+    control is written visibly, as `<U+202E>`. But text that a stream hides (SGR 8) is not marked.
     """
     if safe:
         return safe_text(text)

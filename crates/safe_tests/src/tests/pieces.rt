@@ -47,16 +47,18 @@ fn names_of_pieces(rt: HostRuntime) {
     assert_eq!(rt; held.write(b"12345678"), Some(7));
     assert_eq!(rt; held.write(b"9"), None);
     assert_eq!(rt; held.bytes(), b"1234567".as_slice());
-    let mut more = [0; 8];
+    let mut more = [0; 16];
     let standing = Standing {
         before: 'a',
         held: Held::Less,
     };
-    let mut writer = SafeWriter::resume(standing, Output::new(LentBytes::new(8, &mut more)));
+    let mut writer = SafeWriter::resume(standing, Output::new(LentBytes::new(16, &mut more)));
     writer.take('b');
     assert!(rt; writer.standing().before == 'b');
+    writer.mark(true);
+    assert!(rt; writer.standing().before == '>');
     let (held, answer) = writer.suspend().finish();
-    assert_eq!(rt; held.bytes(), b"<b".as_slice());
+    assert_eq!(rt; held.bytes(), b"<b<U+hidden>".as_slice());
     assert_eq!(rt; answer, Ok(()));
     states();
     safe_joined();

@@ -9,7 +9,7 @@ use std::test::Fail;
 use test_streams::Tape;
 
 /// What is read, and what a screen of 9 columns and 3 rows showed of it.
-const ROWS: [(&str, &str); 5] = [
+const ROWS: [(&str, &str); 7] = [
     (" 10%\r 50%\r100%\r\n", "100%\n"),
     ("a\u{202E}b\r\nc\r\nd\r\ne", "a<U+202E>b\nc\nd\ne\n"),
     ("12345678<U+0041>\r\n", "12345678<U+003C>U+0041>\n"),
@@ -17,6 +17,11 @@ const ROWS: [(&str, &str); 5] = [
     (
         "\u{1F468}\u{200D}\u{1F469}a\u{200D}",
         "\u{1F468}\u{200D}\u{1F469}a<U+200D>\n",
+    ),
+    ("a\x1B[8mbc\x1B[md\r\n", "a<U+hidden>bc<U+shown>d\n"),
+    (
+        "\x1B[8m123456789a\x1B[m\r\n",
+        "<U+hidden>123456789<U+shown><U+hidden>a<U+shown>\n",
     ),
 ];
 

@@ -1,7 +1,7 @@
 //! Ranges of characters by properties of Unicode 15.0.0. Written by make_ranges.py.
 
-/// Cc, Zl and Zp; Default_Ignorable_Code_Point; Bidi_Control; U+FFF9 to U+FFFB.
-pub(crate) static HIDDEN: [(u32, u32); 19] = [
+/// Cc, Zl and Zp; Default_Ignorable_Code_Point; Bidi_Control; U+FFF9 to U+FFFB; two marks.
+pub(crate) static HIDDEN: [(u32, u32); 20] = [
     (0x0, 0x1F),
     (0x7F, 0x9F),
     (0xAD, 0xAD),
@@ -21,6 +21,7 @@ pub(crate) static HIDDEN: [(u32, u32); 19] = [
     (0x1BCA0, 0x1BCA3),
     (0x1D173, 0x1D17A),
     (0xE0000, 0xE0FFF),
+    (0x110000, 0x110001),
 ];
 
 /// Extended_Pictographic.

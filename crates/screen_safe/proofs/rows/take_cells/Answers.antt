@@ -1,24 +1,30 @@
--- One cell more; all are those of the slice.
-use Rattle.std.proofs.Common.{List, ℕ, ◌++◌, [], ◌∷◌, refl, ap, sym, ◌∙◌, subst, append_assoc, append-nil}
-use Rattle.std.specs.List.{flat_map}
-use Rattle.std.proofs.lemmas.Grind.{flat_map-append}
+-- One cell more, with a mark before it; and a mark at the end.
+use Rattle.std.proofs.Common.{◌++◌, sym, subst}
+use Rattle.std.proofs.lemmas.List.{nil_from_length}
+use Rattle.safe_text.specs.Marks.{mark_between}
 use Rattle.safe_text.specs.Writer.{Takes}
-use Rattle.safe_text.specs.TakingProof.{Takes-none, Takes-append}
-use Rattle.screen_safe.specs.Characters.{cell_characters}
+use Rattle.safe_text.specs.TakingProof.{Takes-append}
+use Rattle.screen_safe.specs.Characters.{cell_characters, cells_marked}
 use Rattle.screen_safe.proofs.rows.take_cells.Goals as goal
 
 pub rest-init : goal.rest-init
-rest-init g c = ([], refl, Takes-none g.W.Sink c.args.writer.now)
+rest-init g c = λ end taken. taken
 
 pub rest-preserved : goal.rest-preserved
-rest-preserved g c =
-    let (passed, joined, taken) = c.rest.invariant in
+rest-preserved g c = λ end taken.
     let first = c.in-Some.first.now in
     let further = c.in-Some.further.now in
-    let one = append-nil (cell_characters first) in (
-      passed ++ first ∷ [],
-      joined ∙ ap (λ l. passed ++ l) c.in-Some.ensures.cases.0 ∙ sym (append_assoc passed (first ∷ []) further),
-      subst (λ (cs : List ℕ). Takes g.W.Sink c.args.writer.now cs c.take_cell.new.writer) (sym (flat_map-append cell_characters passed (first ∷ [])))
-          (Takes-append g.W.Sink c.args.writer.now c.rest.writer c.take_cell.new.writer (flat_map cell_characters passed) (cell_characters first ++ []) taken
-          (subst (λ (cs : List ℕ). Takes g.W.Sink c.rest.writer cs c.take_cell.new.writer) (sym one) c.take_cell.ensures)),
-    )
+    let is = c.in-Some.ensures.cases.0 in
+    let hidden = first.style.hidden in
+    let mark = mark_between c.rest.is_hidden hidden in
+    let behind = cells_marked hidden further in
+    c.rest.invariant end
+    (subst (λ cells. Takes g.W.Sink c.rest.writer (cells_marked c.rest.is_hidden cells) end) (sym is)
+    (Takes-append g.W.Sink c.rest.writer c.take_mark.new.writer end mark (cell_characters first ++ behind) c.take_mark.ensures
+    (Takes-append g.W.Sink c.take_mark.new.writer c.take_cell.new.writer end (cell_characters first) behind c.take_cell.ensures taken)))
+
+pub returns : goal.returns
+returns g c =
+    let none = nil_from_length c.rest.rest.now c.in_default.ensures.cases in
+    c.rest.invariant c.take_mark-2.new.writer
+    (subst (λ cells. Takes g.W.Sink c.rest.writer (cells_marked c.rest.is_hidden cells) c.take_mark-2.new.writer) (sym none) c.take_mark-2.ensures)

@@ -1,0 +1,161 @@
+-- Marks where hidden text begins and ends, and what a writer with marks does by calls.
+use Rattle.std.proofs.Common.{◌≡◌, ℕ, Bool, true, false, List, [], ◌∷◌, ◌++◌, map, length, eqb-true, refl, sym, ap, ap₂, ◌∙◌, subst, append_assoc, append-nil}
+use Rattle.std.specs.Bool.{beq}
+use Rattle.std.specs.Prelude.{◌==◌, not, if◌then◌else◌}
+use Rattle.std.specs.Str.{encode_utf8_all, chars, IsUtf8}
+use Rattle.std.proofs.lemmas.Str.{chars-encodes}
+use Rattle.anstyle_parse.specs.declared.io.devices.Sink.{Ghosts as SinkOf}
+use Rattle.anstyle_parse.specs.declared.io.output.Output.{Output}
+use Rattle.anstyle_parse.specs.Io.Output.{Adds}
+use Rattle.anstyle_parse.specs.Io.AddingProof.{Adds-append}
+use Rattle.anstyle_parse.specs.Stream.Call.{Call, print, execute}
+use Rattle.anstyle_parse.specs.Stream.Texts.{is_layout, layout_call}
+use Rattle.safe_text.specs.declared.performer.SafeWriter.{SafeWriter}
+use Rattle.safe_text.specs.declared.marking.MarkingWriter.{MarkingWriter}
+use Rattle.safe_text.specs.Safe.{characters_of, characters, safe_from}
+use Rattle.safe_text.specs.Decided.{waiting, last_from, undecided_from}
+use Rattle.safe_text.specs.Marks.{Hiding, nothing_hidden, hidden_after, open_after, hiding_after, mark_of, mark_between, marked_of, marked_from, hiding_from, closing}
+use Rattle.safe_text.specs.Writer.{output_of, before_in, held_in, text_by, ending_from, Takes}
+use Rattle.safe_text.specs.TakingProof.{held-waits, Takes-none, Takes-append}
+use Rattle.safe_text.specs.MarkingWriter.{writer_in, hidden_in, open_in, hiding_in, output_in, ending_from as marked_ending_from, TakesMarked}
+use Rattle.safe_text.proofs.CallLemmas.{characters-prints, characters-layout}
+use Rattle.safe_text.proofs.WholeLemmas.{whole-encoded}
+
+-- what is hidden or not as another
+pub flag-same : (a b : Bool) → not (beq a b) ≡ false → a ≡ b
+flag-same true true same = refl
+flag-same false false same = refl
+flag-same true false same = absurd (cc same)
+flag-same false true same = absurd (cc same)
+
+abbrev pub hiding : Bool → Bool → Hiding
+hiding hidden on = record { is_hidden = hidden; is_open = on }
+
+pub hiding-same : (h i o p : Bool) → h ≡ i → o ≡ p → hiding h o ≡ hiding i p
+hiding-same h i o p hidden on = ap₂ hiding hidden on
+
+-- a mark, or none
+pub between-same : (on : Bool) → mark_between on on ≡ []
+between-same true = refl
+between-same false = refl
+
+pub between-other : (on next : Bool) → (next ≡ on → ⊥) → mark_between on next ≡ mark_of next ∷ []
+between-other true true other = absurd (other refl)
+between-other false false other = absurd (other refl)
+between-other true false other = refl
+between-other false true other = refl
+
+module _ {W : Type 0} (sink : SinkOf W) where
+  -- a mark between what is hidden or not and the same is none
+  pub takes-same : (old new : SafeWriter W) (on next : Bool) → next ≡ on → new ≡ old → Takes sink old (mark_between on next) new
+  takes-same old new on next same stays =
+      rw (same, stays) (subst (λ cs. Takes sink old cs old) (sym (between-same on)) (Takes-none sink old))
+
+  pub takes-other : (old new : SafeWriter W) (on next : Bool) → (next ≡ on → ⊥) → Takes sink old (mark_of next ∷ []) new → Takes sink old (mark_between on next) new
+  takes-other old new on next other taken = subst (λ cs. Takes sink old cs new) (sym (between-other on next other)) taken
+
+  -- one call: its mark, and its character
+  pub one-marked : (old new : MarkingWriter W) (between : SafeWriter W) (call : Call)
+      → Takes sink (writer_in old) (mark_between (open_in old) (open_after call (hiding_in old))) between → Takes sink between (characters_of call) (writer_in new)
+      → hiding_in new ≡ hiding_after call (hiding_in old) → TakesMarked sink old (call ∷ []) new
+  one-marked old new between call first second hiding =
+      let at : Hiding = hiding_in old in
+      record {
+        taken = subst (λ cs. Takes sink (writer_in old) cs (writer_in new)) (sym (append-nil (marked_of call at)))
+            (Takes-append sink (writer_in old) between (writer_in new) (mark_between at.is_open (open_after call at)) (characters_of call) first second);
+        hiding = hiding;
+      }
+
+  -- and one of which nothing is taken
+  pub none-marked : (old new : MarkingWriter W) (call : Call) → characters_of call ≡ [] → open_after call (hiding_in old) ≡ open_in old
+      → writer_in new ≡ writer_in old → hiding_in new ≡ hiding_after call (hiding_in old) → TakesMarked sink old (call ∷ []) new
+  none-marked old new call none same stays hiding =
+      one-marked old new (writer_in old) call (takes-same (writer_in old) (writer_in old) (open_in old) (open_after call (hiding_in old)) same refl)
+      (rw (none, stays) (Takes-none sink (writer_in old))) hiding
+
+  -- What comes at the end is taken, and then what waits is written.
+  pub adds-behind : (behind : List ℕ) (a b : SafeWriter W) (end : Output W) → Takes sink a behind b → Adds sink (ending_from b []) (output_of b) end
+      → Adds sink (encode_utf8_all (safe_from (before_in a) (held_in a ++ behind))) (output_of a) end
+  adds-behind behind a b end taken ended =
+      let l : List ℕ = held_in a ++ behind in
+      let at = held-waits b.held (before_in b) in
+      let left : ending_from b [] ≡ encode_utf8_all (undecided_from (before_in a) l) =
+      ap (λ t. encode_utf8_all (undecided_from (before_in b) t)) (append-nil (held_in b))
+      ∙ ap₂ (λ x y. encode_utf8_all (safe_from x y)) at.2 at.1
+      ∙ ap₂ (λ x y. encode_utf8_all (safe_from x y)) taken.before taken.held in
+      subst (λ t. Adds sink t (output_of a) end) (whole-encoded (before_in a) l)
+      (Adds-append sink (text_by a behind) (encode_utf8_all (undecided_from (before_in a) l)) (output_of a) (output_of b) end taken.added
+      (subst (λ t. Adds sink t (output_of b) end) left ended))
+
+  pub adds-closing : (old : MarkingWriter W) (b : SafeWriter W) (end : Output W) → Takes sink (writer_in old) (mark_between (open_in old) false) b
+      → Adds sink (ending_from b []) (output_of b) end → Adds sink (marked_ending_from old []) (output_in old) end
+  adds-closing old b end taken ended =
+      let writer = writer_in old in
+      let at = held-waits writer.held (before_in writer) in
+      subst (λ t. Adds sink t (output_in old) end)
+      (sym (ap (λ l. encode_utf8_all (safe_from (last_from (before_in writer) l) (waiting l ++ closing (hiding_in old)))) (append-nil (held_in writer))
+      ∙ ap₂ (λ x h. encode_utf8_all (safe_from x (h ++ closing (hiding_in old)))) at.2 at.1))
+      (adds-behind (closing (hiding_in old)) writer b end taken ended)
+
+-- Characters that are printed: a mark before the first at most.
+prints-after : (hidden : Bool) (cs : List ℕ)
+    → (marked_from (record { is_hidden = hidden; is_open = hidden }) (map print cs) ≡ cs)
+    × (hiding_from (record { is_hidden = hidden; is_open = hidden }) (map print cs) ≡ record { is_hidden = hidden; is_open = hidden })
+prints-after hidden [] = (refl, refl)
+prints-after hidden (c ∷ cs) =
+    let rest = prints-after hidden cs in
+    (ap (λ l. (l ++ c ∷ []) ++ marked_from (record { is_hidden = hidden; is_open = hidden }) (map print cs)) (between-same hidden) ∙ ap (λ l. c ∷ l) rest.0, rest.1)
+
+pub prints-marked : (at : Hiding) (cs : List ℕ) → (cs ≡ [] → ⊥)
+    → (marked_from at (map print cs) ≡ mark_between at.is_open at.is_hidden ++ cs) × (hiding_from at (map print cs) ≡ record { is_hidden = at.is_hidden; is_open = at.is_hidden })
+prints-marked at [] some = absurd (some refl)
+prints-marked at (c ∷ cs) some =
+    let rest = prints-after at.is_hidden cs in
+    (append_assoc (mark_between at.is_open at.is_hidden) (c ∷ []) _ ∙ ap (λ l. mark_between at.is_open at.is_hidden ++ c ∷ l) rest.0, rest.1)
+
+-- a text of some bytes has characters
+pub some-characters : (text : List ℕ) → IsUtf8 text → (length text == 0) ≡ false → chars text ≡ [] → ⊥
+some-characters text utf8 some none =
+    let (cs, (scalars, encoded)) = utf8 in
+    let no_chars : cs ≡ [] = sym (chars-encodes cs scalars) ∙ (ap chars encoded ∙ none) in
+    let empty : text ≡ [] = sym encoded ∙ ap encode_utf8_all no_chars in
+    absurd (cc (sym (ap (λ (t : List ℕ). length t == 0) empty) ∙ some))
+
+-- Where nothing is hidden, a text with layout has no marks.
+layout-one : (c : ℕ) (cs : List ℕ) (t : Bool)
+    → (marked_from nothing_hidden (map layout_call cs) ≡ cs) × (hiding_from nothing_hidden (map layout_call cs) ≡ nothing_hidden)
+    → (marked_from nothing_hidden ((if t then execute c else print c) ∷ map layout_call cs) ≡ c ∷ cs)
+    × (hiding_from nothing_hidden ((if t then execute c else print c) ∷ map layout_call cs) ≡ nothing_hidden)
+layout-one c cs true rest = (ap (λ l. c ∷ l) rest.0, rest.1)
+layout-one c cs false rest = (ap (λ l. c ∷ l) rest.0, rest.1)
+
+pub layout-plain : (cs : List ℕ) → (marked_from nothing_hidden (map layout_call cs) ≡ cs) × (hiding_from nothing_hidden (map layout_call cs) ≡ nothing_hidden)
+layout-plain [] = (refl, refl)
+layout-plain (c ∷ cs) = layout-one c cs (is_layout c) (layout-plain cs)
+
+-- So a text is taken: with a mark before it at most, or with layout where nothing is hidden.
+module _ {W : Type 0} (sink : SinkOf W) (old new : MarkingWriter W) (cs : List ℕ) where
+  pub text-marked : (between : SafeWriter W) → (cs ≡ [] → ⊥)
+      → Takes sink (writer_in old) (mark_between (open_in old) (hidden_in old)) between → Takes sink between (characters (map print cs)) (writer_in new)
+      → hidden_in new ≡ hidden_in old → open_in new ≡ hidden_in old → TakesMarked sink old (map print cs) new
+  text-marked between some first second hidden on =
+      let at : Hiding = hiding_in old in
+      let is = prints-marked at cs some in
+      record {
+        taken = subst (λ l. Takes sink (writer_in old) l (writer_in new)) (sym is.0)
+            (Takes-append sink (writer_in old) between (writer_in new) (mark_between at.is_open at.is_hidden) cs first
+            (subst (λ l. Takes sink between l (writer_in new)) (characters-prints cs) second));
+        hiding = hiding-same (hidden_in new) at.is_hidden (open_in new) at.is_hidden hidden on ∙ sym is.1;
+      }
+
+  pub layout-marked : hidden_in old ≡ false → open_in old ≡ false → Takes sink (writer_in old) (characters (map layout_call cs)) (writer_in new)
+      → hidden_in new ≡ hidden_in old → open_in new ≡ open_in old → TakesMarked sink old (map layout_call cs) new
+  layout-marked none closed taken hidden on =
+      let same : hiding_in old ≡ nothing_hidden = hiding-same (hidden_in old) false (open_in old) false none closed in
+      let is = layout-plain cs in
+      record {
+        taken = subst (λ l. Takes sink (writer_in old) l (writer_in new))
+            (characters-layout cs ∙ sym (ap (λ at. marked_from at (map layout_call cs)) same ∙ is.0)) taken;
+        hiding = hiding-same (hidden_in new) (hidden_in old) (open_in new) (open_in old) hidden on
+            ∙ same ∙ sym (ap (λ at. hiding_from at (map layout_call cs)) same ∙ is.1);
+      }

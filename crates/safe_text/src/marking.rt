@@ -1,0 +1,209 @@
+//! The performer that writes safe text with marks where hidden text begins and ends.
+ghost use Rattle.std.specs.Prelude.{◌≡◌, ◌∷◌, [], false, map, chars};
+ghost use Rattle.anstyle_parse.specs.Stream.Call.{print, execute};
+ghost use Rattle.anstyle_parse.specs.Stream.Texts.{is_layout, layout_call};
+ghost use Rattle.safe_text.specs.Marks.{mark_between, hidden_after, decided_marked, undecided_marked};
+
+use crate::performer::SafeWriter;
+use ansi_style::Style;
+use anstyle_parse::canon::{CallWriter, Output, Sink, WritingPerformer};
+use anstyle_parse::{Params, Perform, PerformText};
+
+/// Writes what a [`SafeWriter`] writes, and between that `<U+hidden>` where text begins that Select Graphic Rendition
+/// hides (8), and `<U+shown>` where it ends: before text that is not hidden, before a control, and at the end.
+///
+/// [`write_safe`](crate::write_safe) drives it from a reader to a writer. No memory is taken.
+#[derive(Drop)]
+pub struct MarkingWriter<W> {
+    writer: SafeWriter<W>,
+    /// The text that comes next is hidden.
+    is_hidden: bool,
+    /// Hidden text is written last: its end is not marked yet.
+    is_open: bool,
+}
+
+/// Whether a character lays text out: a tab, a line feed or a carriage return.
+#[inline(always)]
+fn is_layout(c: char) -> bool
+    ensures { result ≡ is_layout c }
+{
+    matches!(c, '\t' | '\n' | '\r')
+}
+
+impl<W: Sink> MarkingWriter<W> {
+    ghost use Rattle.safe_text.specs.Writer.{Takes};
+    ghost use Rattle.safe_text.specs.MarkingWriter.{writer_in, hidden_in, open_in, TakesMarked};
+
+    /// Marks that hidden text begins, or that it ends, unless it is so already.
+    #[inline(always)]
+    fn mark(&mut self, hidden: bool)
+        ensures taken { Takes W.Sink (writer_in self.old) (mark_between (open_in self.old) hidden)
+            (writer_in self.new) }
+        ensures on { open_in self.new ≡ hidden }
+        ensures hidden { hidden_in self.new ≡ hidden_in self.old }
+    {
+        if hidden != self.is_open {
+            self.writer.mark(hidden);
+            self.is_open = hidden;
+        }
+    }
+
+    /// Takes a character that is printed.
+    fn take_printed(&mut self, c: char)
+        ensures { TakesMarked W.Sink self.old (print c ∷ []) self.new }
+    {
+        self.mark(self.is_hidden);
+        self.writer.take(c);
+    }
+
+    /// Takes a control that is executed.
+    fn take_executed(&mut self, byte: u8)
+        ensures { TakesMarked W.Sink self.old (execute byte ∷ []) self.new }
+    {
+        self.mark(false);
+        self.writer.take(char::from(byte));
+    }
+
+    /// Takes a character of a text with layout.
+    fn take_laid_out(&mut self, c: char)
+        ensures { TakesMarked W.Sink self.old (layout_call c ∷ []) self.new }
+    {
+        if is_layout(c) {
+            self.take_executed(c as u8);
+        } else {
+            self.take_printed(c);
+        }
+    }
+
+    /// Takes a text with layout, one character after another.
+    #[inline(never)]
+    fn take_each(&mut self, text: &str)
+        ensures { TakesMarked W.Sink self.old (map layout_call (chars text.now)) self.new }
+    {
+        for c in text.chars() {
+            self.take_laid_out(c);
+        }
+    }
+}
+
+impl<W: Sink> Perform for MarkingWriter<W> {
+    ghost use Rattle.safe_text.specs.MarkingWriter.{TakesMarked};
+
+    // It takes the character of the call, with the mark before it.
+    ghost means = { λ old call new. TakesMarked W.Sink old (call ∷ []) new };
+
+    #[inline]
+    fn print(&mut self, c: char) {
+        self.take_printed(c);
+    }
+
+    #[inline]
+    fn execute(&mut self, byte: u8) {
+        self.take_executed(byte);
+    }
+
+    fn hook(&mut self, _params: &Params, _intermediates: &[u8], _ignore: bool, _action: u8) {}
+
+    fn put(&mut self, _byte: u8) {}
+
+    fn unhook(&mut self) {}
+
+    fn osc_dispatch(&mut self, _params: &[&[u8]], _bell_terminated: bool) {}
+
+    /// Of Select Graphic Rendition it keeps whether text is hidden.
+    fn csi_dispatch(&mut self, params: &Params, intermediates: &[u8], ignore: bool, action: u8) {
+        let mut style = Style::default();
+        style.hidden = self.is_hidden;
+        style.csi_dispatch(params, intermediates, ignore, action);
+        self.is_hidden = style.hidden;
+    }
+
+    fn esc_dispatch(&mut self, _intermediates: &[u8], _ignore: bool, _byte: u8) {}
+}
+
+/// The characters of a text are taken in order: where none is hidden, at once.
+impl<W: Sink> PerformText for MarkingWriter<W> {
+    ghost use Rattle.safe_text.specs.MarkingWriter.{TakesMarked};
+    ghost use Rattle.safe_text.specs.MarkingProof.{TakesMarked-none, TakesMarked-more};
+
+    ghost receives = { TakesMarked W.Sink };
+
+    #[inline]
+    fn print_text(&mut self, text: &str) {
+        if !text.is_empty() {
+            self.mark(self.is_hidden);
+            self.writer.print_text(text);
+        }
+    }
+
+    #[inline]
+    fn print_with_layout(&mut self, text: &str) {
+        if self.is_hidden || self.is_open {
+            self.take_each(text);
+        } else {
+            self.writer.print_with_layout(text);
+        }
+    }
+
+    ghost receives_none = { TakesMarked-none W.Sink };
+
+    ghost receives_one = { λ _ _ _ taken. taken };
+
+    ghost receives_more = { TakesMarked-more W.Sink };
+}
+
+/// At the end hidden text is closed, and what still waits is written.
+impl<W: Sink> WritingPerformer<W> for MarkingWriter<W> {
+    ghost use Rattle.safe_text.specs.MarkingWriter.{output_in, text_from, ending_from};
+    ghost use Rattle.safe_text.specs.MarkingProof.{ends-marked};
+
+    ghost output_in = { output_in };
+
+    ghost text_from = { text_from };
+
+    ghost ending_from = { ending_from };
+
+    fn output(&self) -> &Output<W> {
+        self.writer.output()
+    }
+
+    fn pass_on(&mut self) {
+        self.writer.pass_on();
+    }
+
+    fn into_output(self) -> Output<W> {
+        let mut marking = self;
+        marking.mark(false);
+        marking.writer.into_output()
+    }
+
+    ghost adds = { λ _ _ _ received. received.taken.added };
+
+    ghost ends = { λ old calls new received _. ends-marked W.Sink old calls new received };
+}
+
+impl<W: Sink> CallWriter<W> for MarkingWriter<W> {
+    ghost use Rattle.safe_text.specs.MarkingWriter.{output_in, IsNewMarking};
+    ghost use Rattle.safe_text.specs.MarkingProof.{marked-of_new, ending-of_new};
+
+    ghost is_new = { IsNewMarking };
+
+    ghost text = { decided_marked };
+
+    ghost ending = { undecided_marked };
+
+    fn over(output: Output<W>) -> MarkingWriter<W>
+        ensures output { output_in result ≡ output }
+        ensures new { IsNewMarking result }
+    {
+        MarkingWriter {
+            writer: SafeWriter::over(output),
+            is_hidden: false,
+            is_open: false,
+        }
+    }
+
+    ghost text_of_new = { marked-of_new };
+
+    ghost ending_of_new = { ending-of_new };
+}

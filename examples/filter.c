@@ -26,10 +26,11 @@ static bool strip(const unsigned char *piece, size_t count)
     return true;
 }
 
-/* All text is written. */
+/* Writes U+FFFD where a character is begun. */
 static bool end(void)
 {
-    return true;
+    size_t written;
+    return ansi_strip_end(&state, room, sizeof room, &written) && write_all(room, written);
 }
 
 int main(int argc, char **argv)

@@ -2,7 +2,7 @@
  * that its escapes select.
  *
  * The text is that of ansi_strip.h, here with DEL (7F) and U+0080 to U+009F as characters: each printed character
- * in UTF-8, tab, line feed and carriage return.
+ * in UTF-8, tab, line feed and carriage return. Bytes that belong to no character, and BEL, are read as there.
  * The bytes & < > " ' and a carriage return are written as character references. Text that is not plain
  * stands in <span style="..">, and what has a link (OSC 8) to https://, http:// or mailto: in
  * <a rel="nofollow noreferrer" href=".." style="..">, which is opened where the link begins and closed where it
@@ -52,8 +52,8 @@ extern "C" {
  * a link of 1,035 bytes. */
 #define ANSI_HTML_LEAST_ROOM 6534
 
-/* The bytes of room that ansi_html_end needs. */
-#define ANSI_HTML_END_ROOM 11
+/* The bytes of room that ansi_html_end needs: for U+FFFD, where it opens a link, and for what closes that. */
+#define ANSI_HTML_END_ROOM 6539
 
 /* How styles are written: colours for light and dark pages, as the reader has it (a dark page has a
  * color-scheme); for light ones; for dark ones; or by classes. Any other number is for both. */
@@ -94,13 +94,13 @@ void ansi_html_init(ansi_html *state, unsigned char styling);
 bool ansi_html_feed(ansi_html *state, const unsigned char *piece, size_t count,
                     unsigned char *room, size_t size, size_t *taken, size_t *written);
 
-/* Ends the stream: writes what closes the element that is open, if one is.
+/* Ends the stream: writes U+FFFD where a character is begun, and what closes the element that is open, if one is.
  *
  * room, size      where it goes; at least ANSI_HTML_END_ROOM bytes
  * written         becomes how many bytes that are
  *
- * Answers true where it did. The state then begins a stream, in the same styling. A character or a sequence
- * that is begun and never ended leaves nothing.
+ * Answers true where it did. The state then begins a stream, in the same styling. A sequence that is begun and
+ * never ended leaves nothing.
  *
  * Answers false where `size` is below ANSI_HTML_END_ROOM. Then nothing is written, `written` becomes 0,
  * and the state and the room are as they were. */

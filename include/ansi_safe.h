@@ -4,9 +4,9 @@
  * ansi_strip.h. A character that shows or is blank is left, and so is a joiner, such as U+200D, where an emoji or a
  * script needs it. LF, VT and FF are a line feed, and a carriage return before a line feed goes. Each other character
  * is written visibly, as <U+202E>: controls, what turns the order of text round, and what shows nothing. So is the < of
- * a <U+ that stands in the stream, as <U+003C>. So the text says which characters there were. It is what
- * `ansi2text --safe` writes, but for bytes that belong to no character, which leave nothing here, BEL, which ends
- * no string APC, PM or SOS, and text that the stream hides (SGR 8), which is not marked; ansi2text(1) says more.
+ * a <U+ that stands in the stream, as <U+003C>. So the text says which characters there were. Bytes that belong to no
+ * character, and BEL, are read as ansi_strip.h says. It is what `ansi2text --safe` writes, but for text that the
+ * stream hides (SGR 8), which is not marked; ansi2text(1) says more.
  *
  * A stream comes in pieces of any size, cut anywhere: its text, and what ends it, is the same. There is
  * nothing to allocate or to free, no input is refused, and no call fails but for a room that is too small.
@@ -47,7 +47,7 @@ extern "C" {
 #define ANSI_SAFE_LEAST_ROOM 40
 
 /* The bytes of room that ansi_safe_end needs. */
-#define ANSI_SAFE_END_ROOM 20
+#define ANSI_SAFE_END_ROOM 30
 
 /* The room in which any `count` bytes are always taken at once. (All of a stream is at most ten times as long as its
  * bytes, and mostly as long as these.) */
@@ -84,13 +84,13 @@ void ansi_safe_init(ansi_safe *state);
 bool ansi_safe_feed(ansi_safe *state, const unsigned char *piece, size_t count,
                     unsigned char *room, size_t size, size_t *taken, size_t *written);
 
-/* Ends the stream: writes what still waits.
+/* Ends the stream: writes what still waits, and U+FFFD where a character is begun.
  *
  * room, size      where it goes; at least ANSI_SAFE_END_ROOM bytes
  * written         becomes how many bytes that are
  *
- * Answers true where it did. The state then begins a stream. A character or a sequence that is begun and never
- * ended leaves nothing.
+ * Answers true where it did. The state then begins a stream. A sequence that is begun and never ended leaves
+ * nothing.
  *
  * Answers false where `size` is below ANSI_SAFE_END_ROOM. Then nothing is written, `written` becomes 0,
  * and the state and the room are as they were. */

@@ -4,9 +4,10 @@
  * carriage return (0D), inside an escape or control sequence too. Such sequences, titles, the targets of links,
  * device control strings with all that is in them and the other controls below 20 leave nothing.
  * DEL (7F) and the characters U+0080 to U+009F, which some terminals take for controls, leave nothing either.
- * A character that is broken leaves U+FFFD; bytes that begin no character leave nothing. So well-formed UTF-8
- * that has none of these, and no control below 20 but those three, is left as it is. What is written is UTF-8,
- * that of each call by itself.
+ * A stream is read as a log: a character that is broken leaves U+FFFD, and so does each byte A0 to FF that belongs to
+ * no character; and BEL ends a string APC, PM or SOS as it ends a title. So well-formed UTF-8 that has none of these
+ * characters, and no control below 20 but those three, is left as it is. What is written is UTF-8, that of each call
+ * by itself.
  *
  * A stream comes in pieces of any size, cut anywhere: what is left of it is the same. There is
  * nothing to allocate or to free, no input is refused, and no call fails but for a room of
@@ -23,11 +24,10 @@
  *         bytes += taken;
  *         count -= taken;
  *     }
+ *     ansi_strip_end(&state, room, sizeof room, &written);
+ *     fwrite(room, 1, written, stdout);
  *
- * The end of the stream needs no call: a sequence or a character that is begun and never
- * ended leaves nothing.
- *
- * What the caller owes to both functions: each pointer is to memory of its own that lives as
+ * What the caller owes to these functions: each pointer is to memory of its own that lives as
  * long as the call; it is not null, also where the size beside it is 0; and no two of the
  * pieces of memory overlap. Nothing is kept of a pointer after the call.
  */
@@ -45,11 +45,14 @@ extern "C" {
 #define ANSI_STRIP_VERSION "0.1.0"
 
 /* The bytes of room with which ansi_strip_feed always goes on. */
-#define ANSI_STRIP_LEAST_ROOM 4
+#define ANSI_STRIP_LEAST_ROOM 6
+
+/* The bytes of room that ansi_strip_end needs. */
+#define ANSI_STRIP_END_ROOM 3
 
 /* The room in which any `count` bytes are always taken at once: three bytes of text for each, and
- * one more where the first of them ends a character that an earlier piece began. */
-#define ANSI_STRIP_ROOM(count) (3 * (size_t)(count) + 1)
+ * three more where the first of them breaks a character that an earlier piece began. */
+#define ANSI_STRIP_ROOM(count) (3 * (size_t)(count) + 3)
 
 /* Where a stream stands between two pieces: 1,056 bytes, which belong to the caller.
  *
@@ -81,6 +84,18 @@ void ansi_strip_init(ansi_strip *state);
  * they were. */
 bool ansi_strip_feed(ansi_strip *state, const unsigned char *piece, size_t count,
                      unsigned char *room, size_t size, size_t *taken, size_t *written);
+
+/* Ends the stream: writes U+FFFD where a character is begun, which can't be whole any more.
+ *
+ * room, size      where it goes; at least ANSI_STRIP_END_ROOM bytes
+ * written         becomes how many bytes that are
+ *
+ * Answers true where it did. The state then begins a stream. A sequence that is begun and never ended leaves
+ * nothing.
+ *
+ * Answers false where `size` is below ANSI_STRIP_END_ROOM. Then nothing is written, `written` becomes 0,
+ * and the state and the room are as they were. */
+bool ansi_strip_end(ansi_strip *state, unsigned char *room, size_t size, size_t *written);
 
 #ifdef __cplusplus
 }

@@ -99,21 +99,21 @@ def stripped_of(stream):
 
 
 def text_of(stream):
-    """The same without these characters: text that drives no terminal."""
-    return re.sub("[\x7f-\x9f]", "", stripped_of(stream).decode()).encode()
+    """The text that drives no terminal, of a stream as a reader of logs reads it (tests/as_read.py)."""
+    return re.sub("[\x7f-\x9f]", "", stripped_of(as_read.as_read_whole(stream)).decode()).encode()
 
 
 def safe_of(stream):
-    """What ansi2text --safe writes, of bytes that it reads as the library does, which reads as a terminal."""
-    done = run(["%s/crates/ansi2text/out/ansi2text" % ROOT, "--safe"], as_read.ignored(stream, b"\x1b[m"))  # (it writes 00 out)
+    """What ansi2text --safe writes."""
+    done = run(["%s/crates/ansi2text/out/ansi2text" % ROOT, "--safe"], stream)
     done.check_returncode()
     return done.stdout
 
 
 def html_of(stream, styling="both"):
-    """What ansi2html writes in a styling, of bytes that it reads as the library does, which reads as a terminal."""
+    """What ansi2html writes in a styling."""
     words = [] if styling == "both" else ["--" + styling]
-    done = run(["%s/crates/ansi2html/out/ansi2html" % ROOT, *words], as_read.ignored(stream))
+    done = run(["%s/crates/ansi2html/out/ansi2html" % ROOT, *words], stream)
     done.check_returncode()
     return done.stdout
 

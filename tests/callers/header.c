@@ -20,18 +20,20 @@ static_assert(offsetof(ansi_strip, length) == 0, "length is first");
 static_assert(sizeof(((ansi_strip *)0)->length) == 8, "length is a size_t of 8 bytes");
 static_assert(offsetof(ansi_strip, pending) == 8, "pending stands after length");
 static_assert(sizeof(((ansi_strip *)0)->pending) == 1042, "1,042 bytes are pending at most");
-static_assert(ANSI_STRIP_LEAST_ROOM == 4, "a character has four bytes at most");
-static_assert(ANSI_STRIP_ROOM(0) == 1, "three bytes for each, and one more");
-static_assert(ANSI_STRIP_ROOM(4096) == 12289, "three bytes for each, and one more");
-static_assert(ANSI_STRIP_ROOM(1 + 1) == 7, "the count stands in brackets");
-static_assert(2 * ANSI_STRIP_ROOM(1) == 8, "and so does the whole");
+static_assert(ANSI_STRIP_LEAST_ROOM == 6, "U+FFFD twice");
+static_assert(ANSI_STRIP_END_ROOM == 3, "U+FFFD");
+static_assert(ANSI_STRIP_ROOM(0) == 3, "three bytes for each, and three more");
+static_assert(ANSI_STRIP_ROOM(4096) == 12291, "three bytes for each, and three more");
+static_assert(ANSI_STRIP_ROOM(1 + 1) == 9, "the count stands in brackets");
+static_assert(2 * ANSI_STRIP_ROOM(1) == 12, "and so does the whole");
 static_assert(sizeof(ANSI_STRIP_ROOM(1)) == sizeof(size_t), "it is a size");
-static_assert(ANSI_STRIP_ROOM(0x60000000) == 0x120000001, "also of a large count");
+static_assert(ANSI_STRIP_ROOM(0x60000000) == 0x120000003, "also of a large count");
 
 /* The types: with another one this is a warning, and warnings are errors. */
 static void (*const init)(ansi_strip *) = ansi_strip_init;
 static bool (*const feed)(ansi_strip *, const unsigned char *, size_t, unsigned char *, size_t,
                           size_t *, size_t *) = ansi_strip_feed;
+static bool (*const end)(ansi_strip *, unsigned char *, size_t, size_t *) = ansi_strip_end;
 
 enum { COUNT = 4096, AFTER = 64 };
 
@@ -115,7 +117,7 @@ static void little_room_is_refused(void)
     expect(taken == 1 && written == 4 && memcmp(room, "\360\237\230\200", 4) == 0, "a character of four bytes is left");
 }
 
-/* A character is begun, each byte breaks one, and the last is printed: no text is longer. */
+/* A character is begun, each byte breaks one, and the last belongs to none: no text is longer. */
 static void longest_text_has_room(void)
 {
     struct guarded it = any_state(0xA5);
@@ -126,14 +128,54 @@ static void longest_text_has_room(void)
     init(&it.state);
     memset(piece, 0xF0, COUNT);
     feed(&it.state, piece, 1, room, ANSI_STRIP_ROOM(1), &taken, &written);
-    piece[COUNT - 1] = 'a';
+    piece[COUNT - 1] = 0xFF;
     memset(room, 0x7E, ANSI_STRIP_ROOM(COUNT) + AFTER);
     expect(feed(&it.state, piece, COUNT, room, ANSI_STRIP_ROOM(COUNT), &taken, &written), "there is room");
     expect(taken == COUNT, "4,096 bytes are taken at once");
-    expect(written == 3 * COUNT + 1 && room[written - 1] == 'a', "they leave 12,289 bytes of text");
+    expect(written == ANSI_STRIP_ROOM(COUNT), "they leave 12,291 bytes of text");
+    expect(memcmp(room + written - 6, "\357\277\275\357\277\275", 6) == 0, "U+FFFD each");
     expect(are(room + written, AFTER, 0x7E), "what follows the room is as it was");
     free(piece);
     free(room);
+}
+
+/* Bytes of no character are U+FFFD, one too that breaks a character; and BEL ends a string that terminals ignore. */
+static void is_read_as_a_log(void)
+{
+    ansi_strip state;
+    unsigned char room[64];
+    size_t taken, written;
+
+    init(&state);
+    expect(feed(&state, (const unsigned char *)"M\374ller\033_t=17\007$ \303", 16, room, sizeof room, &taken, &written), "there is room");
+    expect(taken == 16 && written == 10 && memcmp(room, "M\357\277\275ller$ ", 10) == 0, "a stamp leaves nothing");
+    expect(feed(&state, (const unsigned char *)"\377", 1, room, ANSI_STRIP_LEAST_ROOM, &taken, &written), "there is room");
+    expect(written == 6 && memcmp(room, "\357\277\275\357\277\275", 6) == 0, "U+FFFD twice");
+}
+
+/* The end of a stream: a character that is begun is U+FFFD, a sequence nothing. */
+static void end_begins_a_stream(void)
+{
+    ansi_strip state, before;
+    unsigned char room[8];
+    size_t size, taken, written;
+
+    init(&state);
+    feed(&state, (const unsigned char *)"a\342\202", 3, room, sizeof room, &taken, &written);
+    before = state;
+    for (size = 0; size < ANSI_STRIP_END_ROOM; size++) {
+        memset(room, 0x7E, sizeof room);
+        written = 7;
+        expect(end(&state, room, size, &written) == false && written == 0, "little room for an end is refused");
+        expect(memcmp(&state, &before, sizeof state) == 0 && are(room, sizeof room, 0x7E), "nothing is done");
+    }
+    expect(end(&state, room, ANSI_STRIP_END_ROOM, &written) && written == 3, "the character is broken off");
+    expect(memcmp(room, "\357\277\275", 3) == 0 && are(room + 3, sizeof room - 3, 0x7E), "it is U+FFFD");
+    feed(&state, (const unsigned char *)"\254\033[1", 4, room, sizeof room, &taken, &written);
+    expect(written == 3, "then a stream begins, with a byte of no character");
+    expect(end(&state, room, sizeof room, &written) && written == 0, "a sequence leaves nothing");
+    feed(&state, (const unsigned char *)"mx", 2, room, sizeof room, &taken, &written);
+    expect(written == 2, "and does not go on");
 }
 
 /* U+009B is C2 9B, which comes in two pieces; neither it nor DEL is left. */
@@ -157,6 +199,8 @@ int main(void)
     counts_have_their_places();
     little_room_is_refused();
     longest_text_has_room();
+    is_read_as_a_log();
+    end_begins_a_stream();
     text_drives_no_terminal();
     return failures != 0;
 }

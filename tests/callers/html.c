@@ -21,7 +21,7 @@ static_assert(sizeof(struct ansi_html) == 3192, "a state has 3,192 bytes");
 static_assert(offsetof(ansi_html, others) == sizeof(size_t), "nothing stands between");
 static_assert(ANSI_HTML_BOTH == 0 && ANSI_HTML_LIGHT == 1, "stylings have the numbers that are told apart below");
 static_assert(ANSI_HTML_DARK == 2 && ANSI_HTML_CLASSES == 3, "stylings have the numbers that are told apart below");
-static_assert(ANSI_HTML_LEAST_ROOM == 6534 && ANSI_HTML_END_ROOM == 11, "what one byte and an end may need");
+static_assert(ANSI_HTML_LEAST_ROOM == 6534 && ANSI_HTML_END_ROOM == 6539, "what one byte and an end may need");
 
 /* The type: with another one this is a warning, and warnings are errors. */
 static void (*const init)(ansi_html *, unsigned char) = ansi_html_init;
@@ -61,6 +61,8 @@ static void stylings_are_told_apart(void)
         expect(goes_on("\033[31mx", SIZE) && is_written(begins[styling]), "it begins in the same styling");
         expect(goes_on("\033[3", SIZE) && ends(SIZE) && goes_on("1mz", SIZE), "an end in a sequence");
         expect(is_written("1mz"), "the sequence does not go on");
+        expect(ends(SIZE) && goes_on("\374\033_t=1\007\303", SIZE), "a byte of no character, a stamp and half of one");
+        expect(is_written("\357\277\275") && ends(SIZE) && is_written("\357\277\275"), "are U+FFFD, nothing and U+FFFD");
     }
 }
 
@@ -73,7 +75,7 @@ static void little_room_is_refused(void)
     for (size = 0; size < ANSI_HTML_LEAST_ROOM; size += size < 16 ? 1 : 726)
         refuses(size);
     expect(!goes_on("x", ANSI_HTML_LEAST_ROOM - 1), "one byte less than the least room is refused");
-    for (size = 0; size < ANSI_HTML_END_ROOM; size++)
+    for (size = 0; size < ANSI_HTML_END_ROOM; size += size < 16 ? 1 : 31)
         refuses_to_end(size);
     expect(goes_on("", 0) && taken == 0 && written == 0, "no bytes need no room");
     expect(goes_on("x", ANSI_HTML_LEAST_ROOM) && taken == 1, "the least room suffices");

@@ -20,7 +20,7 @@
 
 static_assert(sizeof(struct ansi_safe) == 1064, "a state has 1,064 bytes");
 static_assert(offsetof(ansi_safe, others) == sizeof(size_t), "nothing stands between");
-static_assert(ANSI_SAFE_LEAST_ROOM == 40 && ANSI_SAFE_END_ROOM == 20, "what one byte and an end may need");
+static_assert(ANSI_SAFE_LEAST_ROOM == 40 && ANSI_SAFE_END_ROOM == 30, "what one byte and an end may need");
 static_assert(ANSI_SAFE_ROOM(0) == 40, "twenty bytes for each, and forty more");
 static_assert(ANSI_SAFE_ROOM(1 + 1) == 80, "the count stands in brackets");
 static_assert(2 * ANSI_SAFE_ROOM(1) == 120, "and so does the whole");
@@ -96,6 +96,12 @@ static void one_byte_leads_to_much(void)
     init(&it.state);
     expect(goes_on("\r\xF0\x9F\x91", SIZE) && is_written(""), "a character is begun");
     expect(goes_on("\a", ANSI_SAFE_LEAST_ROOM) && is_written("<U+000D>\xEF\xBF\xBD<U+0007>"), "nineteen bytes of one");
+    init(&it.state);
+    expect(goes_on("<\xC3", SIZE) && is_written(""), "a character is begun behind a less sign");
+    expect(goes_on("\xFC", ANSI_SAFE_LEAST_ROOM) && is_written("<\xEF\xBF\xBD\xEF\xBF\xBD"), "it is broken by a byte of none");
+    init(&it.state);
+    expect(goes_on("\033_t\a\r\xE2\x82", SIZE) && is_written(""), "BEL ends a string");
+    expect(ends(ANSI_SAFE_END_ROOM) && is_written("<U+000D>\xEF\xBF\xBD"), "a character is broken off at the end");
     init(&it.state);
     expect(goes_on("<U\xF3\xA0\x81", SIZE) && is_written(""), "a tag is begun");
     expect(goes_on("\x81", ANSI_SAFE_LEAST_ROOM) && is_written("<U<U+E0041>"), "and written");

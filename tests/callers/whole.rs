@@ -25,6 +25,7 @@ fn cloned(stream: &[u8]) -> Vec<u8> {
     let mut clone = stripper.clone();
     stripper.strip(b"\x1bPelsewhere", |_| Ok::<(), ()>(())).expect("the writer takes all");
     clone.strip(second, &mut write).expect("the writer takes all");
+    clone.end(&mut write).expect("the writer takes all");
     text
 }
 

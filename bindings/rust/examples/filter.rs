@@ -15,6 +15,6 @@ fn main() -> ExitCode {
     let mut stripper = Stripper::new();
     common::run("filter", &mut |piece, output| match piece {
         Some(bytes) => stripper.strip(bytes, |text| output.write_all(text)),
-        None => Ok(()), // (all text is written)
+        None => stripper.end(|text| output.write_all(text)),
     })
 }

@@ -42,6 +42,16 @@ impl<W: Write> StripWriter<W> {
     pub fn into_inner(self) -> W {
         self.inner
     }
+
+    /// Writes what the end leads to, U+FFFD where a character is begun, and hands the writer below back.
+    pub fn finish(self) -> Result<W> {
+        let StripWriter {
+            mut stripper,
+            mut inner,
+        } = self;
+        stripper.end(|part| inner.write_all(part))?;
+        Ok(inner)
+    }
 }
 
 impl<W: Write> Write for StripWriter<W> {

@@ -86,6 +86,13 @@ unsafe extern "C" {
         written: *mut usize,
     ) -> bool;
 
+    fn ansi_strip_end(
+        state: *mut StripState,
+        room: *mut u8,
+        size: usize,
+        written: *mut usize,
+    ) -> bool;
+
     fn ansi_safe_feed(
         state: *mut SafeState,
         piece: *const u8,
@@ -139,7 +146,9 @@ unsafe extern "C" {
 const STRIP_ROOM: usize = 4096;
 const SAFE_ROOM: usize = 16384;
 const HTML_ROOM: usize = 16384;
-const END_ROOM: usize = 20;
+const STRIP_END_ROOM: usize = 3;
+const SAFE_END_ROOM: usize = 30;
+const HTML_END_ROOM: usize = 6539;
 const EVENTS: usize = 1024;
 const EVENTS_ROOM: usize = 16384;
 
@@ -191,9 +200,9 @@ fn feed_all<State, E>(
 fn end_with<State, E>(
     end: End<State>,
     state: &mut State,
+    room: &mut [u8],
     write: impl FnOnce(&[u8]) -> Result<(), E>,
 ) -> Result<(), E> {
-    let mut room = [0; END_ROOM];
     let mut written = 0;
     // The references are to memory of their own, and none of them is kept.
     let is_ended = unsafe { end(state, room.as_mut_ptr(), room.len(), &mut written) };
@@ -229,6 +238,11 @@ impl Stripper {
     ) -> Result<(), E> {
         feed_all(ansi_strip_feed, &mut self.0, piece, &mut [0; STRIP_ROOM], write)
     }
+
+    /// Hands on what the end leads to: U+FFFD where a character is begun. Then a stream begins.
+    pub fn end<E>(&mut self, write: impl FnOnce(&[u8]) -> Result<(), E>) -> Result<(), E> {
+        end_with(ansi_strip_end, &mut self.0, &mut [0; STRIP_END_ROOM], write)
+    }
 }
 
 /// A stream that becomes text that hides nothing, as `ansi2text --safe` writes it but for marks, which goes on with each
@@ -261,9 +275,10 @@ impl SafeStripper {
         feed_all(ansi_safe_feed, &mut self.0, piece, &mut [0; SAFE_ROOM], write)
     }
 
-    /// Hands on what still waits: a carriage return, `<`, `<U` or a joiner that came last. Then a stream begins.
+    /// Hands on what still waits, a carriage return, `<`, `<U` or a joiner that came last, and U+FFFD where a character is
+    /// begun. Then a stream begins.
     pub fn end<E>(&mut self, write: impl FnOnce(&[u8]) -> Result<(), E>) -> Result<(), E> {
-        end_with(ansi_safe_end, &mut self.0, write)
+        end_with(ansi_safe_end, &mut self.0, &mut [0; SAFE_END_ROOM], write)
     }
 }
 
@@ -303,9 +318,10 @@ impl Converter {
         feed_all(ansi_html_feed, &mut self.0, piece, &mut [0; HTML_ROOM], write)
     }
 
-    /// Hands on what closes the HTML. Then a stream begins, in the same styling.
+    /// Hands on what ends the HTML: U+FFFD where a character is begun, and what closes an element that is open. Then a
+    /// stream begins, in the same styling.
     pub fn end<E>(&mut self, write: impl FnOnce(&[u8]) -> Result<(), E>) -> Result<(), E> {
-        end_with(ansi_html_end, &mut self.0, write)
+        end_with(ansi_html_end, &mut self.0, &mut [0; HTML_END_ROOM], write)
     }
 }
 
@@ -325,9 +341,13 @@ fn joined(
 }
 
 /// The text of terminal output. It drives no terminal: DEL and U+0080 to U+009F, which some terminals take for controls,
-/// are left out too.
+/// are left out too. No other byte vanishes: what is broken, and what belongs to no character, is U+FFFD.
 pub fn strip(stream: impl AsRef<[u8]>) -> String {
-    joined(|write| Stripper::new().strip(stream.as_ref(), write))
+    joined(|write| {
+        let mut stripper = Stripper::new();
+        stripper.strip(stream.as_ref(), &mut *write)?;
+        stripper.end(write)
+    })
 }
 
 /// The text of terminal output that hides nothing, as `ansi2text --safe` writes it: what shows nothing, turns the order of

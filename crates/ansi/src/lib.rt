@@ -4,8 +4,8 @@
 
 ghost use Rattle.std.specs.Prelude.{◌≡◌, []};
 ghost use Rattle.std.specs.Bool.{OnTrue, OnFalse};
-ghost use Rattle.strip_pieces.specs.Feed.{Feeds, Refuses};
-ghost use Rattle.strip_pieces.specs.State.{StandsFor};
+ghost use Rattle.strip_pieces.specs.Feed.{Feeds, Refuses, Ends as EndsText, RefusesEnd as RefusesEndOfText};
+ghost use Rattle.strip_pieces.specs.Log.{StandsForLog};
 ghost use Rattle.html_pieces.specs.State.{styling_in, styling_numbered, StandsFor as HtmlStandsFor};
 ghost use Rattle.html_pieces.specs.Feed.{Feeds as FeedsHtml, Refuses as RefusesHtml, Ends, RefusesEnd};
 
@@ -18,7 +18,7 @@ use strip_pieces::StreamState;
 /// Makes the state one that begins a stream.
 #[unsafe(no_mangle)]
 pub extern "C" fn ansi_strip_init(state: &mut StreamState)
-    ensures { StandsFor state.new [] }
+    ensures { StandsForLog state.new [] }
 {
     *state = StreamState::new();
 }
@@ -46,6 +46,30 @@ pub extern "C" fn ansi_strip_feed(
         }
         None => {
             *taken = 0;
+            *written = 0;
+            false
+        }
+    }
+}
+
+/// Writes what the end of the stream leads to, to the front of the room, and the state begins a stream:
+/// [`StreamState::end`]. The number is 0 where it answers false.
+#[unsafe(no_mangle)]
+pub extern "C" fn ansi_strip_end(
+    state: &mut StreamState,
+    room: &mut [u8],
+    written: &mut usize,
+) -> bool
+    ensures ended { OnTrue result (EndsText state.old state.new room.old room.new written.new) }
+    ensures refused { OnFalse result (RefusesEndOfText state.old state.new room.old room.new) }
+    ensures none_written { OnFalse result (written.new ≡ 0) }
+{
+    match state.end(room) {
+        Some(count) => {
+            *written = count;
+            true
+        }
+        None => {
             *written = 0;
             false
         }
@@ -88,7 +112,7 @@ pub extern "C" fn ansi_html_feed(
     }
 }
 
-/// Writes what closes the HTML to the front of the room, and the state begins a stream:
+/// Writes what ends the HTML to the front of the room, and the state begins a stream:
 /// [`HtmlState::end`]. The number is 0 where it answers false.
 #[unsafe(no_mangle)]
 pub extern "C" fn ansi_html_end(state: &mut HtmlState, room: &mut [u8], written: &mut usize) -> bool

@@ -41,7 +41,7 @@ pub extern "C" fn ansi_safe_feed(
     }
 }
 
-/// Writes what still waits to the front of the room, and the state begins a stream:
+/// Writes the rest of the safe text to the front of the room, and the state begins a stream:
 /// [`SafeState::end`]. The number is 0 where it answers false.
 #[unsafe(no_mangle)]
 pub extern "C" fn ansi_safe_end(state: &mut SafeState, room: &mut [u8], written: &mut usize) -> bool

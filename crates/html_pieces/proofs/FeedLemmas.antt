@@ -2,15 +2,18 @@
 use Rattle.std.proofs.Common.{◌≡◌, ◌<◌, ◌≤◌, ◌*◌, ◌/◌, ◌+◌, ℕ, List, [], ◌++◌, length, take, min, refl, sym, ap, ◌∙◌, subst, arith, length-take}
 use Rattle.std.specs.Prelude.{IsUtf8}
 use Rattle.std.proofs.lemmas.List.{take-take, length-take-le}
+use Rattle.anstyle_parse.specs.Machine.AsRead.{as_read}
 use Rattle.anstyle_parse.specs.Machine.Decoder.{decoded}
 use Rattle.anstyle_parse.specs.Machine.Step.{Machine, new_machine, machine_after, machine_calls}
 use Rattle.anstyle_parse.specs.Laws.Checkpoint.{max_checkpoint, checkpoint_text}
 use Rattle.anstyle_parse.proofs.Resume.Whole.{checkpoint_stands, length-checkpoint}
 use Rattle.anstyle_parse.proofs.Division.Only.{AreCalls-only}
 use Rattle.anstyle_parse.proofs.Agreement.Whole.{AreCalls-machine}
-use Rattle.anstyle_parse.proofs.Lawful.Calls.{lawful}
 use Rattle.ansi_strip.proofs.Showable.{AreShowable-later}
+use Rattle.strip_pieces.specs.Log.{StandsForLog}
 use Rattle.strip_pieces.specs.State.{pending_of}
+use Rattle.strip_pieces.proofs.LogLemmas.{any_log, lawful-log}
+use Rattle.strip_pieces.proofs.LogQuoted.{IsBeside, quoted-log}
 use Rattle.ansi_html.specs.Html.{Standing, at_start, html_from, standing_at_end}
 use Rattle.ansi_html.specs.AddingProof.{standing_at_end-append}
 use Rattle.ansi_html.proofs.TextLemmas.{IsUtf8-html_from}
@@ -21,29 +24,37 @@ use Rattle.html_pieces.specs.declared.state.HtmlState.{HtmlState}
 use Rattle.html_pieces.specs.Sizes.{most_html, most_together, least_room, most_taken, capacity}
 use Rattle.html_pieces.specs.State.{styling_in, standing_of, StandsFor}
 use Rattle.html_pieces.specs.Feed.{Takes, Feeds}
+use Rattle.html_pieces.proofs.LighterLemmas.{html-lighter}
 use Rattle.html_pieces.proofs.StateLemmas.{AreSound-kept}
 
 module _ (old new : HtmlState) (piece room room_after : List ℕ) (written : ℕ) (takes : Takes old new piece room room_after written) where
   -- where the HTML stands after these bytes too
   StandsFor-taken : (before : List ℕ) → StandsFor old before → StandsFor new (before ++ piece)
   StandsFor-taken before is =
-      let own = machine_calls decoded before (new_machine []) in
-      let are = AreCalls-machine before in
+      let own = machine_calls decoded (as_read before) (new_machine []) in
+      let are = AreCalls-machine (as_read before) in
       record {
         stream = takes.stream before is.stream;
         standing = λ calls these.
             takes.standing ∙ ap (λ (at : Standing). standing_at_end at takes.calls) (is.standing own are)
             ∙ sym (standing_at_end-append own takes.calls at_start)
-            ∙ ap (λ l. standing_at_end at_start l) (AreCalls-only (before ++ piece) (own ++ takes.calls) calls (takes.continues before is.stream own are) these);
+            ∙ ap (λ l. standing_at_end at_start l) (AreCalls-only (as_read (before ++ piece)) (own ++ takes.calls) calls (takes.continues before is.stream own are) these);
       }
 
   abbrev held : List ℕ
   held = pending_of old.stream
 
+  -- a log for which the stream stands, and bytes that lead to as much or more
+  log : (before : List ℕ) × StandsForLog old.stream before
+  log = any_log held
+
+  beside : IsBeside log.0 piece takes.calls
+  beside = quoted-log log.0 piece takes.calls (takes.continues log.0 log.1)
+
   utf8-taken : IsUtf8 (take written room_after)
   utf8-taken =
-      let own = machine_calls decoded held (new_machine []) in
-      let shown = AreShowable-later own takes.calls (lawful (held ++ piece) (own ++ takes.calls) (takes.continues held refl own (AreCalls-machine held))) in
+      let own = machine_calls decoded (as_read log.0) (new_machine []) in
+      let shown = AreShowable-later own takes.calls (lawful-log log.0 piece takes.calls (takes.continues log.0 log.1)) in
       subst IsUtf8 (sym takes.html) (IsUtf8-html_from (styling_in old) (standing_of old) takes.calls (AreSound-kept _) shown)
 
   bounded-taken : written ≤ 6534 * length piece
@@ -54,7 +65,9 @@ module _ (old new : HtmlState) (piece room room_after : List ℕ) (written : ℕ
         takes.same_length,
         takes.written_fits,
         ap length takes.html,
-        length-html_continued (styling_in old) held piece takes.calls (standing_of old) (AreSound-kept _) (takes.continues held refl),
+        length-html_continued (styling_in old) held beside.raw beside.others (standing_of old) (AreSound-kept _) (beside.continues held (sym log.1)),
+        html-lighter (styling_in old) (standing_of old) takes.calls beside.others beside.lighter,
+        beside.as_long,
       )
 
   -- the machine after what is held
@@ -71,7 +84,10 @@ module _ (old new : HtmlState) (piece room room_after : List ℕ) (written : ℕ
         takes.same_length,
         takes.written_fits,
         ap length takes.html,
-        length-together (styling_in old) short piece takes.calls (standing_of old) (AreSound-kept _) (takes.continues short (checkpoint_stands held stood refl)),
+        length-together (styling_in old) short beside.raw beside.others (standing_of old) (AreSound-kept _) (beside.continues short (sym log.1 ∙ checkpoint_stands held stood refl)),
+        html-lighter (styling_in old) (standing_of old) takes.calls beside.others beside.lighter,
+        beside.as_long,
+        ap (λ n. rate * (length short + n)) beside.as_long,
         times-less rate (length short + length piece) (max_checkpoint + length piece) (omega (arith, length-checkpoint held stood refl)),
       )
 

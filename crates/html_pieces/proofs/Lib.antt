@@ -1,4 +1,5 @@
 pub mod StateLemmas
+pub mod LighterLemmas
 pub mod FeedLemmas
 pub mod TakesLemmas
 pub mod VerbatimLemmas

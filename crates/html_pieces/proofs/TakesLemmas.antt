@@ -1,7 +1,7 @@
 -- Bytes that are taken, and then others.
 use Rattle.std.proofs.Common.{◌≡◌, ◌+◌, ℕ, List, [], ◌++◌, take, drop, refl, sym, ap, ap₂, ◌∙◌, subst, arith, append-nil, append_assoc, length-drop}
-use Rattle.strip_pieces.specs.State.{StandsFor as StreamStandsFor}
-use Rattle.strip_pieces.proofs.FeedLemmas.{Continues-append, Continues-nil}
+use Rattle.strip_pieces.specs.Log.{StandsForLog}
+use Rattle.strip_pieces.proofs.LogLemmas.{ContinuesLog-append, ContinuesLog-nil}
 use Rattle.strip_pieces.proofs.LentLemmas.{both-front, both-behind, both-length}
 use Rattle.ansi_html.specs.AddingProof.{html_from-append, standing_at_end-append}
 use Rattle.ansi_html.specs.Html.{Standing, html_from, standing_at_end}
@@ -13,8 +13,8 @@ use Rattle.html_pieces.specs.Feed.{Takes}
 pub Takes-nil : (state : HtmlState) (room : List ℕ) → Takes state state [] room room 0
 Takes-nil state room = record {
   calls = [];
-  continues = λ before is. Continues-nil before;
-  stream = λ before is. subst (λ l. StreamStandsFor state.stream l) (sym (append-nil before)) is;
+  continues = λ before is. ContinuesLog-nil before;
+  stream = λ before is. subst (λ l. StandsForLog state.stream l) (sym (append-nil before)) is;
   styling = refl;
   standing = refl;
   same_length = refl;
@@ -36,8 +36,8 @@ module _ (old mid new : HtmlState) (piece more room between rest after : List �
   pub Takes-append : Takes old new (piece ++ more) room after (written + further)
   Takes-append = record {
     calls = one.calls ++ two.calls;
-    continues = λ before is. Continues-append before piece more one.calls two.calls (one.continues before is) (two.continues (before ++ piece) (one.stream before is));
-    stream = λ before is. subst (λ l. StreamStandsFor new.stream l) (append_assoc before piece more) (two.stream (before ++ piece) (one.stream before is));
+    continues = λ before is. ContinuesLog-append before piece more one.calls two.calls (one.continues before is) (two.continues (before ++ piece) (one.stream before is));
+    stream = λ before is. subst (λ l. StandsForLog new.stream l) (append_assoc before piece more) (two.stream (before ++ piece) (one.stream before is));
     styling = two.styling ∙ one.styling;
     standing = two.standing ∙ ap (λ (at : Standing). standing_at_end at two.calls) one.standing ∙ sym (standing_at_end-append one.calls two.calls (standing_of old));
     same_length = both-length room between rest after written further one.same_length one.written_fits whole two.same_length;

@@ -1,15 +1,21 @@
 -- Verbatim text in the midst of text is taken as it is, and leaves the state as it is.
-use Rattle.std.proofs.Common.{◌≡◌, ◌≤◌, ℕ, false, List, [], ◌++◌, length, map, take, drop, refl, sym, ap, ap₂, ◌∙◌, subst, arith, length-append, length-drop}
+use Rattle.std.proofs.Common.{◌≡◌, ◌≤◌, ℕ, false, List, [], ◌++◌, length, map, take, drop, refl, sym, ap, ap₂, ◌∙◌, subst, arith, length-append, length-drop, append-nil, IsTrue, ◌<◌}
+use Rattle.std.specs.Prelude.{nat_lt}
+use Rattle.std.proofs.lemmas.Bool.{and_parts, ltb-true, false≢true}
 use Rattle.std.proofs.Math.Seq.{take-append_seam, drop-append_seam}
 use Rattle.anstyle_parse.specs.Stream.Call.{Call}
-use Rattle.anstyle_parse.specs.Stream.Calls.{Continues}
+use Rattle.anstyle_parse.specs.Stream.Calls.{AreCalls, Continues}
 use Rattle.anstyle_parse.specs.Stream.Items.{EachIs}
 use Rattle.anstyle_parse.specs.Stream.Texts.{layout_call}
 use Rattle.anstyle_parse.specs.Machine.Decoder.{decoded}
 use Rattle.anstyle_parse.specs.Machine.Step.{Machine, new_machine, machine_after}
 use Rattle.anstyle_parse.specs.Machine.Stands.{StandsAfter}
 use Rattle.anstyle_parse.proofs.Agreement.Whole.{StandsAfter-machine, Continues-machine}
+use Rattle.anstyle_parse.proofs.Machine.AsRead.{AreReadAsTheyAre, as_they_are-plain, read_from-append}
+use Rattle.anstyle_parse.specs.Machine.AsRead.{read_from, as_read}
+use Rattle.strip_pieces.specs.Log.{StandsForLog, ContinuesLog}
 use Rattle.strip_pieces.specs.State.{StandsFor as StreamStandsFor}
+use Rattle.ansi_html.specs.Grammar.{is_text_byte}
 use Rattle.ansi_html.specs.Verbatim.{is_verbatim}
 use Rattle.ansi_html.specs.Html.{Element, element, html_from, standing_at_end}
 use Rattle.ansi_html.specs.Links.{kept_link}
@@ -19,6 +25,13 @@ use Rattle.html_pieces.specs.declared.state.HtmlState.{HtmlState}
 use Rattle.html_pieces.specs.State.{styling_in, standing_of}
 use Rattle.html_pieces.specs.Verbatim.{IsInText}
 use Rattle.html_pieces.specs.Feed.{Takes}
+
+-- a byte of verbatim text is read as it is, wherever it stands
+verbatim-plain : (b : ℕ) → IsTrue (is_verbatim b) → (b < 0xA0) × (b ≡ 7 → ⊥)
+unfolding is_verbatim is_text_byte
+verbatim-plain b verbatim =
+    let both = and_parts (nat_lt b 0x80) (is_text_byte b) verbatim in
+    (omega (arith, ltb-true b 0x80 both.0), λ seven. false≢true (sym (ap is_text_byte seven) ∙ both.1))
 
 module _ (state : HtmlState) (in_text : IsInText state) (bytes : List ℕ) (verbatim : EachIs is_verbatim bytes) where
   -- the element that its text stands in
@@ -34,14 +47,31 @@ module _ (state : HtmlState) (in_text : IsInText state) (bytes : List ℕ) (verb
   stands-new : (before : List ℕ) → StreamStandsFor state.stream before → StandsAfter (new_machine []) before
   stands-new before stands = subst (λ held. StandsAfter (machine_after decoded held (new_machine [])) before) in_text.nothing_pending stands
 
-  continues-verbatim : (before : List ℕ) → StreamStandsFor state.stream before → Continues before bytes (map layout_call bytes)
-  continues-verbatim before stands =
+  continues-as_they_are : (before : List ℕ) → StreamStandsFor state.stream before → Continues before bytes (map layout_call bytes)
+  continues-as_they_are before stands =
       subst (λ (calls : List Call). Continues before bytes calls) (machine-verbatim bytes verbatim).1 (Continues-machine (new_machine []) before bytes (stands-new before stands))
 
-  stands-verbatim : (before : List ℕ) → StreamStandsFor state.stream before → StreamStandsFor state.stream (before ++ bytes)
-  stands-verbatim before stands =
+  stands-as_they_are : (before : List ℕ) → StreamStandsFor state.stream before → StreamStandsFor state.stream (before ++ bytes)
+  stands-as_they_are before stands =
       subst (λ held. StandsAfter (machine_after decoded held (new_machine [])) (before ++ bytes)) (sym in_text.nothing_pending)
       (subst (λ (m : Machine (List ℕ)). StandsAfter m (before ++ bytes)) (machine-verbatim bytes verbatim).0 (StandsAfter-machine (new_machine []) before bytes (stands-new before stands)))
+
+  -- and reads these bytes as they are
+  read-verbatim : (before : List ℕ) → as_read (before ++ bytes) ≡ as_read before ++ bytes
+  unfolding as_read AreReadAsTheyAre
+  read-verbatim before =
+      let m = machine_after decoded (as_read before) (new_machine []) in
+      let as_they_are = as_they_are-plain decoded is_verbatim verbatim-plain m bytes verbatim [] in
+      read_from-append decoded (new_machine []) before bytes
+      ∙ ap (λ l. as_read before ++ l) (ap (read_from decoded m) (sym (append-nil bytes)) ∙ as_they_are ∙ append-nil bytes)
+
+  continues-verbatim : (before : List ℕ) → StandsForLog state.stream before → ContinuesLog before bytes (map layout_call bytes)
+  continues-verbatim before stands own are =
+      subst (λ l. AreCalls l (own ++ map layout_call bytes)) (sym (read-verbatim before))
+      (continues-as_they_are (as_read before) stands own are)
+
+  stands-verbatim : (before : List ℕ) → StandsForLog state.stream before → StandsForLog state.stream (before ++ bytes)
+  stands-verbatim before stands = subst (StreamStandsFor state.stream) (sym (read-verbatim before)) (stands-as_they_are (as_read before) stands)
 
   pub Takes-verbatim : (room room_after : List ℕ) → length bytes ≤ length room → room_after ≡ bytes ++ drop (length bytes) room
       → Takes state state bytes room room_after (length bytes)

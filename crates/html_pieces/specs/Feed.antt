@@ -1,8 +1,9 @@
 -- What one call does with a piece of a stream, and what its end is.
 use Rattle.std.specs.Prelude.{◌≡◌, ◌<◌, ◌≤◌, ℕ, List, [], ◌++◌, length, take, drop, IsUtf8}
 use Rattle.anstyle_parse.specs.Stream.Call.{Call}
-use Rattle.anstyle_parse.specs.Stream.Calls.{AreCalls, Continues}
-use Rattle.strip_pieces.specs.State.{StandsFor as StreamStandsFor}
+use Rattle.anstyle_parse.specs.Stream.Calls.{AreCalls}
+use Rattle.anstyle_parse.specs.Machine.AsRead.{as_read}
+use Rattle.strip_pieces.specs.Log.{StandsForLog, ContinuesLog, EndsLog}
 use Rattle.ansi_html.specs.declared.scheme.Styling.{Styling}
 use Rattle.ansi_html.specs.Html.{at_start, html_from, standing_at_end, element_end, html_ending}
 use Rattle.html_pieces.specs.declared.state.HtmlState.{HtmlState}
@@ -12,19 +13,21 @@ use Rattle.html_pieces.specs.State.{styling_in, standing_of, StandsFor}
 -- The HTML is what the calls write by which the bytes continue those before, from where it stands after
 -- the calls of these.
 abbrev pub IsHtmlOf : Styling → (before bytes html : List ℕ) → Type 0
-IsHtmlOf styling before bytes html = (calls : List Call) × Continues before bytes calls
-    × ((own : List Call) → AreCalls before own → html ≡ html_from styling (standing_at_end at_start own) calls)
+IsHtmlOf styling before bytes html = (calls : List Call) × ContinuesLog before bytes calls
+    × ((own : List Call) → AreCalls (as_read before) own → html ≡ html_from styling (standing_at_end at_start own) calls)
 
--- It is what ends the HTML of the bytes.
-abbrev pub IsEndOf : (bytes html : List ℕ) → Type 0
-IsEndOf bytes html = (calls : List Call) → AreCalls bytes calls → html ≡ html_ending calls
+-- It is what ends the HTML of the bytes: U+FFFD where a character is begun, and what closes the element that is open.
+abbrev pub IsEndOf : Styling → (bytes html : List ℕ) → Type 0
+IsEndOf styling bytes html = (calls : List Call) × EndsLog bytes calls
+    × ((own : List Call) → AreCalls (as_read bytes) own
+    → html ≡ html_from styling (standing_at_end at_start own) calls ++ html_ending (own ++ calls))
 
 -- All bytes of a piece were taken, and their HTML stands at the front of the room. This is so for any bytes in
 -- the state: the HTML goes on from where the state says that it stands.
 pub record Takes (old new : HtmlState) (piece room room_after : List ℕ) (written : ℕ) : Type 0 where
   pub calls : List Call
-  pub continues : (before : List ℕ) → StreamStandsFor old.stream before → Continues before piece calls
-  pub stream : (before : List ℕ) → StreamStandsFor old.stream before → StreamStandsFor new.stream (before ++ piece)
+  pub continues : (before : List ℕ) → StandsForLog old.stream before → ContinuesLog before piece calls
+  pub stream : (before : List ℕ) → StandsForLog old.stream before → StandsForLog new.stream (before ++ piece)
   pub styling : styling_in new ≡ styling_in old
   pub standing : standing_of new ≡ standing_at_end (standing_of old) calls
   pub same_length : length room_after ≡ length room
@@ -66,15 +69,18 @@ pub record Refuses (old new : HtmlState) (piece room room_after : List ℕ) : Ty
   pub same_state : new ≡ old
   pub same_room : room_after ≡ room
 
--- What closes the HTML stands at the front of the room, and the state begins a stream in the same styling.
+-- What ends the HTML stands at the front of the room, and the state begins a stream in the same styling.
 pub record Ends (old new : HtmlState) (room room_after : List ℕ) (written : ℕ) : Type 0 where
   pub enough_room : end_room ≤ length room
   pub written_fits : written ≤ end_room
   -- whatever the state held
-  pub closes : take written room_after ≡ element_end (standing_of old).shown
+  pub calls : List Call
+  pub adds : (before : List ℕ) → StandsForLog old.stream before → EndsLog before calls
+  pub closes : take written room_after
+      ≡ html_from (styling_in old) (standing_of old) calls ++ element_end (standing_at_end (standing_of old) calls).shown
   pub untouched : drop written room_after ≡ drop written room
   -- whatever bytes the state stood for, it is what ends their HTML
-  pub html : (before : List ℕ) → StandsFor old before → IsEndOf before (take written room_after)
+  pub html : (before : List ℕ) → StandsFor old before → IsEndOf (styling_in old) before (take written room_after)
   pub begins : StandsFor new []
   pub styling : styling_in new ≡ styling_in old
 

@@ -2,7 +2,8 @@
 use Rattle.std.specs.Prelude.{◌≡◌, ℕ, List, [], ◌∷◌, take, ◌==◌, if◌then◌else◌}
 use Rattle.anstyle_parse.specs.Stream.Call.{Call}
 use Rattle.anstyle_parse.specs.Stream.Calls.{AreCalls}
-use Rattle.strip_pieces.specs.State.{StandsFor as StreamStandsFor}
+use Rattle.anstyle_parse.specs.Machine.AsRead.{as_read}
+use Rattle.strip_pieces.specs.Log.{StandsForLog}
 use Rattle.ansi_html.specs.declared.scheme.Scheme.TheVariants.{Light, Dark, Both}
 use Rattle.ansi_html.specs.declared.scheme.Styling.{Styling}
 use Rattle.ansi_html.specs.declared.scheme.Styling.TheVariants.{Inline, Classes}
@@ -40,10 +41,11 @@ held_standing state = record {
 abbrev pub standing_of : HtmlState → Standing
 standing_of state = kept (held_standing state)
 
--- The state stands for the bytes before: its stream does, and its HTML stands where it does after their calls.
+-- The state stands for the bytes before: its stream does, and its HTML stands where it does after the calls of what is
+-- read of them.
 pub record StandsFor (state : HtmlState) (before : List ℕ) : Type 0 where
-  pub stream : StreamStandsFor state.stream before
-  pub standing : (calls : List Call) → AreCalls before calls → standing_of state ≡ standing_at_end at_start calls
+  pub stream : StandsForLog state.stream before
+  pub standing : (calls : List Call) → AreCalls (as_read before) calls → standing_of state ≡ standing_at_end at_start calls
 
 -- the style whose bytes are zero
 abbrev pub zero_color : ColorBytes

@@ -7,14 +7,15 @@ use crate::state::HtmlState;
 use ansi_html::{HtmlWriter, verbatim_length};
 use anstyle_parse::canon::{Output, WritingPerformer};
 use anstyle_parse::{Parser, Utf8Parser};
-use strip_pieces::{Fed, LentBytes, put_front};
+use strip_pieces::{Fed, LentBytes, print_end, put_front};
 
 /// The bytes of room with which a stream always goes on: what one byte may lead to, where it opens a link
 /// of 1,035 bytes.
 pub const LEAST_ROOM: usize = 6534;
 
-/// The bytes of room that the end of a stream needs.
-pub const END_ROOM: usize = 11;
+/// The bytes of room that the end of a stream needs: for U+FFFD, where a character is begun, and for what closes an
+/// element.
+pub const END_ROOM: usize = 6539;
 
 /// The bytes of HTML that are held at most before they go to the room.
 const CAPACITY: usize = 16384;
@@ -41,7 +42,8 @@ const SHORT_CAPACITY: usize = 4096;
 const SHORT_SHARE: usize = 16;
 
 impl HtmlState {
-    /// Takes bytes from the front of the piece, and writes their HTML to the front of the room.
+    /// Takes bytes from the front of the piece, as a reader of logs reads them
+    /// ([`advance_log`](anstyle_parse::Parser::advance_log)), and writes their HTML to the front of the room.
     ///
     /// With `Some` all of their HTML is written, and the state stands after all bytes so far. Of some bytes
     /// at least one is taken; at most 4,096 are, and at most 16,384 bytes are written. What it costs is in proportion to
@@ -73,9 +75,9 @@ impl HtmlState {
         Some(self.take_others(piece, first, room))
     }
 
-    /// Ends the stream: writes what closes the element that is open, if one is, to the front of the room, and
-    /// answers how many bytes that are. The state then begins a stream in the same styling. Past it the room
-    /// is as it was.
+    /// Ends the stream: writes U+FFFD where a character is begun, and what closes the element that is open, if one is, to
+    /// the front of the room, and answers how many bytes that are. The state then begins a stream in the same styling.
+    /// Past it the room is as it was.
     ///
     /// With `None` the room is below [`END_ROOM`]: then nothing was done.
     pub fn end(&mut self, room: &mut [u8]) -> Option<usize>
@@ -87,7 +89,9 @@ impl HtmlState {
         }
         let mut held = [0; END_ROOM];
         let output = Output::new(LentBytes::new(room.len(), &mut held));
-        let writer = HtmlWriter::resume(self.styling(), self.standing(), output);
+        let mut writer = HtmlWriter::resume(self.styling(), self.standing(), output);
+        let is_begun = self.stream.is_in_char();
+        print_end(&mut writer, is_begun);
         let (buffer, _) = writer.into_output().finish();
         *self = HtmlState::new(self.styling());
         Some(put_front(room, buffer.bytes()))
@@ -233,7 +237,7 @@ impl HtmlState {
         writer.go_on(self.standing());
         let mut parser = Parser::<Utf8Parser>::new();
         self.stream.resume_in(&mut parser);
-        parser.advance_texts(&mut writer, piece);
+        parser.advance_log(&mut writer, piece);
         if writer.output().fault().is_some() {
             return None;
         }

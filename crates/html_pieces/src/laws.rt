@@ -2,6 +2,7 @@
 ghost use Rattle.std.specs.Prelude.{◌≡◌, ◌++◌, [], ℕ, List};
 ghost use Rattle.anstyle_parse.specs.Stream.Call.{Call};
 ghost use Rattle.anstyle_parse.specs.Stream.Calls.{AreCalls};
+ghost use Rattle.anstyle_parse.specs.Machine.AsRead.{as_read_whole};
 ghost use Rattle.ansi_html.specs.declared.scheme.Scheme.TheVariants.{Both};
 ghost use Rattle.ansi_html.specs.declared.scheme.Styling.{Styling};
 ghost use Rattle.ansi_html.specs.declared.scheme.Styling.TheVariants.{Inline};
@@ -17,14 +18,15 @@ pub fn states()
     ensures styling { (state : HtmlState) → IsZero state → styling_in state ≡ Inline Both }
 {}
 
-/// The HTML of pieces, one after another, and then what ends it, is the HTML of the whole stream, however it
-/// is cut.
+/// The HTML of pieces, one after another, and then what ends it, is the HTML of what is read of the whole
+/// stream, as of a log, however it is cut.
 pub fn html_joined()
     ensures pieces { (styling : Styling) (before bytes more html rest : List ℕ) → IsHtmlOf styling before bytes html
         → IsHtmlOf styling (before ++ bytes) more rest
         → IsHtmlOf styling before (bytes ++ more) (html ++ rest) }
     ensures whole { (styling : Styling) (bytes text end : List ℕ) → IsHtmlOf styling [] bytes text
-        → IsEndOf bytes end → (calls : List Call) × AreCalls bytes calls × (text ++ end ≡ html styling calls) }
+        → IsEndOf styling bytes end
+        → (calls : List Call) × AreCalls (as_read_whole bytes) calls × (text ++ end ≡ html styling calls) }
 {}
 
 /// A clone of a state is the same.

@@ -1,7 +1,7 @@
 //! Writes a stream as HTML that comes in pieces, with a state that its caller owns.
 //!
 //! An [`HtmlState`] says where the stream and its HTML stand; [`HtmlState::feed`] takes bytes of a
-//! piece and writes their HTML into a slice, and [`HtmlState::end`] what closes it. No memory is taken,
+//! piece and writes their HTML into a slice, and [`HtmlState::end`] what ends it. No memory is taken,
 //! and no input is refused.
 //!
 //! ```

@@ -5,29 +5,30 @@ use Rattle.std.specs.List.{AllByRecursion}
 use Rattle.std.specs.Str.{encode_utf8_all, chars}
 use Rattle.std.specs.Prelude.{IsTrue, IsUtf8, None, Result}
 use Rattle.std.proofs.lemmas.Str.{encodes-append}
+use Rattle.anstyle_parse.specs.Machine.AsRead.{as_read, as_read_whole}
 use Rattle.anstyle_parse.specs.Machine.Decoder.{decoded}
 use Rattle.anstyle_parse.specs.Machine.Step.{new_machine, machine_calls}
 use Rattle.anstyle_parse.specs.Stream.Call.{Call}
 use Rattle.anstyle_parse.specs.Stream.Calls.{AreCalls}
 use Rattle.anstyle_parse.proofs.Division.Only.{AreCalls-only}
 use Rattle.anstyle_parse.proofs.Agreement.Whole.{AreCalls-machine}
-use Rattle.anstyle_parse.proofs.Lawful.Calls.{lawful}
 use Rattle.anstyle_parse.specs.declared.io.Fault.{Fault}
 use Rattle.anstyle_parse.specs.Io.Output.{writer_in, fault_in, Finishes}
 use Rattle.strip_pieces.specs.contracts.lent.LentBytesSink.TheImpl.{ghosts}
 use Rattle.strip_pieces.specs.declared.lent.LentBytes.{LentBytes}
 use Rattle.strip_pieces.specs.Lent.{limit_of, held_in as bytes_in}
-use Rattle.strip_pieces.specs.State.{pending_of, StandsFor as StreamStandsFor}
-use Rattle.strip_pieces.proofs.FeedLemmas.{Continues-append, Continues-nil}
+use Rattle.strip_pieces.specs.Log.{StandsForLog, EndsLog}
+use Rattle.strip_pieces.specs.State.{pending_of}
+use Rattle.strip_pieces.proofs.LogLemmas.{any_log, lawful-log, ContinuesLog-append, ContinuesLog-nil}
 use Rattle.strip_pieces.proofs.LentLemmas.{both-front, both-behind, both-length, held-all, no_fault-within}
 use Rattle.safe_text.specs.Classes.{is_of_safe_text}
-use Rattle.safe_text.specs.Safe.{characters}
-use Rattle.safe_text.specs.Decided.{decided_from, last_from, waiting, decided}
+use Rattle.safe_text.specs.Safe.{characters, safe, safe_from}
+use Rattle.safe_text.specs.Decided.{decided_from, last_from, waiting, undecided_from, decided, undecided}
 use Rattle.safe_text.specs.TakingProof.{held-waits, decided_from-append, waiting-append, last_from-append}
 use Rattle.safe_text.specs.declared.performer.SafeWriter.{SafeWriter}
 use Rattle.safe_text.specs.Writer.{output_of, text_by, before_in as writer_before, held_in as writer_held, Takes as WriterTakes}
 use Rattle.safe_text.proofs.CallLemmas.{length-characters}
-use Rattle.safe_text.proofs.WholeLemmas.{all-append}
+use Rattle.safe_text.proofs.WholeLemmas.{all-append, whole-encoded}
 use Rattle.safe_text.proofs.PieceLemmas.{characters-append, decided-append, last-append, waiting-more, decided-utf8, decided-class, length-decided, length-held, held-scalars, scalars-later}
 use Rattle.safe_pieces.specs.declared.state.SafeState.{SafeState}
 use Rattle.safe_pieces.specs.Sizes.{at_once, least_room}
@@ -41,8 +42,8 @@ Takes-nil state room =
     let none : held_in state ++ [] ≡ held_in state = append-nil (held_in state) in
     record {
       calls = [];
-      continues = λ before is. Continues-nil before;
-      stream = λ before is. subst (λ l. StreamStandsFor state.stream l) (sym (append-nil before)) is;
+      continues = λ before is. ContinuesLog-nil before;
+      stream = λ before is. subst (λ l. StandsForLog state.stream l) (sym (append-nil before)) is;
       last = sym (ap (last_from (before_in state)) none ∙ at.2);
       held = sym (ap waiting none ∙ at.1);
       few_calls = omega arith;
@@ -73,8 +74,8 @@ module _ (old mid new : SafeState) (piece more room between rest after : List �
   pub Takes-append : Takes old new (piece ++ more) room after (written + further)
   Takes-append = record {
     calls = one.calls ++ two.calls;
-    continues = λ before is. Continues-append before piece more one.calls two.calls (one.continues before is) (two.continues (before ++ piece) (one.stream before is));
-    stream = λ before is. subst (λ l. StreamStandsFor new.stream l) (append_assoc before piece more) (two.stream (before ++ piece) (one.stream before is));
+    continues = λ before is. ContinuesLog-append before piece more one.calls two.calls (one.continues before is) (two.continues (before ++ piece) (one.stream before is));
+    stream = λ before is. subst (λ l. StandsForLog new.stream l) (append_assoc before piece more) (two.stream (before ++ piece) (one.stream before is));
     last = two.last ∙ ap₂ (λ b h. last_from b (h ++ characters two.calls)) one.last one.held
         ∙ sym (last_from-append (before_in old) first (characters two.calls)) ∙ ap (last_from (before_in old)) (sym joined);
     held = two.held ∙ ap (λ h. waiting (h ++ characters two.calls)) one.held
@@ -90,10 +91,10 @@ module _ (old new : SafeState) (piece room room_after : List ℕ) (written : ℕ
   -- where the safe text stands after these bytes too
   pub StandsFor-taken : (before : List ℕ) → StandsFor old before → StandsFor new (before ++ piece)
   StandsFor-taken before is =
-      let own = machine_calls decoded before (new_machine []) in
-      let are = AreCalls-machine before in
-      let only : (calls : List Call) → AreCalls (before ++ piece) calls → own ++ takes.calls ≡ calls =
-      λ calls these. AreCalls-only (before ++ piece) (own ++ takes.calls) calls (takes.continues before is.stream own are) these in
+      let own = machine_calls decoded (as_read before) (new_machine []) in
+      let are = AreCalls-machine (as_read before) in
+      let only : (calls : List Call) → AreCalls (as_read (before ++ piece)) calls → own ++ takes.calls ≡ calls =
+      λ calls these. AreCalls-only (as_read (before ++ piece)) (own ++ takes.calls) calls (takes.continues before is.stream own are) these in
       record {
         stream = takes.stream before is.stream;
         last = λ calls these.
@@ -105,9 +106,9 @@ module _ (old new : SafeState) (piece room room_after : List ℕ) (written : ℕ
       }
 
   -- what is then decided
-  text-taken : (before : List ℕ) → StandsFor old before → (own all : List Call) → AreCalls before own → AreCalls (before ++ piece) all → decided all ≡ decided own ++ take written room_after
+  text-taken : (before : List ℕ) → StandsFor old before → (own all : List Call) → AreCalls (as_read before) own → AreCalls (as_read (before ++ piece)) all → decided all ≡ decided own ++ take written room_after
   text-taken before is own all are these =
-      ap decided (AreCalls-only (before ++ piece) all (own ++ takes.calls) these (takes.continues before is.stream own are))
+      ap decided (AreCalls-only (as_read (before ++ piece)) all (own ++ takes.calls) these (takes.continues before is.stream own are))
       ∙ decided-append own takes.calls
       ∙ ap (λ t. decided own ++ t)
       (ap₂ (λ b h. encode_utf8_all (decided_from b (h ++ characters takes.calls))) (sym (is.last own are)) (sym (is.held own are)) ∙ sym takes.text)
@@ -118,10 +119,10 @@ module _ (old new : SafeState) (piece room room_after : List ℕ) (written : ℕ
 
   scalars-taken : AllByRecursion IsScalar made_of
   scalars-taken =
-      let pending = pending_of old.stream in
-      let own = machine_calls decoded pending (new_machine []) in
+      let log = any_log (pending_of old.stream) in
+      let own = machine_calls decoded (as_read log.0) (new_machine []) in
       all-append IsScalar (held_in old) (characters takes.calls) (held-scalars (held_numbered old.held))
-      (scalars-later own takes.calls (lawful (pending ++ piece) (own ++ takes.calls) (takes.continues pending refl own (AreCalls-machine pending))))
+      (scalars-later own takes.calls (lawful-log log.0 piece takes.calls (takes.continues log.0 log.1)))
 
   utf8-taken : IsUtf8 (take written room_after)
   utf8-taken = subst IsUtf8 (sym takes.text) (decided-utf8 (before_in old) made_of scalars-taken)
@@ -190,3 +191,27 @@ text-held start writer after calls buffer answer begins empty without taken fits
     let text = text_by writer (characters calls) in
     let no_fault = no_fault-within text start (output_of writer) (output_of after) begins empty without taken.added (omega (arith, text-short writer calls, fits)) in
     (held-all text start (output_of writer) (output_of after) begins empty without taken.added buffer answer no_fault finishes).1
+
+-- what is decided of some calls, and the rest of the safe text of these and others
+safe-rest : (own more : List Call) → safe (own ++ more)
+    ≡ decided own ++ encode_utf8_all (safe_from (last_from 0 (characters own)) (waiting (characters own) ++ characters more))
+safe-rest own more =
+    let all = own ++ more in
+    let b = last_from 0 (characters own) in
+    let h = waiting (characters own) ++ characters more in
+    let left : undecided all ≡ encode_utf8_all (undecided_from b h) =
+    ap₂ (λ x w. encode_utf8_all (safe_from x w)) (last-append own more) (waiting-more own more) in
+    sym (whole-encoded 0 (characters all))
+    ∙ ap₂ (λ (l r : List ℕ). l ++ r) (decided-append own more) left
+    ∙ append_assoc (decided own) (encode_utf8_all (decided_from b h)) (encode_utf8_all (undecided_from b h))
+    ∙ ap (λ l. decided own ++ l) (whole-encoded b h)
+
+-- where the stream ends, that is what the state still writes
+pub end-rest : (old : SafeState) (calls : List Call) → ((before : List ℕ) → StandsForLog old.stream before → EndsLog before calls)
+    → (before : List ℕ) → StandsFor old before → (own all : List Call) → AreCalls (as_read before) own → AreCalls (as_read_whole before) all
+    → safe all ≡ decided own ++ encode_utf8_all (safe_from (before_in old) (held_in old ++ characters calls))
+end-rest old calls adds before is own all are these =
+    ap safe (AreCalls-only (as_read_whole before) all (own ++ calls) these (adds before is.stream own are))
+    ∙ safe-rest own calls
+    ∙ ap (λ t. decided own ++ t)
+    (ap₂ (λ b h. encode_utf8_all (safe_from b (h ++ characters calls))) (sym (is.last own are)) (sym (is.held own are)))

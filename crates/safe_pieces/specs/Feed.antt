@@ -3,30 +3,32 @@ use Rattle.std.specs.List.{AllByRecursion}
 use Rattle.std.specs.Str.{chars, encode_utf8_all}
 use Rattle.std.specs.Prelude.{◌≡◌, ◌<◌, ◌≤◌, ◌*◌, ℕ, List, [], ◌++◌, length, take, drop, IsTrue, IsUtf8}
 use Rattle.anstyle_parse.specs.Stream.Call.{Call}
-use Rattle.anstyle_parse.specs.Stream.Calls.{AreCalls, Continues}
-use Rattle.strip_pieces.specs.State.{StandsFor as StreamStandsFor}
+use Rattle.anstyle_parse.specs.Stream.Calls.{AreCalls}
+use Rattle.anstyle_parse.specs.Machine.AsRead.{as_read, as_read_whole}
+use Rattle.strip_pieces.specs.Log.{StandsForLog, ContinuesLog, EndsLog}
 use Rattle.safe_text.specs.Classes.{is_of_safe_text}
-use Rattle.safe_text.specs.Safe.{characters, safe_from}
-use Rattle.safe_text.specs.Decided.{decided_from, last_from, waiting, decided, undecided}
+use Rattle.safe_text.specs.Safe.{characters, safe_from, safe}
+use Rattle.safe_text.specs.Decided.{decided_from, last_from, waiting, decided}
 use Rattle.safe_pieces.specs.declared.state.SafeState.{SafeState}
 use Rattle.safe_pieces.specs.Sizes.{most_safe, at_once, least_room, end_room}
 use Rattle.safe_pieces.specs.State.{before_in, held_in, StandsFor}
 
 -- The text is what is decided of all bytes, beyond what was decided of those before.
 abbrev pub IsSafeOf : (before bytes text : List ℕ) → Type 0
-IsSafeOf before bytes text = (own all : List Call) → AreCalls before own → AreCalls (before ++ bytes) all
+IsSafeOf before bytes text = (own all : List Call) → AreCalls (as_read before) own → AreCalls (as_read (before ++ bytes)) all
     → decided all ≡ decided own ++ text
 
--- It is what still waits at the end of the bytes.
+-- It is the rest of the safe text, where the bytes end: what still waits, and U+FFFD where a character is begun.
 abbrev pub IsEndOf : (bytes text : List ℕ) → Type 0
-IsEndOf bytes text = (calls : List Call) → AreCalls bytes calls → text ≡ undecided calls
+IsEndOf bytes text = (own all : List Call) → AreCalls (as_read bytes) own → AreCalls (as_read_whole bytes) all
+    → safe all ≡ decided own ++ text
 
 -- All bytes of a piece were taken, and their safe text stands at the front of the room. This is so for any bytes in the
 -- state: the text goes on from where the state says that it stands.
 pub record Takes (old new : SafeState) (piece room room_after : List ℕ) (written : ℕ) : Type 0 where
   pub calls : List Call
-  pub continues : (before : List ℕ) → StreamStandsFor old.stream before → Continues before piece calls
-  pub stream : (before : List ℕ) → StreamStandsFor old.stream before → StreamStandsFor new.stream (before ++ piece)
+  pub continues : (before : List ℕ) → StandsForLog old.stream before → ContinuesLog before piece calls
+  pub stream : (before : List ℕ) → StandsForLog old.stream before → StandsForLog new.stream (before ++ piece)
   pub last : before_in new ≡ last_from (before_in old) (held_in old ++ characters calls)
   pub held : held_in new ≡ waiting (held_in old ++ characters calls)
   pub few_calls : length calls ≤ 2 * length piece
@@ -65,14 +67,16 @@ pub record Refuses (old new : SafeState) (piece room room_after : List ℕ) : Ty
   pub same_state : new ≡ old
   pub same_room : room_after ≡ room
 
--- What still waits stands at the front of the room, and the state begins a stream.
+-- What still waits, and what the end leads to, stands at the front of the room, and the state begins a stream.
 pub record Ends (old new : SafeState) (room room_after : List ℕ) (written : ℕ) : Type 0 where
   pub enough_room : end_room ≤ length room
   pub written_fits : written ≤ end_room
   -- whatever the state held
-  pub ending : take written room_after ≡ encode_utf8_all (safe_from (before_in old) (held_in old))
+  pub calls : List Call
+  pub adds : (before : List ℕ) → StandsForLog old.stream before → EndsLog before calls
+  pub ending : take written room_after ≡ encode_utf8_all (safe_from (before_in old) (held_in old ++ characters calls))
   pub untouched : drop written room_after ≡ drop written room
-  -- whatever bytes the state stood for, it is what still waits at their end
+  -- whatever bytes the state stood for, it is the rest of their safe text
   pub text : (before : List ℕ) → StandsFor old before → IsEndOf before (take written room_after)
   pub begins : StandsFor new []
 

@@ -14,6 +14,6 @@ least_room = most_safe 1
 abbrev pub at_once : ℕ → ℕ
 at_once count = 20 * count + 40
 
--- what waits at most
+-- what waits at most, and U+FFFD
 abbrev pub end_room : ℕ
-end_room = most_safe 0
+end_room = most_safe 0 + 10

@@ -2,7 +2,8 @@
 use Rattle.std.specs.Prelude.{◌≡◌, ℕ, ◌==◌, ◌&&◌, ◌||◌, nat_lt, nat_le, List, if◌then◌else◌}
 use Rattle.anstyle_parse.specs.Stream.Call.{Call}
 use Rattle.anstyle_parse.specs.Stream.Calls.{AreCalls}
-use Rattle.strip_pieces.specs.State.{StandsFor as StreamStandsFor}
+use Rattle.anstyle_parse.specs.Machine.AsRead.{as_read}
+use Rattle.strip_pieces.specs.Log.{StandsForLog}
 use Rattle.safe_text.specs.declared.held.Held.{Held}
 use Rattle.safe_text.specs.declared.held.Held.TheVariants.{Nothing, Return, Less, LessU, Space, NonJoiner, Joiner, TextSelector, EmojiSelector}
 use Rattle.safe_text.specs.Held.{held_characters}
@@ -34,11 +35,12 @@ before_in state = character_numbered state.before
 abbrev pub held_in : SafeState → List ℕ
 held_in state = held_characters (held_numbered state.held)
 
--- The state stands for the bytes before: its stream does, and its safe text stands where it does after their calls.
+-- The state stands for the bytes before: its stream does, and its safe text stands where it does after the calls of what
+-- is read of them.
 pub record StandsFor (state : SafeState) (before : List ℕ) : Type 0 where
-  pub stream : StreamStandsFor state.stream before
-  pub last : (calls : List Call) → AreCalls before calls → before_in state ≡ last_from 0 (characters calls)
-  pub held : (calls : List Call) → AreCalls before calls → held_in state ≡ waiting (characters calls)
+  pub stream : StandsForLog state.stream before
+  pub last : (calls : List Call) → AreCalls (as_read before) calls → before_in state ≡ last_from 0 (characters calls)
+  pub held : (calls : List Call) → AreCalls (as_read before) calls → held_in state ≡ waiting (characters calls)
 
 -- the numbers of a state are zero (the bytes behind a length of 0 may be any)
 pub record IsZero (state : SafeState) : Type 0 where

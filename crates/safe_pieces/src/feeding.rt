@@ -7,20 +7,23 @@ use crate::state::SafeState;
 use anstyle_parse::canon::{Output, WritingPerformer};
 use anstyle_parse::{Parser, Utf8Parser};
 use safe_text::SafeWriter;
-use strip_pieces::{Fed, LentBytes, put_front};
+use strip_pieces::{Fed, LentBytes, print_end, put_front};
+
+/// The bytes of safe text at most that a character leads to.
+const TEXT_OF_A_CHARACTER: usize = 10;
 
 /// The bytes of safe text at most that each byte of a piece leads to: it breaks a character off, which is written as
-/// U+FFFD, and is written visibly, or ends one that is.
-const TEXT_OF_A_BYTE: usize = 20;
+/// U+FFFD, and is written visibly or is another U+FFFD, or ends one that is.
+const TEXT_OF_A_BYTE: usize = 2 * TEXT_OF_A_CHARACTER;
 
 /// The bytes of safe text at most that what waits leads to.
-const TEXT_OF_THE_HELD: usize = 20;
+const TEXT_OF_THE_HELD: usize = 2 * TEXT_OF_A_CHARACTER;
 
 /// The bytes of room with which a stream always goes on: what one byte may lead to.
 pub const LEAST_ROOM: usize = TEXT_OF_A_BYTE + TEXT_OF_THE_HELD;
 
 /// The bytes of room that the end of a stream needs.
-pub const END_ROOM: usize = TEXT_OF_THE_HELD;
+pub const END_ROOM: usize = TEXT_OF_THE_HELD + TEXT_OF_A_CHARACTER;
 
 /// The bytes of safe text that are held at most before they go to the room.
 const CAPACITY: usize = 16384;
@@ -32,7 +35,8 @@ const SHORT_CAPACITY: usize = 1280;
 const LEAST_COUNT: usize = 32;
 
 impl SafeState {
-    /// Takes bytes from the front of the piece, and writes their safe text to the front of the room.
+    /// Takes bytes from the front of the piece, as a reader of logs reads them
+    /// ([`advance_log`](anstyle_parse::Parser::advance_log)), and writes their safe text to the front of the room.
     ///
     /// With `Some` all of their safe text is written but for what waits for the next character, and the state stands
     /// after all bytes so far. Of some bytes at least one is taken; with 20 bytes of room for each byte of the piece, and
@@ -54,8 +58,8 @@ impl SafeState {
         }
     }
 
-    /// Ends the stream: writes what still waits, to the front of the room, and answers how many bytes that are. The state
-    /// then begins a stream. Past them the room is as it was.
+    /// Ends the stream: writes what still waits, and U+FFFD where a character is begun, to the front of the room, and
+    /// answers how many bytes that are. The state then begins a stream. Past them the room is as it was.
     ///
     /// With `None` the room is below [`END_ROOM`]: then nothing was done.
     pub fn end(&mut self, room: &mut [u8]) -> Option<usize>
@@ -67,7 +71,9 @@ impl SafeState {
         }
         let mut lent = [0; END_ROOM];
         let output = Output::new(LentBytes::new(END_ROOM, &mut lent));
-        let writer = SafeWriter::resume(self.standing(), output);
+        let mut writer = SafeWriter::resume(self.standing(), output);
+        let is_begun = self.stream.is_in_char();
+        print_end(&mut writer, is_begun);
         let (buffer, _) = writer.into_output().finish();
         *self = SafeState::new();
         Some(put_front(room, buffer.bytes()))
@@ -112,7 +118,7 @@ impl SafeState {
         let mut writer = SafeWriter::resume(self.standing(), output);
         let mut parser = Parser::<Utf8Parser>::new();
         self.stream.resume_in(&mut parser);
-        parser.advance_heeded(&mut writer, piece);
+        parser.advance_log(&mut writer, piece);
         self.stream.save(&parser);
         self.save(writer.standing());
         let (buffer, _) = writer.suspend().finish();

@@ -1,25 +1,30 @@
 -- Pieces of a stream one after another, and how much text they lead to.
 use Rattle.std.proofs.Common.{◌≡◌, ◌<◌, ◌≤◌, ◌+◌, ◌*◌, ℕ, List, [], ◌∷◌, ◌++◌, length, take, drop, refl, sym, ap, ◌∙◌, subst, append_assoc, append-nil, arith, zero, suc, length-append}
-use Rattle.anstyle_parse.specs.Stream.Call.{Call}
+use Rattle.std.proofs.Math.Seq.{take-append_seam, drop-append_seam}
+use Rattle.anstyle_parse.specs.Stream.Call.{Call, print}
+use Rattle.anstyle_parse.specs.Stream.Characters.{replacement}
 use Rattle.anstyle_parse.specs.Stream.Calls.{AreCalls, Continues}
+use Rattle.anstyle_parse.specs.Machine.AsRead.{as_read, as_read_whole}
 use Rattle.anstyle_parse.specs.Machine.Decoder.{decoded}
 use Rattle.anstyle_parse.specs.Machine.Step.{Machine, AccumulatorStep, new_machine, step, step_calls, machine_calls}
 use Rattle.anstyle_parse.proofs.Agreement.Whole.{AreCalls-machine}
-use Rattle.anstyle_parse.proofs.Canonical.TextLength.{text_length-continued}
 use Rattle.anstyle_parse.proofs.Lawful.Calls.{lawful}
 use Rattle.anstyle_parse.proofs.Machine.CallCounts.{step_calls-few}
 use Rattle.ansi_strip.proofs.InertLemmas.{IsInertText-later, length-inert}
 use Rattle.ansi_strip.proofs.PieceLength.{length-stripped_text}
-use Rattle.ansi_strip.specs.Inert.{inert_text, IsInertText}
+use Rattle.ansi_strip.specs.Inert.{is_driving, inert_text, IsInertText}
 use Rattle.anstyle_parse.specs.declared.accumulator.Utf8Parser.{Utf8Parser}
 use Rattle.anstyle_parse.specs.declared.parser.Parser.{Parser}
 use Rattle.anstyle_parse.specs.Views.Accumulator.{front_of}
-use Rattle.anstyle_parse.specs.Views.Parser.{IsAfter}
+use Rattle.anstyle_parse.specs.Views.Parser.{AreBelow, IsAfter}
 use Rattle.strip_pieces.specs.declared.slice_writer.SliceWriter.{SliceWriter}
 use Rattle.strip_pieces.specs.declared.state.StreamState.{StreamState}
-use Rattle.strip_pieces.specs.Feed.{least_room, most_text, Feeds, IsTaken}
+use Rattle.strip_pieces.specs.Feed.{least_room, end_room, most_text, Feeds, Ends, IsTaken}
+use Rattle.strip_pieces.specs.Log.{StandsForLog, ContinuesLog, EndsLog}
 use Rattle.strip_pieces.specs.SliceWriter.{with_text}
 use Rattle.strip_pieces.specs.State.{pending_of, StandsFor}
+use Rattle.strip_pieces.proofs.LogLemmas.{any_log, lawful-log}
+use Rattle.strip_pieces.proofs.LogLength.{text_length-log}
 use Rattle.strip_pieces.proofs.SliceWriterLemmas.{Puts-length, with_text-front, with_text-rest}
 
 -- what continues some bytes, and then what continues all of those
@@ -29,13 +34,12 @@ Continues-append before first second calls more one two = λ own are.
     (subst (λ (l : List Call). AreCalls ((before ++ first) ++ second) l) (append_assoc own calls more) (two (own ++ calls) (one own are)))
 
 -- the inert text of the calls that continue others: it is UTF-8 of inert characters, and not long
-IsInertText-continued : (before bytes : List ℕ) (calls : List Call) → Continues before bytes calls → IsInertText (inert_text calls)
+IsInertText-continued : (before bytes : List ℕ) (calls : List Call) → ContinuesLog before bytes calls → IsInertText (inert_text calls)
 IsInertText-continued before bytes calls continues =
-    let first = machine_calls decoded before (new_machine []) in
-    IsInertText-later first calls (lawful (before ++ bytes) (first ++ calls) (continues first (AreCalls-machine before)))
+    IsInertText-later (machine_calls decoded (as_read before) (new_machine [])) calls (lawful-log before bytes calls continues)
 
-pub length-continued : (before bytes : List ℕ) (calls : List Call) → Continues before bytes calls → length (inert_text calls) ≤ 3 * length bytes + 1
-length-continued before bytes calls continues = omega (arith, length-inert calls, length-stripped_text calls, text_length-continued before bytes calls continues)
+pub length-continued : (before bytes : List ℕ) (calls : List Call) → ContinuesLog before bytes calls → length (inert_text calls) ≤ 3 * length bytes + 3
+length-continued before bytes calls continues = omega (arith, length-inert calls, length-stripped_text calls, text_length-log before bytes calls continues)
 
 -- two calls for each byte at most
 pub length-machine_calls : {A : Type 0} (adds : AccumulatorStep A) (bytes : List ℕ) (m : Machine A) → length (machine_calls adds bytes m) ≤ 2 * length bytes
@@ -69,15 +73,15 @@ Feeds-taken old new parser parser_after piece room room_after text text_after ta
     let same = ap length begins in
     let front : take written room_after ≡ left =
     ap (λ n. take n room_after) count ∙ ap (λ l. take (length left) l) shown ∙ with_text-front left room in
-    let held = pending_of old in
-    let inert = subst IsInertText (sym front) (IsInertText-continued held (take taken piece) took.calls (took.continues held (resumed held refl))) in
+    let held = any_log (pending_of old) in
+    let inert = subst IsInertText (sym front) (IsInertText-continued held.0 (take taken piece) took.calls (took.continues held.0 (resumed (as_read held.0) held.1))) in
     let none : taken ≡ 0 → written ≡ 0 = λ e. count ∙ ap (λ l. length (inert_text l)) (took.nothing e) in
     record {
       enough_room = enough;
       taken_fits = took.taken_fits;
       written_fits = omega (arith, took.fits);
-      stands = λ before is. saved (before ++ take taken piece) (took.stands before (resumed before is));
-      text = λ before is. (took.calls, took.continues before (resumed before is), front);
+      stands = λ before is. saved (as_read (before ++ take taken piece)) (took.stands before (resumed (as_read before) is));
+      text = λ before is. (took.calls, took.continues before (resumed (as_read before) is), front);
       utf8 = inert.0;
       inert = inert;
       untouched = ap (λ n. drop n room_after) count ∙ ap (λ l. drop (length left) l) shown ∙ with_text-rest left room ∙ ap (λ n. drop n room) (sym count);
@@ -87,3 +91,42 @@ Feeds-taken old new parser parser_after piece room room_after text text_after ta
       nothing = none;
       bounded = omega (arith, took.bounded);
     }
+
+-- The end leads to these calls, whose text stands at the front of the room.
+pub Ends-of : (old new : StreamState) (room room_after text : List ℕ) (written : ℕ) (calls : List Call) → end_room ≤ length room → length text ≤ end_room
+    → written ≡ length text → room_after ≡ text ++ drop (length text) room → text ≡ inert_text calls
+    → ((before : List ℕ) → StandsForLog old before → EndsLog before calls) → StandsForLog new [] → Ends old new room room_after written
+Ends-of old new room room_after text written calls enough short count is leads ends begins =
+    let rest = drop (length text) room in
+    let front : take written room_after ≡ inert_text calls =
+    ap (λ n. take n room_after) count ∙ ap (take (length text)) is ∙ take-append_seam text rest ∙ leads in
+    let held = any_log (pending_of old) in
+    let first = machine_calls decoded (as_read held.0) (new_machine []) in
+    record {
+      enough_room = enough;
+      written_fits = omega (arith, count, short);
+      text = λ before stands. (calls, ends before stands, front);
+      inert = subst IsInertText (sym front)
+          (IsInertText-later first calls (lawful (as_read_whole held.0) (first ++ calls) (ends held.0 held.1 first (AreCalls-machine (as_read held.0)))));
+      untouched = ap (λ n. drop n room_after) count ∙ ap (drop (length text)) is ∙ drop-append_seam text rest ∙ ap (λ n. drop n room) (sym count);
+      begins = begins;
+    }
+
+-- U+FFFD, and none
+pub inert_text-replacement : 0xEF ∷ 0xBF ∷ 0xBD ∷ [] ≡ inert_text (print replacement ∷ [])
+unfolding is_driving lib.Utf8.encode
+inert_text-replacement = refl
+
+-- a part of a list of bytes is one
+below-drop : (count : ℕ) (bytes : List ℕ) → AreBelow 256 bytes → AreBelow 256 (drop count bytes)
+below-drop zero bytes below = below
+below-drop (suc count) [] below = tt
+below-drop (suc count) (b ∷ bytes) below = below-drop count bytes below.1
+
+below-take : (count : ℕ) (bytes : List ℕ) → AreBelow 256 bytes → AreBelow 256 (take count bytes)
+below-take zero bytes below = tt
+below-take (suc count) [] below = tt
+below-take (suc count) (b ∷ bytes) below = (below.0, below-take count bytes below.1)
+
+pub below-part : (from count : ℕ) (bytes : List ℕ) → AreBelow 256 bytes → AreBelow 256 (take count (drop from bytes))
+below-part from count bytes below = below-take count (drop from bytes) (below-drop from bytes below)

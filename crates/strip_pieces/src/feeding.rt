@@ -1,19 +1,29 @@
-//! A piece of a stream.
+//! A piece of a stream, and its end.
 ghost use Rattle.std.specs.Prelude.{◌≡◌, ◌≤◌, ◌+◌, ℕ, List, length, IfSome, IfNone};
+ghost use Rattle.anstyle_parse.specs.Machine.AsRead.{as_read};
 ghost use Rattle.anstyle_parse.specs.Views.Accumulator.{front_of};
 ghost use Rattle.anstyle_parse.specs.Views.Parser.{IsAfter};
-ghost use Rattle.strip_pieces.specs.Feed.{least_room, most_text, Feeds, IsTaken, Refuses};
+ghost use Rattle.strip_pieces.specs.Feed.{least_room, most_text, Feeds, IsTaken, Refuses, Ends, RefusesEnd};
 
+use crate::lent::put_front;
 use crate::slice_writer::SliceWriter;
 use crate::state::StreamState;
 use anstyle_parse::{Parser, Utf8Parser};
 
-/// The bytes of text at most that each byte of a piece leads to. A piece leads to one more where
-/// it ends a character that was begun before.
-const TEXT_OF_A_BYTE: usize = 3;
+/// U+FFFD.
+const REPLACEMENT: [u8; 3] = [0xEF, 0xBF, 0xBD];
 
-/// The bytes of room with which a stream always goes on: four, for what one byte may lead to.
-pub const LEAST_ROOM: usize = TEXT_OF_A_BYTE + 1;
+/// The bytes of text at most that each byte of a piece leads to.
+const TEXT_OF_A_BYTE: usize = REPLACEMENT.len();
+
+/// The bytes of text that a character leads to that was begun before, where a piece breaks it.
+const TEXT_OF_THE_BEGUN: usize = REPLACEMENT.len();
+
+/// The bytes of room with which a stream always goes on: six, for what one byte may lead to.
+pub const LEAST_ROOM: usize = TEXT_OF_A_BYTE + TEXT_OF_THE_BEGUN;
+
+/// The bytes of room that the end of a stream needs.
+pub const END_ROOM: usize = TEXT_OF_THE_BEGUN;
 
 /// What a call took and wrote.
 #[derive(Debug, Clone, Copy, PartialEq, Eq)]
@@ -26,12 +36,13 @@ pub struct Fed {
 
 impl StreamState {
     /// Takes bytes from the front of the piece, and writes their inert text to the front of the room: the text that
-    /// [`strip_inert`](ansi_strip::strip_inert) writes of them, which drives no terminal.
+    /// [`strip_inert`](ansi_strip::strip_inert) writes of what is read of them, as of a log
+    /// ([`advance_log`](anstyle_parse::Parser::advance_log)). It drives no terminal.
     ///
     /// With `Some` all of their text is written, and the state stands after all bytes so far.
     /// All of the piece is taken, unless less than [`LEAST_ROOM`] is left of the room; with that
     /// much at least one byte is taken, and with three bytes of room for each byte of the piece,
-    /// and one more, all of them are. The text is UTF-8 by itself. Past it the room is as it was.
+    /// and three more, all of them are. The text is UTF-8 by itself. Past it the room is as it was.
     ///
     /// With `None` the piece is not empty and the room is below [`LEAST_ROOM`]: then nothing
     /// was done.
@@ -50,13 +61,33 @@ impl StreamState {
         self.save(&parser);
         Some(Fed { taken, written })
     }
+
+    /// Ends the stream: where a character is begun, which can't be whole any more, writes U+FFFD to the front of the room.
+    /// Answers how many bytes are written. The state then begins a stream. Past them the room is as it was.
+    ///
+    /// With `None` the room is below [`END_ROOM`]: then nothing was done.
+    pub fn end(&mut self, room: &mut [u8]) -> Option<usize>
+        ensures ended { IfSome result (λ written. Ends self.old self.new room.old room.new written) }
+        ensures refused { IfNone result (RefusesEnd self.old self.new room.old room.new) }
+    {
+        if room.len() < END_ROOM {
+            return None;
+        }
+        let is_begun = self.is_in_char();
+        *self = StreamState::new();
+        if is_begun {
+            Some(put_front(room, &REPLACEMENT))
+        } else {
+            Some(0)
+        }
+    }
 }
 
 /// Gives bytes of the piece to the parser for as long as there is room for what they may lead
 /// to, and answers how many.
 fn take(parser: &mut Parser, piece: &[u8], room: &mut SliceWriter) -> usize
     requires room { room.old.written ≤ length room.old.into.now }
-    requires stands { (before : List ℕ) × IsAfter front_of parser.old before }
+    requires stands { (before : List ℕ) × IsAfter front_of parser.old (as_read before) }
     ensures same_reference { room.new.into.ghost_name ≡ room.old.into.ghost_name }
     ensures taken { IsTaken parser.old parser.new piece.now room.old room.new result }
     ensures all { room.new.written + least_room ≤ length room.new.into.now
@@ -66,8 +97,8 @@ fn take(parser: &mut Parser, piece: &[u8], room: &mut SliceWriter) -> usize
 {
     let mut taken = 0;
     while taken < piece.len() && room.left() >= LEAST_ROOM {
-        let count = (piece.len() - taken).min((room.left() - 1) / TEXT_OF_A_BYTE);
-        parser.advance_heeded(room, &piece[taken..taken + count]);
+        let count = (piece.len() - taken).min((room.left() - TEXT_OF_THE_BEGUN) / TEXT_OF_A_BYTE);
+        parser.advance_log(room, &piece[taken..taken + count]);
         taken += count;
     }
     taken

@@ -1,7 +1,8 @@
 //! Strips a stream of its escapes that comes in pieces, with a state that its caller owns. Its text drives no terminal.
 //!
 //! A [`StreamState`] says where the stream stands; [`StreamState::feed`] takes bytes of a piece
-//! and writes their text into a slice. No memory is taken, and no input is refused.
+//! and writes their text into a slice, and [`StreamState::end`] what the end leads to. No memory is taken, and no input
+//! is refused.
 //!
 //! ```
 //! let mut state = StreamState::new();
@@ -19,7 +20,7 @@ mod saved;
 mod slice_writer;
 mod state;
 
-pub use feeding::{Fed, LEAST_ROOM};
+pub use feeding::{END_ROOM, Fed, LEAST_ROOM};
 pub use front::put_over;
 pub use lent::{LentBytes, put_front};
-pub use state::StreamState;
+pub use state::{StreamState, print_end};

@@ -1,14 +1,16 @@
 //! The state of a stream between its pieces.
-ghost use Rattle.std.specs.Prelude.{◌≡◌, ◌≤◌, [], ℕ, List, length};
+ghost use Rattle.std.specs.Prelude.{◌≡◌, ◌≤◌, ◌↔◌, [], ℕ, List, length, IsTrue};
 ghost use Rattle.anstyle_parse.specs.Laws.Checkpoint.{max_checkpoint};
 ghost use Rattle.anstyle_parse.specs.Views.Accumulator.{front_of};
+ghost use Rattle.anstyle_parse.specs.Machine.Stands.{EndsInCharacter};
 ghost use Rattle.anstyle_parse.specs.Views.Parser.{IsAfter};
+ghost use Rattle.strip_pieces.specs.Log.{StandsForLog, EndsLog, end_calls};
 ghost use Rattle.strip_pieces.specs.State.{pending_of, StandsFor};
 
 use crate::saved::Saved;
 use crate::slice_writer::SliceWriter;
 use anstyle_parse::canon::{MAX_CHECKPOINT, checkpoint};
-use anstyle_parse::{Parser, Utf8Parser};
+use anstyle_parse::{Parser, PerformText, Utf8Parser};
 
 /// Where a stream stands between two pieces.
 ///
@@ -28,6 +30,7 @@ impl StreamState {
     pub fn new() -> StreamState
         ensures empty { pending_of result ≡ [] }
         ensures begins { StandsFor result [] }
+        ensures begins_log { StandsForLog result [] }
     {
         StreamState {
             length: 0,
@@ -57,6 +60,14 @@ impl StreamState {
         parser.advance_heeded(&mut SliceWriter::new(&mut none), &self.pending[..length]);
     }
 
+    /// Whether the stream stands inside of a character. Where it ends there, that character is U+FFFD.
+    pub fn is_in_char(&self) -> bool
+        ensures stream { (before : List ℕ) → StandsFor self.now before → (IsTrue result ↔ EndsInCharacter before) }
+        ensures ends { (before : List ℕ) → StandsForLog self.now before → EndsLog before (end_calls result) }
+    {
+        self.resume().is_in_char()
+    }
+
     /// Stands where the parser stands.
     pub fn save(&mut self, parser: &Parser)
         requires { (before : List ℕ) × IsAfter front_of parser.now before }
@@ -75,5 +86,14 @@ impl StreamState {
     {
         self.pending[..bytes.len()].copy_from_slice(bytes);
         self.length = bytes.len();
+    }
+}
+
+/// The end of a stream, by whether a character is begun: that is U+FFFD.
+pub fn print_end<P: PerformText>(performer: &mut P, is_begun: bool)
+    ensures { P.receives performer.old (end_calls is_begun) performer.new }
+{
+    if is_begun {
+        performer.print('\u{FFFD}');
     }
 }

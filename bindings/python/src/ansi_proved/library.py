@@ -5,7 +5,7 @@ import os
 
 FEW = 1024  # bytes of a whole that goes through what an earlier one went through
 MOST = 4096  # bytes that one call of a Converter takes at most
-CALL_ROOM, END_ROOM = 16384, 20  # bytes that one such call, and an end, write at most
+CALL_ROOM, END_ROOM = 16384, 6539  # bytes that one such call, and an end, write at most
 ROOM = 64 << 10  # bytes that are handed on at once, at most
 FOLDER = os.path.dirname(os.path.abspath(__file__))
 

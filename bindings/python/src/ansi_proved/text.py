@@ -3,10 +3,13 @@
 import ctypes
 import re
 
-from .library import FEED, FEW, Counts, Idle, Room, address_of, decoded, exact, function, joined, pieces_of, whole_of
+from .library import (
+    END, FEED, FEW, Counts, Idle, Room, address_of, decoded, exact, function, joined, parts_of, pieces_of, whole_of,
+)  # fmt: skip
 from .safe import safe as safe_text, safe_of
 
 MOST = 64 << 10  # bytes that one call is given at most
+END_ROOM = 3  # bytes that an end writes at most
 SHORT = 256  # characters of a str that is looked through sooner than it is stripped
 # characters that drive no terminal, and controls that are left
 CLEAN = re.compile("[\t\n\r\x20-\x7e\xa0-\ud7ff\ue000-\U0010ffff]*")
@@ -19,11 +22,12 @@ class State(ctypes.Structure):
 
 
 _feed = function("ansi_strip_feed", *FEED)
+_end = function("ansi_strip_end", *END)
 
 
 def room_of(count):
     """The bytes of room in which so many are taken at once: ANSI_STRIP_ROOM."""
-    return 3 * count + 1
+    return 3 * count + 3
 
 
 class Stripper:
@@ -49,6 +53,15 @@ class Stripper:
             if counts.written:
                 yield made(room.view[: counts.written])
 
+    def ends(self, made=bytes):
+        """What comes at the end, in no part or one: U+FFFD where a character is begun."""
+        if not self._state.length:
+            return  # (nothing is begun: pending_of of strip_pieces)
+        room, (_, written) = self._room, self._counts.places()
+        _end(ctypes.addressof(self._state), room.address, room.size, written)
+        if self._counts.written:
+            yield made(room.view[: self._counts.written])
+
 
 def text_of(stream, *, safe=False):
     """Gives the text of a stream that comes in pieces, each bytes, a bytearray or a memoryview: as `strip` leaves it.
@@ -56,27 +69,29 @@ def text_of(stream, *, safe=False):
     The text of a piece is given before the next piece is asked for, but where it is safe for a carriage return, a `<`, a
     `<U` or a joiner that comes last. Each part is UTF-8 by itself.
     """
-    if safe:
-        return safe_of(stream)
-    pieces, stripper = pieces_of(stream), Stripper()
-    return (text for piece in pieces for text in stripper.texts(piece))
+    return safe_of(stream) if safe else parts_of(Stripper(), pieces_of(stream))
 
 
 class ShortStripper:
     """Strips wholes of FEW bytes at most, each a stream of its own."""
 
     def __init__(self):
-        self._state, self._counts, self._room = State(), Counts(), Room(room_of(FEW))
+        self._state, self._counts, self._room = State(), Counts(), Room(room_of(FEW) + END_ROOM)
         self._state_at = ctypes.addressof(self._state)
         self._rest = self._room.address, self._room.size, *self._counts.places()
 
     def text(self, piece):
         """The text of a whole, as memory that the next one is written to."""
         self._state.length = 0  # (so a stream begins, whatever stands behind: pending_of of strip_pieces)
+        room, counts = self._room, self._counts
         _feed(self._state_at, piece, len(piece), *self._rest)
-        if self._counts.taken != len(piece):
+        count = counts.written
+        if counts.taken != len(piece):
             raise RuntimeError("the library asks for more room than ansi_strip.h of this version")
-        return self._room.view[: self._counts.written]
+        if self._state.length:  # (else nothing is begun)
+            _end(self._state_at, room.address + count, room.size - count, self._rest[3])
+            count += counts.written
+        return room.view[:count]
 
 
 SHORT_STRIPPERS = Idle(ShortStripper)
@@ -96,7 +111,8 @@ def is_clean(text):
 def strip(text, *, safe=False):
     """The text of terminal output: of a str a str, of bytes, a bytearray or a memoryview bytes.
 
-    It drives no terminal: DEL and U+0080 to U+009F, which some terminals take for controls, are left out too. Where it is
+    It drives no terminal: DEL and U+0080 to U+009F, which some terminals take for controls, are left out too. No other
+    byte vanishes: what is broken, and what belongs to no character, is U+FFFD. Where it is
     to be safe, it hides nothing, as that of `ansi2text --safe`: what shows nothing, turns the order of text round or is a
     control is written visibly, as `<U+202E>`. But text that a stream hides (SGR 8) is not marked.
     """
@@ -109,7 +125,7 @@ def strip(text, *, safe=False):
             return text  # (clean text is left as it is: laws::inert_clean_text of ansi_strip)
     piece, is_str = whole_of(text)
     if len(piece) > FEW:
-        return joined(lambda made: Stripper().texts(piece, made), is_str)
+        return joined(lambda made: parts_of(Stripper(), [piece], made), is_str)
     stripper = SHORT_STRIPPERS.taken()
     text = (decoded if is_str else bytes)(stripper.text(piece))
     SHORT_STRIPPERS.append(stripper)

@@ -123,6 +123,7 @@ use std::test::Fail;
 use strip_pieces::Fed;
 use strip_pieces::LEAST_ROOM;
 use strip_pieces::StreamState;
+use strip_pieces::print_end;
 use strip_pieces::put_over;
 use test_streams::Paper;
 use test_streams::TROUBLES;
@@ -245,7 +246,7 @@ fn names_of_html_in_pieces(rt: HostRuntime) {
     let style: StyleBytes = held.style;
     let color: ColorBytes = style.foreground;
     assert_eq!(rt; color.kind, 0);
-    let mut room = [0; html_pieces::LEAST_ROOM];
+    let mut room = [0; END_ROOM];
     // <a rel="nofollow noreferrer" href="http://a" class="ansi-link"><span class="ansi-f1">x, and </span></a>
     let fed = state.feed(b"\x1B]8;;http://a\x07\x1B[31mx", &mut room);
     assert!(rt;
@@ -254,7 +255,9 @@ fn names_of_html_in_pieces(rt: HostRuntime) {
             written: 86
         })
     );
-    assert!(rt; state.end(&mut room) == Some(END_ROOM));
+    assert!(rt; html_pieces::LEAST_ROOM < END_ROOM);
+    assert!(rt; state.end(&mut room[..END_ROOM - 1]) == None);
+    assert!(rt; state.end(&mut room) == Some(11));
     let plain = Element {
         style: Style::default(),
         link: b"",
@@ -487,6 +490,11 @@ fn names_of_styles_and_pieces(rt: HostRuntime) {
         taken: 1,
         written: 1,
     });
+    assert!(rt; !state.is_in_char());
+    assert!(rt; state.end(&mut room[..strip_pieces::END_ROOM - 1]) == None);
+    assert!(rt; state.end(&mut room) == Some(0));
+    let mut stripper = Stripper::over(Output::new(memory(rt.alloc())));
+    print_end(&mut stripper, true);
 }
 
 #[test]

@@ -34,6 +34,32 @@ fn byte_by_byte(rt: HostRuntime) -> Result<(), Fail> {
     Ok(())
 }
 
+/// A log in pieces of one byte: a byte of no character, a stamp that BEL ends, and half of a character at the end.
+#[test]
+fn as_a_log(rt: HostRuntime) -> Result<(), Fail> {
+    let mut state = SafeState::new();
+    let mut text = Vec::new(rt.alloc());
+    let mut room = [0; LEAST_ROOM];
+    for byte in b"M\xFCller\x1B_t=17\x07$\xC3\xFF<\xE2\x82" {
+        let fed = state.feed(&[*byte], &mut room);
+        let Some(Fed { taken: 1, written }) = fed else {
+            assert!(rt; false);
+            return Ok(());
+        };
+        if written <= room.len() {
+            text.extend_from_slice(&room[..written])?;
+        }
+    }
+    if let Some(written) = state.end(&mut room) {
+        if written <= room.len() {
+            text.extend_from_slice(&room[..written])?;
+        }
+    }
+    let wanted = "M\u{FFFD}ller$\u{FFFD}\u{FFFD}<\u{FFFD}";
+    assert_eq!(rt; text.as_slice(), wanted.as_bytes());
+    Ok(())
+}
+
 #[test]
 fn names_of_pieces(rt: HostRuntime) {
     let mut state = SafeState::new();

@@ -1,7 +1,8 @@
 -- Nothing is held.
 use Rattle.std.proofs.Common.{ℕ, List, [], take, refl, ap, sym, ◌∙◌, subst}
-use Rattle.anstyle_parse.proofs.Canonical.Items.{AreCalls-nil}
+use Rattle.anstyle_parse.specs.Machine.AsRead.{as_read}
 use Rattle.anstyle_parse.proofs.Division.Only.{AreCalls-only}
+use Rattle.strip_pieces.proofs.LogLemmas.{AreCalls-log_begins}
 use Rattle.anstyle_parse.specs.Machine.Decoder.{decoded}
 use Rattle.anstyle_parse.specs.Machine.Step.{new_machine, machine_after}
 use Rattle.anstyle_parse.specs.Machine.Stands.{StandsAfter}
@@ -12,8 +13,9 @@ use Rattle.safe_pieces.specs.State.{character_numbered, held_numbered}
 use Rattle.safe_pieces.proofs.laws.states.Goals as goal
 
 pub returns : goal.returns
+unfolding as_read
 returns c = λ state zero. record {
-  stream = subst (λ (l : List ℕ). StandsAfter (machine_after decoded l (new_machine [])) []) (sym (ap (λ n. take n state.stream.pending) zero.stream)) refl;
-  last = λ calls are. ap character_numbered zero.before ∙ ap (λ l. last_from 0 (characters l)) (AreCalls-only [] [] calls AreCalls-nil are);
-  held = λ calls are. ap (λ n. held_characters (held_numbered n)) zero.held ∙ ap (λ l. waiting (characters l)) (AreCalls-only [] [] calls AreCalls-nil are);
+  stream = subst (λ (l : List ℕ). StandsAfter (machine_after decoded l (new_machine [])) (as_read [])) (sym (ap (λ n. take n state.stream.pending) zero.stream)) refl;
+  last = λ calls are. ap character_numbered zero.before ∙ ap (λ l. last_from 0 (characters l)) (AreCalls-only (as_read []) [] calls AreCalls-log_begins are);
+  held = λ calls are. ap (λ n. held_characters (held_numbered n)) zero.held ∙ ap (λ l. waiting (characters l)) (AreCalls-only (as_read []) [] calls AreCalls-log_begins are);
 }

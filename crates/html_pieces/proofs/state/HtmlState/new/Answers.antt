@@ -1,6 +1,7 @@
 -- No calls were made, and nothing is held.
 use Rattle.std.proofs.Common.{false, [], ap, ap₂, ◌∙◌}
-use Rattle.anstyle_parse.proofs.Canonical.Items.{AreCalls-nil}
+use Rattle.anstyle_parse.specs.Machine.AsRead.{as_read}
+use Rattle.strip_pieces.proofs.LogLemmas.{AreCalls-log_begins}
 use Rattle.anstyle_parse.proofs.Division.Only.{AreCalls-only}
 use Rattle.ansi_html.specs.Html.{Element, at_start, standing_at_end}
 use Rattle.ansi_html.specs.Writer.{kept}
@@ -9,8 +10,8 @@ use Rattle.html_pieces.proofs.state.HtmlState.new.Goals as goal
 
 pub returns-clause-begins : goal.returns-clause-begins
 returns-clause-begins c = record {
-  stream = c.new.ensures.begins;
+  stream = c.new.ensures.begins_log;
   standing = λ calls are.
       ap₂ (λ (shown selected : Element). kept (record { shown = shown; selected = selected; returned = false })) c.none.ensures c.none-2.ensures
-      ∙ kept-start ∙ ap (λ l. standing_at_end at_start l) (AreCalls-only [] [] calls AreCalls-nil are);
+      ∙ kept-start ∙ ap (λ l. standing_at_end at_start l) (AreCalls-only (as_read []) [] calls AreCalls-log_begins are);
 }

@@ -1,18 +1,25 @@
 -- The HTML goes on from where the state says that it stands.
-use Rattle.std.proofs.Common.{◌≡◌, ◌≤◌, ◌++◌, length, refl, sym, ap, ap₂, ◌∙◌, subst, arith, length-take}
+use Rattle.std.proofs.Common.{◌≡◌, ◌≤◌, ◌++◌, length, sym, ap, ap₂, ◌∙◌, subst, arith, length-take}
+use Rattle.anstyle_parse.specs.Machine.AsRead.{as_read}
 use Rattle.anstyle_parse.specs.Views.Accumulator.{parser_after}
+use Rattle.anstyle_parse.specs.Views.AsRead.{read_by}
+use Rattle.anstyle_parse.proofs.Streams.{bytes_below}
 use Rattle.anstyle_parse.specs.Machine.Step.{machine_calls}
 use Rattle.anstyle_parse.specs.Views.Parser.{machine_of}
 use Rattle.std.specs.Option.{is_some}
 use Rattle.anstyle_parse.specs.Io.Output.{writer_in, fault_in, Finishes}
 use Rattle.strip_pieces.specs.declared.state.StreamState.{StreamState}
-use Rattle.strip_pieces.specs.State.{pending_of, StandsFor as StreamStandsFor}
+use Rattle.strip_pieces.specs.Log.{StandsForLog}
+use Rattle.strip_pieces.specs.State.{pending_of}
+use Rattle.strip_pieces.proofs.LogLemmas.{any_log, ContinuesLog-calls}
+use Rattle.strip_pieces.proofs.LogQuoted.{quoted-log}
 use Rattle.ansi_html.specs.Html.{Standing, html_from, standing_at_end}
 use Rattle.ansi_html.specs.Writer.{output_of, styling_of, standing_of as writer_standing, kept}
 use Rattle.ansi_html.proofs.SoundLemmas.{AreSound}
 use Rattle.ansi_html.proofs.PieceLemmas.{length-html_continued, AreSound-at_end}
 use Rattle.strip_pieces.specs.contracts.lent.LentBytesSink.TheImpl.{ghosts}
 use Rattle.html_pieces.specs.State.{styling_in, standing_of}
+use Rattle.html_pieces.proofs.LighterLemmas.{html-lighter}
 use Rattle.html_pieces.proofs.StateLemmas.{AreSound-kept, kept-sound}
 use Rattle.strip_pieces.proofs.LentLemmas.{held-all, longer, no_fault-of, some_fault-of, put-front, put-behind, put-length}
 use Rattle.html_pieces.proofs.state.HtmlState.take_through.Goals as goal
@@ -22,30 +29,35 @@ returns-then-is_some-clause-little_room c =
     let state = c.args.self.now in
     let piece = c.args.piece.now in
     let writer = c.go_on.new.self in
-    let taken = c.advance_texts.ensures.calls in
+    let taken = c.advance_log.ensures.calls in
     let held = pending_of state.stream in
-    let calls = machine_calls parser_after piece (machine_of c.resume_in.new.parser) in
-    let continues = c.advance_texts.ensures.stream held (c.resume_in.ensures held c.new-parser.ensures.stands refl) in
+    let log = any_log held in
+    let parser = c.resume_in.new.parser in
+    let calls = machine_calls parser_after (read_by parser piece) (machine_of parser) in
+    let continues = ContinuesLog-calls parser piece (bytes_below piece (λ i. omega (arith, c.type_inv.piece i))) log.0
+    (c.resume_in.ensures (as_read log.0) c.new-parser.ensures.stands log.1) in
+    let beside = quoted-log log.0 piece calls continues in
     let at : writer_standing writer ≡ standing_of state = c.go_on.ensures.standing ∙ ap kept c.standing.ensures in
-    let short = length-html_continued (styling_of writer) held piece calls (writer_standing writer)
-    (subst AreSound (sym at) (AreSound-kept _)) continues in
+    let short = length-html_continued (styling_of writer) held beside.raw beside.others (writer_standing writer)
+    (subst AreSound (sym at) (AreSound-kept _)) (beside.continues held (sym log.1)) in
+    let lighter = html-lighter (styling_of writer) (writer_standing writer) calls beside.others beside.lighter in
     let is_fault = c.fault.ensures ∙ ap fault_in c.output.ensures in
-    let fault = some_fault-of (fault_in (output_of c.advance_texts.new.performer)) (ap is_some (sym is_fault) ∙ sym c.is_some.ensures ∙ c.if-is_some.true) in
-    let more = longer (html_from (styling_of writer) (writer_standing writer) calls) c.new.result (output_of writer) (output_of c.advance_texts.new.performer)
+    let fault = some_fault-of (fault_in (output_of c.advance_log.new.performer)) (ap is_some (sym is_fault) ∙ sym c.is_some.ensures ∙ c.if-is_some.true) in
+    let more = longer (html_from (styling_of writer) (writer_standing writer) calls) c.new.result (output_of writer) (output_of c.advance_log.new.performer)
     (ap writer_in (c.go_on.ensures.output ∙ c.new-writer.ensures.output) ∙ c.new-output.ensures.writer) c.new.ensures.nothing
     (ap fault_in (c.go_on.ensures.output ∙ c.new-writer.ensures.output) ∙ c.new-output.ensures.no_fault) taken.added fault.0 fault.1 in
-    omega (arith, short, more, c.new.ensures.limit)
+    omega (arith, short, lighter, beside.as_long, more, c.new.ensures.limit)
 
 pub save-requires : goal.save-requires
 save-requires c =
-    let held = pending_of c.args.self.now.stream in
-    (held ++ c.args.piece.now, c.advance_texts.ensures.stands held (c.resume_in.ensures held c.new-parser.ensures.stands refl))
+    let log = any_log (pending_of c.args.self.now.stream) in
+    (as_read (log.0 ++ c.args.piece.now), c.advance_log.ensures.stands log.0 (c.resume_in.ensures (as_read log.0) c.new-parser.ensures.stands log.1))
 
 module _ (c : goal.After-standing-2) where
-  sound : AreSound (writer_standing c.advance_texts.new.performer)
+  sound : AreSound (writer_standing c.advance_log.new.performer)
   sound =
-      let calls = machine_calls parser_after c.args.piece.now (machine_of c.resume_in.new.parser) in
-      subst AreSound (sym c.advance_texts.ensures.calls.standing) (AreSound-at_end calls (writer_standing c.go_on.new.self) (subst AreSound (sym c.go_on.ensures.standing) (AreSound-kept _)))
+      let calls = machine_calls parser_after (read_by c.resume_in.new.parser c.args.piece.now) (machine_of c.resume_in.new.parser) in
+      subst AreSound (sym c.advance_log.ensures.calls.standing) (AreSound-at_end calls (writer_standing c.go_on.new.self) (subst AreSound (sym c.go_on.ensures.standing) (AreSound-kept _)))
 
 pub save-requires-2-clause-shown : goal.save-requires-2-clause-shown
 save-requires-2-clause-shown c = omega (arith, ap (λ (at : Standing). length at.shown.link) c.standing-2.ensures, (sound c).shown.short)
@@ -58,9 +70,10 @@ returns-clause-taken c =
     let state = c.args.self.now in
     let piece = c.args.piece.now in
     let writer = c.go_on.new.self in
-    let after = c.advance_texts.new.performer in
-    let taken = c.advance_texts.ensures.calls in
-    let calls = machine_calls parser_after piece (machine_of c.resume_in.new.parser) in
+    let after = c.advance_log.new.performer in
+    let taken = c.advance_log.ensures.calls in
+    let parser = c.resume_in.new.parser in
+    let calls = machine_calls parser_after (read_by parser piece) (machine_of parser) in
     let buffer = c.finish-buffer.result.0 in
     let at : writer_standing writer ≡ standing_of state = c.go_on.ensures.standing ∙ ap kept c.standing.ensures in
     let styling : styling_of writer ≡ styling_in state = c.go_on.ensures.styling ∙ c.new-writer.ensures.new.styling ∙ c.styling.ensures in
@@ -77,10 +90,12 @@ returns-clause-taken c =
     record {
       calls = calls;
       same_length = put-length c.bytes-html.result.now c.args.room.now c.put_front.new.room c.put_front.result c.put_front.ensures.length c.put_front.ensures.written fits;
-      continues = λ before is. c.advance_texts.ensures.stream before (c.resume_in.ensures before c.new-parser.ensures.stands is);
+      continues = λ before is.
+          ContinuesLog-calls parser piece (bytes_below piece (λ i. omega (arith, c.type_inv.piece i))) before
+          (c.resume_in.ensures (as_read before) c.new-parser.ensures.stands is);
       stream = λ before is.
-          subst (λ (stream : StreamState). StreamStandsFor stream (before ++ piece)) (sym c.save-2.ensures.stream)
-          (c.save.ensures (before ++ piece) (c.advance_texts.ensures.stands before (c.resume_in.ensures before c.new-parser.ensures.stands is)));
+          subst (λ (stream : StreamState). StandsForLog stream (before ++ piece)) (sym c.save-2.ensures.stream)
+          (c.save.ensures (as_read (before ++ piece)) (c.advance_log.ensures.stands before (c.resume_in.ensures (as_read before) c.new-parser.ensures.stands is)));
       styling = c.save-2.ensures.styling;
       standing = ap kept (c.save-2.ensures.standing ∙ c.standing-2.ensures ∙ stands) ∙ kept-sound _ is_sound;
       written_fits = omega (arith, c.put_front.ensures.length, fits);

@@ -1,14 +1,19 @@
 -- The safe text goes on from where the state says that it stands.
-use Rattle.std.proofs.Common.{◌≤◌, List, ℕ, ◌++◌, length, refl, sym, ap, ap₂, ◌∙◌, subst, arith}
+use Rattle.std.proofs.Common.{◌≤◌, List, ℕ, ◌++◌, length, sym, ap, ap₂, ◌∙◌, subst, arith}
 use Rattle.std.specs.Str.{encode_utf8_all}
+use Rattle.anstyle_parse.specs.Machine.AsRead.{as_read}
 use Rattle.anstyle_parse.specs.Views.Accumulator.{parser_after}
+use Rattle.anstyle_parse.specs.Views.AsRead.{read_by}
 use Rattle.anstyle_parse.specs.Machine.Step.{machine_calls}
 use Rattle.anstyle_parse.specs.Views.Parser.{machine_of}
+use Rattle.anstyle_parse.proofs.Streams.{bytes_below}
 use Rattle.anstyle_parse.specs.Io.Output.{writer_in, fault_in, Finishes}
 use Rattle.strip_pieces.specs.contracts.lent.LentBytesSink.TheImpl.{ghosts}
 use Rattle.strip_pieces.specs.declared.state.StreamState.{StreamState}
-use Rattle.strip_pieces.specs.State.{pending_of, StandsFor as StreamStandsFor}
-use Rattle.strip_pieces.proofs.FeedLemmas.{length-machine_calls}
+use Rattle.strip_pieces.specs.Log.{StandsForLog, ContinuesLog}
+use Rattle.strip_pieces.specs.State.{pending_of}
+use Rattle.strip_pieces.proofs.LogLemmas.{any_log, ContinuesLog-calls}
+use Rattle.strip_pieces.proofs.LogQuoted.{quoted-log}
 use Rattle.strip_pieces.proofs.LentLemmas.{put-front, put-behind, put-length}
 use Rattle.safe_text.specs.Decided.{decided_from, last_from, waiting}
 use Rattle.safe_text.specs.Safe.{characters}
@@ -17,16 +22,20 @@ use Rattle.safe_pieces.proofs.state.SafeState.take.Goals as goal
 
 pub save-requires : goal.save-requires
 save-requires c =
-    let held = pending_of c.args.self.now.stream in
-    (held ++ c.args.piece.now, c.advance_heeded.ensures.stands held (c.resume_in.ensures held c.new-parser.ensures.stands refl))
+    let log = any_log (pending_of c.args.self.now.stream) in
+    (as_read (log.0 ++ c.args.piece.now), c.advance_log.ensures.stands log.0 (c.resume_in.ensures (as_read log.0) c.new-parser.ensures.stands log.1))
 
 pub put_front-requires : goal.put_front-requires
 put_front-requires c =
-    let calls = machine_calls parser_after c.args.piece.now (machine_of c.resume_in.new.parser) in
-    let few = length-machine_calls parser_after c.args.piece.now (machine_of c.resume_in.new.parser) in
-    let written = text-held c.new.result c.resume-writer.result c.advance_heeded.new.performer calls c.finish-buffer.result.0 c.finish-buffer.result.1
+    let piece = c.args.piece.now in
+    let parser = c.resume_in.new.parser in
+    let calls = machine_calls parser_after (read_by parser piece) (machine_of parser) in
+    let log = any_log (pending_of c.args.self.now.stream) in
+    let few = (quoted-log log.0 piece calls (ContinuesLog-calls parser piece (bytes_below piece (λ i. omega (arith, c.type_inv.piece i))) log.0
+    (c.resume_in.ensures (as_read log.0) c.new-parser.ensures.stands log.1))).few_calls in
+    let written = text-held c.new.result c.resume-writer.result c.advance_log.new.performer calls c.finish-buffer.result.0 c.finish-buffer.result.1
     (ap writer_in c.resume-writer.ensures.output ∙ c.new-output.ensures.writer) c.new.ensures.nothing (ap fault_in c.resume-writer.ensures.output ∙ c.new-output.ensures.no_fault)
-    c.advance_heeded.ensures.calls (omega (arith, few, c.new.ensures.limit, c.requires.lent))
+    c.advance_log.ensures.calls (omega (arith, few, c.new.ensures.limit, c.requires.lent))
     (subst (λ output. Finishes ghosts output c.finish-buffer.result.0 c.finish-buffer.result.1) c.suspend.ensures c.finish-buffer.ensures.finishes) in
     omega (arith, ap length c.bytes.ensures, ap length written, text-short c.resume-writer.result calls, few, c.requires.room)
 
@@ -34,12 +43,17 @@ pub returns : goal.returns
 returns c =
     let piece = c.args.piece.now in
     let writer = c.resume-writer.result in
-    let taken = c.advance_heeded.ensures.calls in
-    let calls = machine_calls parser_after piece (machine_of c.resume_in.new.parser) in
+    let taken = c.advance_log.ensures.calls in
+    let parser = c.resume_in.new.parser in
+    let calls = machine_calls parser_after (read_by parser piece) (machine_of parser) in
+    let log = any_log (pending_of c.args.self.now.stream) in
+    let goes_on : (log : List ℕ) → StandsForLog c.args.self.now.stream log → ContinuesLog log piece calls =
+    λ log is. ContinuesLog-calls parser piece (bytes_below piece (λ i. omega (arith, c.type_inv.piece i))) log
+    (c.resume_in.ensures (as_read log) c.new-parser.ensures.stands is) in
     let before = c.resume-writer.ensures.before ∙ c.standing.ensures.before in
     let held = c.resume-writer.ensures.held ∙ c.standing.ensures.held in
-    let few = length-machine_calls parser_after piece (machine_of c.resume_in.new.parser) in
-    let written = c.bytes.ensures ∙ text-held c.new.result writer c.advance_heeded.new.performer calls c.finish-buffer.result.0 c.finish-buffer.result.1
+    let few = (quoted-log log.0 piece calls (goes_on log.0 log.1)).few_calls in
+    let written = c.bytes.ensures ∙ text-held c.new.result writer c.advance_log.new.performer calls c.finish-buffer.result.0 c.finish-buffer.result.1
     (ap writer_in c.resume-writer.ensures.output ∙ c.new-output.ensures.writer) c.new.ensures.nothing (ap fault_in c.resume-writer.ensures.output ∙ c.new-output.ensures.no_fault)
     taken (omega (arith, few, c.new.ensures.limit, c.requires.lent))
     (subst (λ output. Finishes ghosts output c.finish-buffer.result.0 c.finish-buffer.result.1) c.suspend.ensures c.finish-buffer.ensures.finishes) in
@@ -48,10 +62,10 @@ returns c =
     let fits : length bytes ≤ length room = omega (arith, ap length written, text-short writer calls, few, c.requires.room) in
     record {
       calls = calls;
-      continues = λ before is. c.advance_heeded.ensures.stream before (c.resume_in.ensures before c.new-parser.ensures.stands is);
+      continues = goes_on;
       stream = λ before is.
-          subst (λ (stream : StreamState). StreamStandsFor stream (before ++ piece)) (sym c.save-2.ensures.stream)
-          (c.save.ensures (before ++ piece) (c.advance_heeded.ensures.stands before (c.resume_in.ensures before c.new-parser.ensures.stands is)));
+          subst (λ (stream : StreamState). StandsForLog stream (before ++ piece)) (sym c.save-2.ensures.stream)
+          (c.save.ensures (as_read (before ++ piece)) (c.advance_log.ensures.stands before (c.resume_in.ensures (as_read before) c.new-parser.ensures.stands is)));
       last = c.save-2.ensures.before ∙ c.standing-2.ensures.before ∙ taken.before ∙ ap₂ (λ b (h : List ℕ). last_from b (h ++ characters calls)) before held;
       held = c.save-2.ensures.held ∙ c.standing-2.ensures.held ∙ taken.held ∙ ap (λ (h : List ℕ). waiting (h ++ characters calls)) held;
       few_calls = few;

@@ -1,23 +1,27 @@
 -- What the parser took is what the state is fed.
-use Rattle.std.proofs.Common.{rules, ◌<◌, ◌≤◌, ◌++◌, length, take, refl, arith}
+use Rattle.std.proofs.Common.{rules, ◌<◌, ◌≤◌, ◌++◌, length, take, arith}
 use Rattle.std.proofs.lemmas.Bool.Decides.{nat_tests}
+use Rattle.anstyle_parse.specs.Machine.AsRead.{as_read}
 use Rattle.strip_pieces.specs.State.{pending_of}
 use Rattle.strip_pieces.proofs.FeedLemmas.{Feeds-taken}
+use Rattle.strip_pieces.proofs.LogLemmas.{any_log}
 use Rattle.strip_pieces.proofs.state.StreamState.feed.Goals as goal
 use Rattle.strip_pieces.proofs.state.StreamState.feed.Goals.{else-room-lt-LEAST_ROOM-via-then-room-lt-LEAST_ROOM+else-not-is_empty, else-room-lt-LEAST_ROOM-via-else-room-lt-LEAST_ROOM}
 
 pub take-taken-requires-clause-stands : goal.take-taken-requires-clause-stands
-take-taken-requires-clause-stands c = (pending_of c.args.self.now, c.resume_in.ensures (pending_of c.args.self.now) c.new-parser.ensures.stands refl)
+take-taken-requires-clause-stands c =
+    let held = any_log (pending_of c.args.self.now) in
+    (held.0, c.resume_in.ensures (as_read held.0) c.new-parser.ensures.stands held.1)
 
 pub save-requires : goal.save-requires
 save-requires c =
-    let held = pending_of c.args.self.now in
-    (held ++ take c.take-taken.result c.args.piece.now, c.take-taken.ensures.taken.stands held (c.resume_in.ensures held c.new-parser.ensures.stands refl))
+    let held = any_log (pending_of c.args.self.now) in
+    (as_read (held.0 ++ take c.take-taken.result c.args.piece.now), c.take-taken.ensures.taken.stands held.0 (c.resume_in.ensures (as_read held.0) c.new-parser.ensures.stands held.1))
 
 pub returns-clause-fed : goal.returns-clause-fed
 returns-clause-fed c =
     let text = c.new-text.result in
-    let enough : 0 < length c.args.piece.now → 4 ≤ length c.args.room.now =
+    let enough : 0 < length c.args.piece.now → 6 ≤ length c.args.room.now =
     elim c.else-room-lt-LEAST_ROOM.branch [
       | else-room-lt-LEAST_ROOM-via-then-room-lt-LEAST_ROOM+else-not-is_empty w ↦ λ some. grind (arith, nat_tests)
       | else-room-lt-LEAST_ROOM-via-else-room-lt-LEAST_ROOM w ↦ λ some. omega arith

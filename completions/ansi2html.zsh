@@ -10,6 +10,7 @@ _arguments \
     '--classes[attributes class in place of style]' \
     '--lines[write lines that can be linked to, with numbers]' \
     '--scroll[wrap no long lines]' \
+    '--urls[make links of addresses in the text]' \
     '--stylesheet[write the stylesheet of classes and lines]' \
     '--shown=-[write what a terminal of 80x24, or of this size, showed]::COLUMNSxROWS:' \
     '(-o --output)'{-o,--output=}'[write to this file in place of standard output]:FILE:_files' \

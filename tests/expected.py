@@ -10,6 +10,7 @@ from hostile_streams import BLOCK, SIZE, stream, text, times
 from log_rows import BEGUN_ROWS, LINES_CUT, READ_ROWS, RETURN_ROWS
 from open_strings import said
 from safe_rows import HIDDEN_ROWS, SAFE_ROWS, SAFE_SHOWN_ROWS
+from url_rows import URL_CUT, URL_ROWS, address
 
 
 class Program:
@@ -713,6 +714,10 @@ PROGRAMS = [
             (words, b"ansi2html: --lines and --shown are not taken together (see ansi2html --help)")
             for words in (["--lines", "--shown"], ["--shown=9x9", "--page", "--lines"])
         ]
+        + [
+            (words, b"ansi2html: --urls and --shown are not taken together (see ansi2html --help)")
+            for words in (["--urls", "--shown"], ["--shown=9x9", "--page", "--urls"])
+        ]
         + [(words, b"ansi2html: --stylesheet reads no file (see ansi2html --help)") for words in (["--stylesheet", "log"], ["-", "--stylesheet"])],
         [
             Mode(words, html_rows(scheme) if scheme else CLASS_ROWS, (b"\x1b[mA\n", b"A\n"), hostile, head, tail, cut=cut)
@@ -745,6 +750,12 @@ PROGRAMS = [
                 (["--page", "--scroll", "--dark", "--lines"], LINE_ROWS[:5], DARK_LINED_HEAD, PAGE_TAIL),
             )
         ]
+        + [
+            Mode(["--urls"], html_rows(BOTH) + URL_ROWS, (b"\x1b[mhttp://a\n", address(b"http://a") + b"\n"), HTML_HOSTILE, cut=URL_CUT),
+            Mode(["--urls", "--page"], URL_ROWS[:5], (b"\x1b[mhttp://a\n", address(b"http://a") + b"\n"), [], PAGE_HEAD, PAGE_TAIL),
+            Mode(["--lines", "--urls"], LINE_ROWS, (b"http://a\n", lambda number: numbered(number, address(b"http://a") + b"\n")), []),
+            Mode(["--urls", "--classes"], CLASS_ROWS, (b"A\n", b"A\n"), []),
+        ]
         + [Mode(["--scroll", "--page"], html_rows(BOTH)[:5], (b"\x1b[mA<\n", b"A&lt;\n"), [], SCROLLED_HEAD, PAGE_TAIL)]
         + [
             Mode(words, rows, (b"\x1b[mA<\n", b"A&lt;\n"), [], head, tail, waits=True)
@@ -758,7 +769,7 @@ PROGRAMS = [
             )
         ],
         options=[
-            *("--page", "--title=TEXT", "--css=ADDRESS", "--lang=TAG", "--light", "--dark", "--classes", "--lines", "--scroll"),
+            *("--page", "--title=TEXT", "--css=ADDRESS", "--lang=TAG", "--light", "--dark", "--classes", "--lines", "--scroll", "--urls"),
             "--stylesheet",
             *("--shown", "--shown=COLUMNSxROWS", "--output=FILE"),
         ],

@@ -69,3 +69,7 @@ asks_for_lines words = has_word (codes "--lines") words
 
 abbrev pub asks_to_scroll : (words : List (List ℕ)) → Bool
 asks_to_scroll words = has_word (codes "--scroll") words
+
+-- Addresses in the text are links, where some word is --urls.
+abbrev pub asks_for_urls : (words : List (List ℕ)) → Bool
+asks_for_urls words = has_word (codes "--urls") words

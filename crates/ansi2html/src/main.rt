@@ -15,10 +15,11 @@ use standard_streams::{
     value_of, wrong_size,
 };
 use std::process::ExitCode;
-use streams::{Converting, Lining, Showing};
+use streams::{Converting, ConvertingUrls, Lining, LiningUrls, Showing};
 use words::{
-    HELP, NO_FILES, NO_LANGUAGE, NOT_SHOWN, ONE_FILE, OPTIONS, asks_for_lines, asks_for_stylesheet,
-    asks_to_scroll, form, language, scheme, stylesheet_address, styling, title,
+    HELP, NO_FILES, NO_LANGUAGE, NOT_SHOWN, ONE_FILE, OPTIONS, URLS_NOT_SHOWN, asks_for_lines,
+    asks_for_stylesheet, asks_for_urls, asks_to_scroll, form, language, scheme, stylesheet_address,
+    styling, title,
 };
 
 /// The name at the front of what the program says of failures.
@@ -50,6 +51,10 @@ fn main(rt: HostRuntime) -> ExitCode {
     if has_lines && size.is_some() {
         return misused(&rt, NOT_SHOWN);
     }
+    let has_urls = asks_for_urls(options);
+    if has_urls && size.is_some() {
+        return misused(&rt, URLS_NOT_SHOWN);
+    }
     let styling = styling(options, scheme);
     let form = form(options);
     let Some(language) = language(options) else {
@@ -75,6 +80,10 @@ fn main(rt: HostRuntime) -> ExitCode {
     };
     let (readers, output) = (inputs.as_mut_slice(), buffered(output));
     let ran = match size {
+        None if has_lines && has_urls => {
+            write_each(&LiningUrls { styling }, head, readers, output, tail)
+        }
+        None if has_urls => write_each(&ConvertingUrls { styling }, head, readers, output, tail),
         None if has_lines => write_each(&Lining { styling }, head, readers, output, tail),
         None => write_each(&Converting { styling }, head, readers, output, tail),
         Some(size) => {

@@ -3,6 +3,7 @@ ghost use Rattle.std.specs.Prelude.{◌≡◌, List, IfOk, IfErr};
 ghost use Rattle.anstyle_parse.specs.Stream.Call.{Call};
 ghost use Rattle.ansi_html.specs.Html.{html_text, html_ending};
 ghost use Rattle.ansi_html.specs.Lines.{lined_text, lined_ending};
+ghost use Rattle.html_urls.specs.Html.{urls_text, urls_ending, lined_urls_text, lined_urls_ending};
 ghost use Rattle.ansi_screen.specs.Size.{IsTaken};
 ghost use Rattle.screen_html.specs.Shown.{left_html, ending_html};
 ghost use Rattle.ansi2html.specs.Sizes.{screen_of};
@@ -11,6 +12,7 @@ use ansi_html::{HtmlWriter, LinesWriter, Styling};
 use ansi_screen::{Screen, Size};
 use anstyle_parse::io::{Output, Sink};
 use each_source::Begin;
+use html_urls::Linking;
 use screen_html::{HtmlRows, LinkMemory};
 use screen_text::ShownWriter;
 use std::alloc::{AllocError, Global};
@@ -64,6 +66,60 @@ impl<W: Sink> Begin<LinesWriter<W>, W> for Lining {
         ensures kept { IfErr result (λ kept. kept ≡ output) }
     {
         Ok(LinesWriter::new(self.styling, output))
+    }
+}
+
+/// Each stream is written with its styles said in this way, and with the addresses in its text as links.
+#[derive(Debug, Clone, Copy, PartialEq, Eq)]
+pub struct ConvertingUrls {
+    pub styling: Styling,
+}
+
+impl<W: Sink> Begin<Linking<HtmlWriter<W>>, W> for ConvertingUrls {
+    ghost use Rattle.ansi_html.specs.Writer.{output_of};
+    ghost use Rattle.html_urls.specs.Linker.{performer_in};
+    ghost use Rattle.ansi2html.specs.Streams.{urls_said_as, text_with_urls, ending_with_urls};
+
+    ghost text = { λ converting. urls_text (urls_said_as converting) };
+
+    ghost ending = { λ converting. urls_ending (urls_said_as converting) };
+
+    fn begin(&self, output: Output<W>) -> Result<Linking<HtmlWriter<W>>, Output<W>>
+        ensures output { IfOk result (λ performer. output_of (performer_in performer) ≡ output) }
+        ensures text { IfOk result (λ performer. (calls : List Call)
+            → text_with_urls performer calls ≡ urls_text (urls_said_as self.now) calls) }
+        ensures ending { IfOk result (λ performer. (calls : List Call)
+            → ending_with_urls performer calls ≡ urls_ending (urls_said_as self.now) calls) }
+        ensures kept { IfErr result (λ kept. kept ≡ output) }
+    {
+        Ok(Linking::new(HtmlWriter::new(self.styling, output)))
+    }
+}
+
+/// The stream is written in lines, with its styles said in this way, and with the addresses in its text as links.
+#[derive(Debug, Clone, Copy, PartialEq, Eq)]
+pub struct LiningUrls {
+    pub styling: Styling,
+}
+
+impl<W: Sink> Begin<Linking<LinesWriter<W>>, W> for LiningUrls {
+    ghost use Rattle.ansi_html.specs.Liner.{output_of};
+    ghost use Rattle.html_urls.specs.Linker.{performer_in};
+    ghost use Rattle.ansi2html.specs.Streams.{urls_lined_as, lines_with_urls, lines_ending_with_urls};
+
+    ghost text = { λ lining. lined_urls_text (urls_lined_as lining) };
+
+    ghost ending = { λ lining. lined_urls_ending (urls_lined_as lining) };
+
+    fn begin(&self, output: Output<W>) -> Result<Linking<LinesWriter<W>>, Output<W>>
+        ensures output { IfOk result (λ performer. output_of (performer_in performer) ≡ output) }
+        ensures text { IfOk result (λ performer. (calls : List Call)
+            → lines_with_urls performer calls ≡ lined_urls_text (urls_lined_as self.now) calls) }
+        ensures ending { IfOk result (λ performer. (calls : List Call)
+            → lines_ending_with_urls performer calls ≡ lined_urls_ending (urls_lined_as self.now) calls) }
+        ensures kept { IfErr result (λ kept. kept ≡ output) }
+    {
+        Ok(Linking::new(LinesWriter::new(self.styling, output)))
     }
 }
 

@@ -2,7 +2,7 @@
 ghost use Rattle.std.specs.Prelude.{◌≡◌, codes, map, string_bytes, option_copied, unwrap_or};
 ghost use Rattle.std.specs.List.{list_all};
 ghost use Rattle.standard_streams.specs.Options.{last_value};
-ghost use Rattle.ansi2html.specs.Words.{asks_for_page, form_of, scheme_after, scheme_of, styling_of, asks_for_stylesheet, default_title, is_tag_byte, is_tag, language_of, asks_for_lines, asks_to_scroll};
+ghost use Rattle.ansi2html.specs.Words.{asks_for_page, form_of, scheme_after, scheme_of, styling_of, asks_for_stylesheet, default_title, is_tag_byte, is_tag, language_of, asks_for_lines, asks_to_scroll, asks_for_urls};
 
 use crate::form::{Form, LANGUAGE, TITLE};
 use ansi_html::{Scheme, Styling};
@@ -22,6 +22,7 @@ pub const OPTIONS: &[&str] = &[
     "--stylesheet",
     "--lines",
     "--scroll",
+    "--urls",
     SHOWN,
     "--shown=",
     OUTPUT,
@@ -53,10 +54,14 @@ pub const ONE_FILE: &str = "ansi2html: lines are those of one file (see ansi2htm
 pub const NOT_SHOWN: &str =
     "ansi2html: --lines and --shown are not taken together (see ansi2html --help)";
 
+/// What is said where addresses are asked for as links in what a terminal showed.
+pub const URLS_NOT_SHOWN: &str =
+    "ansi2html: --urls and --shown are not taken together (see ansi2html --help)";
+
 /// What `--help` says.
 pub const HELP: &str = "\
 usage: ansi2html [--page] [--title=TEXT] [--css=ADDRESS] [--lang=TAG]
-                 [--light | --dark] [--classes] [--lines] [--scroll]
+                 [--light | --dark] [--classes] [--lines] [--scroll] [--urls]
                  [--shown | --shown=COLUMNSxROWS] [-o FILE] [FILE]..
        ansi2html --stylesheet [--light | --dark] [-o FILE]
 
@@ -81,6 +86,8 @@ all values but a size.
                           A page draws them; a fragment needs the rules that
                           --stylesheet writes. For one FILE, and not with --shown
   --scroll                long lines are not wrapped: the page scrolls
+  --urls                  addresses in the text that begin with https://, http:// or
+                          mailto: are links too. Not with --shown
   --stylesheet            write the stylesheet of classes and lines, and read nothing
   --shown                 write what a terminal of 80x24 showed instead: the lines
                           that scrolled off, and what stands there at the end;
@@ -218,4 +225,11 @@ pub fn asks_to_scroll(words: &[String]) -> bool
     ensures { result ≡ asks_to_scroll (map string_bytes words.now) }
 {
     has_word(words, "--scroll")
+}
+
+/// Whether addresses in the text are asked for as links.
+pub fn asks_for_urls(words: &[String]) -> bool
+    ensures { result ≡ asks_for_urls (map string_bytes words.now) }
+{
+    has_word(words, "--urls")
 }

@@ -94,6 +94,10 @@ use html_pieces::END_ROOM;
 use html_pieces::ElementBytes;
 use html_pieces::HtmlState;
 use html_pieces::StyleBytes;
+use html_urls::Linking;
+use html_urls::Resumable;
+use html_urls::laws::html_of_links;
+use html_urls::laws::same_text;
 use standard_streams::Request;
 use standard_streams::VERSION;
 use standard_streams::answered;
@@ -159,6 +163,9 @@ fn writes_calls<T: CallWriter<Memory> + PerformText + Drop>(_: &T) {}
 
 fn is_writing<T: WritingPerformer<Memory> + PerformText + Drop>(_: &T) {}
 
+/// One in front of which addresses become links.
+fn is_resumable<T: Resumable<Memory> + Drop>(_: &T) {}
+
 fn is_iterator<T: Iterator + ExactSizeIterator + FusedIterator + Drop>(_: &T) {}
 
 #[test]
@@ -211,6 +218,8 @@ fn names_of_the_laws(rt: HostRuntime) {
     clones();
     equal_variants();
     cloned_variants();
+    same_text();
+    html_of_links();
     default_variants();
     assert_eq!(rt; state_as_number(State::Anywhere), 0);
     assert_eq!(rt; action_as_number(Action::Nop), 0);
@@ -415,7 +424,13 @@ fn names_of_writers(rt: HostRuntime) {
     assert_well(&rt, write_calls_by(writer, &mut reader(), b">"));
     let lines = LinesWriter::new(Styling::Classes, Output::new(memory(rt.alloc())));
     is_writing(&lines);
+    is_resumable(&lines);
     assert_well(&rt, write_calls_by(lines, &mut reader(), b">"));
+    let writer = HtmlWriter::new(Styling::Classes, Output::new(memory(rt.alloc())));
+    is_resumable(&writer);
+    let linking = Linking::new(writer);
+    is_writing(&linking);
+    assert_well(&rt, write_calls_by(linking, &mut reader(), b">"));
     let mut style = Style::default();
     assert_eq!(rt; perform_to_end(&mut reader(), &mut style), Ok(()));
     assert!(rt; style != Style::default());

@@ -1,0 +1,5 @@
+pub mod AddressLemmas
+pub mod SchemeLemmas
+pub mod LinkerLemmas
+pub mod HtmlLemmas
+pub mod TextLemmas

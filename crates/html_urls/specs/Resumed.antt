@@ -1,0 +1,17 @@
+-- What writers of HTML write by more calls, after some.
+use Rattle.std.specs.Prelude.{ℕ, List}
+use Rattle.anstyle_parse.specs.Stream.Call.{Call}
+use Rattle.ansi_html.specs.declared.performer.HtmlWriter.{HtmlWriter}
+use Rattle.ansi_html.specs.declared.lines.LinesWriter.{LinesWriter}
+use Rattle.ansi_html.specs.Html.{html_from, standing_at_end}
+use Rattle.ansi_html.specs.Lines.{lined_from, lined_at_end}
+use Rattle.ansi_html.specs.Writer as writer
+use Rattle.ansi_html.specs.Liner as liner
+
+abbrev pub html_after : {W : Type 0} → HtmlWriter W → (calls more : List Call) → List ℕ
+html_after performer calls more =
+    html_from (writer.styling_of performer) (standing_at_end (writer.standing_of performer) calls) more
+
+abbrev pub lined_after : {W : Type 0} → LinesWriter W → (calls more : List Call) → List ℕ
+lined_after performer calls more =
+    lined_from (liner.styling_of performer) (lined_at_end (liner.lined_of performer) calls) more

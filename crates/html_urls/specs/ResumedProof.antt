@@ -1,0 +1,43 @@
+-- No definition, but proofs: the language wants those of a trait's laws among the specs.
+-- Writers of HTML go on as their HTML of all calls does.
+use Rattle.std.proofs.Common.{◌≡◌, ℕ, List, ◌++◌, sym, ap, ap₂, ◌∙◌}
+use Rattle.anstyle_parse.specs.declared.io.devices.Sink.{Ghosts as SinkOf}
+use Rattle.anstyle_parse.specs.Stream.Call.{Call}
+use Rattle.ansi_html.specs.declared.performer.HtmlWriter.{HtmlWriter}
+use Rattle.ansi_html.specs.declared.lines.LinesWriter.{LinesWriter}
+use Rattle.ansi_html.specs.Html.{html_from, standing_at_end, element_end}
+use Rattle.ansi_html.specs.Lines.{lined_from, lined_at_end, lined_end}
+use Rattle.ansi_html.specs.Writer as writer
+use Rattle.ansi_html.specs.Liner as liner
+use Rattle.ansi_html.specs.AddingProof.{html_from-append, standing_at_end-append}
+use Rattle.ansi_html.specs.LiningProof.{lined_from-append, lined_at_end-append}
+use Rattle.html_urls.specs.Resumed.{html_after, lined_after}
+
+module _ {W : Type 0} (sink : SinkOf W) where
+  pub html-resumes : (old : HtmlWriter W) (calls : List Call) (new : HtmlWriter W) → writer.TakesAll sink old calls new
+      → (more : List Call) → writer.text_from new more ≡ html_after old calls more
+  html-resumes old calls new taken more = ap₂ (λ styling at. html_from styling at more) taken.styling taken.standing
+
+  pub html-ends : (old : HtmlWriter W) (calls : List Call) (new : HtmlWriter W) → writer.TakesAll sink old calls new
+      → (more : List Call) → writer.ending_from new more ≡ writer.ending_from old (calls ++ more)
+  html-ends old calls new taken more =
+      ap (λ at. element_end (standing_at_end at more).shown) taken.standing
+      ∙ ap (λ at. element_end at.shown) (sym (standing_at_end-append calls more (writer.standing_of old)))
+
+  pub lined-resumes : (old : LinesWriter W) (calls : List Call) (new : LinesWriter W) → liner.TakesCalls sink old calls new
+      → (more : List Call) → liner.text_from new more ≡ lined_after old calls more
+  lined-resumes old calls new taken more = ap₂ (λ styling at. lined_from styling at more) taken.styling taken.standing
+
+  pub lined-ends : (old : LinesWriter W) (calls : List Call) (new : LinesWriter W) → liner.TakesCalls sink old calls new
+      → (more : List Call) → liner.ending_from new more ≡ liner.ending_from old (calls ++ more)
+  lined-ends old calls new taken more =
+      ap (λ it. lined_end (lined_at_end it more)) taken.standing
+      ∙ ap lined_end (sym (lined_at_end-append calls more (liner.lined_of old)))
+
+pub html-joined : {W : Type 0} (performer : HtmlWriter W) (calls more : List Call)
+    → writer.text_from performer calls ++ html_after performer calls more ≡ writer.text_from performer (calls ++ more)
+html-joined performer calls more = sym (html_from-append (writer.styling_of performer) calls more (writer.standing_of performer))
+
+pub lined-joined : {W : Type 0} (performer : LinesWriter W) (calls more : List Call)
+    → liner.text_from performer calls ++ lined_after performer calls more ≡ liner.text_from performer (calls ++ more)
+lined-joined performer calls more = sym (lined_from-append (liner.styling_of performer) calls more (liner.lined_of performer))

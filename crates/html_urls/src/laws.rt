@@ -1,0 +1,23 @@
+//! Laws of streams whose addresses are links. Each is the contract of a function that does nothing.
+ghost use Rattle.std.specs.Prelude.{◌≡◌, ◌++◌, List};
+ghost use Rattle.anstyle_parse.specs.Stream.Call.{Call};
+ghost use Rattle.ansi_html.specs.declared.scheme.Styling.{Styling};
+ghost use Rattle.ansi_html.specs.Html.{html};
+ghost use Rattle.ansi_html.specs.Lines.{lined_html};
+ghost use Rattle.ansi_strip.specs.Strip.{stripped};
+ghost use Rattle.html_urls.specs.Linked.{linked};
+ghost use Rattle.html_urls.specs.Html.{urls_text, urls_ending, lined_urls_text, lined_urls_ending};
+
+/// The links change no text: what stripping leaves of the calls with these links is what it leaves of the stream.
+pub fn same_text()
+    ensures { (calls : List Call) → stripped (linked calls) ≡ stripped calls }
+{}
+
+/// What is written, and then the ending, is the HTML of the calls in which addresses are links; so all that
+/// [`ansi_html`] says of HTML holds of it, as that each link begins with one of the three schemes.
+pub fn html_of_links()
+    ensures html { (styling : Styling) (calls : List Call)
+        → urls_text styling calls ++ urls_ending styling calls ≡ html styling (linked calls) }
+    ensures lined { (styling : Styling) (calls : List Call)
+        → lined_urls_text styling calls ++ lined_urls_ending styling calls ≡ lined_html styling (linked calls) }
+{}

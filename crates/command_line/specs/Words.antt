@@ -1,23 +1,17 @@
 -- The words that programs share, and the status that they end with.
-use Rattle.std.specs.Prelude.{ℕ, Bool, true, false, List, Option, None, Some, Result, Ok, Err, codes, if◌then◌else◌}
+use Rattle.std.specs.Prelude.{ℕ, Bool, true, false, List, Option, None, Some, codes, if◌then◌else◌}
 use Rattle.std.specs.declared.io.Error.{Error}
 use Rattle.std.specs.declared.io.ErrorKind.{ErrorKind}
 use Rattle.std.specs.declared.io.ErrorKind.TheVariants.{BrokenPipe}
 use Rattle.std.specs.IoError.{error_kind}
 use Rattle.anstyle_parse.specs.declared.io.Fault.{Fault}
 use Rattle.anstyle_parse.specs.declared.io.Fault.TheVariants.{Read, Write, Flush}
-use Rattle.anstyle_parse.specs.Io.Buffer.{fault_behind}
 
 -- what is said of a fault, after the program's name
 abbrev pub message_of : Fault → List ℕ
 message_of Read = codes "read failed"
 message_of Write = codes "write failed"
 message_of Flush = codes "flush failed"
-
--- the answer of a run, with its fault as it was behind the buffer that holds these bytes back
-abbrev pub answer_behind : {T : Type 0} → Result T Fault → (held : List ℕ) → Result T Fault
-answer_behind (Ok done) held = Ok done
-answer_behind (Err fault) held = Err (fault_behind fault held)
 
 -- an error that says that nobody reads the output any more
 abbrev pub is_broken_pipe : ErrorKind → Bool

@@ -1,24 +1,24 @@
 //! What the programs that filter standard input share: how they write, and how they end.
 #![tactic(auto)]
 
-ghost use Rattle.std.specs.Prelude.{◌≡◌, [], false, OnOk, OnErr, IfErr};
+ghost use Rattle.std.specs.Prelude.{◌≡◌, [], false};
 ghost use Rattle.std.specs.Process.{exit_status};
 ghost use Rattle.anstyle_parse.specs.Io.Buffer.{writer_behind, held_back, is_by_line};
-ghost use Rattle.anstyle_parse.specs.Io.Devices.{writer_of, writer_error, writer_failed};
-ghost use Rattle.command_line.specs.Words.{message_of, is_broken_pipe, answer_behind, status_of, status_after};
+ghost use Rattle.anstyle_parse.specs.Io.Devices.{writer_of, writer_failed};
+ghost use Rattle.command_line.specs.Words.{message_of, is_broken_pipe, status_of};
 
 mod input_files;
 mod line;
 mod options;
 mod output_file;
 
-use anstyle_parse::io::{Buffer, Fault, FromRead, FromWrite, Sink};
+use anstyle_parse::io::{Buffer, Fault, FromWrite};
 pub use input_files::{Input, have_failed, inputs};
 pub use line::{Line, Place, given_line, line_of};
 pub use options::{OUTPUT, Request, VERSION, answered, asked_of, given_words, has_word, value_of};
 pub use output_file::{Destination, Target};
 use std::io;
-use std::io::{ErrorKind, IsTerminal, Read, Write};
+use std::io::{ErrorKind, IsTerminal, Write};
 use std::process::ExitCode;
 
 /// The status of a program that failed.
@@ -64,66 +64,6 @@ pub fn message(fault: Fault) -> &'static str
         Fault::Read => "read failed",
         Fault::Write => "write failed",
         Fault::Flush => "flush failed",
-    }
-}
-
-/// The end of a program that wrote to an output of [`buffered`]: status 0, or where there is a
-/// fault, what it was at the output ([`Buffer::fault_behind`]), as [`failed`] says it.
-pub fn ended<W: Sink + Drop>(
-    rt: &impl Eprint,
-    program: &str,
-    ran: (Buffer<W>, Result<(), Fault>),
-) -> ExitCode
-    ensures went_well { OnOk ran.1 (exit_status result ≡ 0) }
-    ensures fault { OnErr ran.1 (exit_status result ≡ 1) }
-{
-    let (output, answer) = ran;
-    ended_by(rt, program, answer_behind(&output, answer), None)
-}
-
-/// The same, which says on standard error why: the words of the error of std after the fault's. Where
-/// nobody reads the output any more it says nothing and the status is 141, as of a program that
-/// SIGPIPE has ended.
-pub fn ended_with_reason<R: Read + Drop, W: Write + Drop>(
-    rt: &impl Eprint,
-    program: &str,
-    reader: FromRead<R>,
-    ran: (Buffer<FromWrite<W>>, Result<(), Fault>),
-) -> ExitCode
-    ensures went_well { OnOk ran.1 (exit_status result ≡ 0) }
-    ensures fault { IfErr ran.1
-        (λ fault. exit_status result ≡ status_after fault (writer_error (writer_behind ran.0))) }
-{
-    let (output, answer) = ran;
-    let answer = answer_behind(&output, answer);
-    let error = match answer {
-        Err(Fault::Read) => reader.error(),
-        _ => output.into_inner().error(),
-    };
-    ended_by(rt, program, answer, error)
-}
-
-/// The answer of a run, with its fault as it was at the output behind the buffer.
-fn answer_behind<W: Sink>(output: &Buffer<W>, answer: Result<(), Fault>) -> Result<(), Fault>
-    ensures { result ≡ answer_behind answer (held_back output.now) }
-{
-    answer.map_err(|fault| output.fault_behind(fault))
-}
-
-/// The end of a program that this came of, with the error of what failed, if it is known.
-fn ended_by(
-    rt: &impl Eprint,
-    program: &str,
-    answer: Result<(), Fault>,
-    error: Option<io::Error>,
-) -> ExitCode
-    ensures went_well { OnOk answer (exit_status result ≡ 0) }
-    ensures fault { IfErr answer (λ fault. exit_status result ≡ status_after fault error) }
-{
-    match answer {
-        Ok(()) => ExitCode::SUCCESS,
-        Err(Fault::Read) => reported(rt, program, message(Fault::Read), error),
-        Err(fault) => output_failed(rt, program, message(fault), error),
     }
 }
 

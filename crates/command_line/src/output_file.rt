@@ -6,7 +6,7 @@ ghost use Rattle.anstyle_parse.specs.Io.Devices.{writer_error};
 ghost use Rattle.command_line.specs.Outputs.{is_named, is_replacing, fault_status, EndsAs};
 
 use crate::input_files::{STANDARD, file_failed};
-use crate::{FAILED, ended_by, failed};
+use crate::{FAILED, failed, message, output_failed};
 use anstyle_parse::io::{Buffer, Fault, FromWrite};
 use each_source::Stopped;
 use std::fs::{File, Metadata, OpenOptions};
@@ -157,13 +157,13 @@ impl<'a> Target<'a> {
     fn fault_said(&self, fault: Fault, error: Option<io::Error>) -> ExitCode
         ensures { exit_status result ≡ fault_status (is_named self.now) fault error }
     {
-        match (self.name, error) {
-            _ if fault == Fault::Read => ExitCode::from(FAILED),
-            (Some(name), Some(error)) => {
+        match (fault, self.name, error) {
+            (Fault::Read, _, _) => ExitCode::from(FAILED),
+            (_, Some(name), Some(error)) => {
                 file_failed(&self.rt, self.program, name, error);
                 ExitCode::from(FAILED)
             }
-            (_, error) => ended_by(&self.rt, self.program, Err(fault), error),
+            (_, _, error) => output_failed(&self.rt, self.program, message(fault), error),
         }
     }
 

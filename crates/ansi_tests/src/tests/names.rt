@@ -91,8 +91,6 @@ use command_line::VERSION;
 use command_line::answered;
 use command_line::asked_of;
 use command_line::buffered;
-use command_line::ended;
-use command_line::ended_with_reason;
 use command_line::failed;
 use command_line::given_words;
 use command_line::has_word;
@@ -512,17 +510,11 @@ fn memory(alloc: Global) -> Memory {
 pub fn names_of_command_line<W: Write + IsTerminal + Drop>(
     rt: &impl Eprint,
     output: W,
-    other: W,
-    last: W,
-) -> (Buffer<FromWrite<W>>, [ExitCode; 5]) {
-    let ran = (buffered(other), Err(Fault::Read));
-    let reader = FromRead::new(b"".as_slice());
+) -> (Buffer<FromWrite<W>>, [ExitCode; 3]) {
     (
         buffered(output),
         [
             failed(rt, "", message(Fault::Read)),
-            ended(rt, "", ran),
-            ended_with_reason(rt, "", reader, (buffered(last), Ok(()))),
             misused(rt, ""),
             wrong_size(rt, ""),
         ],

@@ -24,7 +24,7 @@ TESTS = asked browser cells classes contrast costs dist documents install librar
 INTERFACES = ansi_events ansi_html ansi_safe ansi_screen ansi_strip
 # the functions that a manual page names: by each of them `man` finds that page
 FUNCTIONS_OF = sed -n 's/^\.Nm \(ansi_[a-z_]*\).*/\1/p'
-VERSION := $(shell sed -n 's/^pub const VERSION: &str = "\(.*\)";$$/\1/p' crates/standard_streams/src/options.rt)
+VERSION := $(shell sed -n 's/^pub const VERSION: &str = "\(.*\)";$$/\1/p' crates/command_line/src/options.rt)
 MAJOR := $(firstword $(subst ., ,$(VERSION)))
 
 ARCHIVE = crates/ansi/out/libansi.a

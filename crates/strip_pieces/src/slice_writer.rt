@@ -171,11 +171,10 @@ impl<'a> PerformText for SliceWriter<'a> {
         }
     }
 
-    /// Nothing is put for a control sequence. With no room at all the parser reads them: so `resume_in` leads it to
-    /// exactly where `advance_all` would.
+    /// Nothing is put for a control sequence.
     #[inline(always)]
     fn passes_over_control_sequences(&self) -> bool {
-        !self.into.is_empty()
+        true
     }
 
     ghost receives_none = { Puts-none };

@@ -8,7 +8,6 @@ ghost use Rattle.strip_pieces.specs.Log.{StandsForLog, EndsLog, end_calls};
 ghost use Rattle.strip_pieces.specs.State.{pending_of, StandsFor};
 
 use crate::saved::Saved;
-use crate::slice_writer::SliceWriter;
 use anstyle_parse::canon::{MAX_CHECKPOINT, checkpoint};
 use anstyle_parse::{Parser, PerformText, Utf8Parser};
 
@@ -48,16 +47,14 @@ impl StreamState {
         parser
     }
 
-    /// Leads a new parser to where the stream stands, in its place: it is large to copy. Its calls go to a writer with
-    /// no room, so that the parser of `feed` serves here too.
+    /// Leads a new parser to where the stream stands, in its place: it is large to copy. Nothing is done with its calls.
     #[inline(always)]
     pub fn resume_in(&self, parser: &mut Parser)
         ensures { (before : List ℕ) → IsAfter front_of parser.old [] → StandsFor self.now before
             → IsAfter front_of parser.new before }
     {
         let length = self.length.min(MAX_CHECKPOINT);
-        let mut none = [0; 0];
-        parser.advance_heeded(&mut SliceWriter::new(&mut none), &self.pending[..length]);
+        parser.advance_all(&mut (), &self.pending[..length]);
     }
 
     /// Whether the stream stands inside of a character. Where it ends there, that character is U+FFFD.

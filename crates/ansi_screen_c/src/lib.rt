@@ -238,15 +238,9 @@ pub extern "C" fn ansi_screen_cell(
     match screen.take(alloc) {
         None => false,
         Some(held) => {
-            let found = held.cell(row, column);
+            let written = held.put_cell(row, column, cell);
             screen.put(held);
-            match found {
-                None => false,
-                Some(bytes) => {
-                    *cell = bytes;
-                    true
-                }
-            }
+            written
         }
     }
 }

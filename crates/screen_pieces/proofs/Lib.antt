@@ -4,3 +4,4 @@ pub mod HistoryLemmas
 pub mod LinkLemmas
 pub mod WholeRowLemmas
 pub mod DrawingLemmas
+pub mod PartLemmas

@@ -1,5 +1,6 @@
 -- What the bytes of a cell say.
-use Rattle.std.specs.Prelude.{ℕ, ◌==◌, if◌then◌else◌}
+use Rattle.std.specs.Prelude.{◌≡◌, ℕ, ◌==◌, if◌then◌else◌}
+use Rattle.ansi_style.specs.declared.style.Color.TheVariants.{Default}
 use Rattle.ansi_screen.specs.declared.cell.Cell.{Cell}
 use Rattle.ansi_screen.specs.declared.cell.Part.{Part}
 use Rattle.ansi_screen.specs.declared.cell.Part.TheVariants.{Empty, Whole, Left, Right}
@@ -13,6 +14,12 @@ part_of number = if number == 1 then Whole else if number == 2 then Left else if
 
 abbrev pub marks_of : (count first second : ℕ) → Marks
 marks_of count first second = if count == 1 then One first else if count == 2 then Two first second else Unmarked
+
+-- It has the terminal's own colours and no marks.
+pub record IsBare (cell : Cell) : Type 0 where
+  pub foreground : cell.style.foreground ≡ Default
+  pub background : cell.style.background ≡ Default
+  pub marks : cell.marks ≡ Unmarked
 
 abbrev pub cell_in : CellBytes → Cell
 cell_in bytes = record {

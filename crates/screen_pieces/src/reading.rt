@@ -6,7 +6,7 @@ ghost use Rattle.screen_pieces.specs.Styles.{style_of};
 ghost use Rattle.screen_pieces.specs.Text.{HasText, LacksRoom, text_of_row, text_of_part};
 ghost use Rattle.screen_pieces.specs.History.{text_of_kept};
 
-use crate::cell::{CellBytes, put_cells};
+use crate::cell::{CellBytes, put_cell, put_cells};
 use crate::modes::ModeBytes;
 use crate::style::StyleBytes;
 use crate::terminal::Terminal;
@@ -68,6 +68,18 @@ impl Terminal {
         }
         let cells = self.screen().row(row);
         Some(CellBytes::of(cells[column]))
+    }
+
+    /// Writes the cell of a row and a column, counted from 0; false outside of the screen, and nothing is written.
+    pub fn put_cell(&self, row: usize, column: usize, room: &mut CellBytes) -> bool
+        ensures cell { OnTrue result (HasCell row column room.new self.now) }
+        ensures refused { OnFalse result (room.new ≡ room.old) }
+    {
+        if self.screen().rows() <= row || self.screen().columns() <= column {
+            return false;
+        }
+        put_cell(&self.screen().row(row)[column], room);
+        true
     }
 
     /// Writes the cells of a row, counted from 0, to the front of the room; false, where there is no such row or

@@ -35,11 +35,24 @@ pub struct StyleBytes {
 }
 
 impl ColorBytes {
+    ghost use Rattle.ansi_style.specs.declared.style.Color.TheVariants.{Default};
+
+    /// The terminal's own colour.
+    #[inline(always)]
+    pub(crate) fn own() -> ColorBytes
+        ensures { color_of result ≡ Default }
+    {
+        ColorBytes {
+            kind: 0,
+            values: [0, 0, 0],
+        }
+    }
+
     pub(crate) fn of(color: Color) -> ColorBytes
         ensures { color_of result ≡ color }
     {
         let (kind, values) = match color {
-            Color::Default => (0, [0, 0, 0]),
+            Color::Default => return ColorBytes::own(),
             Color::Named(hue) => (1, [hue as u8, 0, 0]),
             Color::Bright(hue) => (2, [hue as u8, 0, 0]),
             Color::Indexed(number) => (3, [number, 0, 0]),
@@ -71,12 +84,16 @@ pub(crate) fn flag(is: bool) -> u8
 }
 
 impl StyleBytes {
-    pub(crate) fn of(style: Style) -> StyleBytes
-        ensures { style_of result ≡ style }
+    /// The bytes of a style, of whose colours these are the bytes.
+    #[inline(always)]
+    pub(crate) fn with(style: &Style, foreground: ColorBytes, background: ColorBytes) -> StyleBytes
+        requires foreground { color_of foreground ≡ style.now.foreground }
+        requires background { color_of background ≡ style.now.background }
+        ensures { style_of result ≡ style.now }
     {
         StyleBytes {
-            foreground: ColorBytes::of(style.foreground),
-            background: ColorBytes::of(style.background),
+            foreground,
+            background,
             underline: underline_number(style.underline),
             bold: flag(style.bold),
             dim: flag(style.dim),
@@ -87,5 +104,15 @@ impl StyleBytes {
             struck_out: flag(style.struck_out),
             overlined: flag(style.overlined),
         }
+    }
+
+    pub(crate) fn of(style: Style) -> StyleBytes
+        ensures { style_of result ≡ style }
+    {
+        StyleBytes::with(
+            &style,
+            ColorBytes::of(style.foreground),
+            ColorBytes::of(style.background),
+        )
     }
 }

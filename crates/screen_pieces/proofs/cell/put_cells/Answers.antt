@@ -1,30 +1,33 @@
--- One cell more is written.
-use Rattle.std.proofs.Common.{◌<◌, [], ◌∷◌, ◌++◌, length, take, map, refl, sym, ap, ◌∙◌, arith}
-use Rattle.std.proofs.lemmas.List.{map-append, take_more, take_more_set, take_all, drop-set-lt}
-use Rattle.screen_pieces.specs.Cells.{cell_in}
+-- Four cells more are written, and at last those that are left.
+use Rattle.std.proofs.Common.{◌≤◌, ◌+◌, ◌-◌, length, ◌∙◌, arith}
+use Rattle.std.proofs.Math.Seq.{take-length}
+use Rattle.screen_pieces.proofs.PartLemmas.{written-more, rest-same}
 use Rattle.screen_pieces.proofs.cell.put_cells.Goals as goal
 
-pub loop-place-init : goal.loop-place-init
-loop-place-init c = record { written = refl; rest = refl }
-
-pub loop-place-preserved : goal.loop-place-preserved
-loop-place-preserved c =
-    let i = c.loop-place.place in let before = c.loop-place.invariant in
-    let within : i < length c.loop-place.room = omega (arith, c.loop-place.auto.room, c.requires, c.loop-place-test.true) in
+pub fours-preserved : goal.fours-preserved
+fours-preserved c =
+    let n = c.fours.done in let before = c.fours.invariant in
+    let fits : n + 4 ≤ length c.args.cells.now = omega (arith, before.within, c.fours-test.true) in
+    let inside : n + 4 ≤ length c.fours.room = omega (arith, fits, c.requires, c.fours.auto.room) in
     record {
-      written = ap (map cell_in) (take_more_set c.loop-place.room i c.of.result within)
-          ∙ map-append cell_in (take i c.loop-place.room) (c.of.result ∷ [])
-          ∙ ap (λ xs. xs ++ cell_in c.of.result ∷ []) before.written
-          ∙ ap (λ x. take i c.args.cells.now ++ x ∷ []) c.of.ensures
-          ∙ sym (take_more c.args.cells.now i _ c.loop-place-test.true);
-      rest = drop-set-lt (length c.args.cells.now) c.loop-place.room i c.of.result c.loop-place-test.true ∙ before.rest;
+      within = fits;
+      written = written-more n (n + 4 - n) (n + 4) c.fours.room c.put_few.new.room c.args.cells.now (omega arith) fits inside c.put_few.auto.room
+          before.written c.put_few.ensures.written;
+      rest = rest-same n (n + 4 - n) (n + 4) c.fours.room c.put_few.new.room c.args.cells.now (omega arith) fits inside c.put_few.auto.room
+          (length c.args.cells.now) fits ∙ before.rest;
     }
 
 pub returns-clause-written : goal.returns-clause-written
 returns-clause-written c =
-    let same = take_all c.loop-place.place c.args.cells.now c.loop-place-test.false in
-    ap (λ n. map cell_in (take n c.loop-place.room)) (omega (arith, c.loop-place-test.false, c.loop-place.auto.place-end))
-    ∙ c.loop-place.invariant.written ∙ same
+    let n = c.fours.done in let before = c.fours.invariant in let end = length c.args.cells.now in
+    let inside : end ≤ length c.fours.room = omega (arith, c.requires, c.fours.auto.room) in
+    written-more n (end - n) end c.fours.room c.put_each.new.room c.args.cells.now (omega (arith, before.within)) (omega arith) inside
+    c.put_each.auto.room before.written c.put_each.ensures.written
+    ∙ take-length c.args.cells.now
 
 pub returns-clause-rest : goal.returns-clause-rest
-returns-clause-rest c = c.loop-place.invariant.rest
+returns-clause-rest c =
+    let n = c.fours.done in let before = c.fours.invariant in let end = length c.args.cells.now in
+    let inside : end ≤ length c.fours.room = omega (arith, c.requires, c.fours.auto.room) in
+    rest-same n (end - n) end c.fours.room c.put_each.new.room c.args.cells.now (omega (arith, before.within)) (omega arith) inside
+    c.put_each.auto.room end (omega arith) ∙ before.rest

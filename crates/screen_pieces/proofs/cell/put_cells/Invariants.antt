@@ -1,10 +1,14 @@
 -- So many are written, and the rest is as it was.
-use Rattle.std.proofs.Common.{◌≡◌, length, take, drop, map}
+use Rattle.std.proofs.Common.{◌≡◌, ◌≤◌, ◌-◌, length, take, drop, map}
 use Rattle.screen_pieces.specs.Cells.{cell_in}
 use Rattle.screen_pieces.proofs.cell.put_cells.Given as goal
 
-abbrev pub invariant-loop-place : goal.invariant-loop-place
-invariant-loop-place l = record {
-  written : map cell_in (take l.place l.room) ≡ take l.place l.cells;
+abbrev pub invariant-fours : goal.invariant-fours
+invariant-fours l = record {
+  within : l.done ≤ length l.cells;
+  written : map cell_in (take l.done l.room) ≡ take l.done l.cells;
   rest : drop (length l.cells) l.room ≡ drop (length l.cells) l.initial.room;
 }
+
+abbrev pub decreases-fours : goal.decreases-fours
+decreases-fours l = length l.cells - l.done

@@ -22,7 +22,7 @@ COMPLETED = $(PROGRAMS)
 TESTS = asked browser cells classes contrast costs dist documents install library links packages programs screen_library screen_twin vectors
 # what the library does: each has a header and a manual page of its own
 INTERFACES = ansi_events ansi_html ansi_safe ansi_screen ansi_strip
-VERSION := $(shell sed -n 's/^pub const VERSION: &str = "\(.*\)";$$/\1/p' crates/standard_streams/src/options.rt)
+VERSION := $(shell sed -n 's/^pub const VERSION: &str = "\(.*\)";$$/\1/p' crates/command_line/src/options.rt)
 MAJOR := $(firstword $(subst ., ,$(VERSION)))
 
 ARCHIVE = crates/ansi/out/libansi.a

@@ -1,7 +1,7 @@
 -- The words of the program.
 use Rattle.std.specs.Prelude.{ℕ, Bool, ◌||◌, ◌&&◌, nat_eq, nat_le, nat_lt, List, [], ◌∷◌, length, codes, bytes_eq, Option, None, Some, unwrap_or, if◌then◌else◌}
 use Rattle.std.specs.List.{list_all, list_any, starts_with}
-use Rattle.standard_streams.specs.Options.{has_word, last_value}
+use Rattle.command_line.specs.Options.{has_word, last_value}
 use Rattle.ansi_html.specs.declared.scheme.Scheme.{Scheme}
 use Rattle.ansi_html.specs.declared.scheme.Scheme.TheVariants.{Light, Dark, Both}
 use Rattle.ansi_html.specs.declared.scheme.Styling.{Styling}

@@ -7,13 +7,13 @@ mod streams;
 mod words;
 
 use ansi_html::Scheme;
-use each_source::{Stopped, write_each};
-use form::{Said, write_stylesheet};
-use screen_text::{SHOWN, screen_size};
-use standard_streams::{
+use command_line::{
     OUTPUT, Target, answered, asked_of, buffered, failed, given_line, have_failed, inputs, misused,
     value_of, wrong_size,
 };
+use each_source::{Stopped, write_each};
+use form::{Said, write_stylesheet};
+use screen_text::{SHOWN, screen_size};
 use std::process::ExitCode;
 use streams::{Converting, Lining, Showing};
 use words::{

@@ -1,13 +1,13 @@
 //! The words of the program: what its options say.
 ghost use Rattle.std.specs.Prelude.{◌≡◌, codes, map, string_bytes, option_copied, unwrap_or};
 ghost use Rattle.std.specs.List.{list_all};
-ghost use Rattle.standard_streams.specs.Options.{last_value};
+ghost use Rattle.command_line.specs.Options.{last_value};
 ghost use Rattle.ansi2html.specs.Words.{asks_for_page, form_of, scheme_after, scheme_of, styling_of, asks_for_stylesheet, default_title, is_tag_byte, is_tag, language_of, asks_for_lines, asks_to_scroll};
 
 use crate::form::{Form, LANGUAGE, TITLE};
 use ansi_html::{Scheme, Styling};
+use command_line::{OUTPUT, has_word, value_of};
 use screen_text::SHOWN;
-use standard_streams::{OUTPUT, has_word, value_of};
 
 /// The options: `page` is the word of earlier versions.
 pub const OPTIONS: &[&str] = &[

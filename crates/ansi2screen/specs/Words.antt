@@ -1,6 +1,6 @@
 -- The words of the program.
 use Rattle.std.specs.Prelude.{ℕ, Bool, List, [], ◌∷◌, Option, None, Some, codes}
-use Rattle.standard_streams.specs.Options.{has_word}
+use Rattle.command_line.specs.Options.{has_word}
 
 -- the bytes that draw the screen are asked for where some word is --draw
 abbrev pub asks_to_draw : (words : List (List ℕ)) → Bool

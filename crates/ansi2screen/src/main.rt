@@ -6,12 +6,12 @@ mod words;
 
 use ansi_screen::Screen;
 use anstyle_parse::io::Output;
-use each_source::Stopped;
-use screen_draw::{Form, Noting, show_to_end, update_to_end};
-use standard_streams::{
+use command_line::{
     Input, OUTPUT, Target, answered, asked_of, buffered, failed, given_line, misused, value_of,
     wrong_size,
 };
+use each_source::Stopped;
+use screen_draw::{Form, Noting, show_to_end, update_to_end};
 use std::process::ExitCode;
 use words::{
     BOTH, HELP, MORE_FILES, OPTIONS, SIZE, asks_for_updates, asks_to_draw, named_file, named_size,

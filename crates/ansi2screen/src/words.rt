@@ -4,7 +4,7 @@ ghost use Rattle.ansi2screen.specs.Words.{asks_to_draw, asks_for_updates, file_o
 ghost use Rattle.ansi_screen.specs.Size.{IsNamed, IsTaken};
 
 use ansi_screen::Size;
-use standard_streams::{OUTPUT, has_word};
+use command_line::{OUTPUT, has_word};
 
 /// The options.
 pub const OPTIONS: &[&str] = &[SIZE, DRAW, UPDATES, OUTPUT];

@@ -1,6 +1,6 @@
 -- The words of the program.
 use Rattle.std.specs.Prelude.{ℕ, Bool, List, codes}
-use Rattle.standard_streams.specs.Options.{has_word}
+use Rattle.command_line.specs.Options.{has_word}
 
 -- safe text is asked for where some word is --safe
 abbrev pub asks_for_safe : (words : List (List ℕ)) → Bool

@@ -5,13 +5,13 @@
 mod streams;
 mod words;
 
-use each_source::write_each;
-use screen_safe::SafeRows;
-use screen_text::{SHOWN, ShownWriter, TextRows, screen_size};
-use standard_streams::{
+use command_line::{
     OUTPUT, Target, answered, asked_of, buffered, failed, given_line, have_failed, inputs,
     value_of, wrong_size,
 };
+use each_source::write_each;
+use screen_safe::SafeRows;
+use screen_text::{SHOWN, ShownWriter, TextRows, screen_size};
 use std::process::ExitCode;
 use streams::{MakingSafe, Showing, Stripping, StrippingLines};
 use words::{HELP, OPTIONS, asks_for_line_feeds, asks_for_safe};

@@ -2,8 +2,8 @@
 ghost use Rattle.std.specs.Prelude.{◌≡◌, map, string_bytes};
 ghost use Rattle.ansi2text.specs.Words.{asks_for_safe, asks_for_line_feeds};
 
+use command_line::{OUTPUT, has_word};
 use screen_text::SHOWN;
-use standard_streams::{OUTPUT, has_word};
 
 /// The options.
 pub const OPTIONS: &[&str] = &[SAFE, LINE_FEEDS, SHOWN, "--shown=", OUTPUT];

@@ -6,8 +6,8 @@
 
 mod count;
 
+use command_line::{failed, misused};
 use count::count_of;
-use standard_streams::{failed, misused};
 use std::process::ExitCode;
 use std::rt::Env;
 use std::{env, fs, io};

@@ -9,8 +9,8 @@ mod pieces;
 mod random;
 mod recording;
 
+use command_line::{failed, misused};
 use jobs::{JOBS, Job};
-use standard_streams::{failed, misused};
 use std::process::ExitCode;
 use std::rt::Env;
 use std::{env, io};

@@ -86,6 +86,18 @@ use anstyle_parse::laws::state_as_number;
 use anstyle_parse::state::Action;
 use anstyle_parse::state::State;
 use anstyle_parse::state::state_change;
+use command_line::Request;
+use command_line::VERSION;
+use command_line::answered;
+use command_line::asked_of;
+use command_line::buffered;
+use command_line::failed;
+use command_line::given_words;
+use command_line::has_word;
+use command_line::message;
+use command_line::misused;
+use command_line::value_of;
+use command_line::wrong_size;
 use event_pieces::Event;
 use examples::plain;
 use examples::write_last_style;
@@ -94,20 +106,6 @@ use html_pieces::END_ROOM;
 use html_pieces::ElementBytes;
 use html_pieces::HtmlState;
 use html_pieces::StyleBytes;
-use standard_streams::Request;
-use standard_streams::VERSION;
-use standard_streams::answered;
-use standard_streams::asked_of;
-use standard_streams::buffered;
-use standard_streams::ended;
-use standard_streams::ended_with_reason;
-use standard_streams::failed;
-use standard_streams::given_words;
-use standard_streams::has_word;
-use standard_streams::message;
-use standard_streams::misused;
-use standard_streams::value_of;
-use standard_streams::wrong_size;
 use std::alloc::Global;
 use std::fmt::Debug;
 use std::io;
@@ -517,20 +515,14 @@ fn memory(alloc: Global) -> Memory {
 }
 
 /// What the programs share, which no test runs here: it writes to the standard streams.
-pub fn names_of_standard_streams<W: Write + IsTerminal + Drop>(
+pub fn names_of_command_line<W: Write + IsTerminal + Drop>(
     rt: &impl Eprint,
     output: W,
-    other: W,
-    last: W,
-) -> (Buffer<FromWrite<W>>, [ExitCode; 5]) {
-    let ran = (buffered(other), Err(Fault::Read));
-    let reader = FromRead::new(b"".as_slice());
+) -> (Buffer<FromWrite<W>>, [ExitCode; 3]) {
     (
         buffered(output),
         [
             failed(rt, "", message(Fault::Read)),
-            ended(rt, "", ran),
-            ended_with_reason(rt, "", reader, (buffered(last), Ok(()))),
             misused(rt, ""),
             wrong_size(rt, ""),
         ],

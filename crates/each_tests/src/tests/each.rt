@@ -6,10 +6,10 @@ ghost use Rattle.each_tests.specs.Ending.{no_text};
 
 use ansi_strip::Stripper;
 use anstyle_parse::io::{Buffer, CallWriter, Fault, FromRead, FromWrite, Output, Sink};
-use each_source::{Begin, Stopped, Stream, write_each};
-use standard_streams::{
+use command_line::{
     Destination, Input, Line, OUTPUT, Place, Target, given_line, have_failed, inputs, line_of,
 };
+use each_source::{Begin, Stopped, Stream, write_each};
 use std::process::{Abort, ExitCode};
 use std::test::Fail;
 use test_streams::{Paper, TROUBLES, Tape};
@@ -49,7 +49,10 @@ fn each_has_a_parser_of_its_own(rt: HostRuntime) -> Result<(), Fail> {
     let writer = FromWrite::new(Vec::new(rt.alloc()));
     let (writer, answer) = write_each(&Stripping, b"<", readers.as_mut_slice(), writer, b">");
     // (a byte of a character that the second cuts off, and one of a character that the third goes on with: U+FFFD each)
-    assert_eq!(rt; writer.into_inner().as_slice(), b"<A1mB\xef\xbf\xbd\xef\xbf\xbdC>".as_slice());
+    assert_eq!(rt;
+        writer.into_inner().as_slice(),
+        b"<A1mB\xef\xbf\xbd\xef\xbf\xbdC>".as_slice()
+    );
     assert_eq!(rt; answer, Ok(()));
     Ok(())
 }

@@ -3,7 +3,7 @@ use Rattle.std.proofs.Common.{◌∙◌, sym, ap, rules, tests, string_bytes, Bo
 use Rattle.std.specs.Prelude.{if◌then◌else◌}
 use Rattle.std.proofs.lemmas.Iterator.{YieldsList-from_slice}
 use Rattle.std.proofs.lemmas.Iterator.Search.{any_from_yields_List}
-use Rattle.standard_streams.proofs.WordLemmas.{list_any-map}
+use Rattle.command_line.proofs.WordLemmas.{list_any-map}
 use Rattle.ansi2html.specs.declared.form.Form.TheVariants.{Fragment, Page}
 use Rattle.ansi2html.specs.Words.{asks_for_page}
 use Rattle.ansi2html.proofs.words.form.Goals as goal

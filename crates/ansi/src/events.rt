@@ -2,12 +2,12 @@
 //! caller owes.
 ghost use Rattle.std.specs.Prelude.{◌≡◌, []};
 ghost use Rattle.std.specs.Bool.{OnTrue, OnFalse};
-ghost use Rattle.strip_pieces.specs.State.{StandsFor};
+ghost use Rattle.stream_state.specs.State.{StandsFor};
 ghost use Rattle.event_pieces.specs.Feed.{Feeds, Refuses};
 ghost use Rattle.ansi.specs.Counts.{counts};
 
 use event_pieces::{Event, feed};
-use strip_pieces::StreamState;
+use stream_state::StreamState;
 
 /// Makes the state one that begins a stream.
 #[unsafe(no_mangle)]

@@ -5,7 +5,7 @@
 ghost use Rattle.std.specs.Prelude.{◌≡◌, []};
 ghost use Rattle.std.specs.Bool.{OnTrue, OnFalse};
 ghost use Rattle.strip_pieces.specs.Feed.{Feeds, Refuses, Ends as EndsText, RefusesEnd as RefusesEndOfText};
-ghost use Rattle.strip_pieces.specs.Log.{StandsForLog};
+ghost use Rattle.stream_state.specs.Log.{StandsForLog};
 ghost use Rattle.html_pieces.specs.State.{styling_in, styling_numbered, StandsFor as HtmlStandsFor};
 ghost use Rattle.html_pieces.specs.Feed.{Feeds as FeedsHtml, Refuses as RefusesHtml, Ends, RefusesEnd};
 
@@ -13,7 +13,7 @@ mod events;
 mod safe;
 
 use html_pieces::HtmlState;
-use strip_pieces::StreamState;
+use stream_state::StreamState;
 
 /// Makes the state one that begins a stream.
 #[unsafe(no_mangle)]
@@ -24,7 +24,7 @@ pub extern "C" fn ansi_strip_init(state: &mut StreamState)
 }
 
 /// Takes bytes from the front of the piece, and writes their inert text to the front of the
-/// room: [`StreamState::feed`]. The numbers are 0 where it answers false.
+/// room: [`strip_pieces::feed`]. The numbers are 0 where it answers false.
 #[unsafe(no_mangle)]
 pub extern "C" fn ansi_strip_feed(
     state: &mut StreamState,
@@ -38,7 +38,7 @@ pub extern "C" fn ansi_strip_feed(
     ensures none_taken { OnFalse result (taken.new ≡ 0) }
     ensures none_written { OnFalse result (written.new ≡ 0) }
 {
-    match state.feed(piece, room) {
+    match strip_pieces::feed(state, piece, room) {
         Some(fed) => {
             *taken = fed.taken;
             *written = fed.written;
@@ -53,7 +53,7 @@ pub extern "C" fn ansi_strip_feed(
 }
 
 /// Writes what the end of the stream leads to, to the front of the room, and the state begins a stream:
-/// [`StreamState::end`]. The number is 0 where it answers false.
+/// [`strip_pieces::end`]. The number is 0 where it answers false.
 #[unsafe(no_mangle)]
 pub extern "C" fn ansi_strip_end(
     state: &mut StreamState,
@@ -64,7 +64,7 @@ pub extern "C" fn ansi_strip_end(
     ensures refused { OnFalse result (RefusesEndOfText state.old state.new room.old room.new) }
     ensures none_written { OnFalse result (written.new ≡ 0) }
 {
-    match state.end(room) {
+    match strip_pieces::end(state, room) {
         Some(count) => {
             *written = count;
             true

@@ -6,8 +6,8 @@ use Rattle.anstyle_parse.specs.declared.parser.Parser.{Parser}
 use Rattle.anstyle_parse.specs.Stream.Call.{Call}
 use Rattle.anstyle_parse.specs.Views.Accumulator.{front_of}
 use Rattle.anstyle_parse.specs.Views.Parser.{IsAfter}
-use Rattle.strip_pieces.specs.declared.state.StreamState.{StreamState}
-use Rattle.strip_pieces.specs.State.{StandsFor}
+use Rattle.stream_state.specs.declared.state.StreamState.{StreamState}
+use Rattle.stream_state.specs.State.{StandsFor}
 use Rattle.event_pieces.specs.declared.event.Event.{Event}
 use Rattle.event_pieces.specs.declared.feeding.Fed.{Fed}
 use Rattle.event_pieces.specs.declared.writer.EventWriter.{EventWriter}

@@ -7,8 +7,8 @@ use Rattle.anstyle_parse.specs.Stream.Call.{Call}
 use Rattle.anstyle_parse.specs.Stream.Calls.{Continues}
 use Rattle.anstyle_parse.specs.Views.Parser.{IsAfter}
 use Rattle.anstyle_parse.specs.Laws.Checkpoint.{max_checkpoint}
-use Rattle.strip_pieces.specs.declared.state.StreamState.{StreamState}
-use Rattle.strip_pieces.specs.State.{StandsFor}
+use Rattle.stream_state.specs.declared.state.StreamState.{StreamState}
+use Rattle.stream_state.specs.State.{StandsFor}
 use Rattle.event_pieces.specs.declared.event.Event.{Event}
 use Rattle.event_pieces.specs.declared.feeding.Fed.{Fed}
 use Rattle.event_pieces.specs.declared.writer.EventWriter.{EventWriter}

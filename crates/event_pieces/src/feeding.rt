@@ -8,7 +8,7 @@ use crate::event::Event;
 use crate::writer::EventWriter;
 use anstyle_parse::canon::MAX_CHECKPOINT;
 use anstyle_parse::{Parser, Utf8Parser};
-use strip_pieces::StreamState;
+use stream_state::StreamState;
 
 /// The records at most that each byte of a piece leads to.
 const EVENTS_OF_A_BYTE: usize = 2;

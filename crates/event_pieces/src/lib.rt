@@ -1,6 +1,6 @@
 //! The calls of a stream that comes in pieces, as plain records, with a state that its caller owns.
 //!
-//! A [`StreamState`](strip_pieces::StreamState) says where the stream stands; [`feed`] takes bytes of a piece and
+//! A [`StreamState`](stream_state::StreamState) says where the stream stands; [`feed`] takes bytes of a piece and
 //! writes an [`Event`] for each call, and for each run of printed characters, into a slice, and what they hold,
 //! as text and parameters, into another. No memory is taken, and no input is refused.
 //!

@@ -12,7 +12,7 @@ use crate::event::{
 };
 use crate::front::{BLOCK, FIELDS_OF_A_BLOCK, before_layout, fields_block, from_place};
 use anstyle_parse::{Params, Perform, PerformText};
-use strip_pieces::put_over;
+use stream_state::put_over;
 
 /// Writes records of calls after those that are written, as far as there is room for them.
 #[derive(Drop)]

@@ -10,10 +10,10 @@ use Rattle.anstyle_parse.proofs.Resume.Whole.{checkpoint_stands, length-checkpoi
 use Rattle.anstyle_parse.proofs.Division.Only.{AreCalls-only}
 use Rattle.anstyle_parse.proofs.Agreement.Whole.{AreCalls-machine}
 use Rattle.ansi_strip.proofs.Showable.{AreShowable-later}
-use Rattle.strip_pieces.specs.Log.{StandsForLog}
-use Rattle.strip_pieces.specs.State.{pending_of}
-use Rattle.strip_pieces.proofs.LogLemmas.{any_log, lawful-log}
-use Rattle.strip_pieces.proofs.LogQuoted.{IsBeside, quoted-log}
+use Rattle.stream_state.specs.Log.{StandsForLog}
+use Rattle.stream_state.specs.State.{pending_of}
+use Rattle.stream_state.proofs.LogLemmas.{any_log, lawful-log}
+use Rattle.stream_state.proofs.LogQuoted.{IsBeside, quoted-log}
 use Rattle.ansi_html.specs.Html.{Standing, at_start, html_from, standing_at_end}
 use Rattle.ansi_html.specs.AddingProof.{standing_at_end-append}
 use Rattle.ansi_html.proofs.TextLemmas.{IsUtf8-html_from}

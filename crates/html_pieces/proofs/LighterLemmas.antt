@@ -4,10 +4,10 @@ use Rattle.std.specs.Prelude.{encode_utf8}
 use Rattle.anstyle_parse.specs.Stream.Call.{Call, print}
 use Rattle.anstyle_parse.specs.Stream.Characters.{replacement}
 use Rattle.anstyle_parse.proofs.Characters.Encoding.{encode_one, encode_three}
-use Rattle.strip_pieces.proofs.LogQuoted.{IsLighter, AreLighter}
+use Rattle.stream_state.proofs.LogQuoted.{IsLighter, AreLighter}
 use Rattle.ansi_html.specs.declared.scheme.Styling.{Styling}
 use Rattle.ansi_html.specs.Html.{escaped_text, Standing, call_html, standing_after, html_from, beginning}
-use Rattle.strip_pieces.specs.Log.{end_calls}
+use Rattle.stream_state.specs.Log.{end_calls}
 use Rattle.ansi_html.proofs.LengthLemmas.{length-beginning}
 use Rattle.ansi_html.proofs.SoundLemmas.{AreSound}
 use Rattle.ansi_html.proofs.HtmlLemmas.{call_html-print, standing_after-print, escaped_high}

@@ -1,8 +1,8 @@
 -- Bytes that are taken, and then others.
 use Rattle.std.proofs.Common.{◌≡◌, ◌+◌, ℕ, List, [], ◌++◌, take, drop, refl, sym, ap, ap₂, ◌∙◌, subst, arith, append-nil, append_assoc, length-drop}
-use Rattle.strip_pieces.specs.Log.{StandsForLog}
-use Rattle.strip_pieces.proofs.LogLemmas.{ContinuesLog-append, ContinuesLog-nil}
-use Rattle.strip_pieces.proofs.LentLemmas.{both-front, both-behind, both-length}
+use Rattle.stream_state.specs.Log.{StandsForLog}
+use Rattle.stream_state.proofs.LogLemmas.{ContinuesLog-append, ContinuesLog-nil}
+use Rattle.stream_state.proofs.LentLemmas.{both-front, both-behind, both-length}
 use Rattle.ansi_html.specs.AddingProof.{html_from-append, standing_at_end-append}
 use Rattle.ansi_html.specs.Html.{Standing, html_from, standing_at_end}
 use Rattle.html_pieces.specs.declared.state.HtmlState.{HtmlState}

@@ -13,8 +13,8 @@ use Rattle.anstyle_parse.specs.Machine.Stands.{StandsAfter}
 use Rattle.anstyle_parse.proofs.Agreement.Whole.{StandsAfter-machine, Continues-machine}
 use Rattle.anstyle_parse.proofs.Machine.AsRead.{AreReadAsTheyAre, as_they_are-plain, read_from-append}
 use Rattle.anstyle_parse.specs.Machine.AsRead.{read_from, as_read}
-use Rattle.strip_pieces.specs.Log.{StandsForLog, ContinuesLog}
-use Rattle.strip_pieces.specs.State.{StandsFor as StreamStandsFor}
+use Rattle.stream_state.specs.Log.{StandsForLog, ContinuesLog}
+use Rattle.stream_state.specs.State.{StandsFor as StreamStandsFor}
 use Rattle.ansi_html.specs.Grammar.{is_text_byte}
 use Rattle.ansi_html.specs.Verbatim.{is_verbatim}
 use Rattle.ansi_html.specs.Html.{Element, element, html_from, standing_at_end}

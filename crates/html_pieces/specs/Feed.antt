@@ -3,7 +3,7 @@ use Rattle.std.specs.Prelude.{◌≡◌, ◌<◌, ◌≤◌, ℕ, List, [], ◌+
 use Rattle.anstyle_parse.specs.Stream.Call.{Call}
 use Rattle.anstyle_parse.specs.Stream.Calls.{AreCalls}
 use Rattle.anstyle_parse.specs.Machine.AsRead.{as_read}
-use Rattle.strip_pieces.specs.Log.{StandsForLog, ContinuesLog, EndsLog}
+use Rattle.stream_state.specs.Log.{StandsForLog, ContinuesLog, EndsLog}
 use Rattle.ansi_html.specs.declared.scheme.Styling.{Styling}
 use Rattle.ansi_html.specs.Html.{at_start, html_from, standing_at_end, element_end, html_ending}
 use Rattle.html_pieces.specs.declared.state.HtmlState.{HtmlState}

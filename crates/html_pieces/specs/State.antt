@@ -3,7 +3,7 @@ use Rattle.std.specs.Prelude.{◌≡◌, ℕ, List, [], ◌∷◌, take, ◌==�
 use Rattle.anstyle_parse.specs.Stream.Call.{Call}
 use Rattle.anstyle_parse.specs.Stream.Calls.{AreCalls}
 use Rattle.anstyle_parse.specs.Machine.AsRead.{as_read}
-use Rattle.strip_pieces.specs.Log.{StandsForLog}
+use Rattle.stream_state.specs.Log.{StandsForLog}
 use Rattle.ansi_html.specs.declared.scheme.Scheme.TheVariants.{Light, Dark, Both}
 use Rattle.ansi_html.specs.declared.scheme.Styling.{Styling}
 use Rattle.ansi_html.specs.declared.scheme.Styling.TheVariants.{Inline, Classes}

@@ -1,6 +1,6 @@
 -- Where verbatim text is written as it is.
 use Rattle.std.specs.Prelude.{◌≡◌, false, []}
-use Rattle.strip_pieces.specs.State.{pending_of}
+use Rattle.stream_state.specs.State.{pending_of}
 use Rattle.html_pieces.specs.declared.state.HtmlState.{HtmlState}
 use Rattle.html_pieces.specs.State.{held_element}
 use Rattle.html_pieces.specs.Styles.{is_set}

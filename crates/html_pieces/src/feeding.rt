@@ -7,7 +7,7 @@ use crate::state::HtmlState;
 use ansi_html::{HtmlWriter, verbatim_length};
 use anstyle_parse::canon::{Output, WritingPerformer};
 use anstyle_parse::{Parser, Utf8Parser};
-use strip_pieces::{Fed, LentBytes, print_end, put_front};
+use stream_state::{Fed, LentBytes, print_end, put_front};
 
 /// The bytes of room with which a stream always goes on: what one byte may lead to, where it opens a link
 /// of 1,035 bytes.

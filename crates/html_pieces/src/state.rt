@@ -10,7 +10,7 @@ ghost use Rattle.html_pieces.specs.State.{held_element, held_standing, styling_i
 use crate::style::{StyleBytes, flag};
 use ansi_html::{Element, Scheme, Standing, Styling};
 use ansi_style::Style;
-use strip_pieces::StreamState;
+use stream_state::StreamState;
 
 /// The bytes of a link at most.
 const MAX_LINK: usize = 1035;

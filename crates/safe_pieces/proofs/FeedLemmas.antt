@@ -14,13 +14,13 @@ use Rattle.anstyle_parse.proofs.Division.Only.{AreCalls-only}
 use Rattle.anstyle_parse.proofs.Agreement.Whole.{AreCalls-machine}
 use Rattle.anstyle_parse.specs.declared.io.Fault.{Fault}
 use Rattle.anstyle_parse.specs.Io.Output.{writer_in, fault_in, Finishes}
-use Rattle.strip_pieces.specs.contracts.lent.LentBytesSink.TheImpl.{ghosts}
-use Rattle.strip_pieces.specs.declared.lent.LentBytes.{LentBytes}
-use Rattle.strip_pieces.specs.Lent.{limit_of, held_in as bytes_in}
-use Rattle.strip_pieces.specs.Log.{StandsForLog, EndsLog}
-use Rattle.strip_pieces.specs.State.{pending_of}
-use Rattle.strip_pieces.proofs.LogLemmas.{any_log, lawful-log, ContinuesLog-append, ContinuesLog-nil}
-use Rattle.strip_pieces.proofs.LentLemmas.{both-front, both-behind, both-length, held-all, no_fault-within}
+use Rattle.stream_state.specs.contracts.lent.LentBytesSink.TheImpl.{ghosts}
+use Rattle.stream_state.specs.declared.lent.LentBytes.{LentBytes}
+use Rattle.stream_state.specs.Lent.{limit_of, held_in as bytes_in}
+use Rattle.stream_state.specs.Log.{StandsForLog, EndsLog}
+use Rattle.stream_state.specs.State.{pending_of}
+use Rattle.stream_state.proofs.LogLemmas.{any_log, lawful-log, ContinuesLog-append, ContinuesLog-nil}
+use Rattle.stream_state.proofs.LentLemmas.{both-front, both-behind, both-length, held-all, no_fault-within}
 use Rattle.safe_text.specs.Classes.{is_of_safe_text}
 use Rattle.safe_text.specs.Safe.{characters, safe, safe_from}
 use Rattle.safe_text.specs.Decided.{decided_from, last_from, waiting, undecided_from, decided, undecided}

@@ -5,7 +5,7 @@ use Rattle.std.specs.Prelude.{◌≡◌, ◌<◌, ◌≤◌, ◌*◌, ℕ, List,
 use Rattle.anstyle_parse.specs.Stream.Call.{Call}
 use Rattle.anstyle_parse.specs.Stream.Calls.{AreCalls}
 use Rattle.anstyle_parse.specs.Machine.AsRead.{as_read, as_read_whole}
-use Rattle.strip_pieces.specs.Log.{StandsForLog, ContinuesLog, EndsLog}
+use Rattle.stream_state.specs.Log.{StandsForLog, ContinuesLog, EndsLog}
 use Rattle.safe_text.specs.Classes.{is_of_safe_text}
 use Rattle.safe_text.specs.Safe.{characters, safe_from, safe}
 use Rattle.safe_text.specs.Decided.{decided_from, last_from, waiting, decided}

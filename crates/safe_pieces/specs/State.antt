@@ -3,7 +3,7 @@ use Rattle.std.specs.Prelude.{◌≡◌, ℕ, ◌==◌, ◌&&◌, ◌||◌, nat_
 use Rattle.anstyle_parse.specs.Stream.Call.{Call}
 use Rattle.anstyle_parse.specs.Stream.Calls.{AreCalls}
 use Rattle.anstyle_parse.specs.Machine.AsRead.{as_read}
-use Rattle.strip_pieces.specs.Log.{StandsForLog}
+use Rattle.stream_state.specs.Log.{StandsForLog}
 use Rattle.safe_text.specs.declared.held.Held.{Held}
 use Rattle.safe_text.specs.declared.held.Held.TheVariants.{Nothing, Return, Less, LessU, Space, NonJoiner, Joiner, TextSelector, EmojiSelector}
 use Rattle.safe_text.specs.Held.{held_characters}

@@ -7,7 +7,7 @@ use crate::state::SafeState;
 use anstyle_parse::canon::{Output, WritingPerformer};
 use anstyle_parse::{Parser, Utf8Parser};
 use safe_text::SafeWriter;
-use strip_pieces::{Fed, LentBytes, print_end, put_front};
+use stream_state::{Fed, LentBytes, print_end, put_front};
 
 /// The bytes of safe text at most that a character leads to.
 const TEXT_OF_A_CHARACTER: usize = 10;

@@ -4,7 +4,7 @@ ghost use Rattle.safe_text.specs.Held.{held_characters};
 ghost use Rattle.safe_pieces.specs.State.{character_numbered, held_numbered, before_in, held_in, StandsFor};
 
 use safe_text::{Held, Standing};
-use strip_pieces::StreamState;
+use stream_state::StreamState;
 
 /// Where a stream and its safe text stand between two pieces.
 ///

@@ -18,20 +18,14 @@ use Rattle.anstyle_parse.specs.declared.parser.Parser.{Parser}
 use Rattle.anstyle_parse.specs.Views.Accumulator.{front_of}
 use Rattle.anstyle_parse.specs.Views.Parser.{AreBelow, IsAfter}
 use Rattle.strip_pieces.specs.declared.slice_writer.SliceWriter.{SliceWriter}
-use Rattle.strip_pieces.specs.declared.state.StreamState.{StreamState}
+use Rattle.stream_state.specs.declared.state.StreamState.{StreamState}
 use Rattle.strip_pieces.specs.Feed.{least_room, end_room, most_text, Feeds, Ends, IsTaken}
-use Rattle.strip_pieces.specs.Log.{StandsForLog, ContinuesLog, EndsLog}
+use Rattle.stream_state.specs.Log.{StandsForLog, ContinuesLog, EndsLog}
 use Rattle.strip_pieces.specs.SliceWriter.{with_text}
-use Rattle.strip_pieces.specs.State.{pending_of, StandsFor}
-use Rattle.strip_pieces.proofs.LogLemmas.{any_log, lawful-log}
-use Rattle.strip_pieces.proofs.LogLength.{text_length-log}
+use Rattle.stream_state.specs.State.{pending_of, StandsFor}
+use Rattle.stream_state.proofs.LogLemmas.{any_log, lawful-log}
+use Rattle.stream_state.proofs.LogLength.{text_length-log}
 use Rattle.strip_pieces.proofs.SliceWriterLemmas.{Puts-length, with_text-front, with_text-rest}
-
--- what continues some bytes, and then what continues all of those
-pub Continues-append : (before first second : List ℕ) (calls more : List Call) → Continues before first calls → Continues (before ++ first) second more → Continues before (first ++ second) (calls ++ more)
-Continues-append before first second calls more one two = λ own are.
-    subst (λ (l : List ℕ). AreCalls l (own ++ (calls ++ more))) (append_assoc before first second)
-    (subst (λ (l : List Call). AreCalls ((before ++ first) ++ second) l) (append_assoc own calls more) (two (own ++ calls) (one own are)))
 
 -- the inert text of the calls that continue others: it is UTF-8 of inert characters, and not long
 IsInertText-continued : (before bytes : List ℕ) (calls : List Call) → ContinuesLog before bytes calls → IsInertText (inert_text calls)
@@ -40,17 +34,6 @@ IsInertText-continued before bytes calls continues =
 
 pub length-continued : (before bytes : List ℕ) (calls : List Call) → ContinuesLog before bytes calls → length (inert_text calls) ≤ 3 * length bytes + 3
 length-continued before bytes calls continues = omega (arith, length-inert calls, length-stripped_text calls, text_length-log before bytes calls continues)
-
--- two calls for each byte at most
-pub length-machine_calls : {A : Type 0} (adds : AccumulatorStep A) (bytes : List ℕ) (m : Machine A) → length (machine_calls adds bytes m) ≤ 2 * length bytes
-length-machine_calls adds [] m = omega arith
-length-machine_calls adds (b ∷ bytes) m =
-    omega (arith, length-append (step_calls adds b m) (machine_calls adds bytes (step adds b m)), step_calls-few adds b m, length-machine_calls adds bytes (step adds b m))
-
--- no bytes make no calls
-pub Continues-nil : (before : List ℕ) → Continues before [] []
-Continues-nil before = λ own are.
-    subst (λ (l : List ℕ). AreCalls l (own ++ [])) (sym (append-nil before)) (subst (λ (l : List Call). AreCalls before l) (sym (append-nil own)) are)
 
 -- where there is room for what one byte may lead to, one is taken
 taken-some : (taken written piece room : ℕ) → 0 < piece → least_room ≤ room → (taken ≡ 0 → written ≡ 0) → (written + least_room ≤ room → taken ≡ piece) → 0 < taken

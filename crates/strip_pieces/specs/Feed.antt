@@ -8,9 +8,9 @@ use Rattle.anstyle_parse.specs.Machine.AsRead.{as_read}
 use Rattle.anstyle_parse.specs.Views.Parser.{IsAfter}
 use Rattle.ansi_strip.specs.Inert.{inert_text, IsInertText}
 use Rattle.strip_pieces.specs.declared.slice_writer.SliceWriter.{SliceWriter}
-use Rattle.strip_pieces.specs.declared.state.StreamState.{StreamState}
+use Rattle.stream_state.specs.declared.state.StreamState.{StreamState}
 use Rattle.strip_pieces.specs.SliceWriter.{Puts}
-use Rattle.strip_pieces.specs.Log.{StandsForLog, ContinuesLog, EndsLog}
+use Rattle.stream_state.specs.Log.{StandsForLog, ContinuesLog, EndsLog}
 
 -- The bytes of text at most that so many bytes of a stream lead to: three for each, as U+FFFD
 -- has, and three more where the first of them breaks a character that was begun before.

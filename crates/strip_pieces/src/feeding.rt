@@ -5,10 +5,9 @@ ghost use Rattle.anstyle_parse.specs.Views.Accumulator.{front_of};
 ghost use Rattle.anstyle_parse.specs.Views.Parser.{IsAfter};
 ghost use Rattle.strip_pieces.specs.Feed.{least_room, most_text, Feeds, IsTaken, Refuses, Ends, RefusesEnd};
 
-use crate::lent::put_front;
 use crate::slice_writer::SliceWriter;
-use crate::state::StreamState;
 use anstyle_parse::{Parser, Utf8Parser};
+use stream_state::{Fed, StreamState, put_front};
 
 /// U+FFFD.
 const REPLACEMENT: [u8; 3] = [0xEF, 0xBF, 0xBD];
@@ -25,61 +24,50 @@ pub const LEAST_ROOM: usize = TEXT_OF_A_BYTE + TEXT_OF_THE_BEGUN;
 /// The bytes of room that the end of a stream needs.
 pub const END_ROOM: usize = TEXT_OF_THE_BEGUN;
 
-/// What a call took and wrote.
-#[derive(Debug, Clone, Copy, PartialEq, Eq)]
-pub struct Fed {
-    /// The bytes that were taken from the front of the piece.
-    pub taken: usize,
-    /// The bytes of text that were written to the front of the room.
-    pub written: usize,
+/// Takes bytes from the front of the piece, and writes their inert text to the front of the room: the text that
+/// [`strip_inert`](ansi_strip::strip_inert) writes of what is read of them, as of a log
+/// ([`advance_log`](anstyle_parse::Parser::advance_log)). It drives no terminal.
+///
+/// With `Some` all of their text is written, and the state stands after all bytes so far.
+/// All of the piece is taken, unless less than [`LEAST_ROOM`] is left of the room; with that
+/// much at least one byte is taken, and with three bytes of room for each byte of the piece,
+/// and three more, all of them are. The text is UTF-8 by itself. Past it the room is as it was.
+///
+/// With `None` the piece is not empty and the room is below [`LEAST_ROOM`]: then nothing
+/// was done.
+pub fn feed(state: &mut StreamState, piece: &[u8], room: &mut [u8]) -> Option<Fed>
+    ensures fed { IfSome result (λ fed. Feeds state.old state.new piece.now room.old room.new fed.taken fed.written) }
+    ensures refused { IfNone result (Refuses state.old state.new piece.now room.old room.new) }
+{
+    if room.len() < LEAST_ROOM && !piece.is_empty() {
+        return None;
+    }
+    let mut parser = Parser::<Utf8Parser>::new();
+    state.resume_in(&mut parser);
+    let mut text = SliceWriter::new(room);
+    let taken = take(&mut parser, piece, &mut text);
+    let written = text.written();
+    state.save(&parser);
+    Some(Fed { taken, written })
 }
 
-impl StreamState {
-    /// Takes bytes from the front of the piece, and writes their inert text to the front of the room: the text that
-    /// [`strip_inert`](ansi_strip::strip_inert) writes of what is read of them, as of a log
-    /// ([`advance_log`](anstyle_parse::Parser::advance_log)). It drives no terminal.
-    ///
-    /// With `Some` all of their text is written, and the state stands after all bytes so far.
-    /// All of the piece is taken, unless less than [`LEAST_ROOM`] is left of the room; with that
-    /// much at least one byte is taken, and with three bytes of room for each byte of the piece,
-    /// and three more, all of them are. The text is UTF-8 by itself. Past it the room is as it was.
-    ///
-    /// With `None` the piece is not empty and the room is below [`LEAST_ROOM`]: then nothing
-    /// was done.
-    pub fn feed(&mut self, piece: &[u8], room: &mut [u8]) -> Option<Fed>
-        ensures fed { IfSome result (λ fed. Feeds self.old self.new piece.now room.old room.new fed.taken fed.written) }
-        ensures refused { IfNone result (Refuses self.old self.new piece.now room.old room.new) }
-    {
-        if room.len() < LEAST_ROOM && !piece.is_empty() {
-            return None;
-        }
-        let mut parser = Parser::<Utf8Parser>::new();
-        self.resume_in(&mut parser);
-        let mut text = SliceWriter::new(room);
-        let taken = take(&mut parser, piece, &mut text);
-        let written = text.written();
-        self.save(&parser);
-        Some(Fed { taken, written })
+/// Ends the stream: where a character is begun, which can't be whole any more, writes U+FFFD to the front of the room.
+/// Answers how many bytes are written. The state then begins a stream. Past them the room is as it was.
+///
+/// With `None` the room is below [`END_ROOM`]: then nothing was done.
+pub fn end(state: &mut StreamState, room: &mut [u8]) -> Option<usize>
+    ensures ended { IfSome result (λ written. Ends state.old state.new room.old room.new written) }
+    ensures refused { IfNone result (RefusesEnd state.old state.new room.old room.new) }
+{
+    if room.len() < END_ROOM {
+        return None;
     }
-
-    /// Ends the stream: where a character is begun, which can't be whole any more, writes U+FFFD to the front of the room.
-    /// Answers how many bytes are written. The state then begins a stream. Past them the room is as it was.
-    ///
-    /// With `None` the room is below [`END_ROOM`]: then nothing was done.
-    pub fn end(&mut self, room: &mut [u8]) -> Option<usize>
-        ensures ended { IfSome result (λ written. Ends self.old self.new room.old room.new written) }
-        ensures refused { IfNone result (RefusesEnd self.old self.new room.old room.new) }
-    {
-        if room.len() < END_ROOM {
-            return None;
-        }
-        let is_begun = self.is_in_char();
-        *self = StreamState::new();
-        if is_begun {
-            Some(put_front(room, &REPLACEMENT))
-        } else {
-            Some(0)
-        }
+    let is_begun = state.is_in_char();
+    *state = StreamState::new();
+    if is_begun {
+        Some(put_front(room, &REPLACEMENT))
+    } else {
+        Some(0)
     }
 }
 

@@ -3,10 +3,13 @@ ghost use Rattle.std.specs.Prelude.{◌≡◌, ◌≤◌, ◌-◌, ◌∷◌, []
 ghost use Rattle.anstyle_parse.specs.Stream.Texts.{layout_calls};
 ghost use Rattle.ansi_strip.specs.Inert.{inert_text};
 
-use crate::front::{CHUNK, put_over};
 use ansi_strip::{is_clear, is_clear_front, is_driving, is_layout, split_at_driving};
 use anstyle_parse::{Params, Perform, PerformText};
 use std::str;
+use stream_state::put_over;
+
+/// How many bytes are put at once.
+const CHUNK: usize = 16;
 
 /// Writes the inert text of each call after what is written, as far as there is room.
 #[derive(Drop)]

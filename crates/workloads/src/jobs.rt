@@ -12,7 +12,7 @@ use event_pieces::{Event, feed};
 use screen_draw::{Form, Noting, show_to_end, update_to_end};
 use screen_html::{LinkMemory, convert_shown};
 use std::alloc::{AllocError, Global};
-use strip_pieces::StreamState;
+use stream_state::StreamState;
 
 /// What users wait for.
 #[derive(Debug, Clone, Copy, PartialEq, Eq)]

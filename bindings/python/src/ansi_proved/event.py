@@ -223,7 +223,7 @@ class _Reader:
 
     def whole(self, piece):
         """The events of a whole, which is a stream of its own."""
-        self._state.length = 0  # (so a stream begins, whatever stands behind: pending_of of strip_pieces)
+        self._state.length = 0  # (so a stream begins, whatever stands behind: pending_of of stream_state)
         return list(chain.from_iterable(self.events(piece)))
 
 

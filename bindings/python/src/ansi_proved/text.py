@@ -56,7 +56,7 @@ class Stripper:
     def ends(self, made=bytes):
         """What comes at the end, in no part or one: U+FFFD where a character is begun."""
         if not self._state.length:
-            return  # (nothing is begun: pending_of of strip_pieces)
+            return  # (nothing is begun: pending_of of stream_state)
         room, (_, written) = self._room, self._counts.places()
         _end(ctypes.addressof(self._state), room.address, room.size, written)
         if self._counts.written:
@@ -82,7 +82,7 @@ class ShortStripper:
 
     def text(self, piece):
         """The text of a whole, as memory that the next one is written to."""
-        self._state.length = 0  # (so a stream begins, whatever stands behind: pending_of of strip_pieces)
+        self._state.length = 0  # (so a stream begins, whatever stands behind: pending_of of stream_state)
         room, counts = self._room, self._counts
         _feed(self._state_at, piece, len(piece), *self._rest)
         count = counts.written

@@ -5,7 +5,7 @@ use examples::{
     strip_two_pieces, write_last_style,
 };
 use std::process::Abort;
-use strip_pieces::Fed;
+use stream_state::Fed;
 
 /// A device control string with its terminator, 1B 5C.
 const STRING: [u8; 8] = *b"\x1bP1$qm\x1b\\";

@@ -122,11 +122,11 @@ use std::process::Abort;
 use std::process::ExitCode;
 use std::rt::Env;
 use std::test::Fail;
-use strip_pieces::Fed;
+use stream_state::Fed;
+use stream_state::StreamState;
+use stream_state::print_end;
+use stream_state::put_over;
 use strip_pieces::LEAST_ROOM;
-use strip_pieces::StreamState;
-use strip_pieces::print_end;
-use strip_pieces::put_over;
 use test_streams::Paper;
 use test_streams::TROUBLES;
 use test_streams::Tape;
@@ -240,10 +240,10 @@ fn names_of_the_laws(rt: HostRuntime) {
     ansi_style::laws::equality();
     ansi_style::laws::clones();
     assert_eq!(rt; ansi_style::laws::hue_as_number(Hue::Black), 0);
-    strip_pieces::laws::states();
+    stream_state::laws::states();
     strip_pieces::laws::texts_joined();
-    strip_pieces::laws::equality();
-    strip_pieces::laws::clones();
+    stream_state::laws::equality();
+    stream_state::laws::clones();
 }
 
 #[test]
@@ -492,7 +492,7 @@ fn names_of_styles_and_pieces(rt: HostRuntime) {
 
     let mut state = StreamState::new();
     let mut room = [0; LEAST_ROOM];
-    let fed = state.feed(b"a", &mut room);
+    let fed = strip_pieces::feed(&mut state, b"a", &mut room);
     assert!(rt;
         fed == Some(Fed {
             taken: 1,
@@ -504,8 +504,8 @@ fn names_of_styles_and_pieces(rt: HostRuntime) {
         written: 1,
     });
     assert!(rt; !state.is_in_char());
-    assert!(rt; state.end(&mut room[..strip_pieces::END_ROOM - 1]) == None);
-    assert!(rt; state.end(&mut room) == Some(0));
+    assert!(rt; strip_pieces::end(&mut state, &mut room[..strip_pieces::END_ROOM - 1]) == None);
+    assert!(rt; strip_pieces::end(&mut state, &mut room) == Some(0));
     let mut stripper = Stripper::over(Output::new(memory(rt.alloc())));
     print_end(&mut stripper, true);
 }

@@ -5,7 +5,7 @@ use safe_pieces::{END_ROOM, LEAST_ROOM, SafeState};
 use safe_text::{Held, SafeWriter, Standing};
 use std::process::Abort;
 use std::test::Fail;
-use strip_pieces::{Fed, LentBytes, put_front};
+use stream_state::{Fed, LentBytes, put_front};
 
 /// The bytes of a stream one by one, and then its end, in the least room.
 #[test]

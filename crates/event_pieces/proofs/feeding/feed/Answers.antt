@@ -1,7 +1,7 @@
 -- What the parser took is what the state is fed.
 use Rattle.std.proofs.Common.{rules, ◌<◌, ◌≤◌, ◌++◌, length, take, refl, arith}
 use Rattle.std.proofs.lemmas.Bool.Decides.{nat_tests}
-use Rattle.strip_pieces.specs.State.{pending_of}
+use Rattle.stream_state.specs.State.{pending_of}
 use Rattle.event_pieces.proofs.FeedLemmas.{Feeds-taken}
 use Rattle.event_pieces.proofs.feeding.feed.Goals as goal
 use Rattle.event_pieces.proofs.feeding.feed.Goals.{else-not-is_empty-via-then-not-is_empty+else-room-lt-LEAST_ROOM, else-not-is_empty-via-else-not-is_empty}

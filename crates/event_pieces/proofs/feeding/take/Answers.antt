@@ -7,7 +7,7 @@ use Rattle.anstyle_parse.specs.Machine.Stands.{seen}
 use Rattle.anstyle_parse.specs.Stream.Call.{Call}
 use Rattle.anstyle_parse.specs.Stream.Calls.{Continues}
 use Rattle.anstyle_parse.specs.Views.Parser.{IsAfter, machine_of}
-use Rattle.strip_pieces.proofs.FeedLemmas.{Continues-append, Continues-nil, length-machine_calls}
+use Rattle.stream_state.proofs.Continuing.{Continues-append, Continues-nil, length-machine_calls}
 use Rattle.event_pieces.specs.Event.{calls_bytes}
 use Rattle.event_pieces.specs.Writer.{IsPlain, Suits, Has}
 use Rattle.event_pieces.specs.AddingProof.{AllByRecursion-append, same_events_length, same_room_length}

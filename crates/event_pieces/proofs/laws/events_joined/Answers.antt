@@ -3,7 +3,7 @@ use Rattle.std.proofs.Common.{List, [], ◌++◌, sym, subst}
 use Rattle.anstyle_parse.specs.Stream.Call.{Call}
 use Rattle.anstyle_parse.specs.Stream.Calls.{AreCalls, Continues}
 use Rattle.anstyle_parse.proofs.Canonical.Items.{AreCalls-nil}
-use Rattle.strip_pieces.proofs.FeedLemmas.{Continues-append}
+use Rattle.stream_state.proofs.Continuing.{Continues-append}
 use Rattle.event_pieces.specs.Event.{read_events}
 use Rattle.event_pieces.proofs.laws.events_joined.Goals as goal
 

@@ -1,6 +1,6 @@
 -- Calls that continue one another, and what ends them.
 use Rattle.std.proofs.Common.{[], ◌++◌, ap, ap₂, sym, ◌∙◌, append_assoc}
-use Rattle.strip_pieces.proofs.LogLemmas.{ContinuesLog-append, AreCalls-log_begins}
+use Rattle.stream_state.proofs.LogLemmas.{ContinuesLog-append, AreCalls-log_begins}
 use Rattle.ansi_html.specs.Html.{Standing, at_start, html_from, html_ending, standing_at_end}
 use Rattle.ansi_html.specs.AddingProof.{html_from-append, standing_at_end-append}
 use Rattle.html_pieces.proofs.laws.html_joined.Goals as goal

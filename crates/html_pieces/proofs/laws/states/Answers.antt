@@ -1,7 +1,7 @@
 -- Nothing is held.
 use Rattle.std.proofs.Common.{◌≡◌, ℕ, List, [], take, refl, ap, ap₂, sym, ◌∙◌, subst}
 use Rattle.anstyle_parse.specs.Machine.AsRead.{as_read}
-use Rattle.strip_pieces.proofs.LogLemmas.{AreCalls-log_begins}
+use Rattle.stream_state.proofs.LogLemmas.{AreCalls-log_begins}
 use Rattle.anstyle_parse.proofs.Division.Only.{AreCalls-only}
 use Rattle.anstyle_parse.specs.Machine.Decoder.{decoded}
 use Rattle.anstyle_parse.specs.Machine.Step.{new_machine, machine_after}

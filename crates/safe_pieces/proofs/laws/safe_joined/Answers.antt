@@ -6,7 +6,7 @@ use Rattle.anstyle_parse.specs.Machine.Decoder.{decoded}
 use Rattle.anstyle_parse.specs.Machine.Step.{new_machine, machine_calls}
 use Rattle.anstyle_parse.specs.Stream.Calls.{AreCalls}
 use Rattle.safe_text.specs.Decided.{decided}
-use Rattle.strip_pieces.proofs.LogLemmas.{AreCalls-log_begins}
+use Rattle.stream_state.proofs.LogLemmas.{AreCalls-log_begins}
 use Rattle.safe_pieces.proofs.laws.safe_joined.Goals as goal
 
 pub returns-clause-pieces : goal.returns-clause-pieces

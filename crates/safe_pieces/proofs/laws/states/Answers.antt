@@ -2,7 +2,7 @@
 use Rattle.std.proofs.Common.{ℕ, List, [], take, refl, ap, sym, ◌∙◌, subst}
 use Rattle.anstyle_parse.specs.Machine.AsRead.{as_read}
 use Rattle.anstyle_parse.proofs.Division.Only.{AreCalls-only}
-use Rattle.strip_pieces.proofs.LogLemmas.{AreCalls-log_begins}
+use Rattle.stream_state.proofs.LogLemmas.{AreCalls-log_begins}
 use Rattle.anstyle_parse.specs.Machine.Decoder.{decoded}
 use Rattle.anstyle_parse.specs.Machine.Step.{new_machine, machine_after}
 use Rattle.anstyle_parse.specs.Machine.Stands.{StandsAfter}

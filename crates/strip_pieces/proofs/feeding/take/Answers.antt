@@ -10,12 +10,12 @@ use Rattle.anstyle_parse.specs.Views.Parser.{IsAfter, machine_of}
 use Rattle.anstyle_parse.proofs.Streams.{bytes_below}
 use Rattle.ansi_strip.specs.Inert.{inert_text}
 use Rattle.ansi_strip.proofs.InertLemmas.{inert_text-append}
-use Rattle.strip_pieces.specs.Log.{ContinuesLog}
+use Rattle.stream_state.specs.Log.{ContinuesLog}
 use Rattle.strip_pieces.specs.SliceWriter.{Puts}
 use Rattle.strip_pieces.specs.PuttingProof.{Puts-nil, Puts-append}
 use Rattle.strip_pieces.proofs.SliceWriterLemmas.{Puts-length}
 use Rattle.strip_pieces.proofs.FeedLemmas.{length-continued, below-part}
-use Rattle.strip_pieces.proofs.LogLemmas.{ContinuesLog-calls, ContinuesLog-append, ContinuesLog-nil}
+use Rattle.stream_state.proofs.LogLemmas.{ContinuesLog-calls, ContinuesLog-append, ContinuesLog-nil}
 use Rattle.strip_pieces.proofs.feeding.take.Goals as goal
 
 pub loop-taken-init : goal.loop-taken-init

@@ -2,7 +2,7 @@
 use Rattle.std.proofs.Common.{[], ◌++◌, ap, ap₂, sym, ◌∙◌}
 use Rattle.ansi_strip.specs.Inert.{inert_text}
 use Rattle.ansi_strip.proofs.InertLemmas.{inert_text-append}
-use Rattle.strip_pieces.proofs.LogLemmas.{ContinuesLog-append, AreCalls-log_begins}
+use Rattle.stream_state.proofs.LogLemmas.{ContinuesLog-append, AreCalls-log_begins}
 use Rattle.strip_pieces.proofs.laws.texts_joined.Goals as goal
 
 pub returns-clause-pieces : goal.returns-clause-pieces

@@ -1,6 +1,6 @@
 -- What the room has behind the bytes stays.
 use Rattle.std.proofs.Common.{◌≡◌, ◌+◌, ◌-◌, refl, arith, length-take}
-use Rattle.strip_pieces.proofs.Fronts.{put_over-front}
+use Rattle.stream_state.proofs.Fronts.{put_over-front}
 use Rattle.event_pieces.proofs.writer.EventWriter.put_front.Goals as goal
 
 pub returns : goal.returns

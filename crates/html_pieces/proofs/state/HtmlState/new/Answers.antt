@@ -1,7 +1,7 @@
 -- No calls were made, and nothing is held.
 use Rattle.std.proofs.Common.{false, [], ap, ap₂, ◌∙◌}
 use Rattle.anstyle_parse.specs.Machine.AsRead.{as_read}
-use Rattle.strip_pieces.proofs.LogLemmas.{AreCalls-log_begins}
+use Rattle.stream_state.proofs.LogLemmas.{AreCalls-log_begins}
 use Rattle.anstyle_parse.proofs.Division.Only.{AreCalls-only}
 use Rattle.ansi_html.specs.Html.{Element, at_start, standing_at_end}
 use Rattle.ansi_html.specs.Writer.{kept}

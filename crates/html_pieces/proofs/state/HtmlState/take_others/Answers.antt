@@ -4,7 +4,7 @@ use Rattle.std.proofs.Math.Seq.{take-add}
 use Rattle.std.proofs.lemmas.List.{take_all}
 use borrow.Rule.Slice.PartMut.{put_mid}
 use Rattle.html_pieces.specs.Feed.{Takes}
-use Rattle.strip_pieces.proofs.LentLemmas.{put_rest}
+use Rattle.stream_state.proofs.LentLemmas.{put_rest}
 use Rattle.html_pieces.proofs.TakesLemmas.{Takes-append}
 use Rattle.html_pieces.proofs.state.HtmlState.take_others.Goals as goal
 

@@ -8,20 +8,20 @@ use Rattle.anstyle_parse.specs.Machine.Step.{machine_calls}
 use Rattle.anstyle_parse.specs.Views.Parser.{machine_of}
 use Rattle.std.specs.Option.{is_some}
 use Rattle.anstyle_parse.specs.Io.Output.{writer_in, fault_in, Finishes}
-use Rattle.strip_pieces.specs.declared.state.StreamState.{StreamState}
-use Rattle.strip_pieces.specs.Log.{StandsForLog}
-use Rattle.strip_pieces.specs.State.{pending_of}
-use Rattle.strip_pieces.proofs.LogLemmas.{any_log, ContinuesLog-calls}
-use Rattle.strip_pieces.proofs.LogQuoted.{quoted-log}
+use Rattle.stream_state.specs.declared.state.StreamState.{StreamState}
+use Rattle.stream_state.specs.Log.{StandsForLog}
+use Rattle.stream_state.specs.State.{pending_of}
+use Rattle.stream_state.proofs.LogLemmas.{any_log, ContinuesLog-calls}
+use Rattle.stream_state.proofs.LogQuoted.{quoted-log}
 use Rattle.ansi_html.specs.Html.{Standing, html_from, standing_at_end}
 use Rattle.ansi_html.specs.Writer.{output_of, styling_of, standing_of as writer_standing, kept}
 use Rattle.ansi_html.proofs.SoundLemmas.{AreSound}
 use Rattle.ansi_html.proofs.PieceLemmas.{length-html_continued, AreSound-at_end}
-use Rattle.strip_pieces.specs.contracts.lent.LentBytesSink.TheImpl.{ghosts}
+use Rattle.stream_state.specs.contracts.lent.LentBytesSink.TheImpl.{ghosts}
 use Rattle.html_pieces.specs.State.{styling_in, standing_of}
 use Rattle.html_pieces.proofs.LighterLemmas.{html-lighter}
 use Rattle.html_pieces.proofs.StateLemmas.{AreSound-kept, kept-sound}
-use Rattle.strip_pieces.proofs.LentLemmas.{held-all, longer, no_fault-of, some_fault-of, put-front, put-behind, put-length}
+use Rattle.stream_state.proofs.LentLemmas.{held-all, longer, no_fault-of, some_fault-of, put-front, put-behind, put-length}
 use Rattle.html_pieces.proofs.state.HtmlState.take_through.Goals as goal
 
 pub returns-then-is_some-clause-little_room : goal.returns-then-is_some-clause-little_room

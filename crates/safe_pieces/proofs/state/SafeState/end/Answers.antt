@@ -3,9 +3,9 @@ use Rattle.std.proofs.Common.{◌≡◌, ◌≤◌, Bool, true, false, List, ℕ
 use Rattle.std.specs.Str.{encode_utf8_all}
 use Rattle.anstyle_parse.specs.Io.Output.{writer_in, fault_in}
 use Rattle.anstyle_parse.proofs.Written.Output.{Adds-append}
-use Rattle.strip_pieces.specs.Log.{end_calls}
-use Rattle.strip_pieces.specs.contracts.lent.LentBytesSink.TheImpl.{ghosts}
-use Rattle.strip_pieces.proofs.LentLemmas.{held-all, no_fault-within, put-front, put-behind}
+use Rattle.stream_state.specs.Log.{end_calls}
+use Rattle.stream_state.specs.contracts.lent.LentBytesSink.TheImpl.{ghosts}
+use Rattle.stream_state.proofs.LentLemmas.{held-all, no_fault-within, put-front, put-behind}
 use Rattle.safe_text.specs.Safe.{characters, safe_from}
 use Rattle.safe_text.specs.Decided.{undecided_from, decided}
 use Rattle.safe_text.specs.Writer.{output_of, text_by, ending_from, before_in as writer_before, held_in as writer_held}

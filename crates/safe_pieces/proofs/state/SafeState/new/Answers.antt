@@ -2,7 +2,7 @@
 use Rattle.std.proofs.Common.{[], ap}
 use Rattle.anstyle_parse.specs.Machine.AsRead.{as_read}
 use Rattle.anstyle_parse.proofs.Division.Only.{AreCalls-only}
-use Rattle.strip_pieces.proofs.LogLemmas.{AreCalls-log_begins}
+use Rattle.stream_state.proofs.LogLemmas.{AreCalls-log_begins}
 use Rattle.safe_text.specs.Safe.{characters}
 use Rattle.safe_text.specs.Decided.{last_from, waiting}
 use Rattle.safe_pieces.proofs.state.SafeState.new.Goals as goal

@@ -8,13 +8,13 @@ use Rattle.anstyle_parse.specs.Machine.Step.{machine_calls}
 use Rattle.anstyle_parse.specs.Views.Parser.{machine_of}
 use Rattle.anstyle_parse.proofs.Streams.{bytes_below}
 use Rattle.anstyle_parse.specs.Io.Output.{writer_in, fault_in, Finishes}
-use Rattle.strip_pieces.specs.contracts.lent.LentBytesSink.TheImpl.{ghosts}
-use Rattle.strip_pieces.specs.declared.state.StreamState.{StreamState}
-use Rattle.strip_pieces.specs.Log.{StandsForLog, ContinuesLog}
-use Rattle.strip_pieces.specs.State.{pending_of}
-use Rattle.strip_pieces.proofs.LogLemmas.{any_log, ContinuesLog-calls}
-use Rattle.strip_pieces.proofs.LogQuoted.{quoted-log}
-use Rattle.strip_pieces.proofs.LentLemmas.{put-front, put-behind, put-length}
+use Rattle.stream_state.specs.contracts.lent.LentBytesSink.TheImpl.{ghosts}
+use Rattle.stream_state.specs.declared.state.StreamState.{StreamState}
+use Rattle.stream_state.specs.Log.{StandsForLog, ContinuesLog}
+use Rattle.stream_state.specs.State.{pending_of}
+use Rattle.stream_state.proofs.LogLemmas.{any_log, ContinuesLog-calls}
+use Rattle.stream_state.proofs.LogQuoted.{quoted-log}
+use Rattle.stream_state.proofs.LentLemmas.{put-front, put-behind, put-length}
 use Rattle.safe_text.specs.Decided.{decided_from, last_from, waiting}
 use Rattle.safe_text.specs.Safe.{characters}
 use Rattle.safe_pieces.proofs.FeedLemmas.{text-short, text-held}

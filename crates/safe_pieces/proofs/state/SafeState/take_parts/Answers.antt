@@ -3,7 +3,7 @@ use Rattle.std.proofs.Common.{◌≡◌, ◌<◌, ◌+◌, ◌-◌, ℕ, List, �
 use Rattle.std.proofs.Math.Seq.{take-add}
 use Rattle.std.proofs.lemmas.List.{take_all}
 use borrow.Rule.Slice.PartMut.{put_mid}
-use Rattle.strip_pieces.proofs.LentLemmas.{put_rest}
+use Rattle.stream_state.proofs.LentLemmas.{put_rest}
 use Rattle.safe_pieces.specs.Feed.{Takes}
 use Rattle.safe_pieces.proofs.FeedLemmas.{Takes-nil, Takes-append, Feeds-taken, bounded-taken, none-left}
 use Rattle.safe_pieces.proofs.state.SafeState.take_parts.Goals as goal

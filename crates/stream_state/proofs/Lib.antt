@@ -1,0 +1,7 @@
+pub mod Continuing
+pub mod Fronts
+pub mod LentLemmas
+pub mod LogLemmas
+pub mod LogLength
+pub mod LogQuoted
+pub mod LogReading

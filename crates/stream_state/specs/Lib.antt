@@ -1,0 +1,4 @@
+pub mod State
+pub mod Log
+pub mod Saved
+pub mod Lent

@@ -1,6 +1,0 @@
--- The number of a lane is below the count, or not.
-use Rattle.strip_pieces.proofs.Fronts.{selected}
-use Rattle.strip_pieces.proofs.front.with_front.Goals as goal
-
-pub returns : goal.returns
-returns c = selected c.args.count c.args.front.now c.args.behind.now c.told-front c.told-behind

@@ -1,8 +1,0 @@
--- What is read of no bytes is nothing.
-use Rattle.std.proofs.Common.{refl}
-use Rattle.anstyle_parse.specs.Machine.AsRead.{as_read}
-use Rattle.strip_pieces.proofs.state.StreamState.new.Goals as goal
-
-pub returns-clause-begins_log : goal.returns-clause-begins_log
-unfolding as_read
-returns-clause-begins_log c = refl

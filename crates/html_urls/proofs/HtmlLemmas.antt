@@ -1,5 +1,5 @@
 -- What a new writer of HTML writes whose calls have links, and that both parts are the HTML of these calls.
-use Rattle.std.proofs.Common.{◌≡◌, ℕ, List, ◌++◌, sym, ap, ap₂, ◌∙◌, append_assoc}
+use Rattle.std.proofs.Common.{◌≡◌, List, ◌++◌, sym, ap, ap₂, ◌∙◌, append_assoc}
 use Rattle.anstyle_parse.specs.Stream.Call.{Call}
 use Rattle.ansi_html.specs.declared.scheme.Styling.{Styling}
 use Rattle.ansi_html.specs.declared.performer.HtmlWriter.{HtmlWriter}

@@ -3,3 +3,6 @@ pub mod SchemeLemmas
 pub mod LinkerLemmas
 pub mod HtmlLemmas
 pub mod TextLemmas
+pub mod ColonLemmas
+pub mod PlaceLemmas
+pub mod ClearLemmas

@@ -1,11 +1,11 @@
 -- What a performer that makes links of addresses does by a call, step by step.
-use Rattle.std.proofs.Common.{◌≡◌, ℕ, ◌≤◌, Bool, true, false, List, [], ◌∷◌, ◌++◌, refl, sym, ap, ap₂, ◌∙◌, subst, append-nil}
+use Rattle.std.proofs.Common.{◌≡◌, ℕ, ◌≤◌, Bool, true, false, List, [], ◌∷◌, ◌++◌, refl, sym, ap, ap₂, ◌∙◌, subst}
 use Rattle.std.specs.Prelude.{if◌then◌else◌}
 use Rattle.anstyle_parse.specs.Stream.Call.{Call, print}
 use Rattle.ansi_html.specs.Links.{has_scheme}
 use Rattle.html_urls.specs.declared.linking.Linking.{Linking}
 use Rattle.html_urls.specs.Addresses.{is_scheme_byte, goes_on, is_address}
-use Rattle.html_urls.specs.Linked.{Standing, standing, link_command, prints, released, begins, handed_character, held_character, handed, standing_after}
+use Rattle.html_urls.specs.Linked.{Standing, standing, link_command, prints, released, begins, handed_character, held_character}
 use Rattle.html_urls.specs.Linker.{performer_in, standing_of, Releases, Begins, TakesCall}
 use Rattle.html_urls.proofs.SchemeLemmas.{scheme_byte-beyond, handed-beyond, held-beyond}
 

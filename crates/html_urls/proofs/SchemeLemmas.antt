@@ -1,5 +1,5 @@
 -- No scheme or address has a character beyond ASCII.
-use Rattle.std.proofs.Common.{◌≡◌, ◌<◌, ◌≤◌, ℕ, Bool, true, false, ◌&&◌, ◌||◌, eqb, eqb-true, List, [], ◌∷◌, ◌++◌, codes, length, drop, refl, sym, ap, ap₂, ◌∙◌, subst, arith, ⊎_elim}
+use Rattle.std.proofs.Common.{◌≡◌, ◌<◌, ◌≤◌, ℕ, Bool, true, false, ◌&&◌, ◌||◌, List, [], ◌∷◌, ◌++◌, codes, length, drop, refl, sym, ap, ap₂, ◌∙◌, subst, arith, ⊎_elim}
 use Rattle.std.specs.Prelude.{nat_eq, nat_le, nat_lt, not, if◌then◌else◌}
 use Rattle.std.specs.List.{starts_with}
 use Rattle.std.proofs.lemmas.Bool.{and_parts, or_cases, leb-true, ne_eqb, false≢true}
@@ -10,7 +10,7 @@ use Rattle.anstyle_parse.specs.Stream.Items.{EachIs}
 use Rattle.anstyle_parse.proofs.Bytes.Passing.{EachIs-parts}
 use Rattle.ansi_html.specs.Links.{has_scheme}
 use Rattle.html_urls.specs.Addresses.{is_scheme_byte, is_uri_byte, is_between, begins_scheme, max_held, goes_on}
-use Rattle.html_urls.specs.Linked.{Standing, standing, begins, released, handed_character, held_character}
+use Rattle.html_urls.specs.Linked.{Standing, begins, released, handed_character, held_character}
 
 -- what each byte of the schemes is, each byte of a text is that begins one
 module _ (test : ℕ → Bool) where

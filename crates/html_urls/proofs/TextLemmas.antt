@@ -1,14 +1,13 @@
 -- Links change no text, and each leads to the address that is its text.
-use Rattle.std.proofs.Common.{◌≡◌, ◌<◌, ◌≤◌, ℕ, Bool, true, false, not, ◌&&◌, List, [], ◌∷◌, ◌++◌, length, take, drop, map, refl, sym, ap, ap₂, ◌∙◌, subst, append_assoc, append-nil, take-append-drop, arith}
-use Rattle.std.specs.Prelude.{if◌then◌else◌, nat_lt, encode_utf8}
-use Rattle.std.specs.List.{list_all}
+use Rattle.std.proofs.Common.{◌≡◌, ℕ, Bool, true, false, List, [], ◌∷◌, ◌++◌, length, refl, sym, ap, ap₂, ◌∙◌, append_assoc, append-nil, take-append-drop}
+use Rattle.std.specs.Prelude.{if◌then◌else◌, encode_utf8}
 use Rattle.std.proofs.lemmas.Bool.{false≢true}
 use Rattle.std.proofs.lemmas.List.{map-append}
 use Rattle.std.proofs.lemmas.Grind.{flat_map-append}
 use Rattle.anstyle_parse.specs.Stream.Call.{Call, print, execute, hook, put, unhook, osc_dispatch, csi_dispatch, esc_dispatch}
 use Rattle.ansi_strip.specs.Strip.{stripped_call, stripped}
 use Rattle.html_urls.specs.Addresses.{is_scheme_byte, goes_on, address_of, behind_address, address_length}
-use Rattle.html_urls.specs.Linked.{Standing, standing, at_start, link_command, prints, released_as, is_link, released, begins, handed, standing_after, handed_from, standing_at_end, left_from, linked}
+use Rattle.html_urls.specs.Linked.{Standing, standing, at_start, link_command, prints, released_as, is_link, released, begins, handed, standing_after, handed_from, left_from, linked}
 
 stripped-append : (calls more : List Call) → stripped (calls ++ more) ≡ stripped calls ++ stripped more
 stripped-append calls more = flat_map-append stripped_call calls more

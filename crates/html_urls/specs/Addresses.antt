@@ -2,7 +2,7 @@
 --
 -- Sources: RFC 3986, 2 (the characters of a URI) and 3.1 (those of a scheme); GitHub Flavored Markdown, 6.9
 -- ("Autolinks (extension)"), for what stands behind an address: marks at its end, and brackets that it does not open.
-use Rattle.std.specs.Prelude.{◌≡◌, ℕ, zero, suc, Bool, false, not, ◌||◌, ◌&&◌, nat_le, nat_lt, nat_eq, ◌==◌, List, [], ◌∷◌, ◌++◌, codes, length, take, drop, count_by, if◌then◌else◌}
+use Rattle.std.specs.Prelude.{ℕ, zero, suc, Bool, false, not, ◌||◌, ◌&&◌, nat_le, nat_lt, nat_eq, ◌==◌, List, [], ◌∷◌, ◌++◌, codes, length, take, drop, count_by, if◌then◌else◌}
 use Rattle.std.specs.List.{list_all, starts_with}
 use Rattle.anstyle_parse.specs.Stream.Bytes.{semicolon}
 use Rattle.ansi_html.specs.Links.{has_scheme}

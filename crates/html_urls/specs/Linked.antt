@@ -1,6 +1,6 @@
 -- The calls of a stream in which addresses in its text are links (OSC 8).
-use Rattle.std.specs.Prelude.{◌≡◌, ℕ, Bool, true, false, not, ◌&&◌, nat_lt, List, [], ◌∷◌, ◌++◌, codes, length, map, if◌then◌else◌}
-use Rattle.anstyle_parse.specs.Stream.Call.{Call, print, execute, osc_dispatch}
+use Rattle.std.specs.Prelude.{ℕ, Bool, true, false, not, ◌&&◌, nat_lt, List, [], ◌∷◌, ◌++◌, codes, length, map, if◌then◌else◌}
+use Rattle.anstyle_parse.specs.Stream.Call.{Call, print, osc_dispatch}
 use Rattle.ansi_html.specs.Links.{is_none, is_link_command, uri_of}
 use Rattle.html_urls.specs.Addresses.{is_scheme_byte, begins_scheme, max_held, goes_on, address_of, behind_address, is_address}
 

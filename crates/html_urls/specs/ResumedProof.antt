@@ -1,6 +1,6 @@
 -- No definition, but proofs: the language wants those of a trait's laws among the specs.
 -- Writers of HTML go on as their HTML of all calls does.
-use Rattle.std.proofs.Common.{◌≡◌, ℕ, List, ◌++◌, sym, ap, ap₂, ◌∙◌}
+use Rattle.std.proofs.Common.{◌≡◌, List, ◌++◌, sym, ap, ap₂, ◌∙◌}
 use Rattle.anstyle_parse.specs.declared.io.devices.Sink.{Ghosts as SinkOf}
 use Rattle.anstyle_parse.specs.Stream.Call.{Call}
 use Rattle.ansi_html.specs.declared.performer.HtmlWriter.{HtmlWriter}

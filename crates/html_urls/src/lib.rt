@@ -8,6 +8,7 @@
 #![tactic(auto)]
 
 mod address;
+mod colon;
 mod held;
 pub mod laws;
 mod linking;

@@ -1,10 +1,14 @@
 //! The performer that makes links of addresses.
 ghost use Rattle.std.specs.Prelude.{◌≡◌, ◌≤◌, [], ◌∷◌, false, not, map, IfSome, if◌then◌else◌};
 ghost use Rattle.anstyle_parse.specs.Stream.Call.{Call, print};
+ghost use Rattle.anstyle_parse.specs.Stream.Texts.{text_calls};
+ghost use Rattle.anstyle_parse.specs.Stream.Items.{EachIs};
 ghost use Rattle.ansi_html.specs.Links.{is_none, is_link_command, uri_of};
 ghost use Rattle.html_urls.specs.Linked.{Standing, at_start, standing, link_command, prints, released, begins, linked_after};
+ghost use Rattle.html_urls.specs.Colon.{is_no_colon, EndsOff};
 
 use crate::address::{begins_scheme, is_address, is_scheme_byte, split_address};
+use crate::colon::{split_at_colon, split_at_scheme};
 use crate::held::{Held, ROOM};
 use ansi_html::is_link_command;
 use anstyle_parse::{Params, Perform, PerformText};
@@ -79,7 +83,7 @@ fn linked_after(parts: &[&[u8]], is_linked: bool) -> bool
 }
 
 impl<P: PerformText> Linking<P> {
-    ghost use Rattle.html_urls.specs.Linker.{performer_in, standing_of, TakesCall, Releases, Begins};
+    ghost use Rattle.html_urls.specs.Linker.{performer_in, standing_of, TakesCall, Takes, Releases, Begins};
 
     /// One that hands on to this performer, and has received no call.
     pub fn new(performer: P) -> Linking<P>
@@ -155,6 +159,61 @@ impl<P: PerformText> Linking<P> {
         self.performer.print(c);
         self.is_within = false;
     }
+
+    /// A text is printed, character by character.
+    fn take_each(&mut self, text: &str)
+        ensures { Takes P.receives self.old (text_calls text.now) self.new }
+    {
+        for c in text.chars() {
+            self.print(c);
+        }
+    }
+
+    /// A text is printed in which no address begins, where nothing is held and no link is open: it is handed on at once.
+    fn take_front(&mut self, front: &str)
+        requires empty { (standing_of self.old).held ≡ [] }
+        requires unlinked { (standing_of self.old).is_linked ≡ false }
+        requires clear { EachIs is_no_colon front.now }
+        requires ends { EndsOff front.now }
+        ensures { Takes P.receives self.old (text_calls front.now) self.new }
+    {
+        if let Some((last, _)) = front.as_bytes().split_last() {
+            self.performer.print_text(front);
+            self.is_within = is_scheme_byte(*last);
+        }
+    }
+
+    /// A text without a colon is printed, where no link is open.
+    fn take_piece(&mut self, piece: &str)
+        requires unlinked { (standing_of self.old).is_linked ≡ false }
+        requires clear { EachIs is_no_colon piece.now }
+        ensures { Takes P.receives self.old (text_calls piece.now) self.new }
+    {
+        if !self.held.as_slice().is_empty() {
+            self.take_each(piece);
+            return;
+        }
+        let (front, rest) = split_at_scheme(piece);
+        self.take_front(front);
+        self.take_each(rest);
+    }
+
+    /// A text is printed, where no link is open: piece by piece, as it is parted by colons.
+    fn take_text(&mut self, text: &str)
+        requires { (standing_of self.old).is_linked ≡ false }
+        ensures { Takes P.receives self.old (text_calls text.now) self.new }
+    {
+        let mut rest = text;
+        'rest: while !rest.is_empty() {
+            let (piece, found) = split_at_colon(rest);
+            self.take_piece(piece);
+            let Some(behind) = found else {
+                break;
+            };
+            self.take_byte(b':');
+            rest = behind;
+        }
+    }
 }
 
 impl<P: PerformText> Perform for Linking<P> {
@@ -211,12 +270,20 @@ impl<P: PerformText> Perform for Linking<P> {
     }
 }
 
-/// A text is taken character by character.
+/// Text in which no address can begin is handed on at once.
 impl<P: PerformText> PerformText for Linking<P> {
     ghost use Rattle.html_urls.specs.Linker.{Takes};
     ghost use Rattle.html_urls.specs.LinkerProof.{Takes-none, Takes-one, Takes-more};
 
     ghost receives = { Takes P.receives };
+
+    fn print_text(&mut self, text: &str) {
+        if self.is_linked {
+            self.performer.print_text(text);
+        } else {
+            self.take_text(text);
+        }
+    }
 
     ghost receives_none = { Takes-none P.receives P.receives_none };
 

@@ -1,10 +1,9 @@
 -- A link to the address, and what stands behind it.
-use Rattle.std.proofs.Common.{◌≡◌, ℕ, Bool, true, ◌&&◌, List, [], ◌∷◌, ◌++◌, length, sym, ap, ap₂, ◌∙◌, subst}
+use Rattle.std.proofs.Common.{◌≡◌, ℕ, Bool, true, List, length, sym, ap, ◌∙◌, subst}
 use Rattle.std.proofs.lemmas.Bool.{lt-ltb, and_from}
 use Rattle.std.specs.Prelude.{nat_lt}
-use Rattle.anstyle_parse.specs.Stream.Call.{Call}
 use Rattle.html_urls.specs.Addresses.{is_address, address_of, behind_address, max_held}
-use Rattle.html_urls.specs.Linked.{link_command, prints, is_link, released_as}
+use Rattle.html_urls.specs.Linked.{is_link, released_as}
 use Rattle.html_urls.proofs.LinkerLemmas.{received-link}
 use Rattle.html_urls.proofs.linking.hand_on.Goals as goal
 

@@ -1,5 +1,5 @@
 -- Nothing is held.
-use Rattle.std.proofs.Common.{◌≡◌, ℕ, Bool, List, [], length, eqb-true, sym, ap, ◌∙◌, subst}
+use Rattle.std.proofs.Common.{◌≡◌, ℕ, List, [], length, eqb-true, sym, ap, ◌∙◌, subst}
 use Rattle.std.proofs.lemmas.List.{nil_from_length}
 use Rattle.anstyle_parse.specs.Stream.Call.{Call}
 use Rattle.html_urls.specs.Linked.{standing, released}

@@ -1,8 +1,8 @@
 -- An address begins, or the character is handed on.
-use Rattle.std.proofs.Common.{Bool, true, ℕ, List, [], ◌∷◌, sym, ap, ◌∙◌, subst}
+use Rattle.std.proofs.Common.{Bool, ℕ, List, [], ◌∷◌, sym, ap, ◌∙◌, subst}
 use Rattle.std.specs.Prelude.{if◌then◌else◌}
-use Rattle.anstyle_parse.specs.Stream.Call.{Call, print}
-use Rattle.html_urls.specs.Linked.{standing, begins}
+use Rattle.anstyle_parse.specs.Stream.Call.{print}
+use Rattle.html_urls.specs.Linked.{standing}
 use Rattle.html_urls.specs.Linker.{performer_in, standing_of}
 use Rattle.html_urls.proofs.linking.Linking.take_first.Goals as goal
 

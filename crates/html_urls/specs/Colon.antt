@@ -1,0 +1,20 @@
+-- Texts without a colon, and where a scheme may begin at their end.
+use Rattle.std.specs.Prelude.{◌≡◌, ℕ, Bool, ◌||◌, ◌&&◌, not, nat_eq, nat_lt, ◌==◌, List, [], ◌∷◌, ◌++◌, ◌⊎◌, IsTrue}
+
+abbrev pub is_no_colon : ℕ → Bool
+is_no_colon b = not (b == 0x3A)
+
+-- the bytes of `https://`, `http://` and `mailto:` but the colon
+abbrev pub is_of_scheme : ℕ → Bool
+is_of_scheme b =
+    nat_eq b 0x61
+    || (nat_eq b 0x68 || (nat_eq b 0x69 || (nat_eq b 0x6C || (nat_eq b 0x6D || (nat_eq b 0x6F || (nat_eq b 0x70
+    || (nat_eq b 0x73 || (nat_eq b 0x74 || nat_eq b 0x2F))))))))
+
+-- a character of its own, and none of these
+abbrev pub is_end : ℕ → Bool
+is_end b = nat_lt b 0x80 && not (is_of_scheme b)
+
+-- nothing, or a text that ends with such a character
+abbrev pub EndsOff : List ℕ → Type 0
+EndsOff front = (front ≡ []) ⊎ ((before : List ℕ) × (last : ℕ) × (front ≡ before ++ last ∷ []) × IsTrue (is_end last))

@@ -38,6 +38,15 @@ class Calls(unittest.TestCase):
                 pieces = [stream[at : at + size] for at in range(0, len(stream), size)]
                 self.assertEqual(b"".join(ansi_proved.text_of(pieces)), wanted.encode())
 
+    def test_logs(self):
+        rows = [(b"M\xfcller \xa3 5\n", "M\ufffdller \ufffd 5\n"), (b"\x1b_bk;t=17\x07$ make", "$ make"), (b"\xe2\x82\xff\xc3", 3 * "\ufffd")]
+        for stream, wanted in rows:
+            wholes = ansi_proved.strip(stream), ansi_proved.strip(stream, safe=True), ansi_proved.to_html(stream)
+            self.assertEqual(wholes, 3 * (wanted.encode(),))
+            pieces = [stream[at : at + 1] for at in range(len(stream))]
+            for parts in (ansi_proved.text_of(pieces), ansi_proved.text_of(pieces, safe=True), ansi_proved.html_of(pieces)):
+                self.assertEqual(b"".join(parts), wanted.encode())
+
     def test_safe_text(self):
         rows = [
             ("\x1b[31ma\u202eb\r\n<U+0041>\x07", "a<U+202E>b\n<U+003C>U+0041><U+0007>"),

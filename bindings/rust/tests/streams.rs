@@ -38,6 +38,21 @@ fn wholes() {
     assert_eq!(strip_safe("a\u{202e}b\r\n\u{9b}<U+0041>"), "a<U+202E>b\n<U+009B><U+003C>U+0041>");
 }
 
+/// Bytes of no character, a stamp that BEL ends, and half of a character at the end.
+#[test]
+fn logs() {
+    let rows: [(&[u8], &str); 3] = [
+        (b"M\xfcller \xa3 5\n", "M\u{fffd}ller \u{fffd} 5\n"),
+        (b"\x1b_bk;t=17\x07$ make", "$ make"),
+        (b"\xe2\x82\xff\xc3", "\u{fffd}\u{fffd}\u{fffd}"),
+    ];
+    for (stream, wanted) in rows {
+        assert_eq!(strip(stream), wanted);
+        assert_eq!(strip_safe(stream), wanted);
+        assert_eq!(to_html(stream, Styling::Both), wanted);
+    }
+}
+
 /// What waits for the next character comes with it, or at the end, after which a stream begins.
 #[test]
 fn safe_text_however_it_is_cut() {

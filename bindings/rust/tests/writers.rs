@@ -34,6 +34,9 @@ fn text_goes_on() {
     writer.get_mut().clear();
     write!(writer, "\x1b]0;title\x07{}", 5).unwrap();
     assert_eq!(writer.into_inner(), b"5");
+    let mut writer = StripWriter::new(Vec::new());
+    writer.write_all(b"a\xe2\x82").unwrap();
+    assert_eq!(writer.finish().unwrap(), "a\u{fffd}".as_bytes());
 }
 
 #[test]

@@ -1,5 +1,5 @@
 -- Marks where hidden text begins and ends, and what a writer with marks does by calls.
-use Rattle.std.proofs.Common.{◌≡◌, ℕ, Bool, true, false, List, [], ◌∷◌, ◌++◌, map, length, eqb-true, refl, sym, ap, ap₂, ◌∙◌, subst, append_assoc, append-nil}
+use Rattle.std.proofs.Common.{◌≡◌, ℕ, Bool, true, false, List, [], ◌∷◌, ◌++◌, map, length, refl, sym, ap, ap₂, ◌∙◌, subst, append_assoc, append-nil}
 use Rattle.std.specs.Bool.{beq}
 use Rattle.std.specs.Prelude.{◌==◌, not, if◌then◌else◌}
 use Rattle.std.specs.Str.{encode_utf8_all, chars, IsUtf8}
@@ -14,7 +14,7 @@ use Rattle.safe_text.specs.declared.performer.SafeWriter.{SafeWriter}
 use Rattle.safe_text.specs.declared.marking.MarkingWriter.{MarkingWriter}
 use Rattle.safe_text.specs.Safe.{characters_of, characters, safe_from}
 use Rattle.safe_text.specs.Decided.{waiting, last_from, undecided_from}
-use Rattle.safe_text.specs.Marks.{Hiding, nothing_hidden, hidden_after, open_after, hiding_after, mark_of, mark_between, marked_of, marked_from, hiding_from, closing}
+use Rattle.safe_text.specs.Marks.{Hiding, nothing_hidden, open_after, hiding_after, mark_of, mark_between, marked_of, marked_from, hiding_from, closing}
 use Rattle.safe_text.specs.Writer.{output_of, before_in, held_in, text_by, ending_from, Takes}
 use Rattle.safe_text.specs.TakingProof.{held-waits, Takes-none, Takes-append}
 use Rattle.safe_text.specs.MarkingWriter.{writer_in, hidden_in, open_in, hiding_in, output_in, ending_from as marked_ending_from, TakesMarked}

@@ -1,22 +1,17 @@
 -- The characters of calls with the marks between them.
-use Rattle.std.proofs.Common.{◌≡◌, ℕ, ◌+◌, ◌*◌, ◌<◌, ◌≤◌, Bool, true, false, List, [], ◌∷◌, ◌++◌, length, eqb-true, filter, refl, sym, ap, ap₂, ◌∙◌, subst, inl, inr, ⊎_elim, arith, length-append, append-nil}
-use Rattle.std.specs.Prelude.{◌==◌, ◌||◌, not, if◌then◌else◌}
+use Rattle.std.proofs.Common.{◌≡◌, ℕ, ◌+◌, ◌*◌, ◌<◌, ◌≤◌, Bool, true, false, List, [], ◌∷◌, ◌++◌, length, eqb-true, filter, refl, sym, ap, ap₂, ◌∙◌, subst, inr, ⊎_elim, arith, length-append, append-nil}
+use Rattle.std.specs.Prelude.{◌==◌, if◌then◌else◌}
 use Rattle.std.specs.Char.{IsScalar}
 use Rattle.std.specs.List.{AllByRecursion}
-use Rattle.std.specs.Str.{encode_utf8_all}
 use Rattle.std.proofs.lemmas.Bool.{or_cases}
-use Rattle.std.proofs.lemmas.Str.{encodes-append}
 use Rattle.anstyle_parse.specs.Stream.Call.{Call, print, execute, hook, put, unhook, osc_dispatch, csi_dispatch, esc_dispatch}
 use Rattle.anstyle_parse.specs.Laws.Lawful.{AreLawfulFrom}
 use Rattle.ansi_strip.specs.Strip.{is_left, is_layout}
-use Rattle.safe_text.specs.Safe.{hides, shows, characters_of, characters, safe_from}
-use Rattle.safe_text.specs.Decided.{decided_from, waiting, last_from}
-use Rattle.safe_text.specs.Marks.{Hiding, nothing_hidden, hidden_after, open_after, hiding_after, mark_of, mark_between, marked_of, marked_from, hiding_from, closing, marked, is_mark, without_marks, NeverHides}
-use Rattle.safe_text.specs.TakingProof.{decided_from-append, last_from-append, waiting-append}
+use Rattle.safe_text.specs.Safe.{hides, shows, characters_of, characters}
+use Rattle.safe_text.specs.Marks.{Hiding, nothing_hidden, open_after, hiding_after, mark_between, marked_of, marked_from, hiding_from, closing, marked, is_mark, without_marks, NeverHides}
 use Rattle.safe_text.proofs.CallLemmas.{scalars-lawful, scalar-below}
 use Rattle.safe_text.proofs.VisibleLemmas.{scalar-character, no-mark}
 use Rattle.safe_text.proofs.WholeLemmas.{IsItem, all-items, all-append}
-use Rattle.safe_text.proofs.MarkLemmas.{between-same}
 
 -- each is a character or a mark
 pub between-items : (on next : Bool) → AllByRecursion IsItem (mark_between on next)

@@ -1,7 +1,7 @@
 -- No definition, but proofs: the language wants those of a trait's laws among the specs.
 -- Calls that a writer with marks takes one after another are one list of calls.
 use Rattle.std.specs.Str.{encode_utf8_all}
-use Rattle.std.proofs.Common.{◌≡◌, ℕ, Bool, List, [], ◌∷◌, ◌++◌, refl, sym, ap, ap₂, ◌∙◌, subst, append_assoc, append-nil}
+use Rattle.std.proofs.Common.{◌≡◌, List, [], ◌∷◌, ◌++◌, refl, sym, ap, ap₂, ◌∙◌, subst, append_assoc, append-nil}
 use Rattle.anstyle_parse.specs.declared.io.devices.Sink.{Ghosts as SinkOf}
 use Rattle.anstyle_parse.specs.Stream.Call.{Call}
 use Rattle.safe_text.specs.declared.marking.MarkingWriter.{MarkingWriter}

@@ -1,5 +1,5 @@
 -- No run of hidden text goes on over a control.
-use Rattle.std.proofs.Common.{List, ℕ, [], ◌∷◌, false, subst}
+use Rattle.std.proofs.Common.{[], ◌∷◌, false, subst}
 use Rattle.anstyle_parse.specs.Stream.Call.{execute}
 use Rattle.safe_text.specs.Writer.{Takes}
 use Rattle.safe_text.specs.MarkingWriter.{writer_in, hidden_in, open_in}

@@ -1,5 +1,5 @@
 -- Nothing is taken; what is hidden is what the style says that was plain but for it.
-use Rattle.std.proofs.Common.{◌≡◌, refl, ap, ◌∙◌}
+use Rattle.std.proofs.Common.{refl, ap, ◌∙◌}
 use Rattle.ansi_style.specs.declared.style.Style.{Style}
 use Rattle.ansi_style.specs.Rendition.{style_after}
 use Rattle.anstyle_parse.specs.Stream.Call.{Call, csi_dispatch}

@@ -3,7 +3,7 @@ use Rattle.std.proofs.Common.{List, ℕ, map, length, eqb-true, sym, ap, ◌∙�
 use Rattle.std.specs.Str.{chars}
 use Rattle.std.proofs.lemmas.List.{nil_from_length}
 use Rattle.std.proofs.lemmas.Str.{chars-nil}
-use Rattle.anstyle_parse.specs.Stream.Call.{Call, print}
+use Rattle.anstyle_parse.specs.Stream.Call.{print}
 use Rattle.safe_text.specs.MarkingWriter.{writer_in, TakesMarked}
 use Rattle.safe_text.specs.MarkingProof.{TakesMarked-none}
 use Rattle.safe_text.proofs.MarkLemmas.{some-characters, text-marked}

@@ -14,119 +14,95 @@
 
 use crate::{Converter, SafeStripper, Stripper, Styling};
 use std::io::{Result, Write};
+use stream::Stream;
 
-/// Strips a stream, whose text goes on to a writer.
-#[derive(Clone, Debug)]
-pub struct StripWriter<W> {
-    stripper: Stripper,
-    inner: W,
-}
+/// What a writer asks of a stream; nobody else needs to name it.
+mod stream {
+    use crate::{Converter, SafeStripper, Stripper};
+    use std::io::{Result, Write};
 
-impl<W: Write> StripWriter<W> {
-    pub fn new(inner: W) -> StripWriter<W> {
-        StripWriter {
-            stripper: Stripper::new(),
-            inner,
+    pub trait Stream {
+        /// Writes what the piece becomes.
+        fn take(&mut self, piece: &[u8], inner: &mut impl Write) -> Result<()>;
+
+        /// Writes what comes at the end.
+        fn finish(&mut self, inner: &mut impl Write) -> Result<()>;
+    }
+
+    impl Stream for Stripper {
+        fn take(&mut self, piece: &[u8], inner: &mut impl Write) -> Result<()> {
+            self.strip(piece, |part| inner.write_all(part))
+        }
+
+        fn finish(&mut self, inner: &mut impl Write) -> Result<()> {
+            self.end(|part| inner.write_all(part))
         }
     }
 
-    pub fn get_ref(&self) -> &W {
-        &self.inner
+    impl Stream for SafeStripper {
+        fn take(&mut self, piece: &[u8], inner: &mut impl Write) -> Result<()> {
+            self.strip(piece, |part| inner.write_all(part))
+        }
+
+        fn finish(&mut self, inner: &mut impl Write) -> Result<()> {
+            self.end(|part| inner.write_all(part))
+        }
     }
 
-    pub fn get_mut(&mut self) -> &mut W {
-        &mut self.inner
+    impl Stream for Converter {
+        fn take(&mut self, piece: &[u8], inner: &mut impl Write) -> Result<()> {
+            self.convert(piece, |part| inner.write_all(part))
+        }
+
+        fn finish(&mut self, inner: &mut impl Write) -> Result<()> {
+            self.end(|part| inner.write_all(part))
+        }
+    }
+}
+
+/// A stream and a writer below, to which what the stream becomes goes on.
+#[derive(Clone, Debug)]
+pub struct Writer<S, W> {
+    stream: S,
+    inner: W,
+}
+
+/// Strips a stream, whose text goes on to a writer.
+pub type StripWriter<W> = Writer<Stripper, W>;
+
+/// Makes a stream text that hides nothing, as [`strip_safe`](crate::strip_safe) does, which goes on to a writer.
+pub type SafeWriter<W> = Writer<SafeStripper, W>;
+
+/// Converts a stream, whose HTML goes on to a writer.
+pub type HtmlWriter<W> = Writer<Converter, W>;
+
+impl<W: Write> Writer<Stripper, W> {
+    pub fn new(inner: W) -> StripWriter<W> {
+        let stream = Stripper::new();
+        Writer { stream, inner }
     }
 
     /// The writer below. What was begun is dropped, as a sequence or a character that was cut off.
     pub fn into_inner(self) -> W {
         self.inner
     }
-
-    /// Writes what the end leads to, U+FFFD where a character is begun, and hands the writer below back.
-    pub fn finish(self) -> Result<W> {
-        let StripWriter {
-            mut stripper,
-            mut inner,
-        } = self;
-        stripper.end(|part| inner.write_all(part))?;
-        Ok(inner)
-    }
 }
 
-impl<W: Write> Write for StripWriter<W> {
-    fn write(&mut self, piece: &[u8]) -> Result<usize> {
-        let StripWriter { stripper, inner } = self;
-        stripper.strip(piece, |part| inner.write_all(part))?;
-        Ok(piece.len())
-    }
-
-    fn flush(&mut self) -> Result<()> {
-        self.inner.flush()
-    }
-}
-
-/// Makes a stream text that hides nothing, as [`strip_safe`](crate::strip_safe) does, which goes on to a writer.
-#[derive(Clone, Debug)]
-pub struct SafeWriter<W> {
-    stripper: SafeStripper,
-    inner: W,
-}
-
-impl<W: Write> SafeWriter<W> {
+impl<W: Write> Writer<SafeStripper, W> {
     pub fn new(inner: W) -> SafeWriter<W> {
-        SafeWriter {
-            stripper: SafeStripper::new(),
-            inner,
-        }
-    }
-
-    pub fn get_ref(&self) -> &W {
-        &self.inner
-    }
-
-    pub fn get_mut(&mut self) -> &mut W {
-        &mut self.inner
-    }
-
-    /// Writes what still waits, and hands the writer below back.
-    pub fn finish(self) -> Result<W> {
-        let SafeWriter {
-            mut stripper,
-            mut inner,
-        } = self;
-        stripper.end(|part| inner.write_all(part))?;
-        Ok(inner)
+        let stream = SafeStripper::new();
+        Writer { stream, inner }
     }
 }
 
-impl<W: Write> Write for SafeWriter<W> {
-    fn write(&mut self, piece: &[u8]) -> Result<usize> {
-        let SafeWriter { stripper, inner } = self;
-        stripper.strip(piece, |part| inner.write_all(part))?;
-        Ok(piece.len())
-    }
-
-    fn flush(&mut self) -> Result<()> {
-        self.inner.flush()
-    }
-}
-
-/// Converts a stream, whose HTML goes on to a writer.
-#[derive(Clone, Debug)]
-pub struct HtmlWriter<W> {
-    converter: Converter,
-    inner: W,
-}
-
-impl<W: Write> HtmlWriter<W> {
+impl<W: Write> Writer<Converter, W> {
     pub fn new(styling: Styling, inner: W) -> HtmlWriter<W> {
-        HtmlWriter {
-            converter: Converter::new(styling),
-            inner,
-        }
+        let stream = Converter::new(styling);
+        Writer { stream, inner }
     }
+}
 
+impl<S: Stream, W: Write> Writer<S, W> {
     pub fn get_ref(&self) -> &W {
         &self.inner
     }
@@ -135,21 +111,17 @@ impl<W: Write> HtmlWriter<W> {
         &mut self.inner
     }
 
-    /// Writes what closes the HTML, and hands the writer below back.
-    pub fn finish(self) -> Result<W> {
-        let HtmlWriter {
-            mut converter,
-            mut inner,
-        } = self;
-        converter.end(|part| inner.write_all(part))?;
-        Ok(inner)
+    /// Writes what the end leads to, and hands the writer below back: of text U+FFFD where a character is begun, of safe text what still
+    /// waits, of HTML what closes it.
+    pub fn finish(mut self) -> Result<W> {
+        self.stream.finish(&mut self.inner)?;
+        Ok(self.inner)
     }
 }
 
-impl<W: Write> Write for HtmlWriter<W> {
+impl<S: Stream, W: Write> Write for Writer<S, W> {
     fn write(&mut self, piece: &[u8]) -> Result<usize> {
-        let HtmlWriter { converter, inner } = self;
-        converter.convert(piece, |part| inner.write_all(part))?;
+        self.stream.take(piece, &mut self.inner)?;
         Ok(piece.len())
     }
 

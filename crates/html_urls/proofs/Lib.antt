@@ -4,5 +4,4 @@ pub mod LinkerLemmas
 pub mod HtmlLemmas
 pub mod TextLemmas
 pub mod ColonLemmas
-pub mod PlaceLemmas
 pub mod ClearLemmas

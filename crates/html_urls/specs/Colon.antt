@@ -1,8 +1,21 @@
 -- Texts without a colon, and where a scheme may begin at their end.
-use Rattle.std.specs.Prelude.{◌≡◌, ℕ, Bool, ◌||◌, ◌&&◌, not, nat_eq, nat_lt, ◌==◌, List, [], ◌∷◌, ◌++◌, ◌⊎◌, IsTrue}
+use Rattle.std.specs.Prelude.{◌≡◌, ℕ, Bool, ◌||◌, ◌&&◌, not, nat_eq, nat_lt, ◌==◌, List, [], ◌∷◌, ◌++◌, ◌⊎◌, IsTrue, ⊤}
+use Rattle.anstyle_parse.specs.Stream.Items.{EachIs}
 
 abbrev pub is_no_colon : ℕ → Bool
 is_no_colon b = not (b == 0x3A)
+
+-- nothing, or bytes that begin with a colon
+abbrev pub AreAtColon : List ℕ → Type 0
+AreAtColon [] = ⊤
+AreAtColon (b ∷ bytes) = b ≡ 0x3A
+
+-- The bytes that are left begin at the first colon.
+pub record StopsAtColon (bytes left : List ℕ) : Type 0 where
+  pub passed : List ℕ
+  pub joined : bytes ≡ passed ++ left
+  pub before : EachIs is_no_colon passed
+  pub at : AreAtColon left
 
 -- the bytes of `https://`, `http://` and `mailto:` but the colon
 abbrev pub is_of_scheme : ℕ → Bool

@@ -1,9 +1,7 @@
 //! Where a scheme may end in a text, at a colon, and where one may begin before it.
 ghost use Rattle.std.specs.Prelude.{◌≡◌, ◌++◌, ◌∷◌, IfSome, IfNone, IsUtf8};
 ghost use Rattle.anstyle_parse.specs.Stream.Items.{EachIs};
-ghost use Rattle.html_urls.specs.Colon.{is_no_colon, is_of_scheme, is_end, EndsOff};
-
-use memchr::memchr;
+ghost use Rattle.html_urls.specs.Colon.{is_no_colon, is_of_scheme, is_end, EndsOff, StopsAtColon};
 
 /// The byte with which each scheme ends, or which stands near its end.
 const COLON: u8 = b':';
@@ -14,10 +12,27 @@ pub(crate) fn split_at_colon(text: &str) -> (&str, Option<&str>)
     ensures found { IfSome result.1 (λ behind. text.now ≡ result.0.now ++ 0x3A ∷ behind.now) }
     ensures none { IfNone result.1 (text.now ≡ result.0.now) }
 {
-    match memchr(COLON, text.as_bytes()) {
-        Some(place) => (&text[..place], Some(&text[place + 1..])),
+    let bytes = text.as_bytes();
+    let rest = from_colon(bytes);
+    let end = bytes.len() - rest.len();
+    match rest.split_first() {
+        Some((_, _)) => (&text[..end], Some(&text[end + 1..])),
         None => (text, None),
     }
+}
+
+/// What begins at the first colon.
+fn from_colon(bytes: &[u8]) -> &[u8]
+    ensures { StopsAtColon bytes.now result.now }
+{
+    let mut rest = bytes;
+    'bytes: while let Some((first, behind)) = rest.split_first() {
+        if *first == COLON {
+            break;
+        }
+        rest = behind;
+    }
+    rest
 }
 
 /// Whether the byte may stand in a scheme, before or behind its colon.

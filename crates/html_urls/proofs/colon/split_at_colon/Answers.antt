@@ -1,23 +1,36 @@
--- The first colon.
-use Rattle.std.proofs.Common.{◌≡◌, ◌-◌, List, ℕ, take, sym, ap, ◌∙◌, subst, arith}
-use Rattle.anstyle_parse.specs.Stream.Items.{EachIs}
-use Rattle.memchr.specs.Find.{IsFirstByte, is_byte}
-use Rattle.std.specs.Prelude.{None, Some}
-use Rattle.html_urls.specs.Colon.{is_no_colon}
-use Rattle.html_urls.proofs.PlaceLemmas.{boundary, before-first, none-found}
+-- The first colon parts the text.
+use Rattle.std.proofs.Common.{◌≡◌, ◌+◌, ◌-◌, ◌++◌, ◌∷◌, length, length-append, take, drop, arith, subst, sym, ap, ap₂, ◌∙◌}
+use Rattle.std.specs.Str.{IsCharBoundary}
+use Rattle.anstyle_parse.proofs.Characters.Layout.{front-parted, back-parted, IsCharBoundary-parted}
+use Rattle.html_urls.specs.Colon.{AreAtColon}
 use Rattle.html_urls.proofs.colon.split_at_colon.Goals as goal
 
 pub range_from-requires : goal.range_from-requires
 range_from-requires c = λ _.
-    let found = subst (λ (l : List ℕ). IsFirstByte (is_byte 0x3A) l (Some c.in-Some.place)) c.as_bytes.ensures.value c.in-Some.ensures in
-    boundary c.args.text.now c.in-Some.place c.utf8.text found.0.high found.1
+    let text = c.args.text.now in
+    let b = c.in-Some.field-0-0.now in
+    let more = c.in-Some.field-0-1.now in
+    let passed = c.from_colon-rest.ensures.passed in
+    let rest = c.in-Some.ensures.cases.0 in
+    let joined = sym c.as_bytes-bytes.ensures.value ∙ c.from_colon-rest.ensures.joined ∙ ap (λ l. passed ++ l) rest in
+    let is : b ≡ 0x3A = subst AreAtColon rest c.from_colon-rest.ensures.at in
+    let at : length passed + 1 ≡ length c.as_bytes-bytes.result.now - length c.from_colon-rest.result.now + 1 =
+    omega (arith, ap length c.from_colon-rest.ensures.joined, length-append passed c.from_colon-rest.result.now) in
+    subst (IsCharBoundary text) at (IsCharBoundary-parted text passed b more joined c.utf8.text (omega (arith, is)))
 
-pub returns-in-Some-clause-before : goal.returns-in-Some-clause-before
-returns-in-Some-clause-before c =
-    let found = subst (λ (l : List ℕ). IsFirstByte (is_byte 0x3A) l (Some c.in-Some.place)) c.as_bytes.ensures.value c.in-Some.ensures in
-    let all : c.in-Some.place - 0 ≡ c.in-Some.place = omega arith in
-    subst (EachIs is_no_colon) (sym (c.range.ensures.value ∙ ap (λ (n : ℕ). take n c.args.text.now) all)) (before-first c.args.text.now c.in-Some.place found.0.before found.0.high)
-
-pub returns-in-None-clause-before : goal.returns-in-None-clause-before
-returns-in-None-clause-before c =
-    none-found c.args.text.now (subst (λ (l : List ℕ). IsFirstByte (is_byte 0x3A) l None) c.as_bytes.ensures.value c.in-None.ensures)
+pub returns-in-Some-clause-found : goal.returns-in-Some-clause-found
+returns-in-Some-clause-found c =
+    let text = c.args.text.now in
+    let b = c.in-Some.field-0-0.now in
+    let more = c.in-Some.field-0-1.now in
+    let passed = c.from_colon-rest.ensures.passed in
+    let rest = c.in-Some.ensures.cases.0 in
+    let is : b ≡ 0x3A = subst AreAtColon rest c.from_colon-rest.ensures.at in
+    let joined = sym c.as_bytes-bytes.ensures.value ∙ c.from_colon-rest.ensures.joined ∙ ap (λ l. passed ++ l) rest in
+    let at : length passed ≡ length c.as_bytes-bytes.result.now - length c.from_colon-rest.result.now =
+    omega (arith, ap length c.from_colon-rest.ensures.joined, length-append passed c.from_colon-rest.result.now) in
+    let front : c.range.result.now ≡ passed =
+    c.range.ensures.value ∙ ap (λ n. take n text) (omega (arith, at)) ∙ front-parted text passed b more joined in
+    let back : c.range_from.result.now ≡ more =
+    c.range_from.ensures.value ∙ ap (λ n. drop (n + 1) text) (sym at) ∙ back-parted text passed b more joined in
+    joined ∙ ap (λ n. passed ++ n ∷ more) is ∙ ap₂ (λ x y. x ++ 0x3A ∷ y) (sym front) (sym back)

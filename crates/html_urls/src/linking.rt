@@ -17,8 +17,8 @@ use anstyle_parse::{Params, Perform, PerformText};
 ///
 /// An address begins with `https://`, `http://` or `mailto:` where no letter, digit, `+`, `-` or `.` stands right
 /// before it, and goes on with the characters of a URI. Marks at its end, and brackets that it does not open, are no
-/// part of it. It has at most 1,022 bytes, and no `;`. Text in a link of the stream's own stays as it is. Any call but a
-/// print ends an address. What may become one is held back until it ends.
+/// part of it. It has at most 1,022 bytes, and no `;`. Text in a link of the stream's own stays as it is. Any call but
+/// a print ends an address. What may become one is held back until it ends.
 #[derive(Drop)]
 pub struct Linking<P> {
     pub(crate) performer: P,
@@ -110,7 +110,8 @@ impl<P: PerformText> Linking<P> {
 
     /// Hands on what is held, before a call that is no print.
     fn end_text(&mut self)
-        ensures released { P.receives (performer_in self.old) (released (standing_of self.old).held) (performer_in self.new) }
+        ensures released { P.receives (performer_in self.old) (released (standing_of self.old).held)
+            (performer_in self.new) }
         ensures standing { standing_of self.new ≡ standing [] false (standing_of self.old).is_linked }
     {
         self.release();
@@ -169,7 +170,7 @@ impl<P: PerformText> Linking<P> {
         }
     }
 
-    /// A text is printed in which no address begins, where nothing is held and no link is open: it is handed on at once.
+    /// A text is printed in which no address begins, where nothing is held and no link is open: it is handed on.
     fn take_front(&mut self, front: &str)
         requires empty { (standing_of self.old).held ≡ [] }
         requires unlinked { (standing_of self.old).is_linked ≡ false }

@@ -21,7 +21,8 @@ pub trait Resumable<W: Sink>: WritingPerformer<W> {
 
     // and the one after the other is what it writes by all calls.
     ghost joined: { (performer : Self) (calls more : List Call)
-        → Self.text_from performer calls ++ text_after performer calls more ≡ Self.text_from performer (calls ++ more) };
+        → Self.text_from performer calls ++ text_after performer calls more
+        ≡ Self.text_from performer (calls ++ more) };
 }
 
 impl<W: Sink> Resumable<W> for HtmlWriter<W> {
@@ -77,6 +78,7 @@ impl<P: Resumable<W>, W: Sink> WritingPerformer<W> for Linking<P> {
 
     ghost adds = { λ old calls new taken. P.adds (performer_in old) _ (performer_in new) taken.received };
 
-    ghost ends = { λ old calls new taken _. ends-taken P.receives P.text_from P.text_after P.ending_from P.resumes P.ends_later
+    ghost ends = { λ old calls new taken _.
+        ends-taken P.receives P.text_from P.text_after P.ending_from P.resumes P.ends_later
         (λ performer more. P.resumes performer [] performer (P.receives_none performer) more) old calls new taken };
 }

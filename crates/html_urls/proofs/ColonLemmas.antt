@@ -49,7 +49,7 @@ no_address : (text : List ℕ) → EachIs is_no_colon text → is_address text �
 unfolding is_address
 no_address text each = ap (λ (t : Bool). t && (not (begins_scheme text) && list_all is_whole_byte text)) (no_scheme text each)
 
-released-clear : (text : List ℕ) → EachIs is_no_colon text → released text ≡ prints text
+pub released-clear : (text : List ℕ) → EachIs is_no_colon text → released text ≡ prints text
 released-clear text each =
     let count = address_length (length text) text in
     let parts = EachIs-parts is_no_colon (take count text) (drop count text) (subst (EachIs is_no_colon) (sym (take-append-drop count text)) each) in

@@ -5,3 +5,4 @@ pub mod HtmlLemmas
 pub mod TextLemmas
 pub mod ColonLemmas
 pub mod ClearLemmas
+pub mod LawfulLemmas

@@ -1,6 +1,8 @@
 //! Laws of streams whose addresses are links. Each is the contract of a function that does nothing.
-ghost use Rattle.std.specs.Prelude.{◌≡◌, ◌++◌, List};
+ghost use Rattle.std.specs.Prelude.{◌≡◌, ◌++◌, ℕ, List};
 ghost use Rattle.anstyle_parse.specs.Stream.Call.{Call};
+ghost use Rattle.anstyle_parse.specs.Stream.Calls.{AreCalls};
+ghost use Rattle.anstyle_parse.specs.Laws.Lawful.{AreMade};
 ghost use Rattle.ansi_html.specs.declared.scheme.Styling.{Styling};
 ghost use Rattle.ansi_html.specs.Html.{html};
 ghost use Rattle.ansi_html.specs.Lines.{lined_html};
@@ -11,6 +13,12 @@ ghost use Rattle.html_urls.specs.Html.{urls_text, urls_ending, lined_urls_text, 
 /// The links change no text: what stripping leaves of the calls with these links is what it leaves of the stream.
 pub fn same_text()
     ensures { (calls : List Call) → stripped (linked calls) ≡ stripped calls }
+{}
+
+/// The calls of a stream in which addresses are links are those of a stream too: some bytes make them. So all that is
+/// said of the calls of a stream holds of them, as by `grammar` of [`ansi_html::convert`] that no markup comes in.
+pub fn linked_stream()
+    ensures { (bytes : List ℕ) (calls : List Call) → AreCalls bytes calls → AreMade (linked calls) }
 {}
 
 /// What is written, and then the ending, is the HTML of the calls in which addresses are links; so all that

@@ -109,6 +109,7 @@ use html_pieces::StyleBytes;
 use html_urls::Linking;
 use html_urls::Resumable;
 use html_urls::laws::html_of_links;
+use html_urls::laws::linked_stream;
 use html_urls::laws::same_text;
 use std::alloc::Global;
 use std::fmt::Debug;
@@ -218,6 +219,7 @@ fn names_of_the_laws(rt: HostRuntime) {
     cloned_variants();
     same_text();
     html_of_links();
+    linked_stream();
     default_variants();
     assert_eq!(rt; state_as_number(State::Anywhere), 0);
     assert_eq!(rt; action_as_number(Action::Nop), 0);

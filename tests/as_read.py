@@ -2,6 +2,8 @@
 
     as_read(data)    A0..FF that belong to no character as U+FFFD, and BEL that ends a string APC, PM or SOS as 9C
     as_read_whole(data)    the same of a log that is at its end: a character that is begun there is broken off
+    ignored(data)    what has the text that a terminal reads in data, where such bytes and a character that is begun at the end
+                     are ignored; `stray` stands for each, breaks a character, and leaves nothing
 """
 
 REPLACEMENT = "\ufffd".encode()
@@ -42,8 +44,9 @@ def begins(front):
         return error.reason == "unexpected end of data", False
 
 
-def reading(data):
-    """What is read, and the front of a character that is begun at the end."""
+def reading(data, stray=REPLACEMENT, bell=0x9C):
+    """What is read, and the front of a character that is begun at the end. `stray` stands for a byte that belongs to no character, and
+    `bell` for BEL in a string APC, PM or SOS."""
     read, place, front = bytearray(), "ground", b""
     for byte in data:
         if front:
@@ -57,9 +60,9 @@ def reading(data):
             read.append(byte)
             front = bytes([byte])
         elif place == "ground" and byte >= 0xA0:
-            read += REPLACEMENT
+            read += stray
         else:
-            byte = 0x9C if place == "ignored" and byte == 0x07 else byte
+            byte = bell if place == "ignored" and byte == 0x07 else byte
             read.append(byte)
             place = after(place, byte)
     return bytes(read), front
@@ -72,3 +75,9 @@ def as_read(data):
 def as_read_whole(data):
     read, front = reading(data)
     return read[: len(read) - len(front)] + REPLACEMENT if front else read
+
+
+def ignored(data, stray=b"\0"):
+    # (00 breaks a character, and ends no string: no text or HTML has it)
+    read, front = reading(data, stray, 0x00)
+    return read[: len(read) - len(front)]

@@ -1,33 +1,21 @@
 //! All of a screen, as a program reads it that draws it elsewhere.
-ghost use Rattle.std.specs.Prelude.{◌≡◌, ◌≤◌, length};
-ghost use Rattle.ansi_screen.specs.Display.{IsSized, row_end};
+ghost use Rattle.std.specs.Prelude.{◌≡◌, ◌<◌, ◌*◌, length, take, drop};
+ghost use Rattle.ansi_screen.specs.Display.{IsSized};
 
 use crate::cell::Cell;
 use crate::place::Place;
 use crate::screen::Screen;
 
 impl Screen {
-    /// All cells, row by row.
-    pub fn cells(&self) -> &[Cell]
-        ensures { result.now ≡ self.now.display.cells }
+    /// The cells of a row, counted from 0, of the screen that is hidden: of the main one, while the alternate one shows;
+    /// else blanks.
+    pub fn hidden_row(&self, row: usize) -> &[Cell]
+        requires { row < self.now.display.height }
+        ensures cells { result.now
+            ≡ take self.now.display.width (drop (row * self.now.display.width) self.now.display.hidden) }
+        ensures columns { length result.now ≡ self.now.display.width }
     {
-        self.display().cells()
-    }
-
-    /// While the alternate screen shows, the cells of the main one; else blanks.
-    pub fn hidden_cells(&self) -> &[Cell]
-        ensures { result.now ≡ self.now.display.hidden }
-    {
-        self.display().hidden()
-    }
-
-    /// Where the cursor's row ends in the list of cells.
-    pub fn row_end(&self) -> usize
-        ensures place { result ≡ row_end self.now.display }
-        ensures some { 2 ≤ result }
-        ensures within { result ≤ length self.now.display.cells }
-    {
-        self.display().row_end()
+        self.display().hidden_row(row)
     }
 
     /// What DECSC saved on the screen that shows.

@@ -1,9 +1,9 @@
 -- What is compared is the same.
-use Rattle.std.proofs.Common.{◌≡◌, ℕ, zero, suc, ◌+◌, ◌<◌, ◌≤◌, Bool, true, false, List, [], ◌∷◌, ◌++◌, length, take, get_or, refl, ap, sym, ◌∙◌, arith}
+use Rattle.std.proofs.Common.{◌≡◌, ℕ, zero, suc, ◌+◌, ◌*◌, ◌<◌, ◌≤◌, Bool, true, false, List, [], ◌∷◌, ◌++◌, length, take, drop, get_or, refl, ap, ap₂, sym, ◌∙◌, arith}
 use Rattle.std.specs.Prelude.{◌&&◌, not, ◌==◌, map}
 use Rattle.std.specs.Bool.{beq}
 use Rattle.std.proofs.lemmas.Bool.{and_parts, eqb-true}
-use Rattle.std.proofs.lemmas.List.{take_more, take_all}
+use Rattle.std.proofs.lemmas.List.{take_more, take_all, length-take-le, take-append-drop}
 use Rattle.std.proofs.Math.Bool.{and_assoc}
 use Rattle.ansi_style.specs.declared.style.Style.{Style}
 use Rattle.ansi_style.specs.Style.{are_equal}
@@ -18,6 +18,7 @@ use Rattle.ansi_screen.specs.declared.place.Place.{Place}
 use Rattle.screen_draw.specs.Draw.{is_erased}
 use Rattle.screen_draw.specs.Redrawn.{as_printed, as_drawn}
 use Rattle.screen_draw.specs.Alike.{are_same_marks, are_same_parts, are_alike, all_two, are_same_sets, are_same_places}
+use Rattle.screen_draw.proofs.BufferLemmas.{row-behind, take-row}
 
 pub flag-same : (x y : Bool) → beq x y ≡ true → x ≡ y
 flag-same true true h = refl
@@ -184,6 +185,45 @@ module _ {A : Type 0} (test : A → A → Bool) (d e : A) where
   all_two-long (x ∷ xs) (y ∷ ys) true is other =
       let parts = and_parts (test x y) (all_two test xs ys) is in
       all_two-long xs ys true parts.1 (λ e. other (ap suc e))
+
+-- lists, one after another
+all_two-append : (test : Cell → Cell → Bool) (xs ys us vs : List Cell) → length xs ≡ length ys
+    → all_two test (xs ++ us) (ys ++ vs) ≡ (all_two test xs ys && all_two test us vs)
+all_two-append test [] [] us vs same = refl
+all_two-append test (x ∷ xs) (y ∷ ys) us vs same =
+    ap (λ t. test x y && t) (all_two-append test xs ys us vs (omega (arith, same)))
+    ∙ sym (and_assoc (test x y) (all_two test xs ys) (all_two test us vs))
+all_two-append test [] (y ∷ ys) us vs same = absurd (omega (arith, same))
+all_two-append test (x ∷ xs) [] us vs same = absurd (omega (arith, same))
+
+-- a row of two lists of cells
+module _ (width row : ℕ) (xs ys first second : List Cell)
+    (within : row * width + width ≤ length xs) (same : length xs ≡ length ys)
+    (first_is : first ≡ take width (drop (row * width) xs)) (second_is : second ≡ take width (drop (row * width) ys)) where
+  so_far : all_two are_alike (take ((row + 1) * width) xs) (take ((row + 1) * width) ys)
+      ≡ (all_two are_alike (take (row * width) xs) (take (row * width) ys) && all_two are_alike first second)
+  so_far =
+      let front = take (row * width) xs in
+      let other = take (row * width) ys in
+      let long : length front ≡ length other = length-take-le (row * width) xs (omega arith) ∙ sym (length-take-le (row * width) ys (omega arith)) in
+      ap₂ (all_two are_alike) (take-row width row xs) (take-row width row ys)
+      ∙ (all_two-append are_alike front other (take width (drop (row * width) xs)) (take width (drop (row * width) ys)) long
+      ∙ ap₂ (λ k l. all_two are_alike front other && all_two are_alike k l) (sym first_is) (sym second_is))
+
+  pub rows-more : all_two are_alike (take (row * width) xs) (take (row * width) ys) ≡ true → all_two are_alike first second ≡ true
+      → all_two are_alike (take ((row + 1) * width) xs) (take ((row + 1) * width) ys) ≡ true
+  rows-more before alike = so_far ∙ ap₂ (λ s t. s && t) before alike
+
+  pub rows-differ : all_two are_alike first second ≡ false → all_two are_alike xs ys ≡ false
+  rows-differ differ =
+      let past : ℕ = (row + 1) * width in
+      let here : past ≡ row * width + width = row-behind width row in
+      let front : all_two are_alike (take past xs) (take past ys) ≡ false =
+      so_far ∙ fails-behind (all_two are_alike (take (row * width) xs) (take (row * width) ys)) (all_two are_alike first second) differ in
+      let long : length (take past xs) ≡ length (take past ys) = length-take-le past xs (omega arith) ∙ sym (length-take-le past ys (omega arith)) in
+      ap₂ (all_two are_alike) (sym (take-append-drop past xs)) (sym (take-append-drop past ys))
+      ∙ (all_two-append are_alike (take past xs) (take past ys) (drop past xs) (drop past ys) long
+      ∙ ap (λ t. t && all_two are_alike (drop past xs) (drop past ys)) front)
 
 -- eight of them in the order in which they are joined one by one
 pub and-of_eight : (a b c d e f g h : Bool)

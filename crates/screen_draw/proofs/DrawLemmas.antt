@@ -1,5 +1,5 @@
 -- Drawing: calls, one after another, and their texts.
-use Rattle.std.proofs.Common.{◌≡◌, ℕ, suc, ◌+◌, ◌<◌, ◌≤◌, Bool, true, false, List, [], ◌∷◌, ◌++◌, length, take, get_or, refl, ap, sym, inl, inr, ⊎_elim, ◌∙◌, subst, arith, append_assoc, append-nil}
+use Rattle.std.proofs.Common.{◌≡◌, ℕ, suc, ◌+◌, ◌*◌, ◌<◌, ◌≤◌, Bool, true, false, List, [], ◌∷◌, ◌++◌, length, take, drop, get_or, refl, ap, sym, inl, inr, ⊎_elim, ◌∙◌, subst, arith, append_assoc, append-nil}
 use Rattle.std.specs.Prelude.{decimal, not, IsTrue, ◌⊎◌, ◌||◌, nat_lt, encode_utf8, if◌then◌else◌}
 use Rattle.std.specs.List.{AllByRecursion}
 use Rattle.std.proofs.lemmas.Bool.{false≢true, or_cases, or_left, or_right, ne_eqb}
@@ -28,8 +28,9 @@ use Rattle.ansi_screen.specs.declared.place.Charsets.{Charsets}
 use Rattle.ansi_screen.specs.declared.place.Place.{Place}
 use Rattle.ansi_screen.specs.Widths.{is_shown}
 use Rattle.screen_draw.specs.declared.cells.Pen.{Pen}
-use Rattle.screen_draw.specs.Draw.{escape, sequence, private_mode, set_or_reset, select, cell_calls, cells_calls, pen_behind, stop_calls, stops_calls, charset_final, charsets_calls, drawn_character, screen_calls}
+use Rattle.screen_draw.specs.Draw.{escape, sequence, private_mode, set_or_reset, select, cell_calls, cells_calls, pen_behind, pen_after, stop_calls, stops_calls, charset_final, charsets_calls, drawn_character}
 use Rattle.screen_draw.specs.Drawing.{IsDrawing, Draws}
+use Rattle.screen_draw.proofs.BufferLemmas.{take-row}
 
 -- calls, one after another
 pub both-drawing : (first second : List Call) → AllByRecursion IsDrawing first → AllByRecursion IsDrawing second → AllByRecursion IsDrawing (first ++ second)
@@ -245,25 +246,28 @@ module _ {W : Type 0} (sink : SinkOf W) where
     drawing = ((designates 0x28 sets.g0_draws set-mark.0, refl), ((designates 0x29 sets.g1_draws set-mark.1, refl), (shift-drawing sets.uses_g1, tt)));
   }
 
+-- cells, and more of them
+pen_after-append : (pen : Pen) (cells more : List Cell) → pen_after pen (cells ++ more) ≡ pen_after (pen_after pen cells) more
+pen_after-append pen [] more = refl
+pen_after-append pen (first ∷ cells) more = pen_after-append (pen_behind first pen) cells more
+
+cells_calls-append : (width place : ℕ) (pen : Pen) (cells more : List Cell)
+    → cells_calls width place pen (cells ++ more) ≡ cells_calls width place pen cells ++ cells_calls width (place + length cells) (pen_after pen cells) more
+cells_calls-append width place pen [] more =
+    let here : place ≡ place + length {A = Cell} [] = omega arith in
+    ap (λ p. cells_calls width p pen more) here
+cells_calls-append width place pen (first ∷ cells) more =
+    let next : suc place + length cells ≡ place + length (first ∷ cells) = omega arith in
+    ap (λ l. cell_calls width place pen first ++ l) (cells_calls-append width (suc place) (pen_behind first pen) cells more)
+    ∙ (sym (append_assoc (cell_calls width place pen first) (cells_calls width (suc place) (pen_behind first pen) cells) _)
+    ∙ ap (λ p. (cell_calls width place pen first ++ cells_calls width (suc place) (pen_behind first pen) cells) ++ cells_calls width p (pen_after (pen_behind first pen) cells) more) next)
+
 -- cells and stops so far, and one more
-abbrev pub pen_after : Pen → List Cell → Pen
-pen_after pen [] = pen
-pen_after pen (cell ∷ cells) = pen_after (pen_behind cell pen) cells
-
-pen_after-push : (pen : Pen) (cells : List Cell) (cell : Cell) → pen_after pen (cells ++ cell ∷ []) ≡ pen_behind cell (pen_after pen cells)
-pen_after-push pen [] cell = refl
-pen_after-push pen (first ∷ cells) cell = pen_after-push (pen_behind first pen) cells cell
-
 cells_calls-push : (width place : ℕ) (pen : Pen) (cells : List Cell) (cell : Cell)
     → cells_calls width place pen (cells ++ cell ∷ []) ≡ cells_calls width place pen cells ++ cell_calls width (place + length cells) (pen_after pen cells) cell
-cells_calls-push width place pen [] cell =
-    let here : place ≡ place + length {A = Cell} [] = omega arith in
-    append-nil (cell_calls width place pen cell) ∙ ap (λ p. cell_calls width p pen cell) here
-cells_calls-push width place pen (first ∷ cells) cell =
-    let next : suc place + length cells ≡ place + length (first ∷ cells) = omega arith in
-    ap (λ l. cell_calls width place pen first ++ l) (cells_calls-push width (suc place) (pen_behind first pen) cells cell)
-    ∙ (sym (append_assoc (cell_calls width place pen first) (cells_calls width (suc place) (pen_behind first pen) cells) _)
-    ∙ ap (λ p. (cell_calls width place pen first ++ cells_calls width (suc place) (pen_behind first pen) cells) ++ cell_calls width p (pen_after (pen_behind first pen) cells) cell) next)
+cells_calls-push width place pen cells cell =
+    cells_calls-append width place pen cells (cell ∷ [])
+    ∙ ap (λ l. cells_calls width place pen cells ++ l) (append-nil (cell_calls width (place + length cells) (pen_after pen cells) cell))
 
 stops_calls-push : (column : ℕ) (stops : List Bool) (last : Bool) → stops_calls column (stops ++ last ∷ []) ≡ stops_calls column stops ++ stop_calls (column + length stops) last
 stops_calls-push column [] last =
@@ -276,17 +280,31 @@ stops_calls-push column (first ∷ stops) last =
     ∙ ap (λ c. (stop_calls column first ++ stops_calls (suc column) stops) ++ stop_calls c last) next)
 
 module _ {W : Type 0} (sink : SinkOf W) where
-  pub draws-cell : (width : ℕ) (pen middle : Pen) (cells : List Cell) (i : ℕ) (d : Cell) (a b c : Output W) → i < length cells → middle ≡ pen_after pen (take i cells)
-      → Draws sink (cells_calls width 0 pen (take i cells)) a b → Draws sink (cell_calls width i middle (get_or cells i d)) b c
-      → Draws sink (cells_calls width 0 pen (take (i + 1) cells)) a c
-  draws-cell width pen middle cells i d a b c inside is first second =
-      let front : length (take i cells) ≡ i = length-take-le i cells (omega arith) in
-      let here : i ≡ 0 + length (take i cells) = omega arith in
+  pub draws-cell : (width start : ℕ) (pen middle : Pen) (cells : List Cell) (i : ℕ) (d : Cell) (a b c : Output W) → i < length cells → middle ≡ pen_after pen (take i cells)
+      → Draws sink (cells_calls width start pen (take i cells)) a b → Draws sink (cell_calls width (start + i) middle (get_or cells i d)) b c
+      → Draws sink (cells_calls width start pen (take (i + 1) cells)) a c
+  draws-cell width start pen middle cells i d a b c inside is first second =
+      let here : start + i ≡ start + length (take i cells) = ap (λ n. start + n) (sym (length-take-le i cells (omega arith))) in
       subst (λ l. Draws sink l a c)
-      (ap (λ p. cells_calls width 0 pen (take i cells) ++ cell_calls width p (pen_after pen (take i cells)) (get_or cells i d)) here
-      ∙ (sym (cells_calls-push width 0 pen (take i cells) (get_or cells i d)) ∙ ap (cells_calls width 0 pen) (sym (take_more cells i d inside))))
-      (draws-append sink (cells_calls width 0 pen (take i cells)) (cell_calls width i (pen_after pen (take i cells)) (get_or cells i d)) a b c first
-      (subst (λ p. Draws sink (cell_calls width i p (get_or cells i d)) b c) is second))
+      (ap (λ p. cells_calls width start pen (take i cells) ++ cell_calls width p (pen_after pen (take i cells)) (get_or cells i d)) here
+      ∙ (sym (cells_calls-push width start pen (take i cells) (get_or cells i d)) ∙ ap (cells_calls width start pen) (sym (take_more cells i d inside))))
+      (draws-append sink (cells_calls width start pen (take i cells)) (cell_calls width (start + i) (pen_after pen (take i cells)) (get_or cells i d)) a b c first
+      (subst (λ p. Draws sink (cell_calls width (start + i) p (get_or cells i d)) b c) is second))
+
+  -- a row more
+  pub draws-row : (width row : ℕ) (pen middle : Pen) (cells more : List Cell) (a b c : Output W) → row * width ≤ length cells
+      → more ≡ take width (drop (row * width) cells) → middle ≡ pen_after pen (take (row * width) cells)
+      → Draws sink (cells_calls width 0 pen (take (row * width) cells)) a b → Draws sink (cells_calls width (row * width) middle more) b c
+      → Draws sink (cells_calls width 0 pen (take ((row + 1) * width) cells)) a c
+  draws-row width row pen middle cells more a b c within is behind first second =
+      let front : List Cell = take (row * width) cells in
+      let here : row * width ≡ 0 + length front = omega (arith, length-take-le (row * width) cells within) in
+      subst (λ l. Draws sink l a c)
+      (ap (λ l. cells_calls width 0 pen front ++ cells_calls width (row * width) (pen_after pen front) l) is
+      ∙ (ap (λ p. cells_calls width 0 pen front ++ cells_calls width p (pen_after pen front) (take width (drop (row * width) cells))) here
+      ∙ (sym (cells_calls-append width 0 pen front (take width (drop (row * width) cells))) ∙ ap (cells_calls width 0 pen) (sym (take-row width row cells)))))
+      (draws-append sink (cells_calls width 0 pen front) (cells_calls width (row * width) (pen_after pen front) more) a b c first
+      (subst (λ p. Draws sink (cells_calls width (row * width) p more) b c) behind second))
 
   pub draws-stop : (stops : List Bool) (i : ℕ) (d : Bool) (a b c : Output W) → i < length stops
       → Draws sink (stops_calls 0 (take i stops)) a b → Draws sink (stop_calls i (get_or stops i d)) b c
@@ -304,13 +322,13 @@ pub pen-more : (pen middle next : Pen) (cells : List Cell) (i : ℕ) (d : Cell) 
 pen-more pen middle next cells i d inside is follows =
     follows
     ∙ (ap (pen_behind (get_or cells i d)) is
-    ∙ sym (ap (pen_after pen) (take_more cells i d inside) ∙ pen_after-push pen (take i cells) (get_or cells i d)))
+    ∙ sym (ap (pen_after pen) (take_more cells i d inside) ∙ pen_after-append pen (take i cells) (get_or cells i d ∷ [])))
 
-module _ {W : Type 0} (sink : SinkOf W) where
-  -- the same of equal screens
-  pub draws-screen : (w v : ℕ) (p q : Place) (xs ys : List Cell) (a b : Output W) → w ≡ v → p ≡ q → xs ≡ ys
-      → Draws sink (screen_calls w p xs) a b → Draws sink (screen_calls v q ys) a b
-  draws-screen w v p q xs ys a b width place cells drawn =
-      subst (λ n. Draws sink (screen_calls n q ys) a b) width
-      (subst (λ s. Draws sink (screen_calls w s ys) a b) place
-      (subst (λ l. Draws sink (screen_calls w p l) a b) cells drawn))
+pub pen-row : (width row : ℕ) (pen middle next : Pen) (cells more : List Cell) → more ≡ take width (drop (row * width) cells)
+    → middle ≡ pen_after pen (take (row * width) cells) → next ≡ pen_after middle more → next ≡ pen_after pen (take ((row + 1) * width) cells)
+pen-row width row pen middle next cells more is behind follows =
+    follows
+    ∙ (ap (λ p. pen_after p more) behind
+    ∙ (ap (pen_after (pen_after pen (take (row * width) cells))) is
+    ∙ (sym (pen_after-append pen (take (row * width) cells) (take width (drop (row * width) cells)))
+    ∙ ap (pen_after pen) (sym (take-row width row cells)))))

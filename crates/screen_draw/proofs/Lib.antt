@@ -1,3 +1,4 @@
+pub mod BufferLemmas
 pub mod DrawLemmas
 pub mod AlikeLemmas
 pub mod StepLemmas

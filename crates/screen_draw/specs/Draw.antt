@@ -118,6 +118,11 @@ cells_calls width place pen [] = []
 cells_calls width place pen (cell ∷ cells) =
     cell_calls width place pen cell ++ cells_calls width (suc place) (pen_behind cell pen) cells
 
+-- the pen behind them
+abbrev pub pen_after : Pen → List Cell → Pen
+pen_after pen [] = pen
+pen_after pen (cell ∷ cells) = pen_after (pen_behind cell pen) cells
+
 -- what is printed last, so that a wrap is pending
 abbrev pub wrap_calls : Option Cell → List Call
 wrap_calls None = []

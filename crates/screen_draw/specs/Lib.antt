@@ -1,5 +1,6 @@
 pub mod Alike
 pub mod Bound
+pub mod Buffers
 pub mod Changed
 pub mod Columns
 pub mod Draw

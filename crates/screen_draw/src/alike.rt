@@ -3,8 +3,10 @@ ghost use Rattle.std.specs.Prelude.{◌≡◌, ◌≤◌, true, length, take};
 ghost use Rattle.std.specs.Bool.{beq};
 ghost use Rattle.ansi_screen.specs.Print.{draws};
 ghost use Rattle.screen_draw.specs.Alike.{are_same_marks, are_same_parts, are_alike, all_two, are_same_sets, are_same_places, has_same_frame, has_same_margins, has_same_modes, looks_same, is_plain, lacks_print, is_steady};
+ghost use Rattle.screen_draw.specs.Buffers.{cells_of};
 ghost use Rattle.screen_draw.specs.Changed.{Keeps};
 
+use crate::buffer::Buffer;
 use crate::cells::{is_erased, is_same};
 use crate::changed::Changed;
 use ansi_screen::{Cell, Charsets, Marks, Part, Place, Screen};
@@ -70,6 +72,22 @@ pub(crate) fn alike_front(a: &[Cell], b: &[Cell]) -> usize
     a.len()
 }
 
+/// Whether all cells of a buffer are alike, each to the one of its place, in two screens of one size.
+fn are_buffers_alike(buffer: Buffer, a: &Screen, b: &Screen) -> bool
+    requires columns { a.now.display.width ≡ b.now.display.width }
+    requires rows { a.now.display.height ≡ b.now.display.height }
+    ensures { result ≡ all_two are_alike (cells_of buffer a.now.display) (cells_of buffer b.now.display) }
+{
+    // The sizes are within their limits.
+    let _ = b.rows();
+    for row in 0..a.rows() {
+        if !are_all_alike(buffer.row(a, row), buffer.row(b, row)) {
+            return false;
+        }
+    }
+    true
+}
+
 /// Whether tabs stop in the same columns.
 fn are_same_stops(a: &[bool], b: &[bool]) -> bool
     ensures { result ≡ all_two beq a.now b.now }
@@ -104,13 +122,15 @@ fn are_same_places(a: Place, b: Place) -> bool
         && are_same_sets(a.charsets, b.charsets)
 }
 
-/// Whether both have the same screen below an alternate one, saved places and tabs.
+/// Whether both, which have one size, have the same screen below an alternate one, saved places and tabs.
 #[tactic(auto, unfolding(crate::specs::Alike::has_same_frame))]
 fn has_same_frame(a: &Screen, b: &Screen) -> bool
+    requires columns { a.now.display.width ≡ b.now.display.width }
+    requires rows { a.now.display.height ≡ b.now.display.height }
     ensures { result ≡ has_same_frame a.now.display b.now.display }
 {
     a.is_alternate() == b.is_alternate()
-        && (!a.is_alternate() || are_all_alike(a.hidden_cells(), b.hidden_cells()))
+        && (!a.is_alternate() || are_buffers_alike(Buffer::Hidden, a, b))
         && are_same_places(a.saved(), b.saved())
         && are_same_places(a.hidden_saved(), b.hidden_saved())
         && are_same_stops(a.stops(), b.stops())
@@ -132,16 +152,18 @@ fn has_same_modes(a: &Screen, b: &Screen) -> bool
         && a.is_cursor_visible() == b.is_cursor_visible()
 }
 
-/// Whether all is the same.
+/// Whether all is the same of two screens of one size.
 #[tactic(auto, unfolding(crate::specs::Alike::looks_same))]
 pub(crate) fn looks_same(a: &Screen, b: &Screen) -> bool
+    requires columns { a.now.display.width ≡ b.now.display.width }
+    requires rows { a.now.display.height ≡ b.now.display.height }
     ensures { result ≡ looks_same a.now.display b.now.display }
 {
     has_same_frame(a, b)
         && has_same_margins(a, b)
         && has_same_modes(a, b)
         && are_same_places(a.cursor(), b.cursor())
-        && are_all_alike(a.cells(), b.cells())
+        && are_buffers_alike(Buffer::Shown, a, b)
 }
 
 /// Whether the set that is used is the line drawing set.
@@ -168,7 +190,9 @@ fn is_plain(screen: &Screen) -> bool
 pub(crate) fn lacks_print(screen: &Screen) -> bool
     ensures { result ≡ lacks_print screen.now.display }
 {
-    screen.cursor().column == screen.columns() && is_erased(screen.cells()[screen.row_end() - 1])
+    let columns = screen.columns();
+    let cursor = screen.cursor();
+    cursor.column == columns && is_erased(screen.row(cursor.row)[columns - 1])
 }
 
 /// Whether both have the same frame, which is not asked where it can not have changed.

@@ -1,14 +1,16 @@
 //! The cells of a screen.
-ghost use Rattle.std.specs.Prelude.{◌≡◌, ◌<◌, ◌≤◌, ◌*◌, ◌/◌, ◌∷◌, ◌++◌, [], length, ◌&&◌};
+ghost use Rattle.std.specs.Prelude.{◌≡◌, ◌<◌, ◌≤◌, ◌*◌, ◌/◌, ◌+◌, ◌∷◌, ◌++◌, [], length, ◌&&◌};
 ghost use Rattle.std.specs.Bool.{beq};
 ghost use Rattle.anstyle_parse.specs.Stream.Call.{print};
 ghost use Rattle.ansi_style.specs.Style.{are_equal};
 ghost use Rattle.ansi_screen.specs.Display.{most_columns, most_rows};
-ghost use Rattle.screen_draw.specs.Draw.{drawn_character, marks_calls, character_calls, is_erased, is_fresh, first_pen, pen_behind, style_calls, there_calls, shown_calls, place_cell_calls, cell_calls, cells_calls};
+ghost use Rattle.screen_draw.specs.Buffers.{cells_of};
+ghost use Rattle.screen_draw.specs.Draw.{drawn_character, marks_calls, character_calls, is_erased, is_fresh, first_pen, pen_behind, pen_after, style_calls, there_calls, shown_calls, place_cell_calls, cell_calls, cells_calls};
 ghost use Rattle.screen_draw.specs.Drawing.{Draws};
 
+use crate::buffer::Buffer;
 use crate::calls::{put_number, put_position, put_style};
-use ansi_screen::{Cell, Marks, Part, is_shown};
+use ansi_screen::{Cell, Marks, Part, Screen, is_shown};
 use ansi_style::Style;
 use anstyle_parse::io::{Output, Sink};
 
@@ -193,15 +195,36 @@ fn put_cell<W: Sink>(
     }
 }
 
-/// Draws the cells of a screen that is blank.
-pub(crate) fn put_cells<W: Sink>(output: &mut Output<W>, width: usize, cells: &[Cell])
+/// Draws the cells of a row from the place on where it begins, on a screen that is blank. The answer is the pen behind
+/// them.
+fn put_row<W: Sink>(
+    output: &mut Output<W>,
+    start: usize,
+    width: usize,
+    pen: Pen,
+    cells: &[Cell],
+) -> Pen
     requires some { 0 < width }
     requires columns { width ≤ most_columns }
-    requires rows { length cells.now ≤ most_rows * width }
-    ensures { Draws W.Sink (cells_calls width 0 first_pen cells.now) output.old output.new }
+    requires rows { start + length cells.now ≤ most_rows * width }
+    ensures calls { Draws W.Sink (cells_calls width start pen cells.now) output.old output.new }
+    ensures pen { result ≡ pen_after pen cells.now }
 {
+    let mut pen = pen;
+    for (column, cell) in cells.iter().enumerate() {
+        pen = put_cell(output, width, start + column, pen, cell);
+    }
+    pen
+}
+
+/// Draws the cells of a buffer, row by row, on a screen that is blank.
+pub(crate) fn put_cells<W: Sink>(output: &mut Output<W>, screen: &Screen, buffer: Buffer)
+    ensures { Draws W.Sink (cells_calls screen.now.display.width 0 first_pen (cells_of buffer screen.now.display))
+        output.old output.new }
+{
+    let width = screen.columns();
     let mut pen = Pen::new();
-    for (place, cell) in cells.iter().enumerate() {
-        pen = put_cell(output, width, place, pen, cell);
+    for row in 0..screen.rows() {
+        pen = put_row(output, row * width, width, pen, buffer.row(screen, row));
     }
 }

@@ -11,6 +11,7 @@
 #![tactic(auto)]
 
 mod alike;
+mod buffer;
 mod calls;
 mod cells;
 mod changed;

@@ -1,14 +1,16 @@
 //! Places of the cursor, and a screen with what it has saved.
-ghost use Rattle.std.specs.Prelude.{◌≡◌, ◌<◌, ◌≤◌, ◌*◌, ◌+◌, ◌-◌, length, if◌then◌else◌};
+ghost use Rattle.std.specs.Prelude.{◌≡◌, ◌<◌, ◌≤◌, ◌+◌, ◌-◌, if◌then◌else◌};
 ghost use Rattle.ansi_screen.specs.Display.{most_columns, most_rows};
+ghost use Rattle.screen_draw.specs.Buffers.{cells_of, saved_of};
 ghost use Rattle.screen_draw.specs.Draw.{wrap_calls, place_calls, space_if, saved_calls, screen_calls};
 ghost use Rattle.screen_draw.specs.Drawing.{Draws};
 
+use crate::buffer::Buffer;
 use crate::calls::{
     put_charsets, put_escape, put_number, put_origin, put_plain, put_position, put_style,
 };
 use crate::cells::{put_cells, put_marked};
-use ansi_screen::{Cell, Place};
+use ansi_screen::{Cell, Place, Screen};
 use ansi_style::Style;
 use anstyle_parse::io::{Output, Sink};
 
@@ -73,21 +75,13 @@ fn put_saved<W: Sink>(output: &mut Output<W>, width: usize, saved: Place)
     put_escape(output, b'7');
 }
 
-/// Draws what is saved, and the cells.
-pub(crate) fn put_screen<W: Sink>(
-    output: &mut Output<W>,
-    width: usize,
-    saved: Place,
-    cells: &[Cell],
-)
-    requires some { 0 < width }
-    requires columns { width ≤ most_columns }
-    requires row { saved.row < most_rows }
-    requires rows { length cells.now ≤ most_rows * width }
-    ensures { Draws W.Sink (screen_calls width saved cells.now) output.old output.new }
+/// Draws what is saved in a buffer, and its cells.
+pub(crate) fn put_screen<W: Sink>(output: &mut Output<W>, screen: &Screen, buffer: Buffer)
+    ensures { Draws W.Sink (screen_calls screen.now.display.width (saved_of buffer screen.now.display)
+        (cells_of buffer screen.now.display)) output.old output.new }
 {
-    put_saved(output, width, saved);
+    put_saved(output, screen.columns(), buffer.saved(screen));
     put_plain(output);
     put_number(output, 2, b'J');
-    put_cells(output, width, cells);
+    put_cells(output, screen, buffer);
 }

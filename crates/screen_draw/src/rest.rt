@@ -60,11 +60,11 @@ pub(crate) fn last_of_row(screen: &Screen) -> (Cell, usize)
     ensures column { result.1 ≡ last_column screen.now.display }
     ensures sized { IsSized screen.now.display }
 {
-    let cells = screen.cells();
-    let (end, columns) = (screen.row_end(), screen.columns());
-    let last = cells[end - 1];
+    let columns = screen.columns();
+    let cells = screen.row(screen.cursor().row);
+    let last = cells[columns - 1];
     if last.is_right() {
-        (cells[end - 2], columns - 2)
+        (cells[columns - 2], columns - 2)
     } else {
         (last, columns - 1)
     }

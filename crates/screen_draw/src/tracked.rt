@@ -1,5 +1,5 @@
 //! A screen of which it is tracked what can have changed.
-ghost use Rattle.std.specs.Prelude.{◌≡◌, true, false, ◌<◌, ◌+◌, ◌-◌, ℕ, Bool, List, ◌&&◌, ◌||◌, ◌==◌, nat_lt, length, if◌then◌else◌};
+ghost use Rattle.std.specs.Prelude.{◌≡◌, true, false, ◌<◌, ◌+◌, ◌*◌, ◌-◌, ℕ, Bool, List, ◌&&◌, ◌||◌, ◌==◌, nat_lt, length, if◌then◌else◌};
 ghost use Rattle.ansi_screen.specs.After.{first_of, function_of};
 ghost use Rattle.ansi_screen.specs.Alone.{moves_alone, edits_row, edits_cells, ends_above, modes_alone};
 ghost use Rattle.anstyle_parse.specs.Stream.Call.{print, execute, csi_dispatch, esc_dispatch};
@@ -145,19 +145,36 @@ impl Tracked {
         &self.screen
     }
 
-    /// Whether the right half of a wide character stands at a place of the list of cells.
-    fn is_right_at(&self, place: usize) -> bool
-        ensures { result ≡ is_right (cell_at place self.now.screen.display.cells).part }
+    /// Whether the right half of a wide character stands in a column of a row. Below the last row none does.
+    fn is_right_at(&self, row: usize, column: usize) -> bool
+        requires { column < self.now.screen.display.width }
+        ensures { result ≡ is_right (cell_at (row * self.now.screen.display.width + column)
+            self.now.screen.display.cells).part }
     {
-        let cells = self.screen.cells();
-        place < cells.len() && cells[place].is_right()
+        row < self.screen.rows() && self.screen.row(row)[column].is_right()
+    }
+
+    /// Whether it stands right behind the cursor, in the same row or first in the next one.
+    fn is_right_behind(&self) -> bool
+        requires { self.now.screen.display.cursor.column < self.now.screen.display.width }
+        ensures { result ≡ is_right (cell_at (here self.now.screen.display + 1) self.now.screen.display.cells).part }
+    {
+        let columns = self.screen.columns();
+        let place = self.screen.cursor();
+        if place.column + 1 < columns {
+            self.is_right_at(place.row, place.column + 1)
+        } else {
+            self.is_right_at(place.row + 1, 0)
+        }
     }
 
     /// Whether the cursor's row begins with the right half of a wide character.
     fn begins_with_right(&self) -> bool
         ensures { result ≡ begins_with_right self.now.screen.display }
     {
-        self.is_right_at(self.screen.row_end() - self.screen.columns())
+        // The sizes are within their limits.
+        let _ = self.screen.columns();
+        self.is_right_at(self.screen.cursor().row, 0)
     }
 
     /// The first row in which a character can change cells: the cursor's; or the one above it, where the left half
@@ -186,8 +203,7 @@ impl Tracked {
     {
         let columns = self.screen.columns();
         let column = self.screen.cursor().column;
-        let start = self.screen.row_end() - columns;
-        c < FIRST_MARK && 0 < column && column < columns && !self.is_right_at(start + column + 1)
+        c < FIRST_MARK && 0 < column && column < columns && !self.is_right_behind()
     }
 
     /// Whether neither the cursor's row nor the two below it begin with the right half of a wide character: so that what
@@ -202,11 +218,10 @@ impl Tracked {
             self.now.screen.display.cells).part ≡ false }
         ensures sized { IsSized self.now.screen.display }
     {
-        let columns = self.screen.columns();
-        let next = self.screen.row_end();
-        !self.is_right_at(next - columns)
-            && !self.is_right_at(next)
-            && !self.is_right_at(next + columns)
+        // The sizes are within their limits.
+        let _ = self.screen.columns();
+        let row = self.screen.cursor().row;
+        !self.is_right_at(row, 0) && !self.is_right_at(row + 1, 0) && !self.is_right_at(row + 2, 0)
     }
 
     /// What can have changed behind a character too. Where it has room in the row, no wrap comes, and it is this row, or

@@ -7,6 +7,7 @@ ghost use Rattle.screen_draw.specs.Update.{update_calls};
 ghost use Rattle.std.specs.Prelude.{◌≡◌};
 
 use crate::alike::{is_steady, looks_same};
+use crate::buffer::Buffer;
 use crate::calls::{put_escape, put_private_mode};
 use crate::changed::Changed;
 use crate::changes::put_changes;
@@ -25,12 +26,7 @@ fn put_covered<W: Sink>(output: &mut Output<W>, screen: &Screen)
     ensures { Draws W.Sink (covered_calls screen.now.display) output.old output.new }
 {
     if screen.is_alternate() {
-        put_screen(
-            output,
-            screen.columns(),
-            screen.hidden_saved(),
-            screen.hidden_cells(),
-        );
+        put_screen(output, screen, Buffer::Hidden);
         put_escape(output, b'8');
         put_private_mode(output, ALTERNATE, true);
     }
@@ -41,7 +37,7 @@ pub(crate) fn put_shown_screen<W: Sink>(output: &mut Output<W>, screen: &Screen)
     ensures { Draws W.Sink (shown_screen_calls screen.now.display) output.old output.new }
 {
     put_covered(output, screen);
-    put_screen(output, screen.columns(), screen.saved(), screen.cells());
+    put_screen(output, screen, Buffer::Shown);
     put_rest(output, screen);
 }
 

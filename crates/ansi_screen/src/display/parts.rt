@@ -1,43 +1,32 @@
 //! What decides what a call does, as it stands.
-ghost use Rattle.std.specs.Prelude.{◌≡◌, ◌≤◌, ◌-◌, length};
+ghost use Rattle.std.specs.Prelude.{◌≡◌, ◌<◌, ◌*◌, ◌-◌, length, take, drop};
 ghost use Rattle.ansi_screen.specs.Cells.{cell_at};
-ghost use Rattle.ansi_screen.specs.Display.{IsSized, row_start, row_end};
+ghost use Rattle.ansi_screen.specs.Display.{IsSized, row_start};
 
 use crate::cell::Cell;
 use crate::display::Display;
 use crate::place::Place;
 
 impl Display {
-    /// All cells, row by row.
-    pub(crate) fn cells(&self) -> &[Cell]
-        ensures { result.now ≡ self.now.cells }
+    /// The cells of a row of the screen that is hidden, counted from 0.
+    pub(crate) fn hidden_row(&self, row: usize) -> &[Cell]
+        requires { row < self.now.height }
+        ensures cells { result.now ≡ take self.now.width (drop (row * self.now.width) self.now.hidden) }
+        ensures columns { length result.now ≡ self.now.width }
     {
-        self.cells.as_slice()
-    }
-
-    /// While the alternate screen shows, the cells of the main one.
-    pub(crate) fn hidden(&self) -> &[Cell]
-        ensures { result.now ≡ self.now.hidden }
-    {
-        self.hidden.as_slice()
-    }
-
-    /// Where the cursor's row ends in the list of cells.
-    pub(crate) fn row_end(&self) -> usize
-        ensures place { result ≡ row_end self.now }
-        ensures some { 2 ≤ result }
-        ensures within { result ≤ length self.now.cells }
-    {
-        self.row_start() + self.width
+        let start = row * self.width;
+        &self.hidden.as_slice()[start..start + self.width]
     }
 
     /// Whether the row above the cursor's goes on in it.
     pub(crate) fn is_continued(&self) -> bool
         ensures { result ≡ (cell_at (row_start self.now - 1) self.now.cells).goes_on }
     {
-        let cells = self.cells();
-        let last = self.row_start().saturating_sub(1);
-        last < cells.len() && cells[last].goes_on
+        if self.cursor.row == 0 {
+            self.row(0)[0].goes_on
+        } else {
+            self.row(self.cursor.row - 1)[self.width - 1].goes_on
+        }
     }
 
     /// What DECSC saved on the screen that shows.

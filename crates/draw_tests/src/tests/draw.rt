@@ -56,12 +56,22 @@ fn parts(rt: HostRuntime) -> Result<(), Fail> {
 #[test]
 fn cells(rt: HostRuntime) -> Result<(), Fail> {
     let screen = shown(rt.alloc(), PARTS)?;
-    let (cells, hidden) = (screen.cells(), screen.hidden_cells());
-    assert!(rt; cells.len() == 27 && hidden.len() == 27);
-    assert_eq!(rt; (cells[18].character, hidden[0].character), ('y', 'x'));
-    assert!(rt; !cells[18].is_right());
-    assert_eq!(rt; screen.row_end(), 27);
+    assert!(rt; screen.rows() == 3 && screen.columns() == 9);
+    let (cells, hidden) = (screen.row(2), screen.hidden_row(0));
+    assert!(rt; cells.len() == 9 && hidden.len() == 9);
+    assert_eq!(rt; (cells[0].character, hidden[0].character), ('y', 'x'));
+    assert!(rt; !cells[0].is_right());
     Ok(())
+}
+
+/// Two screens have the same cells in each row, and in each that is hidden.
+fn assert_same_rows(rt: &impl Abort, a: &Screen, b: &Screen) {
+    assert_eq!(rt; (a.columns(), a.rows()), (b.columns(), b.rows()));
+    for row in 0..a.rows() {
+        assert!(rt; row < b.rows());
+        assert_eq!(rt; a.row(row), b.row(row));
+        assert_eq!(rt; a.hidden_row(row), b.hidden_row(row));
+    }
 }
 
 #[test]
@@ -99,8 +109,7 @@ fn bytes_of(rt: &impl Abort, output: Output<FromWrite<Vec<u8>>>) -> Vec<u8> {
 
 /// A screen has the cells and stops of another, and what [`PARTS`] leads to besides.
 fn assert_has_parts(rt: &impl Abort, again: &Screen, screen: &Screen) {
-    assert_eq!(rt; again.cells(), screen.cells());
-    assert_eq!(rt; again.hidden_cells(), screen.hidden_cells());
+    assert_same_rows(rt, again, screen);
     assert_eq!(rt; again.stops(), screen.stops());
     assert_eq!(rt; (again.cursor(), again.saved()), (place(2, 1), place(1, 3)));
     assert_eq!(rt;
@@ -138,8 +147,7 @@ fn a_screen_that_catches_up(rt: HostRuntime) -> Result<(), Fail> {
     assert_has_parts(&rt, &screen, &parts);
     let other = shown(rt.alloc(), b"three")?;
     catch_up(&rt, &mut screen, &other);
-    assert_eq!(rt; screen.cells(), other.cells());
-    assert_eq!(rt; screen.hidden_cells(), other.hidden_cells());
+    assert_same_rows(&rt, &screen, &other);
     assert_eq!(rt; (screen.cursor(), screen.margins()), (place(0, 5), (0, 3)));
     assert!(rt; !screen.is_alternate() && screen.wraps() && !screen.inserts());
     Ok(())
@@ -199,7 +207,7 @@ fn updates_of_a_stream(rt: HostRuntime) -> Result<(), Fail> {
             .ends_with(b"\x1b[?25h\x1b[2;2H\x1b[0;1mX")
     );
     let again = shown(rt.alloc(), written.as_slice())?;
-    assert_eq!(rt; again.cells(), last.screen().cells());
+    assert_same_rows(&rt, &again, last.screen());
     assert_eq!(rt; again.cursor(), last.screen().cursor());
     Ok(())
 }
@@ -310,6 +318,6 @@ fn updates_of_what_is_noted(rt: HostRuntime) -> Result<(), Fail> {
     );
     let written = bytes_of(&rt, output);
     assert_eq!(rt; written.as_slice(), b"\x1b[2;2H\x1b[0;1mXY".as_slice());
-    assert_eq!(rt; first.cells(), last.screen().cells());
+    assert_same_rows(&rt, &first, last.screen());
     Ok(())
 }

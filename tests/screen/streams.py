@@ -77,7 +77,7 @@ def every_piece(draw, width, height):
     repeated = ["\x1b[b", "a\x1b[%sb" % some, "\x1b[65535b", "漢\x1b[%sb" % some]
     modes = ["\x1b[?6;7h", "\x1b[?7;6l", "\x1b[4;5h", "\x1b[?25l", "\x1b[7h", "\x1b[?6h\x1b7"]
     tabs = ["\x1bH\r\t", "\x1b[9G\x1b[g\r\t", "\x1b[3g\t", "\t\x1b[%sI" % some, "\x1b[%sZ" % some]
-    saved = ["\x1b7", "\x1b8", "\x1b[?1049h", "\x1b[?1049l", "\x1bc"]
+    saved = ["\x1b7", "\x1b8", "\x1b[s", "\x1b[u", "\x1b[?1049h", "\x1b[?1049l", "\x1bc"]
     unknown = ["\x1b[?5J", "\x1b[2$X", "\x1b[31;44m", "\x1b]0;t\x07", "\x1b=", "\x1b(A", "\x1b*0", "\x1b[%sy" % some]
     return draw.choice([text, late, *map(draw.choice, (moves, repeated, modes, tabs, saved, saved, unknown))])
 
@@ -144,12 +144,12 @@ def mixed_piece(draw):
         return draw.choice(["\r", "\n", "\b", "\t", "\r\n", "\x0b", "\x0c", "\x07", "\x0e", "\x0f"])
     if kind < 0.78:
         fields = number(draw) + draw.choice(["", ";" + number(draw)])
-        return "\x1b[%s%s" % (fields, draw.choice("@ABCDEFGHIJKLMPSTXZ`abbdfgrHHHrn"))
+        return "\x1b[%s%s" % (fields, draw.choice("@ABCDEFGHIJKLMPSTXZ`abbdefgrsuHHHrn"))
     if kind < 0.86:
         modes = ["?6", "?7", "?25", "?1049", "4", "?6;7", "4;5", "?4", "7"]
         return "\x1b[%s%s" % (draw.choice(modes), draw.choice("hl"))
     if kind < 0.94:
-        return "\x1b" + draw.choice([*"778DEHM78DEHMc=", "(0", "(B", ")0", ")B", "(0", "*0", "(A"])
+        return "\x1b" + draw.choice([*"778DEHM78DEHMc=", "[s", "[u", "(0", "(B", ")0", ")B", "(0", "*0", "(A"])
     return draw.choice(["\x1b[31m", "\x1b[0;44m", "\x1b[1m", "\x1b[4;31m", "\x1b[m", "\x1b]0;t\x07", "\x1b[3;4:2H", "\x1b[?5J", "\x1b[2$X", "\x1b[!p", "\x7f"])
 
 

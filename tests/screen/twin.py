@@ -318,6 +318,7 @@ class Display:
         "`": lambda s, n, m: s.to_column(n - 1),
         "a": lambda s, n, m: s.to_column(s.cursor.column + n),
         "d": lambda s, n, m: s.to_line(n - 1),
+        "e": lambda s, n, m: s.to_line(s.cursor.row - (s.top if s.cursor.is_relative else 0) + n),
         "f": lambda s, n, m: s.to_position(n - 1, m - 1),
         "Z": lambda s, n, m: s.times(n, s.tab_back),
     }
@@ -359,6 +360,10 @@ class Display:
             self.times(max(1, first), self.tab)
         elif final == "b" and self.last:
             self.times(max(1, first), lambda: self.print_again(self.last))
+        elif final == "s" and fields == [0]:
+            self.saved = self.cursor.copy()
+        elif final == "u" and fields == [0]:
+            self.restore()
         elif final == "r":
             self.margins(first, second)
         elif final == "g" and first == 0:

@@ -7,7 +7,7 @@ use Rattle.anstyle_parse.specs.Stream.Call.{csi_dispatch}
 use Rattle.ansi_screen.specs.declared.function.Function.{Function}
 use Rattle.ansi_screen.specs.declared.function.Function.TheVariants.{Moves, Sets, Nothing}
 use Rattle.ansi_screen.specs.declared.function.Move.{Move}
-use Rattle.ansi_screen.specs.declared.function.Move.TheVariants.{Up, Down, Forward, Back, NextLine, PrecedingLine, Column, Line, Position, BackTab}
+use Rattle.ansi_screen.specs.declared.function.Move.TheVariants.{Up, Down, Forward, Back, NextLine, PrecedingLine, Column, Line, LineForward, Position, BackTab}
 use Rattle.ansi_screen.specs.declared.function.Setting.{Setting}
 use Rattle.ansi_screen.specs.declared.function.Setting.TheVariants.{Rendition, ForwardTab}
 use Rattle.ansi_screen.specs.Alone.{moves_alone}
@@ -48,6 +48,7 @@ alone-moved NextLine n column d = refl
 alone-moved PrecedingLine n column d = refl
 alone-moved Column n column d = refl
 alone-moved Line n column d = refl
+alone-moved LineForward n column d = refl
 alone-moved Position n column d = refl
 alone-moved BackTab n column d = alone-times tabbed_back alone-tabbed_back (min (count n) d.width) d
 

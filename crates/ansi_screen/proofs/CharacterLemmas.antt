@@ -16,9 +16,9 @@ use Rattle.ansi_screen.specs.declared.cell.Marks.TheVariants.{Unmarked, One, Two
 use Rattle.ansi_screen.specs.declared.function.Edit.{Edit}
 use Rattle.ansi_screen.specs.declared.function.Edit.TheVariants.{InsertCharacters, EraseInDisplay, EraseInLine, InsertLines, DeleteLines, DeleteCharacters, EraseCharacters}
 use Rattle.ansi_screen.specs.declared.function.Move.{Move}
-use Rattle.ansi_screen.specs.declared.function.Move.TheVariants.{Up, Down, Forward, Back, NextLine, PrecedingLine, Column, Line, Position, BackTab}
+use Rattle.ansi_screen.specs.declared.function.Move.TheVariants.{Up, Down, Forward, Back, NextLine, PrecedingLine, Column, Line, LineForward, Position, BackTab}
 use Rattle.ansi_screen.specs.declared.function.Setting.{Setting}
-use Rattle.ansi_screen.specs.declared.function.Setting.TheVariants.{Rendition, SetModes, ResetModes, Margins, ScrollUp, ScrollDown, ForwardTab, ClearStops}
+use Rattle.ansi_screen.specs.declared.function.Setting.TheVariants.{Rendition, SetModes, ResetModes, Margins, ScrollUp, ScrollDown, ForwardTab, ClearStops, SaveCursor, RestoreCursor}
 use Rattle.ansi_screen.specs.declared.function.Function.{Function}
 use Rattle.ansi_screen.specs.declared.function.Function.TheVariants.{Edits, Moves, Sets, Nothing}
 use Rattle.ansi_screen.specs.Cells.{blank, emptied, with_mark, one_more, is_right, cell_at, marked_before, going_on, cut, within, change, erased, moved_back, moved_on}
@@ -28,7 +28,7 @@ use Rattle.ansi_screen.specs.Edits.{with_cells, space, row_going_on, erased_cell
 use Rattle.ansi_screen.specs.Widths.{is_shown, columns}
 use Rattle.ansi_screen.specs.Print.{glyph, wrapped, with_room, with_glyph, put, marked, shown, line_drawing, drawn, draws, printed, printed_again}
 use Rattle.ansi_screen.specs.Modes.{with_charset, restored, with_origin, with_margins, to_alternate, to_main, with_alternate, softly_reset, with_private_mode, with_mode, with_modes, first_field}
-use Rattle.ansi_screen.specs.After.{State, function_of, first_of, second_of, count, is_known, edited, moved, set as set_by, controlled, sequenced, executed, escaped, designated, repeated, repeatable, is_repeat, after, after_all}
+use Rattle.ansi_screen.specs.After.{State, function_of, first_of, second_of, is_bare, count, is_known, edited, moved, set as set_by, controlled, sequenced, executed, escaped, designated, repeated, repeatable, is_repeat, after, after_all}
 use Rattle.ansi_screen.specs.Leaving.{swapped, main_screen, is_wrapping, leaving, before_escape, before_scroll, first_rows, rows_left, all_left}
 
 -- a character that may be printed and is shown; such marks, cells and displays
@@ -373,6 +373,7 @@ good-moved NextLine n column d s = s
 good-moved PrecedingLine n column d s = s
 good-moved Column n column d s = s
 good-moved Line n column d s = s
+good-moved LineForward n column d s = s
 good-moved Position n column d s = s
 good-moved BackTab n column d s = good-times tabbed_back good-tabbed_back (min (count n) d.width) d s
 
@@ -387,6 +388,8 @@ good-settings ScrollDown groups d s = good-rows_down (count (first_of groups)) d
 good-settings ForwardTab groups d s = good-times tabbed good-tabbed (min (count (first_of groups)) d.width) d s
 good-settings ClearStops groups d s =
     good-if (first_of groups == 0) (with_stop false d) _ s (good-if (first_of groups == 3) _ d s s)
+good-settings SaveCursor groups d s = good-if (is_bare groups) _ d s s
+good-settings RestoreCursor groups d s = good-if (is_bare groups) (restored d) d (good-restored d s) s
 
 good-controlled : (function : Function) (groups : List (List ℕ)) (d : Display) → HasGood d → HasGood (controlled function groups d)
 unfolding controlled

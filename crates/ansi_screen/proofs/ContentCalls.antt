@@ -9,9 +9,9 @@ use Rattle.anstyle_parse.specs.Stream.Bytes.{is_within}
 use Rattle.anstyle_parse.specs.Stream.Call.{Call, print, execute, hook, put as put_byte, unhook, osc_dispatch, csi_dispatch, esc_dispatch}
 use Rattle.ansi_style.specs.Style.{plain}
 use Rattle.ansi_screen.specs.declared.function.Move.{Move}
-use Rattle.ansi_screen.specs.declared.function.Move.TheVariants.{Up, Down, Forward, Back, NextLine, PrecedingLine, Column, Line, Position, BackTab}
+use Rattle.ansi_screen.specs.declared.function.Move.TheVariants.{Up, Down, Forward, Back, NextLine, PrecedingLine, Column, Line, LineForward, Position, BackTab}
 use Rattle.ansi_screen.specs.declared.function.Setting.{Setting}
-use Rattle.ansi_screen.specs.declared.function.Setting.TheVariants.{Rendition, SetModes, ResetModes, Margins, ScrollUp, ScrollDown, ForwardTab, ClearStops}
+use Rattle.ansi_screen.specs.declared.function.Setting.TheVariants.{Rendition, SetModes, ResetModes, Margins, ScrollUp, ScrollDown, ForwardTab, ClearStops, SaveCursor, RestoreCursor}
 use Rattle.ansi_screen.specs.declared.function.Function.{Function}
 use Rattle.ansi_screen.specs.declared.function.Function.TheVariants.{Edits, Moves, Sets, Nothing}
 use Rattle.ansi_screen.specs.Cells.{blank}
@@ -21,7 +21,7 @@ use Rattle.ansi_screen.specs.Edits.{space, index, reverse_index}
 use Rattle.ansi_screen.specs.Widths.{is_shown, columns}
 use Rattle.ansi_screen.specs.Print.{line_drawing, shown, drawn, draws, printed, printed_again}
 use Rattle.ansi_screen.specs.Modes.{saving, shifted, with_charset, restored, with_origin, with_margins, to_alternate, to_main, with_alternate, softly_reset, with_private_mode, with_mode, with_modes, first_field}
-use Rattle.ansi_screen.specs.After.{State, function_of, first_of, second_of, count, is_known, edited, moved, set as set_by, controlled, sequenced, executed, escaped, designated, repeated, is_repeat, after, after_all}
+use Rattle.ansi_screen.specs.After.{State, function_of, first_of, second_of, is_bare, count, is_known, edited, moved, set as set_by, controlled, sequenced, executed, escaped, designated, repeated, is_repeat, after, after_all}
 use Rattle.ansi_screen.specs.Reachable.{IsScreen, HasContents}
 use Rattle.ansi_screen.proofs.CharacterLemmas.{at-good, drawing-good}
 use Rattle.ansi_screen.proofs.ColorLemmas.{selected-colors}
@@ -145,6 +145,7 @@ holds-moved NextLine n column d s = s
 holds-moved PrecedingLine n column d s = s
 holds-moved Column n column d s = s
 holds-moved Line n column d s = s
+holds-moved LineForward n column d s = s
 holds-moved Position n column d s = s
 holds-moved BackTab n column d s = holds-times tabbed_back holds-tabbed_back (min (count n) d.width) d s
 
@@ -159,6 +160,8 @@ holds-set ScrollDown groups d s = holds-rows_down (count (first_of groups)) d.to
 holds-set ForwardTab groups d s = holds-times tabbed holds-tabbed (min (count (first_of groups)) d.width) d s
 holds-set ClearStops groups d s =
     holds-if (first_of groups == 0) (with_stop false d) _ s (holds-if (first_of groups == 3) _ d s s)
+holds-set SaveCursor groups d s = holds-if (is_bare groups) (saving d) d (s.0, s.1, s.2, s.2, s.4, s.5, s.6) s
+holds-set RestoreCursor groups d s = holds-if (is_bare groups) (restored d) d (holds-restored d s) s
 
 holds-controlled : (function : Function) (groups : List (List ℕ)) (d : Display) → Holds d → Holds (controlled function groups d)
 unfolding controlled

@@ -12,21 +12,21 @@ use Rattle.ansi_screen.specs.declared.place.Place.{Place}
 use Rattle.ansi_screen.specs.declared.function.Edit.{Edit}
 use Rattle.ansi_screen.specs.declared.function.Edit.TheVariants.{InsertCharacters, EraseInDisplay, EraseInLine, InsertLines, DeleteLines, DeleteCharacters, EraseCharacters}
 use Rattle.ansi_screen.specs.declared.function.Move.{Move}
-use Rattle.ansi_screen.specs.declared.function.Move.TheVariants.{Up, Down, Forward, Back, NextLine, PrecedingLine, Column, Line, Position, BackTab}
+use Rattle.ansi_screen.specs.declared.function.Move.TheVariants.{Up, Down, Forward, Back, NextLine, PrecedingLine, Column, Line, LineForward, Position, BackTab}
 use Rattle.ansi_screen.specs.declared.function.Setting.{Setting}
-use Rattle.ansi_screen.specs.declared.function.Setting.TheVariants.{Rendition, SetModes, ResetModes, Margins, ScrollUp, ScrollDown, ForwardTab, ClearStops}
+use Rattle.ansi_screen.specs.declared.function.Setting.TheVariants.{Rendition, SetModes, ResetModes, Margins, ScrollUp, ScrollDown, ForwardTab, ClearStops, SaveCursor, RestoreCursor}
 use Rattle.ansi_screen.specs.declared.function.Function.{Function}
 use Rattle.ansi_screen.specs.declared.function.Function.TheVariants.{Edits, Moves, Sets, Nothing}
 use Rattle.ansi_screen.specs.Cells.{blank, is_right, marked_before}
 use Rattle.ansi_screen.specs.Display.{Display, here, row_end, stops, blanks, fresh, most_columns, most_rows}
 use Rattle.ansi_screen.specs.Links.{commanded}
-use Rattle.ansi_screen.specs.Moves.{to_row, to_column, settled, up, down, to_position, tabbed, tabbed_back, with_stop}
+use Rattle.ansi_screen.specs.Moves.{to_row, to_column, settled, up, down, line_of, to_position, tabbed, tabbed_back, with_stop}
 use Rattle.ansi_screen.specs.Edits.{space, with_cells, row_going_on, inserted_characters, index, reverse_index}
 use Rattle.ansi_screen.specs.Widths.{is_shown, columns, is_among}
 use Rattle.ansi_screen.specs.Ranges.{no_column, two_columns}
 use Rattle.ansi_screen.specs.Print.{wrapped, with_room, with_glyph, put, marked, shown, drawn, draws, printed, printed_again}
 use Rattle.ansi_screen.specs.Modes.{with_style, shifted, with_charset, saving, restored, with_origin, with_margins, to_alternate, to_main, with_alternate, softly_reset, with_private_mode, with_mode, with_modes, first_field}
-use Rattle.ansi_screen.specs.After.{State, function_of, first_of, second_of, count, is_known, edited, moved, set as set_by, controlled, sequenced, executed, escaped, designated, repeated, is_repeat, after, after_all}
+use Rattle.ansi_screen.specs.After.{State, function_of, first_of, second_of, is_bare, count, is_known, edited, moved, set as set_by, controlled, sequenced, executed, escaped, designated, repeated, is_repeat, after, after_all}
 use Rattle.ansi_screen.specs.Reachable.{is_left, IsWhole, IsScreen}
 use Rattle.ansi_screen.proofs.PairLemmas.{paired-replicate, right-replicate}
 use Rattle.ansi_screen.proofs.WholeLemmas.{whole-glyph, length-put, whole-marked, length-marked}
@@ -262,6 +262,7 @@ kept-moved NextLine n column d s = kept-column 0 (down (count n) d) (kept-down (
 kept-moved PrecedingLine n column d s = kept-column 0 (up (count n) d) (kept-up (count n) d s)
 kept-moved Column n column d s = kept-column (count n - 1) d s
 kept-moved Line n column d s = kept-line (count n - 1) d s
+kept-moved LineForward n column d s = kept-line (line_of d + count n) d s
 kept-moved Position n column d s = kept-position (count n - 1) (count column - 1) d s
 kept-moved BackTab n column d s = kept-times tabbed_back kept-tabbed_back (min (count n) d.width) d s
 
@@ -275,6 +276,8 @@ kept-set ScrollUp groups d s = kept-scrolled_up (count (first_of groups)) d s
 kept-set ScrollDown groups d s = kept-scrolled_down (count (first_of groups)) d s
 kept-set ForwardTab groups d s = kept-times tabbed kept-tabbed (min (count (first_of groups)) d.width) d s
 kept-set ClearStops groups d s = kept-cleared (first_of groups) d s
+kept-set SaveCursor groups d s = kept-if (is_bare groups) (saving d) d (λ bare. kept-saving d s) (λ numbers. s)
+kept-set RestoreCursor groups d s = kept-if (is_bare groups) (restored d) d (λ bare. kept-restored d s) (λ numbers. s)
 
 kept-controlled : (function : Function) (groups : List (List ℕ)) (d : Display) → IsScreen d → IsScreen (controlled function groups d)
 unfolding controlled

@@ -8,7 +8,7 @@ use Rattle.anstyle_parse.specs.Stream.Call.{Call, print, execute, hook, put, unh
 use Rattle.anstyle_parse.proofs.Division.Only.{AreCalls-only}
 use Rattle.ansi_screen.specs.declared.place.Place.{Place}
 use Rattle.ansi_screen.specs.declared.function.Move.{Move}
-use Rattle.ansi_screen.specs.declared.function.Move.TheVariants.{Up, Down, Forward, Back, NextLine, PrecedingLine, Column, Line, Position, BackTab}
+use Rattle.ansi_screen.specs.declared.function.Move.TheVariants.{Up, Down, Forward, Back, NextLine, PrecedingLine, Column, Line, LineForward, Position, BackTab}
 use Rattle.ansi_screen.specs.declared.function.Function.{Function}
 use Rattle.ansi_screen.specs.declared.function.Function.TheVariants.{Moves, Nothing}
 use Rattle.ansi_screen.specs.declared.function.Setting.TheVariants.{Rendition}
@@ -41,6 +41,7 @@ moved-cursor NextLine n m d = refl
 moved-cursor PrecedingLine n m d = refl
 moved-cursor Column n m d = refl
 moved-cursor Line n m d = refl
+moved-cursor LineForward n m d = refl
 moved-cursor Position n m d = refl
 moved-cursor BackTab n m d = back-cursor (min (count n) d.width) (settled d)
 

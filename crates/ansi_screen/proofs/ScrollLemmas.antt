@@ -10,15 +10,15 @@ use Rattle.anstyle_parse.specs.Stream.Call.{Call, print, execute, hook, put, unh
 use Rattle.ansi_screen.specs.declared.cell.Cell.{Cell}
 use Rattle.ansi_screen.specs.declared.function.Function.{Function}
 use Rattle.ansi_screen.specs.declared.function.Function.TheVariants.{Edits, Moves, Sets, Nothing}
-use Rattle.ansi_screen.specs.declared.function.Setting.TheVariants.{Rendition, SetModes, ResetModes, Margins, ScrollUp, ScrollDown, ForwardTab, ClearStops}
+use Rattle.ansi_screen.specs.declared.function.Setting.TheVariants.{Rendition, SetModes, ResetModes, Margins, ScrollUp, ScrollDown, ForwardTab, ClearStops, SaveCursor, RestoreCursor}
 use Rattle.ansi_screen.specs.Cells.{moved_back, within}
 use Rattle.ansi_screen.specs.Display.{Display}
 use Rattle.ansi_screen.specs.Moves.{to_column, settled, tabbed, with_stop, cleared_stops}
 use Rattle.ansi_screen.specs.Edits.{space, row_going_on, rows_up, scrolled_up, index}
 use Rattle.ansi_screen.specs.Widths.{is_shown, columns}
 use Rattle.ansi_screen.specs.Print.{wrapped}
-use Rattle.ansi_screen.specs.Modes.{with_mode, with_modes, with_margins, with_charset, restored, first_field}
-use Rattle.ansi_screen.specs.After.{State, function_of, first_of, second_of, count, set, controlled, executed, escaped, designated}
+use Rattle.ansi_screen.specs.Modes.{with_mode, with_modes, with_margins, with_charset, saving, restored, first_field}
+use Rattle.ansi_screen.specs.After.{State, function_of, first_of, second_of, is_bare, count, set, controlled, executed, escaped, designated}
 use Rattle.ansi_screen.specs.Leaving.{leaving_up, leaving_by_index, is_wrapping, leaving_by_control, leaving_by_escape, leaving_by_function, leaving_by_sequence, leaving, main_screen, before_escape, before_scroll}
 use Rattle.ansi_screen.specs.Reachable.{IsScreen}
 use Rattle.ansi_screen.specs.Laws.{EditsNothing, KeepsRows, once_scrolled}
@@ -120,6 +120,10 @@ margin-cells first last d = same-if d.cells _ _ d refl refl
 stop-cells : (kind : ℕ) (d : Display) → (cleared_stops kind d).cells ≡ d.cells
 stop-cells kind d = same-if d.cells (kind == 0) (with_stop false d) _ refl (same-if d.cells (kind == 3) _ d refl refl)
 
+restored-cells : (d : Display) → (restored d).cells ≡ d.cells
+unfolding restored
+restored-cells d = same-if d.cells d.saved.is_relative _ _ refl refl
+
 -- by a control function
 control-up : (function : Function) (groups : List (List ℕ)) (d : Display) → IsScreen d → d.top ≡ 0 → d.is_alternate ≡ false
     → EditsNothing function → (controlled function groups d).cells ≡ up_by (leaving_by_function function groups d) d
@@ -135,6 +139,8 @@ control-up (Sets ScrollUp) groups d s top main steady = scrolled-up d s top main
 control-up (Sets ScrollDown) groups d s top main never = absurd never
 control-up (Sets ForwardTab) groups d s top main steady = tabs-cells (min (count (first_of groups)) d.width) d ∙ sym (up-none d)
 control-up (Sets ClearStops) groups d s top main steady = stop-cells (first_of groups) d ∙ sym (up-none d)
+control-up (Sets SaveCursor) groups d s top main steady = same-if d.cells (is_bare groups) (saving d) d refl refl ∙ sym (up-none d)
+control-up (Sets RestoreCursor) groups d s top main steady = same-if d.cells (is_bare groups) (restored d) d (restored-cells d) refl ∙ sym (up-none d)
 control-up Nothing groups d s top main steady = sym (up-none d)
 
 -- by a control: LF, VT and FF, and all others
@@ -183,10 +189,6 @@ escaped-index : (final : ℕ) (d : Display) → (final ≡ 0x44) ⊎ (final ≡ 
 unfolding escaped
 escaped-index final d (inl is) s top main = rw is (settled-up d s top main)
 escaped-index final d (inr is) s top main = rw is (first-up d s top main)
-
-restored-cells : (d : Display) → (restored d).cells ≡ d.cells
-unfolding restored
-restored-cells d = same-if d.cells d.saved.is_relative _ _ refl refl
 
 or-left : (a b : Bool) → (a || b) ≡ false → (a ≡ false) × (b ≡ false)
 or-left true b is = cc is

@@ -7,9 +7,9 @@ use Rattle.anstyle_parse.specs.Stream.Call.{Call, print, execute, hook, put as p
 use Rattle.ansi_screen.specs.declared.function.Edit.{Edit}
 use Rattle.ansi_screen.specs.declared.function.Edit.TheVariants.{InsertCharacters, EraseInDisplay, EraseInLine, InsertLines, DeleteLines, DeleteCharacters, EraseCharacters}
 use Rattle.ansi_screen.specs.declared.function.Move.{Move}
-use Rattle.ansi_screen.specs.declared.function.Move.TheVariants.{Up, Down, Forward, Back, NextLine, PrecedingLine, Column, Line, Position, BackTab}
+use Rattle.ansi_screen.specs.declared.function.Move.TheVariants.{Up, Down, Forward, Back, NextLine, PrecedingLine, Column, Line, LineForward, Position, BackTab}
 use Rattle.ansi_screen.specs.declared.function.Setting.{Setting}
-use Rattle.ansi_screen.specs.declared.function.Setting.TheVariants.{Rendition, SetModes, ResetModes, Margins, ScrollUp, ScrollDown, ForwardTab, ClearStops}
+use Rattle.ansi_screen.specs.declared.function.Setting.TheVariants.{Rendition, SetModes, ResetModes, Margins, ScrollUp, ScrollDown, ForwardTab, ClearStops, SaveCursor, RestoreCursor}
 use Rattle.ansi_screen.specs.declared.function.Function.{Function}
 use Rattle.ansi_screen.specs.declared.function.Function.TheVariants.{Edits, Moves, Sets, Nothing}
 use Rattle.ansi_screen.specs.Display.{Display, row_start, row_end, fresh}
@@ -18,7 +18,7 @@ use Rattle.ansi_screen.specs.Edits.{row_going_on, erased_part, erased_display, e
 use Rattle.ansi_screen.specs.Widths.{is_shown, columns}
 use Rattle.ansi_screen.specs.Print.{wrapped, with_room, with_glyph, put, marked, shown, drawn, draws, printed, printed_again}
 use Rattle.ansi_screen.specs.Modes.{with_charset, restored, with_origin, with_margins, to_alternate, to_main, with_alternate, softly_reset, with_private_mode, with_mode, with_modes, first_field}
-use Rattle.ansi_screen.specs.After.{State, function_of, first_of, second_of, count, is_known, edited, moved, set as set_by, controlled, sequenced, executed, escaped, designated, repeated, is_repeat, after, after_all}
+use Rattle.ansi_screen.specs.After.{State, function_of, first_of, second_of, is_bare, count, is_known, edited, moved, set as set_by, controlled, sequenced, executed, escaped, designated, repeated, is_repeat, after, after_all}
 use Rattle.ansi_screen.specs.Text.{is_unprinted, used_rows}
 use Rattle.ansi_screen.specs.Leaving.{swapped, main_screen, printed_count, leaving_up, leaving_by_index, is_wrapping, leaving_by_control, leaving_by_escape, leaving_by_function, leaving_by_sequence, leaving}
 
@@ -195,6 +195,7 @@ module _ (width height : ℕ) where
   sized-moved PrecedingLine n column d s = s
   sized-moved Column n column d s = s
   sized-moved Line n column d s = s
+  sized-moved LineForward n column d s = s
   sized-moved Position n column d s = s
   sized-moved BackTab n column d s = sized-times tabbed_back sized-tabbed_back (min (count n) d.width) d s
 
@@ -209,6 +210,8 @@ module _ (width height : ℕ) where
   sized-settings ForwardTab groups d s = sized-times tabbed sized-tabbed (min (count (first_of groups)) d.width) d s
   sized-settings ClearStops groups d s =
       sized-if (first_of groups == 0) (with_stop false d) _ s (sized-if (first_of groups == 3) _ d s s)
+  sized-settings SaveCursor groups d s = sized-if (is_bare groups) _ d s s
+  sized-settings RestoreCursor groups d s = sized-if (is_bare groups) (restored d) d (sized-restored d s) s
 
   sized-controlled : (function : Function) (groups : List (List ℕ)) (d : Display) → HasSize d → HasSize (controlled function groups d)
   unfolding controlled
@@ -327,6 +330,8 @@ module _ (width height : ℕ) where
   few-function (Sets ScrollDown) groups d s = omega arith
   few-function (Sets ForwardTab) groups d s = omega arith
   few-function (Sets ClearStops) groups d s = omega arith
+  few-function (Sets SaveCursor) groups d s = omega arith
+  few-function (Sets RestoreCursor) groups d s = omega arith
   few-function Nothing groups d s = omega arith
 
   few-sequence : (groups : List (List ℕ)) (intermediates : List ℕ) (final : ℕ) (d : Display) → HasSize d → leaving_by_sequence groups intermediates final d ≤ height

@@ -4,7 +4,7 @@ use Rattle.std.specs.Prelude.{◌⊎◌, min, nat_lt, nat_le, ◌==◌, ◌||◌
 use Rattle.std.specs.Fn.{iterate}
 use Rattle.anstyle_parse.specs.Stream.Call.{Call, print, execute, hook, put as put_byte, unhook, osc_dispatch, csi_dispatch, esc_dispatch}
 use Rattle.ansi_screen.specs.declared.function.Edit.TheVariants.{InsertCharacters, EraseInDisplay, EraseInLine, InsertLines, DeleteLines, DeleteCharacters, EraseCharacters}
-use Rattle.ansi_screen.specs.declared.function.Setting.TheVariants.{Rendition, SetModes, ResetModes, Margins, ScrollUp, ScrollDown, ForwardTab, ClearStops}
+use Rattle.ansi_screen.specs.declared.function.Setting.TheVariants.{Rendition, SetModes, ResetModes, Margins, ScrollUp, ScrollDown, ForwardTab, ClearStops, SaveCursor, RestoreCursor}
 use Rattle.ansi_screen.specs.declared.function.Function.{Function}
 use Rattle.ansi_screen.specs.declared.function.Function.TheVariants.{Edits, Moves, Sets, Nothing}
 use Rattle.ansi_screen.specs.Display.{Display, fresh}
@@ -165,6 +165,8 @@ function-main (Sets ScrollUp) groups d s = inr (main-scrolled groups d s)
 function-main (Sets ScrollDown) groups d s = inl refl
 function-main (Sets ForwardTab) groups d s = inl refl
 function-main (Sets ClearStops) groups d s = inl refl
+function-main (Sets SaveCursor) groups d s = inl refl
+function-main (Sets RestoreCursor) groups d s = inl refl
 function-main Nothing groups d s = inl refl
 
 sequence-main : (groups : List (List ℕ)) (intermediates : List ℕ) (final : ℕ) (d : Display) → IsMain d

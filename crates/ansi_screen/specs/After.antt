@@ -11,14 +11,14 @@ use Rattle.anstyle_parse.specs.Stream.Calls.{AreCalls}
 use Rattle.ansi_screen.specs.declared.function.Edit.{Edit}
 use Rattle.ansi_screen.specs.declared.function.Edit.TheVariants.{InsertCharacters, EraseInDisplay, EraseInLine, InsertLines, DeleteLines, DeleteCharacters, EraseCharacters}
 use Rattle.ansi_screen.specs.declared.function.Move.{Move}
-use Rattle.ansi_screen.specs.declared.function.Move.TheVariants.{Up, Down, Forward, Back, NextLine, PrecedingLine, Column, Line, Position, BackTab}
+use Rattle.ansi_screen.specs.declared.function.Move.TheVariants.{Up, Down, Forward, Back, NextLine, PrecedingLine, Column, Line, LineForward, Position, BackTab}
 use Rattle.ansi_screen.specs.declared.function.Setting.{Setting}
-use Rattle.ansi_screen.specs.declared.function.Setting.TheVariants.{Rendition, SetModes, ResetModes, Margins, ScrollUp, ScrollDown, ForwardTab, ClearStops}
+use Rattle.ansi_screen.specs.declared.function.Setting.TheVariants.{Rendition, SetModes, ResetModes, Margins, ScrollUp, ScrollDown, ForwardTab, ClearStops, SaveCursor, RestoreCursor}
 use Rattle.ansi_screen.specs.declared.function.Function.{Function}
 use Rattle.ansi_screen.specs.declared.function.Function.TheVariants.{Edits, Moves, Sets, Nothing}
 use Rattle.ansi_screen.specs.Display.{Display, fresh}
 use Rattle.ansi_screen.specs.Links.{commanded}
-use Rattle.ansi_screen.specs.Moves.{to_column, settled, up, down, to_line, to_position, tabbed, tabbed_back, with_stop, cleared_stops}
+use Rattle.ansi_screen.specs.Moves.{to_column, settled, up, down, to_line, line_of, to_position, tabbed, tabbed_back, with_stop, cleared_stops}
 use Rattle.ansi_screen.specs.Edits.{erased_display, erased_line, erased_characters, deleted_characters, inserted_characters, inserted_lines, deleted_lines, scrolled_up, scrolled_down, index, reverse_index}
 use Rattle.ansi_screen.specs.Print.{printed, printed_again}
 use Rattle.ansi_screen.specs.Widths.{is_shown, columns}
@@ -31,13 +31,14 @@ functions =
     (0x40, Edits InsertCharacters) ∷ (0x4A, Edits EraseInDisplay) ∷ (0x4B, Edits EraseInLine) ∷
     (0x4C, Edits InsertLines) ∷ (0x4D, Edits DeleteLines) ∷
     (0x50, Edits DeleteCharacters) ∷ (0x58, Edits EraseCharacters) ∷
-    -- A CUU, B CUD, C CUF, D CUB; E CNL, F CPL, G CHA, H CUP; Z CBT, ` HPA, a HPR, d VPA, f HVP
+    -- A CUU, B CUD, C CUF, D CUB; E CNL, F CPL, G CHA, H CUP; Z CBT, ` HPA, a HPR, d VPA, e VPR, f HVP
     (0x41, Moves Up) ∷ (0x42, Moves Down) ∷ (0x43, Moves Forward) ∷ (0x44, Moves Back) ∷
     (0x45, Moves NextLine) ∷ (0x46, Moves PrecedingLine) ∷ (0x47, Moves Column) ∷ (0x48, Moves Position) ∷
-    (0x5A, Moves BackTab) ∷ (0x60, Moves Column) ∷ (0x61, Moves Forward) ∷ (0x64, Moves Line) ∷ (0x66, Moves Position) ∷
-    -- I CHT, S SU, T SD, g TBC; h SM, l RM, m SGR, r DECSTBM
+    (0x5A, Moves BackTab) ∷ (0x60, Moves Column) ∷ (0x61, Moves Forward) ∷ (0x64, Moves Line) ∷ (0x65, Moves LineForward) ∷ (0x66, Moves Position) ∷
+    -- I CHT, S SU, T SD, g TBC; h SM, l RM, m SGR, r DECSTBM; s SCOSC, u SCORC
     (0x49, Sets ForwardTab) ∷ (0x53, Sets ScrollUp) ∷ (0x54, Sets ScrollDown) ∷ (0x67, Sets ClearStops) ∷
-    (0x68, Sets SetModes) ∷ (0x6C, Sets ResetModes) ∷ (0x6D, Sets Rendition) ∷ (0x72, Sets Margins) ∷ []
+    (0x68, Sets SetModes) ∷ (0x6C, Sets ResetModes) ∷ (0x6D, Sets Rendition) ∷ (0x72, Sets Margins) ∷
+    (0x73, Sets SaveCursor) ∷ (0x75, Sets RestoreCursor) ∷ []
 
 -- any other final byte is that of none
 unfoldable pub function_of : ℕ → Function
@@ -50,6 +51,11 @@ first_of groups = first_field (slice_index_or groups 0 [])
 
 abbrev pub second_of : List (List ℕ) → ℕ
 second_of groups = first_field (slice_index_or groups 1 [])
+
+-- No number is given: SCOSC and SCORC have none. (With numbers `s` is DECSLRM, which is known where margins left and right
+-- are, and `u` is no function of xterm's.)
+abbrev pub is_bare : List (List ℕ) → Bool
+is_bare groups = first_of groups == 0 && nat_le (length groups) 1
 
 abbrev pub count : ℕ → ℕ
 count n = max 1 n
@@ -80,6 +86,7 @@ moved NextLine n column d = to_column 0 (down (count n) d)
 moved PrecedingLine n column d = to_column 0 (up (count n) d)
 moved Column n column d = to_column (count n - 1) d
 moved Line n column d = to_line (count n - 1) d
+moved LineForward n column d = to_line (line_of d + count n) d
 moved Position n column d = to_position (count n - 1) (count column - 1) d
 moved BackTab n column d = iterate tabbed_back (min (count n) d.width) d
 
@@ -93,6 +100,8 @@ set ScrollUp groups d = scrolled_up (count (first_of groups)) d
 set ScrollDown groups d = scrolled_down (count (first_of groups)) d
 set ForwardTab groups d = iterate tabbed (min (count (first_of groups)) d.width) d
 set ClearStops groups d = cleared_stops (first_of groups) d
+set SaveCursor groups d = if is_bare groups then saving d else d
+set RestoreCursor groups d = if is_bare groups then restored d else d
 
 unfoldable pub controlled : Function → List (List ℕ) → Display → Display
 controlled (Edits edit) groups d =

@@ -1,6 +1,6 @@
 -- Moves of the cursor, and tabs.
 --
--- Sources: xterm's ctlseqs; ECMA-48, 8.3 (CUU, CUD, CUF, CUB, CNL, CPL, CHA, CUP, HVP, VPA,
+-- Sources: xterm's ctlseqs; ECMA-48, 8.3 (CUU, CUD, CUF, CUB, CNL, CPL, CHA, CUP, HVP, VPA, VPR,
 -- HPA, HT, CHT, CBT, HTS, TBC); the VT510 manual, for margins and the origin mode.
 use Rattle.std.specs.Prelude.{ℕ, zero, suc, ◌+◌, ◌-◌, min, max, Bool, true, false, ◌==◌, nat_lt, List, [], ◌∷◌, drop, replicate, slice_index_or, slice_set, length, if◌then◌else◌}
 use Rattle.ansi_screen.specs.Display.{Display}
@@ -27,6 +27,10 @@ down n d = to_row (if nat_lt d.cursor.row d.bottom then min (d.cursor.row + n) (
 -- than the lower one
 abbrev pub to_line : ℕ → Display → Display
 to_line line d = to_row (if d.cursor.is_relative then min (d.top + line) (d.bottom - 1) else line) d
+
+-- the cursor's line, counted as VPA counts; VPR goes so many lines forward, with no regard to the margins but in origin mode
+abbrev pub line_of : Display → ℕ
+line_of d = if d.cursor.is_relative then d.cursor.row - d.top else d.cursor.row
 
 -- CUP, HVP
 abbrev pub to_position : ℕ → ℕ → Display → Display

@@ -54,6 +54,8 @@ pub(crate) enum Move {
     Column,
     /// VPA
     Line,
+    /// VPR
+    LineForward,
     /// CUP, HVP
     Position,
     /// CBT
@@ -79,6 +81,10 @@ pub(crate) enum Setting {
     ForwardTab,
     /// TBC
     ClearStops,
+    /// SCOSC
+    SaveCursor,
+    /// SCORC
+    RestoreCursor,
 }
 
 /// What a control sequence without intermediates does.
@@ -119,12 +125,15 @@ impl Function {
             b'`' => Function::Moves(Move::Column),
             b'a' => Function::Moves(Move::Forward),
             b'd' => Function::Moves(Move::Line),
+            b'e' => Function::Moves(Move::LineForward),
             b'f' => Function::Moves(Move::Position),
             b'g' => Function::Sets(Setting::ClearStops),
             b'h' => Function::Sets(Setting::SetModes),
             b'l' => Function::Sets(Setting::ResetModes),
             b'm' => Function::Sets(Setting::Rendition),
             b'r' => Function::Sets(Setting::Margins),
+            b's' => Function::Sets(Setting::SaveCursor),
+            b'u' => Function::Sets(Setting::RestoreCursor),
             _ => Function::Nothing,
         }
     }

@@ -1,7 +1,7 @@
 //! Moves of the cursor, and tabs.
 ghost use Rattle.std.specs.Prelude.{◌≡◌, ◌+◌, ◌-◌, ◌<◌, min};
 ghost use Rattle.std.specs.Fn.{iterate};
-ghost use Rattle.ansi_screen.specs.Moves.{to_row, to_column, settled, up, down, to_line, to_position, tabbed, tabbed_back, with_stop, cleared_stops, column_of};
+ghost use Rattle.ansi_screen.specs.Moves.{to_row, to_column, settled, up, down, to_line, line_of, to_position, tabbed, tabbed_back, with_stop, cleared_stops, column_of};
 
 use super::Display;
 use crate::tabs::{columns_before_stop, stop_before};
@@ -85,6 +85,21 @@ impl Display {
             self.to_row(row);
         } else {
             self.to_row(line);
+        }
+    }
+
+    /// VPR
+    pub(super) fn lines_forward(&mut self, count: u16)
+        ensures { self.new ≡ to_line (line_of self.old + count) self.old }
+    {
+        let target = self.cursor.row + usize::from(count);
+        if self.cursor.is_relative {
+            let row = target
+                .max(self.top + usize::from(count))
+                .min(self.bottom - 1);
+            self.to_row(row);
+        } else {
+            self.to_row(target);
         }
     }
 

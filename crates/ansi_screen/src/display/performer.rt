@@ -1,7 +1,7 @@
 //! What control characters and sequences do to a display.
 ghost use Rattle.std.specs.Prelude.{◌≡◌, ◌<◌, drop};
 ghost use Rattle.anstyle_parse.specs.Views.Params.{groups_shown, groups_left};
-ghost use Rattle.ansi_screen.specs.After.{first_of, second_of, count, edited, moved, set, controlled, sequenced, executed, escaped, designated};
+ghost use Rattle.ansi_screen.specs.After.{first_of, second_of, is_bare, count, edited, moved, set, controlled, sequenced, executed, escaped, designated};
 
 use super::Display;
 use super::modes::first_field;
@@ -35,6 +35,14 @@ fn two_fields(params: &Params) -> (u16, u16)
     let first = next_field(&mut groups);
     let second = next_field(&mut groups);
     (first, second)
+}
+
+/// Whether no number is given. (Behind a number the same final bytes are others' functions, as DECSLRM.)
+fn is_bare(params: &Params) -> bool
+    ensures { result ≡ is_bare (groups_shown params.now) }
+{
+    let mut groups = params.iter();
+    next_field(&mut groups) == 0 && groups.next().is_none()
 }
 
 impl Display {
@@ -75,6 +83,7 @@ impl Display {
             }
             Move::Column => self.to_column(usize::from(count - 1)),
             Move::Line => self.to_line(count - 1),
+            Move::LineForward => self.lines_forward(count),
             Move::Position => self.to_position(count - 1, column.max(1) - 1),
             Move::BackTab => self.tab_back(count),
         }
@@ -94,6 +103,16 @@ impl Display {
             Setting::ScrollDown => self.scroll_down(first.max(1)),
             Setting::ForwardTab => self.tab_times(first.max(1)),
             Setting::ClearStops => self.clear_stops(first),
+            Setting::SaveCursor => {
+                if is_bare(params) {
+                    self.save();
+                }
+            }
+            Setting::RestoreCursor => {
+                if is_bare(params) {
+                    self.restore();
+                }
+            }
         }
     }
 

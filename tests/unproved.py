@@ -4,7 +4,7 @@
 Usage: tests/unproved.py RT [WORD ..]    in the folder of a crate
 
     RT     the command rt of the kit
-    run    builds the program as `rt try` does, as out/NAME
+    run    builds the program as `rt try` does, as out/NAME, where a source is newer than what is there
     lib    builds the static library so, as out/libNAME.a
     try    tries it as rt does, with the words behind it
     ..     other words are those of rt
@@ -152,6 +152,17 @@ def build_library(rt, name, room):
     subprocess.run(["ar", "rcs", archive, made], check=True)
 
 
+def is_new(root, path):
+    """Whether what was built is newer than all that it may be built of."""
+    if not os.path.exists(path):
+        return False
+    found = [root + "/crates.txt"]
+    for folder, folders, names in os.walk(root + "/crates"):
+        folders[:] = [it for it in folders if it not in ("out", "must-fail")]
+        found += [os.path.join(folder, it) for it in names]
+    return os.path.getmtime(path) >= max(map(os.path.getmtime, found))
+
+
 def main(words):
     if words in (["--help"], []):
         print(__doc__.strip(), file=sys.stdout if words else sys.stderr)
@@ -163,9 +174,10 @@ def main(words):
         if given[:1] == ["try"]:
             stand_in(kit_of(rt), room + "/kit")
             return subprocess.run([room + "/kit/bin/rt", *given]).returncode
-        os.makedirs("out", exist_ok=True)
-        build = build_program if given == ["run"] else build_library
-        build(rt, os.path.basename(os.getcwd()), room)
+        name, build = os.path.basename(os.getcwd()), build_program if given == ["run"] else build_library
+        if not is_new("../..", "out/" + name if given == ["run"] else "out/lib%s.a" % name):
+            os.makedirs("out", exist_ok=True)
+            build(rt, name, room)
     return 0
 
 

@@ -4,6 +4,7 @@
 #   make library    the library alone, in C's forms and for bindings/python
 #   make wheel      a wheel of the Python package, for each CPython from 3.8, in bindings/python/dist
 #   make dist       what is handed out, in dist: source, programs and library, a Debian package, the wheel
+#   make test       tests all that users see, without waiting for proofs
 #   make check      proves and tests all, but for the proofs that have passed on this machine before
 #   make mutants    tries the wrong bodies that make check leaves out; CRATE='NAME ..' those of these crates alone
 #   make install    to PREFIX (/usr/local), below DESTDIR where that is set
@@ -20,6 +21,8 @@ PROGRAMS = ansi2text ansi2html ansi2screen parselog
 COMPLETED = $(PROGRAMS)
 # the scripts of tests/
 TESTS = asked browser cells classes contrast costs dist documents install library links packages programs screen_library screen_twin vectors
+# those that want what is proved: they count instructions, or make what is handed out
+PROVED = costs cells dist
 # what the library does: each has a header and a manual page of its own
 INTERFACES = ansi_events ansi_html ansi_safe ansi_screen ansi_strip
 # the functions that a manual page names: by each of them `man` finds that page
@@ -87,13 +90,20 @@ $(info $(EXTENSION) is left out: $(PYTHON) has no Python.h for it. The Python pa
 endif
 endif
 
+# said where there is no kit to build with
+HAS_KIT = command -v rt > /dev/null || { \
+    echo "rt is not on the path: it comes with the kit of Rattle, by which all is proved and built (README.md)." >&2; \
+    echo "What was built elsewhere needs no kit: install the files that 'make dist' makes there." >&2; exit 1; }
+
 # rt builds a program when it runs it; with nothing to read it writes nothing. The stamp of the
 # file is set in any case, so that the next `make` has nothing to do.
 $(BUILT): $(SOURCES)
+	@$(HAS_KIT)
 	cd crates/$(@F) && rt run < /dev/null > /dev/null
 	touch $@
 
 $(ARCHIVE): $(SOURCES)
+	@$(HAS_KIT)
 	cd crates/ansi && rt lib
 	touch $@
 
@@ -104,6 +114,7 @@ $(SHARED): $(ARCHIVE)
 
 # (one object, of which other libraries see the functions of the header alone)
 $(SCREEN_ARCHIVE): $(SOURCES)
+	@$(HAS_KIT)
 	cd crates/ansi_screen_c && rt lib
 	room=$@.$$$$ && mkdir -p $$room && cd $$room && ar x ../libansi_screen_c.a && ar x $(HEAP) heap.pic.o && ld -r -o made *.o && \
 	    objcopy --wildcard --keep-global-symbol='ansi_screen_*' made screen.o && rm -f made.a && ar rcs made.a screen.o && \
@@ -137,7 +148,13 @@ wheel: library
 dist:
 	VERSION=$(VERSION) packaging/dist
 
+# (what is not proved gets no further than a copy)
+test:
+	@$(HAS_KIT)
+	$(PYTHON) tests/try_all.py $(foreach name,$(PROVED),--but $(name)) $(filter-out $(PROVED),$(TESTS))
+
 check:
+	@$(HAS_KIT)
 	$(PYTHON) tests/side_by_side.py 'rt ci' $(TESTS)
 
 mutants:
@@ -200,4 +217,4 @@ uninstall:
 	rm -rf $(MODULES)/__pycache__
 	if [ -d $(MODULES) ]; then rmdir --ignore-fail-on-non-empty $(MODULES); fi
 
-.PHONY: all programs library wheel dist check mutants install install-native uninstall
+.PHONY: all programs library wheel dist test check mutants install install-native uninstall

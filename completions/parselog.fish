@@ -1,5 +1,4 @@
-# The words of parselog, for fish. It takes one.
-complete -c parselog -f
+# The words of parselog, for fish. It takes one of these, and a file.
 complete -c parselog -n __fish_is_first_arg -a log -d 'write a line for each call'
 complete -c parselog -n __fish_is_first_arg -a canon -d 'write the canonical text'
 complete -c parselog -s h -l help -d 'say what it does'

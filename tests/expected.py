@@ -9,6 +9,7 @@ from expected_shown import SHOWN_HOSTILE, SHOWN_NARROW_ROWS, SHOWN_ROWS
 from hostile_streams import BLOCK, SIZE, stream, text, times
 from log_rows import BEGUN_ROWS, LINES_CUT, READ_ROWS, RETURN_ROWS
 from open_strings import said
+from refusals import PARSELOG_USAGE, refused_by, unknown, wants, wrong_size
 from safe_rows import HIDDEN_ROWS, SAFE_ROWS, SAFE_SHOWN_ROWS
 from url_rows import URL_CUT, URL_ROWS, address
 
@@ -627,48 +628,25 @@ LINE_CLASS_ROWS = line_rows(lambda text: classed(b"f1", text), lambda text: LINE
 NO_LANGUAGE = b"ansi2html: a language is a tag of letters, digits and hyphens, as en or pt-BR, 64 at most (see ansi2html --help)"
 
 
-def unknown(name, words, shown=None):
-    """Words of which one is no option, the first that begins with a dash, and what is said then."""
-    shown = shown or '"%s"' % next(word for word in words if word.startswith("-"))
-    return words, ("%s: unknown option %s (see %s --help)" % (name, shown, name)).encode()
-
-
-def refused_by(name, *more):
-    """What no program with options takes: other options, also where files stand before them or behind."""
-    rows = [["--Help"], ["--help="], ["--version=1"], ["-H"], ["-hh"], ["-ofile"], ["---"]]
-    rows += [["a", "--no"], ["--no", "--version"], ["--no", "--", "a"], ["--helpme"]]
-    shown = [unknown(name, ["-\x1b[31m\n"], '"-\\u{1b}[31m\\n"')]
-    wanting = [(words, wants(name, "--output", "the name of a file")) for words in (["--output"], ["a", "--output"])]
-    return [unknown(name, words) for words in [*rows, *more]] + shown + wanting
-
-
-def wants(name, option, what="a value"):
-    """What is said of an option that has no value."""
-    return ("%s: %s wants %s (see %s --help)" % (name, option, what, name)).encode()
-
-
-def wrong_size(name):
-    return b"%s: a size is COLUMNSxROWS, from 2x1 to 1000x1000 (see %s --help)" % (name, name)
-
-
-
 PROGRAMS = [
     Program(
         "parselog",
         [
-            (words, b"usage: parselog [log|canon]")
+            (words, PARSELOG_USAGE)
             for words in (
-                ["other"],
-                ["log", "log"],
-                ["canon", "canon"],
-                ["log", "canon"],
-                ["canon", "-"],
-                ["log", ""],
-                [""],
-                ["Log"],
+                ["other", "log"],
+                ["Log", "-"],
+                ["", ""],
+                ["log", "log", "log"],
+                ["canon", "-", "-"],
                 ["log", "--help"],
+                ["canon", "-x"],
+                ["other", "--version"],
                 ["--Help"],
                 ["--version=1"],
+                ["--"],
+                ["--", "log"],
+                ["-o"],
             )
         ],
         [
@@ -682,7 +660,8 @@ PROGRAMS = [
         refused_by("ansi2text", ["--page"], ["--Shown"], ["--shown80x24"], ["--LF"], ["--lf=1"])
         + [([word], wrong_size(b"ansi2text")) for word in ("--shown=", "--shown=1x1", "--shown=80", "--shown=80x1001", "--shown==80x24")]
         + [(["--shown", "--shown=0x0"], wrong_size(b"ansi2text"))]
-        + [(["--safe", "--shown=1x1"], wrong_size(b"ansi2text"))],
+        + [(["--safe", "--shown=1x1"], wrong_size(b"ansi2text"))]
+        + [(["--shown", *words], wrong_size(b"ansi2text")) for words in (["1x1"], ["80x1001"], ["9x9", "--shown", "0x24"], ["99999999999999999999x1"])],
         [
             Mode([], STRIP_ROWS, (b"\x1b[1mA\n", b"A\n"), STRIP_HOSTILE, stays=True, cut=STRIP_CUT),
             Mode(["--lf"], LINES_ROWS, (b"\x1b[1mA\r\n", b"A\n"), STRIP_HOSTILE[:-1], cut=LINES_CUT),
@@ -693,6 +672,9 @@ PROGRAMS = [
             Mode(["--safe", "--shown=9x9"], SAFE_SHOWN_ROWS, (b"\x1b[1mA<\r\n", b"A<\n"), [], waits=True),
             Mode(["--shown=9x9", "--shown=80x24"], SHOWN_ROWS[-3:], (b"A\b\n", b"A\n"), [], stays=True, waits=True),
             Mode(["--shown=20x6"], SHOWN_NARROW_ROWS, (b"A\b\n", b"A\n"), [], stays=True, waits=True),
+            Mode(["--shown", "20x6"], SHOWN_NARROW_ROWS, (b"A\b\n", b"A\n"), [], stays=True, waits=True),
+            Mode(["--shown=9x9", "--shown", "20x6", "--safe", "--lf"], SHOWN_NARROW_ROWS, (b"A\b\n", b"A\n"), [], stays=True, waits=True),
+            Mode(["--shown", "20x6", "--shown", "80x24"], SHOWN_ROWS[-3:], (b"A\b\n", b"A\n"), [], stays=True, waits=True),
         ],
         options=["--safe", "--lf", "--shown", "--shown=COLUMNSxROWS", "--output=FILE"],
         files=[([], []), (["--lf"], ["--lf"]), (["--safe"], ["--safe"]), (["--shown"], ["--shown"])],
@@ -708,7 +690,7 @@ PROGRAMS = [
         + [(words, NO_LANGUAGE) for words in (["--lang="], ["--lang", "e n"], ["--lang=en", "--lang=\"x"], ["--lang=" + 65 * "a"])]
         + [(words, NO_LANGUAGE) for words in (["--lang=\xe9"], ["--page", "--lang", "en_GB"])]
         + [(["--page", word], wrong_size(b"ansi2html")) for word in ("--shown=", "--shown=1x1", "--shown=1001x24")]
-        + [(["--stylesheet", "--shown=0x0"], wrong_size(b"ansi2html"))]
+        + [(["--stylesheet", "--shown=0x0"], wrong_size(b"ansi2html")), (["--shown", "1001x24", "--page"], wrong_size(b"ansi2html"))]
         + [(words, b"ansi2html: lines are those of one file (see ansi2html --help)") for words in (["--lines", "a", "b"], ["-", "--lines", "--page", "-"])]
         + [
             (words, b"ansi2html: --lines and --shown are not taken together (see ansi2html --help)")
@@ -762,6 +744,7 @@ PROGRAMS = [
             for words, rows, head, tail in (
                 (["--shown"], SHOWN_HTML_ROWS, b"", b""),
                 (["--shown=9x9", "--page", "--shown=80x24"], SHOWN_HTML_ROWS, PAGE_HEAD, PAGE_TAIL),
+                (["--shown", "9x9", "--page", "--shown", "80x24"], SHOWN_HTML_ROWS, PAGE_HEAD, PAGE_TAIL),
                 (["--shown", "--classes"], [("a class", b"\x1b[1mx\n", classed(b"bold") + b"\n")], b"", b""),
                 (["--shown", "--title=" + TITLE], SHOWN_HTML_ROWS[:1], TITLED_HEAD, PAGE_TAIL),
                 (["--light", "--shown", "--dark"], [("red", b"\x1b[31mx\n", span(b"color:#ff7b72;", b"x") + b"\n")], b"", b""),

@@ -12,6 +12,7 @@ SHOWN_ROWS = [
     ("back and over", b"abc\b\b\bxyz", b"xyz\n"),
     ("progress", b"10%\r20%\r\x1b[K100%", b"100%\n"),
     ("a move forward", b"foo\x1b[10Cbar", b"foo          bar\n"),
+    ("hidden text", b"a\x1b[8mb\x1b[28mc\n", b"abc\n"),
     ("lines drawn in ASCII", b"+-+\n| |\n+-+\n", b"+-+\n| |\n+-+\n"),
     ("line drawing", b"\x1b(0lqk\nx x\nmqj\x1b(B\n", BOX),
     ("lines that scroll off", b"a\r\nb\n" * 500 + b"c", b"a\nb\n" * 500 + b"c\n"),

@@ -188,18 +188,94 @@ def name_cases(rows):
     for at, shown in (("", b'""'), ("no\x1b[31m", b'"no\\u{1b}[31m"'), ("no\x9b", b'"no\\u{9b}"')):
         ended = rows.ran("--", at)
         yield "the name %r is said as text" % at, rows.differs(ended, status=1, err=rows.said((shown, errno.ENOENT)), out=rows.of_each(b""))
-    why = "%s: a word is no UTF-8: a file with such a name is given by < (see %s --help)\n" % (rows.name, rows.name)
-    rows.put(b"\xff".decode("utf-8", "surrogateescape"), PARTS[0])
-    for words in ([b"\xff"], [b"--", b"\xff"], [b"-o", b"\xff"], [b"--output=\xff"], [b"part0", b"\xff"], [b"--help", b"\xff"]):
-        before = rows.left()
-        why_not = rows.differs(rows.ran(*words), status=2, err=why.encode())
-        yield "the words %s, no UTF-8" % words, why_not or (rows.left() != before and "it makes files")
-    os.remove(rows.at(b"\xff".decode("utf-8", "surrogateescape")))
+    yield from raw_name_cases(rows)
+    if rows.words[-1:] == ["--shown"]:
+        yield from size_name_cases(rows)
     help = rows.run([rows.path, "--help"])
     for words in (["-h"], ["missing", "-h"], ["-o", "missing/x", "-h"]):
         yield " ".join([*words, "says what --help says"]), rows.differs(rows.ran(*words), out=help.out)
     why = b"%s: -o wants the name of a file (see %s --help)\n" % (2 * (rows.name.encode(),))
     yield "-o and nothing behind it", rows.differs(rows.ran("part0", "-o"), status=2, err=why)
+
+
+# names that are no UTF-8, or might be taken for others that are none, and how each is said
+RAW_NAMES = {
+    b"caf\xe9.log": b'"caf\\xe9.log"',
+    b"\xff": b'"\\xff"',
+    b"\x80\xfe": b'"\\x80\\xfe"',
+    b"a\xc3": b'"a\\xc3"',
+    b"\xed\xa0\x80": b'"\\xed\\xa0\\x80"',
+    b"\xc3\xa4\n\xf5": '"ä\\n\\xf5"'.encode(),
+    "\U0010ff80".encode(): b'"\\xf4\\x8f\\xbe\\x80"',
+    "\U0010ffff\xe9".encode(): '"\\xf4\\x8f\\xbf\\xbf\xe9"'.encode(),
+    b"b" * 300 + b"\xe9": b'"' + b"b" * 300 + b'\\xe9"',
+}
+
+
+def raw_name_cases(rows):
+    """Files whose names are no UTF-8 are read as others; an option is text."""
+    names = [it for it in RAW_NAMES if len(it) < 255]
+    for name in names:
+        rows.put(os.fsdecode(name), PARTS[0])
+        rows.put(os.fsdecode(name + b"\xfd"), PARTS[3])
+        for words in ([name], ["--", name], [b"./" + name]):
+            yield "the words %s" % words, rows.differs(rows.ran(*words), out=rows.of_each(PARTS[0]))
+        if rows.takes_many:
+            ended = rows.ran(name + b"\xfd", "part1", name)
+            yield "%s between others" % name, rows.differs(ended, out=rows.of_each(PARTS[3], PARTS[1], PARTS[0]))
+    for name in names:
+        os.remove(rows.at(os.fsdecode(name)))
+        os.remove(rows.at(os.fsdecode(name + b"\xfd")))
+    for name, shown in RAW_NAMES.items():
+        why = errno.ENOENT if name in names else errno.ENAMETOOLONG
+        yield "the name %s is said by its bytes" % name[:20], rows.differs(rows.ran(name), status=1, err=rows.said((shown, why)), out=rows.of_each(b""))
+    why = "%s: an option is no UTF-8: only the name of a file that is read may be none (see %s --help)\n" % (rows.name, rows.name)
+    for words in ([b"-o", b"\xff"], [b"-o\xff"], [b"--output=\xff"], [b"part0", b"--no\xe9"], [b"-\xff", b"--help"], ["-o", "\U0010ff80"]):
+        before = rows.left()
+        why_not = rows.differs(rows.ran(*words), status=2, err=why.encode())
+        yield "the words %s, no UTF-8" % words, why_not or (rows.left() != before and "it makes files")
+
+
+def size_name_cases(rows):
+    """Behind --shown a word of a size's form is its value, and any other names a file."""
+    for at in ("9x", "x9", "9X9", "9x9x9", "+9x9", "9x 9", "9x-9", "9", "９x９"):
+        rows.put(at, PARTS[0])
+        yield "the name %s behind --shown" % at, rows.differs(rows.ran(at), out=rows.of_each(PARTS[0]))
+        os.remove(rows.at(at))
+    rows.put("9x9", PARTS[0])
+    for words in (["--", "9x9"], ["./9x9"], ["9x9", "9x9"], ["9x9", "--", "9x9"], ["--shown=8x8", "9x9"]):
+        yield "the name 9x9 by %s" % words, rows.differs(rows.ran(*words), out=rows.of_each(PARTS[0]))
+    yield "9x9 alone is no name", rows.differs(rows.ran("9x9", given=PARTS[3]), out=rows.of_each(PARTS[3]))
+    os.remove(rows.at("9x9"))
+
+
+def named_cases(path, run, differs):
+    """What parselog reads where a file is named, beside what it writes of the same by standard input."""
+    room = os.path.realpath(tempfile.mkdtemp())
+    try:
+        for name in ("a", "log", "canon", "-dash", os.fsdecode(b"caf\xe9")):
+            with open(os.path.join(room, name), "wb") as file:
+                file.write(PARTS[0] + b"\x1b[?25l")
+        os.mkdir(room + "/folder")
+        ran = lambda *words, given=b"": run([path, *words], given, before=lambda: os.chdir(room))
+        lines, text = (ran(mode, given=PARTS[0] + b"\x1b[?25l").out for mode in ("log", "canon"))
+        for words in (["a"], ["log", "a"], ["log", "log"], ["./log"], ["./-dash"], ["log", "./canon"]):
+            yield "the words %s" % words, differs(ran(*words, given=b"B"), out=lines)
+        for words in (["canon", "a"], ["canon", "canon"], ["canon", "log"]):
+            yield "the words %s" % words, differs(ran(*words, given=b"B"), out=text)
+        for words in (["-"], ["log", "-"], ["log"], []):
+            yield "the words %s: standard input" % words, differs(ran(*words, given=b"B"), out=b"print U+0042\n")
+        faults = [("missing", errno.ENOENT), ("a/b", errno.ENOTDIR), ("", errno.ENOENT), ("Log", errno.ENOENT), ("two\nlines\x1b[m", errno.ENOENT)]
+        for name, why in faults:
+            shown = name.replace("\n", "\\n").replace("\x1b", "\\u{1b}")
+            said = ('parselog: "%s": %s (os error %d)\n' % (shown, os.strerror(why), why)).encode()
+            for words in ([name], ["log", name], ["canon", name]):
+                yield "the words %s" % words, differs(ran(*words, given=b"B"), status=1, err=said)
+        yield "a folder", differs(ran("folder", given=b"B"), status=1, err=b"parselog: read failed\n")
+        for words in ([b"caf\xe9"], ["log", b"caf\xe9"]):
+            yield "the words %s, no UTF-8" % words, differs(ran(*words, given=b"B"), status=1, err=b"parselog: arguments not read\n")
+    finally:
+        shutil.rmtree(room)
 
 
 def growing_cases(rows):
@@ -220,7 +296,7 @@ def written_cases(rows):
     """A file that is written."""
     whole = rows.of_each(*rows.texts)
     before = rows.left()
-    for words in (["-o", "out"], ["--output=out"], ["-o", "other", "--output=out"], ["--output=other", "-o", "out"], ["-o", "--", "-o", "out"], ["-o", "./out"]):
+    for words in (["-o", "out"], ["--output=out"], ["-o", "other", "--output=out"], ["--output=other", "-o", "out"], ["-o", "--", "-o", "out"], ["-o", "./out"], ["-oout"], ["-oother", "-oout"], ["--output=other", "-o./out"]):
         why = rows.differs(rows.ran(rows.two[0], *words, *rows.two[1:]))
         found = rows.read("out") if os.path.exists(rows.at("out")) else None
         why = why or (found != whole and "it has %r" % found) or (rows.left() != sorted([*before, "out"]) and "there are %s" % rows.left())
@@ -250,7 +326,8 @@ def written_cases(rows):
     yield "-o beside a file out.0.new", why or (rows.read("out.0.new") != b"of another\n" and "that is gone")
     os.remove(rows.at("out"))
     os.remove(rows.at("out.0.new"))
-    yield "-o - is standard output", rows.differs(rows.ran("-o", "-", "part0"), out=rows.of_each(PARTS[0]))
+    for words in (["-o", "-"], ["-o-"], ["-oout", "-o-"]):
+        yield "%s is standard output" % words, rows.differs(rows.ran(*words, "part0"), out=rows.of_each(PARTS[0]))
     yield "-o /dev/null", rows.differs(rows.ran("-o", "/dev/null", "part0")) or (not stat.S_ISCHR(os.stat("/dev/null").st_mode) and "it is gone")
     yield "no other file is left", rows.left() != before and "there are %s" % rows.left()
 

@@ -1,10 +1,11 @@
 #!/usr/bin/env python3
 """Runs a command, and where it passes these scripts of tests/, side by side: what `make check` is.
 
-Usage: tests/side_by_side.py [--help] COMMAND [SCRIPT ..]
+Usage: tests/side_by_side.py [--help] COMMAND [--but SCRIPT ..] [SCRIPT ..]
 
-    COMMAND   runs first, and alone; what it writes is shown as it comes
-    SCRIPT    the name of a script of this folder; what it writes is shown once it has ended
+    COMMAND        runs first, and alone; what it writes is shown as it comes
+    SCRIPT         the name of a script of this folder; what it writes is shown once it has ended
+    --but SCRIPT   one that is not run
 
 Each has to end with status 0 and a last line 'N passed, M failed', where N is not 0 and M is. A script that is not
 there, is killed or counts nothing is a failure, and so is one of this folder that is not named. At the end there is a
@@ -91,8 +92,10 @@ def main(words):
     if not words or words[0].startswith("-"):
         print(__doc__.strip(), file=sys.stdout if words == ["--help"] else sys.stderr)
         return 0 if words == ["--help"] else 2
-    first, names = words[0], words[1:]
-    unnamed = sorted(scripts_here() - set(names))
+    first, words = words[0], words[1:]
+    left = {it for before, it in zip(words, words[1:]) if before == "--but"}
+    names = [it for it in words if it not in left and it != "--but"]
+    unnamed = sorted(scripts_here() - set(names) - left)
     ran = [Ran(first, shlex.split(first), True)]
     if not ran[0].failed:
         of = lambda name: Ran("tests/" + name, [sys.executable, os.path.join(FOLDER, name)], False)

@@ -68,8 +68,7 @@ usage: ansi2html [--page] [--title=TEXT] [--css=ADDRESS] [--lang=TAG]
 Writes the text of files as HTML, in its colours: a fragment, to be put into a <pre>
 of a page in UTF-8, or a whole page. Input is UTF-8. Each file is a stream of its own.
 With no FILE, or for -, standard input is read. Words behind -- name files, whatever
-they begin with. A title may also be the next word, as in --title TEXT, and so may
-all values but a size.
+they begin with. A value may also be the next word, as in --title TEXT.
 
   --page                  write a whole page, light or dark as its reader has it;
                           so does the word page (a file of that name is ./page)

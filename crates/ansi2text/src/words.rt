@@ -33,7 +33,8 @@ name files, whatever they begin with.
                           with both; --safe and --shown never write both
   --shown                 write what a terminal of 80x24 showed instead: the lines
                           that scrolled off, and what stands there at the end
-  --shown=COLUMNSxROWS    the same of this size, from 2x1 to 1000x1000
+  --shown=COLUMNSxROWS    the same of this size, from 2x1 to 1000x1000; it may be
+                          the next word, as in --shown 120x40
   -o FILE, --output=FILE  write to FILE, in its place once all went well: it is
                           whole or as it was, and may be one that is read
   -h, --help              say this

@@ -1,19 +1,20 @@
 //! The words of a line: which are options, and which name files.
 ghost use Rattle.std.specs.Prelude.{◌≡◌, ◌++◌, ◌∷◌, [], map, string_bytes, OnOk, IfOk};
+ghost use Rattle.std.specs.List.{list_all};
 ghost use Rattle.command_line.specs.Options.{texts};
-ghost use Rattle.command_line.specs.Line.{is_file, place_after, options_of, files_of, options_in, files_in, before_value};
+ghost use Rattle.command_line.specs.Line.{is_digit, is_number, is_size, may_have_size, is_file, place_behind, place_after, options_said, files_said, options_of, files_of, options_in, files_in, joined, before_value};
 
-use crate::options::{OUTPUT, SHORT_OUTPUT, given_words, is_one_of, wants_value};
+use crate::names::{given_words, has_bytes};
+use crate::options::{OUTPUT, SHORT_OUTPUT, after, is_one_of, is_valued_one, wants_value};
 use crate::{FAILED, MISUSED};
 use std::alloc::{AllocError, Global};
-use std::io::ErrorKind;
 use std::process::ExitCode;
 use std::rt::Env;
 
 /// The options and the files of a line.
 #[derive(Drop)]
 pub struct Line {
-    /// The options, in their order; `--title TEXT` is here `--title=TEXT`, and `-o FILE` is `--output=FILE`.
+    /// The options, in their order; `--title TEXT` is here `--title=TEXT`, and `-o FILE` and `-oFILE` are `--output=FILE`.
     pub options: Vec<String>,
     /// The names of files, in their order; `-` is one of them.
     pub files: Vec<String>,
@@ -26,25 +27,29 @@ pub enum Place {
     Words,
     /// The value of the option that stands before it, as after `-o` or `--title`.
     Value,
+    /// The same where it is a size, as after `--shown`, which may also stand alone; and else an option, or the name of a file.
+    Size,
     /// The name of a file: it stands behind `--`.
     Files,
 }
 
 /// The line that the program was given, for these options of its own. Where there is none, that was said on
-/// standard error: with status 2 that a word is no UTF-8, and with 1 that there was no memory.
+/// standard error: with status 2 that an option is no UTF-8, and with 1 that there was no memory.
 pub fn given_line(
     rt: &(impl Env + AllocGlobal + Eprint),
     program: &str,
     options: &[&str],
 ) -> Result<Line, ExitCode> {
-    match given_words(rt) {
-        Ok(words) => match line_of(rt.alloc(), words.as_slice(), options) {
-            Ok(line) => Ok(line),
-            Err(_) => Err(no_memory(rt, program)),
-        },
-        Err(error) if error.kind() == ErrorKind::InvalidData => Err(not_text(rt, program)),
-        Err(_) => Err(no_memory(rt, program)),
+    let Ok(words) = given_words(rt) else {
+        return Err(no_memory(rt, program));
+    };
+    let Ok(line) = line_of(rt.alloc(), words.as_slice(), options) else {
+        return Err(no_memory(rt, program));
+    };
+    if line.options.iter().any(|option| has_bytes(option.as_str())) {
+        return Err(not_text(rt, program));
     }
+    Ok(line)
 }
 
 /// Says that there was no memory, on standard error, and answers status 1.
@@ -53,10 +58,10 @@ fn no_memory(rt: &impl Eprint, program: &str) -> ExitCode {
     ExitCode::from(FAILED)
 }
 
-/// Says that a word is no UTF-8, on standard error, and answers status 2.
+/// Says that an option is no UTF-8, on standard error, and answers status 2.
 fn not_text(rt: &impl Eprint, program: &str) -> ExitCode {
     let _ = eprintln!(rt;
-        "{program}: a word is no UTF-8: a file with such a name is given by < (see {program} --help)"
+        "{program}: an option is no UTF-8: only the name of a file that is read may be none (see {program} --help)"
     );
     ExitCode::from(MISUSED)
 }
@@ -104,11 +109,27 @@ impl Line {
         match place {
             Place::Files => push(&mut self.files, alloc, word)?,
             Place::Value => push_valued(&mut self.options, alloc, before, word)?,
-            Place::Words if word == "--" || wants_value(word, options) => {}
-            Place::Words if is_file(word, options) => push(&mut self.files, alloc, word)?,
-            Place::Words => push(&mut self.options, alloc, word)?,
+            Place::Size if is_size(word) => push_valued(&mut self.options, alloc, before, word)?,
+            Place::Size | Place::Words => self.add_said(alloc, word, options)?,
         }
         Ok(place.after(word, options))
+    }
+
+    /// Takes one word more, which is the value of none.
+    fn add_said(&mut self, alloc: Global, word: &str, options: &[&str]) -> Result<(), AllocError>
+        ensures options { OnOk result (map string_bytes self.new.options.items
+            ≡ map string_bytes self.old.options.items ++ options_said (texts options.now) word.now) }
+        ensures files { OnOk result (map string_bytes self.new.files.items
+            ≡ map string_bytes self.old.files.items ++ files_said (texts options.now) word.now) }
+    {
+        if word == "--" || wants_value(word, options) {
+            return Ok(());
+        }
+        match after(word, SHORT_OUTPUT) {
+            Some(name) => push_valued(&mut self.options, alloc, SHORT_OUTPUT, name),
+            None if is_file(word, options) => push(&mut self.files, alloc, word),
+            None => push(&mut self.options, alloc, word),
+        }
     }
 }
 
@@ -120,11 +141,63 @@ impl Place {
         match self {
             Place::Files => Place::Files,
             Place::Value => Place::Words,
-            Place::Words if word == "--" => Place::Files,
-            Place::Words if wants_value(word, options) => Place::Value,
-            Place::Words => Place::Words,
+            Place::Size if is_size(word) => Place::Words,
+            Place::Size | Place::Words => Place::behind(word, options),
         }
     }
+
+    /// The place of the word behind one that is the value of none.
+    fn behind(word: &str, options: &[&str]) -> Place
+        ensures { result ≡ place_behind (texts options.now) word.now }
+    {
+        if word == "--" {
+            Place::Files
+        } else if wants_value(word, options) {
+            Place::Value
+        } else if may_have_size(word, options) {
+            Place::Size
+        } else {
+            Place::Words
+        }
+    }
+}
+
+/// Whether the next word may be the value of this option, where it is a size: it stands for itself too.
+fn may_have_size(word: &str, options: &[&str]) -> bool
+    ensures { result ≡ may_have_size (texts options.now) word.now }
+{
+    is_one_of(word, options) && is_valued_one(word, options)
+}
+
+/// Whether a word has the form of a size: COLUMNSxROWS, each in decimal.
+fn is_size(word: &str) -> bool
+    ensures { result ≡ is_size word.now }
+{
+    match word.split_once('x') {
+        Some((columns, rows)) => is_number(columns.as_bytes()) && is_number(rows.as_bytes()),
+        None => false,
+    }
+}
+
+/// Whether a text is a number in decimal: digits alone, and one at least.
+fn is_number(text: &[u8]) -> bool
+    ensures { result ≡ is_number text.now }
+{
+    !text.is_empty() && are_digits(text)
+}
+
+/// Whether all bytes are digits.
+fn are_digits(bytes: &[u8]) -> bool
+    ensures { result ≡ list_all is_digit bytes.now }
+{
+    bytes.iter().all(|byte| is_digit(*byte))
+}
+
+/// Whether a byte is a digit.
+fn is_digit(byte: u8) -> bool
+    ensures { result ≡ is_digit byte }
+{
+    b'0' <= byte && byte <= b'9'
 }
 
 /// Whether a word is the name of a file: it is no option of the program's own, and does not begin with a dash
@@ -152,7 +225,7 @@ fn push_valued(
     value: &str,
 ) -> Result<(), AllocError>
     ensures { OnOk result (map string_bytes texts.new.items
-        ≡ map string_bytes texts.old.items ++ (before_value option.now ++ value.now) ∷ []) }
+        ≡ map string_bytes texts.old.items ++ joined option.now value.now ∷ []) }
 {
     let mut joined = before_value(alloc, option)?;
     joined.push_str(value)?;

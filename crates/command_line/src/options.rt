@@ -6,9 +6,7 @@ ghost use Rattle.command_line.specs.Options.{texts, is_option, is_one_of, is_val
 
 use crate::{MISUSED, message, output_failed};
 use anstyle_parse::io::Fault;
-use std::io;
 use std::process::ExitCode;
-use std::rt::Env;
 
 /// The version of the programs and of the library.
 pub const VERSION: &str = "0.1.0";
@@ -30,12 +28,6 @@ pub enum Request<'a> {
     Unvalued(&'a str),
     /// Nothing that it knows: this word is no option.
     Unknown(&'a str),
-}
-
-/// The words that the program was given, without its own name.
-pub fn given_words(rt: &(impl Env + AllocGlobal)) -> io::Result<Vec<String>> {
-    let words = std::env::args(rt)?.skip(1).collect(rt.alloc())?;
-    Ok(words)
 }
 
 /// What the words ask for, by the first that is none of the program's own `options`; `None` where
@@ -91,7 +83,7 @@ pub(crate) fn wants_value(word: &str, options: &[&str]) -> bool
 }
 
 /// Whether a word is one of the options without its `=`.
-fn is_valued_one(word: &str, options: &[&str]) -> bool
+pub(crate) fn is_valued_one(word: &str, options: &[&str]) -> bool
     ensures { result ≡ list_any (is_valued word.now) (texts options.now) }
 {
     options.iter().any(|option| is_valued(word, option))
@@ -126,16 +118,16 @@ pub fn value_of<'a>(words: &'a [String], option: &str) -> Option<&'a str>
 }
 
 /// What follows the option, where the word begins with it.
-fn after<'a>(word: &'a str, option: &str) -> Option<&'a str>
+pub(crate) fn after<'a>(word: &'a str, option: &str) -> Option<&'a str>
     ensures { option_copied result ≡ after_option option.now word.now }
 {
     word.strip_prefix(option)
 }
 
-/// The end of a program whose words ask for this: `help` is what it says of itself. Standard input
-/// is not read. The status is 0, or where standard output does not take the answer 141 or 1, as of
-/// [`Target::ended`](crate::Target::ended), and 2 for a word that the program doesn't know or an option
-/// without its value, which a line on standard error shows.
+/// The end of a program whose words ask for this: `help` is what it says of itself, with its usage
+/// up to the first line that is empty. Standard input is not read. The status is 0, or where standard output does not take
+/// the answer 141 or 1, as of [`Target::ended`](crate::Target::ended), and 2 for a word that the program doesn't know or an
+/// option without its value, which a line on standard error shows; for the former the usage follows it.
 pub fn answered(
     rt: &(impl Print + Eprint),
     program: &str,
@@ -148,7 +140,7 @@ pub fn answered(
         Request::Help => rt.print(help),
         Request::Version => println!(rt; "{program} {VERSION}"),
         Request::Unvalued(word) => return unvalued(rt, program, word),
-        Request::Unknown(word) => return unknown(rt, program, word),
+        Request::Unknown(word) => return unknown(rt, program, help, word),
     };
     match printed {
         Ok(()) => ExitCode::SUCCESS,
@@ -169,16 +161,19 @@ fn unvalued(rt: &impl Eprint, program: &str, word: &str) -> ExitCode
     ExitCode::from(MISUSED)
 }
 
-/// Says that a word is no option, on standard error, and how to ask for help, and answers status 2.
-fn unknown(rt: &impl Eprint, program: &str, word: &str) -> ExitCode
+/// Says that a word is no option, on standard error, and which words are known, and answers status 2.
+fn unknown(rt: &impl Eprint, program: &str, help: &str, word: &str) -> ExitCode
     ensures { exit_status result ≡ 2 }
 {
-    let _ = if word.starts_with('-') {
-        eprintln!(rt; "{program}: unknown option {word:?} (see {program} --help)")
-    } else {
-        eprintln!(rt;
-            "{program}: unknown word {word:?}: a file is given by < (see {program} --help)"
-        )
-    };
+    let usage = usage_of(help);
+    let _ = eprintln!(rt; "{program}: unknown option {word:?} (see {program} --help)\n{usage}");
     ExitCode::from(MISUSED)
+}
+
+/// The usage at the front of what a program says of itself: all up to the first line that is empty.
+fn usage_of(help: &str) -> &str {
+    match help.split_once("\n\n") {
+        Some((usage, _)) => usage,
+        None => help,
+    }
 }

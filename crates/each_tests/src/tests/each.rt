@@ -149,6 +149,35 @@ fn values_that_are_words(rt: HostRuntime) -> Result<(), Fail> {
     Ok(())
 }
 
+#[test]
+fn sizes_and_names_right_behind(rt: HostRuntime) -> Result<(), Fail> {
+    let alloc = rt.alloc();
+    let given = [
+        "--shown", "9x9", "-oout", "--shown", "9x", "8x8", "-o", "-of", "--", "-o",
+    ];
+    let mut words = Vec::new(alloc);
+    for word in given {
+        words.push(String::from_str(alloc, word)?)?;
+    }
+    let line = line_of(alloc, words.as_slice(), &["--shown", "--shown="])?;
+    let options = [
+        "--shown",
+        "--shown=9x9",
+        "--output=out",
+        "--shown",
+        "--output=-of",
+    ];
+    assert_eq!(rt; line.options.len(), options.len());
+    for (option, wanted) in line.options.iter().zip(options) {
+        assert_eq!(rt; option.as_str(), wanted);
+    }
+    assert_eq!(rt; line.files.len(), 3);
+    assert_eq!(rt; line.files[0].as_str(), "9x");
+    assert_eq!(rt; line.files[1].as_str(), "8x8");
+    assert_eq!(rt; line.files[2].as_str(), "-o");
+    Ok(())
+}
+
 /// What programs share to read files and to write one, which no test runs here.
 pub fn names_of_files(rt: HostRuntime) -> Result<ExitCode, ExitCode> {
     let line = given_line(&rt, "", &[OUTPUT])?;

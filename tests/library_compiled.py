@@ -92,7 +92,7 @@ def all_cases(room, name):
     ansi = importlib.import_module(name)
     is_well = ansi.event.IS_COMPILED == (name == "compiled")
     yield "Python: events are %s" % name, None if is_well else "they are not"
-    parts = [python_event_cases, caller_cases, signal_cases, busy_cases, memory_cases, kept_memory_cases, thread_cases, short_cases]
+    parts = [python_event_cases, caller_cases, signal_cases, awaited_cases, busy_cases, memory_cases, kept_memory_cases, thread_cases, short_cases]
     for case in itertools.chain.from_iterable(part(ansi) for part in parts):
         yield "%s, %s" % (case[0], name), case[1]
 
@@ -254,6 +254,36 @@ def signal_cases(ansi):
         signal.setitimer(signal.ITIMER_REAL, 0)
         signal.signal(signal.SIGALRM, was)
     yield "Python: a signal is handled within a piece", why
+
+
+def awaited_cases(ansi):
+    """A signal that comes while one thread waits for another one, which is at work on the same events or parts."""
+    for name, call in ("events", ansi.events), ("text_of", ansi.text_of):
+        gate, found = threading.Event(), []
+
+        def given():
+            gate.wait(60)
+            yield b"a"
+
+        shared = call(given())
+        other = threading.Thread(target=lambda: found.extend(shared))
+        other.start()
+        time.sleep(0.1)
+        was = signal.signal(signal.SIGALRM, interrupted)
+        signal.setitimer(signal.ITIMER_REAL, 0.2)
+        try:
+            next(shared)
+            why = "it is not handled"
+        except InterruptedError:
+            why = "the other thread is at its end" if gate.is_set() or not other.is_alive() else None
+        finally:
+            signal.setitimer(signal.ITIMER_REAL, 0)
+            signal.signal(signal.SIGALRM, was)
+            gate.set()
+            other.join()
+        yield "Python: a signal is handled while %s of another thread are awaited" % name, why
+        is_so = [it if type(it) is bytes else it.text.encode() for it in found] == [b"a"]
+        yield "Python: and the other thread goes on, %s" % name, None if is_so else "it has %r" % found
 
 
 def busy_cases(ansi):

@@ -10,6 +10,7 @@ import re
 import subprocess
 import sys
 import tempfile
+import threading
 import unittest
 
 import ansi_proved
@@ -84,11 +85,14 @@ class Calls(unittest.TestCase):
 
     def test_a_pipe_is_read_as_it_comes(self):
         reader, writer = os.pipe()
+        impatient = threading.Timer(20, os.close, [writer])  # (or it would wait for more)
+        impatient.start()
         with open(reader, "rb") as log:
             parts = ansi_proved.text_of(log)
             for piece in (b"one", b"two"):
                 os.write(writer, piece)
                 self.assertEqual(next(parts), piece)
+            impatient.cancel()
             os.close(writer)
             self.assertEqual(list(parts), [])
 

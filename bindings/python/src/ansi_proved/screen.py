@@ -73,13 +73,13 @@ _SIZE, _AT = ctypes.c_size_t, ctypes.c_void_p
 _COUNTS = [1, 1, 1, 3]  # the numbers that count of a kind, but for the default, which has none
 
 
-def _call(name, *kinds):
-    return function(name, ctypes.c_bool, _AT, *kinds, library=LIBRARY)
+def _call(name, *kinds, answer=ctypes.c_bool):
+    return function(name, answer, _AT, *kinds, library=LIBRARY)
 
 
 _WRITES = _AT, _SIZE, _AT  # where the room is, and how long, and where a call writes how many bytes it has written
 _open, _copy, _equal = _call("ansi_screen_open_with", _SIZE, _SIZE, _AT), _call("ansi_screen_copy", _AT), _call("ansi_screen_equal", _AT)
-_close, _reset = function("ansi_screen_close", None, _AT, library=LIBRARY), _call("ansi_screen_reset")
+_close, _reset = _call("ansi_screen_close", answer=None), _call("ansi_screen_reset")
 _feed = _call("ansi_screen_feed", _AT, _SIZE)
 _cursor, _style, _modes = _call("ansi_screen_cursor", _AT, _AT), _call("ansi_screen_style", _AT), _call("ansi_screen_modes", _AT)
 _cell, _row = _call("ansi_screen_cell", _SIZE, _SIZE, _AT), _call("ansi_screen_row", _SIZE, _AT, _SIZE)

@@ -2,7 +2,7 @@
 #
 #   make            proves and builds all of it
 #   make library    the library alone, in C's forms and for bindings/python
-#   make wheel      a wheel of the Python package, for each CPython from 3.8, in bindings/python/dist
+#   make wheel      a wheel of the Python package, with the programs, for each CPython from 3.8, in bindings/python/dist
 #   make dist       what is handed out, in dist: source, programs and library, a Debian package, the wheel
 #   make test       tests all that users see, without waiting for proofs
 #   make check      proves and tests all, but for the proofs that have passed on this machine before
@@ -44,9 +44,11 @@ SCREEN_LOADED = $(PACKAGE)/libansi_screen.so
 EXTENSION = $(PACKAGE)/_events.abi3.so
 PYTHON_HEADERS := $(shell $(PYTHON) -c 'import os, sysconfig as it; at = it.get_path("include"); \
     print(at if os.path.exists(at + "/Python.h") and not it.get_config_var("Py_GIL_DISABLED") else "")' 2>/dev/null)
-SOURCES_OF_PACKAGE = $(notdir $(wildcard $(PACKAGE)/*.py $(PACKAGE)/*.pyi $(PACKAGE)/py.typed))
-# the oldest C library that the wheel is for: manylinux2014 says 2.17
-WHEEL_FOR = manylinux2014_x86_64
+SOURCES_OF_PACKAGE = $(notdir $(wildcard $(addprefix $(PACKAGE)/,*.py *.pyi py.typed *.html *.css)))
+# the programs that a wheel puts on the path
+OF_WHEEL = $(PROGRAMS:%=bindings/python/programs/%)
+# the oldest C library that the wheel is for, which the programs ask for
+WHEEL_FOR = manylinux_2_34_x86_64
 # (pip takes what builds a wheel from this Python where that has it, and else from its index)
 WHEEL_BY = $(shell $(PYTHON) -c 'import setuptools as it; it.Distribution().get_command_class("bdist_wheel")' \
     2>/dev/null && echo --no-build-isolation)
@@ -137,8 +139,12 @@ $(PACKAGE)/ansi_events.h: include/ansi_events.h
 $(EXTENSION): $(PACKAGE)/_events.c $(PACKAGE)/ansi_events.h
 	$(CC) -std=c99 -O2 -fPIC -shared -isystem $(PYTHON_HEADERS) -o $@.$$$$ $< && mv $@.$$$$ $@
 
+bindings/python/programs/%: $(BUILT)
+	mkdir -p $(@D)
+	$(INSTALL) crates/$*/out/$* $@.$$$$ && mv $@.$$$$ $@
+
 # (what an earlier wheel was made of would go into this one too)
-wheel: library
+wheel: library $(OF_WHEEL)
 	rm -rf bindings/python/build
 	rt version > $(PACKAGE)/KIT
 	$(PYTHON) -m pip wheel --no-deps $(WHEEL_BY) --config-settings=--build-option=--plat-name=$(WHEEL_FOR) \

@@ -4,7 +4,9 @@ import collections
 import gc
 import importlib
 import itertools
+import os
 import random
+import re
 import resource
 import shutil
 import signal
@@ -14,7 +16,9 @@ import threading
 import time
 import tracemalloc
 import weakref
+from functools import partial
 
+import needs
 from library_events import alike, pieces, python_event_cases, same_events
 from library_shared import *
 
@@ -53,11 +57,33 @@ def place_cases(room, path):
     open("%s/empty/ansi_proved/%s" % (room, NAME), "w").close()
     shutil.copy(os.environ["ANSI_LIBRARY"], "%s/library/ansi_proved/%s" % (room, NAME))
     code = "import ansi_proved as ansi; print(ansi.event.IS_COMPILED, list(ansi.events('\\x1b[1mA')) == [(((1,),), '', False, 'm'), ('A',)])"
+    screen = "%s/crates/ansi_screen_c/out/libansi_screen.so" % ROOT
     for folder, wanted in [("beside", b"True True\n"), ("empty", b"False True\n"), ("library", b"False True\n")]:
-        known = dict(os.environ, PYTHONPATH="%s/%s" % (room, folder), PYTHONDONTWRITEBYTECODE="1")
+        known = dict(os.environ, PYTHONPATH="%s/%s" % (room, folder), PYTHONDONTWRITEBYTECODE="1", ANSI_SCREEN_LIBRARY=screen)
         done = run([sys.executable, "-c", code], env=known, cwd=room)
         why = failure(done) or (None if done.stdout == wanted else "it writes %r" % done.stdout)
         yield "Python: the package of %s, with or without the extension" % folder, why
+        if folder != "library":
+            for what in ("streams", "screen"):
+                done = run([sys.executable, "%s/tests/callers/shared.py" % ROOT, what], patience=10 * PATIENCE, env=known)
+                yield "Python: eight threads share %s, %s" % (what, folder), failure(done)
+    yield from valgrind_cases(room + "/beside")
+
+
+def valgrind_cases(folder):
+    """The extension by valgrind: no memory that is not its own, and none that it does not give back."""
+    if not shutil.which("valgrind"):
+        yield needs.left_out("Python: valgrind")
+        return
+    known = dict(os.environ, PYTHONPATH=folder, PYTHONDONTWRITEBYTECODE="1", PYTHONMALLOC="malloc")
+    words = ["valgrind", "--leak-check=full", "--show-leak-kinds=definite", sys.executable, "%s/tests/callers/extension.py" % ROOT, "20"]
+    done = run(words, patience=20 * PATIENCE, env=known)
+    yield "Python: the extension by valgrind", failure(done)
+    # (what it says of the interpreter itself is not looked at)
+    records = re.split(r"(?m)^==\d+== \n", done.stderr.decode(errors="replace"))
+    wrong = [it for it in records if "_events" in it]
+    yield "Python: valgrind finds no wrong byte there, and none that is lost", "%d, the first %s" % (len(wrong), wrong[0][:900]) if wrong else None
+    yield "Python: and it has looked", None if any("HEAP SUMMARY" in it for it in records) else "it says %r" % done.stderr[-300:]
 
 
 def all_cases(room, name):
@@ -66,7 +92,7 @@ def all_cases(room, name):
     ansi = importlib.import_module(name)
     is_well = ansi.event.IS_COMPILED == (name == "compiled")
     yield "Python: events are %s" % name, None if is_well else "they are not"
-    parts = [python_event_cases, caller_cases, signal_cases, memory_cases, kept_memory_cases, thread_cases]
+    parts = [python_event_cases, caller_cases, signal_cases, awaited_cases, busy_cases, memory_cases, kept_memory_cases, thread_cases, short_cases]
     for case in itertools.chain.from_iterable(part(ansi) for part in parts):
         yield "%s, %s" % (case[0], name), case[1]
 
@@ -230,6 +256,67 @@ def signal_cases(ansi):
     yield "Python: a signal is handled within a piece", why
 
 
+def awaited_cases(ansi):
+    """A signal that comes while one thread waits for another one, which is at work on the same events or parts."""
+    for name, call in ("events", ansi.events), ("text_of", ansi.text_of):
+        gate, found = threading.Event(), []
+
+        def given():
+            gate.wait(60)
+            yield b"a"
+
+        shared = call(given())
+        other = threading.Thread(target=lambda: found.extend(shared))
+        other.start()
+        time.sleep(0.1)
+        was = signal.signal(signal.SIGALRM, interrupted)
+        signal.setitimer(signal.ITIMER_REAL, 0.2)
+        try:
+            next(shared)
+            why = "it is not handled"
+        except InterruptedError:
+            why = "the other thread is at its end" if gate.is_set() or not other.is_alive() else None
+        finally:
+            signal.setitimer(signal.ITIMER_REAL, 0)
+            signal.signal(signal.SIGALRM, was)
+            gate.set()
+            other.join()
+        yield "Python: a signal is handled while %s of another thread are awaited" % name, why
+        is_so = [it if type(it) is bytes else it.text.encode() for it in found] == [b"a"]
+        yield "Python: and the other thread goes on, %s" % name, None if is_so else "it has %r" % found
+
+
+def busy_cases(ansi):
+    """A long call, within which another thread goes on: of events that come to nothing, and of wholes."""
+    large = b"\x1b[" + b"1;" * 40_000_000
+    for name, call in [("events", lambda: collections.deque(ansi.events([large]), 0)), ("strip", lambda: ansi.strip(large)), ("to_html", lambda: ansi.to_html(large))]:
+        counted, took = ticks_during(call)
+        is_so = took > 30 and counted > took / 20
+        yield "Python: another thread goes on in a long %s" % name, None if is_so else "it has %d turns in %d ms" % (counted, took)
+
+
+def short_cases(ansi):
+    """Short wholes, which go through one another's memory: each as the same in a piece of a stream, of a str as of bytes."""
+    pick, wrong = random.Random(72), []
+    calls = [(ansi.strip, ansi.text_of), (lambda it: ansi.strip(it, safe=True), lambda it: ansi.text_of(it, safe=True))]
+    calls += [(partial(ansi.to_html, styling=it), partial(ansi.html_of, styling=it)) for it in ansi.STYLINGS]
+    for _ in range(3000):
+        stream = bytes(pick.choices(OFTEN + b"<&8http://a", k=pick.choice([0, 1, 5, 40, 1023, 1024, 1025])))
+        text = stream.decode("utf-8", "surrogateescape") if pick.random() < 0.5 else stream.decode("utf-8", "replace")
+        for whole, in_parts in calls:
+            of_text = b"".join(in_parts([text.encode("utf-8", "surrogatepass")])).decode()
+            if whole(stream) != b"".join(in_parts([stream])) or whole(text) != of_text or type(whole(text)) is not str:
+                wrong.append(stream)
+    yield "Python: short wholes are as in a stream", "not %r" % wrong[0] if wrong else None
+    gc.collect()
+    before = sys.getallocatedblocks()
+    for _ in range(2000):
+        for whole, _ in calls:
+            whole("\x1b[1mred"), whole(b"\x1b[1mred"), whole("clean")
+    grown = sys.getallocatedblocks() - before
+    yield "Python: short wholes leave no object behind", "%d" % grown if grown > 100 else None
+
+
 def interrupted(_signal, _frame):
     raise InterruptedError("a signal came")
 
@@ -252,6 +339,11 @@ def memory_cases(ansi):
                 next(ansi.events(one))
         del given
         gc.collect()
+        blocks = sys.getallocatedblocks()
+        collections.deque(ansi.events(stream), 0)
+        gc.collect()
+        blocks = sys.getallocatedblocks() - blocks
+        yield "Python: many events of %s leave no object behind" % kind, "%d" % blocks if blocks > 300 else None
         grown = resource.getrusage(resource.RUSAGE_SELF).ru_maxrss - before
         wrong = [repr(it) for it, was in zip(counted, counts) if abs(sys.getrefcount(it) - was) > 100]
         yield "Python: many events of %s leave every count of references as it was" % kind, ", ".join(wrong)[:300] or None
@@ -276,24 +368,10 @@ def thread_cases(ansi):
     def own():
         wrong.extend([1] if list(ansi.events(pieces(stream, len(stream) // 20 * 20))) != wanted else [])
 
-    def shared(events):
-        while True:
-            try:
-                found.append(next(events))
-            except ValueError:
-                continue
-            except StopIteration:
-                return
-
     def in_threads(actions):
         threads = [threading.Thread(target=it) for it in actions]
         [it.start() for it in threads]
         [it.join() for it in threads]
 
-    if ansi.event.IS_COMPILED:
-        found, events = [], ansi.events(pieces(stream, 100))
-        in_threads([lambda: shared(events)] * 4)
-        whole = collections.Counter(it for it in ansi.events(pieces(stream, 100)))
-        yield "Python: four threads over the same events have each once", None if collections.Counter(found) == whole else "no"
     in_threads([own] * 8)
     yield "Python: eight threads have each their own events", "some are others" if wrong else None

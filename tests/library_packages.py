@@ -3,7 +3,9 @@ that Cargo's hands on."""
 
 import ast
 import inspect
+import io
 import os
+import random
 import re
 import shutil
 import sys
@@ -90,11 +92,25 @@ TOLD = "print(repr([type(it).__name__ for it in took]), repr([*map(tuple, took)]
 
 
 def shown_python():
-    """The lines of Python that docs/USING.md, the package's README and the package itself show."""
+    """The lines of Python that docs/USING.md, the package's README and what it says of its calls show."""
     yield "README", re.search(r"(?m)^    import ansi_proved\n(?:    .*\n|\n)+", read("bindings/python/README.md"))[0]
     yield "docs/USING.md", re.search(r"(?m)^    import ansi_proved\n(?:    .*\n)+", read("docs/USING.md"))[0]
+    for name in ("text", "event", "shown"):
+        told = ast.parse(read("bindings/python/src/ansi_proved/%s.py" % name)).body
+        for it in told:
+            if isinstance(it, ast.FunctionDef) and not it.name.startswith("_"):
+                shown = "".join(re.findall(r"(?m)^    .*\n", ast.get_docstring(it) or ""))
+                if shown:
+                    yield it.name, shown
+    yield from said_of_the_package()
+
+
+def said_of_the_package():
+    """What the first page of help says that calls give, as lines with comments."""
     package = ast.get_docstring(ast.parse(read("bindings/python/src/ansi_proved/__init__.py")))
-    yield "the package", "".join(re.findall(r"(?m)^    .*\n", package))
+    found = re.findall(r"""(?m) (\w+\("[^"]*"\)) is ("[^"]*"|'[^']*')$""", package)
+    yield "the package", "".join("    ansi_proved.%s  # %r\n" % (code, ast.literal_eval(value)) for code, value in found)
+    assert len(found) == 4, "the package shows what %d calls give" % len(found)
 
 
 def shown_cases():
@@ -112,7 +128,7 @@ def shown_cases():
             yield "Python, %s: left out, it wants Python 3.10" % place, None
             continue
         cases = re.findall(r"(?m)^ +case ansi_proved\.(\w+)\(.*?\):(?:  # (\(.*\)))?", lines)
-        text = re.sub(r"ansi_proved\.events\(.*?\):", "ansi_proved.events(stream):", textwrap.dedent(lines))
+        text = re.sub(r"ansi_proved\.events\(.*?\):", "ansi_proved.events(stream):", "import ansi_proved\n" + textwrap.dedent(lines))
         text = re.sub(r"(?m)^    \.\.$", "    pass", text)
         text = re.sub(r"(?m)^ +\.\.$", lambda it: it[0].replace("..", "took.append(event)"), text)
         script = "import sys\ntook, log, stream = [], [], [%r]\n%s\n%s" % (LOG, text, TOLD)
@@ -137,15 +153,28 @@ FIELDS = {
 
 
 WHOLES = [b"\x1b[1mA<", bytearray(b"A"), memoryview(b"A"), 2000 * b"\x1b[1mA"]
-STREAMS = [WHOLES, iter(WHOLES), []]
+STRS = ["A", "\x1b[1mA", 2000 * "\x1b[1mA"]
+OF_BYTES, OF_STR = [WHOLES, iter(WHOLES), [], io.BytesIO(b"\x1b[1mA")], [STRS, iter(STRS), io.StringIO("\x1b[1mA")]
+MANY_STR, MANY_BYTES = "Union[Iterable[str], _File[str]]", "Union[Iterable[_Bytes], _File[bytes]]"
 TYPES = {  # what type checkers are told that each function takes and gives, with what it is then given
-    ("strip", "str", "bool", "str"): ["A", "\x1b[1mA", 2000 * "\x1b[1mA"],
+    ("strip", "str", "bool", "str"): STRS,
     ("strip", "_Bytes", "bool", "bytes"): WHOLES,
-    ("text_of", "Iterable[_Bytes]", "bool", "Iterator[bytes]"): STREAMS,
-    ("to_html", "str", "str", "str"): ["A", "\x1b[1mA", 2000 * "\x1b[1mA"],
-    ("to_html", "_Bytes", "str", "bytes"): WHOLES,
-    ("html_of", "Iterable[_Bytes]", "str", "Iterator[bytes]"): [WHOLES, iter(WHOLES), []],
-    ("events", "Union[str, _Bytes, Iterable[Union[str, _Bytes]]]", "Iterator[_Event]"): ["A\n", *WHOLES, WHOLES, ["A", b"B"]],
+    ("safe", "str", "str"): STRS,
+    ("safe", "_Bytes", "bytes"): WHOLES,
+    ("shown", "str", "int", "int", "str"): STRS,
+    ("shown", "_Bytes", "int", "int", "bytes"): WHOLES,
+    ("text_of", MANY_STR, "bool", "Iterator[str]"): OF_STR,
+    ("text_of", MANY_BYTES, "bool", "Iterator[bytes]"): OF_BYTES,
+    ("to_html", "str", "_Styling", "str"): STRS,
+    ("to_html", "_Bytes", "_Styling", "bytes"): WHOLES,
+    ("html_of", MANY_STR, "_Styling", "Iterator[str]"): [STRS, iter(STRS), io.StringIO("\x1b[1mA")],
+    ("html_of", MANY_BYTES, "_Styling", "Iterator[bytes]"): [WHOLES, iter(WHOLES), [], io.BytesIO(b"\x1b[1mA")],
+    ("page", "str", "_Styling", "str", "str", "str"): STRS,
+    ("page", "_Bytes", "_Styling", "str", "str", "bytes"): WHOLES,
+    ("stylesheet", "Literal['both', 'light', 'dark']", "str"): ["both", "light", "dark"],
+    ("events", "Union[str, _Bytes, Iterable[Union[str, _Bytes]], _File[str], _File[bytes]]", "Iterator[_Event]"): [
+        *["A\n", *WHOLES, WHOLES, ["A", b"B"], io.BytesIO(b"A"), io.StringIO("A\n")]
+    ],
 }
 
 
@@ -181,7 +210,8 @@ def stub_cases():
         if answer.startswith("Iterator"):
             is_so = all(iter(it) is it for it in answers)
             types = {type(it).__name__ for parts in answers for it in parts}
-            is_so = is_so and set() != types <= ({"bytes"} if answer == "Iterator[bytes]" else set(FIELDS))
+            wanted = {"Iterator[bytes]": {"bytes"}, "Iterator[str]": {"str"}}.get(answer, set(FIELDS))
+            is_so = is_so and set() != types <= wanted
         else:
             is_so = {type(it).__name__ for it in answers} == {answer}
         yield "Python: %s of %s is %s" % (name, kind, answer), None if is_so else "it is %r" % answers
@@ -190,6 +220,51 @@ def stub_cases():
     for name, fields in FIELDS.items():
         found = getattr(ansi, name)._fields
         yield "Python: the fields of %s" % name, None if tuple(fields.split()) == found else "they are %s" % (found,)
+
+
+def page_cases(ansi):
+    """Pages and stylesheets, beside what ansi2html writes, and the text that a terminal shows beside ansi2text."""
+    ansi2html, ansi2text = ("%s/crates/%s/out/%s" % (ROOT, it, it) for it in ("ansi2html", "ansi2text"))
+    stream = dict(streams())["sequences of every kind"]
+    for styling in ansi.STYLINGS:
+        words = ["--page"] if styling == "both" else ["--page", "--" + styling]
+        for name, title, lang in (("", None, None), (", with a title and a language", "<a> & \"b\" 'c'\r\u20ac", "de-AT")):
+            named, asked = ({}, words) if title is None else ({"title": title, "lang": lang}, [*words, "--title=" + title, "--lang=" + lang])
+            done = run([ansi2html, *asked], stream)
+            why = failure(done) or first_difference(ansi.page(stream, styling, **named), done.stdout)
+            yield "Python: a page, %s%s" % (styling, name), why
+            text = stream.decode(errors="replace")
+            done = run([ansi2html, *asked], text.encode())
+            yield "Python: a page of a str, %s%s" % (styling, name), first_difference(ansi.page(text, styling, **named).encode(), done.stdout)
+    for scheme in ("both", "light", "dark"):
+        done = run([ansi2html, "--stylesheet", *([] if scheme == "both" else ["--" + scheme])])
+        yield "Python: the stylesheet, %s" % scheme, failure(done) or first_difference(ansi.stylesheet(scheme).encode(), done.stdout)
+    pick, kinds = random.Random(3), [b"text ", b"\n", b"\r\n", b"x" * 30, b"\x1b[31m", "\u4e2d".encode(), b"\t", b"\r", b"\x1b[2J", b"\x1bc", b"\x1b[5S"]
+    kinds += [b"\x1b[H", b"\x1b[K", b"\x1b[3A", b"e\xcc\x81", b"\x1b[9b", b"\x1b[2;4r", b"\x1b[?1049h", b"\x1b[?1049l", b"\x1b]0;t\x07", b" "]
+    wrong = []
+    for at in range(200):
+        given = b"".join(pick.choice(kinds) for _ in range(pick.randrange(300)))
+        columns, rows = pick.choice([(80, 24), (20, 6), (2, 1), (7, 3), (1000, 2), (5, 1000)])
+        done = run([ansi2text, "--shown=%dx%d" % (columns, rows)], given)
+        if ansi.shown(given, columns, rows) != done.stdout or ansi.shown(given.decode(), columns, rows) != done.stdout.decode():
+            wrong.append((columns, rows, given))
+    yield "Python: what a terminal shows of 200 streams is what ansi2text --shown writes", "not of %r" % (wrong[0],) if wrong else None
+
+
+def typed_cases():
+    """What a type checker says of tests/callers/typed.py: each line that says so is refused, and no other one."""
+    if not shutil.which("mypy"):
+        yield needs.left_out("Python: mypy")
+        return
+    path = "%s/tests/callers/typed.py" % ROOT
+    words = ["mypy", "--strict", "--follow-imports=silent", "--no-error-summary", "--cache-dir=" + os.devnull, path]
+    done = run(words, patience=10 * PATIENCE, env=dict(os.environ, MYPYPATH=PYTHON))
+    lines = read(path).split("\n")
+    wanted = {at for at, line in enumerate(lines, 1) if line.endswith("# wrong")}
+    found = set(map(int, re.findall(r"(?m)^.*/typed\.py:(\d+): error: ", done.stdout.decode())))
+    for name, which in ("the %d calls that are right are taken" % len(lines), found - wanted), ("those that are wrong are not", wanted - found):
+        yield "Python, by mypy: %s" % name, ", ".join("%d: %s" % (it, lines[it - 1]) for it in sorted(which)) or None
+    yield "Python, by mypy: there are wrong ones", None if wanted else done.stderr.decode()
 
 
 def lookup_cases():

@@ -6,6 +6,8 @@ import re
 import shutil
 import subprocess
 import sys
+import threading
+import time
 
 ROOT = os.path.dirname(os.path.dirname(os.path.realpath(__file__)))
 ARCHIVE = "%s/crates/ansi/out/libansi.a" % ROOT
@@ -62,6 +64,26 @@ def left_out(name):
 def failure(done):
     """Says how a command failed, or answers None."""
     return None if done.returncode == 0 else "status %d, %r" % (done.returncode, (done.stderr or done.stdout)[-300:])
+
+
+def ticks_during(call):
+    """How many thousandths of a second another thread has its turn while a call runs, and how many it takes."""
+    ticks, is_over = [0], threading.Event()
+
+    def tick():
+        while not is_over.is_set():
+            time.sleep(0.001)
+            ticks[0] += 1
+
+    thread = threading.Thread(target=tick)
+    thread.start()
+    time.sleep(0.01)
+    started, before = time.monotonic(), ticks[0]
+    call()
+    took, counted = time.monotonic() - started, ticks[0] - before
+    is_over.set()
+    thread.join()
+    return counted, 1000 * took
 
 
 # ------------------------------------------------------------------ streams and their text

@@ -4,8 +4,13 @@ import ast
 import inspect
 
 
+LITERALS = {}  # the values of the types that the stub names by them
+
+
 def fits(value, kind):
     """Whether a value is of the type that an annotation names. A bool is no int here."""
+    if isinstance(kind, ast.Name) and kind.id in LITERALS:
+        return type(value) is str and value in LITERALS[kind.id]
     if isinstance(kind, ast.Constant):
         return kind.value is None and value is None
     if isinstance(kind, ast.Name):
@@ -75,8 +80,20 @@ def answer_cases(module, told):
         yield "Python: what Screen.%s gives" % it.name, None if fits(value, it.returns) else "it is %r" % (value,)
 
 
+def literal_cases(module, stub):
+    """The types that are named by their values, beside what the module has."""
+    for it in ast.parse(stub).body:
+        if isinstance(it, ast.Assign) and isinstance(it.value, ast.Subscript) and it.value.value.id == "Literal":
+            LITERALS[it.targets[0].id] = list(ast.literal_eval(it.value.slice))
+    from ansi_proved import STYLINGS
+
+    wanted = {"_Kind": module.KINDS, "_Underline": module.UNDERLINES, "_Styling": list(STYLINGS)}
+    yield "Python: the values that types are named by", None if LITERALS == wanted else "they are %s" % LITERALS
+
+
 def cases(module, stub):
     """Each class that the stub, a text, tells of the module."""
+    yield from literal_cases(module, stub)
     told = [it for it in ast.parse(stub).body if isinstance(it, ast.ClassDef)]
     screen = module.Screen(3, 2)
     screen.feed("\x1b[31mx\x1b[1;38;5;9;48;2;1;2;3my")

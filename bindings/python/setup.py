@@ -1,11 +1,16 @@
-"""What pyproject.toml can't say: the extension in C, and that a wheel is of this platform and for each CPython from 3.8."""
+"""What pyproject.toml can't say: the extension in C, the programs, and that a wheel is of this platform and for each CPython from 3.8."""
 
+import glob
 import os
 import sysconfig
 
 from setuptools import Distribution, Extension, setup
 
+from distutils.command.build_scripts import build_scripts  # (of setuptools, which is imported first)
+
 LIBRARY = "src/ansi_proved/libansi.so"
+# what `make wheel` puts there: an installer puts them on the path. Without them the package is installed all the same
+PROGRAMS = sorted(glob.glob("programs/*"))
 # (a Python without its lock has no limited API; there the package makes its events in Python)
 HAS_LIMITED_API = not sysconfig.get_config_var("Py_GIL_DISABLED")
 
@@ -15,6 +20,15 @@ class OfPlatform(Distribution):
 
     def has_ext_modules(self):
         return True
+
+
+class AsTheyAre(build_scripts):
+    """Programs have no first line that names a Python, which others look for."""
+
+    def run(self):
+        self.mkpath(self.build_dir)
+        for program in self.scripts:
+            self.copy_file(program, os.path.join(self.build_dir, os.path.basename(program)))
 
 
 if not os.path.exists(LIBRARY):
@@ -29,6 +43,8 @@ events = Extension(
 )
 setup(
     distclass=OfPlatform,
+    cmdclass={"build_scripts": AsTheyAre},
+    scripts=PROGRAMS,
     ext_modules=[events] if HAS_LIMITED_API else [],
     options={"bdist_wheel": {"py_limited_api": "cp38"}} if HAS_LIMITED_API else {},
 )

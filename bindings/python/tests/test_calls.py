@@ -1,9 +1,16 @@
 """The calls of the package, as a user makes them: of wholes, of streams in pieces, and with what they refuse."""
 
+import copy
 import enum
 import io
 import os
 import pickle
+import pydoc
+import re
+import subprocess
+import sys
+import tempfile
+import threading
 import unittest
 
 import ansi_proved
@@ -27,7 +34,67 @@ class Calls(unittest.TestCase):
         for size in range(1, len(STREAM)):
             pieces = [STREAM[at : at + size] for at in range(0, len(STREAM), size)]
             self.assertEqual(b"".join(ansi_proved.text_of(pieces)), "hi \u20ac<b>\n".encode())
-        self.assertEqual(list(ansi_proved.text_of(io.BytesIO(b"a\x1b[1m\nb"))), [b"a\n", b"b"])
+        self.assertEqual(list(ansi_proved.text_of(io.BytesIO(b"a\x1b[1m\nb"))), [b"a\nb"])
+
+    def test_pieces_of_str(self):
+        pieces = ["\x1b[3", "1mhi\u20ac", "", "\x1b[0m", " <b>\n"]
+        for call, wanted in [
+            (ansi_proved.text_of, "hi\u20ac <b>\n"),
+            (lambda it: ansi_proved.text_of(it, safe=True), "hi\u20ac <b>\n"),
+            (lambda it: ansi_proved.html_of(it, "light"), '<span style="color:#cf222e;">hi\u20ac</span> &lt;b&gt;\n'),
+        ]:
+            for given in (pieces, iter(pieces), io.StringIO("".join(pieces))):
+                parts = list(call(given))
+                self.assertEqual(("".join(parts), {*map(type, parts)}), (wanted, {str}))
+            self.assertEqual({*map(type, call([b"\x1b[1ma", bytearray(b"b")]))}, {bytes})
+        self.assertEqual(list(ansi_proved.html_of(["\x1b[1ma"], "light")), ['<span style="font-weight:bold;">a', "</span>"])
+
+    def test_an_empty_piece_ends_no_stream(self):
+        pieces = [b"a", b"", bytearray(), b"\xe2", b"", b"\x82\xac", "", "\x1b[", "", "1mb"]
+        self.assertEqual(b"".join(it if type(it) is bytes else it.encode() for it in ansi_proved.text_of(pieces)), "a\u20acb".encode())
+        self.assertEqual("".join(it.text for it in ansi_proved.events(pieces) if type(it) is Text), "a\u20acb")
+        self.assertEqual(list(ansi_proved.text_of(iter([b"", b"a"]))), [b"a"])
+
+    def test_files_are_read_in_large_pieces(self):
+        class File(io.BytesIO):
+            asked = []
+
+            def read1(self, size=-1):
+                self.asked.append(size)
+                return super().read1(min(size, 7))
+
+            def __iter__(self):
+                raise AssertionError("it is read by lines")
+
+        stream = 100 * "\x1b[1ma\n\u20ac".encode()
+        for call in (ansi_proved.text_of, ansi_proved.html_of, ansi_proved.events, lambda it: ansi_proved.text_of(it, safe=True)):
+            del File.asked[:]
+            found = list(call(File(stream)))
+            self.assertEqual({*File.asked}, {65536})
+            self.assertEqual(len(File.asked), len(stream) // 7 + 2)
+            if call is ansi_proved.text_of:
+                self.assertEqual(b"".join(found), ansi_proved.strip(stream))
+        with tempfile.TemporaryDirectory() as room:
+            with open(room + "/log", "wb") as log:
+                log.write(stream * 100)
+            for mode, joined in (("rb", b""), ("r", "")):
+                with open(room + "/log", mode, encoding=None if mode == "rb" else "utf-8") as log:
+                    self.assertEqual(joined.join(ansi_proved.text_of(log)).count(joined[:0] + ("a" if mode == "r" else b"a")), 10_000)
+            with open(room + "/log", "rb", buffering=0) as log:
+                self.assertEqual(len(b"".join(ansi_proved.text_of(log))), 50_000)
+
+    def test_a_pipe_is_read_as_it_comes(self):
+        reader, writer = os.pipe()
+        impatient = threading.Timer(20, os.close, [writer])  # (or it would wait for more)
+        impatient.start()
+        with open(reader, "rb") as log:
+            parts = ansi_proved.text_of(log)
+            for piece in (b"one", b"two"):
+                os.write(writer, piece)
+                self.assertEqual(next(parts), piece)
+            impatient.cancel()
+            os.close(writer)
+            self.assertEqual(list(parts), [])
 
     def test_text_drives_no_terminal(self):
         rows = [("\x9b31mred\x7f", "31mred"), ("\x80\x9f\xa0", "\xa0"), (300 * "a" + "\x9b", 300 * "a"), (300 * "\u20ac" + "\x7f", 300 * "\u20ac")]
@@ -103,6 +170,20 @@ class Calls(unittest.TestCase):
             self.assertEqual((found, {*map(type, found)}), ((words, page), {str}))
             self.assertEqual("".join(it.text for it in ansi_proved.events(text) if isinstance(it, Text)), words)
 
+    def test_a_short_whole_is_as_a_long_one(self):
+        rows = ["", "clean", "\x1b[31mred", "\x1b[1ma\u20ac\U0001f600<&>\"'\r\n", "\ud800", "\x1b]0;t", "a\x7f\x9b", 1024 * "a", 1025 * "a", 511 * "\u20ac"]
+        for row in rows * 2:  # (each is a stream of its own, whatever came before)
+            for text in (row, row.encode("utf-8", "surrogatepass"), row.encode("utf-8", "surrogatepass")[:-1]):
+                stream = text if type(text) is bytes else text.encode("utf-8", "surrogatepass")
+                calls = [(ansi_proved.strip(text), ansi_proved.text_of([stream])), (ansi_proved.safe(text), ansi_proved.text_of([stream], safe=True))]
+                calls += [(ansi_proved.to_html(text, it), ansi_proved.html_of([stream], it)) for it in ansi_proved.STYLINGS]
+                for found, parts in calls:
+                    self.assertIs(type(found), type(text))
+                    self.assertEqual(found if type(text) is bytes else found.encode(), b"".join(parts))
+        clean = "".join(["cle", "an"])
+        self.assertIs(ansi_proved.strip(clean), clean)
+        self.assertIs(ansi_proved.to_html(clean), clean)
+
     def test_an_unknown_styling_is_refused(self):
         for given in ("plain", "\x1b[1m", b"plain", b"\x1b[1m", bytearray(b"a"), memoryview(b"a"), 2000 * b"a"):
             for styling in ("blue", "", "Both", "both "):
@@ -110,10 +191,69 @@ class Calls(unittest.TestCase):
         for pieces in ([], [b"a"], io.BytesIO(b"a")):
             self.assertRaises(ValueError, ansi_proved.html_of, pieces, "blue")
 
+    def test_pages(self):
+        page = ansi_proved.page("\x1b[1mhi", "light", title="<T>", lang="de")
+        self.assertTrue(page.startswith('<!DOCTYPE html>\n<html lang="de">\n<head>\n<meta charset="utf-8">\n'))
+        self.assertTrue(page.endswith('<pre>\n<span style="font-weight:bold;">hi</span></pre>\n</body>\n</html>\n'))
+        self.assertIn("<title>&lt;T&gt;</title>", page)
+        self.assertEqual(ansi_proved.page(b"\x1b[1mhi", "light", title="<T>", lang="de"), page.encode())
+        self.assertIn("<title>Terminal output</title>", ansi_proved.page("hi"))
+        self.assertEqual(len({ansi_proved.page("\x1b[31mhi", it) for it in ansi_proved.STYLINGS}), 4)
+        classes = re.findall(r'class="(.*?)"', ansi_proved.to_html("\x1b[1;31mhi", "classes"))[0].split()
+        for rules in (*map(ansi_proved.stylesheet, ("both", "light", "dark")), ansi_proved.stylesheet(), ansi_proved.page("a", "classes")):
+            self.assertEqual([it for it in classes if "." + it not in rules], [])
+        for error, words, call in [
+            (ValueError, "a styling is one of both, light, dark, classes, and not 'red'", lambda: ansi_proved.page("a", "red")),
+            (ValueError, "a scheme is one of both, light, dark, and not 'classes'", lambda: ansi_proved.stylesheet("classes")),
+            (TypeError, "a scheme is a str, and not int", lambda: ansi_proved.stylesheet(1)),
+            (TypeError, "a title is a str, and not bytes", lambda: ansi_proved.page("a", title=b"a")),
+            (ValueError, "a language is a tag of letters, digits and hyphens, 64 at most, and not 'd\"e'", lambda: ansi_proved.page("a", lang='d"e')),
+            (ValueError, "a language is a tag of letters, digits and hyphens, 64 at most, and not ''", lambda: ansi_proved.page("a", lang="")),
+            (TypeError, "a text is str, bytes, bytearray or memoryview, and not int", lambda: ansi_proved.page(5)),
+        ]:
+            self.assertRaisesRegex(error, "^%s$" % re.escape(words), call)
+
+    def test_what_a_terminal_shows(self):
+        rows = [(" 10%\r 50%\r100%\n", "100%\n"), ("a\nb\n", "a\nb\n"), ("", ""), ("a  \x1b[31mb", "a  b\n"), ("a\x1b[2;1Hb\n", "a\nb\n")]
+        rows += [("x" * 100 + "\n", "x" * 100 + "\n"), ("%d\n" * 60 % tuple(range(60)),) * 2, ("\x1b[?1049hb", "b\n"), ("a\x1b[?1049h\x1b[1;1Hb", "a\nb\n")]
+        for text, wanted in rows:
+            self.assertEqual((ansi_proved.shown(text), ansi_proved.shown(text.encode())), (wanted, wanted.encode()))
+        self.assertEqual(ansi_proved.shown("ab\x1b[Hc", 2, 1), "cb\n")
+        self.assertEqual(ansi_proved.shown("abc", columns=2, rows=5), "abc\n")
+        self.assertRaisesRegex(ValueError, "^a screen has 2 to 1000 columns and 1 to 1000 rows, and not 1x24$", ansi_proved.shown, "a", 1)
+        self.assertRaisesRegex(TypeError, "^columns and rows are int, and not int and str$", ansi_proved.shown, "a", 80, "24")
+        self.assertRaises(TypeError, ansi_proved.shown, 5)
+
     def test_what_is_refused(self):
-        for call in (ansi_proved.strip, ansi_proved.to_html, ansi_proved.text_of, ansi_proved.html_of, ansi_proved.events):
+        for call in (ansi_proved.strip, ansi_proved.safe, ansi_proved.to_html, ansi_proved.text_of, ansi_proved.html_of, ansi_proved.events):
             for given in (None, 5, 1.5):
                 self.assertRaisesRegex(TypeError, "^(a text is|the pieces are) .* and not %s$" % type(given).__name__, call, given)
+
+        for call in (ansi_proved.text_of, ansi_proved.html_of):
+            for given in ("a", b"a", bytearray(b"a")):
+                self.assertRaisesRegex(TypeError, "^the pieces are a list or a file, and not one %s$" % type(given).__name__, call, given)
+        for call in (ansi_proved.text_of, ansi_proved.html_of, ansi_proved.events):
+            self.assertRaisesRegex(TypeError, "^a piece is str, bytes, bytearray or memoryview, and not int$", list, call([b"a", 5]))
+
+    def test_the_first_page_of_help(self):
+        first = pydoc.plain(pydoc.render_doc(ansi_proved)).split("\n")[:24]
+        self.assertLessEqual(len(ansi_proved.__doc__.strip().split("\n")), 20)
+        names = ["strip", "safe", "shown", "to_html", "page", "stylesheet", "text_of", "html_of", "events", "Screen", "help", "python -m"]
+        self.assertEqual([it for it in names if not any(it in line for line in first)], [])
+        whole = pydoc.plain(pydoc.render_doc(ansi_proved))
+        for name in ansi_proved.__all__:
+            self.assertIn(name, whole)
+            self.assertTrue(name == "STYLINGS" or pydoc.getdoc(getattr(ansi_proved, name)), name)
+        self.assertEqual({*ansi_proved.__all__} - {*dir(ansi_proved)}, set())
+
+    def test_programs(self):
+        run = [sys.executable, "-m", "ansi_proved"]
+        for words, status, said in [(["--help"], 0, "usage: "), (["-h"], 0, "usage: "), ([], 2, "usage: "), (["ls"], 2, "usage: ")]:
+            done = subprocess.run(run + words, stdout=subprocess.PIPE, stderr=subprocess.PIPE)
+            told = (done.stderr if status else done.stdout).decode()
+            self.assertEqual((done.returncode, told.startswith(said)), (status, True), told)
+            for name in ("ansi2text", "ansi2html", "ansi2screen", "parselog"):
+                self.assertIn(name, told)
 
     def test_a_screen(self):
         with ansi_proved.Screen(10, 3) as screen:
@@ -122,7 +262,26 @@ class Calls(unittest.TestCase):
             self.assertEqual((screen.text(), screen.display[1]), ("1ne\ntwo\n", "two       "))
             self.assertEqual((screen.cell(0, 0).style.foreground, screen.cursor), (("named", (1,)), (0, 1, True)))
             self.assertEqual((screen.changed(), screen.changed()), ([0, 1], []))
+            self.assertIs(type(screen.cell(0, 0)), ansi_proved.Cell)
+            self.assertRaisesRegex(TypeError, "^a row is an int, and not str$", screen.cell, "a", 0)
+            self.assertRaisesRegex(TypeError, "^a piece is str, bytes, bytearray or memoryview, and not int$", screen.feed, 3)
         self.assertRaises(ValueError, screen.feed, b"x")
+
+    def test_copies_of_a_screen(self):
+        class Named(ansi_proved.Screen):
+            name = "none"
+
+        screen = Named(10, 3, history=2)
+        screen.name = "one"
+        screen.feed("a\r\nb\x1b[3")
+        for other in (copy.copy(screen), copy.deepcopy(screen), screen.copy(), copy.deepcopy([screen])[0]):
+            self.assertTrue(other == screen and other is not screen and not other != screen)
+            self.assertEqual((type(other), other.name), (Named, "one"))
+            other.feed("1mc")
+            self.assertTrue(other != screen and other.text() == "a\nbc\n" and screen.text() == "a\nb\n")
+            other.close()
+        self.assertEqual(screen.text(), "a\nb\n")
+        self.assertRaisesRegex(TypeError, "cannot be pickled", pickle.dumps, screen)
 
     def test_files(self):
         folder = os.path.dirname(ansi_proved.__file__)

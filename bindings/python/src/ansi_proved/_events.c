@@ -1,6 +1,7 @@
-/* Makes the events of event.py: an iterator over the events of an iterator of pieces, each of which is bytes.
+/* Makes the events of event.py: Reader, an iterator over the events of an iterator of pieces, each of which is bytes. And the
+ * text of a short str: Whole.
  *
- * It is given the address of ansi_events_feed, and the classes and events of event.py; it is not linked with the
+ * They are given the addresses of the library's functions, and the classes and events of event.py; this is not linked with the
  * library. An event is made when it is asked for. Where an error comes, or the end, nothing more comes. */
 #define Py_LIMITED_API 0x03080000
 #define PY_SSIZE_T_CLEAN
@@ -15,6 +16,9 @@
 #define MOST 16384
 #define EVENTS 4096
 #define ROOM 65536
+
+/* Bytes from which on a call leaves the interpreter to other threads while it runs. */
+#define LONG 2048
 
 #define KINDS (ANSI_EVENTS_ESC + 1)
 #define BYTES 256
@@ -38,7 +42,10 @@ typedef struct {
     unsigned char *room;
     size_t next; /* of the records that are written, the one that is read next */
     size_t written;
-    bool is_running; /* from here Python code may run, which may ask for an event */
+    bool is_running; /* from here Python code and other threads may run, which may ask for an event */
+    unsigned long runner; /* the thread that does */
+    size_t waiting;       /* how many others wait for their turn */
+    PyThread_type_lock turn; /* what they wait for, or NULL where none ever did */
     ansi_events state;
 } Reader;
 
@@ -285,13 +292,20 @@ static bool is_fed(Reader *reader)
 {
     size_t taken, used, count = smaller(ANSI_EVENTS_EVENTS(reader->most), EVENTS);
     size_t size = smaller(ANSI_EVENTS_ROOM(reader->most), ROOM);
+    PyThreadState *left = NULL;
+    bool is_well;
 
     if (PyErr_CheckSignals() != 0)
         return false;
-    reader->next = 0;
-    if (!reader->feed(&reader->state, reader->bytes, smaller(reader->count, MOST), reader->events, count, reader->room,
-                      size, &taken, &reader->written, &used)) {
-        PyErr_SetString(PyExc_RuntimeError, "the library asks for more room than ansi_events.h of this version");
+    reader->next = reader->written = 0;
+    if (reader->count >= LONG)
+        left = PyEval_SaveThread();
+    is_well = reader->feed(&reader->state, reader->bytes, smaller(reader->count, MOST), reader->events, count, reader->room,
+                           size, &taken, &reader->written, &used);
+    if (left != NULL)
+        PyEval_RestoreThread(left);
+    if (!is_well) {
+        PyErr_SetString(PyExc_RuntimeError, "the library asks for more room than this version of the package gives");
         return false;
     }
     reader->bytes += taken;
@@ -309,21 +323,66 @@ static bool has_record(Reader *reader)
     return goes_on;
 }
 
+/* A lock that is held, so that the next to take it waits until it is released. */
+static PyThread_type_lock held_lock(void)
+{
+    PyThread_type_lock lock = PyThread_allocate_lock();
+
+    if (lock == NULL)
+        PyErr_NoMemory();
+    else
+        PyThread_acquire_lock(lock, NOWAIT_LOCK);
+    return lock;
+}
+
+/* Waits until no other thread is at work. Answers false where a signal leads to an error. What is released once too often wakes
+ * one that looks again; what is awaited is released at the end of each turn. */
+static bool is_awaited(Reader *reader)
+{
+    bool is_well = reader->turn != NULL || (reader->turn = held_lock()) != NULL;
+    PyLockStatus status;
+
+    reader->waiting++;
+    while (is_well && reader->is_running) {
+        Py_BEGIN_ALLOW_THREADS
+        status = PyThread_acquire_lock_timed(reader->turn, -1, 1);
+        Py_END_ALLOW_THREADS
+        is_well = status == PY_LOCK_ACQUIRED || PyErr_CheckSignals() == 0;
+    }
+    reader->waiting--;
+    return is_well;
+}
+
+/* Whether it is this thread's turn: after another thread's, but not within its own. */
+static bool has_turn(Reader *reader)
+{
+    unsigned long thread = PyThread_get_thread_ident();
+
+    if (reader->is_running && reader->runner == thread) {
+        PyErr_SetString(PyExc_ValueError, "events already executing");
+        return false;
+    }
+    if (reader->is_running && !is_awaited(reader))
+        return false;
+    reader->is_running = true;
+    reader->runner = thread;
+    return true;
+}
+
 static PyObject *reader_next(PyObject *self)
 {
     Reader *reader = (Reader *)self;
     PyObject *event = NULL;
 
-    if (reader->is_running) {
-        PyErr_SetString(PyExc_ValueError, "events already executing");
+    if (!has_turn(reader))
         return NULL;
-    }
-    reader->is_running = true;
     if (has_record(reader))
         event = event_of(reader, &reader->events[reader->next++]);
     if (event == NULL)
         finish(reader);
     reader->is_running = false;
+    if (reader->waiting > 0)
+        PyThread_release_lock(reader->turn);
     return event;
 }
 
@@ -352,6 +411,8 @@ static void reader_dealloc(PyObject *self)
 
     PyObject_GC_UnTrack(self);
     reader_clear(self);
+    if (((Reader *)self)->turn != NULL)
+        PyThread_free_lock(((Reader *)self)->turn);
     release(self);
     Py_DECREF(type);
 }
@@ -400,6 +461,172 @@ static PyObject *reader_new(PyTypeObject *type, PyObject *words, PyObject *named
     return (PyObject *)reader;
 }
 
+/* ------------------------------------------------------------------ short wholes */
+
+typedef bool convert_function(void *, const unsigned char *, size_t, unsigned char *, size_t, size_t *, size_t *);
+typedef bool end_function(void *, unsigned char *, size_t, size_t *);
+
+/* What a str or bytes of few bytes go through, a stream each. The interpreter is this thread's for a whole call: no other call
+ * uses the state or the room. */
+typedef struct {
+    PyObject_HEAD
+    PyObject *begin; /* the bytes of a state that begins a stream */
+    PyObject *plain; /* for each byte, not 0 where a whole of such bytes alone is its own text */
+    convert_function *feed;
+    end_function *end;
+    Py_ssize_t few;   /* the bytes that a whole has at most */
+    Py_ssize_t size;  /* of the room, for what they lead to */
+    Py_ssize_t after; /* and for what comes at the end */
+    unsigned char *state;
+    unsigned char *room;
+} Whole;
+
+static void begin_stream(Whole *whole)
+{
+    memcpy(whole->state, PyBytes_AsString(whole->begin), (size_t)PyBytes_Size(whole->begin));
+}
+
+/* Reads a whole, and answers whether there was room for what it leads to. After its end the next one begins. */
+static bool is_read(Whole *whole, PyObject *bytes, size_t *written)
+{
+    size_t count = (size_t)PyBytes_Size(bytes), taken, more;
+
+    if (whole->feed(whole->state, (const unsigned char *)PyBytes_AsString(bytes), count, whole->room, (size_t)whole->size, &taken, written) &&
+        taken == count && whole->end(whole->state, whole->room + *written, (size_t)whole->after, &more)) {
+        *written += more;
+        return true;
+    }
+    begin_stream(whole);
+    return false;
+}
+
+/* Whether a whole is its own text, so that it need not be read. */
+static bool is_plain(Whole *whole, PyObject *bytes)
+{
+    const unsigned char *at = (const unsigned char *)PyBytes_AsString(bytes), *end = at + PyBytes_Size(bytes);
+    const char *plain = PyBytes_AsString(whole->plain);
+
+    while (at < end && plain[*at] != 0)
+        at++;
+    return at == end;
+}
+
+/* The text, as what was given: it itself where nothing is another. */
+static PyObject *text_as(Whole *whole, PyObject *given, PyObject *bytes, size_t count)
+{
+    const char *made = (const char *)whole->room;
+
+    if (count == (size_t)PyBytes_Size(bytes) && memcmp(made, PyBytes_AsString(bytes), count) == 0) {
+        Py_INCREF(given);
+        return given;
+    }
+    if (PyUnicode_Check(given))
+        return PyUnicode_DecodeUTF8(made, (Py_ssize_t)count, NULL);
+    return PyBytes_FromStringAndSize(made, (Py_ssize_t)count);
+}
+
+/* The bytes of a str or of bytes where these are no type of their own and not too long, as a reference; or NULL. */
+static PyObject *few_bytes(Whole *whole, PyObject *given)
+{
+    if (PyBytes_CheckExact(given)) {
+        Py_INCREF(given);
+        return given;
+    }
+    if (PyUnicode_CheckExact(given) && PyUnicode_GetLength(given) <= whole->few)
+        return PyUnicode_AsEncodedString(given, "utf-8", "surrogatepass");
+    return NULL;
+}
+
+/* The text of a whole, or None where it has to be made otherwise. */
+static PyObject *whole_text(PyObject *self, PyObject *given)
+{
+    Whole *whole = (Whole *)self;
+    PyObject *bytes = few_bytes(whole, given), *text = Py_None;
+    size_t written;
+
+    if (bytes == NULL && PyErr_Occurred())
+        return NULL;
+    if (bytes != NULL && is_plain(whole, bytes))
+        text = given;
+    if (text == given || bytes == NULL || PyBytes_Size(bytes) > whole->few || !is_read(whole, bytes, &written))
+        Py_INCREF(text);
+    else
+        text = text_as(whole, given, bytes, written);
+    Py_XDECREF(bytes);
+    return text;
+}
+
+static void whole_dealloc(PyObject *self)
+{
+    PyTypeObject *type = Py_TYPE(self);
+    freefunc release = (freefunc)(uintptr_t)PyType_GetSlot(type, Py_tp_free);
+    Whole *whole = (Whole *)self;
+
+    Py_XDECREF(whole->begin);
+    Py_XDECREF(whole->plain);
+    PyMem_Free(whole->state);
+    PyMem_Free(whole->room);
+    release(self);
+    Py_DECREF(type);
+}
+
+/* Gives it its memory. */
+static PyObject *whole_begun(Whole *whole, PyObject *begin, PyObject *plain)
+{
+    Py_INCREF(begin);
+    Py_INCREF(plain);
+    whole->begin = begin;
+    whole->plain = plain;
+    whole->state = PyMem_Malloc((size_t)PyBytes_Size(begin));
+    whole->room = PyMem_Malloc((size_t)(whole->size + whole->after));
+    if (whole->state == NULL || whole->room == NULL) {
+        Py_DECREF((PyObject *)whole);
+        return PyErr_NoMemory();
+    }
+    begin_stream(whole);
+    return (PyObject *)whole;
+}
+
+static PyObject *whole_new(PyTypeObject *type, PyObject *words, PyObject *named)
+{
+    allocfunc alloc = (allocfunc)(uintptr_t)PyType_GetSlot(type, Py_tp_alloc);
+    PyObject *feed, *end, *begin, *plain;
+    Py_ssize_t few, size, after;
+    Whole *whole;
+
+    if (named != NULL || !PyArg_ParseTuple(words, "O!O!O!O!nnn", &PyLong_Type, &feed, &PyLong_Type, &end, &PyBytes_Type, &begin,
+                                           &PyBytes_Type, &plain, &few, &size, &after) ||
+        PyLong_AsVoidPtr(feed) == NULL || PyLong_AsVoidPtr(end) == NULL || PyBytes_Size(plain) != BYTES || few < 0 ||
+        size < 0 || after < 0) {
+        if (!PyErr_Occurred())
+            PyErr_SetString(PyExc_TypeError, "two addresses, a state that begins a stream, what is plain, and three numbers");
+        return NULL;
+    }
+    whole = (Whole *)alloc(type, 0);
+    if (whole == NULL)
+        return NULL;
+    whole->feed = (convert_function *)(uintptr_t)PyLong_AsVoidPtr(feed);
+    whole->end = (end_function *)(uintptr_t)PyLong_AsVoidPtr(end);
+    whole->few = few;
+    whole->size = size;
+    whole->after = after;
+    return whole_begun(whole, begin, plain);
+}
+
+static PyMethodDef whole_methods[] = {
+    {"of", whole_text, METH_O, NULL},
+    {NULL, NULL, 0, NULL},
+};
+
+static PyType_Slot whole_slots[] = {
+    {Py_tp_new, AS_OBJECT(whole_new)},
+    {Py_tp_dealloc, AS_OBJECT(whole_dealloc)},
+    {Py_tp_methods, whole_methods},
+    {0, NULL},
+};
+
+static PyType_Spec whole_spec = {"ansi_proved._events.Whole", sizeof(Whole), 0, Py_TPFLAGS_DEFAULT, whole_slots};
+
 /* ------------------------------------------------------------------ the module */
 
 static PyType_Slot slots[] = {
@@ -412,18 +639,23 @@ static PyType_Slot slots[] = {
 static PyType_Spec reader_spec = {"ansi_proved._events.Reader", sizeof(Reader), 0,
                                   Py_TPFLAGS_DEFAULT | Py_TPFLAGS_HAVE_GC, slots};
 
-static int add_reader(PyObject *module)
+static int add_type(PyObject *module, const char *name, PyType_Spec *spec)
 {
-    PyObject *reader = PyType_FromSpec(&reader_spec);
+    PyObject *type = PyType_FromSpec(spec);
 
-    if (reader == NULL || PyModule_AddObject(module, "Reader", reader) != 0) {
-        Py_XDECREF(reader);
+    if (type == NULL || PyModule_AddObject(module, name, type) != 0) {
+        Py_XDECREF(type);
         return -1;
     }
     return 0;
 }
 
-static PyModuleDef_Slot module_slots[] = {{Py_mod_exec, AS_OBJECT(add_reader)}, {0, NULL}};
+static int add_types(PyObject *module)
+{
+    return add_type(module, "Reader", &reader_spec) != 0 ? -1 : add_type(module, "Whole", &whole_spec);
+}
+
+static PyModuleDef_Slot module_slots[] = {{Py_mod_exec, AS_OBJECT(add_types)}, {0, NULL}};
 
 static PyModuleDef module = {PyModuleDef_HEAD_INIT, "_events", NULL, 0, NULL, module_slots, NULL, NULL, NULL};
 

@@ -1,4 +1,4 @@
-"""Terminal output as events: ansi_events.h, for Python."""
+"""Terminal output as events."""
 
 import ctypes
 import re
@@ -7,7 +7,7 @@ import sys
 from itertools import chain
 from typing import NamedTuple, Tuple
 
-from .library import FEW, Idle, address_of, bytes_of, function, iterated
+from .library import FEW, PIECES, TOO_LITTLE, Idle, Shared, address_of, bytes_of, function, pieces_of
 from .text import State
 
 MOST = 16384  # bytes that one call is given at most
@@ -187,7 +187,7 @@ class _Reader:
         end = at + len(piece)
         while at < end:
             if not _feed(state, at, min(MOST, end - at), *self._rest):
-                raise RuntimeError("the library asks for more room than ansi_events.h of this version")
+                raise RuntimeError(TOO_LITTLE)
             at += numbers.taken
             written = ctypes.string_at(self._records_at, SIZE * numbers.written)
             yield from self._parts(written, ctypes.string_at(self._room_at, numbers.used))
@@ -231,15 +231,11 @@ READERS = Idle(_Reader)
 
 
 def _events_of(pieces):
-    """The events of each piece, in parts."""
+    """The events of each piece."""
     reader = _Reader()
-    for piece in map(_bytes_of, pieces):
-        yield from reader.events(piece)
-
-
-def _bytes_of(piece):
-    """The bytes of a piece, which may be a str too."""
-    return piece.encode("utf-8", "surrogatepass") if isinstance(piece, str) else bytes_of(piece)
+    for piece in map(bytes_of, pieces):
+        for part in reader.events(piece):
+            yield from part
 
 
 try:  # what makes the same events in C, where it was built
@@ -254,20 +250,30 @@ _REST = ctypes.cast(_feed, ctypes.c_void_p).value, _MADE
 
 
 def events(stream):
-    """Gives the events of a stream: a str, bytes, a bytearray or a memoryview, or pieces of such, a list or a file.
+    r"""Gives the events of a stream: a str, bytes, a bytearray or a memoryview; or pieces of such, as a list or a file.
 
-    Those of a piece are given before the next piece is asked for, and say the same however the stream is cut, but
-    for a text, which is cut where its piece ends. Each is a named tuple of this package; include/ansi_events.h says
-    what the kinds are.
+        for event in ansi_proved.events(b"\x1b]0;title\x07\x1b[1;31mred\n"):
+            match event:
+                case ansi_proved.Text(text):
+                    ..
+                case ansi_proved.Osc((b"0" | b"2", *title)):  # b";".join(title) is the title
+                    ..
+                case ansi_proved.Csi(parameters, "", False, "m"):  # ((1,), (31,))
+                    ..
+
+    Each is a named tuple of this package, whose kinds help says: Text, Execute, Csi, Esc, Osc, and Hook, Put and Unhook. A file
+    is read as by `text_of`. The events of a piece are given before the next piece is asked for, and say the same however the
+    stream is cut, but for a text, which is cut where its piece ends. What is begun and never ended leaves no event. Threads may
+    share what this gives: each event goes to one of them.
     """
+    is_whole = isinstance(stream, PIECES)
     if IS_COMPILED:
-        is_whole = isinstance(stream, (str, bytes, bytearray, memoryview))
-        return _CompiledReader(iter((_bytes_of(stream),)) if is_whole else map(_bytes_of, iterated(stream)), *_REST)
-    if not isinstance(stream, (str, bytes, bytearray, memoryview)):
-        return chain.from_iterable(_events_of(iterated(stream)))
-    piece = _bytes_of(stream)
+        return _CompiledReader(map(bytes_of, (stream,) if is_whole else pieces_of(stream)), *_REST)
+    if not is_whole:
+        return Shared(_events_of(pieces_of(stream)))
+    piece = bytes_of(stream)
     if len(piece) > FEW:
-        return chain.from_iterable(_events_of([piece]))
+        return Shared(_events_of([piece]))
     reader = READERS.taken()
     found = reader.whole(piece)
     READERS.append(reader)

@@ -1,11 +1,12 @@
-"""Terminal output as HTML: ansi_html.h, for Python."""
+"""Terminal output as HTML."""
 
 import ctypes
 import re
 from functools import partial
 
 from .library import (
-    END, FEED, Converter, Idle, ShortConverter, converted, exact, function, parts_of, pieces_of, whole_of
+    CALL_ROOM, END, END_ROOM, FEED, Converter, Idle, Shared, ShortConverter, converted, exact, function, parts_of,
+    pieces_of, short_by, whole_of,
 )  # fmt: skip
 
 LONG = 1024  # characters at the beginning that are plain, and sooner taken by themselves
@@ -42,22 +43,38 @@ def _made(kind, number):
     return kind(state, _feed, _end)
 
 
+def _short(number):
+    """What makes the HTML of short wholes at once, in the styling of this number."""
+    state = State()
+    _init(ctypes.addressof(state), number)
+    return short_by(_feed, _end, bytes(state), PLAIN, CALL_ROOM, END_ROOM)
+
+
 SHORT_CONVERTERS = [Idle(partial(_made, ShortConverter, number)) for number in STYLINGS.values()]
+SHORT = [_short(number) for number in STYLINGS.values()]
+BOTH, OF_BOTH = "both", SHORT[0]
 
 
 def html_of(stream, styling="both"):
-    """Gives the HTML of a stream that comes in pieces, each bytes, a bytearray or a memoryview.
+    """Gives the HTML of a stream that comes in pieces, as a list or a file: as that of `to_html`.
 
-    The HTML of a piece is given before the next piece is asked for. Each part is UTF-8 by itself.
+    What pieces are, `text_of` says, and so it is with threads. The HTML of a piece is given before the next piece is asked for,
+    and what closes it at the end.
     """
-    return parts_of(_made(Converter, number_of(styling)), pieces_of(stream))
+    return Shared(parts_of(_made(Converter, number_of(styling)), pieces_of(stream)))
 
 
-def to_html(text, styling="both"):
+def to_html(text, styling=BOTH):
     """The HTML of terminal output: a fragment for a `<pre>`, right after a newline there.
 
     Of a str it is a str, of bytes, a bytearray or a memoryview bytes."""
-    number = number_of(styling)
+    if styling is BOTH:
+        short, number = OF_BOTH(text), 0  # (sooner than to look for it)
+    else:
+        number = number_of(styling)
+        short = SHORT[number](text)
+    if short is not None:
+        return short
     if isinstance(text, str):
         if type(text) is not str:
             text = exact(text)

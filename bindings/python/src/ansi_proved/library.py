@@ -1,12 +1,15 @@
-"""The shared libraries: where they are, how its functions are called, and what may be given to them."""
+"""The shared libraries: where they are, how their functions are called, and what may be given to them."""
 
 import ctypes
 import os
+import threading
 
 FEW = 1024  # bytes of a whole that goes through what an earlier one went through
 MOST = 4096  # bytes that one call of a Converter takes at most
 CALL_ROOM, END_ROOM = 16384, 6539  # bytes that one such call, and an end, write at most
 ROOM = 64 << 10  # bytes that are handed on at once, at most
+READ = 64 << 10  # bytes or characters of a file that are read at once, at most
+TOO_LITTLE = "the library asks for more room than this version of the package gives"
 FOLDER = os.path.dirname(os.path.abspath(__file__))
 
 
@@ -34,6 +37,23 @@ def function(name, answer, *kinds, library=LIBRARY):
     return found
 
 
+try:  # what reads a short whole by one call, where it was built
+    from ._events import Whole
+except ImportError:
+    Whole = None
+
+
+def short_by(feed, end, state, plain, room, end_room):
+    """A function that makes the text of a str or of bytes, of FEW bytes at most, by what feeds and ends a stream, from the state
+    that begins one; a whole of the plain characters, an expression, is its own text. It gives None for anything else, and where
+    nothing does so in C."""
+    if Whole is None:
+        return lambda text: None
+    places = (ctypes.cast(it, ctypes.c_void_p).value for it in (feed, end))
+    plain = bytes(byte < 128 and len(plain.match(chr(byte))[0]) for byte in range(256))
+    return Whole(*places, state, plain, FEW, room, end_room).of
+
+
 # What calls answer and take that take bytes from the front of a piece, and that end a stream: its state; where the piece is, and how
 # long; where the room is, and how long; and where they write how many bytes were taken, and how many were written.
 FEED = [ctypes.c_bool, ctypes.c_void_p, ctypes.c_void_p, ctypes.c_size_t, ctypes.c_void_p, ctypes.c_size_t]
@@ -55,10 +75,15 @@ class Counts(ctypes.Structure):
 WRITTEN = Counts.written.offset
 
 
+PIECES = str, bytes, bytearray, memoryview
+
+
 def bytes_of(piece):
     """The bytes of a piece, however it holds them."""
-    if not isinstance(piece, (bytes, bytearray, memoryview)):
-        raise TypeError("a piece is bytes, bytearray or memoryview, and not " + type(piece).__name__)
+    if isinstance(piece, str):
+        return exact(piece).encode("utf-8", "surrogatepass")
+    if not isinstance(piece, PIECES):
+        raise TypeError("a piece is str, bytes, bytearray or memoryview, and not " + type(piece).__name__)
     return bytes(piece)
 
 
@@ -67,19 +92,41 @@ def address_of(piece):
     return ctypes.c_void_p.from_buffer(ctypes.c_char_p(piece)).value
 
 
-def iterated(stream):
-    """The pieces of a stream one after another, as they are."""
+def read_from(read):
+    """What a file has, piece by piece, until it has no more."""
+    piece = read(READ)
+    while len(piece) if isinstance(piece, PIECES) else True:  # (what is no piece is told where it is looked at)
+        yield piece
+        piece = read(READ)
+
+
+def pieces_of(stream):
+    """The pieces of a stream one after another, as they are: of a file what it has, as soon as it has some."""
+    if isinstance(stream, PIECES):
+        raise TypeError("the pieces are a list or a file, and not one " + type(stream).__name__)
+    # (read1 waits for some bytes, and read for as many as it is asked for)
+    read = getattr(stream, "read1", None) or getattr(stream, "read", None)
+    if callable(read):
+        return read_from(read)
     try:
         return iter(stream)
     except TypeError as error:
         raise TypeError("the pieces are a list or a file, and not " + type(stream).__name__) from error
 
 
-def pieces_of(stream):
-    """The bytes of each piece of a stream."""
-    if isinstance(stream, (bytes, bytearray, memoryview, str)):
-        raise TypeError("the pieces are a list or a file, and not one " + type(stream).__name__)
-    return map(bytes_of, iterated(stream))
+class Shared:
+    """An iterator that threads may share: each part is given to one of them, and one waits for another."""
+
+    def __init__(self, parts):
+        # (who asks for a part inside of its own pieces does not wait for itself: a generator says what is wrong)
+        self._parts, self._lock = parts, threading.RLock()
+
+    def __iter__(self):
+        return self
+
+    def __next__(self):
+        with self._lock:
+            return next(self._parts)
 
 
 def exact(text):
@@ -124,11 +171,6 @@ def decoded(view):
     return str(view, "utf-8")
 
 
-def joined(parts_by, is_str):
-    """All parts as a str or as bytes: they are made by one of two functions, and each is UTF-8 by itself."""
-    return "".join(list(parts_by(decoded))) if is_str else b"".join(parts_by(bytes))
-
-
 class Converter:
     """A stream that becomes text of another kind, which goes on with each piece: by its state, what feeds it and what ends
     it. What was not written yet, or has to be closed, comes at the end."""
@@ -147,7 +189,7 @@ class Converter:
         end = at + len(piece)
         while at < end:
             if not feed(state, at, min(MOST, end - at), room.address + filled, CALL_ROOM, taken, written):
-                raise RuntimeError("the library asks for more room than the headers of this version")
+                raise RuntimeError(TOO_LITTLE)
             at += counts.taken
             filled += counts.written
             if filled > most:
@@ -183,11 +225,20 @@ class ShortConverter:
         return room.view[: count + counts.written]  # (and where a stream has ended the next one begins)
 
 
-def parts_of(converter, pieces, made=bytes):
-    """The text of pieces by a Converter, and what comes at the end."""
+def parts_of(converter, pieces):
+    """The text of pieces by a Converter, and what comes at the end: of a str a str, and of bytes bytes."""
+    made = bytes
     for piece in pieces:
-        yield from converter.texts(piece, made)
+        made = decoded if isinstance(piece, str) else bytes
+        yield from converter.texts(bytes_of(piece), made)
     yield from converter.ends(made)
+
+
+def whole_text(converter, piece, is_str):
+    """The text of a whole by a new Converter: its parts are made of memory, and each is UTF-8 by itself."""
+    made = decoded if is_str else bytes
+    parts = [*converter.texts(piece, made), *converter.ends(made)]
+    return "".join(parts) if is_str else b"".join(parts)
 
 
 def converted(piece, is_str, converter, idle):
@@ -199,4 +250,4 @@ def converted(piece, is_str, converter, idle):
             text = (decoded if is_str else bytes)(view)
             idle.append(short)
             return text
-    return joined(lambda made: parts_of(converter(), [piece], made), is_str)
+    return whole_text(converter(), piece, is_str)

@@ -1,11 +1,12 @@
-"""Terminal output as text that hides nothing: ansi_safe.h, for Python."""
+"""Terminal output as text that hides nothing."""
 
 import ctypes
 import re
 from functools import partial
 
 from .library import (
-    END, FEED, Converter, Idle, ShortConverter, converted, exact, function, parts_of, pieces_of, whole_of
+    CALL_ROOM, END, END_ROOM, FEED, Converter, Idle, Shared, ShortConverter, converted, exact, function, parts_of,
+    pieces_of, short_by, whole_of,
 )  # fmt: skip
 
 PLAIN = re.compile("[\t\n\x20-;=-~]*")  # characters that are left wherever they stand
@@ -27,15 +28,22 @@ def _made(kind):
 
 
 SHORT_CONVERTERS = Idle(partial(_made, ShortConverter))
+SHORT = short_by(_feed, _end, bytes(State()), PLAIN, CALL_ROOM, END_ROOM)
 
 
 def safe_of(stream):
-    """Gives the safe text of a stream that comes in pieces, each bytes, a bytearray or a memoryview."""
-    return parts_of(_made(Converter), pieces_of(stream))
+    """Gives the safe text of a stream that comes in pieces."""
+    return Shared(parts_of(_made(Converter), pieces_of(stream)))
 
 
 def safe(text):
-    """The safe text of terminal output: of a str a str, of bytes, a bytearray or a memoryview bytes."""
+    """The safe text of terminal output, which hides nothing: of a str a str, of bytes, a bytearray or a memoryview bytes.
+
+    It is that of `strip(text, safe=True)`, which says more.
+    """
+    short = SHORT(text)
+    if short is not None:
+        return short
     if isinstance(text, str):
         if type(text) is not str:
             text = exact(text)

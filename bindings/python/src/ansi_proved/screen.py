@@ -1,14 +1,19 @@
-"""A terminal's screen: ansi_screen.h, for Python."""
+"""A terminal's screen."""
 
 import ctypes
+import threading
 from collections import namedtuple
 from collections.abc import Sequence
+from functools import lru_cache
+from operator import index
+from struct import Struct
 
 from .html import number_of
-from .library import bytes_of, exact, function, load
+from .library import Idle, bytes_of, function, load
 
 LIBRARY = load("libansi_screen.so", "ANSI_SCREEN_LIBRARY")
-CELL_BYTES = 12  # that a cell has at most, with its marks: ANSI_SCREEN_ROW_ROOM
+CELL_BYTES = 12  # that a cell's text has at most, with its marks
+KEPT = 16384  # cells that are kept, to give them again
 KINDS = ["default", "named", "bright", "indexed", "direct"]
 UNDERLINES = ["", "single", "double", "curly", "dotted", "dashed"]
 ATTRIBUTES = ["bold", "dim", "italic", "blink", "reverse", "hidden", "struck_out", "overlined"]
@@ -60,38 +65,30 @@ class Handle(ctypes.Structure):
     _fields_ = [("held", ctypes.c_void_p)]
 
 
+SIZE = ctypes.sizeof(CellBytes)
 BLANK = bytes(CellBytes(character=0x20))  # a cell of a new screen
-_DRAWING = 8192  # bytes of room that are tried first
-_LINK = 1035  # the bytes that a URI has at most
+_LEAST_ROOM = 8192  # bytes of room that are tried first
 _WIDTHS = [1, 1, 2, 0]  # of a part: empty, whole, left, right
 _SIZE, _AT = ctypes.c_size_t, ctypes.c_void_p
 _COUNTS = [1, 1, 1, 3]  # the numbers that count of a kind, but for the default, which has none
 
 
-def _call(name, answer, *kinds):
-    return function(name, answer, *kinds, library=LIBRARY)
+def _call(name, *kinds, answer=ctypes.c_bool):
+    return function(name, answer, _AT, *kinds, library=LIBRARY)
 
 
-_open = _call("ansi_screen_open_with", ctypes.c_bool, _AT, _SIZE, _SIZE, _AT)
-_copy = _call("ansi_screen_copy", ctypes.c_bool, _AT, _AT)
-_close = _call("ansi_screen_close", None, _AT)
-_reset = _call("ansi_screen_reset", ctypes.c_bool, _AT)
-_feed = _call("ansi_screen_feed", ctypes.c_bool, _AT, _AT, _SIZE)
-_cursor = _call("ansi_screen_cursor", ctypes.c_bool, _AT, _AT, _AT)
-_style = _call("ansi_screen_style", ctypes.c_bool, _AT, _AT)
-_modes = _call("ansi_screen_modes", ctypes.c_bool, _AT, _AT)
-_cell = _call("ansi_screen_cell", ctypes.c_bool, _AT, _SIZE, _SIZE, _AT)
-_row = _call("ansi_screen_row", ctypes.c_bool, _AT, _SIZE, _AT, _SIZE)
-_row_text = _call("ansi_screen_row_text", ctypes.c_bool, _AT, _SIZE, _AT, _SIZE, _AT)
-_part_text = _call("ansi_screen_part_text", ctypes.c_bool, _AT, _SIZE, _SIZE, _SIZE, _AT, _SIZE, _AT)
-_draw = _call("ansi_screen_draw", ctypes.c_bool, _AT, _AT, _SIZE, _AT)
-_update = _call("ansi_screen_update", ctypes.c_bool, _AT, _AT, _AT, _SIZE, _AT)
-_link = _call("ansi_screen_link", ctypes.c_bool, _AT, ctypes.c_uint32, _AT, _SIZE, _AT)
-_html = _call("ansi_screen_html", ctypes.c_bool, _AT, ctypes.c_ubyte, _AT, _SIZE, _AT)
-_equal = _call("ansi_screen_equal", ctypes.c_bool, _AT, _AT)
-_history = _call("ansi_screen_history", ctypes.c_bool, _AT, _AT, _AT)
-_history_row = _call("ansi_screen_history_row", ctypes.c_bool, _AT, _SIZE, _AT, _SIZE)
-_history_text = _call("ansi_screen_history_text", ctypes.c_bool, _AT, _SIZE, _AT, _SIZE, _AT)
+_WRITES = _AT, _SIZE, _AT  # where the room is, and how long, and where a call writes how many bytes it has written
+_open, _copy, _equal = _call("ansi_screen_open_with", _SIZE, _SIZE, _AT), _call("ansi_screen_copy", _AT), _call("ansi_screen_equal", _AT)
+_close, _reset = _call("ansi_screen_close", answer=None), _call("ansi_screen_reset")
+_feed = _call("ansi_screen_feed", _AT, _SIZE)
+_cursor, _style, _modes = _call("ansi_screen_cursor", _AT, _AT), _call("ansi_screen_style", _AT), _call("ansi_screen_modes", _AT)
+_cell, _row = _call("ansi_screen_cell", _SIZE, _SIZE, _AT), _call("ansi_screen_row", _SIZE, _AT, _SIZE)
+_text, _row_text = _call("ansi_screen_text", *_WRITES), _call("ansi_screen_row_text", _SIZE, *_WRITES)
+_part_text = _call("ansi_screen_part_text", _SIZE, _SIZE, _SIZE, *_WRITES)
+_draw, _update = _call("ansi_screen_draw", *_WRITES), _call("ansi_screen_update", _AT, *_WRITES)
+_link, _html = _call("ansi_screen_link", ctypes.c_uint32, *_WRITES), _call("ansi_screen_html", ctypes.c_ubyte, *_WRITES)
+_history, _history_row = _call("ansi_screen_history", _AT, _AT), _call("ansi_screen_history_row", _SIZE, _AT, _SIZE)
+_history_text = _call("ansi_screen_history_text", _SIZE, *_WRITES)
 
 
 def _color_of(color):
@@ -104,21 +101,90 @@ def _style_of(style):
     return Style(_color_of(style.foreground), _color_of(style.background), UNDERLINES[style.underline], *flags)
 
 
-def _cell_of(cell, styles):
-    """A cell. Most have a style that another one of the row has too."""
-    key = bytes(cell.style)
-    style = styles.get(key)
-    if style is None:
-        style = styles[key] = _style_of(cell.style)
+def _cell_of(cell):
     width = _WIDTHS[cell.part]
     text = "".join(map(chr, [cell.character, *cell.marks[: cell.mark_count]])) if width else ""
-    return Cell(text, style, width, cell.link, bool(cell.goes_on))
+    return Cell(text, _style_of(cell.style), width, cell.link, bool(cell.goes_on))
+
+
+class _Kept(dict):
+    """Cells by their bytes: most are like another one, and the same is given again."""
+
+    def __missing__(self, key):
+        if len(self) >= KEPT:
+            self.clear()
+        self[key] = cell = _cell_of(CellBytes.from_buffer_copy(key))
+        return cell
+
+
+_KEPT = _Kept()
+
+
+@lru_cache(maxsize=16)
+def _parts(columns):
+    """What parts the bytes of a row of so many columns."""
+    return Struct("%ds" % SIZE * columns)
+
+
+def cells_of(row):
+    """The cells of a row, of its bytes."""
+    return list(map(_KEPT.__getitem__, _parts(len(row) // SIZE).unpack(row)))
+
+
+def _number(value, what):
+    """The int that is given for a number, or a TypeError in words."""
+    try:
+        return index(value)
+    except TypeError:
+        raise TypeError("%s is an int, and not %s" % (what, type(value).__name__)) from None
+
+
+def _decoded(written):
+    """The str of memory whose bytes are UTF-8."""
+    return str(written, "utf-8")
+
+
+def check_size(columns, rows):
+    """Says in words where a screen can't have this size."""
+    if not (isinstance(columns, int) and isinstance(rows, int)):
+        raise TypeError("columns and rows are int, and not %s and %s" % (type(columns).__name__, type(rows).__name__))
+    if not (2 <= columns <= 1000 and 1 <= rows <= 1000):
+        raise ValueError("a screen has 2 to 1000 columns and 1 to 1000 rows, and not %dx%d" % (columns, rows))
+
+
+class _Memory:
+    """What calls write to: the cells of a row, bytes of text, and two numbers. Each is used by one call at a time."""
+
+    def __init__(self, columns):
+        self.cells, self._numbers = ctypes.create_string_buffer(SIZE * columns), (_SIZE * 2)()
+        self.cells_at, self.numbers_at = map(ctypes.addressof, (self.cells, self._numbers))
+        self.second_at = self.numbers_at + ctypes.sizeof(_SIZE)
+        self.numbers = self._numbers
+        self.make_room(max(_LEAST_ROOM, CELL_BYTES * columns))
+
+    def make_room(self, size):
+        self._room = ctypes.create_string_buffer(size)
+        self.rest = ctypes.addressof(self._room), size, self.numbers_at
+        self._view = memoryview(self._room)
+
+    def written(self):
+        """The bytes that a call wrote, as memory."""
+        return self._view[: self.numbers[0]]
+
+    def has_room(self):
+        """Makes as much room as a call asked for; answers whether there was less."""
+        count = self.numbers[0]
+        if count <= self.rest[1]:
+            return False
+        self.make_room(count)
+        return True
 
 
 class History(Sequence):
     """The last rows that left a screen, at its top or erased with all of it (ED 2, RIS), the oldest first: a sequence of lists of cells.
 
-    It goes on as the screen does: what left since is at its end.
+    It goes on as the screen does: what left since is at its end, and what another thread feeds moves the numbers of the rows. Rows of
+    one moment are those of a slice (`history[:]`), of `display` and of `text()`, or of a copy of the screen.
     """
 
     def __init__(self, screen):
@@ -127,71 +193,90 @@ class History(Sequence):
     def __len__(self):
         return self._screen._counts()[0]
 
+    def _last(self, count):
+        """The bytes of the cells of the last rows, so many."""
+        with self._screen._lock:
+            kept = len(self)
+            return [self._screen._row_by(_history_row, number) for number in range(kept - count, kept)]
+
     @property
     def left(self):
         """How many rows have left in all, since the screen was made or reset."""
         return self._screen._counts()[1]
 
-    def _number(self, number):
-        count = len(self)
+    def _place(self, number):
+        count, number = len(self), _number(number, "the number of a row")
         place = number + count if number < 0 else number
         if not 0 <= place < count:
             raise IndexError("there is no row %d of the %d that are kept" % (number, count))
         return place
 
     def __getitem__(self, number):
-        if isinstance(number, slice):
-            return [self[it] for it in range(*number.indices(len(self)))]
-        return self._screen._kept_row(self._number(number))
+        with self._screen._lock:
+            if isinstance(number, slice):
+                return [self[it] for it in range(*number.indices(len(self)))]
+            return cells_of(self._screen._row_by(_history_row, self._place(number)))
 
     def row_text(self, number):
         """The text of a row, without the blanks at its end."""
-        return self._screen._kept_text(self._number(number))
+        with self._screen._lock:
+            return self._screen._text_by(_history_text, self._place(number))
 
     @property
     def display(self):
         """The text of each row, with the blanks at its end."""
-        return ["".join(cell.text for cell in row) for row in self]
+        return ["".join(cell.text for cell in row) for row in self[:]]
 
     def text(self):
         """The text of all rows: each without the blanks at its end, and a newline."""
-        return "".join(self.row_text(number) + "\n" for number in range(len(self)))
+        with self._screen._lock:
+            return "".join(self.row_text(number) + "\n" for number in range(len(self)))
 
     def __repr__(self):
         return "<History of %d rows, of %d that left>" % self._screen._counts()
 
 
 class Screen:
-    """A terminal's screen, which shows what xterm shows after the bytes that it is fed.
+    r"""A terminal's screen, which shows what xterm shows after the bytes that it is fed.
 
-    A with block closes it, as `close` does, and so does its end. It may be used by one thread at a time.
+        with ansi_proved.Screen(80, 24) as screen:
+            screen.feed(b"one\r\n\x1b[1mtwo")
+            screen.text()  # "one\ntwo\n"
+
+    It takes what a terminal takes: CR LF between lines. A byte that belongs to no character leaves nothing. A with block closes it,
+    as `close` does, and so does its end.
 
     history: how many of the last rows that leave it are kept. Each takes some 40 bytes a column, from the beginning on.
+
+    Threads may share it: one call is made at a time, and others wait. So another thread sees all of a piece that is fed or nothing
+    of it, and what a call gives is of one moment: `text()`, `display`, `cells`, a slice of `history`. Between two calls the
+    screen may go on: what has to be of the same moment is read from a `copy()`. Once a thread has closed it, each call of the others
+    is a ValueError, and never before.
     """
 
+    _at = None
+
     def __init__(self, columns=80, rows=24, history=0):
-        self._handle = Handle()
-        self._at = ctypes.addressof(self._handle)
-        if not (isinstance(columns, int) and isinstance(rows, int) and isinstance(history, int)):
-            raise TypeError("columns, rows and history are int")
-        if not (2 <= columns <= 1000 and 1 <= rows <= 1000):
-            raise ValueError("a screen has 2 to 1000 columns and 1 to 1000 rows, and not %dx%d" % (columns, rows))
+        check_size(columns, rows)
+        if not isinstance(history, int):
+            raise TypeError("a history is an int, and not " + type(history).__name__)
         if not 0 <= history < 2 ** (8 * ctypes.sizeof(_SIZE)):
             raise ValueError("there is no history of %d rows" % history)
+        self.__del__()  # (what it held, where it is made again)
+        self._begin(columns, rows)
         options = Options(history=history)
         if not _open(self._at, columns, rows, ctypes.addressof(options)):
             raise MemoryError("there is no memory for a screen of %dx%d and %d rows that left" % (columns, rows, history))
-        self._begin(columns, rows)
 
     def _begin(self, columns, rows):
-        """What it has beside the screen that it holds."""
+        """What it has beside the screen that it will hold."""
+        self._handle = Handle()
+        self._at = ctypes.addressof(self._handle)
+        # (a call that comes inside of another one of the same thread, as of a signal, does not wait for itself)
+        self._lock = threading.RLock()
         self._columns, self._rows = columns, rows
-        self._cells = (CellBytes * columns)()
-        self._room = ctypes.create_string_buffer(CELL_BYTES * columns)
-        self._view = memoryview(self._room)
-        self._numbers = (_SIZE * 2)()
+        self._idle = Idle(lambda: _Memory(columns))
         self._known = [BLANK * columns] * rows  # the cells of each row, as `changed` knew them last
-        self._rest = ctypes.addressof(self._room), len(self._room), ctypes.addressof(self._numbers)
 
     columns = property(lambda self: self._columns, doc="How many columns it has.")
     rows = property(lambda self: self._rows, doc="How many rows it has.")
@@ -202,28 +287,32 @@ class Screen:
             raise ValueError("the screen is closed")
 
     def _row_within(self, row):
+        row = _number(row, "a row")
         if not 0 <= row < self._rows:
             raise IndexError("there is no row %d of %d" % (row, self._rows))
+        return row
 
     def feed(self, piece):
         """Takes the next bytes of the stream, cut anywhere; or a str, as its UTF-8."""
-        whole = exact(piece).encode("utf-8", "surrogatepass") if isinstance(piece, str) else bytes_of(piece)
-        self._held(_feed(self._at, whole, len(whole)))
+        whole = bytes_of(piece)
+        with self._lock:
+            self._held(_feed(self._at, whole, len(whole)))
 
     def reset(self):
         """Makes it a blank screen of its size, at the beginning of a stream."""
-        self._held(_reset(self._at))
+        with self._lock:
+            self._held(_reset(self._at))
 
     def copy(self):
         """A screen of its own that stands where this one stands: in the midst of a sequence too, with the rows that left it."""
-        self._held(self._handle.held)
         copy = type(self).__new__(type(self))
-        copy._handle = Handle()
-        copy._at = ctypes.addressof(copy._handle)
-        if not _copy(copy._at, self._at):
-            raise MemoryError("there is no memory for a copy of a screen")
         copy._begin(self._columns, self._rows)
-        copy._known = list(self._known)
+        vars(copy).update((name, value) for name, value in vars(self).items() if name not in vars(copy))
+        with self._lock:
+            self._held(self._handle.held)
+            copy._known = list(self._known)
+            if not _copy(copy._at, self._at):
+                raise MemoryError("there is no memory for a copy of a screen")
         return copy
 
     __copy__ = copy
@@ -231,35 +320,56 @@ class Screen:
     def __deepcopy__(self, _):
         return self.copy()
 
+    def __reduce_ex__(self, _):
+        raise TypeError("a Screen cannot be pickled: draw() gives the bytes that show it again")
+
     def close(self):
         """Gives its memory back. It may be closed again."""
-        _close(self._at)
+        with self._lock:
+            _close(self._at)
+
+    def _made_by(self, make, call, *given):
+        """What is made of the memory that a call writes, in as much room as it says that it takes."""
+        memory = self._idle.taken()
+        with self._lock:
+            while not call(self._at, *given, *memory.rest):
+                self._held(self._handle.held)
+                if not memory.has_room():
+                    raise MemoryError("there is no memory for what is shown")
+        made = make(memory.written())
+        self._idle.append(memory)
+        return made
+
+    def _text_by(self, call, *given):
+        """The text that a call writes."""
+        return self._made_by(_decoded, call, *given)
 
     def row_text(self, row):
         """The text of a row, counted from 0, without the blanks at its end."""
-        self._row_within(row)
-        self._held(_row_text(self._at, row, *self._rest))
-        return str(self._view[: self._numbers[0]], "utf-8")
+        return self._text_by(_row_text, self._row_within(row))
 
     def part_text(self, row, start, end):
         """The text of a row's cells from the column `start` up to `end`, which is not among them; blanks too."""
-        self._row_within(row)
+        row, start, end = self._row_within(row), _number(start, "a column"), _number(end, "a column")
         if not 0 <= start <= end <= self._columns:
             raise IndexError("there are no columns from %d up to %d" % (start, end))
-        self._held(_part_text(self._at, row, start, end, *self._rest))
-        return str(self._view[: self._numbers[0]], "utf-8")
+        return self._text_by(_part_text, row, start, end)
 
     @property
     def display(self):
         """The text of each row, with the blanks at its end."""
-        return [self.part_text(row, 0, self._columns) for row in range(self._rows)]
+        with self._lock:
+            return [self._text_by(_part_text, row, 0, self._columns) for row in range(self._rows)]
 
     def text(self, joined=False):
         """The text of the screen: each row without the blanks at its end, and a newline, without the blank rows at the end.
 
         joined: rows from which autowrap went on are one line with the next ones.
         """
-        lines = [self._line(row) if joined else self.row_text(row) + "\n" for row in range(self._rows)]
+        if not joined:
+            return self._text_by(_text)
+        with self._lock:
+            lines = [self._line(row) for row in range(self._rows)]
         while lines and not lines[-1].strip(" \n"):
             lines.pop()
         whole = "".join(lines)
@@ -273,116 +383,122 @@ class Screen:
 
     def cell(self, row, column):
         """The cell of a row and a column, counted from 0."""
-        found = CellBytes()
-        self._row_within(row)
+        row, column, found = self._row_within(row), _number(column, "a column"), CellBytes()
         if not 0 <= column < self._columns:
             raise IndexError("there is no column %d of %d" % (column, self._columns))
-        self._held(_cell(self._at, row, column, ctypes.addressof(found)))
-        return _cell_of(found, {})
+        with self._lock:
+            self._held(_cell(self._at, row, column, ctypes.addressof(found)))
+        return _KEPT[bytes(found)]
 
-    def _row_bytes(self, row):
-        self._held(_row(self._at, row, ctypes.addressof(self._cells), self._columns))
-        return self._cells
+    def _row_by(self, call, row):
+        """The bytes of the cells of a row, on the screen or of those that left."""
+        memory = self._idle.taken()
+        with self._lock:
+            self._held(call(self._at, row, memory.cells_at, self._columns))
+        found = memory.cells.raw
+        self._idle.append(memory)
+        return found
 
     def row(self, row):
         """The cells of a row, counted from 0."""
-        self._row_within(row)
-        styles = {}
-        return [_cell_of(cell, styles) for cell in self._row_bytes(row)]
+        return cells_of(self._row_by(_row, self._row_within(row)))
+
+    def _each_row(self):
+        """The bytes of all rows, as they are at one moment."""
+        with self._lock:
+            return [self._row_by(_row, row) for row in range(self._rows)]
+
+    @property
+    def cells(self):
+        """The cells of all rows."""
+        return list(map(cells_of, self._each_row()))
+
+    def changed(self):
+        """The numbers of the rows whose cells are others than when this was asked before, or than on a new screen."""
+        with self._lock:
+            before, self._known = self._known, self._each_row()
+            return [row for row in range(self._rows) if self._known[row] != before[row]]
 
     @property
     def history(self):
         """The rows that left the screen, of which the last are kept."""
         return History(self)
 
+    def _two_by(self, call):
+        """The two numbers that a call writes."""
+        memory = self._idle.taken()
+        with self._lock:
+            self._held(call(self._at, memory.numbers_at, memory.second_at))
+        found = tuple(memory.numbers)
+        self._idle.append(memory)
+        return found
+
     def _counts(self):
-        at = ctypes.addressof(self._numbers)
-        self._held(_history(self._at, at, at + ctypes.sizeof(_SIZE)))
-        return tuple(self._numbers)
-
-    def _kept_row(self, number):
-        self._held(_history_row(self._at, number, ctypes.addressof(self._cells), self._columns))
-        styles = {}
-        return [_cell_of(cell, styles) for cell in self._cells]
-
-    def _kept_text(self, number):
-        self._held(_history_text(self._at, number, *self._rest))
-        return str(self._view[: self._numbers[0]], "utf-8")
-
-    def changed(self):
-        """The numbers of the rows whose cells are others than when this was asked before, or than on a new screen."""
-        before, self._known = self._known, [bytes(self._row_bytes(row)) for row in range(self._rows)]
-        return [row for row in range(self._rows) if self._known[row] != before[row]]
-
-    @property
-    def cells(self):
-        """The cells of all rows."""
-        return [self.row(row) for row in range(self._rows)]
+        return self._two_by(_history)
 
     @property
     def cursor(self):
         """Where the cursor is, and whether it is shown."""
-        at = ctypes.addressof(self._numbers)
-        self._held(_cursor(self._at, at, at + ctypes.sizeof(_SIZE)))
-        return Cursor(*self._numbers, self.modes.cursor_shown)
+        with self._lock:
+            return Cursor(*self._two_by(_cursor), self.modes.cursor_shown)
 
     @property
     def style(self):
         """The style of the character that comes next."""
         found = StyleBytes()
-        self._held(_style(self._at, ctypes.addressof(found)))
+        with self._lock:
+            self._held(_style(self._at, ctypes.addressof(found)))
         return _style_of(found)
 
     @property
     def modes(self):
         """Its modes."""
         found = ModeBytes()
-        self._held(_modes(self._at, ctypes.addressof(found)))
+        with self._lock:
+            self._held(_modes(self._at, ctypes.addressof(found)))
         return Modes(*(bool(getattr(found, name)) for name in Modes._fields))
-
-    def _bytes_by(self, call, *handles):
-        """The bytes that a call writes, in as much room as it says that it takes."""
-        room, at = ctypes.create_string_buffer(_DRAWING), ctypes.addressof(self._numbers)
-        while not call(*handles, ctypes.addressof(room), len(room), at):
-            if not self._numbers[0]:
-                raise MemoryError("there is no memory for the bytes of a screen")
-            room = ctypes.create_string_buffer(self._numbers[0])
-        return room.raw[: self._numbers[0]]
 
     def link(self, number):
         """The URI of a link, by the number that a cell has, as a str; "" where it is none that is kept or shown."""
+        number = _number(number, "the number of a link")
         if not 0 <= number < 2**32:
             raise ValueError("a link has a number below 2**32, and not %d" % number)
-        room, at = ctypes.create_string_buffer(_LINK), ctypes.addressof(self._numbers)
-        self._held(_link(self._at, number, ctypes.addressof(room), len(room), at))
-        return room.raw[: self._numbers[0]].decode("ascii")
+        return self._text_by(_link, number)
 
     def to_html(self, styling="both"):
         """What it shows as HTML, to paste after <pre> and a newline: of the stylings that STYLINGS names."""
-        number = number_of(styling)
-        self._held(self._handle.held)
-        return self._bytes_by(lambda at, *rest: _html(at, number, *rest), self._at).decode("utf-8")
+        return self._text_by(_html, number_of(styling))
 
     def draw(self):
         """The bytes after which any terminal of its size shows this screen: all but links and which rows go on."""
-        self._held(self._handle.held)
-        return self._bytes_by(_draw, self._at)
+        return self._made_by(bytes, _draw)
 
     def update(self, wanted):
         """The bytes after which a terminal that shows this screen shows `wanted`, a screen of the same size: what differs."""
-        self._held(self._handle.held)
-        wanted._held(wanted._handle.held)
-        if (self._columns, self._rows) != (wanted._columns, wanted._rows):
-            raise ValueError("an update leads to a screen of the same size")
-        return b"" if wanted is self else self._bytes_by(_update, self._at, wanted._at)
+        if not isinstance(wanted, Screen):
+            raise TypeError("an update leads to a Screen, and not to " + type(wanted).__name__)
+        with self._first_of(wanted), self._second_of(wanted):
+            self._held(self._handle.held)
+            wanted._held(wanted._handle.held)
+            if (self._columns, self._rows) != (wanted._columns, wanted._rows):
+                raise ValueError("an update leads to a screen of the same size")
+            return b"" if wanted is self else self._made_by(bytes, _update, wanted._at)
+
+    def _first_of(self, other):
+        """The lock that is taken first of two, whoever asks: so that no two threads wait for each other."""
+        return min(self, other, key=id)._lock
+
+    def _second_of(self, other):
+        return max(self, other, key=id)._lock
 
     def __eq__(self, other):
         """Whether both show the same: cells, cursor, the style of what comes next and modes."""
         if not isinstance(other, Screen):
             return NotImplemented
-        self._held(self._handle.held)
-        other._held(other._handle.held)
-        return self is other or _equal(self._at, other._at)
+        with self._first_of(other), self._second_of(other):
+            self._held(self._handle.held)
+            other._held(other._handle.held)
+            return self is other or _equal(self._at, other._at)
 
     __hash__ = None
 
@@ -393,13 +509,14 @@ class Screen:
         self.close()
 
     def __del__(self):
-        if _close is not None:  # (it may be gone where the interpreter ends)
+        if _close is not None and self._at is not None:  # (it may be gone where the interpreter ends)
             _close(self._at)
 
     def __str__(self):
         return self.text()
 
     def __repr__(self):
-        if not self._handle.held:
-            return "<Screen, closed>"
-        return "<Screen %dx%d, cursor at row %d, column %d>" % (self._columns, self._rows, *self.cursor[:2])
+        with self._lock:
+            if not self._handle.held:
+                return "<Screen, closed>"
+            return "<Screen %dx%d, cursor at row %d, column %d>" % (self._columns, self._rows, *self.cursor[:2])

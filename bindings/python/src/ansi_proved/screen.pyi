@@ -1,9 +1,12 @@
 """The types of this module, for type checkers and editors."""
 
 from types import TracebackType
-from typing import List, NamedTuple, Optional, Sequence, Tuple, Type, Union, overload
+from typing import List, Literal, NamedTuple, Optional, Sequence, Tuple, Type, Union, overload
 
 _Bytes = Union[bytes, bytearray, memoryview]
+_Kind = Literal["default", "named", "bright", "indexed", "direct"]
+_Underline = Literal["", "single", "double", "curly", "dotted", "dashed"]
+_Styling = Literal["both", "light", "dark", "classes"]
 
 class Cursor(NamedTuple):
     row: int
@@ -18,13 +21,13 @@ class Modes(NamedTuple):
     origin: bool
 
 class Color(NamedTuple):
-    kind: str
+    kind: _Kind
     values: Tuple[int, ...]
 
 class Style(NamedTuple):
     foreground: Color
     background: Color
-    underline: str
+    underline: _Underline
     bold: bool
     dim: bool
     italic: bool
@@ -85,7 +88,7 @@ class Screen:
     def __copy__(self) -> Screen: ...
     def __deepcopy__(self, _: object) -> Screen: ...
     def link(self, number: int) -> str: ...
-    def to_html(self, styling: str = "both") -> str: ...
+    def to_html(self, styling: _Styling = "both") -> str: ...
     def draw(self) -> bytes: ...
     def update(self, wanted: Screen) -> bytes: ...
     def __eq__(self, other: object) -> bool: ...

@@ -1,16 +1,17 @@
-"""What is left of terminal output that is stripped of its escapes: ansi_strip.h, for Python."""
+"""What is left of terminal output that is stripped of its escapes."""
 
 import ctypes
 import re
 
 from .library import (
-    END, FEED, FEW, Counts, Idle, Room, address_of, decoded, exact, function, joined, parts_of, pieces_of, whole_of,
+    END, FEED, FEW, TOO_LITTLE, Counts, Idle, Room, Shared, address_of, decoded, exact, function, parts_of, pieces_of,
+    short_by, whole_of, whole_text,
 )  # fmt: skip
 from .safe import safe as safe_text, safe_of
 
 MOST = 64 << 10  # bytes that one call is given at most
 END_ROOM = 3  # bytes that an end writes at most
-SHORT = 256  # characters of a str that is looked through sooner than it is stripped
+LOOKED_THROUGH = 256  # characters of a str that is looked through sooner than it is stripped
 # characters that drive no terminal, and controls that are left
 CLEAN = re.compile("[\t\n\r\x20-\x7e\xa0-\ud7ff\ue000-\U0010ffff]*")
 
@@ -26,7 +27,7 @@ _end = function("ansi_strip_end", *END)
 
 
 def room_of(count):
-    """The bytes of room in which so many are taken at once: ANSI_STRIP_ROOM."""
+    """The bytes of room in which so many are taken at once."""
     return 3 * count + 3
 
 
@@ -49,7 +50,7 @@ class Stripper:
             most = min(MOST, count - at)
             _feed(state, start + at if at else start, most, room.address, room.size, taken, written)
             if counts.taken != most:
-                raise RuntimeError("the library asks for more room than ansi_strip.h of this version")
+                raise RuntimeError(TOO_LITTLE)
             if counts.written:
                 yield made(room.view[: counts.written])
 
@@ -64,12 +65,18 @@ class Stripper:
 
 
 def text_of(stream, *, safe=False):
-    """Gives the text of a stream that comes in pieces, each bytes, a bytearray or a memoryview: as `strip` leaves it.
+    """Gives the text of a stream that comes in pieces, as a list or a file: as `strip` leaves it.
 
-    The text of a piece is given before the next piece is asked for, but where it is safe for a carriage return, a `<`, a
-    `<U` or a joiner that comes last. Each part is UTF-8 by itself.
+        with open("log", "rb") as log:
+            for part in ansi_proved.text_of(log):
+                sys.stdout.buffer.write(part)
+
+    A piece is bytes, a bytearray or a memoryview, and leads to bytes, each UTF-8 by itself; or a str, and leads to str. A file
+    is read 64 KiB at a time: one of bytes as it has some, one of text (`open("log")`) once it has so many. The text of a piece
+    is given before the next piece is asked for, but where it is safe for a carriage return, a `<`, a `<U` or a joiner that
+    comes last. Threads may share what this gives: each part goes to one of them.
     """
-    return safe_of(stream) if safe else parts_of(Stripper(), pieces_of(stream))
+    return safe_of(stream) if safe else Shared(parts_of(Stripper(), pieces_of(stream)))
 
 
 class ShortStripper:
@@ -87,7 +94,7 @@ class ShortStripper:
         _feed(self._state_at, piece, len(piece), *self._rest)
         count = counts.written
         if counts.taken != len(piece):
-            raise RuntimeError("the library asks for more room than ansi_strip.h of this version")
+            raise RuntimeError(TOO_LITTLE)
         if self._state.length:  # (else nothing is begun)
             _end(self._state_at, room.address + count, room.size - count, self._rest[3])
             count += counts.written
@@ -95,12 +102,13 @@ class ShortStripper:
 
 
 SHORT_STRIPPERS = Idle(ShortStripper)
+SHORT = short_by(_feed, _end, bytes(State()), CLEAN, room_of(FEW), END_ROOM)
 
 
 def is_clean(text):
     """Whether a str is told to be clean sooner than it is stripped: where it is short, or little of it is ASCII, so
     that to encode and to decode it takes long, and all of it is left."""
-    if len(text) <= SHORT:
+    if len(text) <= LOOKED_THROUGH:
         return "\x1b" not in text and CLEAN.match(text).end() == len(text)
     if text.isascii():
         return False
@@ -118,6 +126,9 @@ def strip(text, *, safe=False):
     """
     if safe:
         return safe_text(text)
+    short = SHORT(text)
+    if short is not None:
+        return short
     if isinstance(text, str):
         if type(text) is not str:
             text = exact(text)
@@ -125,7 +136,7 @@ def strip(text, *, safe=False):
             return text  # (clean text is left as it is: laws::inert_clean_text of ansi_strip)
     piece, is_str = whole_of(text)
     if len(piece) > FEW:
-        return joined(lambda made: parts_of(Stripper(), [piece], made), is_str)
+        return whole_text(Stripper(), piece, is_str)
     stripper = SHORT_STRIPPERS.taken()
     text = (decoded if is_str else bytes)(stripper.text(piece))
     SHORT_STRIPPERS.append(stripper)

@@ -1,0 +1,69 @@
+"""Pages of terminal output, and the rules of HTML by classes: as ansi2html writes them, in the files .html and .css beside this one."""
+
+import os
+import re
+from functools import lru_cache
+
+from .html import number_of, to_html
+from .library import FOLDER, exact
+
+# colours for light and dark pages, of which a page that is one of both has one
+BOTH = re.compile(r"([a-z-]+: ?)#\w{6}; ?\1light-dark\((#\w{6}), ?(#\w{6})\);")
+ONE = {"light": r"\1\2;", "dark": r"\1\3;"}
+TITLE, LANGUAGE = "TITLE-OF-THE-PAGE", "x-LANGUAGE"  # what stands for them in a page
+SCHEMES = "both", "light", "dark"
+TAG = re.compile("[A-Za-z0-9-]{1,64}")
+ESCAPED = str.maketrans({"&": "&amp;", "<": "&lt;", ">": "&gt;", '"': "&quot;", "'": "&#39;", "\r": "&#13;"})
+
+
+@lru_cache(maxsize=None)
+def _file(name):
+    with open(os.path.join(FOLDER, name), encoding="utf-8", newline="") as file:
+        return file.read()
+
+
+def _frame(styling):
+    """What a page has before its language, from there to its title, from there to its text, and after it."""
+    before, rest = _file("both.html" if styling == "classes" else styling + ".html").split(LANGUAGE)
+    named, rest = rest.split(TITLE)
+    looks, tail = rest.split("<pre>\n")
+    if styling == "classes":  # (without the rules of lines)
+        looks = looks.replace("pre {", stylesheet().split("pre > ")[0] + "pre {")
+    return before, named, looks + "<pre>\n", tail
+
+
+def _named(value, what):
+    """The characters of a str, or a TypeError in words."""
+    if not isinstance(value, str):
+        raise TypeError("%s is a str, and not %s" % (what, type(value).__name__))
+    return exact(value)
+
+
+def page(text, styling="both", *, title="Terminal output", lang="en"):
+    """A whole page of terminal output, in UTF-8, as `ansi2html --page` writes it: light or dark as its reader has it.
+
+        with open("log", "rb") as log, open("log.html", "wb") as page:
+            page.write(ansi_proved.page(log.read(), title="A log"))
+
+    styling: as of `to_html`; by "classes" the rules are in the page's head. lang: the tag of its language: letters, digits and
+    hyphens, 64 at most. Of a str it is a str, of bytes, a bytearray or a memoryview bytes.
+    """
+    number_of(styling)
+    title, lang = _named(title, "a title"), _named(lang, "a language")
+    if not TAG.fullmatch(lang):
+        raise ValueError("a language is a tag of letters, digits and hyphens, 64 at most, and not %r" % lang)
+    before, named, looks, tail = _frame(exact(styling))
+    head = "".join([before, lang, named, title.translate(ESCAPED), looks])
+    html = to_html(text, styling)
+    if isinstance(html, str):
+        return head + html + tail
+    return head.encode("utf-8", "surrogatepass") + html + tail.encode()
+
+
+def stylesheet(scheme="both"):
+    """The rules of HTML by classes and of lines, as `ansi2html --stylesheet` writes them: for pages that are light or dark as their
+    reader has it ("both"), or for "light" or "dark" ones."""
+    if _named(scheme, "a scheme") not in SCHEMES:
+        raise ValueError("a scheme is one of %s, and not %r" % (", ".join(SCHEMES), scheme))
+    rules = _file("classes.css")
+    return rules if scheme == "both" else BOTH.sub(ONE[exact(scheme)], rules)

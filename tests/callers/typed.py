@@ -1,0 +1,137 @@
+"""Calls of the Python package, for a type checker: tests/library_packages.py holds what it says of this file to the comments. A line that
+ends in `# wrong` is one that it has to refuse, and any other one that it has to take."""
+
+import io
+import sys
+from typing import Dict, Iterator, List, Sequence, Tuple
+
+import ansi_proved
+from ansi_proved import STYLINGS, Cell, Color, Csi, Cursor, Esc, Execute, History, Hook, Modes, Osc, Put, Screen, Style, Text, Unhook
+
+flag: bool = True
+text: str = ansi_proved.strip("a")
+data: bytes = ansi_proved.strip(b"a", safe=True)
+data = ansi_proved.strip(bytearray(b"a"))
+data = ansi_proved.strip(memoryview(b"a"))
+text = ansi_proved.safe("a")
+data = ansi_proved.safe(b"a")
+text = ansi_proved.shown("a", 120, rows=40)
+data = ansi_proved.shown(b"a")
+text = ansi_proved.to_html("a", "classes")
+data = ansi_proved.to_html(b"a", styling="dark")
+text = ansi_proved.page("a", "light", title="A log", lang="de")
+data = ansi_proved.page(b"a")
+text = ansi_proved.stylesheet("dark")
+text = ansi_proved.strip(b"a")  # wrong
+data = ansi_proved.strip("a")  # wrong
+ansi_proved.strip(5)  # wrong
+ansi_proved.strip(None)  # wrong
+ansi_proved.strip("a", True)  # wrong
+ansi_proved.strip("a", sfe=True)  # wrong
+ansi_proved.safe(5)  # wrong
+data = ansi_proved.safe("a")  # wrong
+ansi_proved.shown("a", "80")  # wrong
+data = ansi_proved.shown("a")  # wrong
+ansi_proved.to_html("a", "red")  # wrong
+ansi_proved.to_html("a", 1)  # wrong
+ansi_proved.page("a", "red")  # wrong
+ansi_proved.page("a", title=b"A log")  # wrong
+ansi_proved.page("a", "both", "A log")  # wrong
+ansi_proved.stylesheet("classes")  # wrong
+data = ansi_proved.stylesheet()  # wrong
+
+bytes_parts: Iterator[bytes] = ansi_proved.text_of([b"a", bytearray(b"b"), memoryview(b"c")])
+bytes_parts = ansi_proved.text_of(io.BytesIO(b"a"), safe=True)
+bytes_parts = ansi_proved.text_of(open("log", "rb"))
+bytes_parts = ansi_proved.text_of(sys.stdin.buffer)
+bytes_parts = ansi_proved.html_of(io.BytesIO(b"a"), "dark")
+str_parts: Iterator[str] = ansi_proved.text_of(["a", "b"])
+str_parts = ansi_proved.text_of(sys.stdin)
+str_parts = ansi_proved.html_of(open("log"))
+bytes_parts = ansi_proved.text_of(["a"])  # wrong
+str_parts = ansi_proved.text_of([b"a"])  # wrong
+str_parts = ansi_proved.html_of(open("log", "rb"))  # wrong
+ansi_proved.text_of(5)  # wrong
+ansi_proved.text_of(b"a")  # wrong
+ansi_proved.text_of([5])  # wrong
+ansi_proved.html_of([b"a"], "red")  # wrong
+ansi_proved.html_of(None)  # wrong
+for part in ansi_proved.text_of([b"a"]):
+    text = part  # wrong
+
+for event in ansi_proved.events("a"):
+    event.final  # wrong
+    if isinstance(event, Text):
+        text = event.text
+        data = event.text  # wrong
+    elif isinstance(event, (Execute, Put)):
+        number: int = event.byte
+        text = event.byte  # wrong
+    elif isinstance(event, (Csi, Hook)):
+        groups: Tuple[Tuple[int, ...], ...] = event.parameters
+        text, flag = event.intermediates, event.ignored
+        text = event.final
+        number = event.final  # wrong
+        event.byte  # wrong
+    elif isinstance(event, Osc):
+        parts: Tuple[bytes, ...] = event.parts
+        flag = event.bell
+        text = event.parts[0]  # wrong
+    elif isinstance(event, Esc):
+        text, flag, text = event
+        event.parameters  # wrong
+    else:
+        unhook: Unhook = event
+ansi_proved.events([b"a", "b"])
+ansi_proved.events(open("log", "rb"))
+ansi_proved.events(5)  # wrong
+ansi_proved.events([5])  # wrong
+
+with Screen(120, 40, history=100) as screen:
+    screen.feed("a")
+    screen.feed(bytearray(b"a"))
+    text = screen.text(joined=True)
+    lines: List[str] = screen.display
+    cell: Cell = screen.cell(0, 0)
+    row: List[Cell] = screen.row(0)
+    rows: List[List[Cell]] = screen.cells
+    numbers: List[int] = screen.changed()
+    cursor: Cursor = screen.cursor
+    modes: Modes = screen.modes
+    style: Style = cell.style
+    color: Color = style.foreground
+    number = color.values[0] + cursor.row + cursor.column + cell.width + cell.link
+    flag = style.bold and modes.origin and cell.goes_on and cursor.shown and style.underline == "curly"
+    history: History = screen.history
+    kept: Sequence[List[Cell]] = history[:]
+    row = history[-1]
+    number = len(history) + history.left + screen.columns + screen.rows
+    text = history.text() + history.row_text(0) + screen.link(1) + screen.to_html("dark") + screen.part_text(0, 1, 2)
+    data = screen.draw() + screen.update(screen.copy())
+    flag = screen == screen.copy()
+    screen.feed(5)  # wrong
+    screen.feed(["a"])  # wrong
+    screen.cell("a", 0)  # wrong
+    screen.cell(0)  # wrong
+    screen.row(1.5)  # wrong
+    data = screen.text()  # wrong
+    text = screen.draw()  # wrong
+    screen.cursor()  # wrong
+    screen.text  # (a function that is not called is no error)
+    number = screen.text()  # wrong
+    screen.to_html("red")  # wrong
+    screen.link("1")  # wrong
+    screen.update(b"a")  # wrong
+    screen.columns = 5  # wrong
+    cell.text = "a"  # wrong
+    text = cell.width  # wrong
+    text = style.bold  # wrong
+    style.bald  # wrong
+    style.underline == "wavy"  # wrong
+    color.kind == "rgb"  # wrong
+    history[0] = row  # wrong
+    history["a"]  # wrong
+Screen("80")  # wrong
+Screen(80, 24, 100, 5)  # wrong
+STYLINGS["both"]
+styles: Dict[str, int] = {name: number for name, number in STYLINGS.items()}

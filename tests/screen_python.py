@@ -1,0 +1,182 @@
+"""What the Python package says of a screen: each cell of one that is worked by hand (tests/screen_cells.py), modes and equality; and that it
+gives its memory back, and leaves the interpreter to other threads. Cases of tests/screen_library."""
+
+import gc
+import os
+import resource
+import sys
+
+import screen_cells as table
+from library_shared import PYTHON, ROOT, failure, run, ticks_during
+
+WIDTHS = {"empty": 1, "whole": 1, "left": 2, "right": 0}  # a blank is told as it looks
+
+
+def words_of(style):
+    on = [name for name in table.ATTRIBUTES if getattr(style, name)]
+    return table.style_words(tuple(style.foreground), tuple(style.background), style.underline, on)
+
+
+def told(cell):
+    """A cell as rows of the table: what has no text is the right half, whose code point is that of a space."""
+    return " ".join("%x" % ord(it) for it in cell.text) or "20", cell.width, cell.link, cell.goes_on, words_of(cell.style)
+
+
+def wanted(cell):
+    points, part, link, goes_on, words = cell
+    return points, WIDTHS[part], link, bool(goes_on), words
+
+
+def different(found, rows):
+    """Says which of the table's cells are told otherwise."""
+    wrong = [(place, it, wanted(cell)) for place, cell in rows for it in [found(*place)] if it != wanted(cell)]
+    return "at %s it is %s, and not %s" % wrong[0] if wrong else None
+
+
+def cell_cases(ansi):
+    """The screen of the table, fed at once and byte by byte; read by each call, and once its rows have left it."""
+    stream, rows = table.STREAM.encode(), table.cells()
+    for name, pieces in ("at once", [stream]), ("by bytes", [stream[at : at + 1] for at in range(len(stream))]):
+        screen = ansi.Screen(table.COLUMNS, table.ROWS, history=table.ROWS)
+        for piece in pieces:
+            screen.feed(piece)
+        by_rows, at_once = [screen.row(row) for row in range(table.ROWS)], screen.cells
+        yield "each cell is worked by hand, fed %s" % name, different(lambda *place: told(screen.cell(*place)), rows)
+        yield "and in its row", different(lambda row, column: told(by_rows[row][column]), rows)
+        yield "and among all", different(lambda row, column: told(at_once[row][column]), rows)
+        yield "the cells have their types", None if {type(it) for row in at_once for it in row} == {ansi.Cell} else "others"
+        found = words_of(screen.style)
+        yield "the style of what comes next", None if found == table.STYLE else "it is %r" % found
+        yield "the cursor", None if screen.cursor == table.CURSOR else "it is %s" % (screen.cursor,)
+        found = {number: screen.link(number) for number in table.LINKS}
+        yield "the links", None if found == table.LINKS else "they are %s" % found
+        lines = ["".join(chr(int(it, 16)) for it in cell[0].split() if cell[1] != "right") for _, cell in rows]
+        lines = ["".join(lines[row * table.COLUMNS : (row + 1) * table.COLUMNS]) for row in range(table.ROWS)]
+        yield "the text of its rows", None if screen.display == lines else "it is %s" % screen.display
+        screen.feed("\x1b[0m\x1b[%d;1H" % table.ROWS + table.ROWS * "\n")
+        left = screen.history[:]
+        yield "each cell of rows that left", different(lambda row, column: told(left[row][column]), rows)
+
+
+def mode_cases(ansi):
+    for stream, on, cursor in table.MODES:
+        screen = ansi.Screen(4, 3)
+        screen.feed(stream)
+        found = {name for name in table.MODE_NAMES if getattr(screen.modes, name) is True}
+        yield "modes after %r" % stream, None if found == on and set(map(type, screen.modes)) == {bool} else "they are %s" % (screen.modes,)
+        is_so = screen.cursor == (*cursor, "cursor_shown" in on)
+        yield "the cursor after %r" % stream, None if is_so else "it is %s" % (screen.cursor,)
+    for pairs, same in (table.UNEQUAL, False), (table.EQUAL, True):
+        for streams in pairs:
+            one, other = (fed(ansi, it) for it in streams)
+            found = one == other, other == one, not one != other, not other != one
+            yield "%r and %r are %s" % (*streams, "equal" if same else "not equal"), None if set(found) == {same} else "%s" % (found,)
+    one = ansi.Screen(4, 3)
+    yield "screens of two sizes are not equal", "they are" if one == ansi.Screen(3, 3) or one == ansi.Screen(4, 2) else None
+    yield "a screen equals no text", "it does" if one == "" or one == 5 or one is None else None
+
+
+def fed(ansi, stream):
+    screen = ansi.Screen(4, 3)
+    screen.feed(stream)
+    return screen
+
+
+def memory_cases(ansi):
+    """Large screens that go away, each in its way: no memory stays."""
+
+    def used(screen):
+        screen.feed("x\r\n" * 200)
+        return screen
+
+    def copied(screen):
+        copy = screen.copy()
+        screen.close()
+        return copy
+
+    def opened_again(screen):
+        screen.__init__(200, 100)
+
+    ways = {"let go of": used, "closed": lambda it: it.close(), "copied": copied, "ended": lambda it: it.__exit__(), "reset": lambda it: it.reset()}
+    for name, way in {**ways, "drawn": lambda it: it.draw(), "made again": opened_again}.items():
+        way(ansi.Screen(200, 100, history=50))
+        gc.collect()
+        before = resource.getrusage(resource.RUSAGE_SELF).ru_maxrss
+        for _ in range(60):
+            way(ansi.Screen(200, 100, history=50))
+        grown = resource.getrusage(resource.RUSAGE_SELF).ru_maxrss - before
+        # (a screen takes more than a megabyte)
+        yield "60 screens that are %s leave no memory" % name, "%d kB" % grown if grown > 20_000 else None
+    screen = ansi.Screen(80, 24, history=24)
+    screen.feed(table.STREAM + "\r\n" * 30)
+    calls = [lambda: screen.cells, screen.text, lambda: screen.display, screen.changed, screen.draw, screen.to_html]
+    calls += [lambda: screen.history[:], screen.history.text, lambda: screen.cursor, lambda: screen.copy() == screen]
+    for call in calls * 2:
+        call()
+    gc.collect()
+    before = sys.getallocatedblocks()
+    for call in calls * 100:
+        call()
+    gc.collect()
+    grown = sys.getallocatedblocks() - before
+    yield "reads leave no object behind", "%d objects" % grown if grown > 200 else None
+
+
+def busy_cases(ansi):
+    """A long call, within which another thread goes on."""
+    piece = b"text \x1b[1;31m and more\r\n" * 400_000
+    screen = ansi.Screen(80, 24)
+    counted, took = ticks_during(lambda: screen.feed(piece))
+    is_so = took > 30 and counted > took / 20
+    yield "another thread goes on while a screen is fed", None if is_so else "it has %d turns in %d ms" % (counted, took)
+
+
+def closed_cases(ansi):
+    """What is said where a call can't be answered, in words."""
+    screen = ansi.Screen(10, 3)
+    words = [
+        (TypeError, "a row is an int, and not str", lambda: screen.cell("a", 0)),
+        (TypeError, "a column is an int, and not str", lambda: screen.cell(0, "a")),
+        (TypeError, "a column is an int, and not float", lambda: screen.part_text(0, 0, 1.5)),
+        (TypeError, "a row is an int, and not NoneType", lambda: screen.row(None)),
+        (TypeError, "a row is an int, and not str", lambda: screen.row_text("0")),
+        (TypeError, "the number of a row is an int, and not str", lambda: screen.history["a"]),
+        (TypeError, "the number of a link is an int, and not str", lambda: screen.link("a")),
+        (TypeError, "a piece is str, bytes, bytearray or memoryview, and not int", lambda: screen.feed(3)),
+        (TypeError, "a piece is str, bytes, bytearray or memoryview, and not list", lambda: screen.feed([b"a"])),
+        (TypeError, "an update leads to a Screen, and not to int", lambda: screen.update(3)),
+        (TypeError, "a styling is a name, and not int", lambda: screen.to_html(3)),
+        (TypeError, "a Screen cannot be pickled: draw() gives the bytes that show it again", lambda: __import__("pickle").dumps(screen)),
+        (TypeError, "unhashable type: 'Screen'", lambda: hash(screen)),
+        (IndexError, "there is no column -1 of 10", lambda: screen.cell(0, -1)),
+    ]
+    for error, said, call in words:
+        yield "%s: %s" % (error.__name__, said), unlike(error, said, call)
+    screen.close()
+    reads = ["text", "cells", "display", "draw", "to_html", "changed", "cursor", "style", "modes", "copy", "reset", "__str__"]
+    reads = [(name, lambda name=name: it() if callable(it := getattr(screen, name)) else it) for name in reads]
+    reads += [("row", lambda: screen.row(0)), ("cell", lambda: screen.cell(0, 0)), ("link", lambda: screen.link(1)), ("==", lambda: screen == screen)]
+    reads += [("update", lambda: screen.update(screen)), ("history", lambda: len(screen.history)), ("joined", lambda: screen.text(joined=True))]
+    for name, call in reads:
+        yield "a closed screen says so: %s" % name, unlike(ValueError, "the screen is closed", call)
+
+
+def unlike(error, said, call):
+    try:
+        found = call()
+    except Exception as other:
+        return None if type(other) is error and str(other) == said else "it is %s: %s" % (type(other).__name__, other)
+    return "it is %r" % (found,)
+
+
+def shared_cases():
+    """tests/callers/shared.py: eight threads over one screen."""
+    known = dict(os.environ, PYTHONPATH=PYTHON, PYTHONDONTWRITEBYTECODE="1")
+    done = run([sys.executable, "%s/tests/callers/shared.py" % ROOT, "screen"], patience=300, env=known)
+    yield "eight threads share a screen, a call at a time", failure(done)
+
+
+def cases(ansi):
+    for part in (cell_cases, mode_cases, memory_cases, busy_cases, closed_cases):
+        yield from part(ansi)
+    yield from shared_cases()

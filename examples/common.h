@@ -1,4 +1,5 @@
-/* What filter.c, page.c and safe.c share: the word that they are given, and a loop that reads, feeds and writes. */
+/* What filter.c, page.c and safe.c share: the word that they are given, and a loop that reads, feeds and writes. Each has a loop of its own
+ * over its call of the library, which is what it is there to show: whoever copies one of them takes this file along, and no other. */
 #include <errno.h>
 #include <stdbool.h>
 #include <stdio.h>

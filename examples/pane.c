@@ -147,8 +147,11 @@ static bool follow(struct pane *pane, int end)
     for (;;) {
         ssize_t count;
 
-        if (poll(ends, 2, -1) < 0 && errno != EINTR)
+        if (poll(ends, 2, -1) < 0) {
+            if (errno == EINTR)
+                continue;
             return false;
+        }
         if (ends[1].revents) {
             count = read(0, bytes, sizeof bytes);
             if (count <= 0)

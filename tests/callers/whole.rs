@@ -61,8 +61,8 @@ fn main() {
     stdin().read_to_end(&mut stream).expect("the input is read");
     let word = std::env::args().nth(1).expect("a word says what is written");
     let written = match word.as_str() {
-        "strip" => strip(&stream),
-        "safe" => strip_safe(&stream),
+        "strip" => strip(&stream).into_owned(),
+        "safe" => strip_safe(&stream).into_owned(),
         "safe in pieces" => String::from_utf8(safe_in_pieces(&stream)).expect("each part is UTF-8"),
         "events" => printed(&stream),
         "cloned" => String::from_utf8(cloned(&stream)).expect("each part is UTF-8"),

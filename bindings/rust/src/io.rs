@@ -77,6 +77,7 @@ pub type SafeWriter<W> = Writer<SafeStripper, W>;
 pub type HtmlWriter<W> = Writer<Converter, W>;
 
 impl<W: Write> Writer<Stripper, W> {
+    /// What is written to it goes on to the writer below.
     pub fn new(inner: W) -> StripWriter<W> {
         let stream = Stripper::new();
         Writer { stream, inner }
@@ -89,6 +90,7 @@ impl<W: Write> Writer<Stripper, W> {
 }
 
 impl<W: Write> Writer<SafeStripper, W> {
+    /// What is written to it goes on to the writer below.
     pub fn new(inner: W) -> SafeWriter<W> {
         let stream = SafeStripper::new();
         Writer { stream, inner }
@@ -96,6 +98,7 @@ impl<W: Write> Writer<SafeStripper, W> {
 }
 
 impl<W: Write> Writer<Converter, W> {
+    /// What is written to it goes on to the writer below, in the styling.
     pub fn new(styling: Styling, inner: W) -> HtmlWriter<W> {
         let stream = Converter::new(styling);
         Writer { stream, inner }
@@ -103,16 +106,21 @@ impl<W: Write> Writer<Converter, W> {
 }
 
 impl<S: Stream, W: Write> Writer<S, W> {
+    /// The writer below.
     pub fn get_ref(&self) -> &W {
         &self.inner
     }
 
+    /// The writer below. What is written to it comes before what still waits here.
     pub fn get_mut(&mut self) -> &mut W {
         &mut self.inner
     }
 
     /// Writes what the end leads to, and hands the writer below back: of text U+FFFD where a character is begun, of safe text what still
     /// waits, of HTML what closes it.
+    ///
+    /// # Errors
+    /// What the writer below answers, which is lost with it.
     pub fn finish(mut self) -> Result<W> {
         self.stream.finish(&mut self.inner)?;
         Ok(self.inner)

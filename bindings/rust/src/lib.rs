@@ -25,14 +25,20 @@
 //! What is not called is not linked. No `std` is needed, but an allocator: `Stripper`, `SafeStripper` and `Converter` take
 //! no memory.
 #![no_std]
+#![warn(missing_docs)]
 
 extern crate alloc;
 #[cfg(feature = "std")]
 extern crate std;
 
+use alloc::borrow::Cow;
 use alloc::string::String;
-use alloc::vec::{self, Vec};
+use alloc::vec;
+use alloc::vec::Vec;
 use core::convert::Infallible;
+use core::fmt;
+use core::ops::Range;
+use core::str::FromStr;
 
 #[cfg(feature = "std")]
 pub mod io;
@@ -62,7 +68,7 @@ struct HtmlState {
 
 /// An event as the library writes it: `ansi_event` of `include/ansi_events.h`.
 #[repr(C)]
-#[derive(Clone, Copy)]
+#[derive(Clone, Copy, Default)]
 struct Record {
     start: usize,
     length: usize,
@@ -185,8 +191,8 @@ fn feed_all<State, E>(
                 piece.len(),
                 room.as_mut_ptr(),
                 room.len(),
-                &mut taken,
-                &mut written,
+                &raw mut taken,
+                &raw mut written,
             )
         };
         assert!(is_fed, "the room is too small for any byte");
@@ -205,7 +211,7 @@ fn end_with<State, E>(
 ) -> Result<(), E> {
     let mut written = 0;
     // The references are to memory of their own, and none of them is kept.
-    let is_ended = unsafe { end(state, room.as_mut_ptr(), room.len(), &mut written) };
+    let is_ended = unsafe { end(state, room.as_mut_ptr(), room.len(), &raw mut written) };
     assert!(is_ended, "the room is too small for any end");
     write(&room[..written])
 }
@@ -222,6 +228,7 @@ impl Default for Stripper {
 
 impl Stripper {
     /// The beginning of a stream.
+    #[must_use]
     pub fn new() -> Stripper {
         Stripper(StripState {
             length: 0,
@@ -229,8 +236,10 @@ impl Stripper {
         })
     }
 
-    /// Hands on the text of the piece, in one part or several, each UTF-8 by itself. Where that
-    /// fails, what was not handed on is lost, and the stream goes on after it.
+    /// Hands on the text of the piece, in one part or several, each UTF-8 by itself.
+    ///
+    /// # Errors
+    /// What `write` answers. Then what was not handed on is lost, and the stream goes on after it.
     pub fn strip<E>(
         &mut self,
         piece: &[u8],
@@ -240,6 +249,9 @@ impl Stripper {
     }
 
     /// Hands on what the end leads to: U+FFFD where a character is begun. Then a stream begins.
+    ///
+    /// # Errors
+    /// What `write` answers. Then what was not handed on is lost.
     pub fn end<E>(&mut self, write: impl FnOnce(&[u8]) -> Result<(), E>) -> Result<(), E> {
         end_with(ansi_strip_end, &mut self.0, &mut [0; STRIP_END_ROOM], write)
     }
@@ -258,6 +270,7 @@ impl Default for SafeStripper {
 
 impl SafeStripper {
     /// The beginning of a stream.
+    #[must_use]
     pub fn new() -> SafeStripper {
         SafeStripper(SafeState {
             length: 0,
@@ -265,8 +278,10 @@ impl SafeStripper {
         })
     }
 
-    /// Hands on the text of the piece, in one part or several, each UTF-8 by itself. Where that
-    /// fails, what was not handed on is lost, and the stream goes on after it.
+    /// Hands on the text of the piece, in one part or several, each UTF-8 by itself.
+    ///
+    /// # Errors
+    /// What `write` answers. Then what was not handed on is lost, and the stream goes on after it.
     pub fn strip<E>(
         &mut self,
         piece: &[u8],
@@ -277,19 +292,61 @@ impl SafeStripper {
 
     /// Hands on what still waits, a carriage return, `<`, `<U` or a joiner that came last, and U+FFFD where a character is
     /// begun. Then a stream begins.
+    ///
+    /// # Errors
+    /// What `write` answers. Then what was not handed on is lost.
     pub fn end<E>(&mut self, write: impl FnOnce(&[u8]) -> Result<(), E>) -> Result<(), E> {
         end_with(ansi_safe_end, &mut self.0, &mut [0; SAFE_END_ROOM], write)
     }
 }
 
-/// How styles are written: by colours for light and dark pages as the reader has it, for one of
-/// them, or by classes, as `include/ansi_html.h` says.
-#[derive(Clone, Copy, Debug, PartialEq, Eq)]
+/// How styles are written, as `include/ansi_html.h` says: by colours, or by classes.
+///
+/// ```
+/// use ansi_proved::Styling;
+///
+/// assert_eq!("dark".parse(), Ok(Styling::Dark));
+/// assert_eq!(Styling::default(), Styling::Both);
+/// ```
+#[derive(Clone, Copy, Debug, Default, PartialEq, Eq, Hash)]
+#[repr(u8)]
 pub enum Styling {
+    /// Colours for light and dark pages, as the reader has it.
+    #[default]
     Both = 0,
+    /// Colours for a light page.
     Light = 1,
+    /// Colours for a dark page.
     Dark = 2,
+    /// Classes, for a stylesheet as `ansi2html --css` writes it.
     Classes = 3,
+}
+
+/// No [`Styling`] has that name.
+#[derive(Clone, Copy, Debug, PartialEq, Eq)]
+pub struct UnknownStyling;
+
+impl fmt::Display for UnknownStyling {
+    fn fmt(&self, formatter: &mut fmt::Formatter<'_>) -> fmt::Result {
+        formatter.write_str("a styling is one of both, light, dark and classes")
+    }
+}
+
+impl core::error::Error for UnknownStyling {}
+
+/// By its name in small letters, as `dark`.
+impl FromStr for Styling {
+    type Err = UnknownStyling;
+
+    fn from_str(name: &str) -> Result<Styling, UnknownStyling> {
+        match name {
+            "both" => Ok(Styling::Both),
+            "light" => Ok(Styling::Light),
+            "dark" => Ok(Styling::Dark),
+            "classes" => Ok(Styling::Classes),
+            _ => Err(UnknownStyling),
+        }
+    }
 }
 
 /// A stream that becomes HTML, which goes on with each piece. A clone goes on from where it was cloned.
@@ -298,18 +355,21 @@ pub struct Converter(HtmlState);
 
 impl Converter {
     /// The beginning of a stream.
+    #[must_use]
     pub fn new(styling: Styling) -> Converter {
         let mut state = HtmlState {
             length: 0,
             others: [0; 3184],
         };
         // The reference is not kept.
-        unsafe { ansi_html_init(&mut state, styling as u8) };
+        unsafe { ansi_html_init(&raw mut state, styling as u8) };
         Converter(state)
     }
 
-    /// Hands on the HTML of the piece, in one part or several, each UTF-8 by itself. Where that
-    /// fails, what was not handed on is lost, and the stream goes on after it.
+    /// Hands on the HTML of the piece, in one part or several, each UTF-8 by itself.
+    ///
+    /// # Errors
+    /// What `write` answers. Then what was not handed on is lost, and the stream goes on after it.
     pub fn convert<E>(
         &mut self,
         piece: &[u8],
@@ -320,66 +380,100 @@ impl Converter {
 
     /// Hands on what ends the HTML: U+FFFD where a character is begun, and what closes an element that is open. Then a
     /// stream begins, in the same styling.
+    ///
+    /// # Errors
+    /// What `write` answers. Then what was not handed on is lost.
     pub fn end<E>(&mut self, write: impl FnOnce(&[u8]) -> Result<(), E>) -> Result<(), E> {
         end_with(ansi_html_end, &mut self.0, &mut [0; HTML_END_ROOM], write)
     }
 }
 
-/// All that is handed on, which is UTF-8.
-fn joined(
-    hand_on: impl FnOnce(&mut dyn FnMut(&[u8]) -> Result<(), Infallible>) -> Result<(), Infallible>,
-) -> String {
-    let mut all = Vec::new();
-    let done = hand_on(&mut |part| {
-        all.extend_from_slice(part);
+const UTF_8: &str = "each part is UTF-8, which is proved";
+
+/// What gathers the parts of a text.
+type Gather<'a> = &'a mut dyn FnMut(&[u8]) -> Result<(), Infallible>;
+
+/// All that is handed on, which is UTF-8: borrowed where it is the front of what was given.
+fn joined(given: &[u8], hand_on: impl FnOnce(Gather) -> Result<(), Infallible>) -> Cow<'_, str> {
+    let mut same = 0;
+    let mut other: Option<Vec<u8>> = None;
+    let Ok(()) = hand_on(&mut |part| {
+        match &mut other {
+            Some(text) => text.extend_from_slice(part),
+            None if given[same..].starts_with(part) => same += part.len(),
+            None => other = Some([&given[..same], part].concat()),
+        }
         Ok(())
     });
-    match done {
-        Ok(()) => String::from_utf8(all).expect("each part is UTF-8, which is proved"),
-        Err(never) => match never {},
+    match other {
+        Some(text) => Cow::Owned(String::from_utf8(text).expect(UTF_8)),
+        None => Cow::Borrowed(core::str::from_utf8(&given[..same]).expect(UTF_8)),
     }
 }
 
 /// The text of terminal output. It drives no terminal: DEL and U+0080 to U+009F, which some terminals take for controls,
 /// are left out too. No other byte vanishes: what is broken, and what belongs to no character, is U+FFFD.
-pub fn strip(stream: impl AsRef<[u8]>) -> String {
-    joined(|write| {
+///
+/// Text that has nothing to strip is not copied: it is borrowed.
+///
+/// ```
+/// use std::borrow::Cow;
+///
+/// assert!(matches!(ansi_proved::strip("plain"), Cow::Borrowed("plain")));
+/// assert!(matches!(ansi_proved::strip("\x1b[1mbold"), Cow::Owned(text) if text == "bold"));
+/// ```
+#[must_use]
+pub fn strip(stream: &(impl AsRef<[u8]> + ?Sized)) -> Cow<'_, str> {
+    let stream = stream.as_ref();
+    joined(stream, |write| {
         let mut stripper = Stripper::new();
-        stripper.strip(stream.as_ref(), &mut *write)?;
+        stripper.strip(stream, &mut *write)?;
         stripper.end(write)
     })
 }
 
 /// The text of terminal output that hides nothing, as `ansi2text --safe` writes it: what shows nothing, turns the order of
 /// text round or is a control is written visibly, as `<U+202E>`. But text that a stream hides (SGR 8) is not marked.
-pub fn strip_safe(stream: impl AsRef<[u8]>) -> String {
-    joined(|write| {
+///
+/// Text that is safe as it stands is not copied: it is borrowed.
+#[must_use]
+pub fn strip_safe(stream: &(impl AsRef<[u8]> + ?Sized)) -> Cow<'_, str> {
+    let stream = stream.as_ref();
+    joined(stream, |write| {
         let mut stripper = SafeStripper::new();
-        stripper.strip(stream.as_ref(), &mut *write)?;
+        stripper.strip(stream, &mut *write)?;
         stripper.end(write)
     })
 }
 
 /// The HTML of terminal output: a fragment for a `<pre>`, right after a newline there.
+#[must_use]
 pub fn to_html(stream: impl AsRef<[u8]>, styling: Styling) -> String {
-    joined(|write| {
+    let html = joined(&[], |write| {
         let mut converter = Converter::new(styling);
         converter.convert(stream.as_ref(), &mut *write)?;
         converter.end(write)
-    })
+    });
+    html.into_owned()
 }
 
 /// A call of the parser, by the names of its crate; characters that are printed one after another are one
 /// text.
 #[derive(Clone, Debug, PartialEq, Eq)]
 pub enum Event {
+    /// Characters that are printed.
     Text(String),
+    /// A control of one byte, as a line feed.
     Execute(u8),
+    /// A device control string begins.
     Hook(Sequence),
+    /// A byte of it.
     Put(u8),
+    /// It ends.
     Unhook,
     /// An operating system command: its parts, and whether BEL ended it.
     Osc(Vec<Vec<u8>>, bool),
+    /// A control sequence, as that of a colour.
     Csi(Sequence),
     /// An escape sequence, which has no parameters.
     Esc(Sequence),
@@ -390,6 +484,7 @@ pub enum Event {
 pub struct Sequence {
     /// Groups of fields: `[[38, 2, 9], [1]]` of `38:2:9;1`.
     pub parameters: Vec<Vec<u16>>,
+    /// What stands before the byte that ends it, two at most: `?` of `CSI ? 25 h`, `(` of `ESC ( B`.
     pub intermediates: Vec<u8>,
     /// More came than is told.
     pub ignored: bool,
@@ -398,23 +493,65 @@ pub struct Sequence {
 }
 
 /// The events of a stream in pieces.
-#[derive(Clone, Debug)]
-pub struct Events<I> {
+pub struct Events<I: Iterator> {
     pieces: I,
+    /// The piece that is read, and how many of its bytes are.
+    piece: Option<I::Item>,
+    read: usize,
     state: StripState,
-    ready: vec::IntoIter<Event>,
+    /// What the library wrote when it read last, and which of the records wait.
+    records: Vec<Record>,
+    room: Vec<u8>,
+    waiting: Range<usize>,
 }
 
 /// The events of a stream in pieces. Those of a piece come before the next piece is asked for, and are the same
-/// however the stream is cut, but for a text, which is cut where its piece ends.
+/// however the stream is cut, but for a text, which is cut where its piece ends, and where it has more bytes than are read at
+/// once. They are made when they are asked for, so that a piece may be large.
 pub fn events<I: IntoIterator<Item = impl AsRef<[u8]>>>(pieces: I) -> Events<I::IntoIter> {
     Events {
         pieces: pieces.into_iter(),
+        piece: None,
+        read: 0,
         state: StripState {
             length: 0,
             pending: [0; 1042],
         },
-        ready: Vec::new().into_iter(),
+        records: vec![Record::default(); EVENTS],
+        room: vec![0; EVENTS_ROOM],
+        waiting: 0..0,
+    }
+}
+
+impl<I: Iterator<Item = impl AsRef<[u8]>>> Events<I> {
+    /// Reads some of what the piece still has, or else of the next one; nothing where there is none.
+    fn read_on(&mut self) -> Option<()> {
+        let piece = self.piece.as_ref().map_or(&[][..], AsRef::as_ref);
+        if self.read == piece.len() {
+            self.piece = Some(self.pieces.next()?);
+            self.read = 0;
+            return Some(());
+        }
+        let (mut taken, mut written, mut used) = (0, 0, 0);
+        // The references are to memory of their own, and none of them is kept.
+        let is_fed = unsafe {
+            ansi_events_feed(
+                &raw mut self.state,
+                piece[self.read..].as_ptr(),
+                piece.len() - self.read,
+                self.records.as_mut_ptr(),
+                self.records.len(),
+                self.room.as_mut_ptr(),
+                self.room.len(),
+                &raw mut taken,
+                &raw mut written,
+                &raw mut used,
+            )
+        };
+        assert!(is_fed, "the room is too small for any byte");
+        self.read += taken;
+        self.waiting = 0..written;
+        Some(())
     }
 }
 
@@ -422,51 +559,32 @@ impl<I: Iterator<Item = impl AsRef<[u8]>>> Iterator for Events<I> {
     type Item = Event;
 
     fn next(&mut self) -> Option<Event> {
-        loop {
-            if let Some(event) = self.ready.next() {
-                return Some(event);
-            }
-            let piece = self.pieces.next()?;
-            self.ready = taken(&mut self.state, piece.as_ref()).into_iter();
+        while self.waiting.is_empty() {
+            self.read_on()?;
+        }
+        let record = &self.records[self.waiting.next()?];
+        Some(event(record, &self.room))
+    }
+}
+
+impl<I: Iterator<Item: Clone> + Clone> Clone for Events<I> {
+    fn clone(&self) -> Events<I> {
+        Events {
+            pieces: self.pieces.clone(),
+            piece: self.piece.clone(),
+            read: self.read,
+            state: self.state.clone(),
+            records: self.records.clone(),
+            room: self.room.clone(),
+            waiting: self.waiting.clone(),
         }
     }
 }
 
-/// The events of all bytes of a piece.
-fn taken(state: &mut StripState, mut piece: &[u8]) -> Vec<Event> {
-    let none = Record {
-        start: 0,
-        length: 0,
-        kind: 0,
-        byte: 0,
-        flag: 0,
-        intermediate_count: 0,
-        intermediates: [0; 2],
-        _padding: [0; 2],
-    };
-    let (mut records, mut room, mut all) = ([none; EVENTS], [0; EVENTS_ROOM], Vec::new());
-    while !piece.is_empty() {
-        let (mut taken, mut written, mut used) = (0, 0, 0);
-        // The references are to memory of their own, and none of them is kept.
-        let is_fed = unsafe {
-            ansi_events_feed(
-                state,
-                piece.as_ptr(),
-                piece.len(),
-                records.as_mut_ptr(),
-                records.len(),
-                room.as_mut_ptr(),
-                room.len(),
-                &mut taken,
-                &mut written,
-                &mut used,
-            )
-        };
-        assert!(is_fed, "the room is too small for any byte");
-        piece = &piece[taken..];
-        all.extend(records[..written].iter().map(|it| event(it, &room)));
+impl<I: Iterator> fmt::Debug for Events<I> {
+    fn fmt(&self, formatter: &mut fmt::Formatter<'_>) -> fmt::Result {
+        formatter.debug_struct("Events").finish_non_exhaustive()
     }
-    all
 }
 
 /// The event of a record, with the bytes of the room that it stands for.

@@ -24,8 +24,11 @@
 use crate::Styling;
 use alloc::string::String;
 use alloc::vec::{self, Vec};
+use core::cell::UnsafeCell;
 use core::ffi::c_void;
 use core::fmt;
+use core::panic::RefUnwindSafe;
+use core::ptr;
 
 #[repr(C)]
 struct Handle {
@@ -195,30 +198,47 @@ pub enum Color {
 /// How text is underlined.
 #[derive(Clone, Copy, Debug, Default, PartialEq, Eq, Hash)]
 pub enum Underline {
+    /// Not at all.
     #[default]
     Off,
+    /// By a line.
     Single,
+    /// By two.
     Double,
+    /// By waves.
     Curly,
+    /// By dots.
     Dotted,
+    /// By dashes.
     Dashed,
 }
 
 /// How text is shown.
 #[derive(Clone, Copy, Debug, Default, PartialEq, Eq, Hash)]
 #[non_exhaustive]
+#[allow(clippy::struct_excessive_bools, reason = "each goes with any other")]
 pub struct Style {
+    /// The colour of the character.
     pub foreground: Color,
+    /// The colour behind it.
     pub background: Color,
+    /// The lines below it (SGR 4, 21).
     pub underline: Underline,
+    /// SGR 1.
     pub bold: bool,
+    /// SGR 2.
     pub dim: bool,
+    /// SGR 3.
     pub italic: bool,
+    /// SGR 5.
     pub blink: bool,
-    /// Foreground and background change places.
+    /// Foreground and background change places (SGR 7).
     pub reverse: bool,
+    /// The character is there, and is not seen (SGR 8).
     pub hidden: bool,
+    /// A line goes through it (SGR 9).
     pub struck_out: bool,
+    /// A line stands above it (SGR 53).
     pub overlined: bool,
 }
 
@@ -228,6 +248,7 @@ pub enum Part {
     /// Nothing was printed there, or it is erased: the character is a space.
     #[default]
     Empty,
+    /// All of it.
     Whole,
     /// The left half of a wide character, which has it.
     Left,
@@ -239,10 +260,13 @@ pub enum Part {
 #[derive(Clone, Copy, Debug, Default, PartialEq, Eq, Hash)]
 #[non_exhaustive]
 pub struct Cell {
+    /// A space where there is none.
     pub character: char,
     /// The characters of no column that came after it, from the first on.
     pub marks: [Option<char>; 2],
+    /// How they are shown.
     pub style: Style,
+    /// How much of the character this cell has.
     pub part: Part,
     /// A number for each link (OSC 8) since the last reset; 0 for none.
     pub link: u32,
@@ -253,18 +277,26 @@ pub struct Cell {
 /// Where the cursor is, counted from 0. Its column is the number of columns where a wrap is pending.
 #[derive(Clone, Copy, Debug, PartialEq, Eq, Hash)]
 pub struct Place {
+    /// The number of its row.
     pub row: usize,
+    /// The number of its column.
     pub column: usize,
 }
 
 /// Modes of the screen.
 #[derive(Clone, Copy, Debug, PartialEq, Eq, Hash)]
 #[non_exhaustive]
+#[allow(clippy::struct_excessive_bools, reason = "each goes with any other")]
 pub struct Modes {
+    /// The cursor is seen (DECTCEM).
     pub cursor_shown: bool,
+    /// The alternate screen shows (1049).
     pub alternate_screen: bool,
+    /// What comes behind the last column goes to the next row (DECAWM).
     pub autowrap: bool,
+    /// A character moves those behind it on (IRM).
     pub insert: bool,
+    /// Rows are counted from the upper margin (DECOM).
     pub origin: bool,
 }
 
@@ -281,79 +313,103 @@ impl fmt::Display for CannotOpen {
 impl core::error::Error for CannotOpen {}
 
 /// A terminal's screen, which shows what the bytes lead to that it is fed.
+///
+/// It may go to another thread, and many may read it in one. Threads share it as a `Mutex<Screen>`: it is not [`Sync`], since a call of
+/// the library that reads a screen takes it out of its handle and puts it back.
 pub struct Screen {
-    handle: Handle,
+    /// (A shared reference is enough to read, while the library writes here.)
+    handle: UnsafeCell<Handle>,
     columns: usize,
     rows: usize,
 }
 
-// What it holds is its own, and no call keeps anything elsewhere. (Reading writes to the handle, so that two threads may
-// not read it at once: it is not `Sync`, and each method takes `&mut self`.)
+// What it holds is its own, on the heap, and no call keeps anything elsewhere.
 unsafe impl Send for Screen {}
+
+// (no call of the library unwinds, so none is left half done)
+impl RefUnwindSafe for Screen {}
 
 impl Screen {
     /// A blank one of so many columns (2 to 1000) and rows (1 to 1000).
+    ///
+    /// # Errors
+    /// There is no screen of another size, or no memory.
     pub fn new(columns: usize, rows: usize) -> Result<Screen, CannotOpen> {
         Screen::with_history(columns, rows, 0)
     }
 
     /// The same, which keeps so many of the last rows that leave it at the top.
-    pub fn with_history(
-        columns: usize,
-        rows: usize,
-        history: usize,
-    ) -> Result<Screen, CannotOpen> {
-        let mut handle = Handle {
-            held: core::ptr::null_mut(),
-        };
+    ///
+    /// # Errors
+    /// As [`Screen::new`].
+    pub fn with_history(columns: usize, rows: usize, history: usize) -> Result<Screen, CannotOpen> {
         let options = Options {
             history,
             reserved: [0; 7],
         };
-        if !unsafe { ansi_screen_open_with(&mut handle, columns, rows, &options) } {
+        let screen = Screen::holding_none(columns, rows);
+        if !unsafe { ansi_screen_open_with(screen.handle(), columns, rows, &raw const options) } {
             return Err(CannotOpen);
         }
-        Ok(Screen {
-            handle,
-            columns,
-            rows,
-        })
+        Ok(screen)
     }
 
+    /// What a call that opens a screen is given.
+    fn holding_none(columns: usize, rows: usize) -> Screen {
+        let held = ptr::null_mut();
+        Screen {
+            handle: UnsafeCell::new(Handle { held }),
+            columns,
+            rows,
+        }
+    }
+
+    /// The handle, for a call of the library. Two calls never have it at once: the library calls nothing here, a call here is given it
+    /// once, and no other thread has this screen meanwhile.
+    fn handle(&self) -> *mut Handle {
+        self.handle.get()
+    }
+
+    /// How many columns it has.
+    #[must_use]
     pub fn columns(&self) -> usize {
         self.columns
     }
 
+    /// How many rows it has.
+    #[must_use]
     pub fn rows(&self) -> usize {
         self.rows
     }
 
     /// Takes the next bytes of the stream, cut anywhere.
     pub fn feed(&mut self, piece: &[u8]) {
-        unsafe { ansi_screen_feed(&mut self.handle, piece.as_ptr(), piece.len()) };
+        unsafe { ansi_screen_feed(self.handle(), piece.as_ptr(), piece.len()) };
     }
 
     /// Makes it a blank screen of its size, at the beginning of a stream.
     pub fn reset(&mut self) {
-        unsafe { ansi_screen_reset(&mut self.handle) };
+        unsafe { ansi_screen_reset(self.handle()) };
     }
 
-    pub fn cursor(&mut self) -> Place {
+    /// Where the cursor is.
+    pub fn cursor(&self) -> Place {
         let (mut row, mut column) = (0, 0);
-        unsafe { ansi_screen_cursor(&mut self.handle, &mut row, &mut column) };
+        unsafe { ansi_screen_cursor(self.handle(), &raw mut row, &raw mut column) };
         Place { row, column }
     }
 
     /// The style of the character that comes next.
-    pub fn style(&mut self) -> Style {
+    pub fn style(&self) -> Style {
         let mut bytes = StyleBytes::default();
-        unsafe { ansi_screen_style(&mut self.handle, &mut bytes) };
+        unsafe { ansi_screen_style(self.handle(), &raw mut bytes) };
         style_of(bytes)
     }
 
-    pub fn modes(&mut self) -> Modes {
+    /// Which modes are on.
+    pub fn modes(&self) -> Modes {
         let mut bytes = ModeBytes::default();
-        unsafe { ansi_screen_modes(&mut self.handle, &mut bytes) };
+        unsafe { ansi_screen_modes(self.handle(), &raw mut bytes) };
         let [cursor_shown, alternate_screen, autowrap, insert, origin] =
             bytes.modes.map(|mode| mode != 0);
         Modes {
@@ -366,26 +422,26 @@ impl Screen {
     }
 
     /// The cell of a row and a column, counted from 0; `None` outside of the screen.
-    pub fn cell(&mut self, row: usize, column: usize) -> Option<Cell> {
+    pub fn cell(&self, row: usize, column: usize) -> Option<Cell> {
         let mut bytes = CellBytes::default();
-        let is_there = unsafe { ansi_screen_cell(&mut self.handle, row, column, &mut bytes) };
+        let is_there = unsafe { ansi_screen_cell(self.handle(), row, column, &raw mut bytes) };
         is_there.then(|| cell_of(bytes))
     }
 
     /// The cells of a row, counted from 0. There are none where there is no such row.
-    pub fn row(&mut self, row: usize) -> impl Iterator<Item = Cell> {
+    pub fn row(&self, row: usize) -> impl Iterator<Item = Cell> {
         self.cells_by(|handle, cells, count| unsafe { ansi_screen_row(handle, row, cells, count) })
             .map(cell_of)
     }
 
     /// The cells of each row, from the first on.
-    pub fn each_row(&mut self) -> impl Iterator<Item = Vec<Cell>> + '_ {
+    pub fn each_row(&self) -> impl Iterator<Item = Vec<Cell>> + '_ {
         (0..self.rows).map(|row| self.row(row).collect())
     }
 
     /// The URI of a link, by the number that a cell has: it begins with `https://`, `http://` or `mailto:`. Empty where none is
     /// kept of the number (the last 1,024 are), or the URI is another one or was cut.
-    pub fn link(&mut self, number: u32) -> String {
+    pub fn link(&self, number: u32) -> String {
         self.read(|handle, room, written| unsafe {
             ansi_screen_link(handle, number, room.as_mut_ptr(), room.len(), written)
         })
@@ -393,7 +449,7 @@ impl Screen {
 
     /// What it shows as HTML, to stand after `<pre>` and a newline. Memory is taken while it is made; where there is none, it is
     /// empty.
-    pub fn to_html(&mut self, styling: Styling) -> String {
+    pub fn to_html(&self, styling: Styling) -> String {
         self.read(|handle, room, written| unsafe {
             ansi_screen_html(handle, styling as u8, room.as_mut_ptr(), room.len(), written)
         })
@@ -401,7 +457,7 @@ impl Screen {
 
     /// The bytes after which any terminal of its size shows this screen: all but links and which rows go on. Memory is
     /// taken while they are made; where there is none, there are none.
-    pub fn draw(&mut self) -> Vec<u8> {
+    pub fn draw(&self) -> Vec<u8> {
         self.bytes_by(|handle, room, written| unsafe {
             ansi_screen_draw(handle, room.as_mut_ptr(), room.len(), written)
         })
@@ -409,30 +465,33 @@ impl Screen {
 
     /// The bytes after which a terminal that shows this screen shows `wanted`: what differs. There are none where the sizes
     /// do.
-    pub fn update(&mut self, wanted: &mut Screen) -> Vec<u8> {
+    pub fn update(&self, wanted: &Screen) -> Vec<u8> {
+        if ptr::eq(self, wanted) {
+            return Vec::new(); // (one handle is given to a call once)
+        }
         self.bytes_by(|handle, room, written| unsafe {
-            ansi_screen_update(handle, &mut wanted.handle, room.as_mut_ptr(), room.len(), written)
+            ansi_screen_update(handle, wanted.handle(), room.as_mut_ptr(), room.len(), written)
         })
     }
 
     /// How many of the rows that left are kept.
-    pub fn history_count(&mut self) -> usize {
+    pub fn history_count(&self) -> usize {
         self.counts().0
     }
 
     /// How many rows have left in all, since the screen was made or reset.
-    pub fn left_count(&mut self) -> usize {
+    pub fn left_count(&self) -> usize {
         self.counts().1
     }
 
-    fn counts(&mut self) -> (usize, usize) {
+    fn counts(&self) -> (usize, usize) {
         let (mut kept, mut left) = (0, 0);
-        unsafe { ansi_screen_history(&mut self.handle, &mut kept, &mut left) };
+        unsafe { ansi_screen_history(self.handle(), &raw mut kept, &raw mut left) };
         (kept, left)
     }
 
     /// The cells of a row that left and is kept: the oldest has the number 0. There are none where there is no such row.
-    pub fn history_row(&mut self, number: usize) -> impl Iterator<Item = Cell> {
+    pub fn history_row(&self, number: usize) -> impl Iterator<Item = Cell> {
         self.cells_by(|handle, cells, count| unsafe {
             ansi_screen_history_row(handle, number, cells, count)
         })
@@ -440,7 +499,7 @@ impl Screen {
     }
 
     /// The text of such a row, without the blanks at its end; empty where there is none.
-    pub fn history_text(&mut self, number: usize) -> String {
+    pub fn history_text(&self, number: usize) -> String {
         self.read(|handle, room, written| unsafe {
             ansi_screen_history_text(handle, number, room.as_mut_ptr(), room.len(), written)
         })
@@ -448,44 +507,44 @@ impl Screen {
 
     /// Cells of a row, by a call that writes them; none where it does not.
     fn cells_by(
-        &mut self,
+        &self,
         call: impl Fn(*mut Handle, *mut CellBytes, usize) -> bool,
     ) -> vec::IntoIter<CellBytes> {
         let mut cells: Vec<CellBytes> = vec::from_elem(CellBytes::default(), self.columns);
-        if !call(&mut self.handle, cells.as_mut_ptr(), cells.len()) {
+        if !call(self.handle(), cells.as_mut_ptr(), cells.len()) {
             cells.clear();
         }
         cells.into_iter()
     }
 
     /// The text of a row, counted from 0, without the blanks at its end; empty where there is no such row.
-    pub fn row_text(&mut self, row: usize) -> String {
+    pub fn row_text(&self, row: usize) -> String {
         self.read(|handle, room, written| unsafe {
             ansi_screen_row_text(handle, row, room.as_mut_ptr(), room.len(), written)
         })
     }
 
     /// All text: each row without the blanks at its end, and a line feed, without the blank rows at the end.
-    pub fn text(&mut self) -> String {
+    pub fn text(&self) -> String {
         self.read(|handle, room, written| unsafe {
             ansi_screen_text(handle, room.as_mut_ptr(), room.len(), written)
         })
     }
 
     /// Reads text by a call.
-    fn read(&mut self, call: impl FnMut(*mut Handle, &mut [u8], &mut usize) -> bool) -> String {
+    fn read(&self, call: impl FnMut(*mut Handle, &mut [u8], &mut usize) -> bool) -> String {
         // (what the library writes is UTF-8)
         String::from_utf8(self.bytes_by(call)).unwrap_or_default()
     }
 
     /// Reads bytes by a call, which says how many there are where the room has too few.
     fn bytes_by(
-        &mut self,
+        &self,
         mut call: impl FnMut(*mut Handle, &mut [u8], &mut usize) -> bool,
     ) -> Vec<u8> {
         let mut room = Vec::new();
         let mut written = 0;
-        while !call(&mut self.handle, &mut room, &mut written) && written > 0 {
+        while !call(self.handle(), &mut room, &mut written) && written > 0 {
             room.resize(written, 0);
         }
         room.truncate(written);
@@ -495,32 +554,21 @@ impl Screen {
 
 impl Drop for Screen {
     fn drop(&mut self) {
-        unsafe { ansi_screen_close(&mut self.handle) };
+        unsafe { ansi_screen_close(self.handle()) };
     }
 }
 
 impl Screen {
     /// A screen of its own that stands where this one stands: in the midst of a sequence too, with the rows that left it.
+    ///
+    /// # Errors
+    /// There is no memory.
     pub fn try_clone(&self) -> Result<Screen, CannotOpen> {
-        let mut handle = Handle {
-            held: core::ptr::null_mut(),
-        };
-        if !unsafe { ansi_screen_copy(&mut handle, &mut self.lent()) } {
+        let copy = Screen::holding_none(self.columns, self.rows);
+        if !unsafe { ansi_screen_copy(copy.handle(), self.handle()) } {
             return Err(CannotOpen);
         }
-        Ok(Screen {
-            handle,
-            columns: self.columns,
-            rows: self.rows,
-        })
-    }
-
-    /// A handle of the same screen, for a call that reads it: that writes back what it has read. (No other call is made
-    /// meanwhile, since a screen is not `Sync`.)
-    fn lent(&self) -> Handle {
-        Handle {
-            held: self.handle.held,
-        }
+        Ok(copy)
     }
 }
 
@@ -535,13 +583,19 @@ impl Clone for Screen {
 /// modes.
 impl PartialEq for Screen {
     fn eq(&self, other: &Screen) -> bool {
-        // (both handles of one screen are not lent to a call)
-        core::ptr::eq(self, other)
-            || unsafe { ansi_screen_equal(&mut self.lent(), &mut other.lent()) }
+        // (one handle is given to a call once)
+        ptr::eq(self, other) || unsafe { ansi_screen_equal(self.handle(), other.handle()) }
     }
 }
 
 impl Eq for Screen {}
+
+/// Its [`text`](Screen::text).
+impl fmt::Display for Screen {
+    fn fmt(&self, formatter: &mut fmt::Formatter<'_>) -> fmt::Result {
+        formatter.write_str(&self.text())
+    }
+}
 
 impl fmt::Debug for Screen {
     fn fmt(&self, formatter: &mut fmt::Formatter<'_>) -> fmt::Result {

@@ -1,6 +1,7 @@
 //! The calls of the package, as a user makes them: of wholes, of streams in pieces, and where a writer fails.
 
 use ansi_proved::{events, strip, strip_safe, to_html, Converter, Event, SafeStripper, Sequence, Stripper, Styling};
+use std::borrow::Cow;
 use std::convert::Infallible;
 
 const STREAM: &[u8] = b"\x1b[31mhi\x1b[0m \xe2\x82\xac<b>\x07\n";
@@ -15,6 +16,7 @@ fn into(all: &mut Vec<u8>) -> impl FnMut(&[u8]) -> Result<(), Infallible> + '_ {
 }
 
 /// A writer that takes nothing and is content.
+#[allow(clippy::unnecessary_wraps, reason = "each writer answers so")]
 fn nowhere(_: &[u8]) -> Result<(), Infallible> {
     Ok(())
 }
@@ -36,6 +38,23 @@ fn wholes() {
     assert_eq!(to_html(STREAM, Styling::Light), LIGHT);
     assert_eq!(strip_safe(STREAM), "hi \u{20ac}<b><U+0007>\n");
     assert_eq!(strip_safe("a\u{202e}b\r\n\u{9b}<U+0041>"), "a<U+202E>b\n<U+009B><U+003C>U+0041>");
+}
+
+/// What is its own text is borrowed: all of it, or the front of it that is followed by nothing that shows.
+#[test]
+fn clean_text_is_not_copied() {
+    let long = "plain \u{20ac} text\r\n\t".repeat(5000);
+    for text in ["", "plain", "a\u{e4}\u{20ac}\u{1f600}\n", &long] {
+        assert!(matches!(strip(text), Cow::Borrowed(it) if it.as_ptr() == text.as_ptr() && it.len() == text.len()), "{text:?}");
+    }
+    assert!(matches!(strip("front\x1b[0m"), Cow::Borrowed("front")));
+    assert!(matches!(strip_safe(long.trim_end()), Cow::Owned(_)));
+    assert!(matches!(strip_safe("plain \u{20ac}\n"), Cow::Borrowed("plain \u{20ac}\n")));
+    let (coloured, wanted) = (format!("{long}\x1b[31m{long}\x1b[0m\u{20ac}"), format!("{long}{long}\u{20ac}"));
+    assert!(matches!(strip(&coloured), Cow::Owned(text) if text == wanted));
+    assert_eq!(strip(b"a\xe2\x82"), "a\u{fffd}");
+    assert_eq!(strip(b"a\xff\xff\xff"), "a\u{fffd}\u{fffd}\u{fffd}");
+    assert_eq!(strip(&vec![b'a', 0x7f, b'a']), "aa");
 }
 
 /// Bytes of no character, a stamp that BEL ends, and half of a character at the end.
@@ -83,6 +102,19 @@ fn stylings_are_others() {
     assert_eq!(made[1], "<span style=\"color:#cf222e;\">a</span>");
     assert!(made[2].contains("color:#ff7b72"), "{}", made[2]);
     assert!(made[3].contains("class="), "{}", made[3]);
+}
+
+#[test]
+fn stylings_by_their_names() {
+    let named = [("both", Styling::Both), ("light", Styling::Light), ("dark", Styling::Dark), ("classes", Styling::Classes)];
+    for (name, styling) in named {
+        assert_eq!(name.parse(), Ok(styling));
+    }
+    assert_eq!(Styling::default(), Styling::Both);
+    for name in ["", "Dark", "dark ", "red"] {
+        let error = name.parse::<Styling>().unwrap_err();
+        assert_eq!(error.to_string(), "a styling is one of both, light, dark and classes");
+    }
 }
 
 #[test]
@@ -177,4 +209,19 @@ fn events_come_before_more_is_asked_for() {
     assert_eq!(found.next(), Some(Event::Text("A".into())));
     drop(found);
     assert_eq!(asked, 2);
+}
+
+#[test]
+fn a_clone_of_events_goes_on_from_where_it_was_cloned() {
+    let mut found = events([b"a\x1b[1".to_vec(), b"mb\x1b[2m\x1b[3m".to_vec()]);
+    assert_eq!(found.next(), Some(Event::Text("a".into())));
+    assert_eq!(found.next(), Some(csi(&[&[1]], b'm')));
+    let rest = [Event::Text("b".into()), csi(&[&[2]], b'm'), csi(&[&[3]], b'm')];
+    assert_eq!(found.clone().collect::<Vec<_>>(), rest);
+    assert_eq!(found.collect::<Vec<_>>(), rest);
+    let mut many = events([b"\x1b[1m".repeat(5000)]);
+    assert!(many.by_ref().take(10).all(|event| event == csi(&[&[1]], b'm')));
+    assert_eq!((many.clone().count(), many.count()), (4990, 4990));
+    assert_eq!(events([b"".as_slice(), b"", b"c", b""]).collect::<Vec<_>>(), [Event::Text("c".into())]);
+    assert_eq!(format!("{:?}", events([b"a"])), "Events { .. }");
 }

@@ -1,0 +1,159 @@
+//! The screen, with the feature `screen`, as a user calls it. (What each cell is read as is tested by `tests/screen_library` of the
+//! repository.)
+#![cfg(feature = "screen")]
+
+use ansi_proved::screen::{CannotOpen, Color, Part, Place, Screen};
+use ansi_proved::Styling;
+use std::panic::catch_unwind;
+use std::sync::Mutex;
+use std::thread;
+
+/// A screen that shows this.
+fn shown(columns: usize, rows: usize, stream: &str) -> Screen {
+    let mut screen = Screen::new(columns, rows).unwrap();
+    screen.feed(stream.as_bytes());
+    screen
+}
+
+#[test]
+fn pieces_are_one_stream() {
+    let mut screen = Screen::new(10, 3).unwrap();
+    for piece in ["\x1b[3", "1mh\x1b[0mi \u{4E2D}e\u{301}\r\nlong", "er than ten"] {
+        screen.feed(piece.as_bytes());
+    }
+    assert_eq!(screen.text(), "hi \u{4E2D}e\u{301}\nlonger tha\nn ten\n");
+    assert_eq!(screen.to_string(), screen.text());
+    assert_eq!(format!("{screen:?}"), "Screen(10x3)");
+    assert_eq!((screen.row_text(0).as_str(), screen.row_text(3).as_str()), ("hi \u{4E2D}e\u{301}", ""));
+    assert_eq!(screen.cursor(), Place { row: 2, column: 5 });
+    assert_eq!((screen.columns(), screen.rows()), (10, 3));
+}
+
+#[test]
+fn cells_by_rows_and_columns() {
+    let screen = shown(10, 3, "\x1b[31mh\x1b[0mi \u{4E2D}e\u{301}\r\nlonger than ten");
+    let cells: Vec<_> = screen.row(0).collect();
+    assert_eq!((cells.len(), cells[0].character, cells[0].style.foreground), (10, 'h', Color::Named(1)));
+    assert_eq!((cells[3].part, cells[4].part, cells[5].marks), (Part::Left, Part::Right, [Some('\u{301}'), None]));
+    assert!(screen.cell(1, 9).unwrap().goes_on && screen.cell(1, 10).is_none() && screen.cell(3, 0).is_none());
+    assert!(screen.row(3).next().is_none());
+}
+
+/// Many may read a screen: iterators, and what asks it meanwhile.
+#[test]
+fn a_shared_reference_reads() {
+    let screen = &shown(4, 2, "ab\r\nc");
+    let all: Vec<String> = screen.each_row().enumerate().map(|(at, row)| format!("{}{}", row[0].character, screen.row_text(at))).collect();
+    assert_eq!(all, ["aab", "cc"]);
+    assert!(screen.update(screen).is_empty() && screen == screen);
+    assert_eq!(catch_unwind(|| screen.text()).unwrap(), "ab\nc\n");
+}
+
+/// That all types have, and those that are `Sync` for two reasons: of these the compiler can't tell which is meant.
+trait Unshared<Reason> {
+    fn is_known() {}
+}
+
+impl<T: ?Sized> Unshared<()> for T {}
+impl<T: ?Sized + Sync> Unshared<u8> for T {}
+
+/// Reading writes to the handle, so that threads may not read a screen at once.
+#[test]
+fn threads_do_not_share_it_without_a_lock() {
+    <Screen as Unshared<_>>::is_known();
+}
+
+#[test]
+fn threads_share_it_by_a_lock() {
+    let screen = Mutex::new(Screen::new(8, 2).unwrap());
+    thread::scope(|scope| {
+        for _ in 0..8 {
+            scope.spawn(|| screen.lock().unwrap().feed(b"x"));
+        }
+    });
+    assert_eq!(screen.lock().unwrap().text(), "xxxxxxxx\n");
+    let mut screen = screen.into_inner().unwrap();
+    let text = thread::spawn(move || {
+        screen.feed(b"y");
+        screen.text()
+    });
+    assert_eq!(text.join().unwrap(), "xxxxxxxx\ny\n");
+}
+
+#[test]
+fn a_reset_leaves_a_new_one() {
+    let mut screen = Screen::with_history(4, 2, 5).unwrap();
+    screen.feed(b"1\r\n2\r\n3\x1b[1m\x1b[?7l\x1b[");
+    screen.reset();
+    assert_eq!(screen, Screen::new(4, 2).unwrap());
+    assert_eq!((screen.history_count(), screen.left_count()), (0, 0));
+    screen.feed(b"4mx");
+    assert_eq!(screen.text(), "4mx\n");
+}
+
+#[test]
+fn drawings_and_updates_lead_from_one_to_the_other() {
+    let mut screen = shown(10, 3, "\x1b[31mone");
+    let mut other = Screen::new(10, 3).unwrap();
+    other.feed(&screen.draw());
+    assert_eq!(screen, other);
+    assert!(screen.update(&other).is_empty());
+    screen.feed(b"two");
+    let update = other.update(&screen);
+    assert!(update.ends_with(b"two") && !screen.draw().is_empty());
+    other.feed(&update);
+    assert!(screen == other && other.text() == "onetwo\n");
+    assert!(other.update(&Screen::new(9, 3).unwrap()).is_empty());
+    let large = shown(200, 60, &"\x1b[1mx\x1b[0my".repeat(5000));
+    let mut drawn = Screen::new(200, 60).unwrap();
+    drawn.feed(&large.draw());
+    assert_eq!(drawn.text(), large.text());
+}
+
+#[test]
+fn rows_that_left_are_kept() {
+    let mut screen = Screen::with_history(10, 3, 2).unwrap();
+    screen.feed(b"1\r\n\x1b[1m2\r\n3\r\n4\r\n5\r\n6");
+    assert_eq!((screen.history_count(), screen.left_count()), (2, 3));
+    let texts = [0, 1, 2].map(|number| screen.history_text(number));
+    assert_eq!(texts, ["2", "3", ""]);
+    let row: Vec<_> = screen.history_row(0).collect();
+    assert!(row.len() == 10 && row[0].character == '2' && row[0].style.bold);
+    assert!(screen.history_row(2).next().is_none());
+    assert_eq!(screen.each_row().map(|row| row[0].character).collect::<String>(), "456");
+    let none = shown(10, 3, "1\n2\n3\n4\n");
+    assert_eq!((none.history_count(), none.left_count(), none.history_text(0).as_str()), (0, 2, ""));
+}
+
+#[test]
+fn links_and_html() {
+    let screen = shown(10, 3, "\x1b]8;;http://x\x1b\\l\x1b]8;;\x1b\\<");
+    let link = screen.cell(0, 0).unwrap().link;
+    assert_eq!((link, screen.link(link).as_str(), screen.link(2).as_str()), (1, "http://x", ""));
+    let html = |attributes: &str| format!("<a rel=\"nofollow noreferrer\" href=\"http://x\" {attributes}>l</a>&lt;\n");
+    assert_eq!(screen.to_html(Styling::Classes), html("class=\"ansi-link\""));
+    assert_eq!(screen.to_html(Styling::Light), html("style=\"color:inherit;\""));
+}
+
+#[test]
+fn a_clone_goes_on_by_itself() {
+    let mut screen = Screen::with_history(10, 3, 2).unwrap();
+    screen.feed(b"1\r\n2\r\n3\r\n4\r\n5\x1b[3");
+    let mut clone = screen.clone();
+    assert!(clone == screen && clone.history_text(1) == "2" && clone.try_clone().unwrap() == clone);
+    assert_eq!((clone.columns(), clone.rows()), (10, 3));
+    clone.feed(b"1mx");
+    assert!(clone != screen && screen.text() == "3\n4\n5\n" && clone.text() == "3\n4\n5x\n");
+    assert_eq!(clone.cell(2, 1).unwrap().style.foreground, Color::Named(1));
+    drop(screen);
+    assert_eq!(clone.history_text(0), "1");
+}
+
+#[test]
+fn no_screen_of_such_a_size() {
+    for (columns, rows) in [(1, 1), (2, 0), (1001, 1), (2, 1001)] {
+        assert_eq!(Screen::new(columns, rows).unwrap_err(), CannotOpen);
+    }
+    assert_eq!(Screen::with_history(10, 3, usize::MAX).unwrap_err(), CannotOpen);
+    assert!(CannotOpen.to_string().contains("2 to 1000 columns"));
+}

@@ -12,7 +12,7 @@ import textwrap
 import time
 
 from library_shared import *
-from safe_rows import SAFE_ROWS
+from safe_rows import HIDDEN_ROWS, SAFE_ROWS
 
 # Says which names of the package `import *` lacks.
 LACKING = """
@@ -71,9 +71,9 @@ def built_cases(folder):
     for word, wanted in [("strip", text_of(stream)), ("events", printed_of(stream)), ("cloned", text_of(stream))]:
         done = run([folder + "whole", word], stream)
         yield "cargo: %s of a whole" % word, failure(done) or first_difference(done.stdout, wanted)
-    generated = b"".join(given for _, given, _ in SAFE_ROWS)
+    generated = b"".join(given for _, given, _ in SAFE_ROWS + HIDDEN_ROWS)
     for word in ("safe", "safe in pieces"):
-        for kind, given in [("sequences", stream), ("rows of safe text", generated), ("what waits", b"a<U")]:
+        for kind, given in [("sequences", stream), ("rows of safe text", generated), ("what waits", b"a<U"), ("hidden text", b"a\x1b[8mb")]:
             done = run([folder + "whole", word], given)
             yield "cargo: %s of %s" % (word, kind), failure(done) or first_difference(done.stdout, safe_of(given))
     done = run([folder + "whole", "asked"], b"\x1b[1mABCD")

@@ -147,7 +147,7 @@ const STRIP_ROOM: usize = 4096;
 const SAFE_ROOM: usize = 16384;
 const HTML_ROOM: usize = 16384;
 const STRIP_END_ROOM: usize = 3;
-const SAFE_END_ROOM: usize = 30;
+const SAFE_END_ROOM: usize = 50;
 const HTML_END_ROOM: usize = 6539;
 const EVENTS: usize = 1024;
 const EVENTS_ROOM: usize = 16384;
@@ -245,7 +245,7 @@ impl Stripper {
     }
 }
 
-/// A stream that becomes text that hides nothing, as `ansi2text --safe` writes it but for marks, which goes on with each
+/// A stream that becomes text that hides nothing, as `ansi2text --safe` writes it, which goes on with each
 /// piece. A clone goes on from where it was cloned.
 #[derive(Clone, Debug)]
 pub struct SafeStripper(SafeState);
@@ -275,8 +275,8 @@ impl SafeStripper {
         feed_all(ansi_safe_feed, &mut self.0, piece, &mut [0; SAFE_ROOM], write)
     }
 
-    /// Hands on what still waits, a carriage return, `<`, `<U` or a joiner that came last, and U+FFFD where a character is
-    /// begun. Then a stream begins.
+    /// Hands on what still waits, a carriage return, `<`, `<U` or a joiner that came last, U+FFFD where a character is
+    /// begun, and `<U+shown>` behind hidden text. Then a stream begins.
     pub fn end<E>(&mut self, write: impl FnOnce(&[u8]) -> Result<(), E>) -> Result<(), E> {
         end_with(ansi_safe_end, &mut self.0, &mut [0; SAFE_END_ROOM], write)
     }
@@ -351,7 +351,8 @@ pub fn strip(stream: impl AsRef<[u8]>) -> String {
 }
 
 /// The text of terminal output that hides nothing, as `ansi2text --safe` writes it: what shows nothing, turns the order of
-/// text round or is a control is written visibly, as `<U+202E>`. But text that a stream hides (SGR 8) is not marked.
+/// text round or is a control is written visibly, as `<U+202E>`. Text that a stream hides (SGR 8) stands between
+/// `<U+hidden>` and `<U+shown>`.
 pub fn strip_safe(stream: impl AsRef<[u8]>) -> String {
     joined(|write| {
         let mut stripper = SafeStripper::new();

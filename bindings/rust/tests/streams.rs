@@ -36,6 +36,7 @@ fn wholes() {
     assert_eq!(to_html(STREAM, Styling::Light), LIGHT);
     assert_eq!(strip_safe(STREAM), "hi \u{20ac}<b><U+0007>\n");
     assert_eq!(strip_safe("a\u{202e}b\r\n\u{9b}<U+0041>"), "a<U+202E>b\n<U+009B><U+003C>U+0041>");
+    assert_eq!(strip_safe("a\x1b[8mb\nc"), "a<U+hidden>b<U+shown>\n<U+hidden>c<U+shown>");
 }
 
 /// Bytes of no character, a stamp that BEL ends, and half of a character at the end.
@@ -56,7 +57,10 @@ fn logs() {
 /// What waits for the next character comes with it, or at the end, after which a stream begins.
 #[test]
 fn safe_text_however_it_is_cut() {
-    let (stream, wanted) = ("\u{1f468}\u{200d}\u{1f469}\u{200d}a<U+<U\r\n<U\r", "\u{1f468}\u{200d}\u{1f469}<U+200D>a<U+003C>U+<U\n<U<U+000D>");
+    let (stream, wanted) = (
+        "\u{1f468}\u{200d}\u{1f469}\u{200d}a<U+<U\r\n<U\r\x1b[8mb\x1b[mc\x1b[8md",
+        "\u{1f468}\u{200d}\u{1f469}<U+200D>a<U+003C>U+<U\n<U<U+000D><U+hidden>b<U+shown>c<U+hidden>d<U+shown>",
+    );
     let mut stripper = SafeStripper::default();
     for size in 1..=stream.len() {
         let mut text = Vec::new();

@@ -56,7 +56,8 @@ fn safe_text_goes_on_and_ends() {
     writer.flush().unwrap();
     assert_eq!(writer.get_ref(), b"a<U+0007><U+003C>U+<U+202E>");
     writer.get_mut().clear();
-    assert_eq!(writer.finish().unwrap(), b"<U+000D>");
+    writer.write_all(b"\x1b[8ma").unwrap();
+    assert_eq!(writer.finish().unwrap(), b"<U+000D><U+hidden>a<U+shown>");
 }
 
 #[test]

@@ -114,7 +114,8 @@ def strip(text, *, safe=False):
     It drives no terminal: DEL and U+0080 to U+009F, which some terminals take for controls, are left out too. No other
     byte vanishes: what is broken, and what belongs to no character, is U+FFFD. Where it is
     to be safe, it hides nothing, as that of `ansi2text --safe`: what shows nothing, turns the order of text round or is a
-    control is written visibly, as `<U+202E>`. But text that a stream hides (SGR 8) is not marked.
+    control is written visibly, as `<U+202E>`, and text that a stream hides (SGR 8) stands between `<U+hidden>` and
+    `<U+shown>`.
     """
     if safe:
         return safe_text(text)

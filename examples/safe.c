@@ -26,7 +26,7 @@ static bool show(const unsigned char *piece, size_t count)
     return true;
 }
 
-/* Writes what still waits. */
+/* Writes what still waits, and closes hidden text. */
 static bool end(void)
 {
     size_t written;

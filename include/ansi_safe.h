@@ -4,9 +4,9 @@
  * ansi_strip.h. A character that shows or is blank is left, and so is a joiner, such as U+200D, where an emoji or a
  * script needs it. LF, VT and FF are a line feed, and a carriage return before a line feed goes. Each other character
  * is written visibly, as <U+202E>: controls, what turns the order of text round, and what shows nothing. So is the < of
- * a <U+ that stands in the stream, as <U+003C>. So the text says which characters there were. Bytes that belong to no
- * character, and BEL, are read as ansi_strip.h says. It is what `ansi2text --safe` writes, but for text that the
- * stream hides (SGR 8), which is not marked; ansi2text(1) says more.
+ * a <U+ that stands in the stream, as <U+003C>. So the text says which characters there were. Text that the stream
+ * hides (SGR 8) stands between <U+hidden> and <U+shown>, in each line by itself. Bytes that belong to no character, and
+ * BEL, are read as ansi_strip.h says. It is what `ansi2text --safe` writes; ansi2text(1) says more.
  *
  * A stream comes in pieces of any size, cut anywhere: its text, and what ends it, is the same. There is
  * nothing to allocate or to free, no input is refused, and no call fails but for a room that is too small.
@@ -44,14 +44,15 @@ extern "C" {
 #define ANSI_SAFE_VERSION "0.1.0"
 
 /* The bytes of room with which ansi_safe_feed always goes on. */
-#define ANSI_SAFE_LEAST_ROOM 40
+#define ANSI_SAFE_LEAST_ROOM 60
 
 /* The bytes of room that ansi_safe_end needs. */
-#define ANSI_SAFE_END_ROOM 30
+#define ANSI_SAFE_END_ROOM 50
 
-/* The room in which any `count` bytes are always taken at once. (All of a stream is at most ten times as long as its
- * bytes, and mostly as long as these.) */
-#define ANSI_SAFE_ROOM(count) (20 * (size_t)(count) + 40)
+/* The room in which any `count` bytes are always taken at once: of each byte two characters and a mark before each, of ten
+ * bytes at most, and two characters that waited. (All of a stream is at most twenty times as long as its bytes, and
+ * mostly as long as these.) */
+#define ANSI_SAFE_ROOM(count) (40 * (size_t)(count) + 40)
 
 /* Where a stream and its text stand between two pieces: 1,064 bytes, which belong to the caller.
  *
@@ -74,7 +75,8 @@ void ansi_safe_init(ansi_safe *state);
  * written         becomes how many bytes of text were written, to the front of the room
  *
  * Answers true where bytes were taken, or where there were none. Then all of their text is written but for
- * what waits for the next character: a carriage return, <, <U or a joiner. The text is UTF-8 by itself, and what follows
+ * what waits for what comes next: a carriage return, <, <U or a joiner, and the mark that ends hidden text. The text is
+ * UTF-8 by itself, and what follows
  * `written` bytes of room is as it was. At least one byte was taken, and in ANSI_SAFE_ROOM(count) bytes of room
  * all. Hand on what is written, and call again with the bytes from `taken` on.
  *
@@ -84,7 +86,7 @@ void ansi_safe_init(ansi_safe *state);
 bool ansi_safe_feed(ansi_safe *state, const unsigned char *piece, size_t count,
                     unsigned char *room, size_t size, size_t *taken, size_t *written);
 
-/* Ends the stream: writes what still waits, and U+FFFD where a character is begun.
+/* Ends the stream: writes what still waits, U+FFFD where a character is begun, and <U+shown> behind hidden text.
  *
  * room, size      where it goes; at least ANSI_SAFE_END_ROOM bytes
  * written         becomes how many bytes that are

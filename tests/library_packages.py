@@ -13,8 +13,10 @@ import tempfile
 import textwrap
 import time
 
+from library_lines import lines_text
 from library_shared import *
-from safe_rows import SAFE_ROWS
+from log_rows import RETURN_ROWS
+from safe_rows import HIDDEN_ROWS, SAFE_ROWS
 
 # Says which names of the package `import *` lacks.
 LACKING = """
@@ -73,9 +75,12 @@ def built_cases(folder):
     for word, wanted in [("strip", text_of(stream)), ("events", printed_of(stream)), ("cloned", text_of(stream))]:
         done = run([folder + "whole", word], stream)
         yield "cargo: %s of a whole" % word, failure(done) or first_difference(done.stdout, wanted)
-    generated = b"".join(given for _, given, _ in SAFE_ROWS)
+    for kind, given in [("sequences", stream), ("carriage returns", b"".join(given for _, given, _ in RETURN_ROWS))]:
+        done = run([folder + "whole", "lf"], given)
+        yield "cargo: lines of %s" % kind, failure(done) or first_difference(done.stdout, lines_text(given))
+    generated = b"".join(given for _, given, _ in SAFE_ROWS + HIDDEN_ROWS)
     for word in ("safe", "safe in pieces"):
-        for kind, given in [("sequences", stream), ("rows of safe text", generated), ("what waits", b"a<U")]:
+        for kind, given in [("sequences", stream), ("rows of safe text", generated), ("what waits", b"a<U"), ("hidden text", b"a\x1b[8mb")]:
             done = run([folder + "whole", word], given)
             yield "cargo: %s of %s" % (word, kind), failure(done) or first_difference(done.stdout, safe_of(given))
     done = run([folder + "whole", "asked"], b"\x1b[1mABCD")
@@ -108,9 +113,9 @@ def shown_python():
 def said_of_the_package():
     """What the first page of help says that calls give, as lines with comments."""
     package = ast.get_docstring(ast.parse(read("bindings/python/src/ansi_proved/__init__.py")))
-    found = re.findall(r"""(?m) (\w+\("[^"]*"\)) is ("[^"]*"|'[^']*')$""", package)
+    found = re.findall(r"""(?m) (\w+\("[^"]*"(?:, lf=True)?\)) is ("[^"]*"|'[^']*')$""", package)
     yield "the package", "".join("    ansi_proved.%s  # %r\n" % (code, ast.literal_eval(value)) for code, value in found)
-    assert len(found) == 4, "the package shows what %d calls give" % len(found)
+    assert len(found) == 5, "the package shows what %d calls give" % len(found)
 
 
 def shown_cases():
@@ -157,14 +162,14 @@ STRS = ["A", "\x1b[1mA", 2000 * "\x1b[1mA"]
 OF_BYTES, OF_STR = [WHOLES, iter(WHOLES), [], io.BytesIO(b"\x1b[1mA")], [STRS, iter(STRS), io.StringIO("\x1b[1mA")]
 MANY_STR, MANY_BYTES = "Union[Iterable[str], _File[str]]", "Union[Iterable[_Bytes], _File[bytes]]"
 TYPES = {  # what type checkers are told that each function takes and gives, with what it is then given
-    ("strip", "str", "bool", "str"): STRS,
-    ("strip", "_Bytes", "bool", "bytes"): WHOLES,
+    ("strip", "str", "bool", "bool", "str"): STRS,
+    ("strip", "_Bytes", "bool", "bool", "bytes"): WHOLES,
     ("safe", "str", "str"): STRS,
     ("safe", "_Bytes", "bytes"): WHOLES,
     ("shown", "str", "int", "int", "str"): STRS,
     ("shown", "_Bytes", "int", "int", "bytes"): WHOLES,
-    ("text_of", MANY_STR, "bool", "Iterator[str]"): OF_STR,
-    ("text_of", MANY_BYTES, "bool", "Iterator[bytes]"): OF_BYTES,
+    ("text_of", MANY_STR, "bool", "bool", "Iterator[str]"): OF_STR,
+    ("text_of", MANY_BYTES, "bool", "bool", "Iterator[bytes]"): OF_BYTES,
     ("to_html", "str", "_Styling", "str"): STRS,
     ("to_html", "_Bytes", "_Styling", "bytes"): WHOLES,
     ("html_of", MANY_STR, "_Styling", "Iterator[str]"): [STRS, iter(STRS), io.StringIO("\x1b[1mA")],

@@ -20,11 +20,11 @@
 
 static_assert(sizeof(struct ansi_safe) == 1064, "a state has 1,064 bytes");
 static_assert(offsetof(ansi_safe, others) == sizeof(size_t), "nothing stands between");
-static_assert(ANSI_SAFE_LEAST_ROOM == 40 && ANSI_SAFE_END_ROOM == 30, "what one byte and an end may need");
-static_assert(ANSI_SAFE_ROOM(0) == 40, "twenty bytes for each, and forty more");
-static_assert(ANSI_SAFE_ROOM(1 + 1) == 80, "the count stands in brackets");
-static_assert(2 * ANSI_SAFE_ROOM(1) == 120, "and so does the whole");
-static_assert(ANSI_SAFE_ROOM(0x60000000) == 0x780000028, "also of a large count");
+static_assert(ANSI_SAFE_LEAST_ROOM == 60 && ANSI_SAFE_END_ROOM == 50, "what one byte and an end may need");
+static_assert(ANSI_SAFE_ROOM(0) == 40, "forty bytes for each, and forty more");
+static_assert(ANSI_SAFE_ROOM(1 + 1) == 120, "the count stands in brackets");
+static_assert(2 * ANSI_SAFE_ROOM(1) == 160, "and so does the whole");
+static_assert(ANSI_SAFE_ROOM(0x60000000) == 0xF00000028, "also of a large count");
 
 /* The type: with another one this is a warning, and warnings are errors. */
 static void (*const init)(ansi_safe *) = ansi_safe_init;
@@ -76,6 +76,28 @@ static void what_waits_is_written(void)
     expect(goes_on("\xE2\x80\x8D", SIZE) && ends(SIZE) && is_written("<U+200D>"), "at the end it does not");
 }
 
+/* Hidden text is marked, whatever pieces part it from its sequences and its end. */
+static void hidden_text_is_marked(void)
+{
+    ansi_safe copy;
+
+    init(&it.state);
+    expect(goes_on("a\033[8", SIZE) && goes_on("m", SIZE) && is_written(""), "text comes next that is hidden");
+    copy = it.state;
+    expect(goes_on("b", SIZE) && is_written("<U+hidden>b"), "it is marked where it begins");
+    expect(goes_on("c", SIZE) && is_written("c"), "and only there");
+    expect(goes_on("\n", SIZE) && is_written("<U+shown>\n"), "it ends with its line");
+    expect(goes_on("d", SIZE) && goes_on("\033[28me", SIZE) && is_written("<U+shown>e"), "and where text is shown again");
+    it.state = copy;
+    expect(goes_on("b", SIZE) && ends(ANSI_SAFE_END_ROOM) && is_written("<U+shown>"), "and where the stream ends");
+    expect(goes_on("b", SIZE) && is_written("b"), "of the next stream nothing is hidden");
+    it.state = copy;
+    expect(ends(ANSI_SAFE_END_ROOM) && is_written(""), "where no text came there is no mark");
+    it.state = copy;
+    init(&it.state);
+    expect(goes_on("b", SIZE) && is_written("b"), "nor behind ansi_safe_init");
+}
+
 static void little_room_is_refused(void)
 {
     size_t size;
@@ -105,6 +127,9 @@ static void one_byte_leads_to_much(void)
     init(&it.state);
     expect(goes_on("<U\xF3\xA0\x81", SIZE) && is_written(""), "a tag is begun");
     expect(goes_on("\x81", ANSI_SAFE_LEAST_ROOM) && is_written("<U<U+E0041>"), "and written");
+    init(&it.state);
+    expect(goes_on("a\r\033[8m\xE2\x82", SIZE) && is_written("a"), "a character is begun that is hidden");
+    expect(ends(ANSI_SAFE_END_ROOM) && is_written("<U+000D><U+hidden>\xEF\xBF\xBD<U+shown>"), "thirty bytes at the end");
 }
 
 /* In room for what they may lead to all bytes are taken at once, and at least one in the least room. */
@@ -134,9 +159,10 @@ int main(void)
 {
     init_begins_a_stream();
     what_waits_is_written();
+    hidden_text_is_marked();
     little_room_is_refused();
     one_byte_leads_to_much();
-    any_bytes_are_a_state("<x", false);
+    any_bytes_are_a_state("<x", true);
     much_is_taken_at_once();
     return failures != 0;
 }

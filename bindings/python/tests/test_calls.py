@@ -27,6 +27,10 @@ class Color(str, enum.Enum):
     LONG = "\x1b[31mred" + 3000 * "x"
 
 
+def str_of(part):
+    return part if isinstance(part, str) else part.decode()
+
+
 class Calls(unittest.TestCase):
     def test_text(self):
         self.assertEqual(ansi_proved.strip(STREAM), "hi \u20ac<b>\n".encode())
@@ -41,6 +45,7 @@ class Calls(unittest.TestCase):
         for call, wanted in [
             (ansi_proved.text_of, "hi\u20ac <b>\n"),
             (lambda it: ansi_proved.text_of(it, safe=True), "hi\u20ac <b>\n"),
+            (lambda it: ansi_proved.text_of(it, lf=True), "hi\u20ac <b>\n"),
             (lambda it: ansi_proved.html_of(it, "light"), '<span style="color:#cf222e;">hi\u20ac</span> &lt;b&gt;\n'),
         ]:
             for given in (pieces, iter(pieces), io.StringIO("".join(pieces))):
@@ -67,7 +72,8 @@ class Calls(unittest.TestCase):
                 raise AssertionError("it is read by lines")
 
         stream = 100 * "\x1b[1ma\n\u20ac".encode()
-        for call in (ansi_proved.text_of, ansi_proved.html_of, ansi_proved.events, lambda it: ansi_proved.text_of(it, safe=True)):
+        words = [lambda it: ansi_proved.text_of(it, safe=True), lambda it: ansi_proved.text_of(it, lf=True)]
+        for call in (ansi_proved.text_of, ansi_proved.html_of, ansi_proved.events, *words):
             del File.asked[:]
             found = list(call(File(stream)))
             self.assertEqual({*File.asked}, {65536})
@@ -120,16 +126,37 @@ class Calls(unittest.TestCase):
             ("\U0001f468\u200d\U0001f469\u200da<U\r", "\U0001f468\u200d\U0001f469<U+200D>a<U<U+000D>"),
             (3000 * "\u202e" + "<", 3000 * "<U+202E>" + "<"),
             ("plain\n", "plain\n"),
+            ("a\x1b[8mb\nc", "a<U+hidden>b<U+shown>\n<U+hidden>c<U+shown>"),
+            (3000 * "\x1b[8ma\x1b[m", 3000 * "<U+hidden>a<U+shown>"),
         ]
         for text, wanted in rows:
             stream = text.encode()
             self.assertEqual(ansi_proved.strip(text, safe=True), wanted)
             self.assertEqual(ansi_proved.strip(stream, safe=True), wanted.encode())
+            self.assertEqual((ansi_proved.safe(text), ansi_proved.safe(stream)), (wanted, wanted.encode()))
+            self.assertEqual(ansi_proved.strip(text, safe=True, lf=True), wanted)
             for size in (1, 2, 3, 5000):
                 pieces = [stream[at : at + size] for at in range(0, len(stream), size)]
                 self.assertEqual(b"".join(ansi_proved.text_of(pieces, safe=True)), wanted.encode())
         self.assertEqual(ansi_proved.strip("a\u202e", safe=False), "a\u202e")
         self.assertEqual(list(ansi_proved.text_of([b"a<", b"b"], safe=True)), [b"a", b"<b"])
+
+    def test_lines(self):
+        rows = [("one\r\ntwo\r\n", "one\ntwo\n"), ("a\r\x1b[K\nb\r\r\nc\r", "a\nb\r\nc\r"), (2000 * "\u20ac\r\n", 2000 * "\u20ac\n"), ("", ""), ("\r", "\r")]
+        for text, wanted in rows:
+            stream = text.encode()
+            self.assertEqual((ansi_proved.strip(text, lf=True), ansi_proved.strip(stream, lf=True)), (wanted, wanted.encode()))
+            self.assertEqual(ansi_proved.strip(text), text.replace("\x1b[K", ""))
+            for size in (1, 2, 3, 5000):
+                for whole in (text, stream):
+                    pieces = [whole[at : at + size] for at in range(0, len(whole), size)]
+                    self.assertEqual("".join(map(str_of, ansi_proved.text_of(pieces, lf=True))), wanted)
+                    self.assertLessEqual({*map(type, ansi_proved.text_of(pieces, lf=True))}, {type(whole)})
+        self.assertEqual(ansi_proved.strip(b"a\r\xe2\x82", lf=True), "a\r\ufffd".encode())
+        parts = ansi_proved.text_of(iter(["one\r", "\ntwo\r", b"three\r"]), lf=True)
+        self.assertEqual(list(parts), ["one", "\ntwo", b"\rthree", b"\r"])
+        clean = "".join(["cle", "an\n"])
+        self.assertIs(ansi_proved.strip(clean, lf=True), clean)
 
     def test_html(self):
         self.assertEqual(ansi_proved.to_html(STREAM, "light"), LIGHT.encode())

@@ -1,7 +1,7 @@
 //! Strips terminal output of its escapes, shows it as HTML, or reads it as events, by the proved library.
 //!
-//! [`strip`], [`strip_safe`] and [`to_html`] take the whole, [`Stripper`], [`SafeStripper`] and [`Converter`] a stream that
-//! comes in pieces; [`events`] takes pieces, and is an iterator.
+//! [`strip`], [`strip_lf`], [`strip_safe`] and [`to_html`] take the whole, [`Stripper`], [`SafeStripper`] and [`Converter`] a
+//! stream that comes in pieces; [`events`] takes pieces, and is an iterator.
 //!
 //! ```
 //! use ansi_proved::{strip, strip_safe, to_html, Event, Styling};
@@ -54,6 +54,12 @@ struct StripState {
 
 #[derive(Clone, Debug)]
 #[repr(C)]
+struct LineState {
+    waits: u8,
+}
+
+#[derive(Clone, Debug)]
+#[repr(C)]
 struct SafeState {
     length: usize,
     others: [u8; 1056],
@@ -94,6 +100,23 @@ unsafe extern "C" {
 
     fn ansi_strip_end(
         state: *mut StripState,
+        room: *mut u8,
+        size: usize,
+        written: *mut usize,
+    ) -> bool;
+
+    fn ansi_lf_feed(
+        state: *mut LineState,
+        text: *const u8,
+        count: usize,
+        room: *mut u8,
+        size: usize,
+        taken: *mut usize,
+        written: *mut usize,
+    ) -> bool;
+
+    fn ansi_lf_end(
+        state: *mut LineState,
         room: *mut u8,
         size: usize,
         written: *mut usize,
@@ -153,7 +176,8 @@ const STRIP_ROOM: usize = 4096;
 const SAFE_ROOM: usize = 16384;
 const HTML_ROOM: usize = 16384;
 const STRIP_END_ROOM: usize = 3;
-const SAFE_END_ROOM: usize = 30;
+const LINE_END_ROOM: usize = 1;
+const SAFE_END_ROOM: usize = 50;
 const HTML_END_ROOM: usize = 6539;
 const EVENTS: usize = 1024;
 const EVENTS_ROOM: usize = 16384;
@@ -218,7 +242,11 @@ fn end_with<State, E>(
 
 /// A stream that is stripped, which goes on with each piece. A clone goes on from where it was cloned.
 #[derive(Clone, Debug)]
-pub struct Stripper(StripState);
+pub struct Stripper {
+    stream: StripState,
+    /// Where the text stands, if its carriage returns before line feeds go.
+    lines: Option<LineState>,
+}
 
 impl Default for Stripper {
     fn default() -> Stripper {
@@ -230,10 +258,25 @@ impl Stripper {
     /// The beginning of a stream.
     #[must_use]
     pub fn new() -> Stripper {
-        Stripper(StripState {
+        let stream = StripState {
             length: 0,
             pending: [0; 1042],
-        })
+        };
+        Stripper {
+            stream,
+            lines: None,
+        }
+    }
+
+    /// The beginning of a stream whose text has no carriage return right before a line feed, as [`strip_lf`] leaves it. One
+    /// that comes last is handed on with the next piece, or at the end.
+    #[must_use]
+    pub fn lf() -> Stripper {
+        let lines = Some(LineState { waits: 0 });
+        Stripper {
+            lines,
+            ..Stripper::new()
+        }
     }
 
     /// Hands on the text of the piece, in one part or several, each UTF-8 by itself.
@@ -243,21 +286,44 @@ impl Stripper {
     pub fn strip<E>(
         &mut self,
         piece: &[u8],
-        write: impl FnMut(&[u8]) -> Result<(), E>,
+        mut write: impl FnMut(&[u8]) -> Result<(), E>,
     ) -> Result<(), E> {
-        feed_all(ansi_strip_feed, &mut self.0, piece, &mut [0; STRIP_ROOM], write)
+        let (stream, room) = (&mut self.stream, &mut [0; STRIP_ROOM]);
+        let Some(lines) = &mut self.lines else {
+            return feed_all(ansi_strip_feed, stream, piece, room, write);
+        };
+        let line_room = &mut [0; STRIP_ROOM + LINE_END_ROOM];
+        feed_all(ansi_strip_feed, stream, piece, room, |text| {
+            feed_all(ansi_lf_feed, lines, text, line_room, &mut write)
+        })
     }
 
-    /// Hands on what the end leads to: U+FFFD where a character is begun. Then a stream begins.
+    /// Hands on what the end leads to: U+FFFD where a character is begun, and a carriage return that waits for a line feed.
+    /// Then a stream begins.
     ///
     /// # Errors
     /// What `write` answers. Then what was not handed on is lost.
     pub fn end<E>(&mut self, write: impl FnOnce(&[u8]) -> Result<(), E>) -> Result<(), E> {
-        end_with(ansi_strip_end, &mut self.0, &mut [0; STRIP_END_ROOM], write)
+        let (stream, room) = (&mut self.stream, &mut [0; STRIP_END_ROOM]);
+        let Some(lines) = &mut self.lines else {
+            return end_with(ansi_strip_end, stream, room, write);
+        };
+        let (mut all, mut filled) = ([0; STRIP_END_ROOM + LINE_END_ROOM], 0);
+        let mut keep = |part: &[u8]| {
+            all[filled..filled + part.len()].copy_from_slice(part);
+            filled += part.len();
+            Ok::<(), Infallible>(())
+        };
+        let line_room = &mut [0; STRIP_END_ROOM + LINE_END_ROOM];
+        let done = end_with(ansi_strip_end, stream, room, |text| {
+            feed_all(ansi_lf_feed, lines, text, line_room, &mut keep)
+        });
+        let Ok(()) = done.and_then(|()| end_with(ansi_lf_end, lines, &mut [0; LINE_END_ROOM], keep));
+        write(&all[..filled])
     }
 }
 
-/// A stream that becomes text that hides nothing, as `ansi2text --safe` writes it but for marks, which goes on with each
+/// A stream that becomes text that hides nothing, as `ansi2text --safe` writes it, which goes on with each
 /// piece. A clone goes on from where it was cloned.
 #[derive(Clone, Debug)]
 pub struct SafeStripper(SafeState);
@@ -290,8 +356,8 @@ impl SafeStripper {
         feed_all(ansi_safe_feed, &mut self.0, piece, &mut [0; SAFE_ROOM], write)
     }
 
-    /// Hands on what still waits, a carriage return, `<`, `<U` or a joiner that came last, and U+FFFD where a character is
-    /// begun. Then a stream begins.
+    /// Hands on what still waits, a carriage return, `<`, `<U` or a joiner that came last, U+FFFD where a character is
+    /// begun, and `<U+shown>` behind hidden text. Then a stream begins.
     ///
     /// # Errors
     /// What `write` answers. Then what was not handed on is lost.
@@ -432,8 +498,30 @@ pub fn strip(stream: &(impl AsRef<[u8]> + ?Sized)) -> Cow<'_, str> {
     })
 }
 
+/// The same without each carriage return right before a line feed, as `ansi2text --lf` writes it: a recording by script(1)
+/// has one at the end of each line. (Safe text has none of these in any case.)
+///
+/// Text that has nothing to strip is borrowed here too.
+///
+/// ```
+/// use std::borrow::Cow;
+///
+/// assert!(matches!(ansi_proved::strip_lf("one\r\ntwo\r"), Cow::Owned(text) if text == "one\ntwo\r"));
+/// assert!(matches!(ansi_proved::strip_lf("one\ntwo\r"), Cow::Borrowed("one\ntwo\r")));
+/// ```
+#[must_use]
+pub fn strip_lf(stream: &(impl AsRef<[u8]> + ?Sized)) -> Cow<'_, str> {
+    let stream = stream.as_ref();
+    joined(stream, |write| {
+        let mut stripper = Stripper::lf();
+        stripper.strip(stream, &mut *write)?;
+        stripper.end(write)
+    })
+}
+
 /// The text of terminal output that hides nothing, as `ansi2text --safe` writes it: what shows nothing, turns the order of
-/// text round or is a control is written visibly, as `<U+202E>`. But text that a stream hides (SGR 8) is not marked.
+/// text round or is a control is written visibly, as `<U+202E>`. Text that a stream hides (SGR 8) stands between
+/// `<U+hidden>` and `<U+shown>`.
 ///
 /// Text that is safe as it stands is not copied: it is borrowed.
 #[must_use]

@@ -1,6 +1,6 @@
 //! The calls of the package, as a user makes them: of wholes, of streams in pieces, and where a writer fails.
 
-use ansi_proved::{events, strip, strip_safe, to_html, Converter, Event, SafeStripper, Sequence, Stripper, Styling};
+use ansi_proved::{events, strip, strip_lf, strip_safe, to_html, Converter, Event, SafeStripper, Sequence, Stripper, Styling};
 use std::borrow::Cow;
 use std::convert::Infallible;
 
@@ -38,6 +38,7 @@ fn wholes() {
     assert_eq!(to_html(STREAM, Styling::Light), LIGHT);
     assert_eq!(strip_safe(STREAM), "hi \u{20ac}<b><U+0007>\n");
     assert_eq!(strip_safe("a\u{202e}b\r\n\u{9b}<U+0041>"), "a<U+202E>b\n<U+009B><U+003C>U+0041>");
+    assert_eq!(strip_safe("a\x1b[8mb\nc"), "a<U+hidden>b<U+shown>\n<U+hidden>c<U+shown>");
 }
 
 /// What is its own text is borrowed: all of it, or the front of it that is followed by nothing that shows.
@@ -50,6 +51,9 @@ fn clean_text_is_not_copied() {
     assert!(matches!(strip("front\x1b[0m"), Cow::Borrowed("front")));
     assert!(matches!(strip_safe(long.trim_end()), Cow::Owned(_)));
     assert!(matches!(strip_safe("plain \u{20ac}\n"), Cow::Borrowed("plain \u{20ac}\n")));
+    assert!(matches!(strip_lf("plain\n\r\u{20ac}\r"), Cow::Borrowed("plain\n\r\u{20ac}\r")));
+    assert!(matches!(strip_lf("front\r\x1b[0m"), Cow::Borrowed("front\r")));
+    assert!(matches!(strip_lf(&long), Cow::Owned(text) if text == long.replace("\r\n", "\n")));
     let (coloured, wanted) = (format!("{long}\x1b[31m{long}\x1b[0m\u{20ac}"), format!("{long}{long}\u{20ac}"));
     assert!(matches!(strip(&coloured), Cow::Owned(text) if text == wanted));
     assert_eq!(strip(b"a\xe2\x82"), "a\u{fffd}");
@@ -72,10 +76,42 @@ fn logs() {
     }
 }
 
+/// A carriage return that comes last waits for the next piece, or for the end, after which a stream begins.
+#[test]
+fn lines_however_they_are_cut() {
+    let (stream, wanted) = (b"a\r\x1b[K\nb\r\r\n\rc\r\xe2", "a\nb\r\n\rc\r\u{fffd}");
+    assert_eq!(strip_lf(stream), wanted);
+    assert_eq!(strip_lf("a\r\n\r"), "a\n\r");
+    assert_eq!(strip("a\r\n"), "a\r\n");
+    let mut stripper = Stripper::lf();
+    for size in 1..=stream.len() {
+        let mut text = Vec::new();
+        for piece in stream.chunks(size) {
+            stripper.strip(piece, into(&mut text)).unwrap();
+        }
+        stripper.end(into(&mut text)).unwrap();
+        assert_eq!(text, wanted.as_bytes(), "in pieces of {size}");
+    }
+    let mut text = Vec::new();
+    stripper.strip(b"a\r", into(&mut text)).unwrap();
+    assert_eq!(text, b"a");
+    let mut clone = stripper.clone();
+    clone.strip(b"\n", into(&mut text)).unwrap();
+    stripper.end(into(&mut text)).unwrap();
+    assert_eq!(text, b"a\n\r");
+    let long = [b'x'; 9000];
+    stripper.strip(&long, into(&mut text)).unwrap();
+    assert!(text.ends_with(&long));
+    assert!(stripper.strip(b"d", |_| Err(())).is_err() && stripper.end(nowhere).is_ok());
+}
+
 /// What waits for the next character comes with it, or at the end, after which a stream begins.
 #[test]
 fn safe_text_however_it_is_cut() {
-    let (stream, wanted) = ("\u{1f468}\u{200d}\u{1f469}\u{200d}a<U+<U\r\n<U\r", "\u{1f468}\u{200d}\u{1f469}<U+200D>a<U+003C>U+<U\n<U<U+000D>");
+    let (stream, wanted) = (
+        "\u{1f468}\u{200d}\u{1f469}\u{200d}a<U+<U\r\n<U\r\x1b[8mb\x1b[mc\x1b[8md",
+        "\u{1f468}\u{200d}\u{1f469}<U+200D>a<U+003C>U+<U\n<U<U+000D><U+hidden>b<U+shown>c<U+hidden>d<U+shown>",
+    );
     let mut stripper = SafeStripper::default();
     for size in 1..=stream.len() {
         let mut text = Vec::new();

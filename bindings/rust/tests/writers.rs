@@ -37,6 +37,12 @@ fn text_goes_on() {
     let mut writer = StripWriter::new(Vec::new());
     writer.write_all(b"a\xe2\x82").unwrap();
     assert_eq!(writer.finish().unwrap(), "a\u{fffd}".as_bytes());
+    let mut writer = StripWriter::lf(Vec::new());
+    for piece in [&b"a\r"[..], b"\nb\r", b"c\r"] {
+        assert_eq!(writer.write(piece).unwrap(), piece.len());
+    }
+    assert_eq!(writer.get_ref(), b"a\nb\rc");
+    assert_eq!(writer.finish().unwrap(), b"a\nb\rc\r");
 }
 
 #[test]
@@ -56,7 +62,8 @@ fn safe_text_goes_on_and_ends() {
     writer.flush().unwrap();
     assert_eq!(writer.get_ref(), b"a<U+0007><U+003C>U+<U+202E>");
     writer.get_mut().clear();
-    assert_eq!(writer.finish().unwrap(), b"<U+000D>");
+    writer.write_all(b"\x1b[8ma").unwrap();
+    assert_eq!(writer.finish().unwrap(), b"<U+000D><U+hidden>a<U+shown>");
 }
 
 #[test]

@@ -1,9 +1,9 @@
 -- Many bytes, tested at once.
-use Rattle.std.proofs.Common.{◌≡◌, ◌≤◌, ◌+◌, ◌-◌, ◌*◌, ◌||◌, bit_or, ℕ, zero, suc, ◌%◌, ◌^◌, Bool, true, false, cond, eqb, eqb-true, leb, List, [], ◌∷◌, length, take, drop, map, replicate, refl, sym, ap, ap₂, ◌∙◌, subst, take-append-drop, IsTrue, arith}
+use Rattle.std.proofs.Common.{◌≡◌, ◌≤◌, ◌+◌, ◌-◌, ◌*◌, ◌||◌, bit_or, ℕ, zero, suc, ◌%◌, ◌^◌, Bool, true, false, cond, eqb, eqb-true, leb, ltb, ◌<◌, List, [], ◌∷◌, length, take, drop, map, replicate, refl, sym, ap, ap₂, ◌∙◌, subst, take-append-drop, IsTrue, arith}
 use Rattle.std.specs.Prelude.{not}
 use Rattle.std.specs.List.{prefix_len}
-use Rattle.std.specs.Simd.Lanes.{zip2, mask_l, top}
-use Rattle.std.proofs.lemmas.Bool.{false≢true, leb-true, not-true}
+use Rattle.std.specs.Simd.Lanes.{zip2, sel_l, mask_l, top}
+use Rattle.std.proofs.lemmas.Bool.{false≢true, leb-true, leb-false, ltb-true, not-true}
 use Rattle.std.proofs.lemmas.List.{length-map, drop-drop}
 use Rattle.std.proofs.lemmas.Simd.{zip2_splat, zip2_of_maps, splat_is_map, mask_l-mod, first_set_mask_l}
 use Rattle.anstyle_parse.specs.Stream.Items.{EachIs}
@@ -14,6 +14,10 @@ use lib.Count.{count_trailing_zeros}
 -- a lane of a comparison
 abbrev hit : ℕ → ℕ → ℕ
 hit a b = cond (eqb a b) 255 0
+
+top-lane : (t : Bool) → top 7 (cond t 255 0) ≡ t
+top-lane true = refl
+top-lane false = refl
 
 top-either : (s t : Bool) → top 7 (bit_or (cond s 255 0) (cond t 255 0)) ≡ (s || t)
 top-either true true = refl
@@ -66,40 +70,57 @@ clear-lane b low = by (eqb b 0x7F) refl (eqb b 0xC2) refl
     by false is true e = absurd (false≢true (sym low ∙ ap (λ x. leb 0x80 (minus x 0xFF)) (eqb-true b 0xC2 e)))
     by false is false e = refl
 
-one_clear : (s t : Bool) (rest : ℕ) → cond (s || t) 1 0 + 2 * rest ≡ 0 → (s ≡ false) × (t ≡ false) × (rest ≡ 0)
-one_clear true t rest none = absurd (omega (arith, none))
-one_clear false true rest none = absurd (omega (arith, none))
-one_clear false false rest none = (refl, refl, omega (arith, none))
+-- whether the larger of two bytes is 7F or more: where it is not, both are clear
+low-clear : (b : ℕ) → b < 0x7F → is_clear b ≡ true
+unfolding may_begin_driving
+low-clear b low = by (eqb b 0x7F) refl (eqb b 0xC2) refl
+  where
+    by : (s : Bool) → eqb b 0x7F ≡ s → (t : Bool) → eqb b 0xC2 ≡ t → not (s || t) ≡ true
+    by true is t e = absurd (omega (arith, low, eqb-true b 0x7F is))
+    by false is true e = absurd (omega (arith, low, eqb-true b 0xC2 e))
+    by false is false e = refl
 
-abbrev either : List ℕ → List ℕ → List Bool
-either firsts lasts = map (top 7) (zip2 bit_or (map lane firsts) (map lane lasts))
+abbrev larger : List ℕ → List ℕ → List ℕ
+larger firsts lasts = sel_l (map (top 7) (zip2 (λ a b. cond (ltb a b) 255 0) firsts lasts)) lasts firsts
 
-both_clear : (firsts lasts : List ℕ) → length firsts ≡ length lasts → mask_l (either firsts lasts) ≡ 0 → EachIs is_clear firsts × EachIs is_clear lasts
+abbrev reaching : ℕ → List ℕ → List ℕ → List Bool
+reaching n firsts lasts = map (top 7) (zip2 at_most (replicate n 0x7F) (larger firsts lasts))
+
+one_clear : (s : Bool) (rest : ℕ) → cond s 1 0 + 2 * rest ≡ 0 → (s ≡ false) × (rest ≡ 0)
+one_clear true rest none = absurd (omega (arith, none))
+one_clear false rest none = (refl, omega (arith, none))
+
+both-low : (a b : ℕ) → leb 0x7F (cond (top 7 (cond (ltb a b) 255 0)) b a) ≡ false → (a < 0x7F) × (b < 0x7F)
+both-low a b low = by (ltb a b) refl (leb-false 0x7F (cond (top 7 (cond (ltb a b) 255 0)) b a) low)
+  where
+    by : (t : Bool) → ltb a b ≡ t → cond (top 7 (cond t 255 0)) b a < 0x7F → (a < 0x7F) × (b < 0x7F)
+    by true is few = let under = ltb-true a b is in (omega (arith, under, few), few)
+    by false is few = let over = leb-false (suc a) b is in (few, omega (arith, over, few))
+
+both_clear : (firsts lasts : List ℕ) → length firsts ≡ length lasts → mask_l (reaching (length firsts) firsts lasts) ≡ 0 → EachIs is_clear firsts × EachIs is_clear lasts
 both_clear [] [] same none = (tt, tt)
 both_clear [] (b ∷ lasts) same none = absurd (omega (arith, same))
 both_clear (a ∷ firsts) [] same none = absurd (omega (arith, same))
 both_clear (a ∷ firsts) (b ∷ lasts) same none =
-    let head = top-either (leb 0x80 (minus a 0xFF)) (leb 0x80 (minus b 0xFF)) in
-    let parts = one_clear (leb 0x80 (minus a 0xFF)) (leb 0x80 (minus b 0xFF)) (mask_l (either firsts lasts))
-    (sym (ap (λ t. cond t 1 0 + 2 * mask_l (either firsts lasts)) head) ∙ none) in
-    let rest = both_clear firsts lasts (omega (arith, same)) parts.2 in
-    ((clear-lane a parts.0, rest.0), (clear-lane b parts.1, rest.1))
+    let test = leb 0x7F (cond (top 7 (cond (ltb a b) 255 0)) b a) in
+    let parts = one_clear test (mask_l (reaching (length firsts) firsts lasts))
+    (sym (ap (λ t. cond t 1 0 + 2 * mask_l (reaching (length firsts) firsts lasts)) (top-lane test)) ∙ none) in
+    let low = both-low a b parts.0 in
+    let rest = both_clear firsts lasts (omega (arith, same)) parts.1 in
+    ((low-clear a low.0, rest.0), (low-clear b low.1, rest.1))
 
-length-either : (firsts lasts : List ℕ) → length (either firsts lasts) ≤ length firsts
-length-either [] lasts = omega arith
-length-either (a ∷ firsts) [] = omega arith
-length-either (a ∷ firsts) (b ∷ lasts) = let rest = length-either firsts lasts in omega (arith, rest)
+length-reaching : (n : ℕ) (firsts lasts : List ℕ) → length (reaching n firsts lasts) ≤ n
+length-reaching zero firsts lasts = omega arith
+length-reaching (suc n) [] lasts = omega arith
+length-reaching (suc n) (a ∷ firsts) [] = omega arith
+length-reaching (suc n) (a ∷ firsts) (b ∷ lasts) = let rest = length-reaching n firsts lasts in omega (arith, rest)
 
 pub ends-clear : (n : ℕ) → n ≤ 64 → (first last : List ℕ) → length first ≡ n → length last ≡ n
-    → mask_l (map (top 7) (zip2 bit_or (zip2 at_most (replicate n 0x80) (zip2 minus first (replicate n 0xFF)))
-    (zip2 at_most (replicate n 0x80) (zip2 minus last (replicate n 0xFF))))) % 2 ^ 64 ≡ 0
-    → EachIs is_clear first × EachIs is_clear last
+    → mask_l (reaching n first last) % 2 ^ 64 ≡ 0 → EachIs is_clear first × EachIs is_clear last
 ends-clear n few first last one two none =
-    let lanes : (bytes : List ℕ) → length bytes ≡ n → zip2 at_most (replicate n 0x80) (zip2 minus bytes (replicate n 0xFF)) ≡ map lane bytes =
-    λ bytes long. zip2_of_maps at_most (λ b. 0x80) (λ b. minus b 0xFF) bytes (splat_is_map bytes n 0x80 long) (zip2_splat minus bytes n 0xFF long) in
-    let is = ap₂ (λ xs ys. mask_l (map (top 7) (zip2 bit_or xs ys)) % 2 ^ 64) (lanes first one) (lanes last two) in
-    let short = length-either first last in
-    both_clear first last (one ∙ sym two) (sym (mask_l-mod (either first last) 64 (omega (arith, few, one, short))) ∙ sym is ∙ none)
+    let short = length-reaching n first last in
+    both_clear first last (one ∙ sym two)
+    (ap (λ k. mask_l (reaching k first last)) one ∙ sym (mask_l-mod (reaching n first last) 64 (omega (arith, few, short))) ∙ none)
 
 -- what holds of both ends of bytes holds of all, where the ends meet
 EachIs-drop : (test : ℕ → Bool) (n : ℕ) (bytes : List ℕ) → EachIs test bytes → EachIs test (drop n bytes)
@@ -118,10 +139,6 @@ each_of_ends test n bytes low high front back =
 -- The first of sixteen bytes are clear, where no bit for one of them is set.
 abbrev unclear : ℕ → Bool
 unclear b = leb 0x80 (minus b 0xFF)
-
-top-lane : (t : Bool) → top 7 (cond t 255 0) ≡ t
-top-lane true = refl
-top-lane false = refl
 
 unclear_lanes : (bytes : List ℕ) → map (top 7) (map lane bytes) ≡ map unclear bytes
 unclear_lanes [] = refl

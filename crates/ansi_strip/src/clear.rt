@@ -11,14 +11,12 @@ const LONG: usize = 128;
 /// The bytes of a block of any other.
 const BLOCK: usize = 32;
 
-/// A bit for each place where the first 4 bytes or the last are not clear. With FF taken off, modulo 100, 7F to FE
-/// are 80 and more.
+/// A bit for each place where the first 4 bytes or the last are not clear: where the larger of two is 7F or more.
 #[inline(always)]
 fn unclear_4(first: u8x4, last: u8x4) -> u64
     ensures { result ≡ 0 → EachIs is_clear first × EachIs is_clear last }
 {
-    ((first - u8x4::splat(0xFF)).simd_ge(u8x4::splat(0x80))
-        | (last - u8x4::splat(0xFF)).simd_ge(u8x4::splat(0x80))).to_bitmask()
+    first.simd_max(last).simd_ge(u8x4::splat(0x7F)).to_bitmask()
 }
 
 /// Whether bytes are clear that are 4 to 8.
@@ -34,14 +32,12 @@ fn are_clear_4(bytes: &[u8]) -> bool
     }
 }
 
-/// A bit for each place where the first 8 bytes or the last are not clear. With FF taken off, modulo 100, 7F to FE
-/// are 80 and more.
+/// A bit for each place where the first 8 bytes or the last are not clear: where the larger of two is 7F or more.
 #[inline(always)]
 fn unclear_8(first: u8x8, last: u8x8) -> u64
     ensures { result ≡ 0 → EachIs is_clear first × EachIs is_clear last }
 {
-    ((first - u8x8::splat(0xFF)).simd_ge(u8x8::splat(0x80))
-        | (last - u8x8::splat(0xFF)).simd_ge(u8x8::splat(0x80))).to_bitmask()
+    first.simd_max(last).simd_ge(u8x8::splat(0x7F)).to_bitmask()
 }
 
 /// Whether bytes are clear that are 8 to 16.
@@ -57,14 +53,15 @@ fn are_clear_8(bytes: &[u8]) -> bool
     }
 }
 
-/// A bit for each place where the first 16 bytes or the last are not clear. With FF taken off, modulo 100, 7F to FE
-/// are 80 and more.
+/// A bit for each place where the first 16 bytes or the last are not clear: where the larger of two is 7F or more.
 #[inline(always)]
 fn unclear_16(first: u8x16, last: u8x16) -> u64
     ensures { result ≡ 0 → EachIs is_clear first × EachIs is_clear last }
 {
-    ((first - u8x16::splat(0xFF)).simd_ge(u8x16::splat(0x80))
-        | (last - u8x16::splat(0xFF)).simd_ge(u8x16::splat(0x80))).to_bitmask()
+    first
+        .simd_max(last)
+        .simd_ge(u8x16::splat(0x7F))
+        .to_bitmask()
 }
 
 /// Whether bytes are clear that are 16 to 32.
@@ -80,14 +77,15 @@ fn are_clear_16(bytes: &[u8]) -> bool
     }
 }
 
-/// A bit for each place where the first 64 bytes or the last are not clear. With FF taken off, modulo 100, 7F to FE
-/// are 80 and more.
+/// A bit for each place where the first 64 bytes or the last are not clear: where the larger of two is 7F or more.
 #[inline(always)]
 fn unclear_64(first: u8x64, last: u8x64) -> u64
     ensures { result ≡ 0 → EachIs is_clear first × EachIs is_clear last }
 {
-    ((first - u8x64::splat(0xFF)).simd_ge(u8x64::splat(0x80))
-        | (last - u8x64::splat(0xFF)).simd_ge(u8x64::splat(0x80))).to_bitmask()
+    first
+        .simd_max(last)
+        .simd_ge(u8x64::splat(0x7F))
+        .to_bitmask()
 }
 
 /// Whether bytes are clear that are 64 to 128.

@@ -1,6 +1,5 @@
 -- Pieces one after another, and what a state is fed.
 use Rattle.std.proofs.Common.{◌≡◌, ◌<◌, ◌≤◌, ◌+◌, ◌*◌, ℕ, List, [], ◌++◌, length, take, drop, refl, sym, ap, ap₂, ◌∙◌, subst, arith, append-nil, append_assoc, length-append, length-take, length-drop, zero, suc}
-use Rattle.std.specs.Char.{IsScalar}
 use Rattle.std.specs.List.{AllByRecursion}
 use Rattle.std.specs.Str.{encode_utf8_all, chars}
 use Rattle.std.specs.Prelude.{IsTrue, IsUtf8, None, Result}
@@ -22,17 +21,20 @@ use Rattle.stream_state.specs.State.{pending_of}
 use Rattle.stream_state.proofs.LogLemmas.{any_log, lawful-log, ContinuesLog-append, ContinuesLog-nil}
 use Rattle.stream_state.proofs.LentLemmas.{both-front, both-behind, both-length, held-all, no_fault-within}
 use Rattle.safe_text.specs.Classes.{is_of_safe_text}
-use Rattle.safe_text.specs.Safe.{characters, safe, safe_from}
-use Rattle.safe_text.specs.Decided.{decided_from, last_from, waiting, undecided_from, decided, undecided}
+use Rattle.safe_text.specs.Safe.{safe_from}
+use Rattle.safe_text.specs.Decided.{decided_from, last_from, waiting}
+use Rattle.safe_text.specs.Marks.{Hiding, nothing_hidden, marked_from, hiding_from, closing, safe_marked, decided_marked}
+use Rattle.safe_text.specs.MarkingProof.{marked-append, hiding-append}
 use Rattle.safe_text.specs.TakingProof.{held-waits, decided_from-append, waiting-append, last_from-append}
-use Rattle.safe_text.specs.declared.performer.SafeWriter.{SafeWriter}
-use Rattle.safe_text.specs.Writer.{output_of, text_by, before_in as writer_before, held_in as writer_held, Takes as WriterTakes}
-use Rattle.safe_text.proofs.CallLemmas.{length-characters}
-use Rattle.safe_text.proofs.WholeLemmas.{all-append, whole-encoded}
-use Rattle.safe_text.proofs.PieceLemmas.{characters-append, decided-append, last-append, waiting-more, decided-utf8, decided-class, length-decided, length-held, held-scalars, scalars-later}
+use Rattle.safe_text.specs.declared.marking.MarkingWriter.{MarkingWriter}
+use Rattle.safe_text.specs.Writer.{before_in as writer_before, held_in as writer_held}
+use Rattle.safe_text.specs.MarkingWriter.{writer_in as safe_writer, output_in, hiding_in as writer_hiding, text_from, TakesMarked}
+use Rattle.safe_text.proofs.MarkedLemmas.{length-from}
+use Rattle.safe_text.proofs.WholeLemmas.{IsItem, all-items, all-append}
+use Rattle.safe_text.proofs.PieceLemmas.{items-later, decided-append, last-append, waiting-more, decided-then-end, decided-utf8, decided-class, length-decided, length-held, held-scalars}
 use Rattle.safe_pieces.specs.declared.state.SafeState.{SafeState}
 use Rattle.safe_pieces.specs.Sizes.{at_once, least_room}
-use Rattle.safe_pieces.specs.State.{held_numbered, before_in, held_in, StandsFor}
+use Rattle.safe_pieces.specs.State.{held_numbered, before_in, held_in, hiding_in, StandsFor}
 use Rattle.safe_pieces.specs.Feed.{Takes, Feeds}
 
 -- no bytes
@@ -46,6 +48,7 @@ Takes-nil state room =
       stream = λ before is. subst (λ l. StandsForLog state.stream l) (sym (append-nil before)) is;
       last = sym (ap (last_from (before_in state)) none ∙ at.2);
       held = sym (ap waiting none ∙ at.1);
+      hiding = refl;
       few_calls = omega arith;
       same_length = refl;
       written_fits = omega arith;
@@ -58,17 +61,26 @@ module _ (old mid new : SafeState) (piece more room between rest after : List �
     (one : Takes old mid piece room between written) (two : Takes mid new more (drop written between) rest further)
     (whole : after ≡ take written between ++ rest) where
   abbrev first : List ℕ
-  first = held_in old ++ characters one.calls
+  first = held_in old ++ marked_from (hiding_in old) one.calls
 
-  joined : held_in old ++ characters (one.calls ++ two.calls) ≡ first ++ characters two.calls
-  joined = ap (λ l. held_in old ++ l) (characters-append one.calls two.calls) ∙ sym (append_assoc (held_in old) (characters one.calls) (characters two.calls))
+  abbrev second : List ℕ
+  second = marked_from (hiding_from (hiding_in old) one.calls) two.calls
 
-  text-both : take (written + further) after ≡ encode_utf8_all (decided_from (before_in old) (held_in old ++ characters (one.calls ++ two.calls)))
+  joined : held_in old ++ marked_from (hiding_in old) (one.calls ++ two.calls) ≡ first ++ second
+  joined =
+      ap (λ l. held_in old ++ l) (marked-append (hiding_in old) one.calls two.calls)
+      ∙ sym (append_assoc (held_in old) (marked_from (hiding_in old) one.calls) second)
+
+  -- what comes then, where the first bytes are taken
+  behind : held_in mid ++ marked_from (hiding_in mid) two.calls ≡ waiting first ++ second
+  behind = ap₂ (λ h at. h ++ marked_from at two.calls) one.held one.hiding
+
+  text-both : take (written + further) after ≡ encode_utf8_all (decided_from (before_in old) (held_in old ++ marked_from (hiding_in old) (one.calls ++ two.calls)))
   text-both =
       both-front room between rest after written further one.same_length one.written_fits whole ∙ ap₂ (λ (l r : List ℕ). l ++ r) one.text two.text
-      ∙ ap₂ (λ b h. encode_utf8_all (decided_from (before_in old) first) ++ encode_utf8_all (decided_from b (h ++ characters two.calls))) one.last one.held
-      ∙ sym (encodes-append (decided_from (before_in old) first) (decided_from (last_from (before_in old) first) (waiting first ++ characters two.calls)))
-      ∙ ap encode_utf8_all (sym (decided_from-append (before_in old) first (characters two.calls)))
+      ∙ ap₂ (λ b l. encode_utf8_all (decided_from (before_in old) first) ++ encode_utf8_all (decided_from b l)) one.last behind
+      ∙ sym (encodes-append (decided_from (before_in old) first) (decided_from (last_from (before_in old) first) (waiting first ++ second)))
+      ∙ ap encode_utf8_all (sym (decided_from-append (before_in old) first second))
       ∙ ap (λ l. encode_utf8_all (decided_from (before_in old) l)) (sym joined)
 
   pub Takes-append : Takes old new (piece ++ more) room after (written + further)
@@ -76,16 +88,20 @@ module _ (old mid new : SafeState) (piece more room between rest after : List �
     calls = one.calls ++ two.calls;
     continues = λ before is. ContinuesLog-append before piece more one.calls two.calls (one.continues before is) (two.continues (before ++ piece) (one.stream before is));
     stream = λ before is. subst (λ l. StandsForLog new.stream l) (append_assoc before piece more) (two.stream (before ++ piece) (one.stream before is));
-    last = two.last ∙ ap₂ (λ b h. last_from b (h ++ characters two.calls)) one.last one.held
-        ∙ sym (last_from-append (before_in old) first (characters two.calls)) ∙ ap (last_from (before_in old)) (sym joined);
-    held = two.held ∙ ap (λ h. waiting (h ++ characters two.calls)) one.held
-        ∙ sym (waiting-append first (characters two.calls)) ∙ ap waiting (sym joined);
+    last = two.last ∙ ap₂ last_from one.last behind ∙ sym (last_from-append (before_in old) first second) ∙ ap (last_from (before_in old)) (sym joined);
+    held = two.held ∙ ap waiting behind ∙ sym (waiting-append first second) ∙ ap waiting (sym joined);
+    hiding = two.hiding ∙ ap (λ at. hiding_from at two.calls) one.hiding ∙ sym (hiding-append (hiding_in old) one.calls two.calls);
     few_calls = omega (arith, one.few_calls, two.few_calls, length-append one.calls two.calls, length-append piece more);
     same_length = both-length room between rest after written further one.same_length one.written_fits whole two.same_length;
     written_fits = omega (arith, two.written_fits, length-drop written between, one.same_length, one.written_fits);
     text = text-both;
     untouched = both-behind room between rest after written further one.same_length one.written_fits whole two.untouched one.untouched;
   }
+
+-- what comes then, where the state stands for some bytes
+stands-behind : (old : SafeState) (calls : List Call) (before : List ℕ) → StandsFor old before → (own : List Call) → AreCalls (as_read before) own
+    → held_in old ++ marked_from (hiding_in old) calls ≡ waiting (marked_from nothing_hidden own) ++ marked_from (hiding_from nothing_hidden own) calls
+stands-behind old calls before is own are = ap₂ (λ h at. h ++ marked_from at calls) (is.held own are) (is.hiding own are)
 
 module _ (old new : SafeState) (piece room room_after : List ℕ) (written : ℕ) (takes : Takes old new piece room room_after written) where
   -- where the safe text stands after these bytes too
@@ -98,40 +114,44 @@ module _ (old new : SafeState) (piece room room_after : List ℕ) (written : ℕ
       record {
         stream = takes.stream before is.stream;
         last = λ calls these.
-            takes.last ∙ ap₂ (λ b h. last_from b (h ++ characters takes.calls)) (is.last own are) (is.held own are)
-            ∙ sym (last-append own takes.calls) ∙ ap (λ l. last_from 0 (characters l)) (only calls these);
+            takes.last ∙ ap₂ last_from (is.last own are) (stands-behind old takes.calls before is own are)
+            ∙ sym (last-append own takes.calls) ∙ ap (λ l. last_from 0 (marked_from nothing_hidden l)) (only calls these);
         held = λ calls these.
-            takes.held ∙ ap (λ h. waiting (h ++ characters takes.calls)) (is.held own are)
-            ∙ sym (waiting-more own takes.calls) ∙ ap (λ l. waiting (characters l)) (only calls these);
+            takes.held ∙ ap waiting (stands-behind old takes.calls before is own are)
+            ∙ sym (waiting-more own takes.calls) ∙ ap (λ l. waiting (marked_from nothing_hidden l)) (only calls these);
+        hiding = λ calls these.
+            takes.hiding ∙ ap (λ at. hiding_from at takes.calls) (is.hiding own are)
+            ∙ sym (hiding-append nothing_hidden own takes.calls) ∙ ap (hiding_from nothing_hidden) (only calls these);
       }
 
   -- what is then decided
-  text-taken : (before : List ℕ) → StandsFor old before → (own all : List Call) → AreCalls (as_read before) own → AreCalls (as_read (before ++ piece)) all → decided all ≡ decided own ++ take written room_after
+  text-taken : (before : List ℕ) → StandsFor old before → (own all : List Call) → AreCalls (as_read before) own → AreCalls (as_read (before ++ piece)) all
+      → decided_marked all ≡ decided_marked own ++ take written room_after
   text-taken before is own all are these =
-      ap decided (AreCalls-only (as_read (before ++ piece)) all (own ++ takes.calls) these (takes.continues before is.stream own are))
+      ap decided_marked (AreCalls-only (as_read (before ++ piece)) all (own ++ takes.calls) these (takes.continues before is.stream own are))
       ∙ decided-append own takes.calls
-      ∙ ap (λ t. decided own ++ t)
-      (ap₂ (λ b h. encode_utf8_all (decided_from b (h ++ characters takes.calls))) (sym (is.last own are)) (sym (is.held own are)) ∙ sym takes.text)
+      ∙ ap (λ t. decided_marked own ++ t)
+      (ap₂ (λ b l. encode_utf8_all (decided_from b l)) (sym (is.last own are)) (sym (stands-behind old takes.calls before is own are)) ∙ sym takes.text)
 
-  -- the characters of which it is made are scalar values
+  -- it is made of scalar values and marks
   abbrev made_of : List ℕ
-  made_of = held_in old ++ characters takes.calls
+  made_of = held_in old ++ marked_from (hiding_in old) takes.calls
 
-  scalars-taken : AllByRecursion IsScalar made_of
-  scalars-taken =
+  items-taken : AllByRecursion IsItem made_of
+  items-taken =
       let log = any_log (pending_of old.stream) in
       let own = machine_calls decoded (as_read log.0) (new_machine []) in
-      all-append IsScalar (held_in old) (characters takes.calls) (held-scalars (held_numbered old.held))
-      (scalars-later own takes.calls (lawful-log log.0 piece takes.calls (takes.continues log.0 log.1)))
+      all-append IsItem (held_in old) (marked_from (hiding_in old) takes.calls) (all-items (held_in old) (held-scalars (held_numbered old.held)))
+      (items-later (hiding_in old) own takes.calls (lawful-log log.0 piece takes.calls (takes.continues log.0 log.1)))
 
   utf8-taken : IsUtf8 (take written room_after)
-  utf8-taken = subst IsUtf8 (sym takes.text) (decided-utf8 (before_in old) made_of scalars-taken)
+  utf8-taken = subst IsUtf8 (sym takes.text) (decided-utf8 (before_in old) made_of items-taken)
 
   class-taken : AllByRecursion (λ c. IsTrue (is_of_safe_text c)) (chars (take written room_after))
   class-taken =
-      subst (λ (t : List ℕ). AllByRecursion (λ c. IsTrue (is_of_safe_text c)) (chars t)) (sym takes.text) (decided-class (before_in old) made_of scalars-taken)
+      subst (λ (t : List ℕ). AllByRecursion (λ c. IsTrue (is_of_safe_text c)) (chars t)) (sym takes.text) (decided-class (before_in old) made_of items-taken)
 
-  pub bounded-taken : written ≤ 20 * length piece + 20
+  pub bounded-taken : written ≤ 40 * length piece + 20
   bounded-taken =
       omega (
         arith,
@@ -140,9 +160,9 @@ module _ (old new : SafeState) (piece room room_after : List ℕ) (written : ℕ
         takes.written_fits,
         ap length takes.text,
         length-decided (before_in old) made_of,
-        length-append (held_in old) (characters takes.calls),
+        length-append (held_in old) (marked_from (hiding_in old) takes.calls),
         length-held (held_numbered old.held),
-        length-characters takes.calls,
+        length-from (hiding_in old) takes.calls,
         takes.few_calls,
       )
 
@@ -172,46 +192,37 @@ none-left zero next some none = refl
 none-left (suc n) next some none = absurd (let more = some (omega arith) in omega arith)
 
 -- the text of a part: it is not long,
-pub text-short : (writer : SafeWriter LentBytes) (calls : List Call) → length (text_by writer (characters calls)) ≤ 10 * length calls + 20
+pub text-short : (writer : MarkingWriter LentBytes) (calls : List Call) → length (text_from writer calls) ≤ 20 * length calls + 20
 text-short writer calls =
     omega (
       arith,
-      length-decided (writer_before writer) (writer_held writer ++ characters calls),
-      length-append (writer_held writer) (characters calls),
-      length-held writer.held,
-      length-characters calls,
+      length-decided (writer_before (safe_writer writer)) (writer_held (safe_writer writer) ++ marked_from (writer_hiding writer) calls),
+      length-append (writer_held (safe_writer writer)) (marked_from (writer_hiding writer) calls),
+      length-held (safe_writer writer).held,
+      length-from (writer_hiding writer) calls,
     )
 
 -- so all of it is held
-pub text-held : {T : Type 0} (start : LentBytes) (writer after : SafeWriter LentBytes) (calls : List Call) (buffer : LentBytes) (answer : Result T Fault)
-    → writer_in (output_of writer) ≡ start → bytes_in start ≡ [] → fault_in (output_of writer) ≡ None
-    → WriterTakes ghosts writer (characters calls) after → 10 * length calls + 20 ≤ limit_of start → Finishes ghosts (output_of after) buffer answer
-    → bytes_in buffer ≡ text_by writer (characters calls)
+pub text-held : {T : Type 0} (start : LentBytes) (writer after : MarkingWriter LentBytes) (calls : List Call) (buffer : LentBytes) (answer : Result T Fault)
+    → writer_in (output_in writer) ≡ start → bytes_in start ≡ [] → fault_in (output_in writer) ≡ None
+    → TakesMarked ghosts writer calls after → 20 * length calls + 20 ≤ limit_of start → Finishes ghosts (output_in after) buffer answer
+    → bytes_in buffer ≡ text_from writer calls
 text-held start writer after calls buffer answer begins empty without taken fits finishes =
-    let text = text_by writer (characters calls) in
-    let no_fault = no_fault-within text start (output_of writer) (output_of after) begins empty without taken.added (omega (arith, text-short writer calls, fits)) in
-    (held-all text start (output_of writer) (output_of after) begins empty without taken.added buffer answer no_fault finishes).1
-
--- what is decided of some calls, and the rest of the safe text of these and others
-safe-rest : (own more : List Call) → safe (own ++ more)
-    ≡ decided own ++ encode_utf8_all (safe_from (last_from 0 (characters own)) (waiting (characters own) ++ characters more))
-safe-rest own more =
-    let all = own ++ more in
-    let b = last_from 0 (characters own) in
-    let h = waiting (characters own) ++ characters more in
-    let left : undecided all ≡ encode_utf8_all (undecided_from b h) =
-    ap₂ (λ x w. encode_utf8_all (safe_from x w)) (last-append own more) (waiting-more own more) in
-    sym (whole-encoded 0 (characters all))
-    ∙ ap₂ (λ (l r : List ℕ). l ++ r) (decided-append own more) left
-    ∙ append_assoc (decided own) (encode_utf8_all (decided_from b h)) (encode_utf8_all (undecided_from b h))
-    ∙ ap (λ l. decided own ++ l) (whole-encoded b h)
+    let text = text_from writer calls in
+    let added = taken.taken.added in
+    let no_fault = no_fault-within text start (output_in writer) (output_in after) begins empty without added (omega (arith, text-short writer calls, fits)) in
+    (held-all text start (output_in writer) (output_in after) begins empty without added buffer answer no_fault finishes).1
 
 -- where the stream ends, that is what the state still writes
 pub end-rest : (old : SafeState) (calls : List Call) → ((before : List ℕ) → StandsForLog old.stream before → EndsLog before calls)
     → (before : List ℕ) → StandsFor old before → (own all : List Call) → AreCalls (as_read before) own → AreCalls (as_read_whole before) all
-    → safe all ≡ decided own ++ encode_utf8_all (safe_from (before_in old) (held_in old ++ characters calls))
+    → safe_marked all
+    ≡ decided_marked own
+    ++ encode_utf8_all (safe_from (before_in old) (held_in old ++ (marked_from (hiding_in old) calls ++ closing (hiding_from (hiding_in old) calls))))
 end-rest old calls adds before is own all are these =
-    ap safe (AreCalls-only (as_read_whole before) all (own ++ calls) these (adds before is.stream own are))
-    ∙ safe-rest own calls
-    ∙ ap (λ t. decided own ++ t)
-    (ap₂ (λ b h. encode_utf8_all (safe_from b (h ++ characters calls))) (sym (is.last own are)) (sym (is.held own are)))
+    let rest : Hiding → List ℕ = λ at. marked_from at calls ++ closing (hiding_from at calls) in
+    ap safe_marked (AreCalls-only (as_read_whole before) all (own ++ calls) these (adds before is.stream own are))
+    ∙ decided-then-end own calls
+    ∙ ap (λ t. decided_marked own ++ t)
+    (ap₂ (λ b l. encode_utf8_all (safe_from b l)) (sym (is.last own are))
+    (ap₂ (λ h at. h ++ rest at) (sym (is.held own are)) (sym (is.hiding own are))))

@@ -7,21 +7,23 @@ use Rattle.anstyle_parse.specs.Stream.Calls.{AreCalls}
 use Rattle.anstyle_parse.specs.Machine.AsRead.{as_read, as_read_whole}
 use Rattle.stream_state.specs.Log.{StandsForLog, ContinuesLog, EndsLog}
 use Rattle.safe_text.specs.Classes.{is_of_safe_text}
-use Rattle.safe_text.specs.Safe.{characters, safe_from, safe}
-use Rattle.safe_text.specs.Decided.{decided_from, last_from, waiting, decided}
+use Rattle.safe_text.specs.Safe.{safe_from}
+use Rattle.safe_text.specs.Decided.{decided_from, last_from, waiting}
+use Rattle.safe_text.specs.Marks.{marked_from, hiding_from, closing, safe_marked, decided_marked}
 use Rattle.safe_pieces.specs.declared.state.SafeState.{SafeState}
 use Rattle.safe_pieces.specs.Sizes.{most_safe, at_once, least_room, end_room}
-use Rattle.safe_pieces.specs.State.{before_in, held_in, StandsFor}
+use Rattle.safe_pieces.specs.State.{before_in, held_in, hiding_in, StandsFor}
 
--- The text is what is decided of all bytes, beyond what was decided of those before.
+-- The text, with its marks, is what is decided of all bytes, beyond what was decided of those before.
 abbrev pub IsSafeOf : (before bytes text : List ℕ) → Type 0
 IsSafeOf before bytes text = (own all : List Call) → AreCalls (as_read before) own → AreCalls (as_read (before ++ bytes)) all
-    → decided all ≡ decided own ++ text
+    → decided_marked all ≡ decided_marked own ++ text
 
--- It is the rest of the safe text, where the bytes end: what still waits, and U+FFFD where a character is begun.
+-- It is the rest of the safe text, where the bytes end: what still waits, U+FFFD where a character is begun, and the
+-- mark that closes hidden text.
 abbrev pub IsEndOf : (bytes text : List ℕ) → Type 0
 IsEndOf bytes text = (own all : List Call) → AreCalls (as_read bytes) own → AreCalls (as_read_whole bytes) all
-    → safe all ≡ decided own ++ text
+    → safe_marked all ≡ decided_marked own ++ text
 
 -- All bytes of a piece were taken, and their safe text stands at the front of the room. This is so for any bytes in the
 -- state: the text goes on from where the state says that it stands.
@@ -29,12 +31,13 @@ pub record Takes (old new : SafeState) (piece room room_after : List ℕ) (writt
   pub calls : List Call
   pub continues : (before : List ℕ) → StandsForLog old.stream before → ContinuesLog before piece calls
   pub stream : (before : List ℕ) → StandsForLog old.stream before → StandsForLog new.stream (before ++ piece)
-  pub last : before_in new ≡ last_from (before_in old) (held_in old ++ characters calls)
-  pub held : held_in new ≡ waiting (held_in old ++ characters calls)
+  pub last : before_in new ≡ last_from (before_in old) (held_in old ++ marked_from (hiding_in old) calls)
+  pub held : held_in new ≡ waiting (held_in old ++ marked_from (hiding_in old) calls)
+  pub hiding : hiding_in new ≡ hiding_from (hiding_in old) calls
   pub few_calls : length calls ≤ 2 * length piece
   pub same_length : length room_after ≡ length room
   pub written_fits : written ≤ length room
-  pub text : take written room_after ≡ encode_utf8_all (decided_from (before_in old) (held_in old ++ characters calls))
+  pub text : take written room_after ≡ encode_utf8_all (decided_from (before_in old) (held_in old ++ marked_from (hiding_in old) calls))
   -- past it the room is as it was
   pub untouched : drop written room_after ≡ drop written room
 
@@ -74,7 +77,7 @@ pub record Ends (old new : SafeState) (room room_after : List ℕ) (written : �
   -- whatever the state held
   pub calls : List Call
   pub adds : (before : List ℕ) → StandsForLog old.stream before → EndsLog before calls
-  pub ending : take written room_after ≡ encode_utf8_all (safe_from (before_in old) (held_in old ++ characters calls))
+  pub ending : take written room_after ≡ encode_utf8_all (safe_from (before_in old) (held_in old ++ (marked_from (hiding_in old) calls ++ closing (hiding_from (hiding_in old) calls))))
   pub untouched : drop written room_after ≡ drop written room
   -- whatever bytes the state stood for, it is the rest of their safe text
   pub text : (before : List ℕ) → StandsFor old before → IsEndOf before (take written room_after)

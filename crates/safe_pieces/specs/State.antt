@@ -7,8 +7,8 @@ use Rattle.stream_state.specs.Log.{StandsForLog}
 use Rattle.safe_text.specs.declared.held.Held.{Held}
 use Rattle.safe_text.specs.declared.held.Held.TheVariants.{Nothing, Return, Less, LessU, Space, NonJoiner, Joiner, TextSelector, EmojiSelector}
 use Rattle.safe_text.specs.Held.{held_characters}
-use Rattle.safe_text.specs.Safe.{characters}
 use Rattle.safe_text.specs.Decided.{last_from, waiting}
+use Rattle.safe_text.specs.Marks.{Hiding, nothing_hidden, marked_from, hiding_from}
 use Rattle.safe_pieces.specs.declared.state.SafeState.{SafeState}
 
 -- a number that is none of a character counts for none: 0
@@ -35,15 +35,22 @@ before_in state = character_numbered state.before
 abbrev pub held_in : SafeState → List ℕ
 held_in state = held_characters (held_numbered state.held)
 
--- The state stands for the bytes before: its stream does, and its safe text stands where it does after the calls of what
--- is read of them.
+-- whether the text that comes next is hidden, and whether a run of hidden text is open; any other number says no
+abbrev pub hiding_in : SafeState → Hiding
+hiding_in state = record { is_hidden = state.is_hidden == 1; is_open = state.is_open == 1 }
+
+-- The state stands for the bytes before: its stream does, and its safe text, with marks where hidden text begins and
+-- ends, stands where it does after the calls of what is read of them.
 pub record StandsFor (state : SafeState) (before : List ℕ) : Type 0 where
   pub stream : StandsForLog state.stream before
-  pub last : (calls : List Call) → AreCalls (as_read before) calls → before_in state ≡ last_from 0 (characters calls)
-  pub held : (calls : List Call) → AreCalls (as_read before) calls → held_in state ≡ waiting (characters calls)
+  pub last : (calls : List Call) → AreCalls (as_read before) calls → before_in state ≡ last_from 0 (marked_from nothing_hidden calls)
+  pub held : (calls : List Call) → AreCalls (as_read before) calls → held_in state ≡ waiting (marked_from nothing_hidden calls)
+  pub hiding : (calls : List Call) → AreCalls (as_read before) calls → hiding_in state ≡ hiding_from nothing_hidden calls
 
 -- the numbers of a state are zero (the bytes behind a length of 0 may be any)
 pub record IsZero (state : SafeState) : Type 0 where
   pub stream : state.stream.length ≡ 0
   pub before : state.before ≡ 0
   pub held : state.held ≡ 0
+  pub is_hidden : state.is_hidden ≡ 0
+  pub is_open : state.is_open ≡ 0

@@ -6,15 +6,18 @@ ghost use Rattle.safe_pieces.specs.Feed.{Takes, Feeds, Refuses, Ends, RefusesEnd
 use crate::state::SafeState;
 use anstyle_parse::canon::{Output, WritingPerformer};
 use anstyle_parse::{Parser, Utf8Parser};
-use safe_text::SafeWriter;
+use safe_text::MarkingWriter;
 use stream_state::{Fed, LentBytes, print_end, put_front};
 
 /// The bytes of safe text at most that a character leads to.
 const TEXT_OF_A_CHARACTER: usize = 10;
 
+/// The bytes of a mark at most: `<U+hidden>`, or `<U+shown>`.
+const TEXT_OF_A_MARK: usize = 10;
+
 /// The bytes of safe text at most that each byte of a piece leads to: it breaks a character off, which is written as
-/// U+FFFD, and is written visibly or is another U+FFFD, or ends one that is.
-const TEXT_OF_A_BYTE: usize = 2 * TEXT_OF_A_CHARACTER;
+/// U+FFFD, and is written visibly or is another U+FFFD, or ends one that is; and there is a mark before each.
+const TEXT_OF_A_BYTE: usize = 2 * (TEXT_OF_A_MARK + TEXT_OF_A_CHARACTER);
 
 /// The bytes of safe text at most that what waits leads to.
 const TEXT_OF_THE_HELD: usize = 2 * TEXT_OF_A_CHARACTER;
@@ -22,14 +25,17 @@ const TEXT_OF_THE_HELD: usize = 2 * TEXT_OF_A_CHARACTER;
 /// The bytes of room with which a stream always goes on: what one byte may lead to.
 pub const LEAST_ROOM: usize = TEXT_OF_A_BYTE + TEXT_OF_THE_HELD;
 
-/// The bytes of room that the end of a stream needs.
-pub const END_ROOM: usize = TEXT_OF_THE_HELD + TEXT_OF_A_CHARACTER;
+/// The bytes of room that the end of a stream needs: for what waits, a mark and U+FFFD, and the mark that closes.
+pub const END_ROOM: usize = TEXT_OF_THE_HELD
+    + TEXT_OF_A_MARK
+    + TEXT_OF_A_CHARACTER
+    + TEXT_OF_A_MARK;
 
 /// The bytes of safe text that are held at most before they go to the room.
 const CAPACITY: usize = 16384;
 
 /// The same for a short piece, where fewer bytes are cleared.
-const SHORT_CAPACITY: usize = 1280;
+const SHORT_CAPACITY: usize = 2560;
 
 /// Fewer bytes than these are not taken at the end of a room, unless they are the last.
 const LEAST_COUNT: usize = 32;
@@ -38,8 +44,8 @@ impl SafeState {
     /// Takes bytes from the front of the piece, as a reader of logs reads them
     /// ([`advance_log`](anstyle_parse::Parser::advance_log)), and writes their safe text to the front of the room.
     ///
-    /// With `Some` all of their safe text is written but for what waits for the next character, and the state stands
-    /// after all bytes so far. Of some bytes at least one is taken; with 20 bytes of room for each byte of the piece, and
+    /// With `Some` all of their safe text is written but for what waits for the next character, with the marks where
+    /// hidden text begins and ends, and the state stands after all bytes so far. Of some bytes at least one is taken; with 40 bytes of room for each byte of the piece, and
     /// 40 more, all of them are. The text is UTF-8 by itself. Past it the room is as it was.
     ///
     /// With `None` the piece is not empty and the room is below [`LEAST_ROOM`]: then nothing
@@ -58,8 +64,8 @@ impl SafeState {
         }
     }
 
-    /// Ends the stream: writes what still waits, and U+FFFD where a character is begun, to the front of the room, and
-    /// answers how many bytes that are. The state then begins a stream. Past them the room is as it was.
+    /// Ends the stream: writes what still waits, U+FFFD where a character is begun, and `<U+shown>` where hidden text is
+    /// not closed, to the front of the room, and answers how many bytes that are. The state then begins a stream. Past them the room is as it was.
     ///
     /// With `None` the room is below [`END_ROOM`]: then nothing was done.
     pub fn end(&mut self, room: &mut [u8]) -> Option<usize>
@@ -71,7 +77,7 @@ impl SafeState {
         }
         let mut lent = [0; END_ROOM];
         let output = Output::new(LentBytes::new(END_ROOM, &mut lent));
-        let mut writer = SafeWriter::resume(self.standing(), output);
+        let mut writer = MarkingWriter::resume(self.standing(), output);
         let is_begun = self.stream.is_in_char();
         print_end(&mut writer, is_begun);
         let (buffer, _) = writer.into_output().finish();
@@ -115,7 +121,7 @@ impl SafeState {
         ensures { Takes self.old self.new piece.now room.old room.new result }
     {
         let output = Output::new(LentBytes::new(lent.len(), lent));
-        let mut writer = SafeWriter::resume(self.standing(), output);
+        let mut writer = MarkingWriter::resume(self.standing(), output);
         let mut parser = Parser::<Utf8Parser>::new();
         self.stream.resume_in(&mut parser);
         parser.advance_log(&mut writer, piece);

@@ -3,7 +3,7 @@ ghost use Rattle.std.specs.Prelude.{◌≡◌, ◌++◌, [], ℕ, List};
 ghost use Rattle.anstyle_parse.specs.Stream.Call.{Call};
 ghost use Rattle.anstyle_parse.specs.Stream.Calls.{AreCalls};
 ghost use Rattle.anstyle_parse.specs.Machine.AsRead.{as_read_whole};
-ghost use Rattle.safe_text.specs.Safe.{safe};
+ghost use Rattle.safe_text.specs.Marks.{safe_marked};
 ghost use Rattle.safe_pieces.specs.State.{IsZero, StandsFor};
 ghost use Rattle.safe_pieces.specs.Feed.{IsSafeOf, IsEndOf};
 
@@ -15,14 +15,14 @@ pub fn states()
 {}
 
 /// The safe text of pieces, one after another, and then what ends it, is the safe text of the whole stream, however it
-/// is cut: what [`write_safe`](safe_text::write_safe) writes of what is read of it, as of a log, where no text is hidden,
-/// which alone it marks.
+/// is cut: what [`write_safe`](safe_text::write_safe) writes of what is read of it, as of a log, with the marks where
+/// hidden text begins and ends.
 pub fn safe_joined()
     ensures pieces { (before bytes more text rest : List ℕ) → IsSafeOf before bytes text
         → IsSafeOf (before ++ bytes) more rest
         → IsSafeOf before (bytes ++ more) (text ++ rest) }
     ensures whole { (bytes text end : List ℕ) → IsSafeOf [] bytes text → IsEndOf bytes end
-        → (calls : List Call) → AreCalls (as_read_whole bytes) calls → text ++ end ≡ safe calls }
+        → (calls : List Call) → AreCalls (as_read_whole bytes) calls → text ++ end ≡ safe_marked calls }
 {}
 
 /// A clone of a state is the same.

@@ -1,5 +1,5 @@
 //! Writes a stream as safe text that comes in pieces, with a state that its caller owns: what `ansi2text --safe` writes
-//! of the whole, without the marks of hidden text.
+//! of the whole.
 //!
 //! A [`SafeState`] says where the stream and its safe text stand; [`SafeState::feed`] takes bytes of a piece and writes
 //! their safe text into a slice, and [`SafeState::end`] what still waits. No memory is taken, and no input is refused.

@@ -1,9 +1,9 @@
 //! The state of a stream and its safe text between pieces.
-ghost use Rattle.std.specs.Prelude.{◌≡◌, []};
+ghost use Rattle.std.specs.Prelude.{◌≡◌, ◌==◌, []};
 ghost use Rattle.safe_text.specs.Held.{held_characters};
-ghost use Rattle.safe_pieces.specs.State.{character_numbered, held_numbered, before_in, held_in, StandsFor};
+ghost use Rattle.safe_pieces.specs.State.{character_numbered, held_numbered, before_in, held_in, hiding_in, StandsFor};
 
-use safe_text::{Held, Standing};
+use safe_text::{Held, MarkedStanding, Standing};
 use stream_state::StreamState;
 
 /// Where a stream and its safe text stand between two pieces.
@@ -19,6 +19,10 @@ pub struct SafeState {
     /// What waits for the next character: 1 a carriage return, 2 `<`, 3 `<U`, 4 to 8 U+200B, U+200C, U+200D, U+FE0E and
     /// U+FE0F; any other number is nothing.
     pub held: u8,
+    /// 1 where Select Graphic Rendition hides the text that comes next (8); any other number where it does not.
+    pub is_hidden: u8,
+    /// 1 where hidden text is written last, whose end is not marked yet; any other number where none is.
+    pub is_open: u8,
 }
 
 /// The character of a number.
@@ -65,6 +69,13 @@ fn held_at(number: u8) -> Held
     }
 }
 
+/// The number of a flag.
+fn flag_number(is_set: bool) -> u8
+    ensures { (result == 1) ≡ is_set }
+{
+    if is_set { 1 } else { 0 }
+}
+
 impl SafeState {
     /// A state that begins a stream.
     pub fn new() -> SafeState
@@ -74,27 +85,40 @@ impl SafeState {
             stream: StreamState::new(),
             before: 0,
             held: 0,
+            is_hidden: 0,
+            is_open: 0,
         }
     }
 
     /// Where the safe text stands.
-    pub(crate) fn standing(&self) -> Standing
-        ensures before { result.before ≡ before_in self.now }
-        ensures held { held_characters result.held ≡ held_in self.now }
+    pub(crate) fn standing(&self) -> MarkedStanding
+        ensures before { result.text.before ≡ before_in self.now }
+        ensures held { held_characters result.text.held ≡ held_in self.now }
+        ensures is_hidden { result.is_hidden ≡ (hiding_in self.now).is_hidden }
+        ensures is_open { result.is_open ≡ (hiding_in self.now).is_open }
     {
-        Standing {
+        let text = Standing {
             before: character_at(self.before),
             held: held_at(self.held),
+        };
+        MarkedStanding {
+            text,
+            is_hidden: self.is_hidden == 1,
+            is_open: self.is_open == 1,
         }
     }
 
     /// The safe text stands there.
-    pub(crate) fn save(&mut self, standing: Standing)
-        ensures before { before_in self.new ≡ standing.before }
-        ensures held { held_in self.new ≡ held_characters standing.held }
+    pub(crate) fn save(&mut self, standing: MarkedStanding)
+        ensures before { before_in self.new ≡ standing.text.before }
+        ensures held { held_in self.new ≡ held_characters standing.text.held }
+        ensures is_hidden { (hiding_in self.new).is_hidden ≡ standing.is_hidden }
+        ensures is_open { (hiding_in self.new).is_open ≡ standing.is_open }
         ensures stream { self.new.stream ≡ self.old.stream }
     {
-        self.before = u32::from(standing.before);
-        self.held = held_number(standing.held);
+        self.before = u32::from(standing.text.before);
+        self.held = held_number(standing.text.held);
+        self.is_hidden = flag_number(standing.is_hidden);
+        self.is_open = flag_number(standing.is_open);
     }
 }

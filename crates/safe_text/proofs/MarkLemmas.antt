@@ -13,13 +13,14 @@ use Rattle.anstyle_parse.specs.Stream.Texts.{is_layout, layout_call}
 use Rattle.safe_text.specs.declared.performer.SafeWriter.{SafeWriter}
 use Rattle.safe_text.specs.declared.marking.MarkingWriter.{MarkingWriter}
 use Rattle.safe_text.specs.Safe.{characters_of, characters, safe_from}
-use Rattle.safe_text.specs.Decided.{waiting, last_from, undecided_from}
+use Rattle.safe_text.specs.Decided.{decided_from, waiting, last_from, undecided_from}
 use Rattle.safe_text.specs.Marks.{Hiding, nothing_hidden, open_after, hiding_after, mark_of, mark_between, marked_of, marked_from, hiding_from, closing}
 use Rattle.safe_text.specs.Writer.{output_of, before_in, held_in, text_by, ending_from, Takes}
 use Rattle.safe_text.specs.TakingProof.{held-waits, Takes-none, Takes-append}
+use Rattle.safe_text.specs.MarkingProof.{ends-marked}
 use Rattle.safe_text.specs.MarkingWriter.{writer_in, hidden_in, open_in, hiding_in, output_in, ending_from as marked_ending_from, TakesMarked}
 use Rattle.safe_text.proofs.CallLemmas.{characters-prints, characters-layout}
-use Rattle.safe_text.proofs.WholeLemmas.{whole-encoded}
+use Rattle.safe_text.proofs.WholeLemmas.{whole-encoded, encoded-then-safe}
 
 -- what is hidden or not as another
 pub flag-same : (a b : Bool) → not (beq a b) ≡ false → a ≡ b
@@ -96,6 +97,22 @@ module _ {W : Type 0} (sink : SinkOf W) where
       (sym (ap (λ l. encode_utf8_all (safe_from (last_from (before_in writer) l) (waiting l ++ closing (hiding_in old)))) (append-nil (held_in writer))
       ∙ ap₂ (λ x h. encode_utf8_all (safe_from x (h ++ closing (hiding_in old)))) at.2 at.1))
       (adds-behind (closing (hiding_in old)) writer b end taken ended)
+
+  -- Calls are taken, and then all ends: that is the rest of the safe text.
+  pub adds-ended : (old new : MarkingWriter W) (calls : List Call) (end : Output W) → TakesMarked sink old calls new
+      → Adds sink (marked_ending_from new []) (output_in new) end
+      → Adds sink
+      (encode_utf8_all (safe_from (before_in (writer_in old)) (held_in (writer_in old) ++ (marked_from (hiding_in old) calls ++ closing (hiding_from (hiding_in old) calls)))))
+      (output_in old) end
+  adds-ended old new calls end taken ended =
+      let before = before_in (writer_in old) in
+      let all = held_in (writer_in old) ++ marked_from (hiding_in old) calls in
+      let close = closing (hiding_from (hiding_in old) calls) in
+      subst (λ t. Adds sink t (output_in old) end)
+      (encoded-then-safe before all close
+      ∙ ap (λ l. encode_utf8_all (safe_from before l)) (append_assoc (held_in (writer_in old)) (marked_from (hiding_in old) calls) close))
+      (Adds-append sink (encode_utf8_all (decided_from before all)) (encode_utf8_all (safe_from (last_from before all) (waiting all ++ close))) (output_in old) (output_in new) end
+      taken.taken.added (subst (λ t. Adds sink t (output_in new) end) (ends-marked sink old calls new taken) ended))
 
 -- Characters that are printed: a mark before the first at most.
 prints-after : (hidden : Bool) (cs : List ℕ)

@@ -138,7 +138,7 @@ pub left-shown : (calls : List Call) → filter is_left calls ≡ calls → Neve
 left-shown calls left = subst NeverHides left (filtered calls)
 
 -- At most two a call, and one more at the end.
-length-between : (on next : Bool) → length (mark_between on next) ≤ 1
+pub length-between : (on next : Bool) → length (mark_between on next) ≤ 1
 length-between true true = omega arith
 length-between false false = omega arith
 length-between true false = omega arith
@@ -154,7 +154,7 @@ length-one (osc_dispatch parts bell) = omega arith
 length-one (csi_dispatch gs is ig f) = omega arith
 length-one (esc_dispatch is ig f) = omega arith
 
-length-from : (at : Hiding) (calls : List Call) → length (marked_from at calls) ≤ 2 * length calls
+pub length-from : (at : Hiding) (calls : List Call) → length (marked_from at calls) ≤ 2 * length calls
 length-from at [] = omega arith
 length-from at (call ∷ calls) =
     omega (

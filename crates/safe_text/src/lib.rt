@@ -22,7 +22,7 @@ mod plain;
 use anstyle_parse::canon::{Fault, Sink, Source, write_calls};
 pub use classes::is_shown;
 pub use held::Held;
-pub use marking::MarkingWriter;
+pub use marking::{MarkedStanding, MarkingWriter};
 pub use performer::{SafeWriter, Standing};
 
 /// Writes the safe text of all bytes that the reader gives: of their calls, each character that is printed and each

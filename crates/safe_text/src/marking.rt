@@ -4,15 +4,26 @@ ghost use Rattle.anstyle_parse.specs.Stream.Call.{print, execute};
 ghost use Rattle.anstyle_parse.specs.Stream.Texts.{is_layout, layout_call};
 ghost use Rattle.safe_text.specs.Marks.{mark_between, hidden_after, decided_marked, undecided_marked};
 
-use crate::performer::SafeWriter;
+use crate::performer::{SafeWriter, Standing};
 use ansi_style::Style;
 use anstyle_parse::canon::{CallWriter, Output, Sink, WritingPerformer};
 use anstyle_parse::{Params, Perform, PerformText};
 
+/// Where the safe text of a stream stands in which hidden text is marked.
+#[derive(Debug, Clone, Copy)]
+pub struct MarkedStanding {
+    pub text: Standing,
+    /// The text that comes next is hidden.
+    pub is_hidden: bool,
+    /// Hidden text is written last: its end is not marked yet.
+    pub is_open: bool,
+}
+
 /// Writes what a [`SafeWriter`] writes, and between that `<U+hidden>` where text begins that Select Graphic Rendition
 /// hides (8), and `<U+shown>` where it ends: before text that is not hidden, before a control, and at the end.
 ///
-/// [`write_safe`](crate::write_safe) drives it from a reader to a writer. No memory is taken.
+/// [`write_safe`](crate::write_safe) drives it from a reader to a writer. No memory is taken. A text in pieces is
+/// suspended and resumed where it stands.
 #[derive(Drop)]
 pub struct MarkingWriter<W> {
     writer: SafeWriter<W>,
@@ -31,8 +42,52 @@ fn is_layout(c: char) -> bool
 }
 
 impl<W: Sink> MarkingWriter<W> {
-    ghost use Rattle.safe_text.specs.Writer.{Takes};
-    ghost use Rattle.safe_text.specs.MarkingWriter.{writer_in, hidden_in, open_in, TakesMarked};
+    ghost use Rattle.safe_text.specs.Held.{held_characters};
+    ghost use Rattle.safe_text.specs.Writer.{before_in, held_in, Takes};
+    ghost use Rattle.safe_text.specs.MarkingWriter.{writer_in, output_in, hidden_in, open_in, TakesMarked};
+
+    /// One that writes to this output, and goes on where the safe text of a stream stands.
+    #[inline]
+    pub fn resume(standing: MarkedStanding, output: Output<W>) -> MarkingWriter<W>
+        ensures output { output_in result ≡ output }
+        ensures before { before_in (writer_in result) ≡ standing.text.before }
+        ensures held { held_in (writer_in result) ≡ held_characters standing.text.held }
+        ensures is_hidden { hidden_in result ≡ standing.is_hidden }
+        ensures is_open { open_in result ≡ standing.is_open }
+    {
+        let is_hidden = standing.is_hidden;
+        let is_open = standing.is_open;
+        MarkingWriter {
+            writer: SafeWriter::resume(standing.text, output),
+            is_hidden,
+            is_open,
+        }
+    }
+
+    /// Where the safe text stands.
+    #[inline]
+    pub fn standing(&self) -> MarkedStanding
+        ensures before { result.text.before ≡ before_in (writer_in self.now) }
+        ensures held { held_characters result.text.held ≡ held_in (writer_in self.now) }
+        ensures is_hidden { result.is_hidden ≡ hidden_in self.now }
+        ensures is_open { result.is_open ≡ open_in self.now }
+    {
+        let is_hidden = self.is_hidden;
+        let is_open = self.is_open;
+        MarkedStanding {
+            text: self.writer.standing(),
+            is_hidden,
+            is_open,
+        }
+    }
+
+    /// Hands the output back. What waits is not written, and hidden text not closed: the text goes on.
+    #[inline]
+    pub fn suspend(self) -> Output<W>
+        ensures { result ≡ output_in self }
+    {
+        self.writer.suspend()
+    }
 
     /// Marks that hidden text begins, or that it ends, unless it is so already.
     #[inline(always)]

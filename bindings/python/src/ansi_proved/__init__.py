@@ -1,6 +1,7 @@
 r"""Terminal output as clean text, HTML, events or a screen, by a proved library.
 
     strip(text)       the text, with no escapes: strip("\x1b[31mred\x1b[0m <b>") is "red <b>"
+    strip(text, lf=True)    without a carriage return before a line feed: strip("one\r\n", lf=True) is "one\n"
     safe(text)        text that hides nothing: safe("\x1b[31ma\u202eb") is "a<U+202E>b"
     shown(text)       the text that a terminal shows, as of progress bars: shown("50%\r100%\n") is "100%\n"
     to_html(text)     its HTML, to paste after <pre> and a newline: to_html("\x1b[1mhi") is '<span style="font-weight:bold;">hi</span>'

@@ -7,6 +7,7 @@ from .library import (
     END, FEED, FEW, TOO_LITTLE, Counts, Idle, Room, Shared, address_of, decoded, exact, function, parts_of, pieces_of,
     short_by, whole_of, whole_text,
 )  # fmt: skip
+from .lines import Lines
 from .safe import safe as safe_text, safe_of
 
 MOST = 64 << 10  # bytes that one call is given at most
@@ -64,8 +65,8 @@ class Stripper:
             yield made(room.view[: self._counts.written])
 
 
-def text_of(stream, *, safe=False):
-    """Gives the text of a stream that comes in pieces, as a list or a file: as `strip` leaves it.
+def text_of(stream, *, safe=False, lf=False):
+    """Gives the text of a stream that comes in pieces, as a list or a file: as `strip` leaves it, with the same words.
 
         with open("log", "rb") as log:
             for part in ansi_proved.text_of(log):
@@ -73,10 +74,15 @@ def text_of(stream, *, safe=False):
 
     A piece is bytes, a bytearray or a memoryview, and leads to bytes, each UTF-8 by itself; or a str, and leads to str. A file
     is read 64 KiB at a time: one of bytes as it has some, one of text (`open("log")`) once it has so many. The text of a piece
-    is given before the next piece is asked for, but where it is safe for a carriage return, a `<`, a `<U` or a joiner that
-    comes last. Threads may share what this gives: each part goes to one of them.
+    is given before the next piece is asked for, but for a carriage return that comes last, where it is safe or with `lf`, and
+    where it is safe for a `<`, a `<U` or a joiner. Threads may share what this gives: each part goes to one of them.
     """
-    return safe_of(stream) if safe else Shared(parts_of(Stripper(), pieces_of(stream)))
+    return safe_of(stream) if safe else Shared(parts_of(_stripper(lf), pieces_of(stream)))
+
+
+def _stripper(lf):
+    """The beginning of a stream, whose carriage returns before line feeds are to go or to stay."""
+    return Lines(Stripper()) if lf else Stripper()
 
 
 class ShortStripper:
@@ -116,27 +122,29 @@ def is_clean(text):
     return 2 * len(begin) > 3 * min(len(text), 4096) and CLEAN.match(text).end() == len(text)
 
 
-def strip(text, *, safe=False):
+def strip(text, *, safe=False, lf=False):
     """The text of terminal output: of a str a str, of bytes, a bytearray or a memoryview bytes.
 
     It drives no terminal: DEL and U+0080 to U+009F, which some terminals take for controls, are left out too. No other
     byte vanishes: what is broken, and what belongs to no character, is U+FFFD. Where it is
     to be safe, it hides nothing, as that of `ansi2text --safe`: what shows nothing, turns the order of text round or is a
-    control is written visibly, as `<U+202E>`. But text that a stream hides (SGR 8) is not marked.
+    control is written visibly, as `<U+202E>`, and text that a stream hides (SGR 8) stands between `<U+hidden>` and
+    `<U+shown>`. With `lf` each carriage return right before a line feed goes, as a recording by script(1) has it at the end
+    of each line; where it is to be safe it goes in any case.
     """
     if safe:
         return safe_text(text)
-    short = SHORT(text)
+    short = None if lf else SHORT(text)
     if short is not None:
         return short
     if isinstance(text, str):
         if type(text) is not str:
             text = exact(text)
-        if is_clean(text):
-            return text  # (clean text is left as it is: laws::inert_clean_text of ansi_strip)
+        if is_clean(text) and not (lf and "\r\n" in text):
+            return text  # (clean text is left as it is: laws::inert_clean_text and laws::line_feeds of ansi_strip)
     piece, is_str = whole_of(text)
-    if len(piece) > FEW:
-        return whole_text(Stripper(), piece, is_str)
+    if lf or len(piece) > FEW:
+        return whole_text(_stripper(lf), piece, is_str)
     stripper = SHORT_STRIPPERS.taken()
     text = (decoded if is_str else bytes)(stripper.text(piece))
     SHORT_STRIPPERS.append(stripper)

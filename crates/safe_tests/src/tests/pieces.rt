@@ -1,8 +1,9 @@
 //! Safe text in pieces, and every public item that it stands on by its name.
+use anstyle_parse::Perform;
 use anstyle_parse::canon::{Output, Sink};
 use safe_pieces::laws::{clones, safe_joined, states};
 use safe_pieces::{END_ROOM, LEAST_ROOM, SafeState};
-use safe_text::{Held, SafeWriter, Standing};
+use safe_text::{Held, MarkedStanding, MarkingWriter, SafeWriter, Standing};
 use std::process::Abort;
 use std::test::Fail;
 use stream_state::{Fed, LentBytes, put_front};
@@ -60,6 +61,33 @@ fn as_a_log(rt: HostRuntime) -> Result<(), Fail> {
     Ok(())
 }
 
+/// Hidden text is marked: its line ends, it is shown again, and the stream ends in it.
+#[test]
+fn hidden_text(rt: HostRuntime) -> Result<(), Fail> {
+    let mut state = SafeState::new();
+    let mut text = Vec::new(rt.alloc());
+    let mut room = [0; LEAST_ROOM];
+    for byte in b"a\x1B[8mb\r\nc\x1B[28md<\x1B[8mU\x1B[me\r\x1B[8m\xE2\x82" {
+        let fed = state.feed(&[*byte], &mut room);
+        let Some(Fed { taken: 1, written }) = fed else {
+            assert!(rt; false);
+            return Ok(());
+        };
+        if written <= room.len() {
+            text.extend_from_slice(&room[..written])?;
+        }
+    }
+    if let Some(written) = state.end(&mut room) {
+        if written <= room.len() {
+            text.extend_from_slice(&room[..written])?;
+        }
+    }
+    let wanted =
+        "a<U+hidden>b<U+shown>\n<U+hidden>c<U+shown>d<<U+hidden>U<U+shown>e<U+000D><U+hidden>\u{FFFD}<U+shown>";
+    assert_eq!(rt; text.as_slice(), wanted.as_bytes());
+    Ok(())
+}
+
 #[test]
 fn names_of_pieces(rt: HostRuntime) {
     let mut state = SafeState::new();
@@ -89,4 +117,25 @@ fn names_of_pieces(rt: HostRuntime) {
     states();
     safe_joined();
     clones();
+}
+
+#[test]
+fn names_of_marked_pieces(rt: HostRuntime) {
+    let mut memory = [0; 16];
+    let standing = MarkedStanding {
+        text: Standing {
+            before: 'a',
+            held: Held::LessU,
+        },
+        is_hidden: true,
+        is_open: false,
+    };
+    let output = Output::new(LentBytes::new(16, &mut memory));
+    let mut writer = MarkingWriter::resume(standing, output);
+    writer.print('b');
+    let stands = writer.standing();
+    assert!(rt; stands.text.before == 'b' && stands.is_hidden && stands.is_open);
+    let (held, answer) = writer.suspend().finish();
+    assert_eq!(rt; held.bytes(), b"<U<U+hidden>b".as_slice());
+    assert_eq!(rt; answer, Ok(()));
 }

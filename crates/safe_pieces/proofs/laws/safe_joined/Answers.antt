@@ -5,7 +5,7 @@ use Rattle.anstyle_parse.specs.Machine.AsRead.{as_read}
 use Rattle.anstyle_parse.specs.Machine.Decoder.{decoded}
 use Rattle.anstyle_parse.specs.Machine.Step.{new_machine, machine_calls}
 use Rattle.anstyle_parse.specs.Stream.Calls.{AreCalls}
-use Rattle.safe_text.specs.Decided.{decided}
+use Rattle.safe_text.specs.Marks.{decided_marked}
 use Rattle.stream_state.proofs.LogLemmas.{AreCalls-log_begins}
 use Rattle.safe_pieces.proofs.laws.safe_joined.Goals as goal
 
@@ -14,7 +14,7 @@ returns-clause-pieces c = λ before bytes more text rest one two own all are the
     let middle = machine_calls decoded (as_read (before ++ bytes)) (new_machine []) in
     let middle_are = AreCalls-machine (as_read (before ++ bytes)) in
     two middle all middle_are (subst (λ (l : List ℕ). AreCalls (as_read l) all) (sym (append_assoc before bytes more)) these)
-    ∙ ap (λ t. t ++ rest) (one own middle are middle_are) ∙ append_assoc (decided own) text rest
+    ∙ ap (λ t. t ++ rest) (one own middle are middle_are) ∙ append_assoc (decided_marked own) text rest
 
 pub returns-clause-whole : goal.returns-clause-whole
 returns-clause-whole c = λ bytes text end one ends calls are.

@@ -1,5 +1,5 @@
 -- The safe text goes on from where the state says that it stands.
-use Rattle.std.proofs.Common.{◌≤◌, List, ℕ, ◌++◌, length, sym, ap, ap₂, ◌∙◌, subst, arith}
+use Rattle.std.proofs.Common.{◌≡◌, ◌≤◌, List, ℕ, ◌++◌, length, sym, ap, ap₂, ◌∙◌, subst, arith}
 use Rattle.std.specs.Str.{encode_utf8_all}
 use Rattle.anstyle_parse.specs.Machine.AsRead.{as_read}
 use Rattle.anstyle_parse.specs.Views.Accumulator.{parser_after}
@@ -16,7 +16,10 @@ use Rattle.stream_state.proofs.LogLemmas.{any_log, ContinuesLog-calls}
 use Rattle.stream_state.proofs.LogQuoted.{quoted-log}
 use Rattle.stream_state.proofs.LentLemmas.{put-front, put-behind, put-length}
 use Rattle.safe_text.specs.Decided.{decided_from, last_from, waiting}
-use Rattle.safe_text.specs.Safe.{characters}
+use Rattle.safe_text.specs.Marks.{Hiding, marked_from, hiding_from}
+use Rattle.safe_text.proofs.MarkLemmas.{hiding-same}
+use Rattle.safe_pieces.specs.State.{hiding_in}
+use Rattle.safe_text.specs.MarkingWriter.{hiding_in as writer_hiding}
 use Rattle.safe_pieces.proofs.FeedLemmas.{text-short, text-held}
 use Rattle.safe_pieces.proofs.state.SafeState.take.Goals as goal
 
@@ -52,6 +55,9 @@ returns c =
     (c.resume_in.ensures (as_read log) c.new-parser.ensures.stands is) in
     let before = c.resume-writer.ensures.before ∙ c.standing.ensures.before in
     let held = c.resume-writer.ensures.held ∙ c.standing.ensures.held in
+    let hiding : writer_hiding writer ≡ hiding_in c.args.self.now =
+    hiding-same _ _ _ _ (c.resume-writer.ensures.is_hidden ∙ c.standing.ensures.is_hidden) (c.resume-writer.ensures.is_open ∙ c.standing.ensures.is_open) in
+    let made = ap₂ (λ (h : List ℕ) at. h ++ marked_from at calls) held hiding in
     let few = (quoted-log log.0 piece calls (goes_on log.0 log.1)).few_calls in
     let written = c.bytes.ensures ∙ text-held c.new.result writer c.advance_log.new.performer calls c.finish-buffer.result.0 c.finish-buffer.result.1
     (ap writer_in c.resume-writer.ensures.output ∙ c.new-output.ensures.writer) c.new.ensures.nothing (ap fault_in c.resume-writer.ensures.output ∙ c.new-output.ensures.no_fault)
@@ -66,12 +72,14 @@ returns c =
       stream = λ before is.
           subst (λ (stream : StreamState). StandsForLog stream (before ++ piece)) (sym c.save-2.ensures.stream)
           (c.save.ensures (as_read (before ++ piece)) (c.advance_log.ensures.stands before (c.resume_in.ensures (as_read before) c.new-parser.ensures.stands is)));
-      last = c.save-2.ensures.before ∙ c.standing-2.ensures.before ∙ taken.before ∙ ap₂ (λ b (h : List ℕ). last_from b (h ++ characters calls)) before held;
-      held = c.save-2.ensures.held ∙ c.standing-2.ensures.held ∙ taken.held ∙ ap (λ (h : List ℕ). waiting (h ++ characters calls)) held;
+      last = c.save-2.ensures.before ∙ c.standing-2.ensures.before ∙ taken.taken.before ∙ ap₂ last_from before made;
+      held = c.save-2.ensures.held ∙ c.standing-2.ensures.held ∙ taken.taken.held ∙ ap waiting made;
+      hiding = hiding-same _ _ _ _ (c.save-2.ensures.is_hidden ∙ c.standing-2.ensures.is_hidden) (c.save-2.ensures.is_open ∙ c.standing-2.ensures.is_open)
+          ∙ taken.hiding ∙ ap (λ at. hiding_from at calls) hiding;
       few_calls = few;
       same_length = put-length bytes room c.put_front.new.room c.put_front.result c.put_front.ensures.length c.put_front.ensures.written fits;
       written_fits = omega (arith, c.put_front.ensures.length, ap length written, text-short writer calls, few, c.requires.room);
       text = put-front bytes room c.put_front.new.room c.put_front.result c.put_front.ensures.length c.put_front.ensures.written
-          ∙ written ∙ ap₂ (λ b (h : List ℕ). encode_utf8_all (decided_from b (h ++ characters calls))) before held;
+          ∙ written ∙ ap₂ (λ b (l : List ℕ). encode_utf8_all (decided_from b l)) before made;
       untouched = put-behind bytes room c.put_front.new.room c.put_front.result c.put_front.ensures.length c.put_front.ensures.written;
     }

@@ -150,6 +150,7 @@ def share_streams():
     calls = {
         "text_of": ansi_proved.text_of,
         "text_of, safe": lambda given: ansi_proved.text_of(given, safe=True),
+        "text_of, lf": lambda given: ansi_proved.text_of(given, lf=True),
         "html_of": ansi_proved.html_of,
         "events": ansi_proved.events,
         "events of a whole": lambda given: ansi_proved.events(STREAM),

@@ -13,6 +13,8 @@ text: str = ansi_proved.strip("a")
 data: bytes = ansi_proved.strip(b"a", safe=True)
 data = ansi_proved.strip(bytearray(b"a"))
 data = ansi_proved.strip(memoryview(b"a"))
+text = ansi_proved.strip("a", lf=True)
+data = ansi_proved.strip(b"a", safe=True, lf=False)
 text = ansi_proved.safe("a")
 data = ansi_proved.safe(b"a")
 text = ansi_proved.shown("a", 120, rows=40)
@@ -27,7 +29,10 @@ data = ansi_proved.strip("a")  # wrong
 ansi_proved.strip(5)  # wrong
 ansi_proved.strip(None)  # wrong
 ansi_proved.strip("a", True)  # wrong
+ansi_proved.strip("a", False, True)  # wrong
 ansi_proved.strip("a", sfe=True)  # wrong
+ansi_proved.strip("a", lf="\n")  # wrong
+data = ansi_proved.strip("a", lf=True)  # wrong
 ansi_proved.safe(5)  # wrong
 data = ansi_proved.safe("a")  # wrong
 ansi_proved.shown("a", "80")  # wrong
@@ -42,14 +47,19 @@ data = ansi_proved.stylesheet()  # wrong
 
 bytes_parts: Iterator[bytes] = ansi_proved.text_of([b"a", bytearray(b"b"), memoryview(b"c")])
 bytes_parts = ansi_proved.text_of(io.BytesIO(b"a"), safe=True)
+bytes_parts = ansi_proved.text_of([b"a"], safe=True, lf=True)
+bytes_parts = ansi_proved.text_of(open("log", "rb"), lf=True)
 bytes_parts = ansi_proved.text_of(open("log", "rb"))
 bytes_parts = ansi_proved.text_of(sys.stdin.buffer)
 bytes_parts = ansi_proved.html_of(io.BytesIO(b"a"), "dark")
 str_parts: Iterator[str] = ansi_proved.text_of(["a", "b"])
 str_parts = ansi_proved.text_of(sys.stdin)
+str_parts = ansi_proved.text_of(sys.stdin, lf=True)
 str_parts = ansi_proved.html_of(open("log"))
 bytes_parts = ansi_proved.text_of(["a"])  # wrong
 str_parts = ansi_proved.text_of([b"a"])  # wrong
+str_parts = ansi_proved.text_of([b"a"], lf=True)  # wrong
+ansi_proved.text_of(["a"], lf=None)  # wrong
 str_parts = ansi_proved.html_of(open("log", "rb"))  # wrong
 ansi_proved.text_of(5)  # wrong
 ansi_proved.text_of(b"a")  # wrong

@@ -43,7 +43,7 @@ fn names_of_lines(rt: HostRuntime) {
             written: 4
         })
     );
-    assert_eq!(rt; room, *b"\rabc");
+    assert_eq!(rt; room.as_slice(), b"\rabc".as_slice());
     assert!(rt; state.end(&mut room) == Some(0));
     lines_joined();
     line_states();

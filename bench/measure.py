@@ -76,7 +76,7 @@ def strings(pick):
 
 CORPORA = [text, colours, dense, characters, strings]
 # the modes, and the words that the program is called with
-WORDS = {"log": ["log"], "canon": ["canon"], "strip": [], "html": [], "pieces": [], "html-pieces": []}
+WORDS = {"log": ["log"], "canon": ["canon"], "strip": [], "html": ["--fragment"], "pieces": [], "html-pieces": []}
 
 
 # how programs are counted: glibc goes by vectors for blocks below this size (`ld.so --list-tunables`)

@@ -2,6 +2,7 @@
 # The options and files of ansi2html, for zsh.
 _arguments \
     '--page[write a whole page]' \
+    '--fragment[write the text alone, for a page of yours]' \
     '--title=[write a whole page with this title]:TEXT' \
     '--css=[write a whole page with the stylesheet at this address]:ADDRESS' \
     '--lang=[write a whole page in this language]:TAG' \
@@ -11,7 +12,7 @@ _arguments \
     '--lines[write lines that can be linked to, with numbers]' \
     '--scroll[wrap no long lines]' \
     '--urls[make links of addresses in the text]' \
-    '--stylesheet[write the stylesheet of classes and lines]' \
+    '--stylesheet[write the stylesheet of classes, lines and pages]' \
     '--shown=-[write what a terminal of 80x24, or of this size, showed]::COLUMNSxROWS:' \
     '(-o --output)'{-o,--output=}'[write to this file in place of standard output]:FILE:_files' \
     '(- *)'{-h,--help}'[say what it does]' \

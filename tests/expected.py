@@ -4,61 +4,14 @@ each digest of a random stream comes from the sources of the Rust crate (docs/DE
 import hashlib
 
 from expected_pages import ADDRESS, DARK_LINED_HEAD, DARK_TITLED_HEAD, LIGHT_HEAD, LIGHT_LINED_HEAD, LINED_HEAD, LINKED_HEAD
-from expected_pages import PAGE_HEAD, PAGE_TAIL, SCROLLED_HEAD, TITLE, TITLED_HEAD, line_rows, numbered
+from expected_pages import LINKED_SCROLLED_HEAD, PAGE_HEAD, PAGE_TAIL, SCROLLED_HEAD, TITLE, TITLED_HEAD, block_rows, line_rows, numbered
 from expected_shown import SHOWN_HOSTILE, SHOWN_NARROW_ROWS, SHOWN_ROWS
 from hostile_streams import BLOCK, SIZE, stream, text, times
 from log_rows import BEGUN_ROWS, LINES_CUT, READ_ROWS, RETURN_ROWS
-from open_strings import said
+from modes import Mode, Program
 from refusals import PARSELOG_USAGE, refused_by, unknown, wants, wrong_size
 from safe_rows import HIDDEN_ROWS, SAFE_ROWS, SAFE_SHOWN_ROWS
 from url_rows import URL_CUT, URL_ROWS, address
-
-
-class Program:
-    """A filter of standard input: the words that it refuses, each with the line that it says then;
-    its modes; its own options, where it has options; the words with which it writes fragments
-    or a whole page of HTML, if it does; those by which it writes a text of its own, and reads nothing; with which
-    words it is given files, each beside those by which it writes a text alone, with nothing around it; and those by
-    which it follows a stream."""
-
-    def __init__(self, name, refused, modes, options=None, fragments=(), page=None, written=(), files=(), following=()):
-        self.name, self.refused, self.modes, self.options = name, refused, modes, options
-        self.fragments, self.page, self.written, self.files, self.following = fragments, page, written, files, following
-
-
-class Mode:
-    """The words that choose it; rows of what is read and the text for it, by their names; a
-    line and its text, which does not depend on what came before, or a function of its number that makes it; hostile streams,
-    each with
-    its text or the digest of it; and what is written before and after each text. `stays` says
-    that each text is its own text; `cut` is a stream, and what is written of the bytes before
-    each of its bytes, and of all of them; `waits` says that lines may be written at the end alone, and
-    `late` that a write which fails may be noticed with 8 KiB held back alone, and that nothing is said of how a stream
-    ends."""
-
-    def __init__(self, words, rows, line, hostile, head=b"", tail=b"", stays=False, cut=None, waits=False, late=False):
-        self.words, self.rows, self.line, self.hostile = words, rows, line, hostile
-        self.head, self.tail, self.stays, self.cut, self.waits, self.late = head, tail, stays, cut, waits, late
-
-    def whole(self, text):
-        return self.head + text + self.tail
-
-    def numbers_lines(self):
-        return callable(self.line[1])
-
-    def times(self, count, before=0):
-        """The text of the line COUNT times, after so many of them."""
-        text = self.line[1]
-        return b"".join(map(text, range(before + 1, before + count + 1))) if self.numbers_lines() else text * count
-
-    def said(self, program, blocks):
-        """What the program says of standard input that comes in these blocks."""
-        return b"" if self.late else said(program, blocks)
-
-    def around(self, blocks):
-        yield self.head
-        yield from blocks
-        yield self.tail
 
 
 def random_bytes():
@@ -623,6 +576,8 @@ LINE_ROWS = line_rows(
     lambda text: span(themed(BOTH, b"color", b"#cf222e", b"#ff7b72"), text),
     lambda text: LINE_LINK % (b"style", b"color:inherit;", text),
 )
+BLOCK_ROWS = block_rows(lambda text: span(themed(BOTH, b"color", b"#cf222e", b"#ff7b72"), text), lambda number, line: line)
+LINE_BLOCK_ROWS = block_rows(lambda text: span(themed(BOTH, b"color", b"#cf222e", b"#ff7b72"), text), numbered)
 LINE_CLASS_ROWS = line_rows(lambda text: classed(b"f1", text), lambda text: LINE_LINK % (b"class", b"ansi-link", text))
 
 NO_LANGUAGE = b"ansi2html: a language is a tag of letters, digits and hyphens, as en or pt-BR, 64 at most (see ansi2html --help)"
@@ -700,12 +655,18 @@ PROGRAMS = [
             (words, b"ansi2html: --urls and --shown are not taken together (see ansi2html --help)")
             for words in (["--urls", "--shown"], ["--shown=9x9", "--page", "--urls"])
         ]
+        + [
+            (words, b"ansi2html: --fragment is not taken with --title, --css, --lang or --scroll (see ansi2html --help)")
+            for words in (["--fragment", "--title=x"], ["--css", "a", "--fragment"], ["--page", "--lang=de", "--fragment"], ["--fragment", "--scroll"])
+        ]
         + [(words, b"ansi2html: --stylesheet reads no file (see ansi2html --help)") for words in (["--stylesheet", "log"], ["-", "--stylesheet"])],
         [
-            Mode(words, html_rows(scheme) if scheme else CLASS_ROWS, (b"\x1b[mA\n", b"A\n"), hostile, head, tail, cut=cut)
+            Mode(words, html_rows(scheme) if scheme else CLASS_ROWS, (b"\x1b[mA\n", b"A\n"), hostile, head, tail, cut=cut, has_blocks=head != b"")
             for words, scheme, hostile, head, tail, cut in (
-                ([], BOTH, HTML_HOSTILE, b"", b"", HTML_CUT),
-                (["page"], BOTH, HTML_HOSTILE, PAGE_HEAD, PAGE_TAIL, None),
+                (["--fragment"], BOTH, HTML_HOSTILE, b"", b"", HTML_CUT),
+                ([], BOTH, HTML_HOSTILE, PAGE_HEAD, PAGE_TAIL, None),
+                (["--fragment", "page"], BOTH, [], PAGE_HEAD, PAGE_TAIL, None),
+                (["--page", "--fragment"], BOTH, [], b"", b"", None),
                 (["--page"], BOTH, [], PAGE_HEAD, PAGE_TAIL, HTML_CUT),
                 (["--title=" + TITLE, "--page"], BOTH, [], TITLED_HEAD, PAGE_TAIL, None),
                 (["--title", "--page", "--title", TITLE], BOTH, [], TITLED_HEAD, PAGE_TAIL, None),
@@ -715,49 +676,57 @@ PROGRAMS = [
                 (["--css=" + ADDRESS, "--classes"], None, [], LINKED_HEAD, PAGE_TAIL, None),
                 (["--light", "--css", ADDRESS], LIGHT, [], LINKED_HEAD.replace(b"light dark", b"light"), PAGE_TAIL, None),
                 (["--css=" + ADDRESS, "--page", "--dark"], DARK, [], LINKED_HEAD.replace(b"light dark", b"dark"), PAGE_TAIL, None),
-                (["--title=first", "page", "--title=" + TITLE], BOTH, [], TITLED_HEAD, PAGE_TAIL, None),
-                (["--dark", "--light"], LIGHT, [], b"", b"", None),
-                (["--dark", "--page", "--light"], LIGHT, [], LIGHT_HEAD, PAGE_TAIL, None),
+                (["--title=first", "--fragment", "--page", "--title=" + TITLE], BOTH, [], TITLED_HEAD, PAGE_TAIL, None),
+                (["--dark", "--fragment", "--light"], LIGHT, [], b"", b"", None),
+                (["--dark", "--light"], LIGHT, [], LIGHT_HEAD, PAGE_TAIL, None),
                 (["--light", "--dark", "--title=" + TITLE], DARK, [], DARK_TITLED_HEAD, PAGE_TAIL, None),
-                (["--classes", "--dark"], None, HTML_HOSTILE, b"", b"", None),
+                (["--fragment", "--classes", "--dark"], None, HTML_HOSTILE, b"", b"", None),
             )
         ]
         + [
-            Mode(words, rows, (b"\x1b[mA<\n", lambda number: numbered(number, b"A&lt;\n")), [], head, tail)
+            Mode(words, rows, (b"\x1b[mA<\n", lambda number: numbered(number, b"A&lt;\n")), [], head, tail, has_blocks=head != b"")
             for words, rows, head, tail in (
-                (["--lines"], LINE_ROWS, b"", b""),
-                (["--lines", "--page", "--lines"], LINE_ROWS, LINED_HEAD, PAGE_TAIL),
+                (["--lines", "--fragment"], LINE_ROWS, b"", b""),
+                (["--lines", "--lines"], LINE_ROWS, LINED_HEAD, PAGE_TAIL),
                 (["--lines", "--classes", "--css=" + ADDRESS], LINE_CLASS_ROWS, LINKED_HEAD, PAGE_TAIL),
                 (["--light", "--lines", "--page"], LINE_ROWS[:5], LIGHT_LINED_HEAD, PAGE_TAIL),
                 (["--page", "--scroll", "--dark", "--lines"], LINE_ROWS[:5], DARK_LINED_HEAD, PAGE_TAIL),
             )
         ]
         + [
-            Mode(["--urls"], html_rows(BOTH) + URL_ROWS, (b"\x1b[mhttp://a\n", address(b"http://a") + b"\n"), HTML_HOSTILE, cut=URL_CUT),
-            Mode(["--urls", "--page"], URL_ROWS[:5], (b"\x1b[mhttp://a\n", address(b"http://a") + b"\n"), [], PAGE_HEAD, PAGE_TAIL),
-            Mode(["--lines", "--urls"], LINE_ROWS, (b"http://a\n", lambda number: numbered(number, address(b"http://a") + b"\n")), []),
-            Mode(["--urls", "--classes"], CLASS_ROWS, (b"A\n", b"A\n"), []),
+            Mode(["--urls", "--fragment"], html_rows(BOTH) + URL_ROWS, (b"\x1b[mhttp://a\n", address(b"http://a") + b"\n"), HTML_HOSTILE, cut=URL_CUT),
+            Mode(["--urls"], URL_ROWS[:5], (b"\x1b[mhttp://a\n", address(b"http://a") + b"\n"), [], PAGE_HEAD, PAGE_TAIL, has_blocks=True),
+            Mode(["--fragment", "--lines", "--urls"], LINE_ROWS, (b"http://a\n", lambda number: numbered(number, address(b"http://a") + b"\n")), []),
+            Mode(["--urls", "--fragment", "--classes"], CLASS_ROWS, (b"A\n", b"A\n"), []),
         ]
-        + [Mode(["--scroll", "--page"], html_rows(BOTH)[:5], (b"\x1b[mA<\n", b"A&lt;\n"), [], SCROLLED_HEAD, PAGE_TAIL)]
+        + [
+            Mode(words, rows, (b"\x1b[mA<\n", b"A&lt;\n"), [], head, PAGE_TAIL, has_blocks=True)
+            for words, rows, head in (
+                (["--scroll", "--page"], html_rows(BOTH)[:5], SCROLLED_HEAD),
+                (["--scroll", "--css=" + ADDRESS], html_rows(BOTH)[:5], LINKED_SCROLLED_HEAD),
+                (["--page"], BLOCK_ROWS, PAGE_HEAD),
+            )
+        ]
+        + [Mode(["--lines"], LINE_BLOCK_ROWS, (b"\x1b[mA<\n", lambda number: numbered(number, b"A&lt;\n")), [], LINED_HEAD, PAGE_TAIL, has_blocks=True)]
         + [
             Mode(words, rows, (b"\x1b[mA<\n", b"A&lt;\n"), [], head, tail, waits=True)
             for words, rows, head, tail in (
-                (["--shown"], SHOWN_HTML_ROWS, b"", b""),
+                (["--shown", "--fragment"], SHOWN_HTML_ROWS, b"", b""),
                 (["--shown=9x9", "--page", "--shown=80x24"], SHOWN_HTML_ROWS, PAGE_HEAD, PAGE_TAIL),
                 (["--shown", "9x9", "--page", "--shown", "80x24"], SHOWN_HTML_ROWS, PAGE_HEAD, PAGE_TAIL),
-                (["--shown", "--classes"], [("a class", b"\x1b[1mx\n", classed(b"bold") + b"\n")], b"", b""),
+                (["--shown", "--fragment", "--classes"], [("a class", b"\x1b[1mx\n", classed(b"bold") + b"\n")], b"", b""),
                 (["--shown", "--title=" + TITLE], SHOWN_HTML_ROWS[:1], TITLED_HEAD, PAGE_TAIL),
-                (["--light", "--shown", "--dark"], [("red", b"\x1b[31mx\n", span(b"color:#ff7b72;", b"x") + b"\n")], b"", b""),
-                (["--page", "--light", "--shown"], [("red", b"\x1b[31mx\n", span(b"color:#cf222e;", b"x") + b"\n")], LIGHT_HEAD, PAGE_TAIL),
+                (["--fragment", "--light", "--shown", "--dark"], [("red", b"\x1b[31mx\n", span(b"color:#ff7b72;", b"x") + b"\n")], b"", b""),
+                (["--light", "--shown"], [("red", b"\x1b[31mx\n", span(b"color:#cf222e;", b"x") + b"\n")], LIGHT_HEAD, PAGE_TAIL),
             )
         ],
         options=[
-            *("--page", "--title=TEXT", "--css=ADDRESS", "--lang=TAG", "--light", "--dark", "--classes", "--lines", "--scroll", "--urls"),
+            *("--page", "--fragment", "--title=TEXT", "--css=ADDRESS", "--lang=TAG", "--light", "--dark", "--classes", "--lines", "--scroll", "--urls"),
             "--stylesheet",
             *("--shown", "--shown=COLUMNSxROWS", "--output=FILE"),
         ],
-        files=[([], []), (["--page"], []), (["--shown", "--page"], ["--shown"])],
-        fragments=[[], ["--classes"]],
+        files=[(["--fragment"], ["--fragment"]), ([], ["--fragment"]), (["--shown"], ["--shown", "--fragment"])],
+        fragments=[["--fragment"], ["--fragment", "--classes"]],
         page=["--page"],
         written=["--stylesheet"],
     ),

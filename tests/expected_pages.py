@@ -17,6 +17,7 @@ PAGE_HEAD = b"""\
 <style>
 :root { color-scheme: light dark; }
 pre { white-space: pre-wrap; overflow-wrap: anywhere; }
+pre > [data-lines] { display: block; content-visibility: auto; contain-intrinsic-height: auto 500lh; }
 </style>
 </head>
 <body>
@@ -44,8 +45,28 @@ LINKED_HEAD = b"""\
 <link rel="stylesheet" href="a.css?b=&quot;&gt;&lt;&#39;&amp;c">
 </head>
 <body>
-<pre>
+<pre class="ansi-wrap">
 """
+LINKED_SCROLLED_HEAD = LINKED_HEAD.replace(b' class="ansi-wrap"', b"")
+
+# A browser lays out a block of lines once it is in sight (CSS Containment, 4): each has 500 lines, and the last one what is left.
+BLOCK_BEGIN, BLOCK_END, BLOCK = b'<span data-lines="500">', b"</span>", 500
+
+
+def line_in_blocks(number, html):
+    return (BLOCK_BEGIN if number % BLOCK == 1 else b"") + html + (BLOCK_END if number % BLOCK == 0 else b"")
+
+
+def blocks_begun(html):
+    """The HTML with its only block begun, where it leaves that away."""
+    return html if html.startswith(BLOCK_BEGIN) or not html else BLOCK_BEGIN + html
+
+
+def blocks_ended(html):
+    """The same with its last block ended, where that has room for more lines."""
+    html = blocks_begun(html)
+    return html + BLOCK_END * (html.count(BLOCK_BEGIN) > html.count(b"\n") // BLOCK)
+
 
 # Lines that can be linked to (HTML, 3.2.6 and 7.4.6.4): each is one element of the text, whose `id` is L and its number, with a
 # link of no text to itself that has the number in an attribute, which the page's rules draw.
@@ -54,8 +75,8 @@ def numbered(number, html):
 
 
 LINE_RULES = b"""\
-pre > [id^=L] { display: block; padding-left: 9ch; }
-pre > [id^=L]:target { box-shadow: inset 4px 0 #bf8700; }
+pre [id^=L] { display: block; padding-left: 9ch; }
+pre [id^=L]:target { box-shadow: inset 4px 0 #bf8700; }
 [data-line] { float: left; margin-left: -8ch; min-width: 7ch; text-align: right; text-decoration: none; %s }
 [data-line]::before { content: attr(data-line); }
 """
@@ -64,18 +85,25 @@ NUMBER_COLORS = {
     b"light": b"color: #59636e;",
     b"dark": b"color: #9198a1;",
 }
-TEXT_RULE = b"pre { white-space: pre-wrap; overflow-wrap: anywhere; }\n"
-SIGHT_RULE = b"pre > [id^=L] { content-visibility: auto; contain-intrinsic-height: auto 1lh; }\n"
-LINED_HEAD = PAGE_HEAD.replace(TEXT_RULE, LINE_RULES % NUMBER_COLORS[b"both"] + SIGHT_RULE + TEXT_RULE)
-SCROLLED_HEAD = PAGE_HEAD.replace(TEXT_RULE, b"pre { white-space: pre; }\n")
+TEXT_RULES = b"""\
+pre { white-space: pre-wrap; overflow-wrap: anywhere; }
+pre > [data-lines] { display: block; content-visibility: auto; contain-intrinsic-height: auto 500lh; }
+"""
+# (where lines are not wrapped, the longest one of a block would be cut off at the page's width)
+SCROLLED_RULES = b"""\
+pre { white-space: pre; }
+pre > [data-lines] { display: block; width: max-content; min-width: 100%; content-visibility: auto; contain-intrinsic-height: auto 500lh; }
+"""
+LINED_HEAD = PAGE_HEAD.replace(TEXT_RULES, LINE_RULES % NUMBER_COLORS[b"both"] + TEXT_RULES)
+SCROLLED_HEAD = PAGE_HEAD.replace(TEXT_RULES, SCROLLED_RULES)
 
 # The same for light pages alone, and for dark ones: black on white, and white on Chromium's dark ground.
 ROOT = b":root { color-scheme: light dark; }"
 LIGHT_HEAD = PAGE_HEAD.replace(ROOT, b":root { color-scheme: light; color: #000000; background-color: #ffffff; }")
 DARK_TITLED_HEAD = TITLED_HEAD.replace(ROOT, b":root { color-scheme: dark; color: #ffffff; background-color: #121212; }")
-LIGHT_LINED_HEAD = LIGHT_HEAD.replace(TEXT_RULE, LINE_RULES % NUMBER_COLORS[b"light"] + SIGHT_RULE + TEXT_RULE)
+LIGHT_LINED_HEAD = LIGHT_HEAD.replace(TEXT_RULES, LINE_RULES % NUMBER_COLORS[b"light"] + TEXT_RULES)
 DARK_LINED_HEAD = PAGE_HEAD.replace(ROOT, b":root { color-scheme: dark; color: #ffffff; background-color: #121212; }").replace(
-    TEXT_RULE, LINE_RULES % NUMBER_COLORS[b"dark"] + b"pre { white-space: pre; }\n"
+    TEXT_RULES, LINE_RULES % NUMBER_COLORS[b"dark"] + SCROLLED_RULES
 )
 
 
@@ -97,4 +125,20 @@ def line_rows(red, link):
             numbered(1, link(b"a\n")) + numbered(2, link(red(b"b\n"))) + numbered(3, red(b"c")),
         ),
         ("a title among the lines", b"a\n\x1b]0;t\x07\x07b\n", numbered(1, b"a\n") + numbered(2, b"b\n")),
+    ]
+
+
+def block_rows(red, line):
+    """Rows of more lines than a block has. What `line` makes of a number and a text is that line."""
+    lines = lambda first, last, text: b"".join(line(number, text) for number in range(first, last + 1))
+    is_each = line(1, b"") != b""
+    styled = lambda first, last: lines(first, last, red(b"x\n")) if is_each else red(b"x\n" * (last - first + 1))
+    end = lambda text: BLOCK_END + (BLOCK_BEGIN + text if text else b"")
+    return [
+        ("500 lines", b"x\n" * 500, BLOCK_BEGIN + lines(1, 500, b"x\n") + end(b"")),
+        ("501 lines", b"\n" * 501, BLOCK_BEGIN + lines(1, 500, b"\n") + end(line(501, b"\n"))),
+        ("500 lines and a half", b"x\n" * 500 + b"y", BLOCK_BEGIN + lines(1, 500, b"x\n") + end(line(501, b"y"))),
+        ("a style after 500 lines", b"x\n" * 500 + b"\x1b[31m", BLOCK_BEGIN + lines(1, 500, b"x\n") + end(b"")),
+        ("a style over two blocks", b"\x1b[31m" + b"x\n" * 502, BLOCK_BEGIN + styled(1, 500) + end(styled(501, 502))),
+        ("three blocks", b"x\n" * 1001, BLOCK_BEGIN + lines(1, 500, b"x\n") + end(lines(501, 1000, b"x\n")) + end(line(1001, b"x\n"))),
     ]

@@ -14,6 +14,8 @@ import stat
 import subprocess
 import tempfile
 
+from expected_pages import blocks_ended
+
 NOBODY = 65534
 PARTS = [b"\x1b[1mone\x1b[0m\n", b"tw\xe2\x82", b"\xaco\n\x1b[3", b"1mthree\r\n", b""]
 
@@ -64,9 +66,11 @@ class Rows:
         """What is written of these texts, one after another."""
         around = self.run([self.path, *self.words], b"").out
         empty = self.run([self.path, *self.alone], b"").out
-        texts = b"".join(self.run([self.path, *self.alone], part).out for part in parts)
+        written = [self.run([self.path, *self.alone], part).out for part in parts]
         if self.words == self.alone:
-            return texts
+            return b"".join(written)
+        # (what a screen showed stands in no blocks)
+        texts = b"".join(written if "--shown" in self.alone else map(blocks_ended, written))
         # (what stands around the text of nothing is the head and the tail)
         assert not empty, empty
         at = around.index(b"<pre>\n") + len(b"<pre>\n")

@@ -289,7 +289,8 @@ def awaited_cases(ansi):
 def busy_cases(ansi):
     """A long call, within which another thread goes on: of events that come to nothing, and of wholes."""
     large = b"\x1b[" + b"1;" * 40_000_000
-    for name, call in [("events", lambda: collections.deque(ansi.events([large]), 0)), ("strip", lambda: ansi.strip(large)), ("to_html", lambda: ansi.to_html(large))]:
+    calls = {"events": lambda: collections.deque(ansi.events([large]), 0), "strip": lambda: ansi.strip(large)}
+    for name, call in {**calls, "to_html": lambda: ansi.to_html(large)}.items():
         counted, took = ticks_during(call)
         is_so = took > 30 and counted > took / 20
         yield "Python: another thread goes on in a long %s" % name, None if is_so else "it has %d turns in %d ms" % (counted, took)

@@ -134,7 +134,7 @@ def safe_of(stream):
 
 def html_of(stream, styling="both"):
     """What ansi2html writes in a styling."""
-    words = [] if styling == "both" else ["--" + styling]
+    words = ["--fragment"] if styling == "both" else ["--fragment", "--" + styling]
     done = run(["%s/crates/ansi2html/out/ansi2html" % ROOT, *words], stream)
     done.check_returncode()
     return done.stdout

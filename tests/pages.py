@@ -46,7 +46,9 @@ METAS = [[("charset", "utf-8")], [("name", "viewport"), ("content", "width=devic
 STYLE = {
     ":root": {"color-scheme": "light dark"},
     "pre": {"white-space": "pre-wrap", "overflow-wrap": "anywhere"},
+    "pre > [data-lines]": {"display": "block", "content-visibility": "auto", "contain-intrinsic-height": "auto 500lh"},
 }
+BLOCK = [("data-lines", "500")]  # the attributes of a block of lines, which stands in the <pre> of a page
 WITH_NO_END = ["meta"]
 # What a link leads to: one of three schemes, and ASCII without controls and the space.
 HREF = re.compile(r"(?:https?://|mailto:)[\x21-\x7e]*")
@@ -70,6 +72,9 @@ class Reader(html.parser.HTMLParser):
             if attributes or self.text[-1:] != "\r":
                 self.faults.append("a line break with %s behind %r" % (attributes, self.text[-1:]))
             return
+        if self.is_page and tag == "span" and self.open[-1:] == ["pre"] and attributes == BLOCK:
+            self.open.append("block")
+            return
         if tag in ("span", "a"):
             if "span" in self.open or tag == "a" and "a" in self.open:
                 self.faults.append("an element %s stands in %s" % (tag, self.open))
@@ -88,7 +93,9 @@ class Reader(html.parser.HTMLParser):
             self.open.append(tag)
 
     def handle_endtag(self, tag):
-        if self.open[-1:] != [tag]:
+        if self.open[-1:] == ["block"] and tag == "span":
+            self.open.pop()
+        elif self.open[-1:] != [tag]:
             self.faults.append("%s is ended, with %s open" % (tag, self.open))
         else:
             self.open.pop()

@@ -5,6 +5,7 @@ import gc
 import os
 import resource
 import sys
+import tracemalloc
 
 import screen_cells as table
 from library_shared import PYTHON, ROOT, failure, run, ticks_during
@@ -122,6 +123,17 @@ def memory_cases(ansi):
     yield "reads leave no object behind", "%d objects" % grown if grown > 200 else None
 
 
+def kept_cases(ansi):
+    """Screens whose cells are all others: of cells that are kept to be given again there are so many at most."""
+    tracemalloc.start()
+    screen = ansi.Screen(1000, 50)
+    screen.feed("".join("\x1b[38;2;%d;%d;9mx" % divmod(at, 256) for at in range(50_000)))
+    found = len({cell.style for row in screen.cells for cell in row})
+    kept = tracemalloc.get_traced_memory()[0]
+    tracemalloc.stop()
+    yield "of 50,000 cells that are others few are kept", "%d kB of %d" % (kept >> 10, found) if kept > 15 << 20 or found < 49_999 else None
+
+
 def busy_cases(ansi):
     """A long call, within which another thread goes on."""
     piece = b"text \x1b[1;31m and more\r\n" * 400_000
@@ -177,6 +189,6 @@ def shared_cases():
 
 
 def cases(ansi):
-    for part in (cell_cases, mode_cases, memory_cases, busy_cases, closed_cases):
+    for part in (cell_cases, mode_cases, memory_cases, kept_cases, busy_cases, closed_cases):
         yield from part(ansi)
     yield from shared_cases()

@@ -198,7 +198,8 @@ class Calls(unittest.TestCase):
             self.assertEqual("".join(it.text for it in ansi_proved.events(text) if isinstance(it, Text)), words)
 
     def test_a_short_whole_is_as_a_long_one(self):
-        rows = ["", "clean", "\x1b[31mred", "\x1b[1ma\u20ac\U0001f600<&>\"'\r\n", "\ud800", "\x1b]0;t", "a\x7f\x9b", 1024 * "a", 1025 * "a", 511 * "\u20ac"]
+        rows = ["", "clean", "\x1b[31mred", "\x1b[1ma\u20ac\U0001f600<&>\"'\r\n", "\ud800", "\x1b]0;t", "a\x7f\x9b", "a\x7f", "\x9b"]
+        rows += [1024 * "a", 1025 * "a", 511 * "\u20ac"]
         for row in rows * 2:  # (each is a stream of its own, whatever came before)
             for text in (row, row.encode("utf-8", "surrogatepass"), row.encode("utf-8", "surrogatepass")[:-1]):
                 stream = text if type(text) is bytes else text.encode("utf-8", "surrogatepass")

@@ -1,1 +1,1 @@
-pub mod SchemeLemmas
+pub mod WordLemmas

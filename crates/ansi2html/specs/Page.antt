@@ -6,7 +6,7 @@
 -- spaces are kept); CSS Generated Content, 1.2 and 2 (a number that is no text); CSS Viewport, 3 (a phone
 -- draws it at its own width); HTML, 4.2.4 (a stylesheet of another file), for which Content Security Policy,
 -- 6.1.14, wants no leave for rules of the page's own.
-use Rattle.std.specs.Prelude.{ℕ, Bool, List, [], ◌∷◌, ◌++◌, codes, Option, None, Some, option_copied, if◌then◌else◌}
+use Rattle.std.specs.Prelude.{ℕ, Bool, not, ◌&&◌, List, [], ◌∷◌, ◌++◌, codes, Option, None, Some, is_some, option_copied, if◌then◌else◌}
 use Rattle.std.specs.List.{flat_map}
 use Rattle.ansi_html.specs.declared.scheme.Scheme.{Scheme}
 use Rattle.ansi_html.specs.declared.scheme.Scheme.TheVariants.{Light, Dark, Both}
@@ -52,15 +52,18 @@ before_title =
 abbrev pub after_title : List ℕ
 after_title = lines (codes "</title>" ∷ [])
 
-abbrev pub before_text : List ℕ
-before_text = lines (codes "</head>" ∷ codes "<body>" ∷ codes "<pre>" ∷ [])
+-- A page without rules whose long lines are wrapped says so by a class, for which the stylesheet has a rule.
+abbrev pub before_text : (wraps : Bool) → List ℕ
+before_text wraps =
+    lines
+    (codes "</head>" ∷ codes "<body>" ∷ (if wraps then codes "<pre class=\"ansi-wrap\">" else codes "<pre>") ∷ [])
 
 -- the rules of the classes, where there are any
 abbrev pub page_rules : Styling → Scheme → List ℕ
 page_rules (Inline inline) scheme = []
 page_rules Classes scheme = stylesheet scheme
 
--- How lines look, of which each is an element of the <pre>: a block that leaves room for its number, with a bar where
+-- How lines look, of which each is an element in the <pre>: a block that leaves room for its number, with a bar where
 -- it is linked to, and the number, which is drawn of an attribute, so that it is no part of the text. Its colour has
 -- WCAG's contrast of 4.5:1 on the page's ground.
 abbrev pub number_color : Scheme → List ℕ
@@ -70,34 +73,33 @@ number_color Both = codes "color: #59636e; color: light-dark(#59636e, #9198a1);"
 
 abbrev pub line_rules : Scheme → List ℕ
 line_rules scheme =
-    lines (codes "pre > [id^=L] { display: block; padding-left: 9ch; }" ∷
-    codes "pre > [id^=L]:target { box-shadow: inset 4px 0 #bf8700; }" ∷ [])
+    lines (codes "pre [id^=L] { display: block; padding-left: 9ch; }" ∷
+    codes "pre [id^=L]:target { box-shadow: inset 4px 0 #bf8700; }" ∷ [])
     ++ (codes "[data-line] { float: left; margin-left: -8ch; min-width: 7ch; text-align: right; text-decoration: none; "
     ++ (number_color scheme ++ lines (codes " }" ∷
     codes "[data-line]::before { content: attr(data-line); }" ∷ [])))
 
--- A line that is out of sight is not drawn before it is scrolled to (CSS Containment, 4), but where long lines are not wrapped: there
--- that would cut them off.
-abbrev pub sight_rule : (scrolls : Bool) → List ℕ
-sight_rule scrolls =
-    if scrolls then []
-    else lines (codes "pre > [id^=L] { content-visibility: auto; contain-intrinsic-height: auto 1lh; }" ∷ [])
+abbrev pub page_lines : (has_lines : Bool) → Scheme → List ℕ
+page_lines has_lines scheme = if has_lines then line_rules scheme else []
 
-abbrev pub page_lines : (has_lines scrolls : Bool) → Scheme → List ℕ
-page_lines has_lines scrolls scheme = if has_lines then line_rules scheme ++ sight_rule scrolls else []
-
--- Long lines are wrapped, or the page scrolls.
-abbrev pub text_rule : (scrolls : Bool) → List ℕ
-text_rule scrolls =
-    if scrolls then lines (codes "pre { white-space: pre; }" ∷ [])
-    else lines (codes "pre { white-space: pre-wrap; overflow-wrap: anywhere; }" ∷ [])
+-- Long lines are wrapped, or the page scrolls. A block of lines that is out of sight is not laid out before it is scrolled to (CSS
+-- Containment, 4); until then it is as high as its lines. Where lines are not wrapped it is as wide as its longest one,
+-- which would be cut off otherwise.
+abbrev pub text_rules : (scrolls : Bool) → List ℕ
+text_rules scrolls =
+    if scrolls
+    then lines (codes "pre { white-space: pre; }" ∷
+    codes "pre > [data-lines] { display: block; width: max-content; min-width: 100%; content-visibility: auto; contain-intrinsic-height: auto 500lh; }" ∷
+    [])
+    else lines (codes "pre { white-space: pre-wrap; overflow-wrap: anywhere; }" ∷
+    codes "pre > [data-lines] { display: block; content-visibility: auto; contain-intrinsic-height: auto 500lh; }" ∷ [])
 
 -- How a page looks, by its own rules: it asks for nothing from elsewhere.
 abbrev pub page_style : Styling → Scheme → (has_lines scrolls : Bool) → List ℕ
 page_style styling scheme has_lines scrolls =
     lines (codes "<style>" ∷ [])
     ++ (page_colors scheme ++ (page_rules styling scheme
-    ++ (page_lines has_lines scrolls scheme ++ (text_rule scrolls ++ lines (codes "</style>" ∷ [])))))
+    ++ (page_lines has_lines scheme ++ (text_rules scrolls ++ lines (codes "</style>" ∷ [])))))
 
 -- By the stylesheet at an address, of which the bytes with a meaning in HTML are references.
 abbrev pub page_link : Scheme → (address : List ℕ) → List ℕ
@@ -112,13 +114,17 @@ looks_by styling scheme said (Some address) = page_link scheme address
 abbrev pub page_looks : Styling → Scheme → Said → List ℕ
 page_looks styling scheme said = looks_by styling scheme said (option_copied said.stylesheet)
 
+-- The text of a page wraps by a class where it has no rules, and does not scroll.
+abbrev pub wraps_by_class : Said → Bool
+wraps_by_class said = is_some (option_copied said.stylesheet) && not said.scrolls
+
 -- The page as far as its text, with what is said of it, of which the bytes with a meaning in HTML are
 -- references.
 abbrev pub page_head : Styling → Scheme → Said → List ℕ
 page_head styling scheme said =
     before_language ++ (escaped_text said.language.now ++ (before_title
     ++ (escaped_text said.title.now ++ (after_title
-    ++ (page_looks styling scheme said ++ before_text)))))
+    ++ (page_looks styling scheme said ++ before_text (wraps_by_class said))))))
 
 -- the page after its text
 abbrev pub page_tail : List ℕ
@@ -133,6 +139,13 @@ abbrev pub tail_of : Form → List ℕ
 tail_of Fragment = []
 tail_of Page = page_tail
 
--- The stylesheet of sites: the rules of the classes, and those of lines.
+-- How pages without rules look, by the stylesheet: as those with rules do.
+abbrev pub linked_rules : List ℕ
+linked_rules =
+    lines (codes ".ansi-wrap { white-space: pre-wrap; overflow-wrap: anywhere; }" ∷
+    codes "[data-lines] { display: block; width: max-content; min-width: 100%; content-visibility: auto; contain-intrinsic-height: auto 500lh; }" ∷
+    codes ".ansi-wrap > [data-lines] { width: auto; }" ∷ [])
+
+-- The stylesheet of sites: the rules of the classes, those of lines, and those of pages without rules.
 abbrev pub site_rules : Scheme → List ℕ
-site_rules scheme = stylesheet scheme ++ line_rules scheme
+site_rules scheme = stylesheet scheme ++ (line_rules scheme ++ linked_rules)

@@ -9,15 +9,27 @@ use Rattle.ansi_html.specs.declared.scheme.Styling.TheVariants.{Inline, Classes}
 use Rattle.ansi2html.specs.declared.form.Form.{Form}
 use Rattle.ansi2html.specs.declared.form.Form.TheVariants.{Fragment, Page}
 
--- a word asks for a page: --page, the word page, or what is said of a page
-abbrev pub asks_for_page : (word : List ℕ) → Bool
-asks_for_page word =
-    bytes_eq word (codes "--page") || (bytes_eq word (codes "page") || (starts_with nat_eq word (codes "--title=")
-    || (starts_with nat_eq word (codes "--css=") || starts_with nat_eq word (codes "--lang="))))
+-- The form after one word more, and after all: the last of --page, or the word page, and --fragment, and else a page.
+abbrev pub form_after : Form → (word : List ℕ) → Form
+form_after form word =
+    if bytes_eq word (codes "--fragment") then Fragment
+    else if bytes_eq word (codes "--page") || bytes_eq word (codes "page") then Page else form
 
--- a page where some word asks for it
+abbrev pub form_from : Form → (words : List (List ℕ)) → Form
+form_from form [] = form
+form_from form (word ∷ words) = form_from (form_after form word) words
+
 abbrev pub form_of : (words : List (List ℕ)) → Form
-form_of words = if list_any asks_for_page words then Page else Fragment
+form_of words = form_from Page words
+
+-- Words say something of a page: its title, its stylesheet, its language, or that it scrolls. A fragment has none of them.
+abbrev pub is_of_a_page : (word : List ℕ) → Bool
+is_of_a_page word =
+    starts_with nat_eq word (codes "--title=") || (starts_with nat_eq word (codes "--css=")
+    || (starts_with nat_eq word (codes "--lang=") || bytes_eq word (codes "--scroll")))
+
+abbrev pub says_of_a_page : (words : List (List ℕ)) → Bool
+says_of_a_page words = list_any is_of_a_page words
 
 -- The scheme after one word more, and after all: the last of --light and --dark, and else both.
 abbrev pub scheme_after : Scheme → (word : List ℕ) → Scheme

@@ -1,7 +1,7 @@
 //! What stands around the text.
 ghost use Rattle.std.specs.Prelude.{◌≡◌, ◌++◌, ℕ, List, option_copied, IfOk, OnOk};
 ghost use Rattle.anstyle_parse.specs.Io.Output.{Adds, Causes, Writes};
-ghost use Rattle.ansi2html.specs.Page.{page_colors, named_scheme, page_rules, number_color, line_rules, sight_rule, page_lines, text_rule, page_style, page_link, page_looks, page_head, head_of, tail_of, site_rules};
+ghost use Rattle.ansi2html.specs.Page.{page_colors, named_scheme, page_rules, number_color, line_rules, page_lines, text_rules, page_style, page_link, page_looks, wraps_by_class, before_text, page_head, head_of, tail_of, linked_rules, site_rules};
 ghost use Rattle.ansi_html.specs.Html.{escaped_text};
 ghost use Rattle.ansi_html.specs.Reader.{Attributes, Place, in_value, seen_from};
 
@@ -72,6 +72,12 @@ const BEFORE_TEXT: &[u8] = br#"</head>
 <pre>
 "#;
 
+/// The same of a page that has its long lines wrapped by the stylesheet elsewhere.
+const BEFORE_WRAPPED: &[u8] = br#"</head>
+<body>
+<pre class="ansi-wrap">
+"#;
+
 /// The page after the text.
 const PAGE_TAIL: &[u8] = br#"</pre>
 </body>
@@ -136,8 +142,8 @@ fn number_color(scheme: Scheme) -> &'static [u8]
 }
 
 /// The rules of lines before the colour of their numbers.
-const BEFORE_NUMBER_COLOR: &[u8] = br#"pre > [id^=L] { display: block; padding-left: 9ch; }
-pre > [id^=L]:target { box-shadow: inset 4px 0 #bf8700; }
+const BEFORE_NUMBER_COLOR: &[u8] = br#"pre [id^=L] { display: block; padding-left: 9ch; }
+pre [id^=L]:target { box-shadow: inset 4px 0 #bf8700; }
 [data-line] { float: left; margin-left: -8ch; min-width: 7ch; text-align: right; text-decoration: none; "#;
 
 /// The rules of lines after it.
@@ -154,35 +160,27 @@ fn put_line_rules<W: Sink>(output: &mut Output<W>, scheme: Scheme)
     output.put(AFTER_NUMBER_COLOR);
 }
 
-/// What has lines out of sight not drawn; it would cut off long lines that are not wrapped.
-fn sight_rule(scrolls: bool) -> &'static [u8]
-    ensures { result.now ≡ sight_rule scrolls }
-{
-    if scrolls {
-        b""
-    } else {
-        b"pre > [id^=L] { content-visibility: auto; contain-intrinsic-height: auto 1lh; }\n"
-    }
-}
-
 /// Writes the rules of lines, where there are lines.
-fn put_lines<W: Sink>(output: &mut Output<W>, has_lines: bool, scrolls: bool, scheme: Scheme)
-    ensures { Adds W.Sink (page_lines has_lines scrolls scheme) output.old output.new }
+fn put_lines<W: Sink>(output: &mut Output<W>, has_lines: bool, scheme: Scheme)
+    ensures { Adds W.Sink (page_lines has_lines scheme) output.old output.new }
 {
     if has_lines {
         put_line_rules(output, scheme);
-        output.put(sight_rule(scrolls));
     }
 }
 
-/// How long lines of the text are drawn.
-fn text_rule(scrolls: bool) -> &'static [u8]
-    ensures { result.now ≡ text_rule scrolls }
+/// How long lines of the text are drawn, and blocks of lines: those out of sight are not laid out.
+fn text_rules(scrolls: bool) -> &'static [u8]
+    ensures { result.now ≡ text_rules scrolls }
 {
     if scrolls {
-        b"pre { white-space: pre; }\n"
+        br#"pre { white-space: pre; }
+pre > [data-lines] { display: block; width: max-content; min-width: 100%; content-visibility: auto; contain-intrinsic-height: auto 500lh; }
+"#
     } else {
-        b"pre { white-space: pre-wrap; overflow-wrap: anywhere; }\n"
+        br#"pre { white-space: pre-wrap; overflow-wrap: anywhere; }
+pre > [data-lines] { display: block; content-visibility: auto; contain-intrinsic-height: auto 500lh; }
+"#
     }
 }
 
@@ -193,8 +191,8 @@ fn put_style<W: Sink>(output: &mut Output<W>, styling: Styling, scheme: Scheme, 
     output.put(BEFORE_RULES);
     output.put(colors(scheme));
     put_rules(output, styling, scheme);
-    put_lines(output, said.has_lines, said.scrolls, scheme);
-    output.put(text_rule(said.scrolls));
+    put_lines(output, said.has_lines, scheme);
+    output.put(text_rules(said.scrolls));
     output.put(AFTER_RULES);
 }
 
@@ -218,6 +216,20 @@ fn put_looks<W: Sink>(output: &mut Output<W>, styling: Styling, scheme: Scheme, 
     }
 }
 
+/// Whether the text of a page wraps by a class: where it has no rules, and does not scroll.
+fn wraps_by_class(said: Said<'_>) -> bool
+    ensures { result ≡ wraps_by_class said.entry }
+{
+    said.stylesheet.is_some() && !said.scrolls
+}
+
+/// The end of the head, to the text.
+fn before_text(wraps: bool) -> &'static [u8]
+    ensures { result.now ≡ before_text wraps }
+{
+    if wraps { BEFORE_WRAPPED } else { BEFORE_TEXT }
+}
+
 /// Writes the page as far as its text.
 fn put_head<W: Sink>(output: &mut Output<W>, styling: Styling, scheme: Scheme, said: Said<'_>)
     ensures { Adds W.Sink (page_head styling scheme said.entry) output.old output.new }
@@ -228,7 +240,7 @@ fn put_head<W: Sink>(output: &mut Output<W>, styling: Styling, scheme: Scheme, s
     put_text(output, said.title);
     output.put(AFTER_TITLE);
     put_looks(output, styling, scheme, said);
-    output.put(BEFORE_TEXT);
+    output.put(before_text(wraps_by_class(said)));
 }
 
 impl Form {
@@ -267,15 +279,22 @@ impl Form {
     }
 }
 
-/// Writes the rules of the classes and of lines.
+/// The rules of a page that has none of its own.
+const LINKED_RULES: &[u8] = br#".ansi-wrap { white-space: pre-wrap; overflow-wrap: anywhere; }
+[data-lines] { display: block; width: max-content; min-width: 100%; content-visibility: auto; contain-intrinsic-height: auto 500lh; }
+.ansi-wrap > [data-lines] { width: auto; }
+"#;
+
+/// Writes the rules of the classes, of lines, and of pages without rules.
 fn put_site_rules<W: Sink>(output: &mut Output<W>, scheme: Scheme)
     ensures { Adds W.Sink (site_rules scheme) output.old output.new }
 {
     put_stylesheet(output, scheme);
     put_line_rules(output, scheme);
+    output.put(LINKED_RULES);
 }
 
-/// Writes the stylesheet for pages of the scheme: the rules of the classes and of lines. The writer is handed back,
+/// Writes the stylesheet for pages of the scheme: the rules of the classes, of lines, and of pages by `--css`. The writer is handed back,
 /// flushed; the answer is that of a write or of the flush that failed.
 pub fn write_stylesheet<W: Sink>(scheme: Scheme, writer: W) -> (W, Result<(), Fault>)
     ensures written { Writes (site_rules scheme) (W.contents writer) (W.contents result.0) result.1 }

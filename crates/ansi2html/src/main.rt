@@ -1,5 +1,5 @@
 //! Writes the text of files, or of standard input, or what a screen showed of each, as HTML, in its colours: a
-//! fragment, or a whole page.
+//! whole page, or a fragment.
 #![tactic(auto)]
 
 mod form;
@@ -12,14 +12,14 @@ use command_line::{
     value_of, wrong_size,
 };
 use each_source::{Stopped, write_each};
-use form::{Said, write_stylesheet};
+use form::{Form, Said, write_stylesheet};
 use screen_text::{SHOWN, screen_size};
 use std::process::ExitCode;
-use streams::{Converting, ConvertingUrls, Lining, LiningUrls, Showing};
+use streams::{Blocking, BlockingUrls, Converting, ConvertingUrls, Lining, LiningUrls, Showing};
 use words::{
-    HELP, NO_FILES, NO_LANGUAGE, NOT_SHOWN, ONE_FILE, OPTIONS, URLS_NOT_SHOWN, asks_for_lines,
-    asks_for_stylesheet, asks_for_urls, asks_to_scroll, form, language, scheme, stylesheet_address,
-    styling, title,
+    HELP, NO_FILES, NO_LANGUAGE, NOT_OF_A_PAGE, NOT_SHOWN, ONE_FILE, OPTIONS, URLS_NOT_SHOWN,
+    asks_for_lines, asks_for_stylesheet, asks_for_urls, asks_to_scroll, form, language,
+    says_of_a_page, scheme, stylesheet_address, styling, title,
 };
 
 /// The name at the front of what the program says of failures.
@@ -57,6 +57,9 @@ fn main(rt: HostRuntime) -> ExitCode {
     }
     let styling = styling(options, scheme);
     let form = form(options);
+    if form == Form::Fragment && says_of_a_page(options) {
+        return misused(&rt, NOT_OF_A_PAGE);
+    }
     let Some(language) = language(options) else {
         return misused(&rt, NO_LANGUAGE);
     };
@@ -79,17 +82,36 @@ fn main(rt: HostRuntime) -> ExitCode {
         Err(status) => return status,
     };
     let (readers, output) = (inputs.as_mut_slice(), buffered(output));
-    let ran = match size {
-        None if has_lines && has_urls => {
-            write_each(&LiningUrls { styling }, head, readers, output, tail)
-        }
-        None if has_urls => write_each(&ConvertingUrls { styling }, head, readers, output, tail),
-        None if has_lines => write_each(&Lining { styling }, head, readers, output, tail),
-        None => write_each(&Converting { styling }, head, readers, output, tail),
-        Some(size) => {
+    let has_numbers = has_lines;
+    let ran = match (size, form) {
+        (Some(size), _) => {
             let showing = Showing::new(rt.alloc(), size, styling);
             write_each(&showing, head, readers, output, tail)
         }
+        (None, Form::Page) if has_urls => {
+            let blocking = BlockingUrls {
+                styling,
+                has_numbers,
+            };
+            write_each(&blocking, head, readers, output, tail)
+        }
+        (None, Form::Page) => {
+            let blocking = Blocking {
+                styling,
+                has_numbers,
+            };
+            write_each(&blocking, head, readers, output, tail)
+        }
+        (None, Form::Fragment) if has_lines && has_urls => {
+            write_each(&LiningUrls { styling }, head, readers, output, tail)
+        }
+        (None, Form::Fragment) if has_urls => {
+            write_each(&ConvertingUrls { styling }, head, readers, output, tail)
+        }
+        (None, Form::Fragment) if has_lines => {
+            write_each(&Lining { styling }, head, readers, output, tail)
+        }
+        (None, Form::Fragment) => write_each(&Converting { styling }, head, readers, output, tail),
     };
     target.ended(have_failed(inputs.as_slice()), ran)
 }

@@ -3,12 +3,13 @@ ghost use Rattle.std.specs.Prelude.{◌≡◌, List, IfOk, IfErr};
 ghost use Rattle.anstyle_parse.specs.Stream.Call.{Call};
 ghost use Rattle.ansi_html.specs.Html.{html_text, html_ending};
 ghost use Rattle.ansi_html.specs.Lines.{lined_text, lined_ending};
-ghost use Rattle.html_urls.specs.Html.{urls_text, urls_ending, lined_urls_text, lined_urls_ending};
+ghost use Rattle.ansi_html.specs.Blocks.{blocked_text, blocked_ending};
+ghost use Rattle.html_urls.specs.Html.{urls_text, urls_ending, lined_urls_text, lined_urls_ending, blocked_urls_text, blocked_urls_ending};
 ghost use Rattle.ansi_screen.specs.Size.{IsTaken};
 ghost use Rattle.screen_html.specs.Shown.{left_html, ending_html};
 ghost use Rattle.ansi2html.specs.Sizes.{screen_of};
 
-use ansi_html::{HtmlWriter, LinesWriter, Styling};
+use ansi_html::{BlocksWriter, HtmlWriter, LinesWriter, Styling};
 use ansi_screen::{Screen, Size};
 use anstyle_parse::io::{Output, Sink};
 use each_source::Begin;
@@ -120,6 +121,64 @@ impl<W: Sink> Begin<Linking<LinesWriter<W>>, W> for LiningUrls {
         ensures kept { IfErr result (λ kept. kept ≡ output) }
     {
         Ok(Linking::new(LinesWriter::new(self.styling, output)))
+    }
+}
+
+/// Each stream is written in blocks of lines, with numbers or without, with its styles said in this way.
+#[derive(Debug, Clone, Copy, PartialEq, Eq)]
+pub struct Blocking {
+    pub styling: Styling,
+    pub has_numbers: bool,
+}
+
+impl<W: Sink> Begin<BlocksWriter<W>, W> for Blocking {
+    ghost use Rattle.ansi_html.specs.Blocker.{output_of, text_from, ending_from};
+    ghost use Rattle.ansi2html.specs.Streams.{blocked_as, has_numbers};
+
+    ghost text = { λ blocking. blocked_text (has_numbers blocking) (blocked_as blocking) };
+
+    ghost ending = { λ blocking. blocked_ending (has_numbers blocking) };
+
+    fn begin(&self, output: Output<W>) -> Result<BlocksWriter<W>, Output<W>>
+        ensures output { IfOk result (λ performer. output_of performer ≡ output) }
+        ensures text { IfOk result (λ performer. (calls : List Call)
+            → text_from performer calls ≡ blocked_text (has_numbers self.now) (blocked_as self.now) calls) }
+        ensures ending { IfOk result (λ performer. (calls : List Call)
+            → ending_from performer calls ≡ blocked_ending (has_numbers self.now) calls) }
+        ensures kept { IfErr result (λ kept. kept ≡ output) }
+    {
+        Ok(BlocksWriter::new(self.styling, self.has_numbers, output))
+    }
+}
+
+/// The same, with the addresses in its text as links.
+#[derive(Debug, Clone, Copy, PartialEq, Eq)]
+pub struct BlockingUrls {
+    pub styling: Styling,
+    pub has_numbers: bool,
+}
+
+impl<W: Sink> Begin<Linking<BlocksWriter<W>>, W> for BlockingUrls {
+    ghost use Rattle.ansi_html.specs.Blocker.{output_of};
+    ghost use Rattle.html_urls.specs.Linker.{performer_in};
+    ghost use Rattle.ansi2html.specs.Streams.{urls_blocked_as, urls_have_numbers, blocks_with_urls, blocks_ending_with_urls};
+
+    ghost text = { λ blocking. blocked_urls_text (urls_have_numbers blocking) (urls_blocked_as blocking) };
+
+    ghost ending = { λ blocking. blocked_urls_ending (urls_have_numbers blocking) (urls_blocked_as blocking) };
+
+    fn begin(&self, output: Output<W>) -> Result<Linking<BlocksWriter<W>>, Output<W>>
+        ensures output { IfOk result (λ performer. output_of (performer_in performer) ≡ output) }
+        ensures text { IfOk result (λ performer. (calls : List Call)
+            → blocks_with_urls performer calls
+            ≡ blocked_urls_text (urls_have_numbers self.now) (urls_blocked_as self.now) calls) }
+        ensures ending { IfOk result (λ performer. (calls : List Call)
+            → blocks_ending_with_urls performer calls
+            ≡ blocked_urls_ending (urls_have_numbers self.now) (urls_blocked_as self.now) calls) }
+        ensures kept { IfErr result (λ kept. kept ≡ output) }
+    {
+        let blocks = BlocksWriter::new(self.styling, self.has_numbers, output);
+        Ok(Linking::new(blocks))
     }
 }
 

@@ -2,7 +2,7 @@
 ghost use Rattle.std.specs.Prelude.{◌≡◌, codes, map, string_bytes, option_copied, unwrap_or};
 ghost use Rattle.std.specs.List.{list_all};
 ghost use Rattle.command_line.specs.Options.{last_value};
-ghost use Rattle.ansi2html.specs.Words.{asks_for_page, form_of, scheme_after, scheme_of, styling_of, asks_for_stylesheet, default_title, is_tag_byte, is_tag, language_of, asks_for_lines, asks_to_scroll, asks_for_urls};
+ghost use Rattle.ansi2html.specs.Words.{form_after, form_of, is_of_a_page, says_of_a_page, scheme_after, scheme_of, styling_of, asks_for_stylesheet, default_title, is_tag_byte, is_tag, language_of, asks_for_lines, asks_to_scroll, asks_for_urls};
 
 use crate::form::{Form, LANGUAGE, TITLE};
 use ansi_html::{Scheme, Styling};
@@ -13,6 +13,7 @@ use screen_text::SHOWN;
 pub const OPTIONS: &[&str] = &[
     "--page",
     "page",
+    "--fragment",
     TITLED,
     STYLED_BY,
     IN_LANGUAGE,
@@ -44,6 +45,10 @@ const MOST_OF_A_TAG: usize = 64;
 pub const NO_LANGUAGE: &str =
     "ansi2html: a language is a tag of letters, digits and hyphens, as en or pt-BR, 64 at most (see ansi2html --help)";
 
+/// What is said where a fragment is asked for, and something that only a page has.
+pub const NOT_OF_A_PAGE: &str =
+    "ansi2html: --fragment is not taken with --title, --css, --lang or --scroll (see ansi2html --help)";
+
 /// What is said where files are named beside `--stylesheet`.
 pub const NO_FILES: &str = "ansi2html: --stylesheet reads no file (see ansi2html --help)";
 
@@ -60,18 +65,22 @@ pub const URLS_NOT_SHOWN: &str =
 
 /// What `--help` says.
 pub const HELP: &str = "\
-usage: ansi2html [--page] [--title=TEXT] [--css=ADDRESS] [--lang=TAG]
-                 [--light | --dark] [--classes] [--lines] [--scroll] [--urls]
+usage: ansi2html [--title=TEXT] [--css=ADDRESS] [--lang=TAG] [--scroll]
+                 [--light | --dark] [--classes] [--lines] [--urls]
+                 [--shown | --shown=COLUMNSxROWS] [-o FILE] [FILE]..
+       ansi2html --fragment [--light | --dark] [--classes] [--lines] [--urls]
                  [--shown | --shown=COLUMNSxROWS] [-o FILE] [FILE]..
        ansi2html --stylesheet [--light | --dark] [-o FILE]
 
-Writes the text of files as HTML, in its colours: a fragment, to be put into a <pre>
-of a page in UTF-8, or a whole page. Input is UTF-8. Each file is a stream of its own.
+Writes the text of files as a web page, in its colours, or as a fragment, to be put into
+a <pre> of another page in UTF-8. Input is UTF-8. Each file is a stream of its own.
 With no FILE, or for -, standard input is read. Words behind -- name files, whatever
 they begin with. A value may also be the next word, as in --title TEXT.
 
-  --page                  write a whole page, light or dark as its reader has it;
-                          so does the word page (a file of that name is ./page)
+  --page                  write a whole page, light or dark as its reader has it:
+                          what is written without this too, unless --fragment stands
+                          before; so does the word page (a file of that name is ./page)
+  --fragment              write the text alone, for a <pre> and a newline of another page
   --title=TEXT            write a whole page with this title
   --css=ADDRESS           write a whole page with no rules of its own, but the
                           stylesheet at this address
@@ -87,7 +96,8 @@ they begin with. A value may also be the next word, as in --title TEXT.
   --scroll                long lines are not wrapped: the page scrolls
   --urls                  addresses in the text that begin with https://, http:// or
                           mailto: are links too. Not with --shown
-  --stylesheet            write the stylesheet of classes and lines, and read nothing
+  --stylesheet            write the stylesheet of classes, lines and pages by --css, and
+                          read nothing
   --shown                 write what a terminal of 80x24 showed instead: the lines
                           that scrolled off, and what stands there at the end;
                           of its links the last 1,024 that began are kept
@@ -99,32 +109,51 @@ they begin with. A value may also be the next word, as in --title TEXT.
 
 Examples, a log as a page, a listing, a log whose lines can be linked to, and a build with
 its progress bars as they ended:
-  ansi2html --page -o log.html log
+  ansi2html -o log.html log
   ls --color=always | ansi2html --title 'My files' > listing.html
-  ansi2html --page --lines -o build.html build.log
-  ansi2html --page --shown recording > build.html
+  ansi2html --lines -o build.html build.log
+  ansi2html --shown recording > build.html
 ";
 
-/// The form that the words ask for: a page by `--page`, `page` or what is said of a page, and else a fragment.
+/// The form that the words ask for: that of the last of `--page`, or `page`, and `--fragment`, and else a page.
 pub fn form(words: &[String]) -> Form
     ensures { result ≡ form_of (map string_bytes words.now) }
 {
-    if words.iter().any(|word| asks_for_page(word.as_str())) {
+    let mut form = Form::Page;
+    for word in words {
+        form = form_after(form, word.as_str());
+    }
+    form
+}
+
+/// The same after one word more.
+fn form_after(form: Form, word: &str) -> Form
+    ensures { result ≡ form_after form word.now }
+{
+    if word == "--fragment" {
+        Form::Fragment
+    } else if word == "--page" || word == "page" {
         Form::Page
     } else {
-        Form::Fragment
+        form
     }
 }
 
-/// Whether a word asks for a page.
-fn asks_for_page(word: &str) -> bool
-    ensures { result ≡ asks_for_page word.now }
+/// Whether the words say something that only a page has.
+pub fn says_of_a_page(words: &[String]) -> bool
+    ensures { result ≡ says_of_a_page (map string_bytes words.now) }
 {
-    word == "--page"
-        || word == "page"
-        || word.starts_with(TITLED)
+    words.iter().any(|word| is_of_a_page(word.as_str()))
+}
+
+/// Whether a word does.
+fn is_of_a_page(word: &str) -> bool
+    ensures { result ≡ is_of_a_page word.now }
+{
+    word.starts_with(TITLED)
         || word.starts_with(STYLED_BY)
         || word.starts_with(IN_LANGUAGE)
+        || word == "--scroll"
 }
 
 /// The pages that the colours are for: by the last of `--light` and `--dark`, and else both.

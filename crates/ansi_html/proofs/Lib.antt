@@ -36,3 +36,7 @@ pub mod LinerLemmas
 pub mod LineTagLemmas
 pub mod LineLemmas
 pub mod NumberLemmas
+pub mod InsideLemmas
+pub mod BlockLemmas
+pub mod BlockerLemmas
+pub mod PartLemmas

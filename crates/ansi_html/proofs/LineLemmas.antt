@@ -1,5 +1,5 @@
 -- HTML in lines: a reader sees what it sees of the HTML without them; it has no 0D, and is UTF-8.
-use Rattle.std.proofs.Common.{◌≡◌, ℕ, Bool, true, false, List, [], ◌∷◌, ◌++◌, codes, map, refl, sym, ap, ap₂, ◌∙◌, append_assoc}
+use Rattle.std.proofs.Common.{◌≡◌, ℕ, Bool, true, false, List, [], ◌∷◌, ◌++◌, codes, map, refl, sym, ap, ap₂, ◌∙◌, append_assoc, append-nil}
 use Rattle.std.specs.Prelude.{if◌then◌else◌}
 use Rattle.std.specs.List.{flat_map}
 use Rattle.std.specs.Str.{IsUtf8}
@@ -7,11 +7,11 @@ use Rattle.std.proofs.lemmas.Bool.{eqb-true}
 use Rattle.std.proofs.lemmas.Str.{IsUtf8-append, IsUtf8-nil}
 use Rattle.anstyle_parse.specs.Stream.Call.{Call, print, execute, hook, put, unhook, osc_dispatch, csi_dispatch, esc_dispatch}
 use Rattle.ansi_strip.specs.Strip.{stripped_call, stripped}
-use Rattle.ansi_strip.proofs.Showable.{AreShowable}
+use Rattle.ansi_strip.proofs.Showable.{IsShowable, AreShowable}
 use Rattle.ansi_html.specs.declared.scheme.Styling.{Styling}
 use Rattle.ansi_html.specs.Html.{Element, no_element, element_end, Standing, after_text, is_executed, call_html, standing_after, html}
-use Rattle.ansi_html.specs.Lines.{line_begin, line_end, next_number, Lined, lined, lined_at_start, line_opening, line_closing, ended, lined_call, lined_after, lined_from, lined_at_end, lined_end, lined_html}
-use Rattle.ansi_html.specs.Reader.{Attributes, no_attributes, in_force, Seen, seen_from, seen, in_text, read_of, read, byte_of, shown_from}
+use Rattle.ansi_html.specs.Lines.{line_begin, line_end, next_number, Lined, lined, text_number, lined_at_start, line_opening, line_closing, ended, lined_call, lined_after, lined_from, lined_at_end, lined_end, lined_html}
+use Rattle.ansi_html.specs.Reader.{Attributes, no_attributes, in_force, within, Seen, seen_from, seen, in_text, read_of, read, byte_of, shown_from}
 use Rattle.ansi_html.proofs.ColorLemmas.{choose}
 use Rattle.ansi_html.proofs.NewlineLemmas.{is_not_return, HasNoReturn, HasNoReturn-append, HasNoReturn-text, HasNoReturn-end, normalized-same}
 use Rattle.ansi_html.proofs.TextLemmas.{IsUtf8-text_html, IsUtf8-stripped, IsUtf8-end, IsUtf8-ascii}
@@ -20,12 +20,20 @@ use Rattle.ansi_html.proofs.ReadLemmas.{seen_text, seen_calls, open_in, open-non
 use Rattle.ansi_html.proofs.LineTagLemmas.{in_line, seen-line_begin, HasNoReturn-line_begin, IsUtf8-line_begin}
 
 -- the elements around the text of a stream, where a line is open and where none is
-abbrev pub around_text : (is_open : Bool) → List Attributes
-around_text is_open = if is_open then in_line else []
+abbrev pub around_text : (outer : List Attributes) → (is_open : Bool) → List Attributes
+around_text outer is_open = if is_open then in_line outer else outer
 
-pub outermost : (is_open : Bool) → in_force (around_text is_open) ≡ no_attributes
-outermost true = refl
-outermost false = refl
+pub outermost : (outer : List Attributes) → in_force outer ≡ no_attributes → (is_open : Bool) → in_force (around_text outer is_open) ≡ no_attributes
+outermost outer nothing true = ap (λ (it : Attributes). within it no_attributes) nothing
+outermost outer nothing false = nothing
+
+-- where a line feed leads, and other calls
+abbrev after_feed : Call → Lined → Lined
+after_feed call it = lined (ended (standing_after call it.at)) (text_number it) false
+
+abbrev after_others : Call → Lined → Lined
+after_others call it =
+    lined (standing_after call it.at) (after_text it.number (text_number it) (stripped_call call)) (after_text it.is_open true (stripped_call call))
 
 -- what is seen of calls does not depend on the element of the text before them
 seen_text-ended : (styling : Styling) (shown : Element) (at : Standing) (is_line_feed : Bool) (bytes : List ℕ)
@@ -33,7 +41,7 @@ seen_text-ended : (styling : Styling) (shown : Element) (at : Standing) (is_line
 seen_text-ended styling shown at is_line_feed [] = refl
 seen_text-ended styling shown at is_line_feed (b ∷ bytes) = refl
 
-seen_calls-ended : (styling : Styling) (shown : Element) (at : Standing) (calls : List Call)
+pub seen_calls-ended : (styling : Styling) (shown : Element) (at : Standing) (calls : List Call)
     → seen_calls styling (record { shown = shown; selected = at.selected; returned = at.returned }) calls ≡ seen_calls styling at calls
 seen_calls-ended styling shown at [] = refl
 seen_calls-ended styling shown at (call ∷ calls) =
@@ -56,12 +64,13 @@ feed-text (esc_dispatch is ig f) e = absurd (cc e)
 abbrev pub IsClosed : Lined → Type 0
 IsClosed it = it.is_open ≡ false → it.at.shown ≡ no_element
 
-module _ (styling : Styling) where
+-- within elements that say nothing
+module _ (styling : Styling) (outer : List Attributes) where
   -- where a reader is between two calls
-  abbrev there : Lined → List Attributes
-  there it = open_in (around_text it.is_open) styling it.at.shown
+  abbrev pub there : Lined → List Attributes
+  there it = open_in (around_text outer it.is_open) styling it.at.shown
 
-  abbrev seen_at : Lined → List ℕ → List Seen
+  abbrev pub seen_at : Lined → List ℕ → List Seen
   seen_at it bytes = seen_from (in_text (there it)) bytes
 
   -- A line begins before text.
@@ -69,52 +78,73 @@ module _ (styling : Styling) where
   open_of it bytes = after_text it.is_open true bytes
 
   seen-opening : (it : Lined) (bytes rest : List ℕ) → IsClosed it
-      → seen_at it (line_opening it bytes ++ rest) ≡ seen_from (in_text (open_in (around_text (open_of it bytes)) styling it.at.shown)) rest
+      → seen_at it (line_opening it bytes ++ rest) ≡ seen_from (in_text (open_in (around_text outer (open_of it bytes)) styling it.at.shown)) rest
   seen-opening it [] rest closed = refl
   seen-opening it (b ∷ bytes) rest closed = by_case it.is_open closed
     where
       by_case : (is_open : Bool) → (is_open ≡ false → it.at.shown ≡ no_element)
-          → seen_from (in_text (open_in (around_text is_open) styling it.at.shown)) ((if is_open then [] else line_begin (next_number it.number)) ++ rest)
-          ≡ seen_from (in_text (open_in in_line styling it.at.shown)) rest
+          → seen_from (in_text (open_in (around_text outer is_open) styling it.at.shown)) ((if is_open then [] else line_begin (next_number it.number)) ++ rest)
+          ≡ seen_from (in_text (open_in (in_line outer) styling it.at.shown)) rest
       by_case true none = refl
       by_case false none =
-          ap (λ shown. seen_from (in_text (open_in [] styling shown)) (line_begin (next_number it.number) ++ rest)) (none refl)
-          ∙ ap (λ opened. seen_from (in_text opened) (line_begin (next_number it.number) ++ rest)) (open-none styling [])
-          ∙ seen-line_begin (next_number it.number) rest
-          ∙ ap (λ opened. seen_from (in_text opened) rest) (sym (open-none styling in_line) ∙ ap (λ shown. open_in in_line styling shown) (sym (none refl)))
+          ap (λ shown. seen_from (in_text (open_in outer styling shown)) (line_begin (next_number it.number) ++ rest)) (none refl)
+          ∙ ap (λ opened. seen_from (in_text opened) (line_begin (next_number it.number) ++ rest)) (open-none styling outer)
+          ∙ seen-line_begin outer (next_number it.number) rest
+          ∙ ap (λ opened. seen_from (in_text opened) rest) (sym (open-none styling (in_line outer)) ∙ ap (λ shown. open_in (in_line outer) styling shown) (sym (none refl)))
 
   -- A line ends after its line feed.
   module _ (call : Call) (it : Lined) (rest : List ℕ) where
-    abbrev number_after : ℕ
-    number_after = if it.is_open then it.number else next_number it.number
-
-    abbrev after_feed : Lined
-    after_feed = lined (ended (standing_after call it.at)) number_after false
-
-    abbrev after_others : Lined
-    after_others =
-        lined (standing_after call it.at) (after_text it.number number_after (stripped_call call)) (after_text it.is_open true (stripped_call call))
-
     abbrev text_place : List ℕ → List Attributes
-    text_place bytes = open_in (around_text (open_of it bytes)) styling (after_text it.at.shown it.at.selected bytes)
+    text_place bytes = open_in (around_text outer (open_of it bytes)) styling (after_text it.at.shown it.at.selected bytes)
 
-    closed_after : seen_from (in_text (open_in in_line styling it.at.selected)) ((element_end it.at.selected ++ line_end) ++ rest)
-        ≡ seen_from (in_text (open_in [] styling no_element)) rest
+    closed_after : seen_from (in_text (open_in (in_line outer) styling it.at.selected)) ((element_end it.at.selected ++ line_end) ++ rest)
+        ≡ seen_from (in_text (open_in outer styling no_element)) rest
     closed_after =
-        ap (seen_from (in_text (open_in in_line styling it.at.selected))) (append_assoc (element_end it.at.selected) line_end rest)
-        ∙ seen-element_end in_line (line_end ++ rest) styling it.at.selected
-        ∙ ap (λ opened. seen_from (in_text opened) rest) (sym (open-none styling []))
+        ap (seen_from (in_text (open_in (in_line outer) styling it.at.selected))) (append_assoc (element_end it.at.selected) line_end rest)
+        ∙ seen-element_end (in_line outer) (line_end ++ rest) styling it.at.selected
+        ∙ ap (λ opened. seen_from (in_text opened) rest) (sym (open-none styling outer))
 
     seen-closing : seen_from (in_text (text_place (stripped_call call))) (line_closing it (is_executed 0x0A call) ++ rest) ≡ seen_at (lined_after call it) rest
     seen-closing = by_case (is_executed 0x0A call) refl
       where
         by_case : (feed : Bool) → is_executed 0x0A call ≡ feed
             → seen_from (in_text (text_place (stripped_call call))) ((if feed then element_end it.at.selected ++ line_end else []) ++ rest)
-            ≡ seen_at (if feed then after_feed else after_others) rest
+            ≡ seen_at (if feed then after_feed call it else after_others call it) rest
         by_case true is =
             ap (λ bytes. seen_from (in_text (text_place bytes)) ((element_end it.at.selected ++ line_end) ++ rest)) (feed-text call is) ∙ closed_after
         by_case false is = refl
 
+  -- What is seen of a call is its text.
+  pub seen-lined_call : in_force outer ≡ no_attributes → (it : Lined) (call : Call) (rest : List ℕ) → IsClosed it
+      → seen_at it (lined_call styling it call ++ rest)
+      ≡ seen_text styling it.at (is_executed 0x0A call) (stripped_call call) ++ seen_at (lined_after call it) rest
+  seen-lined_call nothing it call rest closed =
+      let bytes = stripped_call call in
+      let feed = is_executed 0x0A call in
+      let opening = line_opening it bytes in
+      let text = call_html styling it.at call in
+      let closing = line_closing it feed in
+      let is_open = open_of it bytes in
+      ap (seen_at it) (append_assoc opening (text ++ closing) rest ∙ ap (λ l. opening ++ l) (append_assoc text closing rest))
+      ∙ seen-opening it bytes (text ++ (closing ++ rest)) closed
+      ∙ seen-text styling (around_text outer is_open) (outermost outer nothing is_open) it.at feed bytes (closing ++ rest)
+      ∙ ap (λ l. seen_text styling it.at feed bytes ++ l) (seen-closing call it rest)
+
+  -- at the end of all text
+  pub seen-lined_end : (it : Lined) (rest : List ℕ) → seen_at it (lined_end it ++ rest) ≡ seen_from (in_text outer) rest
+  seen-lined_end it rest = by_case it.is_open
+    where
+      by_case : (is_open : Bool)
+          → seen_from (in_text (open_in (around_text outer is_open) styling it.at.shown)) ((element_end it.at.shown ++ (if is_open then line_end else [])) ++ rest)
+          ≡ seen_from (in_text outer) rest
+      by_case true =
+          ap (seen_from (in_text (open_in (in_line outer) styling it.at.shown))) (append_assoc (element_end it.at.shown) line_end rest)
+          ∙ seen-element_end (in_line outer) (line_end ++ rest) styling it.at.shown
+      by_case false =
+          ap (seen_from (in_text (open_in outer styling it.at.shown))) (append_assoc (element_end it.at.shown) [] rest)
+          ∙ seen-element_end outer rest styling it.at.shown
+
+module _ (styling : Styling) where
   closed-text : (it : Lined) (bytes : List ℕ) → IsClosed it → after_text it.is_open true bytes ≡ false → after_text it.at.shown it.at.selected bytes ≡ no_element
   closed-text it [] closed none = closed none
   closed-text it (b ∷ bytes) closed none = absurd (cc none)
@@ -122,45 +152,28 @@ module _ (styling : Styling) where
   pub closed-after : (call : Call) (it : Lined) → IsClosed it → IsClosed (lined_after call it)
   closed-after call it closed = by_case (is_executed 0x0A call)
     where
-      by_case : (feed : Bool) → IsClosed (if feed then after_feed call it [] else after_others call it [])
+      by_case : (feed : Bool) → IsClosed (if feed then after_feed call it else after_others call it)
       by_case true = λ none. refl
       by_case false = λ none. closed-text it (stripped_call call) closed none
 
-  seen_calls-after : (call : Call) (it : Lined) (calls : List Call)
+  pub seen_calls-after : (call : Call) (it : Lined) (calls : List Call)
       → seen_calls styling (lined_after call it).at calls ≡ seen_calls styling (standing_after call it.at) calls
   seen_calls-after call it calls = by_case (is_executed 0x0A call)
     where
-      by_case : (feed : Bool) → seen_calls styling (if feed then after_feed call it [] else after_others call it []).at calls ≡ seen_calls styling (standing_after call it.at) calls
+      by_case : (feed : Bool) → seen_calls styling (if feed then after_feed call it else after_others call it).at calls ≡ seen_calls styling (standing_after call it.at) calls
       by_case true = seen_calls-ended styling no_element (standing_after call it.at) calls
       by_case false = refl
 
-  -- at the end of all text
-  seen-lined_end : (it : Lined) → seen_at it (lined_end it) ≡ []
-  seen-lined_end it = by_case it.is_open
-    where
-      by_case : (is_open : Bool)
-          → seen_from (in_text (open_in (around_text is_open) styling it.at.shown)) (element_end it.at.shown ++ (if is_open then line_end else [])) ≡ []
-      by_case true = seen-element_end in_line line_end styling it.at.shown
-      by_case false = seen-element_end [] [] styling it.at.shown
-
   seen-lined : (it : Lined) (calls : List Call) → IsClosed it
-      → seen_at it (lined_from styling it calls ++ lined_end (lined_at_end it calls)) ≡ seen_calls styling it.at calls
-  seen-lined it [] closed = seen-lined_end it
+      → seen_at styling [] it (lined_from styling it calls ++ lined_end (lined_at_end it calls)) ≡ seen_calls styling it.at calls
+  seen-lined it [] closed = ap (seen_at styling [] it) (sym (append-nil (lined_end it))) ∙ seen-lined_end styling [] it []
   seen-lined it (call ∷ calls) closed =
-      let bytes = stripped_call call in
-      let feed = is_executed 0x0A call in
       let after = lined_after call it in
-      let opening = line_opening it bytes in
-      let text = call_html styling it.at call in
-      let closing = line_closing it feed in
       let rest = lined_from styling after calls ++ lined_end (lined_at_end after calls) in
-      let is_open = open_of it bytes in
-      ap (seen_at it) (append_assoc (opening ++ (text ++ closing)) (lined_from styling after calls) (lined_end (lined_at_end after calls))
-      ∙ append_assoc opening (text ++ closing) rest ∙ ap (λ l. opening ++ l) (append_assoc text closing rest))
-      ∙ seen-opening it bytes (text ++ (closing ++ rest)) closed
-      ∙ seen-text styling (around_text is_open) (outermost is_open) it.at feed bytes (closing ++ rest)
-      ∙ ap (λ l. seen_text styling it.at feed bytes ++ l)
-      (seen-closing call it rest ∙ seen-lined after calls (closed-after call it closed) ∙ seen_calls-after call it calls)
+      ap (seen_at styling [] it) (append_assoc (lined_call styling it call) (lined_from styling after calls) (lined_end (lined_at_end after calls)))
+      ∙ seen-lined_call styling [] refl it call rest closed
+      ∙ ap (λ l. seen_text styling it.at (is_executed 0x0A call) (stripped_call call) ++ l)
+      (seen-lined after calls (closed-after call it closed) ∙ seen_calls-after call it calls)
 
   -- None of it is 0D.
   HasNoReturn-opening : (it : Lined) (bytes : List ℕ) → HasNoReturn (line_opening it bytes)
@@ -173,17 +186,20 @@ module _ (styling : Styling) where
       choose HasNoReturn feed (element_end it.at.selected ++ line_end) []
       (HasNoReturn-append (element_end it.at.selected) line_end (HasNoReturn-end it.at.selected) refl) refl
 
+  pub HasNoReturn-lined_call : (it : Lined) (call : Call) → HasNoReturn (lined_call styling it call)
+  HasNoReturn-lined_call it call =
+      let bytes = stripped_call call in
+      let feed = is_executed 0x0A call in
+      HasNoReturn-append (line_opening it bytes) (call_html styling it.at call ++ line_closing it feed) (HasNoReturn-opening it bytes)
+      (HasNoReturn-append (call_html styling it.at call) (line_closing it feed) (HasNoReturn-text styling it.at feed bytes) (HasNoReturn-closing it feed))
+
   HasNoReturn-lined : (it : Lined) (calls : List Call) → HasNoReturn (lined_from styling it calls)
   HasNoReturn-lined it [] = refl
   HasNoReturn-lined it (call ∷ calls) =
-      let bytes = stripped_call call in
-      let feed = is_executed 0x0A call in
       HasNoReturn-append (lined_call styling it call) (lined_from styling (lined_after call it) calls)
-      (HasNoReturn-append (line_opening it bytes) (call_html styling it.at call ++ line_closing it feed) (HasNoReturn-opening it bytes)
-      (HasNoReturn-append (call_html styling it.at call) (line_closing it feed) (HasNoReturn-text styling it.at feed bytes) (HasNoReturn-closing it feed)))
-      (HasNoReturn-lined (lined_after call it) calls)
+      (HasNoReturn-lined_call it call) (HasNoReturn-lined (lined_after call it) calls)
 
-  HasNoReturn-lined_end : (it : Lined) → HasNoReturn (lined_end it)
+  pub HasNoReturn-lined_end : (it : Lined) → HasNoReturn (lined_end it)
   unfolding is_not_return
   HasNoReturn-lined_end it =
       HasNoReturn-append (element_end it.at.shown) (if it.is_open then line_end else []) (HasNoReturn-end it.at.shown) (choose HasNoReturn it.is_open line_end [] refl refl)
@@ -224,23 +240,29 @@ module _ (styling : Styling) where
       after : AreSound (standing_after call it.at)
       after = AreSound-after call it.at sound
 
-      by_case : (feed : Bool) → AreSound (if feed then after_feed call it [] else after_others call it []).at
+      by_case : (feed : Bool) → AreSound (if feed then after_feed call it else after_others call it).at
       by_case true = record { shown = IsSound-none; selected = after.selected }
       by_case false = after
+
+  pub IsUtf8-lined_call : (it : Lined) (call : Call) → AreSound it.at → IsShowable call → IsUtf8 (lined_call styling it call)
+  IsUtf8-lined_call it call sound is =
+      let bytes = stripped_call call in
+      let feed = is_executed 0x0A call in
+      IsUtf8-append (line_opening it bytes) (call_html styling it.at call ++ line_closing it feed) (IsUtf8-opening it bytes)
+      (IsUtf8-append (call_html styling it.at call) (line_closing it feed)
+      (IsUtf8-text_html styling it.at feed bytes sound (IsUtf8-stripped call is)) (IsUtf8-closing it feed))
 
   IsUtf8-lined : (it : Lined) (calls : List Call) → AreSound it.at → AreShowable calls → IsUtf8 (lined_from styling it calls)
   IsUtf8-lined it [] sound are = IsUtf8-nil
   IsUtf8-lined it (call ∷ calls) sound are =
-      let bytes = stripped_call call in
-      let feed = is_executed 0x0A call in
-      IsUtf8-append (lined_call styling it call) (lined_from styling (lined_after call it) calls)
-      (IsUtf8-append (line_opening it bytes) (call_html styling it.at call ++ line_closing it feed) (IsUtf8-opening it bytes)
-      (IsUtf8-append (call_html styling it.at call) (line_closing it feed)
-      (IsUtf8-text_html styling it.at feed bytes sound (IsUtf8-stripped call are.0)) (IsUtf8-closing it feed)))
+      IsUtf8-append (lined_call styling it call) (lined_from styling (lined_after call it) calls) (IsUtf8-lined_call it call sound are.0)
       (IsUtf8-lined (lined_after call it) calls (AreSound-lined call it sound) are.1)
+
+  pub IsUtf8-lined_end : (it : Lined) → IsUtf8 (lined_end it)
+  IsUtf8-lined_end it =
+      IsUtf8-append (element_end it.at.shown) (if it.is_open then line_end else []) (IsUtf8-end it.at.shown) (choose IsUtf8 it.is_open line_end [] IsUtf8-line_end IsUtf8-nil)
 
   pub IsUtf8-lined_html : (calls : List Call) → AreShowable calls → IsUtf8 (lined_html styling calls)
   IsUtf8-lined_html calls are =
       let last = lined_at_end lined_at_start calls in
-      IsUtf8-append (lined_from styling lined_at_start calls) (lined_end last) (IsUtf8-lined lined_at_start calls AreSound-start are)
-      (IsUtf8-append (element_end last.at.shown) (if last.is_open then line_end else []) (IsUtf8-end last.at.shown) (choose IsUtf8 last.is_open line_end [] IsUtf8-line_end IsUtf8-nil))
+      IsUtf8-append (lined_from styling lined_at_start calls) (lined_end last) (IsUtf8-lined lined_at_start calls AreSound-start are) (IsUtf8-lined_end last)

@@ -7,7 +7,7 @@ use Rattle.std.specs.Str.{IsUtf8}
 use Rattle.std.proofs.lemmas.Bool.{and_from}
 use Rattle.std.proofs.lemmas.Str.{IsUtf8-append}
 use Rattle.ansi_html.specs.Lines.{line_begin, line_end}
-use Rattle.ansi_html.specs.Reader.{Attributes, no_attributes, in_text, in_value, seen_from}
+use Rattle.ansi_html.specs.Reader.{Attributes, no_attributes, in_force, within, in_text, in_value, seen_from}
 use Rattle.ansi_html.proofs.DeclarationLemmas.{is_safe, AreSafe, safe_between}
 use Rattle.ansi_html.proofs.NewlineLemmas.{is_not_return, HasNoReturn, HasNoReturn-append, HasNoReturn-safe}
 use Rattle.ansi_html.proofs.TextLemmas.{IsUtf8-ascii, IsUtf8-safe}
@@ -36,9 +36,9 @@ pub AreSafe-decimal : (n : ℕ) → AreSafe (decimal n)
 unfolding digits
 AreSafe-decimal n = AreSafe-digits 64 n [] refl
 
--- the elements in which the text of a line stands: the line's own, which says nothing
-abbrev pub in_line : List Attributes
-in_line = no_attributes ∷ []
+-- the elements in which the text of a line stands: the line's own, which says nothing, and those around it
+abbrev pub in_line : (outer : List Attributes) → List Attributes
+in_line outer = within (in_force outer) no_attributes ∷ outer
 
 -- from the last value of the tag on, and from the link on
 abbrev from_number : ℕ → List ℕ
@@ -48,27 +48,28 @@ abbrev from_link : ℕ → List ℕ
 from_link number = codes "\"><a href=\"#L" ++ (decimal number ++ from_number number)
 
 -- The beginning of a line opens its element, and nothing is seen of it; its end ends it.
-module _ (number : ℕ) (rest : List ℕ) where
-  seen-number : seen_from (in_value in_line no_attributes (codes "href") (codes "#L" ++ decimal number)) (from_number number ++ rest) ≡ seen_from (in_text in_line) rest
+module _ (outer : List Attributes) (number : ℕ) (rest : List ℕ) where
+  seen-number : seen_from (in_value (in_line outer) no_attributes (codes "href") (codes "#L" ++ decimal number)) (from_number number ++ rest) ≡ seen_from (in_text (in_line outer)) rest
   seen-number =
       let linked : Attributes = record { style = []; classes = []; href = codes "#L" ++ decimal number } in
-      ap (λ l. seen_from (in_value in_line linked (codes "data-line") []) l) (append_assoc (decimal number) (codes "\"></a>") rest)
-      ∙ seen-value in_line linked (codes "data-line") [] (decimal number) (codes "\"></a>" ++ rest) (AreSafe-decimal number)
+      ap (λ l. seen_from (in_value (in_line outer) linked (codes "data-line") []) l) (append_assoc (decimal number) (codes "\"></a>") rest)
+      ∙ seen-value (in_line outer) linked (codes "data-line") [] (decimal number) (codes "\"></a>" ++ rest) (AreSafe-decimal number)
 
-  seen-line_link : seen_from (in_value [] no_attributes (codes "id") (codes "L" ++ decimal number)) (from_link number ++ rest) ≡ seen_from (in_text in_line) rest
+  seen-line_link : seen_from (in_value outer no_attributes (codes "id") (codes "L" ++ decimal number)) (from_link number ++ rest) ≡ seen_from (in_text (in_line outer)) rest
   seen-line_link =
-      ap (λ l. seen_from (in_value in_line no_attributes (codes "href") (codes "#L")) l) (append_assoc (decimal number) (from_number number) rest)
-      ∙ seen-value in_line no_attributes (codes "href") (codes "#L") (decimal number) (from_number number ++ rest) (AreSafe-decimal number)
+      ap (λ l. seen_from (in_value (in_line outer) no_attributes (codes "href") (codes "#L")) l) (append_assoc (decimal number) (from_number number) rest)
+      ∙ seen-value (in_line outer) no_attributes (codes "href") (codes "#L") (decimal number) (from_number number ++ rest) (AreSafe-decimal number)
       ∙ seen-number
 
-  pub seen-line_begin : seen_from (in_text []) (line_begin number ++ rest) ≡ seen_from (in_text in_line) rest
+  pub seen-line_begin : seen_from (in_text outer) (line_begin number ++ rest) ≡ seen_from (in_text (in_line outer)) rest
   seen-line_begin =
-      ap (λ l. seen_from (in_value [] no_attributes (codes "id") (codes "L")) l) (append_assoc (decimal number) (from_link number) rest)
-      ∙ seen-value [] no_attributes (codes "id") (codes "L") (decimal number) (from_link number ++ rest) (AreSafe-decimal number)
+      ap (λ l. seen_from (in_value outer no_attributes (codes "id") (codes "L")) l) (append_assoc (decimal number) (from_link number) rest)
+      ∙ seen-value outer no_attributes (codes "id") (codes "L") (decimal number) (from_link number ++ rest) (AreSafe-decimal number)
       ∙ seen-line_link
 
-pub seen-line_end : (rest : List ℕ) → seen_from (in_text in_line) (line_end ++ rest) ≡ seen_from (in_text []) rest
-seen-line_end rest = refl
+pub seen-line_end : (outer : List Attributes) (rest : List ℕ)
+    → seen_from (in_text (in_line outer)) (line_end ++ rest) ≡ seen_from (in_text outer) rest
+seen-line_end outer rest = refl
 
 -- They have no 0D,
 pub HasNoReturn-line_begin : (number : ℕ) → HasNoReturn (line_begin number)

@@ -18,3 +18,7 @@ pub mod AddingProof
 pub mod Lines
 pub mod Liner
 pub mod LiningProof
+pub mod Blocks
+pub mod Inside
+pub mod Blocker
+pub mod BlockingProof

@@ -1,5 +1,13 @@
 //! Laws of how colours are written. Each is the contract of a function that does nothing.
-ghost use Rattle.std.specs.Prelude.{◌≡◌, ◌↔◌, IsTrue};
+ghost use Rattle.std.specs.Prelude.{◌≡◌, ◌↔◌, ℕ, Bool, true, false, List, IsTrue, map};
+ghost use Rattle.std.specs.Str.{IsUtf8};
+ghost use Rattle.anstyle_parse.specs.Stream.Call.{Call};
+ghost use Rattle.anstyle_parse.specs.Stream.Calls.{AreCalls};
+ghost use Rattle.ansi_strip.specs.Strip.{stripped};
+ghost use Rattle.ansi_html.specs.Html.{no_element, html};
+ghost use Rattle.ansi_html.specs.Lines.{lined_html};
+ghost use Rattle.ansi_html.specs.Blocks.{blocked_html, AreBlocksOf, AreBlocksOfFragments};
+ghost use Rattle.ansi_html.specs.Reader.{byte_of, seen, read, shown_from};
 
 use crate::scheme::{Scheme, Styling};
 
@@ -13,4 +21,29 @@ pub fn equality()
 pub fn clones()
     ensures schemes { (scheme clone : Scheme) → ⟦<Scheme as Clone>⟧.is_clone scheme clone → clone ≡ scheme }
     ensures stylings { (styling clone : Styling) → ⟦<Styling as Clone>⟧.is_clone styling clone → clone ≡ styling }
+{}
+
+/// Of HTML in blocks, with numbers of lines or without, a reader sees what it sees of the HTML that
+/// [`convert`](crate::convert) writes: text, line breaks, styles and links. So it reads the bytes of the stripped text,
+/// each with its style and its link.
+pub fn blocks()
+    ensures same { (numbered : Bool) (styling : Styling) (calls : List Call)
+        → seen (blocked_html numbered styling calls) ≡ seen (html styling calls) }
+    ensures read_back { (numbered : Bool) (styling : Styling) (calls : List Call)
+        → read (blocked_html numbered styling calls) ≡ shown_from styling no_element calls }
+    ensures text { (numbered : Bool) (styling : Styling) (calls : List Call)
+        → map byte_of (read (blocked_html numbered styling calls)) ≡ stripped calls }
+
+    // Of numbered lines its blocks are the HTML that `convert_lines` writes, in parts: each line is one element, with
+    // its number, and nothing else is written but the tags of blocks.
+    ensures lines { (styling : Styling) (calls : List Call)
+        → AreBlocksOf (lined_html styling calls) (blocked_html true styling calls) }
+
+    // No markup comes in: of text each block is a fragment, as what `convert` writes is one.
+    ensures grammar { (styling : Styling) (bytes : List ℕ) (calls : List Call) → AreCalls bytes calls
+        → AreBlocksOfFragments styling (blocked_html false styling calls) }
+
+    // It is UTF-8, whatever was read.
+    ensures utf8 { (numbered : Bool) (styling : Styling) (bytes : List ℕ) (calls : List Call) → AreCalls bytes calls
+        → IsUtf8 (blocked_html numbered styling calls) }
 {}

@@ -31,11 +31,13 @@ ghost use Rattle.ansi_html.specs.declared.class.Class.{Class};
 ghost use Rattle.ansi_html.specs.Classes.{class_name, classes_of};
 ghost use Rattle.ansi_html.specs.Stylesheet.{vocabulary, stylesheet, applied, snapped};
 
+mod blocks;
 mod chunks;
 mod class;
 pub mod contrast;
 mod css;
 mod digits;
+mod inside;
 pub mod laws;
 mod line;
 mod lines;
@@ -52,6 +54,7 @@ mod uri;
 mod verbatim;
 
 use anstyle_parse::canon::{Fault, Output, Sink, Source, write_calls_by};
+pub use blocks::BlocksWriter;
 pub use lines::LinesWriter;
 pub use link::{Link, is_link_command};
 pub use performer::HtmlWriter;

@@ -19,11 +19,11 @@ use anstyle_parse::{Params, Perform, PerformText};
 /// After 2^64 - 1 lines the number stays.
 #[derive(Drop)]
 pub struct LinesWriter<W> {
-    html: HtmlWriter<W>,
+    pub(crate) html: HtmlWriter<W>,
     /// The number of the last line that began; 0 where none did.
     number: u64,
     /// That line is open.
-    is_open: bool,
+    pub(crate) is_open: bool,
 }
 
 impl<W: Sink> LinesWriter<W> {

@@ -7,6 +7,9 @@ use Rattle.ansi_html.specs.Html.{html_from, standing_at_end}
 use Rattle.ansi_html.specs.Lines.{lined_from, lined_at_end}
 use Rattle.ansi_html.specs.Writer as writer
 use Rattle.ansi_html.specs.Liner as liner
+use Rattle.ansi_html.specs.declared.blocks.BlocksWriter.{BlocksWriter}
+use Rattle.ansi_html.specs.Blocks.{blocked_from, blocked_at_end}
+use Rattle.ansi_html.specs.Blocker as blocker
 
 abbrev pub html_after : {W : Type 0} → HtmlWriter W → (calls more : List Call) → List ℕ
 html_after performer calls more =
@@ -15,3 +18,8 @@ html_after performer calls more =
 abbrev pub lined_after : {W : Type 0} → LinesWriter W → (calls more : List Call) → List ℕ
 lined_after performer calls more =
     lined_from (liner.styling_of performer) (lined_at_end (liner.lined_of performer) calls) more
+
+abbrev pub blocked_after : {W : Type 0} → BlocksWriter W → (calls more : List Call) → List ℕ
+blocked_after performer calls more =
+    blocked_from (blocker.numbered_of performer) (blocker.styling_of performer)
+    (blocked_at_end (blocker.numbered_of performer) (blocker.blocked_of performer) calls) more

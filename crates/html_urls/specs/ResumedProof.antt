@@ -1,6 +1,6 @@
 -- No definition, but proofs: the language wants those of a trait's laws among the specs.
 -- Writers of HTML go on as their HTML of all calls does.
-use Rattle.std.proofs.Common.{◌≡◌, List, ◌++◌, sym, ap, ap₂, ◌∙◌}
+use Rattle.std.proofs.Common.{◌≡◌, Bool, List, ◌++◌, sym, ap, ap₂, ◌∙◌}
 use Rattle.anstyle_parse.specs.declared.io.devices.Sink.{Ghosts as SinkOf}
 use Rattle.anstyle_parse.specs.Stream.Call.{Call}
 use Rattle.ansi_html.specs.declared.performer.HtmlWriter.{HtmlWriter}
@@ -9,9 +9,13 @@ use Rattle.ansi_html.specs.Html.{html_from, standing_at_end, element_end}
 use Rattle.ansi_html.specs.Lines.{lined_from, lined_at_end, lined_end}
 use Rattle.ansi_html.specs.Writer as writer
 use Rattle.ansi_html.specs.Liner as liner
+use Rattle.ansi_html.specs.declared.blocks.BlocksWriter.{BlocksWriter}
+use Rattle.ansi_html.specs.Blocks.{Blocked, blocked_from, blocked_at_end, blocked_end}
+use Rattle.ansi_html.specs.Blocker as blocker
 use Rattle.ansi_html.specs.AddingProof.{html_from-append, standing_at_end-append}
 use Rattle.ansi_html.specs.LiningProof.{lined_from-append, lined_at_end-append}
-use Rattle.html_urls.specs.Resumed.{html_after, lined_after}
+use Rattle.ansi_html.specs.BlockingProof.{blocked_from-append, blocked_at_end-append}
+use Rattle.html_urls.specs.Resumed.{html_after, lined_after, blocked_after}
 
 module _ {W : Type 0} (sink : SinkOf W) where
   pub html-resumes : (old : HtmlWriter W) (calls : List Call) (new : HtmlWriter W) → writer.TakesAll sink old calls new
@@ -34,6 +38,18 @@ module _ {W : Type 0} (sink : SinkOf W) where
       ap (λ it. lined_end (lined_at_end it more)) taken.standing
       ∙ ap lined_end (sym (lined_at_end-append calls more (liner.lined_of old)))
 
+module _ {W : Type 0} (sink : SinkOf W) (old : BlocksWriter W) (calls : List Call) (new : BlocksWriter W) (taken : blocker.TakesCalls sink old calls new)
+    (more : List Call) where
+  pub blocked-resumes : blocker.text_from new more ≡ blocked_after old calls more
+  blocked-resumes =
+      ap (λ (n : Bool). blocked_from n (blocker.styling_of new) (blocker.blocked_of new) more) taken.numbered
+      ∙ ap₂ (λ styling (it : Blocked). blocked_from (blocker.numbered_of old) styling it more) taken.styling taken.standing
+
+  pub blocked-ends : blocker.ending_from new more ≡ blocker.ending_from old (calls ++ more)
+  blocked-ends =
+      ap₂ (λ (n : Bool) (it : Blocked). blocked_end n (blocked_at_end n it more)) taken.numbered taken.standing
+      ∙ ap (blocked_end (blocker.numbered_of old)) (sym (blocked_at_end-append (blocker.numbered_of old) calls more (blocker.blocked_of old)))
+
 pub html-joined : {W : Type 0} (performer : HtmlWriter W) (calls more : List Call)
     → writer.text_from performer calls ++ html_after performer calls more ≡ writer.text_from performer (calls ++ more)
 html-joined performer calls more = sym (html_from-append (writer.styling_of performer) calls more (writer.standing_of performer))
@@ -41,3 +57,8 @@ html-joined performer calls more = sym (html_from-append (writer.styling_of perf
 pub lined-joined : {W : Type 0} (performer : LinesWriter W) (calls more : List Call)
     → liner.text_from performer calls ++ lined_after performer calls more ≡ liner.text_from performer (calls ++ more)
 lined-joined performer calls more = sym (lined_from-append (liner.styling_of performer) calls more (liner.lined_of performer))
+
+pub blocked-joined : {W : Type 0} (performer : BlocksWriter W) (calls more : List Call)
+    → blocker.text_from performer calls ++ blocked_after performer calls more ≡ blocker.text_from performer (calls ++ more)
+blocked-joined performer calls more =
+    sym (blocked_from-append (blocker.numbered_of performer) (blocker.styling_of performer) calls more (blocker.blocked_of performer))

@@ -1,14 +1,15 @@
 //! Laws of streams whose addresses are links. Each is the contract of a function that does nothing.
-ghost use Rattle.std.specs.Prelude.{◌≡◌, ◌++◌, ℕ, List};
+ghost use Rattle.std.specs.Prelude.{◌≡◌, ◌++◌, ℕ, Bool, List};
 ghost use Rattle.anstyle_parse.specs.Stream.Call.{Call};
 ghost use Rattle.anstyle_parse.specs.Stream.Calls.{AreCalls};
 ghost use Rattle.anstyle_parse.specs.Laws.Lawful.{AreMade};
 ghost use Rattle.ansi_html.specs.declared.scheme.Styling.{Styling};
 ghost use Rattle.ansi_html.specs.Html.{html};
 ghost use Rattle.ansi_html.specs.Lines.{lined_html};
+ghost use Rattle.ansi_html.specs.Blocks.{blocked_html};
 ghost use Rattle.ansi_strip.specs.Strip.{stripped};
 ghost use Rattle.html_urls.specs.Linked.{linked};
-ghost use Rattle.html_urls.specs.Html.{urls_text, urls_ending, lined_urls_text, lined_urls_ending};
+ghost use Rattle.html_urls.specs.Html.{urls_text, urls_ending, lined_urls_text, lined_urls_ending, blocked_urls_text, blocked_urls_ending};
 
 /// The links change no text: what stripping leaves of the calls with these links is what it leaves of the stream.
 pub fn same_text()
@@ -28,4 +29,7 @@ pub fn html_of_links()
         → urls_text styling calls ++ urls_ending styling calls ≡ html styling (linked calls) }
     ensures lined { (styling : Styling) (calls : List Call)
         → lined_urls_text styling calls ++ lined_urls_ending styling calls ≡ lined_html styling (linked calls) }
+    ensures blocked { (numbered : Bool) (styling : Styling) (calls : List Call)
+        → blocked_urls_text numbered styling calls ++ blocked_urls_ending numbered styling calls
+        ≡ blocked_html numbered styling (linked calls) }
 {}

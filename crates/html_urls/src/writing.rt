@@ -3,7 +3,7 @@ ghost use Rattle.std.specs.Prelude.{◌≡◌, ◌++◌, [], ℕ, List};
 ghost use Rattle.anstyle_parse.specs.Stream.Call.{Call};
 
 use crate::linking::Linking;
-use ansi_html::{HtmlWriter, LinesWriter};
+use ansi_html::{BlocksWriter, HtmlWriter, LinesWriter};
 use anstyle_parse::io::{Output, Sink, WritingPerformer};
 
 /// One of which it is known what it writes by more calls, after some.
@@ -49,6 +49,19 @@ impl<W: Sink> Resumable<W> for LinesWriter<W> {
     ghost ends_later = { lined-ends W.Sink };
 
     ghost joined = { lined-joined };
+}
+
+impl<W: Sink> Resumable<W> for BlocksWriter<W> {
+    ghost use Rattle.html_urls.specs.Resumed.{blocked_after};
+    ghost use Rattle.html_urls.specs.ResumedProof.{blocked-resumes, blocked-ends, blocked-joined};
+
+    ghost text_after = { blocked_after };
+
+    ghost resumes = { blocked-resumes W.Sink };
+
+    ghost ends_later = { blocked-ends W.Sink };
+
+    ghost joined = { blocked-joined };
 }
 
 /// What is held at the end is written.

@@ -369,13 +369,28 @@ static bool has_turn(Reader *reader)
     return true;
 }
 
+/* The next event where it is one of a byte, which is there already, or NULL: it takes no turn, since meanwhile nothing else
+ * runs. */
+static PyObject *ready_event(Reader *reader)
+{
+    const ansi_event *record;
+
+    if (reader->is_running || reader->next == reader->written)
+        return NULL;
+    record = &reader->events[reader->next];
+    if (record->kind != ANSI_EVENTS_PUT && record->kind != ANSI_EVENTS_EXECUTE)
+        return NULL;
+    reader->next++;
+    return event_of_byte(PyTuple_GetItem(reader->made, record->kind), record->byte);
+}
+
 static PyObject *reader_next(PyObject *self)
 {
     Reader *reader = (Reader *)self;
-    PyObject *event = NULL;
+    PyObject *event = ready_event(reader);
 
-    if (!has_turn(reader))
-        return NULL;
+    if (event != NULL || !has_turn(reader))
+        return event;
     if (has_record(reader))
         event = event_of(reader, &reader->events[reader->next++]);
     if (event == NULL)

@@ -1,5 +1,6 @@
 //! Every public item of every library but the screen, by its name, and every implementation that a
 //! type of theirs has of a trait of std: what is gone is missed here.
+use ansi_html::BlocksWriter;
 use ansi_html::Element;
 use ansi_html::HtmlWriter;
 use ansi_html::LinesWriter;
@@ -427,6 +428,10 @@ fn names_of_writers(rt: HostRuntime) {
     is_writing(&lines);
     is_resumable(&lines);
     assert_well(&rt, write_calls_by(lines, &mut reader(), b">"));
+    let blocks = BlocksWriter::new(Styling::Classes, true, Output::new(memory(rt.alloc())));
+    is_writing(&blocks);
+    is_resumable(&blocks);
+    assert_well(&rt, write_calls_by(blocks, &mut reader(), b">"));
     let writer = HtmlWriter::new(Styling::Classes, Output::new(memory(rt.alloc())));
     is_resumable(&writer);
     let linking = Linking::new(writer);

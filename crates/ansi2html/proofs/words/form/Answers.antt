@@ -1,19 +1,23 @@
--- A word that asks for a page is found exactly where there is one.
-use Rattle.std.proofs.Common.{◌∙◌, sym, ap, rules, tests, string_bytes, Bool}
-use Rattle.std.specs.Prelude.{if◌then◌else◌}
-use Rattle.std.proofs.lemmas.Iterator.{YieldsList-from_slice}
-use Rattle.std.proofs.lemmas.Iterator.Search.{any_from_yields_List}
-use Rattle.command_line.proofs.WordLemmas.{list_any-map}
-use Rattle.ansi2html.specs.declared.form.Form.TheVariants.{Fragment, Page}
-use Rattle.ansi2html.specs.Words.{asks_for_page}
+-- One word more.
+use Rattle.std.proofs.Common.{◌∙◌, sym, ap, ap₂, take, map, string_bytes, ◌++◌, ◌∷◌, []}
+use Rattle.std.proofs.lemmas.List.{take_more, map-append}
+use Rattle.ansi2html.specs.declared.form.Form.TheVariants.{Page}
+use Rattle.ansi2html.specs.Words.{form_after, form_of}
+use Rattle.ansi2html.proofs.WordLemmas.{form_from-push}
 use Rattle.ansi2html.proofs.words.form.Goals as goal
 
-pub returns-then-any : goal.returns-then-any
-returns-then-any c =
-    let found = any_from_yields_List (λ word. asks_for_page (string_bytes word)) _ _ _ c.any.ensures.ran (YieldsList-from_slice c.args.words.now cc) (λ x b q k. search (rules, tests)) in
-    ap (λ (t : Bool). if t then Page else Fragment) (sym c.if-any.true ∙ found ∙ sym (list_any-map asks_for_page string_bytes c.args.words.now))
-
-pub returns-else-any : goal.returns-else-any
-returns-else-any c =
-    let found = any_from_yields_List (λ word. asks_for_page (string_bytes word)) _ _ _ c.any.ensures.ran (YieldsList-from_slice c.args.words.now cc) (λ x b q k. search (rules, tests)) in
-    ap (λ (t : Bool). if t then Page else Fragment) (sym c.if-any.false ∙ found ∙ sym (list_any-map asks_for_page string_bytes c.args.words.now))
+pub loop-word-preserved : goal.loop-word-preserved
+loop-word-preserved c =
+    let words = c.args.words.now in
+    let i = c.loop-word.word-index in
+    let word = c.word-item.result in
+    let before = map string_bytes (take i words) in
+    let is_next = take_more words i word c.loop-word-test.true ∙ ap (λ w. take i words ++ w ∷ []) (sym c.word-item.is) in
+    let grown = ap (map string_bytes) is_next ∙ map-append string_bytes (take i words) (word ∷ []) in
+    record {
+      so_far =
+          c.form_after-form.ensures
+          ∙ ap₂ form_after c.loop-word.invariant.so_far c.as_str.ensures.value
+          ∙ sym (form_from-push Page before (string_bytes word))
+          ∙ ap form_of (sym grown);
+    }

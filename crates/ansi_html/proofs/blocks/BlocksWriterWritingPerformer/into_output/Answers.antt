@@ -1,0 +1,24 @@
+-- What is open inside is ended first, and then the block, if one is open.
+use Rattle.std.proofs.Common.{[], ◌++◌, List, ℕ, Bool, eqb, sym, ap, ◌∙◌, subst, append-nil}
+use Rattle.std.specs.Prelude.{if◌then◌else◌}
+use Rattle.std.proofs.lemmas.Bool.{ne_eqb}
+use Rattle.anstyle_parse.specs.Io.Output.{Adds}
+use Rattle.anstyle_parse.proofs.Written.Output.{Adds-append}
+use Rattle.ansi_html.specs.Blocks.{block_end, inside_end}
+use Rattle.ansi_html.specs.Blocker.{numbered_of, blocked_of, output_of}
+use Rattle.ansi_html.proofs.blocks.BlocksWriterWritingPerformer.into_output.Goals as goal
+
+pub returns-then-left-ne0 : goal.returns-then-left-ne0
+returns-then-left-ne0 g c =
+    let it = c.args.self in
+    let inside = inside_end (numbered_of it) (blocked_of it).inside in
+    let end = c.put.new.self in
+    subst (λ (none : Bool). Adds g.W.Sink (inside ++ (if none then [] else block_end)) (output_of it) end) (sym (ne_eqb it.left 0 c.if-left-ne0.true))
+    (Adds-append g.W.Sink inside block_end (output_of it) c.into_output-output.result end c.into_output-output.ensures c.put.ensures)
+
+pub returns-else-left-ne0 : goal.returns-else-left-ne0
+returns-else-left-ne0 g c =
+    let it = c.args.self in
+    let inside = inside_end (numbered_of it) (blocked_of it).inside in
+    subst (λ (t : List ℕ). Adds g.W.Sink t (output_of it) c.into_output-output.result)
+    (sym (append-nil inside) ∙ ap (λ n. inside ++ (if eqb n 0 then [] else block_end)) (sym c.if-left-ne0.false)) c.into_output-output.ensures

@@ -155,6 +155,9 @@ class Calls(unittest.TestCase):
         self.assertEqual(ansi_proved.strip(b"a\r\xe2\x82", lf=True), "a\r\ufffd".encode())
         parts = ansi_proved.text_of(iter(["one\r", "\ntwo\r", b"three\r"]), lf=True)
         self.assertEqual(list(parts), ["one", "\ntwo", b"\rthree", b"\r"])
+        self.assertEqual(list(ansi_proved.text_of(["a", "\r", "\nb"], lf=True)), ["a", "\nb"])
+        self.assertEqual(list(ansi_proved.text_of(["a\r", "\nb"])), ["a\r", "\nb"])
+        self.assertEqual(list(ansi_proved.text_of(["a\r", "\n\x07"], safe=True, lf=True)), ["a", "\n<U+0007>"])
         clean = "".join(["cle", "an\n"])
         self.assertIs(ansi_proved.strip(clean, lf=True), clean)
 

@@ -142,7 +142,8 @@ class Calls(unittest.TestCase):
         self.assertEqual(list(ansi_proved.text_of([b"a<", b"b"], safe=True)), [b"a", b"<b"])
 
     def test_lines(self):
-        rows = [("one\r\ntwo\r\n", "one\ntwo\n"), ("a\r\x1b[K\nb\r\r\nc\r", "a\nb\r\nc\r"), (2000 * "\u20ac\r\n", 2000 * "\u20ac\n"), ("", ""), ("\r", "\r")]
+        rows = [("one\r\ntwo\r\n", "one\ntwo\n"), ("a\r\x1b[K\nb\r\r\nc\r", "a\nb\r\nc\r"), ("", ""), ("\r", "\r")]
+        rows.append((2000 * "\u20ac\r\n", 2000 * "\u20ac\n"))
         for text, wanted in rows:
             stream = text.encode()
             self.assertEqual((ansi_proved.strip(text, lf=True), ansi_proved.strip(stream, lf=True)), (wanted, wanted.encode()))

@@ -131,7 +131,7 @@ def close_early():
 
         def use():
             try:
-                for _ in range(10_000):
+                while True:  # (however late the screen is closed)
                     screen.feed(b"x")
                     screen.text()
             except ValueError as error:

@@ -142,7 +142,8 @@ class Calls(unittest.TestCase):
         self.assertEqual(list(ansi_proved.text_of([b"a<", b"b"], safe=True)), [b"a", b"<b"])
 
     def test_lines(self):
-        rows = [("one\r\ntwo\r\n", "one\ntwo\n"), ("a\r\x1b[K\nb\r\r\nc\r", "a\nb\r\nc\r"), (2000 * "\u20ac\r\n", 2000 * "\u20ac\n"), ("", ""), ("\r", "\r")]
+        rows = [("one\r\ntwo\r\n", "one\ntwo\n"), ("a\r\x1b[K\nb\r\r\nc\r", "a\nb\r\nc\r"), ("", ""), ("\r", "\r")]
+        rows.append((2000 * "\u20ac\r\n", 2000 * "\u20ac\n"))
         for text, wanted in rows:
             stream = text.encode()
             self.assertEqual((ansi_proved.strip(text, lf=True), ansi_proved.strip(stream, lf=True)), (wanted, wanted.encode()))
@@ -155,6 +156,9 @@ class Calls(unittest.TestCase):
         self.assertEqual(ansi_proved.strip(b"a\r\xe2\x82", lf=True), "a\r\ufffd".encode())
         parts = ansi_proved.text_of(iter(["one\r", "\ntwo\r", b"three\r"]), lf=True)
         self.assertEqual(list(parts), ["one", "\ntwo", b"\rthree", b"\r"])
+        self.assertEqual(list(ansi_proved.text_of(["a", "\r", "\nb"], lf=True)), ["a", "\nb"])
+        self.assertEqual(list(ansi_proved.text_of(["a\r", "\nb"])), ["a\r", "\nb"])
+        self.assertEqual(list(ansi_proved.text_of(["a\r", "\n\x07"], safe=True, lf=True)), ["a", "\n<U+0007>"])
         clean = "".join(["cle", "an\n"])
         self.assertIs(ansi_proved.strip(clean, lf=True), clean)
 

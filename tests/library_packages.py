@@ -236,12 +236,15 @@ def page_cases(ansi):
         words = ["--page"] if styling == "both" else ["--page", "--" + styling]
         for name, title, lang in (("", None, None), (", with a title and a language", "<a> & \"b\" 'c'\r\u20ac", "de-AT")):
             named, asked = ({}, words) if title is None else ({"title": title, "lang": lang}, [*words, "--title=" + title, "--lang=" + lang])
-            done = run([ansi2html, *asked], stream)
-            why = failure(done) or first_difference(ansi.page(stream, styling, **named), done.stdout)
-            yield "Python: a page, %s%s" % (styling, name), why
-            text = stream.decode(errors="replace")
-            done = run([ansi2html, *asked], text.encode())
-            yield "Python: a page of a str, %s%s" % (styling, name), first_difference(ansi.page(text, styling, **named).encode(), done.stdout)
+            around = run([ansi2html, *asked], b"")
+            head, tail = around.stdout.split(b"</pre>")
+            for kind, text in (("a page", stream), ("a page of a str", stream.decode(errors="replace"))):
+                data = text if isinstance(text, bytes) else text.encode()
+                done = run([ansi2html, "--fragment", *words[1:]], data)
+                found = ansi.page(text, styling, **named)
+                found = found if isinstance(text, bytes) else found.encode()
+                why = failure(around) or failure(done) or first_difference(found, head + done.stdout + b"</pre>" + tail)
+                yield "Python: %s, %s%s" % (kind, styling, name), why
     for scheme in ("both", "light", "dark"):
         done = run([ansi2html, "--stylesheet", *([] if scheme == "both" else ["--" + scheme])])
         yield "Python: the stylesheet, %s" % scheme, failure(done) or first_difference(ansi.stylesheet(scheme).encode(), done.stdout)

@@ -28,7 +28,7 @@ def _frame(styling):
     named, rest = rest.split(TITLE)
     looks, tail = rest.split("<pre>\n")
     if styling == "classes":  # (without the rules of lines)
-        looks = looks.replace("pre {", stylesheet().split("pre > ")[0] + "pre {")
+        looks = looks.replace("pre {", stylesheet().split("pre [")[0] + "pre {")
     return before, named, looks + "<pre>\n", tail
 
 
@@ -40,13 +40,15 @@ def _named(value, what):
 
 
 def page(text, styling="both", *, title="Terminal output", lang="en"):
-    """A whole page of terminal output, in UTF-8, as `ansi2html --page` writes it: light or dark as its reader has it.
+    """A whole page of terminal output, in UTF-8: what `to_html` gives, in the page that ansi2html writes around it.
 
         with open("log", "rb") as log, open("log.html", "wb") as page:
             page.write(ansi_proved.page(log.read(), title="A log"))
 
-    styling: as of `to_html`; by "classes" the rules are in the page's head. lang: the tag of its language: letters, digits and
-    hyphens, 64 at most. Of a str it is a str, of bytes, a bytearray or a memoryview bytes.
+    (ansi2html also puts each 500 lines into an element of their own, by which a browser opens a long log at once.)
+
+    styling: as of `to_html`: "both" is light or dark as its reader has it; by "classes" the rules are in the page's head. lang: the
+    tag of its language: letters, digits and hyphens, 64 at most. Of a str it is a str, of bytes, a bytearray or a memoryview bytes.
     """
     number_of(styling)
     title, lang = _named(title, "a title"), _named(lang, "a language")

@@ -192,7 +192,13 @@ def name_cases(rows):
     for at, shown in (("", b'""'), ("no\x1b[31m", b'"no\\u{1b}[31m"'), ("no\x9b", b'"no\\u{9b}"')):
         ended = rows.ran("--", at)
         yield "the name %r is said as text" % at, rows.differs(ended, status=1, err=rows.said((shown, errno.ENOENT)), out=rows.of_each(b""))
-    yield from raw_name_cases(rows)
+    why = "%s: a word is no UTF-8: a file with such a name is given by < (see %s --help)\n" % (rows.name, rows.name)
+    rows.put(b"\xff".decode("utf-8", "surrogateescape"), PARTS[0])
+    for words in ([b"\xff"], [b"--", b"\xff"], [b"-o", b"\xff"], [b"-o\xff"], [b"--output=\xff"], [b"part0", b"\xff"], [b"--help", b"\xff"]):
+        before = rows.left()
+        why_not = rows.differs(rows.ran(*words), status=2, err=why.encode())
+        yield "the words %s, no UTF-8" % words, why_not or (rows.left() != before and "it makes files")
+    os.remove(rows.at(b"\xff".decode("utf-8", "surrogateescape")))
     if rows.words[-1:] == ["--shown"]:
         yield from size_name_cases(rows)
     help = rows.run([rows.path, "--help"])
@@ -200,44 +206,6 @@ def name_cases(rows):
         yield " ".join([*words, "says what --help says"]), rows.differs(rows.ran(*words), out=help.out)
     why = b"%s: -o wants the name of a file (see %s --help)\n" % (2 * (rows.name.encode(),))
     yield "-o and nothing behind it", rows.differs(rows.ran("part0", "-o"), status=2, err=why)
-
-
-# names that are no UTF-8, or might be taken for others that are none, and how each is said
-RAW_NAMES = {
-    b"caf\xe9.log": b'"caf\\xe9.log"',
-    b"\xff": b'"\\xff"',
-    b"\x80\xfe": b'"\\x80\\xfe"',
-    b"a\xc3": b'"a\\xc3"',
-    b"\xed\xa0\x80": b'"\\xed\\xa0\\x80"',
-    b"\xc3\xa4\n\xf5": '"ä\\n\\xf5"'.encode(),
-    "\U0010ff80".encode(): b'"\\xf4\\x8f\\xbe\\x80"',
-    "\U0010ffff\xe9".encode(): '"\\xf4\\x8f\\xbf\\xbf\xe9"'.encode(),
-    b"b" * 300 + b"\xe9": b'"' + b"b" * 300 + b'\\xe9"',
-}
-
-
-def raw_name_cases(rows):
-    """Files whose names are no UTF-8 are read as others; an option is text."""
-    names = [it for it in RAW_NAMES if len(it) < 255]
-    for name in names:
-        rows.put(os.fsdecode(name), PARTS[0])
-        rows.put(os.fsdecode(name + b"\xfd"), PARTS[3])
-        for words in ([name], ["--", name], [b"./" + name]):
-            yield "the words %s" % words, rows.differs(rows.ran(*words), out=rows.of_each(PARTS[0]))
-        if rows.takes_many:
-            ended = rows.ran(name + b"\xfd", "part1", name)
-            yield "%s between others" % name, rows.differs(ended, out=rows.of_each(PARTS[3], PARTS[1], PARTS[0]))
-    for name in names:
-        os.remove(rows.at(os.fsdecode(name)))
-        os.remove(rows.at(os.fsdecode(name + b"\xfd")))
-    for name, shown in RAW_NAMES.items():
-        why = errno.ENOENT if name in names else errno.ENAMETOOLONG
-        yield "the name %s is said by its bytes" % name[:20], rows.differs(rows.ran(name), status=1, err=rows.said((shown, why)), out=rows.of_each(b""))
-    why = "%s: an option is no UTF-8: only the name of a file that is read may be none (see %s --help)\n" % (rows.name, rows.name)
-    for words in ([b"-o", b"\xff"], [b"-o\xff"], [b"--output=\xff"], [b"part0", b"--no\xe9"], [b"-\xff", b"--help"], ["-o", "\U0010ff80"]):
-        before = rows.left()
-        why_not = rows.differs(rows.ran(*words), status=2, err=why.encode())
-        yield "the words %s, no UTF-8" % words, why_not or (rows.left() != before and "it makes files")
 
 
 def size_name_cases(rows):

@@ -3,14 +3,12 @@ ghost use Rattle.std.specs.Prelude.{◌≡◌, ◌≤◌, None, true, false, len
 ghost use Rattle.std.specs.List.{list_any};
 ghost use Rattle.command_line.specs.Inputs.{input_failed, name_of, names_read};
 
-use crate::names::{has_bytes, open_by_bytes, shown_by_bytes};
 use anstyle_parse::io::Source;
 use each_source::Stream;
 use std::alloc::AllocError;
 use std::fmt::Display;
 use std::fs::File;
 use std::io::Read;
-use std::process::ChildStdout;
 use std::rt::{HostRuntime, Stdin};
 use std::{fs, io};
 
@@ -36,8 +34,6 @@ enum Opened {
     NotYet,
     Standard(Stdin),
     File(File),
-    /// A file whose name is no UTF-8.
-    ByBytes(ChildStdout),
     /// It is at its end, or has failed.
     Closed,
 }
@@ -93,8 +89,6 @@ impl<'a> Input<'a> {
     fn open(&self) -> io::Result<Opened> {
         if self.name == STANDARD {
             Ok(Opened::Standard(self.rt.stdin()))
-        } else if has_bytes(self.name) {
-            Ok(Opened::ByBytes(open_by_bytes(self.rt.alloc(), self.name)?))
         } else {
             Ok(Opened::File(fs::open(&self.rt, self.name)?))
         }
@@ -111,7 +105,6 @@ impl<'a> Input<'a> {
         match &mut self.opened {
             Opened::Standard(stdin) => stdin.read(into),
             Opened::File(file) => file.read(into),
-            Opened::ByBytes(file) => file.read(into),
             Opened::NotYet | Opened::Closed => Ok(0),
         }
     }
@@ -177,14 +170,9 @@ pub(crate) fn file_failed(rt: &HostRuntime, program: &str, name: &str, error: io
 }
 
 /// Says something of a file on standard error, after the program's name and the file's. Where that can't be written
-/// nothing is done about it. A name that could drive a terminal, or is no UTF-8, is written as Rattle writes a text.
+/// nothing is done about it. A name that could drive a terminal is written as Rattle writes a text.
 fn say_of(rt: &HostRuntime, program: &str, name: &str, what: &impl Display) {
-    let _ = if has_bytes(name) {
-        match shown_by_bytes(rt.alloc(), name) {
-            Ok(shown) => eprintln!(rt; "{program}: {shown}: {what}"),
-            Err(_) => eprintln!(rt; "{program}: {what}"),
-        }
-    } else if is_written_quoted(name) {
+    let _ = if is_written_quoted(name) {
         eprintln!(rt; "{program}: {name:?}: {what}")
     } else {
         eprintln!(rt; "{program}: {name}: {what}")

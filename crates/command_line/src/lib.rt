@@ -9,15 +9,13 @@ ghost use Rattle.command_line.specs.Words.{message_of, is_broken_pipe, status_of
 
 mod input_files;
 mod line;
-mod names;
 mod options;
 mod output_file;
 
 use anstyle_parse::io::{Buffer, Fault, FromWrite};
 pub use input_files::{Input, have_failed, inputs};
 pub use line::{Line, Place, given_line, line_of};
-pub use names::given_words;
-pub use options::{OUTPUT, Request, VERSION, answered, asked_of, has_word, value_of};
+pub use options::{OUTPUT, Request, VERSION, answered, asked_of, given_words, has_word, value_of};
 pub use output_file::{Destination, Target};
 use std::io;
 use std::io::{ErrorKind, IsTerminal, Write};

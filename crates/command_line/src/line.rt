@@ -4,10 +4,12 @@ ghost use Rattle.std.specs.List.{list_all};
 ghost use Rattle.command_line.specs.Options.{texts};
 ghost use Rattle.command_line.specs.Line.{is_digit, is_number, is_size, may_have_size, is_file, place_behind, place_after, options_said, files_said, options_of, files_of, options_in, files_in, joined, before_value};
 
-use crate::names::{given_words, has_bytes};
-use crate::options::{OUTPUT, SHORT_OUTPUT, after, is_one_of, is_valued_one, wants_value};
+use crate::options::{
+    OUTPUT, SHORT_OUTPUT, after, given_words, is_one_of, is_valued_one, wants_value,
+};
 use crate::{FAILED, MISUSED};
 use std::alloc::{AllocError, Global};
+use std::io::ErrorKind;
 use std::process::ExitCode;
 use std::rt::Env;
 
@@ -34,22 +36,20 @@ pub enum Place {
 }
 
 /// The line that the program was given, for these options of its own. Where there is none, that was said on
-/// standard error: with status 2 that an option is no UTF-8, and with 1 that there was no memory.
+/// standard error: with status 2 that a word is no UTF-8, and with 1 that there was no memory.
 pub fn given_line(
     rt: &(impl Env + AllocGlobal + Eprint),
     program: &str,
     options: &[&str],
 ) -> Result<Line, ExitCode> {
-    let Ok(words) = given_words(rt) else {
-        return Err(no_memory(rt, program));
-    };
-    let Ok(line) = line_of(rt.alloc(), words.as_slice(), options) else {
-        return Err(no_memory(rt, program));
-    };
-    if line.options.iter().any(|option| has_bytes(option.as_str())) {
-        return Err(not_text(rt, program));
+    match given_words(rt) {
+        Ok(words) => match line_of(rt.alloc(), words.as_slice(), options) {
+            Ok(line) => Ok(line),
+            Err(_) => Err(no_memory(rt, program)),
+        },
+        Err(error) if error.kind() == ErrorKind::InvalidData => Err(not_text(rt, program)),
+        Err(_) => Err(no_memory(rt, program)),
     }
-    Ok(line)
 }
 
 /// Says that there was no memory, on standard error, and answers status 1.
@@ -58,10 +58,10 @@ fn no_memory(rt: &impl Eprint, program: &str) -> ExitCode {
     ExitCode::from(FAILED)
 }
 
-/// Says that an option is no UTF-8, on standard error, and answers status 2.
+/// Says that a word is no UTF-8, on standard error, and answers status 2.
 fn not_text(rt: &impl Eprint, program: &str) -> ExitCode {
     let _ = eprintln!(rt;
-        "{program}: an option is no UTF-8: only the name of a file that is read may be none (see {program} --help)"
+        "{program}: a word is no UTF-8: a file with such a name is given by < (see {program} --help)"
     );
     ExitCode::from(MISUSED)
 }

@@ -6,7 +6,9 @@ ghost use Rattle.command_line.specs.Options.{texts, is_option, is_one_of, is_val
 
 use crate::{MISUSED, message, output_failed};
 use anstyle_parse::io::Fault;
+use std::io;
 use std::process::ExitCode;
+use std::rt::Env;
 
 /// The version of the programs and of the library.
 pub const VERSION: &str = "0.1.0";
@@ -28,6 +30,12 @@ pub enum Request<'a> {
     Unvalued(&'a str),
     /// Nothing that it knows: this word is no option.
     Unknown(&'a str),
+}
+
+/// The words that the program was given, without its own name.
+pub fn given_words(rt: &(impl Env + AllocGlobal)) -> io::Result<Vec<String>> {
+    let words = std::env::args(rt)?.skip(1).collect(rt.alloc())?;
+    Ok(words)
 }
 
 /// What the words ask for, by the first that is none of the program's own `options`; `None` where

@@ -75,7 +75,8 @@ def built_cases(folder):
     for word, wanted in [("strip", text_of(stream)), ("events", printed_of(stream)), ("cloned", text_of(stream))]:
         done = run([folder + "whole", word], stream)
         yield "cargo: %s of a whole" % word, failure(done) or first_difference(done.stdout, wanted)
-    for kind, given in [("sequences", stream), ("carriage returns", b"".join(given for _, given, _ in RETURN_ROWS))]:
+    returns = b"".join(given for _, given, _ in RETURN_ROWS)
+    for kind, given in [("sequences", stream), ("carriage returns", returns), ("one that comes last", b"a\r")]:
         done = run([folder + "whole", "lf"], given)
         yield "cargo: lines of %s" % kind, failure(done) or first_difference(done.stdout, lines_text(given))
     generated = b"".join(given for _, given, _ in SAFE_ROWS + HIDDEN_ROWS)

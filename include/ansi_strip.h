@@ -97,6 +97,56 @@ bool ansi_strip_feed(ansi_strip *state, const unsigned char *piece, size_t count
  * and the state and the room are as they were. */
 bool ansi_strip_end(ansi_strip *state, unsigned char *room, size_t size, size_t *written);
 
+/* Lines that end with a line feed alone, as `ansi2text --lf` writes them: a recording by script(1) has a carriage return
+ * before each line feed, and these go. ansi_lf_feed takes a text in pieces: what each call of ansi_strip_feed has written,
+ * what ansi_strip_end has, and then ansi_lf_end ends it. (Text of ansi_safe.h has none of these carriage returns in any
+ * case.) */
+
+/* The bytes of room with which ansi_lf_feed always goes on. */
+#define ANSI_LF_LEAST_ROOM 2
+
+/* The bytes of room that ansi_lf_end needs. */
+#define ANSI_LF_END_ROOM 1
+
+/* The room in which any `count` bytes of text are always taken at once: their own, and a carriage return that waited. */
+#define ANSI_LF_ROOM(count) ((size_t)(count) + 1)
+
+/* Where a text stands between two pieces: 1 byte, which belongs to the caller. 0 begins a text (`= {0}` in C, `= {}` in
+ * C++), and so does ansi_lf_init. Any byte is valid, and it may be copied. */
+typedef struct ansi_lf {
+    unsigned char waits;
+} ansi_lf;
+
+/* Makes the state one that begins a text, whatever it was. */
+void ansi_lf_init(ansi_lf *state);
+
+/* Takes bytes of the text, and writes them without each carriage return right before a line feed.
+ *
+ * text, count     the bytes that come next, as many as there are
+ * room, size      where they go; at least ANSI_LF_LEAST_ROOM bytes
+ * taken           becomes how many bytes were taken, from the front of the text
+ * written         becomes how many bytes were written, to the front of the room
+ *
+ * Answers true where bytes were taken, or where there were none. Then all of them are written that are left, but for a
+ * carriage return that comes last, which waits for what comes next; and what follows `written` bytes of room is as it was.
+ * At least one byte was taken, and in ANSI_LF_ROOM(count) bytes of room all.
+ *
+ * Answers false where `count` is not 0 and `size` is below ANSI_LF_LEAST_ROOM. Then nothing is taken or written, `taken`
+ * and `written` become 0, and the state and the room are as they were. */
+bool ansi_lf_feed(ansi_lf *state, const unsigned char *text, size_t count,
+                  unsigned char *room, size_t size, size_t *taken, size_t *written);
+
+/* Ends the text: writes the carriage return that waits, if one does.
+ *
+ * room, size      where it goes; at least ANSI_LF_END_ROOM bytes
+ * written         becomes how many bytes that are
+ *
+ * Answers true where it did. The state then begins a text.
+ *
+ * Answers false where `size` is below ANSI_LF_END_ROOM. Then nothing is written, `written` becomes 0, and the state and
+ * the room are as they were. */
+bool ansi_lf_end(ansi_lf *state, unsigned char *room, size_t size, size_t *written);
+
 #ifdef __cplusplus
 }
 #endif

@@ -11,7 +11,9 @@ import tempfile
 import textwrap
 import time
 
+from library_lines import lines_text
 from library_shared import *
+from log_rows import RETURN_ROWS
 from safe_rows import HIDDEN_ROWS, SAFE_ROWS
 
 # Says which names of the package `import *` lacks.
@@ -71,6 +73,10 @@ def built_cases(folder):
     for word, wanted in [("strip", text_of(stream)), ("events", printed_of(stream)), ("cloned", text_of(stream))]:
         done = run([folder + "whole", word], stream)
         yield "cargo: %s of a whole" % word, failure(done) or first_difference(done.stdout, wanted)
+    returns = b"".join(given for _, given, _ in RETURN_ROWS)
+    for kind, given in [("sequences", stream), ("carriage returns", returns), ("one that comes last", b"a\r")]:
+        done = run([folder + "whole", "lf"], given)
+        yield "cargo: lines of %s" % kind, failure(done) or first_difference(done.stdout, lines_text(given))
     generated = b"".join(given for _, given, _ in SAFE_ROWS + HIDDEN_ROWS)
     for word in ("safe", "safe in pieces"):
         for kind, given in [("sequences", stream), ("rows of safe text", generated), ("what waits", b"a<U"), ("hidden text", b"a\x1b[8mb")]:
@@ -139,9 +145,9 @@ FIELDS = {
 WHOLES = [b"\x1b[1mA<", bytearray(b"A"), memoryview(b"A"), 2000 * b"\x1b[1mA"]
 STREAMS = [WHOLES, iter(WHOLES), []]
 TYPES = {  # what type checkers are told that each function takes and gives, with what it is then given
-    ("strip", "str", "bool", "str"): ["A", "\x1b[1mA", 2000 * "\x1b[1mA"],
-    ("strip", "_Bytes", "bool", "bytes"): WHOLES,
-    ("text_of", "Iterable[_Bytes]", "bool", "Iterator[bytes]"): STREAMS,
+    ("strip", "str", "bool", "bool", "str"): ["A", "\x1b[1mA", 2000 * "\x1b[1mA"],
+    ("strip", "_Bytes", "bool", "bool", "bytes"): WHOLES,
+    ("text_of", "Iterable[_Bytes]", "bool", "bool", "Iterator[bytes]"): STREAMS,
     ("to_html", "str", "str", "str"): ["A", "\x1b[1mA", 2000 * "\x1b[1mA"],
     ("to_html", "_Bytes", "str", "bytes"): WHOLES,
     ("html_of", "Iterable[_Bytes]", "str", "Iterator[bytes]"): [WHOLES, iter(WHOLES), []],

@@ -7,6 +7,8 @@ SAID = {
         "answers true where bytes were taken, or where there were none",
         "answers false where count is not 0 and size is below ansi_strip_least_room",
         "answers false where size is below ansi_strip_end_room",
+        "answers false where count is not 0 and size is below ansi_lf_least_room",
+        "answers false where size is below ansi_lf_end_room",
     ],
     "ansi_safe": [
         "answers true where bytes were taken, or where there were none",

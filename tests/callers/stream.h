@@ -1,4 +1,4 @@
-/* What safe.c and html.c share: a stream that goes on in one room, by a state whose type they name as STATE, and by the functions that
+/* What safe.c, lf.c and html.c share: a stream that goes on in one room, by a state whose type they name as STATE, and by the functions that
  * they name as FEED and END. */
 #include "expect.h"
 

@@ -1,7 +1,7 @@
-// Writes what the package makes of the whole input: its text, its safe text, its HTML in a styling, the text of its events, its text by
+// Writes what the package makes of the whole input: its text, that with lines that end with a line feed alone, its safe text, its HTML in a styling, the text of its events, its text by
 // a clone that was made on the way, or how many pieces are asked for before the first event.
 
-use ansi_proved::{Converter, Event, Events, SafeStripper, Sequence, Stripper, Styling, events, strip, strip_safe, to_html};
+use ansi_proved::{Converter, Event, Events, SafeStripper, Sequence, Stripper, Styling, events, strip, strip_lf, strip_safe, to_html};
 use std::cell::Cell;
 use std::io::{Read, Write, stdin, stdout};
 
@@ -62,6 +62,7 @@ fn main() {
     let word = std::env::args().nth(1).expect("a word says what is written");
     let written = match word.as_str() {
         "strip" => strip(&stream),
+        "lf" => strip_lf(&stream),
         "safe" => strip_safe(&stream),
         "safe in pieces" => String::from_utf8(safe_in_pieces(&stream)).expect("each part is UTF-8"),
         "events" => printed(&stream),

@@ -82,6 +82,12 @@ impl<W: Write> Writer<Stripper, W> {
         Writer { stream, inner }
     }
 
+    /// One whose text has no carriage return right before a line feed, as [`strip_lf`](crate::strip_lf) leaves it.
+    pub fn lf(inner: W) -> StripWriter<W> {
+        let stream = Stripper::lf();
+        Writer { stream, inner }
+    }
+
     /// The writer below. What was begun is dropped, as a sequence or a character that was cut off.
     pub fn into_inner(self) -> W {
         self.inner
@@ -111,8 +117,8 @@ impl<S: Stream, W: Write> Writer<S, W> {
         &mut self.inner
     }
 
-    /// Writes what the end leads to, and hands the writer below back: of text U+FFFD where a character is begun, of safe text what still
-    /// waits, of HTML what closes it.
+    /// Writes what the end leads to, and hands the writer below back: of text U+FFFD where a character is begun, and a carriage return
+    /// that waits for a line feed, of safe text what still waits, of HTML what closes it.
     pub fn finish(mut self) -> Result<W> {
         self.stream.finish(&mut self.inner)?;
         Ok(self.inner)

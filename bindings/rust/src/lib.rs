@@ -1,7 +1,7 @@
 //! Strips terminal output of its escapes, shows it as HTML, or reads it as events, by the proved library.
 //!
-//! [`strip`], [`strip_safe`] and [`to_html`] take the whole, [`Stripper`], [`SafeStripper`] and [`Converter`] a stream that
-//! comes in pieces; [`events`] takes pieces, and is an iterator.
+//! [`strip`], [`strip_lf`], [`strip_safe`] and [`to_html`] take the whole, [`Stripper`], [`SafeStripper`] and [`Converter`] a
+//! stream that comes in pieces; [`events`] takes pieces, and is an iterator.
 //!
 //! ```
 //! use ansi_proved::{strip, strip_safe, to_html, Event, Styling};
@@ -48,6 +48,12 @@ struct StripState {
 
 #[derive(Clone, Debug)]
 #[repr(C)]
+struct LineState {
+    waits: u8,
+}
+
+#[derive(Clone, Debug)]
+#[repr(C)]
 struct SafeState {
     length: usize,
     others: [u8; 1056],
@@ -88,6 +94,23 @@ unsafe extern "C" {
 
     fn ansi_strip_end(
         state: *mut StripState,
+        room: *mut u8,
+        size: usize,
+        written: *mut usize,
+    ) -> bool;
+
+    fn ansi_lf_feed(
+        state: *mut LineState,
+        text: *const u8,
+        count: usize,
+        room: *mut u8,
+        size: usize,
+        taken: *mut usize,
+        written: *mut usize,
+    ) -> bool;
+
+    fn ansi_lf_end(
+        state: *mut LineState,
         room: *mut u8,
         size: usize,
         written: *mut usize,
@@ -147,6 +170,7 @@ const STRIP_ROOM: usize = 4096;
 const SAFE_ROOM: usize = 16384;
 const HTML_ROOM: usize = 16384;
 const STRIP_END_ROOM: usize = 3;
+const LINE_END_ROOM: usize = 1;
 const SAFE_END_ROOM: usize = 50;
 const HTML_END_ROOM: usize = 6539;
 const EVENTS: usize = 1024;
@@ -212,7 +236,11 @@ fn end_with<State, E>(
 
 /// A stream that is stripped, which goes on with each piece. A clone goes on from where it was cloned.
 #[derive(Clone, Debug)]
-pub struct Stripper(StripState);
+pub struct Stripper {
+    stream: StripState,
+    /// Where the text stands, if its carriage returns before line feeds go.
+    lines: Option<LineState>,
+}
 
 impl Default for Stripper {
     fn default() -> Stripper {
@@ -223,10 +251,24 @@ impl Default for Stripper {
 impl Stripper {
     /// The beginning of a stream.
     pub fn new() -> Stripper {
-        Stripper(StripState {
+        let stream = StripState {
             length: 0,
             pending: [0; 1042],
-        })
+        };
+        Stripper {
+            stream,
+            lines: None,
+        }
+    }
+
+    /// The beginning of a stream whose text has no carriage return right before a line feed, as [`strip_lf`] leaves it. One
+    /// that comes last is handed on with the next piece, or at the end.
+    pub fn lf() -> Stripper {
+        let lines = Some(LineState { waits: 0 });
+        Stripper {
+            lines,
+            ..Stripper::new()
+        }
     }
 
     /// Hands on the text of the piece, in one part or several, each UTF-8 by itself. Where that
@@ -234,14 +276,37 @@ impl Stripper {
     pub fn strip<E>(
         &mut self,
         piece: &[u8],
-        write: impl FnMut(&[u8]) -> Result<(), E>,
+        mut write: impl FnMut(&[u8]) -> Result<(), E>,
     ) -> Result<(), E> {
-        feed_all(ansi_strip_feed, &mut self.0, piece, &mut [0; STRIP_ROOM], write)
+        let (stream, room) = (&mut self.stream, &mut [0; STRIP_ROOM]);
+        let Some(lines) = &mut self.lines else {
+            return feed_all(ansi_strip_feed, stream, piece, room, write);
+        };
+        let line_room = &mut [0; STRIP_ROOM + LINE_END_ROOM];
+        feed_all(ansi_strip_feed, stream, piece, room, |text| {
+            feed_all(ansi_lf_feed, lines, text, line_room, &mut write)
+        })
     }
 
-    /// Hands on what the end leads to: U+FFFD where a character is begun. Then a stream begins.
+    /// Hands on what the end leads to: U+FFFD where a character is begun, and a carriage return that waits for a line feed.
+    /// Then a stream begins.
     pub fn end<E>(&mut self, write: impl FnOnce(&[u8]) -> Result<(), E>) -> Result<(), E> {
-        end_with(ansi_strip_end, &mut self.0, &mut [0; STRIP_END_ROOM], write)
+        let (stream, room) = (&mut self.stream, &mut [0; STRIP_END_ROOM]);
+        let Some(lines) = &mut self.lines else {
+            return end_with(ansi_strip_end, stream, room, write);
+        };
+        let (mut all, mut filled) = ([0; STRIP_END_ROOM + LINE_END_ROOM], 0);
+        let mut keep = |part: &[u8]| {
+            all[filled..filled + part.len()].copy_from_slice(part);
+            filled += part.len();
+            Ok::<(), Infallible>(())
+        };
+        let line_room = &mut [0; STRIP_END_ROOM + LINE_END_ROOM];
+        let done = end_with(ansi_strip_end, stream, room, |text| {
+            feed_all(ansi_lf_feed, lines, text, line_room, &mut keep)
+        });
+        let Ok(()) = done.and_then(|()| end_with(ansi_lf_end, lines, &mut [0; LINE_END_ROOM], keep));
+        write(&all[..filled])
     }
 }
 
@@ -345,6 +410,16 @@ fn joined(
 pub fn strip(stream: impl AsRef<[u8]>) -> String {
     joined(|write| {
         let mut stripper = Stripper::new();
+        stripper.strip(stream.as_ref(), &mut *write)?;
+        stripper.end(write)
+    })
+}
+
+/// The same without each carriage return right before a line feed, as `ansi2text --lf` writes it: a recording by script(1)
+/// has one at the end of each line. (Safe text has none of these in any case.)
+pub fn strip_lf(stream: impl AsRef<[u8]>) -> String {
+    joined(|write| {
+        let mut stripper = Stripper::lf();
         stripper.strip(stream.as_ref(), &mut *write)?;
         stripper.end(write)
     })

@@ -1,6 +1,6 @@
 //! The calls of the package, as a user makes them: of wholes, of streams in pieces, and where a writer fails.
 
-use ansi_proved::{events, strip, strip_safe, to_html, Converter, Event, SafeStripper, Sequence, Stripper, Styling};
+use ansi_proved::{events, strip, strip_lf, strip_safe, to_html, Converter, Event, SafeStripper, Sequence, Stripper, Styling};
 use std::convert::Infallible;
 
 const STREAM: &[u8] = b"\x1b[31mhi\x1b[0m \xe2\x82\xac<b>\x07\n";
@@ -52,6 +52,35 @@ fn logs() {
         assert_eq!(strip_safe(stream), wanted);
         assert_eq!(to_html(stream, Styling::Both), wanted);
     }
+}
+
+/// A carriage return that comes last waits for the next piece, or for the end, after which a stream begins.
+#[test]
+fn lines_however_they_are_cut() {
+    let (stream, wanted) = (b"a\r\x1b[K\nb\r\r\n\rc\r\xe2", "a\nb\r\n\rc\r\u{fffd}");
+    assert_eq!(strip_lf(stream), wanted);
+    assert_eq!(strip_lf("a\r\n\r"), "a\n\r");
+    assert_eq!(strip("a\r\n"), "a\r\n");
+    let mut stripper = Stripper::lf();
+    for size in 1..=stream.len() {
+        let mut text = Vec::new();
+        for piece in stream.chunks(size) {
+            stripper.strip(piece, into(&mut text)).unwrap();
+        }
+        stripper.end(into(&mut text)).unwrap();
+        assert_eq!(text, wanted.as_bytes(), "in pieces of {size}");
+    }
+    let mut text = Vec::new();
+    stripper.strip(b"a\r", into(&mut text)).unwrap();
+    assert_eq!(text, b"a");
+    let mut clone = stripper.clone();
+    clone.strip(b"\n", into(&mut text)).unwrap();
+    stripper.end(into(&mut text)).unwrap();
+    assert_eq!(text, b"a\n\r");
+    let long = [b'x'; 9000];
+    stripper.strip(&long, into(&mut text)).unwrap();
+    assert!(text.ends_with(&long));
+    assert!(stripper.strip(b"d", |_| Err(())).is_err() && stripper.end(nowhere).is_ok());
 }
 
 /// What waits for the next character comes with it, or at the end, after which a stream begins.

@@ -37,6 +37,12 @@ fn text_goes_on() {
     let mut writer = StripWriter::new(Vec::new());
     writer.write_all(b"a\xe2\x82").unwrap();
     assert_eq!(writer.finish().unwrap(), "a\u{fffd}".as_bytes());
+    let mut writer = StripWriter::lf(Vec::new());
+    for piece in [&b"a\r"[..], b"\nb\r", b"c\r"] {
+        assert_eq!(writer.write(piece).unwrap(), piece.len());
+    }
+    assert_eq!(writer.get_ref(), b"a\nb\rc");
+    assert_eq!(writer.finish().unwrap(), b"a\nb\rc\r");
 }
 
 #[test]

@@ -10,6 +10,7 @@ ghost use Rattle.html_pieces.specs.State.{styling_in, styling_numbered, StandsFo
 ghost use Rattle.html_pieces.specs.Feed.{Feeds as FeedsHtml, Refuses as RefusesHtml, Ends, RefusesEnd};
 
 mod events;
+mod lf;
 mod safe;
 
 use html_pieces::HtmlState;

@@ -3,4 +3,5 @@
 mod driving;
 mod example_runs;
 mod faults;
+mod lines;
 mod names;

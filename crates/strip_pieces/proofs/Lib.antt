@@ -1,2 +1,3 @@
 pub mod SliceWriterLemmas
 pub mod FeedLemmas
+pub mod LineLemmas

@@ -1,3 +1,4 @@
 pub mod SliceWriter
 pub mod Feed
 pub mod PuttingProof
+pub mod Lines

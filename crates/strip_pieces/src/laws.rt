@@ -1,10 +1,15 @@
-//! The law of texts of pieces. It is the contract of a function that does nothing.
+//! The laws of texts of pieces. Each is the contract of a function that does nothing.
 ghost use Rattle.std.specs.Prelude.{◌≡◌, ℕ, List, [], ◌++◌};
 ghost use Rattle.anstyle_parse.specs.Stream.Call.{Call};
 ghost use Rattle.anstyle_parse.specs.Stream.Calls.{AreCalls};
 ghost use Rattle.anstyle_parse.specs.Machine.AsRead.{as_read, as_read_whole};
 ghost use Rattle.ansi_strip.specs.Inert.{inert_text};
+ghost use Rattle.ansi_strip.specs.LineFeeds.{without_returns};
 ghost use Rattle.strip_pieces.specs.Feed.{IsTextOf, IsEndOf};
+ghost use Rattle.strip_pieces.specs.Lines.{StandsForText, AreLinesOf, AreEndOf};
+
+use crate::lines::LineState;
+use ansi_strip::laws::line_feeds;
 
 /// The texts of pieces, one after another, are the text of the whole; and the text of all bytes
 /// of a stream is the inert text of the calls of what is read of them, also with what its end leads to.
@@ -16,4 +21,23 @@ pub fn texts_joined()
         × AreCalls (as_read bytes) calls × (text ≡ inert_text calls) }
     ensures ended { (bytes text end : List ℕ) → IsTextOf [] bytes text → IsEndOf bytes end
         → (calls : List Call) × AreCalls (as_read_whole bytes) calls × (text ++ end ≡ inert_text calls) }
+{}
+
+/// What is left of pieces of a text by a [`LineState`], one after another, and then what waits at its end, is the whole
+/// text without each carriage return right before a line feed, however it is cut: what a
+/// [`LineFeeds`](ansi_strip::LineFeeds) writes of it.
+pub fn lines_joined()
+    ensures pieces { (before text more lines rest : List ℕ) → AreLinesOf before text lines
+        → AreLinesOf (before ++ text) more rest
+        → AreLinesOf before (text ++ more) (lines ++ rest) }
+    ensures whole { (text lines end : List ℕ) → AreLinesOf [] text lines → AreEndOf text end
+        → lines ++ end ≡ without_returns text }
+{
+    line_feeds();
+}
+
+/// A state of a zero byte begins a text, and a clone of one is the same.
+pub fn line_states()
+    ensures zero { (state : LineState) → state.waits ≡ 0 → StandsForText state [] }
+    ensures clones { (state clone : LineState) → ⟦<LineState as Clone>⟧.is_clone state clone → clone ≡ state }
 {}

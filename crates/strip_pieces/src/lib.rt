@@ -2,7 +2,7 @@
 //!
 //! A [`StreamState`](stream_state::StreamState) says where the stream stands; [`feed`] takes bytes of a piece
 //! and writes their text into a slice, and [`end`] what the end leads to. No memory is taken, and no input
-//! is refused.
+//! is refused. Behind it a [`LineState`] drops each carriage return right before a line feed.
 //!
 //! ```
 //! let mut state = StreamState::new();
@@ -14,6 +14,8 @@
 
 mod feeding;
 pub mod laws;
+mod lines;
 mod slice_writer;
 
 pub use feeding::{END_ROOM, LEAST_ROOM, end, feed};
+pub use lines::{LEAST_LINE_ROOM, LINE_END_ROOM, LineState};

@@ -45,7 +45,7 @@ impl<'a> SliceWriter<'a> {
 
     /// One byte more.
     #[inline]
-    fn put_byte(&mut self, byte: u8)
+    pub(crate) fn put_byte(&mut self, byte: u8)
         ensures { Puts (byte ∷ []) self.old self.new }
     {
         if self.written < self.into.len() {

@@ -26,7 +26,8 @@ r"""Strips terminal output of its escapes, shows it as HTML, as events or on a s
 `strip` and `to_html` take the whole: a str, and give a str; or bytes, a bytearray or a memoryview, and give
 bytes. `text_of` and `html_of` take a stream that comes in pieces of bytes, such as a list or a file, and give
 bytes, those of a piece before the next piece is asked for. `events` takes a whole or such a stream. Anything else
-is a TypeError in words. With `safe=True`, `strip` and `text_of` give text that hides nothing, as `ansi2text --safe`.
+is a TypeError in words. With `safe=True`, `strip` and `text_of` give text that hides nothing, as `ansi2text --safe`;
+with `lf=True` text without a carriage return before a line feed, as `ansi2text --lf`.
 
 HTML has a styling: "both", "light", "dark" or "classes" (include/ansi_html.h says what they are); another one
 is a ValueError. What the text is, include/ansi_strip.h says, and with `safe=True` include/ansi_safe.h; what events there

@@ -6,6 +6,7 @@ import re
 from .library import (
     END, FEED, FEW, Counts, Idle, Room, address_of, decoded, exact, function, joined, parts_of, pieces_of, whole_of,
 )  # fmt: skip
+from .lines import lines_of
 from .safe import safe as safe_text, safe_of
 
 MOST = 64 << 10  # bytes that one call is given at most
@@ -63,13 +64,16 @@ class Stripper:
             yield made(room.view[: self._counts.written])
 
 
-def text_of(stream, *, safe=False):
+def text_of(stream, *, safe=False, lf=False):
     """Gives the text of a stream that comes in pieces, each bytes, a bytearray or a memoryview: as `strip` leaves it.
 
-    The text of a piece is given before the next piece is asked for, but where it is safe for a carriage return, a `<`, a
-    `<U` or a joiner that comes last. Each part is UTF-8 by itself.
+    The text of a piece is given before the next piece is asked for, but for a carriage return that comes last, where it is
+    safe or has none before a line feed, and where it is safe for a `<`, a `<U` or a joiner. Each part is UTF-8 by itself.
     """
-    return safe_of(stream) if safe else parts_of(Stripper(), pieces_of(stream))
+    if safe:
+        return safe_of(stream)
+    parts = parts_of(Stripper(), pieces_of(stream))
+    return lines_of(parts) if lf else parts
 
 
 class ShortStripper:
@@ -108,23 +112,26 @@ def is_clean(text):
     return 2 * len(begin) > 3 * min(len(text), 4096) and CLEAN.match(text).end() == len(text)
 
 
-def strip(text, *, safe=False):
+def strip(text, *, safe=False, lf=False):
     """The text of terminal output: of a str a str, of bytes, a bytearray or a memoryview bytes.
 
     It drives no terminal: DEL and U+0080 to U+009F, which some terminals take for controls, are left out too. No other
     byte vanishes: what is broken, and what belongs to no character, is U+FFFD. Where it is
     to be safe, it hides nothing, as that of `ansi2text --safe`: what shows nothing, turns the order of text round or is a
     control is written visibly, as `<U+202E>`, and text that a stream hides (SGR 8) stands between `<U+hidden>` and
-    `<U+shown>`.
+    `<U+shown>`. With `lf` each carriage return right before a line feed goes, as a recording by script(1) has it at the end
+    of each line; where it is to be safe it goes in any case.
     """
     if safe:
         return safe_text(text)
     if isinstance(text, str):
         if type(text) is not str:
             text = exact(text)
-        if is_clean(text):
-            return text  # (clean text is left as it is: laws::inert_clean_text of ansi_strip)
+        if is_clean(text) and not (lf and "\r\n" in text):
+            return text  # (clean text is left as it is: laws::inert_clean_text and laws::line_feeds of ansi_strip)
     piece, is_str = whole_of(text)
+    if lf:
+        return joined(lambda made: lines_of(parts_of(Stripper(), [piece]), made), is_str)
     if len(piece) > FEW:
         return joined(lambda made: parts_of(Stripper(), [piece], made), is_str)
     stripper = SHORT_STRIPPERS.taken()

@@ -1,4 +1,4 @@
-"""Text without the carriage returns that stand right before a line feed: ansi_lf of ansi_strip.h, for Python."""
+"""Text without the carriage returns that stand right before a line feed."""
 
 import ctypes
 
@@ -16,7 +16,7 @@ _end = function("ansi_lf_end", *END)
 
 
 def room_of(count):
-    """The bytes of room in which so many are taken at once: ANSI_LF_ROOM."""
+    """The bytes of room in which so many are taken at once."""
     return count + 1
 
 

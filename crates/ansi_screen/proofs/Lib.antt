@@ -2,9 +2,9 @@ pub mod CellLemmas
 pub mod RunLemmas
 pub mod PrintedLemmas
 pub mod PartLemmas
+pub mod BlankLemmas
 pub mod GridLemmas
-pub mod ShiftLemmas
-pub mod WindowLemmas
+pub mod MovedLemmas
 pub mod PairLemmas
 pub mod WholeLemmas
 pub mod KeptLemmas

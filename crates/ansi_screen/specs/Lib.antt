@@ -10,6 +10,7 @@ pub mod Print
 pub mod Runs
 pub mod Modes
 pub mod Reachable
+pub mod Grid
 pub mod After
 pub mod Leaving
 pub mod Size

@@ -24,9 +24,7 @@ use std::marker::Model;
 /// Cells in rows, the cursor, margins, tabs and modes, and the alternate screen.
 #[derive(Drop)]
 pub(crate) struct Display {
-    width: usize,
-    height: usize,
-    /// Row by row.
+    /// What it shows, in so many columns and rows as the display has.
     cells: Grid,
     cursor: Place,
     /// What DECSC saved.
@@ -50,14 +48,15 @@ pub(crate) struct Display {
 }
 
 impl Model for Display {
+    ghost use Rattle.std.specs.Prelude.{◌≡◌};
     ghost use Rattle.ansi_screen.specs.Display.{Display, IsSized};
 
     ghost Value = { Display };
 
     ghost view = { λ s. record {
-      width = s.width;
-      height = s.height;
-      cells = s.cells;
+      width = s.cells.width;
+      height = s.cells.height;
+      cells = s.cells.cells;
       cursor = s.cursor;
       saved = s.saved;
       top = s.top;
@@ -69,14 +68,14 @@ impl Model for Display {
       links = s.links;
       link = s.link;
       is_alternate = s.is_alternate;
-      hidden = s.hidden;
+      hidden = s.hidden.cells;
       hidden_saved = s.hidden_saved;
     } };
 
-    ghost invariant = { λ s. IsSized (record {
-      width = s.width;
-      height = s.height;
-      cells = s.cells;
+    ghost invariant = { λ s. (s.hidden.width ≡ s.cells.width) × (s.hidden.height ≡ s.cells.height) × IsSized (record {
+      width = s.cells.width;
+      height = s.cells.height;
+      cells = s.cells.cells;
       cursor = s.cursor;
       saved = s.saved;
       top = s.top;
@@ -88,13 +87,13 @@ impl Model for Display {
       links = s.links;
       link = s.link;
       is_alternate = s.is_alternate;
-      hidden = s.hidden;
+      hidden = s.hidden.cells;
       hidden_saved = s.hidden_saved;
     }) };
 }
 
 impl Display {
-    ghost use Rattle.ansi_screen.specs.Display.{fresh, IsSized, row_start, row_end, here, row_cells};
+    ghost use Rattle.ansi_screen.specs.Display.{fresh, IsSized, row_cells};
 
     /// A blank screen of so many columns and rows, with the cursor at its top left. `Err` means
     /// that memory is wanting.
@@ -105,14 +104,11 @@ impl Display {
         requires max_rows { rows ≤ MAX_ROWS }
         ensures { IfOk result (λ display. display ≡ fresh columns rows) }
     {
-        let size = rows * columns;
-        let cells = Grid::new(alloc, size, columns)?;
-        let hidden = Grid::new(alloc, size, columns)?;
+        let cells = Grid::new(alloc, columns, rows as u16)?;
+        let hidden = Grid::new(alloc, columns, rows as u16)?;
         let mut tabs = Vec::from_elem(alloc, false, columns)?;
         reset_stops(tabs.as_mut_slice());
         Ok(Display {
-            width: columns,
-            height: rows,
             cells,
             cursor: Place::home(),
             saved: Place::home(),
@@ -135,7 +131,7 @@ impl Display {
         ensures columns { result ≡ self.now.width }
         ensures sized { IsSized self.now }
     {
-        self.width
+        self.cells.width()
     }
 
     /// How many rows it has.
@@ -143,7 +139,7 @@ impl Display {
         ensures rows { result ≡ self.now.height }
         ensures sized { IsSized self.now }
     {
-        self.height
+        self.cells.height()
     }
 
     /// The cells of a row, counted from 0.
@@ -152,8 +148,7 @@ impl Display {
         ensures cells { result.now ≡ row_cells row self.now }
         ensures columns { length result.now ≡ self.now.width }
     {
-        let start = row * self.width;
-        &self.cells.as_slice()[start..start + self.width]
+        self.cells.row(row)
     }
 
     /// Where the cursor is, with the style of what comes next.
@@ -168,24 +163,5 @@ impl Display {
         ensures { result ≡ self.now.is_visible }
     {
         self.is_visible
-    }
-
-    /// Where the cursor's row begins in the list of cells.
-    fn row_start(&self) -> usize
-        ensures place { result ≡ row_start self.now }
-        ensures within { row_end self.now ≤ length self.now.cells }
-        ensures limit { row_end self.now ≤ 1000000 }
-    {
-        self.cursor.row * self.width
-    }
-
-    /// Where the cursor is in the list of cells.
-    fn here(&self) -> usize
-        requires { self.now.cursor.column < self.now.width }
-        ensures place { result ≡ here self.now }
-        ensures within { row_end self.now ≤ length self.now.cells }
-        ensures limit { row_end self.now ≤ 1000000 }
-    {
-        self.row_start() + self.cursor.column
     }
 }

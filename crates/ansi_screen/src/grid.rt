@@ -1,381 +1,433 @@
-//! The cells of a screen, in memory in which all of them can move on or back.
-ghost use Rattle.std.specs.Prelude.{◌≡◌, ◌+◌, ◌<◌, ◌≤◌, ◌++◌, length, take, drop, replicate, if◌then◌else◌, IfOk};
+//! The cells of a screen: rows, of which each can stand anywhere in memory.
+ghost use Rattle.std.specs.Prelude.{◌≡◌, true, false, ◌+◌, ◌-◌, ◌*◌, ◌<◌, ◌≤◌, ◌++◌, length, take, drop, replicate, IfOk};
 ghost use Rattle.ansi_style.specs.Style.{plain};
 ghost use Rattle.ansi_screen.specs.Cells.{blank, marked_before, going_on, within, change, erased, moved_back, moved_on, deleted, inserted};
 ghost use Rattle.ansi_screen.specs.Following.{copied};
+ghost use Rattle.ansi_screen.specs.Grid.{with_list, IsOrder};
 ghost use Rattle.ansi_screen.specs.Print.{glyph};
+ghost use Rattle.ansi_screen.specs.Reachable.{RowsBegin};
 ghost use Rattle.ansi_screen.specs.Runs.{with_glyphs};
 
 use crate::cell::Cell;
-use crate::{runs, window};
+use crate::row::{Row, has_ground};
 use ansi_style::Style;
 use std::alloc::{AllocError, Global};
 use std::marker::Model;
 
-/// How many cells there are beside those of two windows: the window of a small screen moves through them, and seldom
-/// has to go to another place with all its cells.
-const SPARE: usize = 16384;
-
-/// How many of these are made use of at first.
-const FIRST_SPARE: usize = 1024;
-
-/// Cells, of which a window is shown. Where most rows scroll, the window moves instead of them.
+/// Rows of cells. Where rows scroll, their numbers change places, and their cells stay where they are in memory.
 #[derive(Drop)]
 pub(crate) struct Grid {
-    /// As many of them as were made use of. There is memory for twice as many as are shown, and `SPARE` more.
-    memory: Vec<Cell>,
-    /// Where those that are shown begin.
-    start: usize,
-    /// How many are shown.
-    size: usize,
-    /// A row of plain blanks, of which new cells are copies.
-    blanks: Vec<Cell>,
-    /// How many cells of the memory are made use of before those that are shown go back to its front: each time they do,
-    /// twice as many.
-    limit: usize,
-    /// One of these may be something else than a plain blank.
+    width: usize,
+    /// For each row that is shown, from the top, which of `rows` it is.
+    order: Vec<u16>,
+    rows: Vec<Row>,
+    /// Something may have been written on one of the rows.
     is_written: bool,
 }
 
 impl Model for Grid {
-    ghost use Rattle.std.specs.Prelude.{◌≡◌, ◌+◌, ◌≤◌, List, length, take, drop, replicate};
+    ghost use Rattle.std.specs.Prelude.{◌≡◌, ◌<◌, length, replicate};
     ghost use Rattle.std.specs.Bool.{OnFalse};
     ghost use Rattle.ansi_style.specs.Style.{plain};
     ghost use Rattle.ansi_screen.specs.Cells.{blank};
-    ghost use Rattle.ansi_screen.specs.declared.cell.Cell.{Cell};
+    ghost use Rattle.ansi_screen.specs.Grid.{Grid, flat, in_order, AreRows, IsOrder};
 
-    ghost Value = { List Cell };
+    ghost Value = { Grid };
 
-    ghost view = { λ grid. take grid.size (drop grid.start grid.memory.items) };
+    ghost view = { λ g. record {
+      width = g.width;
+      height = length g.order.items;
+      cells = flat (in_order g.order.items g.rows.items);
+    } };
 
-    ghost invariant = { λ grid. (grid.start + grid.size ≤ length grid.memory.items)
-        × OnFalse grid.is_written (take grid.size (drop grid.start grid.memory.items) ≡ replicate grid.size (blank plain))
-        × (grid.blanks.items ≡ replicate (length grid.blanks.items) (blank plain)) };
+    ghost invariant = { λ g. (0 < g.width) × AreRows g.width g.rows.items × IsOrder (length g.rows.items) g.order.items
+        × OnFalse g.is_written (flat (in_order g.order.items g.rows.items)
+        ≡ replicate (length (flat (in_order g.order.items g.rows.items))) (blank plain)) };
+}
+
+/// So many blank rows.
+fn blank_rows(alloc: Global, width: usize, height: usize) -> Result<Vec<Row>, AllocError>
+    ensures { IfOk result (λ rows. rows.items ≡ replicate height (replicate width (blank plain))) }
+{
+    let mut rows = Vec::with_capacity(alloc, height)?;
+    for _row in 0..height {
+        rows.push(Row::new(alloc, width)?)?;
+    }
+    Ok(rows)
+}
+
+/// So many numbers, from 0.
+#[tactic(auto, using(crate::proofs::MovedLemmas::order_push, crate::proofs::MovedLemmas::order_none))]
+fn numbers(alloc: Global, count: u16) -> Result<Vec<u16>, AllocError>
+    ensures length { IfOk result (λ order. length order.items ≡ count) }
+    ensures order { IfOk result (λ order. IsOrder count order.items) }
+{
+    let mut order = Vec::with_capacity(alloc, usize::from(count))?;
+    for number in 0..count {
+        order.push(number)?;
+    }
+    Ok(order)
+}
+
+/// The first `count` come behind the others.
+fn rotate_back(order: &mut [u16], count: usize)
+    requires { count ≤ length order.old }
+    ensures { order.new ≡ drop count order.old ++ take count order.old }
+{
+    order.rotate_left(count);
+}
+
+/// The last `count` come before the others.
+fn rotate_on(order: &mut [u16], count: usize)
+    requires { count ≤ length order.old }
+    ensures { order.new ≡ drop (length order.old - count) order.old ++ take (length order.old - count) order.old }
+{
+    order.rotate_right(count);
 }
 
 impl Grid {
-    /// So many blank cells, in rows of so many columns.
-    pub(crate) fn new(alloc: Global, size: usize, columns: usize) -> Result<Grid, AllocError>
-        requires { size ≤ 1000000 }
-        ensures { IfOk result (λ grid. grid ≡ replicate size (blank plain)) }
+    /// So many blank rows of so many cells.
+    pub(crate) fn new(alloc: Global, width: usize, height: u16) -> Result<Grid, AllocError>
+        requires { 0 < width }
+        ensures { IfOk result (λ grid. grid ≡ record {
+          width = width;
+          height = height;
+          cells = replicate (height * width) (blank plain);
+        }) }
     {
-        let blank = Cell::blank(Style::default());
-        let mut memory = Vec::with_capacity(alloc, 2 * size + SPARE)?;
-        // (there is memory for them)
-        memory.resize(size, blank)?;
+        let rows = blank_rows(alloc, width, usize::from(height))?;
         Ok(Grid {
-            memory,
-            start: 0,
-            size,
-            blanks: Vec::from_elem(alloc, blank, columns)?,
-            limit: 2 * size + FIRST_SPARE,
+            width,
+            order: numbers(alloc, height)?,
+            rows,
             is_written: false,
         })
     }
 
-    /// Makes use of the memory up to so many cells, so that none is written before. Where these are more than the limit,
-    /// what is shown has to go to another place, and more of them are made use of from then on.
-    fn reach(&mut self, end: usize)
-        ensures { self.new ≡ self.old }
+    /// How many cells a row has.
+    #[inline]
+    pub(crate) fn width(&self) -> usize
+        ensures width { result ≡ self.now.width }
+        ensures some { 0 < self.now.width }
+        ensures filled { length self.now.cells ≡ self.now.height * self.now.width }
+        ensures begin { RowsBegin self.now.width self.now.cells }
     {
-        let blank = Cell::blank(Style::default());
-        let (reached, limit) = (self.memory.len(), self.limit);
-        let blanks = self.blanks.as_slice();
-        if reached < end && !append(&mut self.memory, end - reached, limit, blank, blanks) {
-            self.raise_limit();
-        }
+        self.width
     }
 
-    /// Lets twice as many cells be made use of, if there is memory for them.
-    fn raise_limit(&mut self)
-        ensures { self.new ≡ self.old }
+    /// How many rows there are.
+    #[inline]
+    pub(crate) fn height(&self) -> usize
+        ensures { result ≡ self.now.height }
     {
-        self.limit = self.limit.saturating_mul(2).min(self.memory.capacity());
+        self.order.len()
     }
 
-    /// How many cells are shown.
-    pub(crate) fn len(&self) -> usize
-        ensures { result ≡ length self.now }
+    /// The cells of a row.
+    pub(crate) fn row(&self, row: usize) -> &[Cell]
+        requires { row < self.now.height }
+        ensures cells { result.now ≡ take self.now.width (drop (row * self.now.width) self.now.cells) }
+        ensures columns { length result.now ≡ self.now.width }
     {
-        self.size
+        let at = usize::from(self.order[row]);
+        self.rows[at].as_slice()
     }
 
-    /// The cells that are shown.
-    pub(crate) fn as_slice(&self) -> &[Cell]
-        ensures { result.now ≡ self.now }
-    {
-        &self.memory.as_slice()[self.start..self.start + self.size]
-    }
-
-    /// All of them are as this one.
-    pub(crate) fn fill(&mut self, cell: Cell)
-        ensures cells { self.new ≡ replicate (length self.old) cell }
-        ensures length { length self.new ≡ length self.old }
-    {
-        if cell == Cell::blank(Style::default()) {
-            self.fill_with_blanks();
-        } else {
-            self.is_written = true;
-            self.memory.as_mut_slice()[self.start..self.start + self.size].fill(cell);
-        }
-    }
-
-    /// All of them are plain blanks. Those that no call has written since they were are left.
-    fn fill_with_blanks(&mut self)
-        ensures cells { self.new ≡ replicate (length self.old) (blank plain) }
-        ensures length { length self.new ≡ length self.old }
-    {
-        if self.is_written {
-            let blank = Cell::blank(Style::default());
-            self.memory.as_mut_slice()[self.start..self.start + self.size].fill(blank);
-            self.is_written = false;
-        }
-    }
-
-    /// The cells from `start` up to `end` become as those of another one are.
-    pub(crate) fn copy(&mut self, start: usize, end: usize, other: &Grid)
-        requires order { start ≤ end }
-        requires within { end ≤ length self.old }
-        requires length { length self.old ≡ length other.now }
-        ensures cells { self.new ≡ copied start end other.now self.old }
-        ensures length { length self.new ≡ length self.old }
+    /// All cells of a row are blank.
+    fn fill_row(&mut self, row: usize, style: Style)
+        requires { row < self.old.height }
+        ensures { self.new ≡ with_list (within (row * self.old.width) (row * self.old.width + self.old.width)
+            (erased (blank style)) self.old.cells) self.old }
     {
         self.is_written = true;
-        let shown = &mut self.memory.as_mut_slice()[self.start..self.start + self.size];
-        runs::copy(shown, start, end, other.as_slice());
+        let at = usize::from(self.order[row]);
+        self.rows[at].fill(style);
     }
 
-    /// All cells become as those of another one are. Nothing is copied where these are plain blanks.
+    /// The rows from `first` up to `last` are blank.
+    fn fill_rows(&mut self, first: usize, last: usize, style: Style)
+        requires order { first ≤ last }
+        requires within { last ≤ self.old.height }
+        ensures { self.new ≡ with_list (within (first * self.old.width) (last * self.old.width) (erased (blank style))
+            self.old.cells) self.old }
+    {
+        // The cells fill the rows.
+        let _ = self.width();
+        for row in first..last {
+            self.fill_row(row, style);
+        }
+    }
+
+    /// Whether something may have been written since all cells were plain blanks.
+    fn has_writing(&self) -> bool
+        ensures { result ≡ false → self.now.cells ≡ replicate (length self.now.cells) (blank plain) }
+    {
+        self.is_written
+    }
+
+    /// Nothing was written on blank cells, where they have no background.
+    fn end_writing(&mut self, style: Style)
+        requires { self.old.cells ≡ replicate (length self.old.cells) (blank style) }
+        ensures { self.new ≡ self.old }
+    {
+        self.is_written = has_ground(style);
+    }
+
+    /// All cells are blank, in the background of the style. Where no call has written since they were plain blanks,
+    /// nothing is done to make them so.
+    pub(crate) fn fill(&mut self, style: Style)
+        ensures { self.new ≡ with_list (replicate (length self.old.cells) (blank style)) self.old }
+    {
+        // The cells fill the rows.
+        let _ = self.width();
+        if self.has_writing() || has_ground(style) {
+            let height = self.height();
+            self.fill_rows(0, height, style);
+            self.end_writing(style);
+        }
+    }
+
+    /// A row becomes as that of another grid is.
+    fn copy_row(&mut self, row: usize, other: &Grid)
+        requires width { self.old.width ≡ other.now.width }
+        requires row { row < self.old.height }
+        requires other_row { row < other.now.height }
+        ensures { self.new ≡ with_list (copied (row * self.old.width) (row * self.old.width + self.old.width)
+            other.now.cells self.old.cells) self.old }
+    {
+        self.is_written = true;
+        let at = usize::from(self.order[row]);
+        let other_at = usize::from(other.order[row]);
+        self.rows[at].copy(&other.rows[other_at]);
+    }
+
+    /// The rows from `first` up to `last` become as those of another grid are.
+    pub(crate) fn copy_rows(&mut self, first: usize, last: usize, other: &Grid)
+        requires width { self.old.width ≡ other.now.width }
+        requires height { self.old.height ≡ other.now.height }
+        requires order { first ≤ last }
+        requires within { last ≤ self.old.height }
+        ensures { self.new ≡ with_list (copied (first * self.old.width) (last * self.old.width) other.now.cells
+            self.old.cells) self.old }
+    {
+        // The cells fill the rows.
+        let _ = self.width();
+        let _ = other.width();
+        for row in first..last {
+            self.copy_row(row, other);
+        }
+    }
+
+    /// All cells become as those of another grid are. Nothing is copied where these are plain blanks.
     pub(crate) fn copy_all(&mut self, other: &Grid)
-        requires { length self.old ≡ length other.now }
+        requires width { self.old.width ≡ other.now.width }
+        requires height { self.old.height ≡ other.now.height }
         ensures { self.new ≡ other.now }
     {
-        if other.is_written {
-            self.copy(0, self.size, other);
+        // The cells fill the rows.
+        let _ = self.width();
+        let _ = other.width();
+        if other.has_writing() {
+            let height = self.height();
+            self.copy_rows(0, height, other);
         } else {
-            self.fill_with_blanks();
+            self.fill(Style::default());
         }
     }
 
-    /// Blanks from `start` up to `end`.
-    pub(crate) fn erase(&mut self, start: usize, end: usize, blank: Cell)
+    /// Blanks in a row from `start` up to `end`.
+    pub(crate) fn erase(&mut self, row: usize, start: usize, end: usize, style: Style)
+        requires row { row < self.old.height }
         requires order { start ≤ end }
-        requires within { end ≤ length self.old }
-        ensures cells { self.new ≡ change start end (erased blank) self.old }
-        ensures length { length self.new ≡ length self.old }
+        requires within { end ≤ self.old.width }
+        ensures { self.new ≡ with_list (change (row * self.old.width + start) (row * self.old.width + end)
+            (erased (blank style)) self.old.cells) self.old }
     {
         self.is_written = true;
-        let shown = &mut self.memory.as_mut_slice()[self.start..self.start + self.size];
-        runs::erase(shown, start, end, blank);
+        let at = usize::from(self.order[row]);
+        self.rows[at].erase(start, end, style);
     }
 
-    /// Deletes cells from `start` on; those up to `end` move there.
-    pub(crate) fn delete(&mut self, start: usize, end: usize, count: usize, blank: Cell)
-        requires order { start ≤ end }
-        requires within { end ≤ length self.old }
-        ensures cells { self.new ≡ deleted count start end blank self.old }
-        ensures length { length self.new ≡ length self.old }
+    /// Blanks from a cell on.
+    pub(crate) fn erase_from(&mut self, row: usize, column: usize, style: Style)
+        requires row { row < self.old.height }
+        requires column { column < self.old.width }
+        ensures { self.new ≡ with_list (change (row * self.old.width + column) (length self.old.cells)
+            (erased (blank style)) self.old.cells) self.old }
     {
-        self.is_written = true;
-        let shown = &mut self.memory.as_mut_slice()[self.start..self.start + self.size];
-        runs::delete(shown, start, end, count, blank);
+        let width = self.width();
+        let height = self.height();
+        self.erase(row, column, width, style);
+        self.fill_rows(row + 1, height, style);
     }
 
-    /// Inserts blanks at `start`; the cells from there on move, and those past `end` are lost.
-    pub(crate) fn insert(&mut self, start: usize, end: usize, count: usize, blank: Cell)
-        requires order { start ≤ end }
-        requires within { end ≤ length self.old }
-        ensures cells { self.new ≡ inserted count start end blank self.old }
-        ensures length { length self.new ≡ length self.old }
+    /// Blanks up to a cell, and there.
+    pub(crate) fn erase_to(&mut self, row: usize, column: usize, style: Style)
+        requires row { row < self.old.height }
+        requires column { column < self.old.width }
+        ensures { self.new ≡ with_list (change 0 (row * self.old.width + (column + 1))
+            (erased (blank style)) self.old.cells) self.old }
+    {
+        let _ = self.width();
+        self.erase(row, 0, column + 1, style);
+        self.fill_rows(0, row, style);
+    }
+
+    /// All cells are blank.
+    pub(crate) fn erase_all(&mut self, style: Style)
+        ensures { self.new ≡ with_list (change 0 (length self.old.cells) (erased (blank style)) self.old.cells)
+            self.old }
+    {
+        self.fill(style);
+    }
+
+    /// Deletes cells of a row from `start` on; those behind them move there.
+    pub(crate) fn delete(&mut self, row: usize, start: usize, count: usize, style: Style)
+        requires row { row < self.old.height }
+        requires start { start ≤ self.old.width }
+        ensures { self.new ≡ with_list (deleted count (row * self.old.width + start)
+            (row * self.old.width + self.old.width) (blank style) self.old.cells) self.old }
     {
         self.is_written = true;
-        let shown = &mut self.memory.as_mut_slice()[self.start..self.start + self.size];
-        runs::insert(shown, start, end, count, blank);
+        let at = usize::from(self.order[row]);
+        self.rows[at].delete(start, count, style);
+    }
+
+    /// Inserts blanks at `start`; the cells of the row from there on move, and those past its end are lost.
+    pub(crate) fn insert(&mut self, row: usize, start: usize, count: usize, style: Style)
+        requires row { row < self.old.height }
+        requires start { start ≤ self.old.width }
+        ensures { self.new ≡ with_list (inserted count (row * self.old.width + start)
+            (row * self.old.width + self.old.width) (blank style) self.old.cells) self.old }
+    {
+        self.is_written = true;
+        let at = usize::from(self.order[row]);
+        self.rows[at].insert(start, count, style);
     }
 
     /// A character of so many columns, in a link or in none.
-    pub(crate) fn put(&mut self, place: usize, columns: u16, c: char, style: Style, link: u32)
+    pub(crate) fn put(
+        &mut self,
+        row: usize,
+        column: usize,
+        columns: u16,
+        c: char,
+        style: Style,
+        link: u32,
+    )
+        requires row { row < self.old.height }
         requires some { 1 ≤ columns }
         requires few { columns ≤ 2 }
-        requires within { place + columns ≤ length self.old }
-        ensures cells { self.new ≡ change place (place + columns) (λ run. glyph columns c style link) self.old }
-        ensures length { length self.new ≡ length self.old }
+        requires within { column + columns ≤ self.old.width }
+        ensures { self.new ≡ with_list (change (row * self.old.width + column) (row * self.old.width + column + columns)
+            (λ run. glyph columns c style link) self.old.cells) self.old }
     {
         self.is_written = true;
-        let shown = &mut self.memory.as_mut_slice()[self.start..self.start + self.size];
-        runs::put(shown, place, columns, c, style, link);
+        let at = usize::from(self.order[row]);
+        self.rows[at].put(column, columns, c, style, link);
     }
 
-    /// Printed ASCII, a character in each cell from `place` on, in a link or in none.
+    /// Printed ASCII, a character in each cell from `column` on, in a link or in none.
     #[inline]
-    pub(crate) fn put_run(&mut self, place: usize, run: &[u8], style: Style, link: u32)
+    pub(crate) fn put_run(&mut self, row: usize, column: usize, run: &[u8], style: Style, link: u32)
+        requires row { row < self.old.height }
         requires some { 0 < length run.now }
-        requires within { place + length run.now ≤ length self.old }
-        ensures cells { self.new ≡ with_glyphs place run.now style link self.old }
-        ensures length { length self.new ≡ length self.old }
+        requires within { column + length run.now ≤ self.old.width }
+        ensures { self.new ≡ with_list (with_glyphs (row * self.old.width + column) run.now style link self.old.cells)
+            self.old }
     {
         self.is_written = true;
-        let shown = &mut self.memory.as_mut_slice()[self.start..self.start + self.size];
-        runs::put_run(shown, place, run, style, link);
+        let at = usize::from(self.order[row]);
+        self.rows[at].put_run(column, run, style, link);
     }
 
-    /// A mark of the character that stands before `place`.
-    pub(crate) fn mark_before(&mut self, place: usize, mark: char)
-        requires some { 0 < place }
-        requires within { place ≤ length self.old }
-        ensures cells { self.new ≡ marked_before mark place self.old }
-        ensures length { length self.new ≡ length self.old }
+    /// A mark of the character that stands before a column.
+    pub(crate) fn mark_before(&mut self, row: usize, column: usize, mark: char)
+        requires row { row < self.old.height }
+        requires some { 0 < column }
+        requires within { column ≤ self.old.width }
+        ensures { self.new ≡ with_list (marked_before mark (row * self.old.width + column) self.old.cells) self.old }
     {
         self.is_written = true;
-        let shown = &mut self.memory.as_mut_slice()[self.start..self.start + self.size];
-        runs::mark_before(shown, place, mark);
+        let at = usize::from(self.order[row]);
+        self.rows[at].mark_before(column, mark);
     }
 
-    /// Says whether the row that ends at `end` goes on in the next.
-    pub(crate) fn set_goes_on(&mut self, end: usize, on: bool)
-        requires some { 0 < end }
-        requires within { end ≤ length self.old }
-        ensures cells { self.new ≡ going_on on end self.old }
-        ensures length { length self.new ≡ length self.old }
+    /// Says whether a row goes on in the next.
+    pub(crate) fn set_goes_on(&mut self, row: usize, on: bool)
+        requires { row < self.old.height }
+        ensures { self.new ≡ with_list (going_on on (row * self.old.width + self.old.width) self.old.cells) self.old }
     {
         self.is_written = true;
-        let shown = &mut self.memory.as_mut_slice()[self.start..self.start + self.size];
-        runs::set_goes_on(shown, end, on);
+        let at = usize::from(self.order[row]);
+        self.rows[at].set_goes_on(on);
     }
 
-    /// The cells from `first` up to `last` move on by as many as `count`; blanks come before them.
-    pub(crate) fn move_on(&mut self, first: usize, last: usize, count: usize, blank: Cell)
+    /// The first `count` of the rows from `first` up to `last` come behind the others.
+    fn rotate_back(&mut self, first: usize, last: usize, count: usize)
         requires order { first ≤ last }
-        requires within { last ≤ length self.old }
-        ensures cells { self.new ≡ within first last (moved_on count blank) self.old }
-        ensures length { length self.new ≡ length self.old }
+        requires within { last ≤ self.old.height }
+        requires count { count ≤ last - first }
+        ensures { self.new ≡ with_list (within (first * self.old.width) (last * self.old.width)
+            (λ run. drop (count * self.old.width) run ++ take (count * self.old.width) run) self.old.cells) self.old }
     {
-        if self.start < count && window::pays(self.size, first, last, count) {
-            self.reach(self.limit);
-            self.raise_limit();
-        }
         self.is_written = true;
-        let (start, size) = (self.start, self.size);
-        let memory = self.memory.as_mut_slice();
-        let has_room = count <= start;
-        if window::moves(memory.len(), size, first, last, count, has_room) {
-            self.start = window::go_back(memory, start, size, first, last, count, blank);
-        } else {
-            let shown = &mut memory[start..start + size];
-            runs::move_on(&mut shown[first..last], count, blank);
-        }
+        rotate_back(&mut self.order.as_mut_slice()[first..last], count);
     }
 
-    /// The cells from `first` up to `last` move back by as many as `count`; blanks follow them.
-    pub(crate) fn move_back(&mut self, first: usize, last: usize, count: usize, blank: Cell)
+    /// The last `count` of the rows from `first` up to `last` come before the others.
+    fn rotate_on(&mut self, first: usize, last: usize, count: usize)
         requires order { first ≤ last }
-        requires within { last ≤ length self.old }
-        ensures cells { self.new ≡ within first last (moved_back count blank) self.old }
-        ensures length { length self.new ≡ length self.old }
+        requires within { last ≤ self.old.height }
+        requires count { count ≤ last - first }
+        ensures { self.new ≡ with_list (within (first * self.old.width) (last * self.old.width)
+            (λ run. drop (length run - count * self.old.width) run ++ take (length run - count * self.old.width) run)
+            self.old.cells) self.old }
     {
-        if last - first == self.size {
-            self.move_all_back(count.min(self.size), blank);
-        } else {
-            self.move_part_back(first, last, count, blank);
-        }
-    }
-
-    /// All cells move back by `count`; blanks follow them.
-    fn move_all_back(&mut self, count: usize, blank: Cell)
-        requires { count ≤ length self.old }
-        ensures cells { self.new ≡ moved_back count blank self.old }
-        ensures length { length self.new ≡ length self.old }
-    {
-        let (end, limit) = (self.start + self.size, self.limit);
-        let blanks = self.blanks.as_slice();
-        if end == self.memory.len() && append(&mut self.memory, count, limit, blank, blanks) {
-            self.is_written = true;
-            self.start += count;
-        } else {
-            self.reach(end.saturating_add(count));
-            self.is_written = true;
-            let (start, size) = (self.start, self.size);
-            self.start = go_on(self.memory.as_mut_slice(), start, size, count, blank);
-        }
-    }
-
-    /// The same of some of them.
-    fn move_part_back(&mut self, first: usize, last: usize, count: usize, blank: Cell)
-        requires order { first ≤ last }
-        requires within { last ≤ length self.old }
-        ensures cells { self.new ≡ within first last (moved_back count blank) self.old }
-        ensures length { length self.new ≡ length self.old }
-    {
-        if window::pays(self.size, first, last, count) {
-            self.reach((self.start + self.size).saturating_add(count));
-        }
         self.is_written = true;
-        let (start, size) = (self.start, self.size);
-        let memory = self.memory.as_mut_slice();
-        let has_room = count <= memory.len() - size - start;
-        if window::moves(memory.len(), size, first, last, count, has_room) {
-            self.start = window::go_on(memory, start, size, first, last, count, blank);
+        rotate_on(&mut self.order.as_mut_slice()[first..last], count);
+    }
+
+    /// Whether all rows move out, where those from `first` up to `last` move by `count`.
+    fn empties(&self, first: usize, last: usize, count: usize) -> bool
+        ensures { result ≡ true → (first ≡ 0) × (last ≡ self.now.height) × (last ≤ count) }
+    {
+        first == 0 && last == self.order.len() && last <= count
+    }
+
+    /// The rows from `first` up to `last` move up by as many as `count`; blank ones follow them.
+    pub(crate) fn move_back(&mut self, first: usize, last: usize, count: usize, style: Style)
+        requires order { first ≤ last }
+        requires within { last ≤ self.old.height }
+        ensures { self.new ≡ with_list (within (first * self.old.width) (last * self.old.width)
+            (moved_back (count * self.old.width) (blank style)) self.old.cells) self.old }
+    {
+        // The cells fill the rows.
+        let _ = self.width();
+        if self.empties(first, last, count) {
+            self.fill(style);
         } else {
-            let shown = &mut memory[start..start + size];
-            runs::move_back(&mut shown[first..last], count, blank);
+            let count = count.min(last - first);
+            self.rotate_back(first, last, count);
+            self.fill_rows(last - count, last, style);
         }
     }
-}
 
-/// So many cells more, where they are not more than `limit` then and there is memory for them. Plain blanks, as many as
-/// there are in `blanks` at most, are copies of these.
-fn append(memory: &mut Vec<Cell>, count: usize, limit: usize, cell: Cell, blanks: &[Cell]) -> bool
-    requires { blanks.now ≡ replicate (length blanks.now) (blank plain) }
-    ensures { memory.new.items ≡ (if result then memory.old.items ++ replicate count cell else memory.old.items) }
-{
-    let most = limit.min(memory.capacity());
-    let size = memory.len();
-    if most < size || most - size < count {
-        false
-    } else if count <= blanks.len() && cell == Cell::blank(Style::default()) {
-        memory.extend_from_slice(&blanks[..count]).is_ok()
-    } else {
-        memory.resize(size + count, cell).is_ok()
+    /// The rows from `first` up to `last` move down by as many as `count`; blank ones come before them.
+    pub(crate) fn move_on(&mut self, first: usize, last: usize, count: usize, style: Style)
+        requires order { first ≤ last }
+        requires within { last ≤ self.old.height }
+        ensures { self.new ≡ with_list (within (first * self.old.width) (last * self.old.width)
+            (moved_on (count * self.old.width) (blank style)) self.old.cells) self.old }
+    {
+        // The cells fill the rows.
+        let _ = self.width();
+        if self.empties(first, last, count) {
+            self.fill(style);
+        } else {
+            let count = count.min(last - first);
+            self.rotate_on(first, last, count);
+            self.fill_rows(first, first + count, style);
+        }
     }
-}
-
-/// The window of so many cells from `start` on goes on by as many as `count`, and blanks come into
-/// it. The answer is where it begins then.
-fn go_on(memory: &mut [Cell], start: usize, size: usize, count: usize, blank: Cell) -> usize
-    requires window { start + size ≤ length memory.old }
-    ensures window { result + size ≤ length memory.new }
-    ensures cells { take size (drop result memory.new) ≡ moved_back count blank (take size (drop start memory.old)) }
-{
-    let count = count.min(size);
-    let kept = size - count;
-    let first = with_room(memory, start + count, kept, size);
-    clear(memory, first + kept, first + size, blank);
-    first
-}
-
-/// Where a window of so many cells has room whose first are the `kept` ones from `start` on: there, or
-/// else at the front, to which these go.
-fn with_room(memory: &mut [Cell], start: usize, kept: usize, size: usize) -> usize
-    requires few { kept ≤ size }
-    requires kept { start + kept ≤ length memory.old }
-    requires room { size ≤ length memory.old }
-    ensures length { length memory.new ≡ length memory.old }
-    ensures room { result + size ≤ length memory.new }
-    ensures cells { take kept (drop result memory.new) ≡ take kept (drop start memory.old) }
-{
-    if start + size <= memory.len() {
-        start
-    } else {
-        window::place_back(memory, start, kept, 0);
-        0
-    }
-}
-
-/// Blanks from `start` up to `end`, without a look at halves of wide characters.
-fn clear(cells: &mut [Cell], start: usize, end: usize, blank: Cell)
-    requires order { start ≤ end }
-    requires within { end ≤ length cells.old }
-    ensures { cells.new ≡ within start end (erased blank) cells.old }
-{
-    runs::clear(&mut cells[start..end], blank);
 }

@@ -15,15 +15,14 @@ mod leaving;
 mod parts;
 mod place;
 mod printed;
+mod row;
 mod runs;
 mod screen;
-mod shifts;
 mod size;
 mod tabs;
 mod text;
 mod texts;
 mod width;
-mod window;
 
 pub use alone::modes_alone;
 pub use cell::{Cell, Marks, Part};

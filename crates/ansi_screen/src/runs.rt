@@ -1,12 +1,10 @@
 //! Edits of cells in a row, or in several.
-ghost use Rattle.std.specs.Prelude.{true, ◌≡◌, ◌+◌, ◌<◌, ◌≤◌, length};
+ghost use Rattle.std.specs.Prelude.{true, ◌≡◌, ◌+◌, ◌<◌, ◌≤◌, ◌++◌, length, take, drop};
 ghost use Rattle.ansi_screen.specs.Cells.{is_right, cell_at, cut, marked_before, going_on, change, erased, moved_back, moved_on, deleted, inserted};
-ghost use Rattle.ansi_screen.specs.Following.{copied};
 ghost use Rattle.ansi_screen.specs.Print.{glyph};
 ghost use Rattle.ansi_screen.specs.Runs.{glyphs, with_glyphs};
 
 use crate::cell::{Cell, Part};
-use crate::shifts::{shift_back, shift_on};
 use ansi_style::Style;
 
 /// Makes blanks of the halves of a wide character whose right half stands at `place`.
@@ -55,15 +53,14 @@ pub(crate) fn clear(cells: &mut [Cell], blank: Cell)
     }
 }
 
-/// The cells from `start` up to `end` become as others are there.
-pub(crate) fn copy(cells: &mut [Cell], start: usize, end: usize, others: &[Cell])
-    requires order { start ≤ end }
-    requires within { end ≤ length cells.old }
+/// The first cells become as others are.
+pub(crate) fn copy(cells: &mut [Cell], count: usize, others: &[Cell])
+    requires few { count ≤ length cells.old }
     requires length { length cells.old ≡ length others.now }
-    ensures copied { cells.new ≡ copied start end others.now cells.old }
+    ensures copied { cells.new ≡ take count others.now ++ drop count cells.old }
     ensures length { length cells.new ≡ length cells.old }
 {
-    cells[start..end].copy_from_slice(&others[start..end]);
+    cells[..count].copy_from_slice(&others[..count]);
 }
 
 /// Moves cells to the front by as many as `count`; blanks follow them.
@@ -72,7 +69,7 @@ pub(crate) fn move_back(run: &mut [Cell], count: usize, blank: Cell)
 {
     let count = count.min(run.len());
     let kept = run.len() - count;
-    shift_back(run, count);
+    run.copy_within(count.., 0);
     clear(&mut run[kept..], blank);
 }
 
@@ -81,7 +78,8 @@ pub(crate) fn move_on(run: &mut [Cell], count: usize, blank: Cell)
     ensures { run.new ≡ moved_on count blank run.old }
 {
     let count = count.min(run.len());
-    shift_on(run, count);
+    let kept = run.len() - count;
+    run.copy_within(..kept, count);
     clear(&mut run[..count], blank);
 }
 

@@ -1,67 +1,57 @@
 //! Edits of cells.
 ghost use Rattle.std.specs.Prelude.{◌≡◌, ◌+◌, ◌*◌, ◌<◌, ◌≤◌, length};
-ghost use Rattle.ansi_screen.specs.Display.{here, row_start, row_end};
+ghost use Rattle.ansi_screen.specs.Display.{row_start, row_end};
 ghost use Rattle.ansi_screen.specs.Moves.{settled};
-ghost use Rattle.ansi_screen.specs.Edits.{space, row_going_on, row_above_ended, erases_first, erased_cells, erased_part, erased_display, erased_line, erased_characters, deleted_characters, inserted_characters, rows_up, rows_down, scrolled_up, scrolled_down, inserted_lines, deleted_lines, index, reverse_index};
+ghost use Rattle.ansi_screen.specs.Edits.{row_going_on, row_above_ended, erases_from_row, erases_first, erased_part, erased_display, erased_line, erased_characters, deleted_characters, inserted_characters, rows_up, rows_down, scrolled_up, scrolled_down, inserted_lines, deleted_lines, index, reverse_index};
 
 use super::Display;
-use crate::cell::Cell;
 
 impl Display {
-    /// What stands where something was erased or moved away.
-    pub(super) fn space(&self) -> Cell
-        ensures { result ≡ space self.now }
-    {
-        Cell::blank(self.cursor.style)
-    }
-
-    fn erase_cells(&mut self, start: usize, end: usize)
-        requires order { start ≤ end }
-        requires within { end ≤ length self.old.cells }
-        ensures { self.new ≡ erased_cells start end self.old }
-    {
-        let space = self.space();
-        self.cells.erase(start, end, space);
-    }
-
-    /// The part from `start` up to `end` that the kind says.
-    #[tactic(auto, unfolding(crate::specs::Edits::erased_part))]
-    fn erase_part(&mut self, kind: u16, start: usize, end: usize)
-        requires settled { self.old.cursor.column < self.old.width }
-        requires start { start ≤ here self.old }
-        requires end { here self.old < end }
-        requires within { end ≤ length self.old.cells }
-        ensures { self.new ≡ erased_part kind start end self.old }
-    {
-        let here = self.here();
-        match kind {
-            0 => self.erase_cells(here, end),
-            1 => self.erase_cells(start, here + 1),
-            _ => self.erase_cells(start, end),
-        }
-    }
-
     /// Where the first cell of the cursor's row is erased, the row above no longer goes on in it.
     fn end_row_above(&mut self, is_begun_anew: bool)
         ensures { self.new ≡ row_above_ended is_begun_anew self.old }
     {
-        if is_begun_anew && 0 < self.cursor.row {
-            let start = self.row_start();
-            self.cells.set_goes_on(start, false);
+        let row = self.cursor.row;
+        if is_begun_anew && 0 < row {
+            self.cells.set_goes_on(row - 1, false);
+            // The cells fill the rows.
+            let _ = self.cells.width();
         }
     }
 
+    /// Whether ED erases the first cell of the cursor's row, and leaves the row above.
+    #[tactic(auto, unfolding(crate::specs::Edits::erases_from_row))]
+    fn erases_from_row(&self, kind: u16) -> bool
+        ensures { result ≡ erases_from_row kind self.now }
+    {
+        kind == 0 && self.cursor.column == 0
+    }
+
     /// ED
-    #[tactic(auto, unfolding(crate::specs::Edits::erased_display, crate::specs::Edits::erases_from_row))]
     pub(super) fn erase_display(&mut self, kind: u16)
         requires { self.old.cursor.column < self.old.width }
         ensures { self.new ≡ erased_display kind self.old }
     {
-        let erases_from_row = kind == 0 && self.cursor.column == 0;
-        self.end_row_above(erases_from_row);
-        let _ = self.row_start();
-        let end = self.cells.len();
-        self.erase_part(kind, 0, end);
+        let is_begun_anew = self.erases_from_row(kind);
+        self.end_row_above(is_begun_anew);
+        self.erase_part_of_display(kind);
+    }
+
+    /// The same, where the row above ends.
+    #[tactic(auto, unfolding(crate::specs::Edits::erased_part))]
+    fn erase_part_of_display(&mut self, kind: u16)
+        requires { self.old.cursor.column < self.old.width }
+        ensures { self.new ≡ erased_part kind 0 (length self.old.cells) self.old }
+    {
+        let (row, column) = (self.cursor.row, self.cursor.column);
+        let style = self.cursor.style;
+        match kind {
+            0 => self.cells.erase_from(row, column, style),
+            1 => self.cells.erase_to(row, column, style),
+            _ => self.cells.erase_all(style),
+        }
+        // The cells fill the rows.
+        let _ = self.cells.width();
     }
 
     /// Whether EL erases the first cell of the cursor's row.
@@ -80,9 +70,25 @@ impl Display {
     {
         let erases_first = self.erases_first(kind);
         self.end_row_above(erases_first);
-        let start = self.row_start();
-        let end = start + self.width;
-        self.erase_part(kind, start, end);
+        self.erase_part_of_row(kind);
+    }
+
+    /// The same, where the row above ends.
+    #[tactic(auto, unfolding(crate::specs::Edits::erased_part))]
+    fn erase_part_of_row(&mut self, kind: u16)
+        requires { self.old.cursor.column < self.old.width }
+        ensures { self.new ≡ erased_part kind (row_start self.old) (row_end self.old) self.old }
+    {
+        let (row, column) = (self.cursor.row, self.cursor.column);
+        let width = self.cells.width();
+        let style = self.cursor.style;
+        match kind {
+            0 => self.cells.erase(row, column, width, style),
+            1 => self.cells.erase(row, 0, column + 1, style),
+            _ => self.cells.erase(row, 0, width, style),
+        }
+        // The cells fill the rows.
+        let _ = self.cells.width();
     }
 
     /// ECH
@@ -91,17 +97,21 @@ impl Display {
         requires { self.old.cursor.column < self.old.width }
         ensures { self.new ≡ erased_characters count self.old }
     {
-        let here = self.here();
-        let end = self.row_start() + self.width;
-        self.erase_cells(here, end.min(here + usize::from(count)));
+        let (row, column) = (self.cursor.row, self.cursor.column);
+        let end = self.cells.width().min(column + usize::from(count));
+        let style = self.cursor.style;
+        self.cells.erase(row, column, end, style);
+        // The cells fill the rows.
+        let _ = self.cells.width();
     }
 
     /// Says whether the cursor's row goes on in the next.
     pub(super) fn set_goes_on(&mut self, on: bool)
         ensures { self.new ≡ row_going_on on self.old }
     {
-        let end = self.row_start() + self.width;
-        self.cells.set_goes_on(end, on);
+        self.cells.set_goes_on(self.cursor.row, on);
+        // The cells fill the rows.
+        let _ = self.cells.width();
     }
 
     /// DCH
@@ -110,11 +120,12 @@ impl Display {
         requires { self.old.cursor.column < self.old.width }
         ensures { self.new ≡ deleted_characters count self.old }
     {
-        let here = self.here();
-        let end = self.row_start() + self.width;
-        let space = self.space();
-        self.cells.set_goes_on(end, false);
-        self.cells.delete(here, end, usize::from(count), space);
+        let (row, column) = (self.cursor.row, self.cursor.column);
+        let style = self.cursor.style;
+        self.cells.set_goes_on(row, false);
+        self.cells.delete(row, column, usize::from(count), style);
+        // The cells fill the rows.
+        let _ = self.cells.width();
     }
 
     /// ICH
@@ -125,11 +136,12 @@ impl Display {
         ensures width { self.new.width ≡ self.old.width }
         ensures cursor { self.new.cursor ≡ self.old.cursor }
     {
-        let here = self.here();
-        let end = self.row_start() + self.width;
-        let space = self.space();
-        self.cells.set_goes_on(end, false);
-        self.cells.insert(here, end, usize::from(count), space);
+        let (row, column) = (self.cursor.row, self.cursor.column);
+        let style = self.cursor.style;
+        self.cells.set_goes_on(row, false);
+        self.cells.insert(row, column, usize::from(count), style);
+        // The cells fill the rows.
+        let _ = self.cells.width();
     }
 
     /// The rows from `first` up to `last` move up.
@@ -139,10 +151,10 @@ impl Display {
         requires within { last ≤ self.old.height }
         ensures { self.new ≡ rows_up count first last self.old }
     {
-        let space = self.space();
-        let (start, end) = (first * self.width, last * self.width);
-        let distance = usize::from(count) * self.width;
-        self.cells.move_back(start, end, distance, space);
+        let style = self.cursor.style;
+        self.cells.move_back(first, last, usize::from(count), style);
+        // The cells fill the rows.
+        let _ = self.cells.width();
     }
 
     /// The rows from `first` up to `last` move down.
@@ -152,10 +164,10 @@ impl Display {
         requires within { last ≤ self.old.height }
         ensures { self.new ≡ rows_down count first last self.old }
     {
-        let space = self.space();
-        let (start, end) = (first * self.width, last * self.width);
-        let distance = usize::from(count) * self.width;
-        self.cells.move_on(start, end, distance, space);
+        let style = self.cursor.style;
+        self.cells.move_on(first, last, usize::from(count), style);
+        // The cells fill the rows.
+        let _ = self.cells.width();
     }
 
     /// SU

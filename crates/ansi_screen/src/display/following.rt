@@ -12,7 +12,7 @@ impl Display {
         requires { IsNear first past is_framed other.now self.old }
         ensures { self.new ≡ other.now }
     {
-        let end = past.min(self.height);
+        let end = past.min(self.cells.height());
         self.copy_shown(other, first.min(end), end);
         if is_framed {
             self.copy_frame(other);
@@ -29,8 +29,9 @@ impl Display {
         ensures sized { IsSized self.old }
         ensures sized_too { IsSized other.now }
     {
-        let (start, end) = (first * self.width, past * self.width);
-        self.cells.copy(start, end, &other.cells);
+        self.cells.copy_rows(first, past, &other.cells);
+        // The cells fill the rows.
+        let _ = self.cells.width();
         self.cursor = other.cursor;
         self.wraps = other.wraps;
         self.inserts = other.inserts;

@@ -56,13 +56,13 @@ impl Display {
     fn is_wrapping(&self, c: char) -> bool
         ensures { result ≡ is_wrapping c self.now }
     {
-        if self.cursor.column + MOST_COLUMNS <= self.width {
+        if self.cursor.column + MOST_COLUMNS <= self.cells.width() {
             return false;
         }
         let columns = columns(c);
         is_shown(c)
             && columns != 0
-            && self.width < self.cursor.column + usize::from(columns)
+            && self.cells.width() < self.cursor.column + usize::from(columns)
             && self.wraps
     }
 

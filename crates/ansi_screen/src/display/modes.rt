@@ -5,7 +5,6 @@ ghost use Rattle.ansi_screen.specs.Display.{fresh};
 ghost use Rattle.ansi_screen.specs.Modes.{with_style, shifted, with_charset, saving, into_margins, restored, with_origin, with_margins, to_alternate, to_main, with_alternate, with_private_mode, with_mode, with_modes, softly_reset, first_field};
 
 use super::Display;
-use crate::cell::Cell;
 use crate::place::{Charsets, Place};
 use crate::tabs::reset_stops;
 use ansi_style::Style;
@@ -85,10 +84,10 @@ impl Display {
     {
         let first = usize::from(first).max(1);
         let last = usize::from(last);
-        let bottom = if 0 < last && last < self.height {
+        let bottom = if 0 < last && last < self.cells.height() {
             last
         } else {
-            self.height
+            self.cells.height()
         };
         if first < bottom {
             self.top = first - 1;
@@ -103,9 +102,9 @@ impl Display {
         ensures { self.new ≡ to_alternate self.old }
     {
         if !self.is_alternate {
-            let space = self.space();
+            let style = self.cursor.style;
             mem::swap(&mut self.cells, &mut self.hidden);
-            self.cells.fill(space);
+            self.cells.fill(style);
             self.saved = Place::home();
             self.is_alternate = true;
             self.hidden_saved = self.cursor;
@@ -118,9 +117,8 @@ impl Display {
         ensures { self.new ≡ to_main self.old }
     {
         if self.is_alternate {
-            let blank = Cell::blank(Style::default());
             mem::swap(&mut self.cells, &mut self.hidden);
-            self.hidden.fill(blank);
+            self.hidden.fill(Style::default());
             self.saved = self.hidden_saved;
             self.is_alternate = false;
             self.hidden_saved = Place::home();
@@ -190,7 +188,7 @@ impl Display {
         self.cursor.charsets = Charsets::letters();
         self.saved = Place::home();
         self.top = 0;
-        self.bottom = self.height;
+        self.bottom = self.cells.height();
         self.wraps = true;
         self.inserts = false;
         self.is_visible = true;
@@ -200,15 +198,14 @@ impl Display {
     pub(super) fn reset(&mut self)
         ensures { self.new ≡ fresh self.old.width self.old.height }
     {
-        let blank = Cell::blank(Style::default());
-        self.cells.fill(blank);
-        self.hidden.fill(blank);
+        self.cells.fill(Style::default());
+        self.hidden.fill(Style::default());
         reset_stops(self.tabs.as_mut_slice());
         self.cursor = Place::home();
         self.saved = Place::home();
         self.hidden_saved = Place::home();
         self.top = 0;
-        self.bottom = self.height;
+        self.bottom = self.cells.height();
         self.wraps = true;
         self.inserts = false;
         self.is_visible = true;

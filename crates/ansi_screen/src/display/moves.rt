@@ -11,7 +11,7 @@ impl Display {
     pub(super) fn to_row(&mut self, row: usize)
         ensures { self.new ≡ to_row row self.old }
     {
-        self.cursor.row = row.min(self.height - 1);
+        self.cursor.row = row.min(self.cells.height() - 1);
     }
 
     /// To a column, at most the last.
@@ -19,7 +19,7 @@ impl Display {
         ensures column { self.new ≡ to_column column self.old }
         ensures settled { self.new.cursor.column < self.new.width }
     {
-        self.cursor.column = column.min(self.width - 1);
+        self.cursor.column = column.min(self.cells.width() - 1);
     }
 
     /// No wrap is pending any more.
@@ -102,7 +102,7 @@ impl Display {
         ensures { self.new ≡ tabbed self.old }
     {
         let column = self.cursor.column;
-        if column < self.width {
+        if column < self.cells.width() {
             let rest = &self.tabs.as_slice()[column + 1..];
             let next = column + 1 + columns_before_stop(rest);
             self.to_column(next);
@@ -113,7 +113,7 @@ impl Display {
     pub(super) fn tab_times(&mut self, count: u16)
         ensures { self.new ≡ iterate tabbed (min count self.old.width) self.old }
     {
-        let count = usize::from(count).min(self.width);
+        let count = usize::from(count).min(self.cells.width());
         for _done in 0..count {
             self.tab();
         }
@@ -132,7 +132,7 @@ impl Display {
     pub(super) fn tab_back(&mut self, count: u16)
         ensures { self.new ≡ iterate tabbed_back (min count self.old.width) self.old }
     {
-        let count = usize::from(count).min(self.width);
+        let count = usize::from(count).min(self.cells.width());
         for _done in 0..count {
             self.tab_back_once();
         }
@@ -142,7 +142,7 @@ impl Display {
     pub(super) fn set_stop(&mut self, stops: bool)
         ensures { self.new ≡ with_stop stops self.old }
     {
-        let column = self.cursor.column.min(self.width - 1);
+        let column = self.cursor.column.min(self.cells.width() - 1);
         self.tabs[column] = stops;
     }
 

@@ -47,7 +47,7 @@ impl Display {
         let columns = columns(c);
         if columns == 0 {
             self.mark(c);
-        } else if self.cursor.column + usize::from(columns) <= self.width && !self.inserts {
+        } else if self.cursor.column + usize::from(columns) <= self.cells.width() && !self.inserts {
             self.put_glyph(columns, c);
         } else {
             self.wrap(columns);
@@ -61,8 +61,10 @@ impl Display {
         ensures { self.new ≡ marked c self.old }
     {
         if 0 < self.cursor.column {
-            let here = self.row_start() + self.cursor.column;
-            self.cells.mark_before(here, c);
+            let (row, column) = (self.cursor.row, self.cursor.column);
+            self.cells.mark_before(row, column, c);
+            // The cells fill the rows.
+            let _ = self.cells.width();
         }
     }
 
@@ -71,7 +73,7 @@ impl Display {
     fn print_again(&mut self, c: char)
         ensures { self.new ≡ printed_again c self.old }
     {
-        if self.cursor.column + usize::from(columns(c)) <= self.width {
+        if self.cursor.column + usize::from(columns(c)) <= self.cells.width() {
             self.print(c);
         }
     }
@@ -91,7 +93,7 @@ impl Display {
         ensures { self.new ≡ repeated count last self.old }
     {
         if let Some(c) = last {
-            let count = usize::from(count).min(self.width);
+            let count = usize::from(count).min(self.cells.width());
             self.print_times(count, c);
         }
     }
@@ -101,7 +103,7 @@ impl Display {
     fn wrap(&mut self, columns: u16)
         ensures { self.new ≡ wrapped columns self.old }
     {
-        if self.width < self.cursor.column + usize::from(columns) {
+        if self.cells.width() < self.cursor.column + usize::from(columns) {
             if self.wraps {
                 self.set_goes_on(true);
                 self.to_column(0);
@@ -119,7 +121,7 @@ impl Display {
         requires few { columns ≤ 2 }
         ensures { self.new ≡ put columns c self.old }
     {
-        if self.cursor.column + usize::from(columns) <= self.width {
+        if self.cursor.column + usize::from(columns) <= self.cells.width() {
             self.make_room(columns);
             self.put_glyph(columns, c);
         }
@@ -146,9 +148,11 @@ impl Display {
         requires fits { self.old.cursor.column + columns ≤ self.old.width }
         ensures { self.new ≡ with_glyph columns c self.old }
     {
-        let here = self.here();
+        let (row, column) = (self.cursor.row, self.cursor.column);
         let style = self.cursor.style;
-        self.cells.put(here, columns, c, style, self.link);
+        self.cells.put(row, column, columns, c, style, self.link);
+        // The cells fill the rows.
+        let _ = self.cells.width();
         self.cursor.column += usize::from(columns);
     }
 
@@ -161,7 +165,7 @@ impl Display {
         if self.inserts || self.cursor.charsets.draws() {
             0
         } else {
-            self.width - self.cursor.column
+            self.cells.width() - self.cursor.column
         }
     }
 
@@ -173,9 +177,11 @@ impl Display {
         requires room { HasRoom (length run.now) self.old }
         ensures { self.new ≡ printed_all run.now self.old }
     {
-        let here = self.here();
+        let (row, column) = (self.cursor.row, self.cursor.column);
         let style = self.cursor.style;
-        self.cells.put_run(here, run, style, self.link);
+        self.cells.put_run(row, column, run, style, self.link);
+        // The cells fill the rows.
+        let _ = self.cells.width();
         self.cursor.column += run.len();
     }
 }

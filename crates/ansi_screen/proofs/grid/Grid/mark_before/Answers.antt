@@ -1,0 +1,23 @@
+-- A mark comes into a row, and into the list.
+use Rattle.std.proofs.Common.{◌+◌, ◌*◌, ◌<◌, ◌≤◌, length, set, refl, sym, ◌∙◌, subst}
+use Rattle.std.proofs.lemmas.List.{get_or_read}
+use Rattle.ansi_screen.specs.Cells.{marked_before}
+use Rattle.ansi_screen.specs.Grid.{Grid}
+use Rattle.ansi_screen.proofs.GridLemmas.{with-rows, edited, row-marked}
+use Rattle.ansi_screen.proofs.grid.Grid.mark_before.Goals as goal
+
+pub returns : goal.returns
+returns c =
+    let w = c.self.inside.width in
+    let order = c.self.inside.order.items in
+    let rows = c.self.inside.rows.items in
+    let r = c.args.row in
+    let at = c.from-at.result in
+    let new = c.mark_before.new.self in
+    let inside : r < length order = subst (λ (g : Grid). r < g.height) (sym c.self.view_is) c.requires.row in
+    let same = c.from-at.ensures ∙ get_or_read order r c.index.result.now inside c.index.ensures 0 in
+    let fits : c.args.column ≤ w = subst (λ (g : Grid). c.args.column ≤ g.width) (sym c.self.view_is) c.requires.within in
+    with-rows w order order rows (set rows at new) c.args.self.now (λ (g : Grid). marked_before c.args.mark (r * g.width + c.args.column) g.cells) refl c.self.view_is
+    (edited w r order rows c.self.invariant.0 c.self.invariant.1 c.self.invariant.2 inside (λ l. marked_before c.args.mark c.args.column l) (λ l. marked_before c.args.mark (r * w + c.args.column) l) at c.index_mut.result.now new same
+    c.index_mut.ensures.value c.mark_before.ensures.cells
+    (row-marked w r order rows c.self.invariant.0 c.self.invariant.1 c.self.invariant.2 inside c.args.mark c.args.column c.requires.some fits))

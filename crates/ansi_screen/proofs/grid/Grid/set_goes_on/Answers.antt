@@ -1,0 +1,22 @@
+-- The last cell of a row says it, as the one of the list.
+use Rattle.std.proofs.Common.{◌+◌, ◌*◌, ◌<◌, length, set, refl, sym, ◌∙◌, subst}
+use Rattle.std.proofs.lemmas.List.{get_or_read}
+use Rattle.ansi_screen.specs.Cells.{going_on}
+use Rattle.ansi_screen.specs.Grid.{Grid}
+use Rattle.ansi_screen.proofs.GridLemmas.{with-rows, edited, row-going}
+use Rattle.ansi_screen.proofs.grid.Grid.set_goes_on.Goals as goal
+
+pub returns : goal.returns
+returns c =
+    let w = c.self.inside.width in
+    let order = c.self.inside.order.items in
+    let rows = c.self.inside.rows.items in
+    let r = c.args.row in
+    let at = c.from-at.result in
+    let new = c.set_goes_on.new.self in
+    let inside : r < length order = subst (λ (g : Grid). r < g.height) (sym c.self.view_is) c.requires in
+    let same = c.from-at.ensures ∙ get_or_read order r c.index.result.now inside c.index.ensures 0 in
+    with-rows w order order rows (set rows at new) c.args.self.now (λ (g : Grid). going_on c.args.on (r * g.width + g.width) g.cells) refl c.self.view_is
+    (edited w r order rows c.self.invariant.0 c.self.invariant.1 c.self.invariant.2 inside (λ l. going_on c.args.on (length l) l) (λ l. going_on c.args.on (r * w + w) l) at c.index_mut.result.now new same
+    c.index_mut.ensures.value c.set_goes_on.ensures.cells
+    (row-going w r order rows c.self.invariant.0 c.self.invariant.1 c.self.invariant.2 inside c.args.on))

@@ -1,0 +1,227 @@
+//! A row of cells, which knows how far it was written.
+ghost use Rattle.std.specs.Prelude.{◌≡◌, false, ◌+◌, ◌<◌, ◌≤◌, length, replicate, IfOk};
+ghost use Rattle.ansi_style.specs.Style.{plain};
+ghost use Rattle.ansi_screen.specs.Cells.{blank, marked_before, going_on, within, change, erased, deleted, inserted};
+ghost use Rattle.ansi_screen.specs.Grid.{IsBlankFrom};
+ghost use Rattle.ansi_screen.specs.Print.{glyph};
+ghost use Rattle.ansi_screen.specs.Reachable.{IsWhole};
+ghost use Rattle.ansi_screen.specs.Runs.{with_glyphs};
+
+use crate::cell::Cell;
+use crate::runs;
+use crate::text::goes_on;
+use ansi_style::{Color, Style};
+use std::alloc::{AllocError, Global};
+use std::marker::Model;
+
+/// A row of cells. What lies past the last cell that was written costs nothing to make blank.
+#[derive(Drop)]
+pub(crate) struct Row {
+    cells: Vec<Cell>,
+    /// From here on all cells are plain blanks.
+    written: usize,
+}
+
+impl Model for Row {
+    ghost use Rattle.std.specs.Prelude.{◌≤◌, List, length};
+    ghost use Rattle.ansi_screen.specs.declared.cell.Cell.{Cell};
+    ghost use Rattle.ansi_screen.specs.Grid.{IsBlankFrom};
+    ghost use Rattle.ansi_screen.specs.Reachable.{IsWhole};
+
+    ghost Value = { List Cell };
+
+    ghost view = { λ row. row.cells.items };
+
+    ghost invariant = { λ row. (row.written ≤ length row.cells.items) × IsWhole (length row.cells.items) row.cells.items
+        × IsBlankFrom row.written row.cells.items };
+}
+
+/// Whether the style has a background of its own.
+#[inline]
+pub(crate) fn has_ground(style: Style) -> bool
+    ensures { result ≡ false → blank style ≡ blank plain }
+{
+    !matches!(style.background, Color::Default)
+}
+
+/// The cells from `start` up to `end` are blank, whatever stood beside them. From `written` on they were plain blanks; the
+/// answer is from where on they are so then.
+fn clear(cells: &mut [Cell], written: usize, start: usize, end: usize, style: Style) -> usize
+    requires order { start ≤ end }
+    requires within { end ≤ length cells.old }
+    requires written { written ≤ length cells.old }
+    requires rest { IsBlankFrom written cells.old }
+    ensures cells { cells.new ≡ within start end (erased (blank style)) cells.old }
+    ensures length { length cells.new ≡ length cells.old }
+    ensures written { result ≤ length cells.old }
+    ensures rest { IsBlankFrom result cells.new }
+{
+    if has_ground(style) {
+        runs::clear(&mut cells[start..end], Cell::blank(style));
+        written.max(end)
+    } else {
+        clear_written(cells, written, start, end)
+    }
+}
+
+/// The same, as plain blanks.
+fn clear_written(cells: &mut [Cell], written: usize, start: usize, end: usize) -> usize
+    requires order { start ≤ end }
+    requires within { end ≤ length cells.old }
+    requires written { written ≤ length cells.old }
+    requires rest { IsBlankFrom written cells.old }
+    ensures cells { cells.new ≡ within start end (erased (blank plain)) cells.old }
+    ensures length { length cells.new ≡ length cells.old }
+    ensures written { result ≤ length cells.old }
+    ensures rest { IsBlankFrom result cells.new }
+{
+    let past = end.min(written);
+    if start < past {
+        runs::clear(&mut cells[start..past], Cell::blank(Style::default()));
+        if past == written { start } else { written }
+    } else {
+        written
+    }
+}
+
+impl Row {
+    /// So many blank cells.
+    pub(crate) fn new(alloc: Global, width: usize) -> Result<Row, AllocError>
+        ensures { IfOk result (λ row. row ≡ replicate width (blank plain)) }
+    {
+        let cells = Vec::from_elem(alloc, Cell::blank(Style::default()), width)?;
+        Ok(Row { cells, written: 0 })
+    }
+
+    /// Its cells.
+    #[inline]
+    pub(crate) fn as_slice(&self) -> &[Cell]
+        ensures { result.now ≡ self.now }
+    {
+        self.cells.as_slice()
+    }
+
+    /// All cells are blank.
+    pub(crate) fn fill(&mut self, style: Style)
+        ensures cells { self.new ≡ replicate (length self.old) (blank style) }
+        ensures length { length self.new ≡ length self.old }
+        ensures whole { IsWhole (length self.old) self.new }
+    {
+        let end = self.cells.len();
+        self.written = clear(self.cells.as_mut_slice(), self.written, 0, end, style);
+    }
+
+    /// It becomes as another one is.
+    pub(crate) fn copy(&mut self, other: &Row)
+        requires { length self.old ≡ length other.now }
+        ensures cells { self.new ≡ other.now }
+        ensures length { length self.new ≡ length self.old }
+        ensures whole { IsWhole (length self.old) self.new }
+    {
+        let past = self.written.max(other.written);
+        runs::copy(self.cells.as_mut_slice(), past, other.cells.as_slice());
+        self.written = other.written;
+    }
+
+    /// Blanks from `start` up to `end`.
+    pub(crate) fn erase(&mut self, start: usize, end: usize, style: Style)
+        requires order { start ≤ end }
+        requires within { end ≤ length self.old }
+        ensures cells { self.new ≡ change start end (erased (blank style)) self.old }
+        ensures length { length self.new ≡ length self.old }
+        ensures whole { IsWhole (length self.old) self.new }
+    {
+        let cells = self.cells.as_mut_slice();
+        runs::cut(cells, end);
+        runs::cut(cells, start);
+        self.written = clear(cells, self.written, start, end, style);
+    }
+
+    /// Deletes cells from `start` on; those behind them move there.
+    pub(crate) fn delete(&mut self, start: usize, count: usize, style: Style)
+        requires { start ≤ length self.old }
+        ensures cells { self.new ≡ deleted count start (length self.old) (blank style) self.old }
+        ensures length { length self.new ≡ length self.old }
+        ensures whole { IsWhole (length self.old) self.new }
+    {
+        let end = self.cells.len();
+        runs::delete(
+            self.cells.as_mut_slice(),
+            start,
+            end,
+            count,
+            Cell::blank(style),
+        );
+        self.written = end;
+    }
+
+    /// Inserts blanks at `start`; the cells from there on move, and those past the end are lost.
+    pub(crate) fn insert(&mut self, start: usize, count: usize, style: Style)
+        requires { start ≤ length self.old }
+        ensures cells { self.new ≡ inserted count start (length self.old) (blank style) self.old }
+        ensures length { length self.new ≡ length self.old }
+        ensures whole { IsWhole (length self.old) self.new }
+    {
+        let end = self.cells.len();
+        runs::insert(
+            self.cells.as_mut_slice(),
+            start,
+            end,
+            count,
+            Cell::blank(style),
+        );
+        self.written = end;
+    }
+
+    /// A character of so many columns, in a link or in none.
+    pub(crate) fn put(&mut self, column: usize, columns: u16, c: char, style: Style, link: u32)
+        requires some { 1 ≤ columns }
+        requires few { columns ≤ 2 }
+        requires within { column + columns ≤ length self.old }
+        ensures cells { self.new ≡ change column (column + columns) (λ run. glyph columns c style link) self.old }
+        ensures length { length self.new ≡ length self.old }
+        ensures whole { IsWhole (length self.old) self.new }
+    {
+        runs::put(self.cells.as_mut_slice(), column, columns, c, style, link);
+        self.written = self.written.max(column + usize::from(columns));
+    }
+
+    /// Printed ASCII, a character in each cell from `column` on, in a link or in none.
+    #[inline]
+    pub(crate) fn put_run(&mut self, column: usize, run: &[u8], style: Style, link: u32)
+        requires some { 0 < length run.now }
+        requires within { column + length run.now ≤ length self.old }
+        ensures cells { self.new ≡ with_glyphs column run.now style link self.old }
+        ensures length { length self.new ≡ length self.old }
+        ensures whole { IsWhole (length self.old) self.new }
+    {
+        runs::put_run(self.cells.as_mut_slice(), column, run, style, link);
+        self.written = self.written.max(column + run.len());
+    }
+
+    /// A mark of the character that stands before a column.
+    pub(crate) fn mark_before(&mut self, column: usize, mark: char)
+        requires some { 0 < column }
+        requires within { column ≤ length self.old }
+        ensures cells { self.new ≡ marked_before mark column self.old }
+        ensures length { length self.new ≡ length self.old }
+        ensures whole { IsWhole (length self.old) self.new }
+    {
+        runs::mark_before(self.cells.as_mut_slice(), column, mark);
+        self.written = self.written.max(column);
+    }
+
+    /// Says whether it goes on in the next row.
+    pub(crate) fn set_goes_on(&mut self, on: bool)
+        requires { 0 < length self.old }
+        ensures cells { self.new ≡ going_on on (length self.old) self.old }
+        ensures length { length self.new ≡ length self.old }
+        ensures whole { IsWhole (length self.old) self.new }
+    {
+        if goes_on(self.cells.as_slice()) != on {
+            let end = self.cells.len();
+            runs::set_goes_on(self.cells.as_mut_slice(), end, on);
+            self.written = end;
+        }
+    }
+}

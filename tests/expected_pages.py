@@ -1,5 +1,7 @@
 """What stands around the text of a page: rows for tests/expected.py, after the HTML standard and CSS."""
 
+import re
+
 # A whole page. By the HTML standard: its DOCTYPE first, or browsers draw it by the rules of old
 # pages (13.1.1); its language, for readers that speak it (3.2.6.2); its charset within the first
 # 1,024 bytes (4.2.5.4); a title (4.2.2); the
@@ -66,6 +68,12 @@ def blocks_ended(html):
     """The same with its last block ended, where that has room for more lines."""
     html = blocks_begun(html)
     return html + BLOCK_END * (html.count(BLOCK_BEGIN) > html.count(b"\n") // BLOCK)
+
+
+def in_blocks(html):
+    """HTML in blocks, each element of which ends in its line."""
+    lines = re.findall(rb"[^\n]*\n|[^\n]+", html)
+    return b"".join(BLOCK_BEGIN + b"".join(lines[at : at + BLOCK]) + BLOCK_END for at in range(0, len(lines), BLOCK))
 
 
 # Lines that can be linked to (HTML, 3.2.6 and 7.4.6.4): each is one element of the text, whose `id` is L and its number, with a

@@ -14,7 +14,7 @@ import stat
 import subprocess
 import tempfile
 
-from expected_pages import blocks_ended
+from expected_pages import in_blocks
 
 NOBODY = 65534
 PARTS = [b"\x1b[1mone\x1b[0m\n", b"tw\xe2\x82", b"\xaco\n\x1b[3", b"1mthree\r\n", b""]
@@ -70,7 +70,7 @@ class Rows:
         if self.words == self.alone:
             return b"".join(written)
         # (what a screen showed stands in no blocks)
-        texts = b"".join(written if "--shown" in self.alone else map(blocks_ended, written))
+        texts = b"".join(written if "--shown" in self.alone else map(in_blocks, written))
         # (what stands around the text of nothing is the head and the tail)
         assert not empty, empty
         at = around.index(b"<pre>\n") + len(b"<pre>\n")

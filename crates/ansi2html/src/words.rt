@@ -65,7 +65,7 @@ pub const URLS_NOT_SHOWN: &str =
 
 /// What `--help` says.
 pub const HELP: &str = "\
-usage: ansi2html [--title=TEXT] [--css=ADDRESS] [--lang=TAG] [--scroll]
+usage: ansi2html [--page] [--title=TEXT] [--css=ADDRESS] [--lang=TAG] [--scroll]
                  [--light | --dark] [--classes] [--lines] [--urls]
                  [--shown | --shown=COLUMNSxROWS] [-o FILE] [FILE]..
        ansi2html --fragment [--light | --dark] [--classes] [--lines] [--urls]

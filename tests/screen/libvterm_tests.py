@@ -33,6 +33,7 @@ REVERSED = "DECSCNM is not known"
 ALIGNED = LEFT_OUT + "DECALN"
 DIFFERENCES = {
     ("11state_movecursor.test", 178): "xterm has no HPB",
+    ("11state_movecursor.test", 194): "xterm has no VPB",
     ("13state_edit.test", 81): "IL goes to the first column, as in xterm",
     ("15state_mode.test", 42): LEFT_OUT + "LNM",
     ("15state_mode.test", 72): LEFT_OUT + "left and right margins",

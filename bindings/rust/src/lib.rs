@@ -477,6 +477,14 @@ fn joined(given: &[u8], hand_on: impl FnOnce(Gather) -> Result<(), Infallible>) 
     }
 }
 
+/// All that a stripper leaves of a whole stream.
+fn stripped(stream: &[u8], mut stripper: Stripper) -> Cow<'_, str> {
+    joined(stream, |write| {
+        stripper.strip(stream, &mut *write)?;
+        stripper.end(write)
+    })
+}
+
 /// The text of terminal output. It drives no terminal: DEL and U+0080 to U+009F, which some terminals take for controls,
 /// are left out too. No other byte vanishes: what is broken, and what belongs to no character, is U+FFFD.
 ///
@@ -490,12 +498,7 @@ fn joined(given: &[u8], hand_on: impl FnOnce(Gather) -> Result<(), Infallible>) 
 /// ```
 #[must_use]
 pub fn strip(stream: &(impl AsRef<[u8]> + ?Sized)) -> Cow<'_, str> {
-    let stream = stream.as_ref();
-    joined(stream, |write| {
-        let mut stripper = Stripper::new();
-        stripper.strip(stream, &mut *write)?;
-        stripper.end(write)
-    })
+    stripped(stream.as_ref(), Stripper::new())
 }
 
 /// The same without each carriage return right before a line feed, as `ansi2text --lf` writes it: a recording by script(1)
@@ -511,12 +514,7 @@ pub fn strip(stream: &(impl AsRef<[u8]> + ?Sized)) -> Cow<'_, str> {
 /// ```
 #[must_use]
 pub fn strip_lf(stream: &(impl AsRef<[u8]> + ?Sized)) -> Cow<'_, str> {
-    let stream = stream.as_ref();
-    joined(stream, |write| {
-        let mut stripper = Stripper::lf();
-        stripper.strip(stream, &mut *write)?;
-        stripper.end(write)
-    })
+    stripped(stream.as_ref(), Stripper::lf())
 }
 
 /// The text of terminal output that hides nothing, as `ansi2text --safe` writes it: what shows nothing, turns the order of

@@ -11,6 +11,12 @@ from .library import FOLDER, exact
 BOTH = re.compile(r"([a-z-]+: ?)#\w{6}; ?\1light-dark\((#\w{6}), ?(#\w{6})\);")
 ONE = {"light": r"\1\2;", "dark": r"\1\3;"}
 TITLE, LANGUAGE = "TITLE-OF-THE-PAGE", "x-LANGUAGE"  # what stands for them in a page
+# how a page looks that is light and dark as its reader has it, and in its place one that is light or dark
+LOOK = "color-scheme: light dark;"
+LOOKS = {
+    "light": "color-scheme: light; color: #000000; background-color: #ffffff;",
+    "dark": "color-scheme: dark; color: #ffffff; background-color: #121212;",
+}
 SCHEMES = "both", "light", "dark"
 TAG = re.compile("[A-Za-z0-9-]{1,64}")
 ESCAPED = str.maketrans({"&": "&amp;", "<": "&lt;", ">": "&gt;", '"': "&quot;", "'": "&#39;", "\r": "&#13;"})
@@ -24,7 +30,7 @@ def _file(name):
 
 def _frame(styling):
     """What a page has before its language, from there to its title, from there to its text, and after it."""
-    before, rest = _file("both.html" if styling == "classes" else styling + ".html").split(LANGUAGE)
+    before, rest = _file("page.html").replace(LOOK, LOOKS.get(styling, LOOK)).split(LANGUAGE)
     named, rest = rest.split(TITLE)
     looks, tail = rest.split("<pre>\n")
     if styling == "classes":  # (without the rules of lines)

@@ -6,7 +6,8 @@
 #   make dist       what is handed out, in dist: source, programs and library, a Debian package, the wheel
 #   make test       tests all that users see, without waiting for proofs
 #   make check      proves and tests all, but for the proofs that have passed on this machine before
-#   make mutants    tries the wrong bodies that make check leaves out; CRATE='NAME ..' those of these crates alone
+#   make mutants    tries the wrong bodies that make check leaves out; CRATE='NAME ..' those of these crates alone; KEPT=FILE
+#                   goes on after a run that was stopped, by what that has written there
 #   make install    to PREFIX (/usr/local), below DESTDIR where that is set
 #   make uninstall  takes away what install has put there
 
@@ -20,7 +21,8 @@ PROGRAMS = ansi2text ansi2html ansi2screen parselog
 # those that shells complete the words of
 COMPLETED = $(PROGRAMS)
 # the scripts of tests/
-TESTS = asked browser cells classes contrast costs dist documents install library links packages programs screen_library screen_twin vectors
+TESTS = asked browser cells classes contrast costs dist documents install library library_python links packages programs screen_library \
+    screen_twin vectors
 # those that want what is proved: they count instructions, or make what is handed out
 PROVED = costs cells dist
 # what the library does: each has a header and a manual page of its own
@@ -36,15 +38,16 @@ SHARED = crates/ansi/out/libansi.so
 SCREEN_ARCHIVE = crates/ansi_screen_c/out/libansi_screen.a
 SCREEN_SHARED = crates/ansi_screen_c/out/libansi_screen.so
 HEAP = $(dir $(realpath $(shell command -v rt)))../c/liblibc_c.a
-# the Python package; the library that it loads, which stands beside its modules; and what makes its events in C,
-# where this Python can be built for
+# the Python package; the library that it loads, which stands beside its modules; the rules of its pages by classes; and what
+# makes its events in C, where this Python can be built for
 PACKAGE = bindings/python/src/ansi_proved
 LOADED = $(PACKAGE)/libansi.so
 SCREEN_LOADED = $(PACKAGE)/libansi_screen.so
+RULES = $(PACKAGE)/classes.css
 EXTENSION = $(PACKAGE)/_events.abi3.so
 PYTHON_HEADERS := $(shell $(PYTHON) -c 'import os, sysconfig as it; at = it.get_path("include"); \
     print(at if os.path.exists(at + "/Python.h") and not it.get_config_var("Py_GIL_DISABLED") else "")' 2>/dev/null)
-SOURCES_OF_PACKAGE = $(notdir $(wildcard $(addprefix $(PACKAGE)/,*.py *.pyi py.typed *.html *.css)))
+FILES_OF_PACKAGE = $(notdir $(wildcard $(addprefix $(PACKAGE)/,*.py *.pyi py.typed *.html)) $(RULES))
 # the programs that a wheel puts on the path
 OF_WHEEL = $(PROGRAMS:%=bindings/python/programs/%)
 # the oldest C library that the wheel is for, which the programs ask for
@@ -84,7 +87,7 @@ all: programs library
 
 programs: $(BUILT)
 
-library: $(SHARED) $(LOADED) $(SCREEN_SHARED) $(SCREEN_LOADED) $(PACKAGE)/ansi_events.h $(if $(PYTHON_HEADERS),$(EXTENSION))
+library: $(SHARED) $(LOADED) $(SCREEN_SHARED) $(SCREEN_LOADED) $(RULES) $(PACKAGE)/ansi_events.h $(if $(PYTHON_HEADERS),$(EXTENSION))
 
 ifeq ($(PYTHON_HEADERS),)
 ifneq ($(filter all library install,$(or $(MAKECMDGOALS),all)),)
@@ -132,6 +135,9 @@ $(LOADED): $(SHARED)
 $(SCREEN_LOADED): $(SCREEN_SHARED)
 	cp $< $@.$$$$ && mv $@.$$$$ $@
 
+$(RULES): crates/ansi2html/out/ansi2html
+	$< --stylesheet > $@.$$$$ && mv $@.$$$$ $@
+
 # (beside the extension, so that setuptools finds it wherever the package's folder goes)
 $(PACKAGE)/ansi_events.h: include/ansi_events.h
 	cp $< $@.$$$$ && mv $@.$$$$ $@
@@ -164,7 +170,7 @@ check:
 	$(PYTHON) tests/side_by_side.py 'rt ci' $(TESTS)
 
 mutants:
-	$(PYTHON) mutants/try $(CRATE)
+	$(PYTHON) mutants/try $(if $(KEPT),--kept $(KEPT)) $(CRATE)
 
 # what is installed for no language in particular
 install-native: programs $(SHARED) $(SCREEN_SHARED)
@@ -199,7 +205,7 @@ install-native: programs $(SHARED) $(SCREEN_SHARED)
 
 install: all install-native
 	$(INSTALL) -d $(MODULES)
-	for name in $(SOURCES_OF_PACKAGE); do $(INSTALL) -m 644 $(PACKAGE)/$$name $(MODULES)/$$name || exit 1; done
+	for name in $(FILES_OF_PACKAGE); do $(INSTALL) -m 644 $(PACKAGE)/$$name $(MODULES)/$$name || exit 1; done
 	for name in ansi ansi_screen; do \
 	    ln -sf "$$(realpath --relative-to=$(MODULES) $(LIB))/lib$$name.so.$(MAJOR)" $(MODULES)/lib$$name.so || exit 1; \
 	done
@@ -219,7 +225,7 @@ uninstall:
 	    rm -f $(LIB)/lib$$name.a $(LIB)/pkgconfig/$$name.pc $(LIB)/lib$$name.so $(LIB)/lib$$name.so.$(MAJOR); \
 	    rm -f $(LIB)/lib$$name.so.$(VERSION); \
 	done
-	for name in $(SOURCES_OF_PACKAGE) $(notdir $(LOADED) $(SCREEN_LOADED) $(EXTENSION)); do rm -f $(MODULES)/$$name; done
+	for name in $(FILES_OF_PACKAGE) $(notdir $(LOADED) $(SCREEN_LOADED) $(EXTENSION)); do rm -f $(MODULES)/$$name; done
 	rm -rf $(MODULES)/__pycache__
 	if [ -d $(MODULES) ]; then rmdir --ignore-fail-on-non-empty $(MODULES); fi
 

@@ -5,9 +5,9 @@ Usage: bench/cells.py [--program PROGRAM] [--size COLUMNSxROWS]
 
 PROGRAM is the built ansi2screen (default: crates/ansi2screen/out/ansi2screen). It is run with --updates: a
 screen full of words comes first, and then pieces, each behind the update to the one before, that change a cell or two of
-a row, move the cursor, or change nothing by a sequence for which all rows are compared. What a piece costs more than none
+a row, move the cursor, or change nothing. What a piece costs more than none
 is divided by the cells of the screen. In the first figure reading the piece, the parser, both screens and the write are
-counted with the update; the second is what is executed inside of the call of `update_noted_columns` alone, and of what it calls.
+counted with the update; the second is what is executed inside of the call of `update_noted` alone, and of what it calls.
 """
 
 import argparse
@@ -105,7 +105,7 @@ def main():
     parser.add_argument("--size", default="120x40")
     options = parser.parse_args()
     columns, rows = map(int, options.size.split("x"))
-    cases = {**ways(columns), "all rows compared": (5, "\x1b[3J%.0s")}
+    cases = {**ways(columns), "nothing, by ED 3": (5, "\x1b[3J%.0s")}
     for inside in (), (CALL,):
         for name, cost, written in costs(options.program, options.size, cases, inside):
             words = name, "the call alone" if inside else "", cost, cost / (columns * rows), written

@@ -1,5 +1,5 @@
 #!/usr/bin/env python3
-"""Measures how long Chromium takes to open pages: until all is read and laid out, and until its first picture is due.
+"""Measures how long Chromium takes to open pages: until the first text is on its picture, and until all is read and laid out.
 
 Usage: bench/opening.py [--rounds N] [--lines N] [PAGE ..]
 
@@ -8,7 +8,8 @@ Usage: bench/opening.py [--rounds N] [--lines N] [PAGE ..]
 
 Without PAGE it makes a log of plain lines and one with colours, and of each the pages of ansi2html that README names: by
 itself, by --classes and by --lines. Each time is of a browser that has just begun, in milliseconds since it was told the
-address: the load event, the layout of all that shows (`scrollHeight` is asked for then), and the next frame.
+address: the first picture with something of the page in it (first-contentful-paint, of the Paint Timing API), the load event,
+the layout of all that shows (`scrollHeight` is asked for then), and the next frame.
 """
 
 import argparse
@@ -32,7 +33,10 @@ COLORS = ["31", "32", "1", "90"]
 SCRIPT = """
 window.opened = new Promise(done => addEventListener("load", () => {
     const load = performance.now(), height = document.documentElement.scrollHeight, layout = performance.now();
-    requestAnimationFrame(() => setTimeout(() => done([load, layout, performance.now()]), 0));
+    requestAnimationFrame(() => setTimeout(() => {
+        const [first] = performance.getEntriesByName("first-contentful-paint");
+        done([first ? first.startTime : NaN, load, layout, performance.now()]);
+    }, 0));
 }));
 """
 
@@ -77,7 +81,7 @@ class Browser:
         self.call("Page.addScriptToEvaluateOnNewDocument", session, source=SCRIPT)
         self.call("Page.navigate", session, url=address)
         found = self.call("Runtime.evaluate", session, expression="window.opened", awaitPromise=True, returnByValue=True)
-        return [round(it) for it in found["result"]["value"]]
+        return [round(it) if it is not None else -1 for it in found["result"]["value"]]
 
     def close(self):
         self.call("Browser.close")
@@ -127,9 +131,9 @@ def main():
         for _ in range(options.rounds):
             for page in named:
                 found[page].append(times_of(browser, page))
-        print("%-32s %6s %6s %6s    (load %.1f)" % ("page", "load", "layout", "frame", os.getloadavg()[0]))
+        print("%-32s %6s %6s %6s %6s    (load %.1f)" % ("page", "first", "load", "layout", "frame", os.getloadavg()[0]))
         for page, times in found.items():
-            print("%-32s %6d %6d %6d" % (os.path.basename(page), *map(min, zip(*times))))
+            print("%-32s %6d %6d %6d %6d" % (os.path.basename(page), *map(min, zip(*times))))
 
 
 if __name__ == "__main__":

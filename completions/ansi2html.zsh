@@ -13,8 +13,8 @@ _arguments \
     '--scroll[wrap no long lines]' \
     '--urls[make links of addresses in the text]' \
     '--stylesheet[write the stylesheet of classes, lines and pages]' \
-    '--shown=-[write what a terminal of 80x24, or of this size, showed]::COLUMNSxROWS:' \
-    '(-o --output)'{-o,--output=}'[write to this file in place of standard output]:FILE:_files' \
+    '--shown=-[write what a terminal, or one of this size, showed]::COLUMNSxROWS:' \
+    '(-o --output)'{-o,--output=}'[write to this file, or a page of each file to this folder/]:FILE:_files' \
     '(- *)'{-h,--help}'[say what it does]' \
     '(- *)--version[say which version it is]' \
     '*:FILE:_files'

@@ -3,7 +3,7 @@
 _arguments \
     '--safe[write text that hides nothing and keeps its order]' \
     '--lf[drop a carriage return right before a line feed]' \
-    '--shown=-[write what a terminal of 80x24, or of this size, showed]::COLUMNSxROWS:' \
+    '--shown=-[write what a terminal, or one of this size, showed]::COLUMNSxROWS:' \
     '(-o --output)'{-o,--output=}'[write to this file in place of standard output]:FILE:_files' \
     '(- *)'{-h,--help}'[say what it does]' \
     '(- *)--version[say which version it is]' \

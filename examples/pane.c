@@ -126,6 +126,7 @@ static int start(const struct pane *pane, char **words, pid_t *child)
     if (*child)
         return *child < 0 ? -1 : end;
     setsid();
+    signal(SIGHUP, SIG_DFL); /* (nohup has it ignored, and then no command would end with the pane) */
     other = open(ptsname(end), O_RDWR);
     if (other < 0 || ioctl(other, TIOCSWINSZ, &size) || dup2(other, 0) < 0 || dup2(other, 1) < 0 || dup2(other, 2) < 0)
         _exit(126);

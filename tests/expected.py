@@ -5,10 +5,10 @@ import hashlib
 
 from expected_pages import ADDRESS, DARK_LINED_HEAD, DARK_TITLED_HEAD, LIGHT_HEAD, LIGHT_LINED_HEAD, LINED_HEAD, LINKED_HEAD
 from expected_pages import LINKED_SCROLLED_HEAD, PAGE_HEAD, PAGE_TAIL, SCROLLED_HEAD, TITLE, TITLED_HEAD, block_rows, line_rows, numbered
-from expected_shown import SHOWN_HOSTILE, SHOWN_NARROW_ROWS, SHOWN_ROWS
-from hostile_streams import BLOCK, SIZE, stream, text, times
+from expected_shown import SHOWN_NARROW_ROWS, SHOWN_ROWS, SHOWN_USUAL_ROWS, shown_hostile
+from hostile_streams import BLOCK, SIZE, WHOLE, stream, text, times
 from log_rows import BEGUN_ROWS, LINES_CUT, READ_ROWS, RETURN_ROWS
-from modes import Mode, Program
+from modes import ROOM_SHOWN, Mode, Program
 from refusals import PARSELOG_USAGE, refused_by, unknown, wants, wrong_size
 from safe_rows import HIDDEN_ROWS, SAFE_ROWS, SAFE_SHOWN_ROWS
 from url_rows import URL_CUT, URL_ROWS, address
@@ -16,9 +16,9 @@ from url_rows import URL_CUT, URL_ROWS, address
 
 def random_bytes():
     """The first 100 MB of SHAKE-128 of the numbers 0, 1, 2 .., each for a block."""
-    for at in range(0, SIZE, BLOCK):
+    for at in range(0, WHOLE, BLOCK):
         block = hashlib.shake_128(b"%d" % (at // BLOCK)).digest(BLOCK)
-        yield block[: SIZE - at]
+        yield block[: WHOLE - at]
 
 
 OSC = stream(b"\x1b]", b"a")
@@ -564,6 +564,11 @@ SHOWN_HTML_ROWS = [
     ("styles of nothing", b"\x1b[31m\x1b[41m", b""),
 ]
 
+# of the size that the first line says, or of 1,000 columns and 100 rows
+SHOWN_HTML_USUAL_ROWS = [
+    (name, given, text.replace(b'"', b"&quot;").replace(b"<", b"&lt;").replace(b">", b"&gt;")) for name, given, text in SHOWN_USUAL_ROWS if b"\x1b[1m" not in given
+]
+
 # The second span is open where the stream ends.
 RED = span(themed(BOTH, b"color", b"#cf222e", b"#ff7b72"), b"h")
 BOLD_RED = span(themed(BOTH, b"color", b"#cf222e", b"#ff7b72") + b"font-weight:bold;", b"i")
@@ -622,8 +627,11 @@ PROGRAMS = [
             Mode(["--lf"], LINES_ROWS, (b"\x1b[1mA\r\n", b"A\n"), STRIP_HOSTILE[:-1], cut=LINES_CUT),
             Mode(["--safe"], SAFE_ROWS + HIDDEN_ROWS, (b"\x1b[1mA<\r\n", b"A<\n"), []),
             Mode(["--lf", "--safe"], SAFE_ROWS + HIDDEN_ROWS, (b"\x1b[1mA<\r\n", b"A<\n"), []),
-            Mode(["--shown"], SHOWN_ROWS, (b"\x1b[1mA\n", b"A\n"), SHOWN_HOSTILE, stays=True, waits=True),
-            Mode(["--shown", "--lf"], SHOWN_ROWS, (b"\x1b[1mA\r\n", b"A\n"), [], stays=True, waits=True),
+            Mode(["--shown"], SHOWN_USUAL_ROWS, (b"\x1b[1mA\n", b"A\n"), shown_hostile(100), stays=True, waits=True, room=ROOM_SHOWN),
+            Mode(["--shown=80x24"], SHOWN_ROWS, (b"\x1b[1mA\n", b"A\n"), shown_hostile(24), stays=True, waits=True),
+            Mode(["--shown=9x9", "--shown", "--lf"], SHOWN_USUAL_ROWS, (b"\x1b[1mA\r\n", b"A\n"), [], stays=True, waits=True),
+            Mode(["--shown=80x24", "--lf"], SHOWN_ROWS, (b"\x1b[1mA\r\n", b"A\n"), [], stays=True, waits=True),
+            Mode(["--safe", "--shown"], SHOWN_USUAL_ROWS, (b"\x1b[1mA\n", b"A\n"), [], stays=True, waits=True),
             Mode(["--safe", "--shown=9x9"], SAFE_SHOWN_ROWS, (b"\x1b[1mA<\r\n", b"A<\n"), [], waits=True),
             Mode(["--shown=9x9", "--shown=80x24"], SHOWN_ROWS[-3:], (b"A\b\n", b"A\n"), [], stays=True, waits=True),
             Mode(["--shown=20x6"], SHOWN_NARROW_ROWS, (b"A\b\n", b"A\n"), [], stays=True, waits=True),
@@ -711,7 +719,8 @@ PROGRAMS = [
         + [
             Mode(words, rows, (b"\x1b[mA<\n", b"A&lt;\n"), [], head, tail, waits=True)
             for words, rows, head, tail in (
-                (["--shown", "--fragment"], SHOWN_HTML_ROWS, b"", b""),
+                (["--shown", "--fragment"], SHOWN_HTML_ROWS + SHOWN_HTML_USUAL_ROWS, b"", b""),
+                (["--shown"], SHOWN_HTML_USUAL_ROWS, PAGE_HEAD, PAGE_TAIL),
                 (["--shown=9x9", "--page", "--shown=80x24"], SHOWN_HTML_ROWS, PAGE_HEAD, PAGE_TAIL),
                 (["--shown", "9x9", "--page", "--shown", "80x24"], SHOWN_HTML_ROWS, PAGE_HEAD, PAGE_TAIL),
                 (["--shown", "--fragment", "--classes"], [("a class", b"\x1b[1mx\n", classed(b"bold") + b"\n")], b"", b""),

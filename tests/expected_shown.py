@@ -6,7 +6,7 @@ from log_rows import BEGUN_ROWS, READ_ROWS
 CLEAR = b"\x1b[H\x1b[2J\x1b[3J"
 BOX = "┌─┐\n│ │\n└─┘\n".encode()
 
-# What a person sees, with what scrolled off.
+# What a person sees, with what scrolled off, on a terminal of 80x24.
 SHOWN_ROWS = [
     ("overstruck", b"B\bB\bo\bo", b"o\n"),
     ("back and over", b"abc\b\b\bxyz", b"xyz\n"),
@@ -53,6 +53,56 @@ SHOWN_ROWS = [
     ("colours, titles and a broken character", b"\x1b[31m\x1b]0;t\x07a\xc3\x1b[mb\n", b"a\xef\xbf\xbdb\n"),
 ]
 
+
+
+def recording(columns, lines, before=b"Script started on 2026-11-28 07:00:00+00:00 [TERM=\"xterm\""):
+    """The first line of a recording by script(1) of a terminal of this size."""
+    return b'%s COLUMNS="%d" LINES="%d"]\n' % (before, columns, lines)
+
+
+# On a screen of 20 columns the bar is a line each time that it is drawn, on wider ones it is drawn over.
+BAR, BAR_ON_20, BAR_ON_MORE = b"a" * 25 + b"\r\x1b[Kb\n", b"a" * 20 + b"\nb\n", b"b\n"
+
+
+def recorded(name, first, text):
+    return name, first + BAR, first + text
+
+
+GERMAN = 'Skript gestartet am 2026-11-28, für [COMMAND="ls"'.encode()
+SAID_TWICE = b'Script started on 2026-11-28 [COMMAND="echo COLUMNS="9" LINES="3"]"'
+ENDS_LATER = recording(20, 6)[:-1]
+
+# The same where no size is given: of the size that the first line says, or of 1,000 columns and 100 rows.
+SHOWN_USUAL_ROWS = [
+    ("a line of more than 80 columns, erased", b"a" * 81 + b"\r\x1b[Kb\n", b"b\n"),
+    ("a line of 1,000 columns, erased", b"a" * 999 + b"\r\x1b[Kb\n", b"b\n"),
+    ("one of 1,001 columns, erased in its second row", b"a" * 1001 + b"\r\x1b[Kb\n", b"a" * 1000 + b"\nb\n"),
+    ("a line of 5,000 columns", b"a" * 5000 + b"\nb\n", b"a" * 5000 + b"\nb\n"),
+    ("colours at the 80th column", b"a" * 79 + b"\x1b[1mb\x1b[m\x1b[Kc\n", b"a" * 79 + b"bc\n"),
+    ("as many lines as rows, written over", b"a" + b"\n" * 99 + b"\x1b[Hb\n", b"b\n"),
+    ("one more, of which the first has left", b"a" + b"\n" * 100 + b"\x1b[Hb\n", b"a\nb\n"),
+    recorded("a recording", recording(20, 6), BAR_ON_20),
+    ("the rows of a recording", recording(80, 3) + b"a\n\n\x1b[Hb", recording(80, 3) + b"b\n"),
+    recorded("a recording in German", recording(20, 6, GERMAN), BAR_ON_20),
+    recorded("one of a command that says another", recording(20, 6, SAID_TWICE), BAR_ON_20),
+    recorded("one of a terminal of 1,000x1,000", recording(1000, 1000), BAR_ON_MORE),
+    # (the row above has left when EL erases the first cell of the last one: its line goes on)
+    recorded("one of the least terminal", recording(2, 1), b"a" * 24 + b"b\n"),
+    recorded("one of no terminal", b"Script started on 2026-11-28 [COMMAND=\"ls\" <not executed on terminal>]\n", BAR_ON_MORE),
+    recorded("one of too many rows", recording(20, 1001), BAR_ON_MORE),
+    recorded("one of too many columns", recording(65556, 6), BAR_ON_MORE),
+    recorded("one of more than all numbers of a machine", recording((1 << 64) + 20, 6), BAR_ON_MORE),
+    recorded("one of one column", recording(1, 6), BAR_ON_MORE),
+    recorded("one of no row", recording(20, 0), BAR_ON_MORE),
+    recorded("one without a number", recording(20, 6).replace(b"20", b""), BAR_ON_MORE),
+    recorded("a size in the second line", b"a\n" + recording(20, 6), BAR_ON_MORE),
+    recorded("a size in the midst of a line", ENDS_LATER + b" \n", BAR_ON_MORE),
+    ("a first line of 4,095 bytes", recording(20, 6, b"b" * (4096 - 25)) + BAR, recording(20, 6, b"b" * (4096 - 25)) + BAR_ON_20),
+    recorded("a first line that is longer", recording(20, 6, b"b" * 4097), BAR_ON_MORE),
+    ("a first line that is all", ENDS_LATER, ENDS_LATER + b"\n"),
+    ("that line, and more before its line feed", ENDS_LATER + BAR, b"b\n"),
+]
+
 # The same of a screen of 20x6.
 SHOWN_NARROW_ROWS = [
     ("a bar wider than the screen", b"a" * 25 + b"\r\x1b[Kb\n", b"a" * 20 + b"\nb\n"),
@@ -68,13 +118,14 @@ def line_of(unit, count):
     return lambda: [unit * count, b"\n"]
 
 
-# By line feeds alone blank rows scroll off, from the 24th on; those that still show are left out.
-SHOWN_HOSTILE = [
-    ("line feeds", times(b"\n", SCROLLS), times(b"\n", SCROLLS - 23)),
-    ("one line that wraps", times(b"a", SCROLLS), line_of(b"a", SCROLLS)),
-    ("wide characters", times(WIDE, SCROLLS // 3), line_of(WIDE, SCROLLS // 3)),
-    ("SU of 65535", times(b"\x1b[65535S", SCROLLS // 8), times(b"\n", 24 * (SCROLLS // 8))),
-    ("resets", times(b"A\x1bc", SCROLLS // 3), times(b"A\n", SCROLLS // 3)),
-    ("screens that are erased", times(b"A\x1b[2J\r", SCROLLS // 6), times(b"A\n", SCROLLS // 6)),
-    ("the alternate screen", times(b"\x1b[?1049hA\x1b[?1049l", SCROLLS // 17), text(b"")),
-]
+def shown_hostile(rows):
+    """On a screen of so many rows: by line feeds alone blank rows scroll off, from the last on; those that still show are left out."""
+    return [
+        ("line feeds", times(b"\n", SCROLLS), times(b"\n", SCROLLS - (rows - 1))),
+        ("one line that wraps", times(b"a", SCROLLS), line_of(b"a", SCROLLS)),
+        ("wide characters", times(WIDE, SCROLLS // 3), line_of(WIDE, SCROLLS // 3)),
+        ("SU of 65535", times(b"\x1b[65535S", SCROLLS // 8), times(b"\n", rows * (SCROLLS // 8))),
+        ("resets", times(b"A\x1bc", SCROLLS // 3), times(b"A\n", SCROLLS // 3)),
+        ("screens that are erased", times(b"A\x1b[2J\r", SCROLLS // 6), times(b"A\n", SCROLLS // 6)),
+        ("the alternate screen", times(b"\x1b[?1049hA\x1b[?1049l", SCROLLS // 17), text(b"")),
+    ]

@@ -1,7 +1,7 @@
 """How the programs read files and write one: rows for tests/programs.
 
 What is written of several files is what the program writes of each alone, from standard input, one after the
-other; so no text stands here twice.
+other; so no text stands here twice. In a page each of them has a heading and a <pre> of its own.
 """
 
 import errno
@@ -17,6 +17,8 @@ import tempfile
 from expected_pages import in_blocks
 
 NOBODY = 65534
+# how a heading has a name that stands there in other words
+HEADINGS = {"-": "standard input", "a<b>&\"'.log": "a&lt;b&gt;&amp;&quot;&#39;.log"}
 PARTS = [b"\x1b[1mone\x1b[0m\n", b"tw\xe2\x82", b"\xaco\n\x1b[3", b"1mthree\r\n", b""]
 
 
@@ -62,19 +64,24 @@ class Rows:
 
         return self.run([self.path, *self.words, *words], given, before=begin, **how)
 
-    def of_each(self, *parts):
-        """What is written of these texts, one after another."""
+    def of_each(self, *parts, names=()):
+        """What is written of these texts, one after another. In a page each of several has its file's name as a heading."""
         around = self.run([self.path, *self.words], b"").out
         empty = self.run([self.path, *self.alone], b"").out
         written = [self.run([self.path, *self.alone], part).out for part in parts]
         if self.words == self.alone:
             return b"".join(written)
         # (what a screen showed stands in no blocks)
-        texts = b"".join(written if "--shown" in self.alone else map(in_blocks, written))
+        texts = written if "--shown" in self.alone else list(map(in_blocks, written))
         # (what stands around the text of nothing is the head and the tail)
         assert not empty, empty
-        at = around.index(b"<pre>\n") + len(b"<pre>\n")
-        return around[:at] + texts + around[at:]
+        at = around.index(b"<pre>\n")
+        head, begin, end, tail = around[:at], b"<pre>\n", b"</pre>\n", around[at:].partition(b"</pre>\n")[2]
+        if len(texts) == 1:
+            return head + begin + texts[0] + end + tail
+        assert len(names) == len(texts), names
+        headings = [b"<h2>%s</h2>\n" % HEADINGS.get(it, it).encode() for it in names]
+        return head + b"".join(it + begin + text + end for it, text in zip(headings, texts)) + tail
 
     def said(self, *lines):
         """What stands on standard error: for each name its reason."""
@@ -108,6 +115,8 @@ def file_cases(name, path, words, alone, run, differs):
         yield from growing_cases(rows)
         yield from written_cases(rows)
         yield from kept_cases(rows)
+        if name == "ansi2html":
+            yield from folder_cases(rows)
     finally:
         shutil.rmtree(rows.room)
 
@@ -116,7 +125,7 @@ def read_cases(rows):
     names = ["part%d" % it for it in range(len(PARTS))]
     for count in (1, 2, len(PARTS)) if rows.takes_many else (1,):
         ended = rows.ran(*names[:count])
-        yield "%d files" % count, rows.differs(ended, out=rows.of_each(*PARTS[:count]))
+        yield "%d files" % count, rows.differs(ended, out=rows.of_each(*PARTS[:count], names=names[:count]))
     given = b"\x1b[3mfrom standard input"
     rows_of_words = [(["-"], [given]), (["--", "-"], [given]), (["--"], [given])]
     if rows.takes_many:
@@ -126,22 +135,32 @@ def read_cases(rows):
             (["-", "part0", "-"], [given, PARTS[0], b""]),
         ]
     for words, parts in rows_of_words:
-        yield "the words %s" % " ".join(words), rows.differs(rows.ran(*words, given=given), out=rows.of_each(*parts))
+        ended = rows.ran(*words, given=given)
+        yield "the words %s" % " ".join(words), rows.differs(ended, out=rows.of_each(*parts, names=words))
     faults = [("missing", errno.ENOENT), ("folder", errno.EISDIR), ("part0/below", errno.ENOTDIR), ("loop", errno.ELOOP)]
     faults.append(("a" * 300, errno.ENAMETOOLONG))
     for at, why in faults:
         said, words = rows.said((at.encode(), why)), (["part0", at, "part3"] if rows.takes_many else [at])
         parts = [PARTS[0], b"", PARTS[3]] if rows.takes_many else [b""]
         ended = rows.ran(*words)
-        yield "%s: %s" % (" ".join(words)[:30], os.strerror(why)), rows.differs(ended, status=1, err=said, out=rows.of_each(*parts))
+        wanted = {"status": 1, "err": said, "out": rows.of_each(*parts, names=words)}
+        yield "%s: %s" % (" ".join(words)[:30], os.strerror(why)), rows.differs(ended, **wanted)
     if rows.takes_many:
         ended = rows.ran("missing", "folder", "missing")
         said = rows.said((b"missing", errno.ENOENT), (b"folder", errno.EISDIR), (b"missing", errno.ENOENT))
-        yield "faults alone", rows.differs(ended, status=1, err=said, out=rows.of_each(b""))
+        wanted = rows.of_each(b"", b"", b"", names=("missing", "folder", "missing"))
+        yield "faults alone", rows.differs(ended, status=1, err=said, out=wanted)
+        for name in HEADINGS:
+            if name != "-":
+                rows.put(name, PARTS[0])
+                ended = rows.ran("part3", name)
+                yield "the name %s among others" % name, rows.differs(ended, out=rows.of_each(PARTS[3], PARTS[0], names=("part3", name)))
+                os.remove(rows.at(name))
     rows.put("secret", b"secret\n", 0o600 if os.geteuid() == 0 else 0)
     names = ["secret", "part0"][: 1 + rows.takes_many]
     ended = rows.ran(*names, before=drop_rights)
-    wanted = {"status": 1, "err": rows.said((b"secret", errno.EACCES)), "out": rows.of_each(b"", PARTS[0]) if rows.takes_many else rows.of_each(b"")}
+    out = rows.of_each(b"", PARTS[0], names=names) if rows.takes_many else rows.of_each(b"")
+    wanted = {"status": 1, "err": rows.said((b"secret", errno.EACCES)), "out": out}
     yield "a file that it may not read", rows.differs(ended, **wanted)
     os.remove(rows.at("secret"))
     with open("/dev/full", "wb") as full:
@@ -175,7 +194,7 @@ def cut_off_cases(rows):
     for name, (part, begin) in zip(names, parts):
         err = b"" if begin is None else line % (rows.name.encode(), name.encode(), begin)
         yield "%s, which ends in a string" % name, rows.differs(rows.ran(name), err=err, out=rows.of_each(part))
-    yield "files that end in strings", rows.differs(rows.ran(*names), err=b"".join(said), out=rows.of_each(*texts))
+    yield "files that end in strings", rows.differs(rows.ran(*names), err=b"".join(said), out=rows.of_each(*texts, names=names))
     rows.put("a\nb", parts[0][0])
     err = rows.name.encode() + b': "a\\nb": ends inside a string that begins at byte 6\n'
     yield "one whose name could drive a terminal", rows.differs(rows.ran("a\nb"), err=err, out=rows.of_each(parts[0][0]))
@@ -266,7 +285,7 @@ def growing_cases(rows):
 
 def written_cases(rows):
     """A file that is written."""
-    whole = rows.of_each(*rows.texts)
+    whole = rows.of_each(*rows.texts, names=rows.two)
     before = rows.left()
     for words in (["-o", "out"], ["--output=out"], ["-o", "other", "--output=out"], ["--output=other", "-o", "out"], ["-o", "--", "-o", "out"], ["-o", "./out"], ["-oout"], ["-oother", "-oout"], ["--output=other", "-o./out"]):
         why = rows.differs(rows.ran(rows.two[0], *words, *rows.two[1:]))
@@ -302,6 +321,102 @@ def written_cases(rows):
         yield "%s is standard output" % words, rows.differs(rows.ran(*words, "part0"), out=rows.of_each(PARTS[0]))
     yield "-o /dev/null", rows.differs(rows.ran("-o", "/dev/null", "part0")) or (not stat.S_ISCHR(os.stat("/dev/null").st_mode) and "it is gone")
     yield "no other file is left", rows.left() != before and "there are %s" % rows.left()
+
+
+def pages_of(rows, *names, title=None):
+    """What is written of each of these files alone, by the name of its page; each page has the file's name as its title."""
+    found = {}
+    for name in names:
+        last = os.path.basename(name)
+        words = [] if "--fragment" in rows.words else ["--title=" + (title or last)]
+        found[last + ".html"] = rows.ran(*words, "--", name).out
+    return found
+
+
+def folder_cases(rows):
+    """A folder that is written to: a page or a fragment of each file."""
+    before = rows.left()
+    names = ["part0", "folder/part3", "./part1", "folder/a<b>&.log", "-dash"]
+    made = ["folder/part3", "folder/a<b>&.log", "-dash"]
+    for number, name in enumerate(made):
+        rows.put(name, PARTS[number])
+    wanted = pages_of(rows, *names)
+    for words, at in [
+        (["-o", "pages/"], "pages"),
+        (["-opages/"], "pages"),
+        (["--output=pages/"], "pages"),
+        (["-o", "out", "--output=pages/"], "pages"),
+        (["-o", "new/and/deep//"], "new/and/deep"),
+        (["-o", rows.at("pages/")], "pages"),
+    ]:
+        why = rows.differs(rows.ran(*words, "--", *names)) or pages_differ(rows, at, wanted)
+        yield "%s makes a page of each file" % " ".join(words[-2:])[-30:], why or left_differs(rows, before, at, "-dash")
+        shutil.rmtree(rows.at(at.split("/")[0]))
+    os.mkdir(rows.at("pages"))
+    for old in ("part0.html", "other"):
+        rows.put("pages/" + old, b"old\n")
+    said = rows.said((b"missing", errno.ENOENT), (b"folder", errno.EISDIR))
+    why = rows.differs(rows.ran("-o", "pages/", "missing", "part0", "folder", "--", "-dash"), status=1, err=said)
+    wanted = {**pages_of(rows, "part0", "-dash"), "other": b"old\n"}
+    yield "of files that can't be read there is no page, and others have theirs", why or pages_differ(rows, "pages", wanted)
+    rows.put("pages/missing.html", b"old\n")
+    why = rows.differs(rows.ran("-o", "pages/", "missing"), status=1, err=rows.said((b"missing", errno.ENOENT)))
+    yield "the page of one that is missing stays", why or pages_differ(rows, "pages", {**wanted, "missing.html": b"old\n"})
+    shutil.rmtree(rows.at("pages"))
+    why = rows.differs(rows.ran("-o", "./", "part0")) or pages_differ(rows, ".", pages_of(rows, "part0"), among=True)
+    yield "a page beside its file", why
+    os.remove(rows.at("part0.html"))
+    if "--fragment" not in rows.words:
+        why = rows.differs(rows.ran("-o", "pages/", "--title=T", "part0", "part1"))
+        yield "a title for all", why or pages_differ(rows, "pages", pages_of(rows, "part0", "part1", title="T"))
+        shutil.rmtree(rows.at("pages"))
+    if "--shown" not in rows.words:
+        numbered = {name + ".html": rows.ran("--lines", *([] if "--fragment" in rows.words else ["--title=" + name]), name).out for name in ("part0", "part1")}
+        why = rows.differs(rows.ran("-o", "pages/", "--lines", "part0", "part1")) or pages_differ(rows, "pages", numbered)
+        yield "--lines, a page a file", why
+        shutil.rmtree(rows.at("pages"))
+    yield from refused_cases(rows)
+    for name in made:
+        os.remove(rows.at(name))
+    yield "no other file is left by pages", rows.left() != before and "there are %s" % rows.left()
+
+
+def refused_cases(rows):
+    """Files that have no pages of their own in a folder, which is not made; and folders that can't be."""
+    before = rows.left()
+    for names, shown in [([], "-"), (["-"], "-"), (["part0", "-"], "-"), ([".."], ".."), (["part0", "folder/.."], "folder/.."), ([""], "")]:
+        why = '%s: "%s": no page in a folder can be named after it (see %s --help)\n' % (rows.name, shown, rows.name)
+        why = rows.differs(rows.ran("-o", "pages/", *names, given=PARTS[0]), status=2, err=why.encode())
+        yield "-o pages/ %s is refused" % " ".join(names), why or left_differs(rows, before)
+    for names, shown in [(["part0", "folder/part0"], "part0"), (["part1", "part0", "./part0", "part1"], "part1"), (["part0", "part0/"], "part0")]:
+        why = '%s: "%s": two files of this name would be one page in the folder (see %s --help)\n' % (rows.name, shown, rows.name)
+        why = rows.differs(rows.ran("-o", "pages/", *names), status=2, err=why.encode())
+        yield "-o pages/ %s is refused" % " ".join(names), why or left_differs(rows, before)
+    for at, why in [("part0/", errno.EEXIST), ("part0/below/", errno.ENOTDIR), ("loop/", errno.EEXIST)]:
+        said = rows.said((at.encode(), why))
+        yield "-o %s can't be made" % at, rows.differs(rows.ran("-o", at, "part1"), status=1, err=said) or left_differs(rows, before)
+    why = rows.differs(rows.run([rows.path, "--stylesheet", "-o", rows.at("folder/")], b""), status=1, err=rows.said((rows.at("folder/").encode(), errno.EISDIR)))
+    yield "a stylesheet is no page", why
+    os.mkdir(rows.at("pages"), 0o777)
+    os.chmod(rows.at("pages"), 0o555)
+    said = rows.said((b"pages/part0.html", errno.EACCES), (b"pages/part1.html", errno.EACCES))
+    yield "a folder that it may not write to", rows.differs(rows.ran("-o", "pages/", "part0", "part1", before=drop_rights), status=1, err=said)
+    os.rmdir(rows.at("pages"))
+
+
+def pages_differ(rows, at, wanted, among=False):
+    """Says how the files of a folder differ from what they are to be."""
+    found = {name: rows.read(os.path.join(at, name)) for name in (wanted if among else os.listdir(rows.at(at)))}
+    for name in sorted({*found, *wanted}):
+        if found.get(name) != wanted.get(name):
+            return "%s is %r and not %r" % (name, found.get(name), wanted.get(name))
+    return None
+
+
+def left_differs(rows, before, *others):
+    """Says which files are there that were not, but for some."""
+    more = set(rows.left()) - {*before, *(it.split("/")[0] for it in others)}
+    return "there are %s" % sorted(more) if more else None
 
 
 def kept_cases(rows):

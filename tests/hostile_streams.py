@@ -1,6 +1,10 @@
 """What makes hostile streams: a unit again and again, in blocks."""
 
-SIZE = 100_000_000  # the bytes of a hostile stream
+import needs
+
+WHOLE = 100_000_000
+# the bytes of a hostile stream: programs that are not proved take long, and a tenth shows as well what grows
+SIZE = WHOLE if needs.is_proved() else WHOLE // 10
 BLOCK = 1 << 20
 
 

@@ -1,4 +1,4 @@
-"""The events of the Python package, made in C and in Python: cases of tests/library."""
+"""The events of the Python package, made in C and in Python: cases of tests/library_python."""
 
 import collections
 import gc
@@ -327,8 +327,9 @@ def memory_cases(ansi):
     counted = [getattr(ansi, it) for it in ("Text", "Csi", "Osc", "Esc", "Hook", "Put", "Unhook", "Execute")]
     counted += [None, True, False, (), "", b"", 1, "m", "q", "x", *ansi.event.PUTS[120:122]]
     counted.append(type(ansi.events([])))
+    many = 400_000 if ansi.event.IS_COMPILED else 100_000  # (bytes: Python takes long, and counts its references itself)
     for kind, one in KINDS.items():
-        stream = one * (400_000 // len(one))
+        stream = one * (many // len(one))
         for given in (stream, pieces(stream, 1000)):
             collections.deque(ansi.events(given), 0)
         gc.collect()

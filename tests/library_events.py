@@ -1,4 +1,4 @@
-"""The events of the library, from C and Python: cases of tests/library."""
+"""The events of the library, from C and Python: cases of tests/library and of tests/library_python."""
 
 import importlib.machinery
 import itertools

@@ -1,4 +1,4 @@
-"""What tests/library tries of text with `lf` from Python: worked rows, streams beside ansi2text --lf, each cut of short ones, kinds of
+"""What tests/library_python tries of text with `lf` from Python: worked rows, streams beside ansi2text --lf, each cut of short ones, kinds of
 texts, and wholes one after another."""
 
 import itertools
@@ -77,23 +77,11 @@ def beside_cases(ansi):
 
 
 def kind_cases(ansi):
-    given, text = b"\x1b[1mA\r\nB\r", b"A\nB\r"
-    for kind in (bytes, bytearray, memoryview):
-        yield "lf: a text may be %s" % kind.__name__, first_difference(ansi.strip(kind(given), lf=True), text)
-        parts = [kind(given[:6]), kind(given[6:])]
-        yield "lf: a piece may be %s" % kind.__name__, first_difference(b"".join(ansi.text_of(parts, lf=True)), text)
+    yield from option_cases(ansi, "lf", b"\x1b[1mA\r\nB\r", 6, b"A\nB\r")
+    yield from piece_cases(ansi, "lf", [b"one\r", b"\ntwo\r", b"three"], b"one", [b"\r"])
     found = ansi.strip("a\r\nb"), ansi.strip(b"a\r\n", lf=False), b"".join(ansi.text_of([b"a\r", b"\n"]))
     yield "lf: only where it is asked for", None if found == ("a\r\nb", b"a\r\n", b"a\r\n") else "they are %r" % (found,)
     found = [ansi.strip(it, lf=True) for it in ("", "a\r", "\n", "é\r\n", "\r\r\n")]
     yield "lf: of short texts, each by itself", None if found == ["", "a\r", "\n", "é\n", "\r\n"] else "they are %r" % (found,)
     found = ansi.strip("a\r\n\x07<\r", safe=True, lf=True), b"".join(ansi.text_of([b"a\r", b"\n\x07"], safe=True, lf=True))
     yield "lf: with safe text it changes nothing", None if found == ("a\n<U+0007><<U+000D>", b"a\n<U+0007>") else "they are %r" % (found,)
-    for name, call in [("strip", lambda: ansi.strip("a", False, True)), ("text_of", lambda: ansi.text_of([b"a"], False, True))]:
-        try:
-            yield "lf: %s takes the word by its name alone" % name, "it answers %r" % call()
-        except TypeError:
-            yield "lf: %s takes the word by its name alone" % name, None
-    given = iter([b"one\r", b"\ntwo\r", b"three"])
-    texts = ansi.text_of(given, lf=True)
-    found = next(texts), len(list(given)), list(texts)
-    yield "lf: the text of a piece comes before the next piece is asked for", None if found == (b"one", 2, [b"\r"]) else "it is %r" % (found,)

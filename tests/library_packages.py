@@ -1,5 +1,5 @@
-"""What tests/library tries of the packages: where that of Python looks for the library, what documents show of it, and all
-that Cargo's hands on."""
+"""What is tried of the packages: by tests/library_python where that of Python looks for the library, and what documents show of
+it; by tests/library all that Cargo's hands on."""
 
 import ast
 import inspect

@@ -1,4 +1,4 @@
-"""What tests/library tries of safe text from Python: worked rows, streams beside ansi2text --safe, pieces of each size, kinds of
+"""What tests/library_python tries of safe text from Python: worked rows, streams beside ansi2text --safe, pieces of each size, kinds of
 texts, wholes one after another, and states."""
 
 import ctypes
@@ -92,22 +92,10 @@ def whole_safe_cases(ansi):
 
 
 def safe_kind_cases(ansi):
-    given, text = b"\x1b[1mA\0B\r", b"A<U+0000>B<U+000D>"
-    for kind in (bytes, bytearray, memoryview):
-        yield "safe: a text may be %s" % kind.__name__, first_difference(ansi.strip(kind(given), safe=True), text)
-        parts = [kind(given[:3]), kind(given[3:])]
-        yield "safe: a piece may be %s" % kind.__name__, first_difference(b"".join(ansi.text_of(parts, safe=True)), text)
+    yield from option_cases(ansi, "safe", b"\x1b[1mA\0B\r", 3, b"A<U+0000>B<U+000D>")
+    yield from piece_cases(ansi, "safe", [b"one<", b"U", b"two"], b"one", [b"<"])
     found = ansi.strip(b"a\x07b"), ansi.strip("a\x07b", safe=False), b"".join(ansi.text_of([b"a\x07"], safe=False))
     yield "safe: only where it is asked for", None if found == (b"ab", "ab", b"a") else "they are %r" % (found,)
-    for name, call in [("strip", lambda: ansi.strip("a", True)), ("text_of", lambda: ansi.text_of([b"a"], True))]:
-        try:
-            yield "safe: %s takes the word by its name alone" % name, "it answers %r" % call()
-        except TypeError:
-            yield "safe: %s takes the word by its name alone" % name, None
-    given = iter([b"one<", b"U", b"two"])
-    texts = ansi.text_of(given, safe=True)
-    found = next(texts), len(list(given)), list(texts)
-    yield "safe: the text of a piece comes before the next piece is asked for", None if found == (b"one", 2, [b"<"]) else "it is %r" % (found,)
 
 
 def safe_state_cases():

@@ -19,6 +19,8 @@ WARNINGS = ["-Wall", "-Wextra", "-Werror", INCLUDE]
 STRICT = ["-O", "-D", "warnings", "--edition", "2021"]
 SANITIZERS = ["-g", "-fsanitize=address,undefined", "-fno-sanitize-recover=all"]
 PATIENCE = 60  # seconds that a program has
+BUILDING = 7200  # and what proves and builds
+SIZES = [1, 2, 3, 7, 64, 1000, 4095, 4096]  # of the pieces
 
 
 sys.path[:0] = [PYTHON, "%s/bench" % ROOT]
@@ -64,6 +66,24 @@ def left_out(name):
 def failure(done):
     """Says how a command failed, or answers None."""
     return None if done.returncode == 0 else "status %d, %r" % (done.returncode, (done.stderr or done.stdout)[-300:])
+
+
+def archive_built():
+    """The archive, as `rt lib` builds it."""
+    yield "rt lib builds the archive", failure(run(["rt", "lib"], cwd="%s/crates/ansi" % ROOT, patience=BUILDING))
+
+
+def counted(document, cases):
+    """Says what cases come to, a line for each: what a script of this folder does. Answers its status."""
+    if sys.argv[1:]:
+        print(document.strip())
+        return 0 if sys.argv[1:] == ["--help"] else 2
+    passed = failed = 0
+    for name, why in cases():
+        passed, failed = passed + (not why), failed + bool(why)
+        print("FAILED  %s: %s" % (name, why) if why else "passed  %s" % name, flush=True)
+    print("%d passed, %d failed" % (passed, failed))
+    return 1 if failed or not passed else 0
 
 
 def ticks_during(call):
@@ -154,3 +174,29 @@ def first_difference(found, wanted):
         return None
     at = next((at for at, (a, b) in enumerate(zip(found, wanted)) if a != b), min(len(found), len(wanted)))
     return "%d bytes, and not %d; byte %d is the first that differs" % (len(found), len(wanted), at)
+
+
+def option_cases(ansi, name, given, cut, wanted):
+    """Of an option of `strip` and `text_of`: all kinds of bytes that a text and its pieces may be, and that the word for the
+    option is taken by its name alone."""
+    option = {name: True}
+    for kind in (bytes, bytearray, memoryview):
+        yield "%s: a text may be %s" % (name, kind.__name__), first_difference(ansi.strip(kind(given), **option), wanted)
+        parts = [kind(given[:cut]), kind(given[cut:])]
+        yield "%s: a piece may be %s" % (name, kind.__name__), first_difference(b"".join(ansi.text_of(parts, **option)), wanted)
+    for call, text in [("strip", "a"), ("text_of", [b"a"])]:
+        for more in ([True], [False, True]):
+            words = "%s: %s takes the word by its name alone, and not as %d behind the text" % (name, call, len(more))
+            try:
+                yield words, "it answers %r" % getattr(ansi, call)(text, *more)
+            except TypeError:
+                yield words, None
+
+
+def piece_cases(ansi, name, given, first, rest):
+    """Of an option of `text_of`: the text of a piece comes before the next piece is asked for."""
+    given = iter(given)
+    texts = ansi.text_of(given, **{name: True})
+    found = next(texts), len(list(given)), list(texts)
+    words = "%s: the text of a piece comes before the next piece is asked for" % name
+    yield words, None if found == (first, 2, rest) else "it is %r" % (found,)

@@ -3,6 +3,9 @@
 from expected_pages import BLOCK_BEGIN, BLOCK_END, blocks_begun, blocks_ended, line_in_blocks
 from open_strings import said
 
+ROOM = 4 * 1024  # the kilobytes of memory that a program may take
+ROOM_SHOWN = 12 * 1024  # and with a screen of 1000x100, which has 7,813 of cells
+
 
 class Program:
     """A filter of standard input: the words that it refuses, each with the line that it says then;
@@ -24,12 +27,12 @@ class Mode:
     that each text is its own text; `cut` is a stream, and what is written of the bytes before
     each of its bytes, and of all of them; `waits` says that lines may be written at the end alone, and
     `late` that a write which fails may be noticed with 8 KiB held back alone, and that nothing is said of how a stream
-    ends. `has_blocks` says that lines stand in blocks: a row may leave its only one away."""
+    ends. `has_blocks` says that lines stand in blocks: a row may leave its only one away; and `room` how many kilobytes it may take."""
 
-    def __init__(self, words, rows, line, hostile, head=b"", tail=b"", stays=False, cut=None, waits=False, late=False, has_blocks=False):
+    def __init__(self, words, rows, line, hostile, head=b"", tail=b"", stays=False, cut=None, waits=False, late=False, has_blocks=False, room=ROOM):
         self.words, self.rows, self.line, self.hostile = words, rows, line, hostile
         self.head, self.tail, self.stays, self.cut, self.waits, self.late = head, tail, stays, cut, waits, late
-        self.has_blocks = has_blocks
+        self.has_blocks, self.room = has_blocks, room
 
     def begun(self, text):
         """What is written by then, where the text goes on."""

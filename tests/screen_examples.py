@@ -8,6 +8,7 @@ import fcntl
 import os
 import pty
 import re
+import resource
 import select
 import signal
 import struct
@@ -25,6 +26,7 @@ ARCHIVE = "%s/crates/ansi_screen_c/out/libansi_screen.a" % ROOT
 COLUMNS, ROWS = 20, 5  # of the pane
 WIDER, HIGHER = 30, 8  # the terminal that it stands in
 PATIENCE, QUIET = 20, 0.2  # seconds: that something takes at most, and without a byte when all is written
+BUSY = 0.15  # seconds of a processor that a pane takes at most where nothing happens for two
 COOKED = termios.ICANON | termios.ECHO | termios.ISIG
 
 ALL = range(1, 10)
@@ -221,6 +223,26 @@ def talk_cases(pane):
     yield "input that is no terminal goes to the command too", None if is_so else "status %d, %r" % (done.returncode, done.stderr[-300:])
 
 
+def quiet_cases(pane):
+    """What a pane leaves alone: a command's ends, and the processor while it waits; and how it ends where nobody can see it."""
+    script = "for end in 3 4 5 6 7 8 9; do test -e /proc/$$/fd/$end && echo $end is open; done; echo no other"
+    done = run([pane, str(COLUMNS), str(ROWS), "sh", "-c", script])
+    is_so = done.returncode == 0 and b"no other" in done.stdout and b"open" not in done.stdout
+    yield "a command has three ends and no other", None if is_so else "status %d, %r" % (done.returncode, done.stdout[-300:])
+    before = resource.getrusage(resource.RUSAGE_CHILDREN)
+    done = run([pane, str(COLUMNS), str(ROWS), "sleep", "2"])
+    after = resource.getrusage(resource.RUSAGE_CHILDREN)
+    took = after.ru_utime + after.ru_stime - before.ru_utime - before.ru_stime
+    yield "where nothing more is typed it waits", failure(done) or (None if took < BUSY else "it takes %.2f seconds of 2" % took)
+    began = time.monotonic()
+    done = run(["sh", "-c", '"$0" %d %d sh -c "echo; sleep %d" > /dev/full' % (COLUMNS, ROWS, PATIENCE), pane])
+    took = time.monotonic() - began
+    is_so = done.returncode == 1 and took < PATIENCE
+    yield "a full disk ends it, with its command", None if is_so else "status %d, in %.1f seconds" % (done.returncode, took)
+    done = run(["sh", "-c", '"$0" %d %d true > /dev/full' % (COLUMNS, ROWS), pane])
+    yield "so it is where the command writes nothing", None if done.returncode == 1 else "status %d" % done.returncode
+
+
 def built(name, room):
     """The command that builds an example, with the sanitizers, and the program; or none, where no compiler is there."""
     tool, program = compiler("gcc", "cc", "clang"), "%s/%s" % (room, name)
@@ -240,6 +262,7 @@ def pane_cases(room):
     yield from change_cases(pane)
     yield from narrow_cases(pane)
     yield from talk_cases(pane)
+    yield from quiet_cases(pane)
 
 
 # ------------------------------------------------------------------ the screen

@@ -13,5 +13,5 @@ def put_command(path, *lines):
 
 def copy_unbuilt(folder, copy, *others):
     """Copies a folder without what was built in it, or is being built beside this, and without others by name."""
-    built = ["out", "__pycache__", "*.so", "*.so.*", "*.h.*", "target", "build", "dist", "*.egg-info"]
+    built = ["out", "__pycache__", "*.so", "*.so.*", "*.h.*", "*.css.*", "target", "build", "dist", "*.egg-info"]
     shutil.copytree(folder, copy, ignore=shutil.ignore_patterns(*built, *others))

@@ -8,7 +8,8 @@ from setuptools import Distribution, Extension, setup
 
 from distutils.command.build_scripts import build_scripts  # (of setuptools, which is imported first)
 
-LIBRARY = "src/ansi_proved/libansi.so"
+# what `make library` puts into the package's folder
+MADE = ["libansi.so", "libansi_screen.so", "classes.css", "ansi_events.h"]
 # what `make wheel` puts there: an installer puts them on the path. Without them the package is installed all the same
 PROGRAMS = sorted(glob.glob("programs/*"))
 # (a Python without its lock has no limited API; there the package makes its events in Python)
@@ -31,8 +32,9 @@ class AsTheyAre(build_scripts):
             self.copy_file(program, os.path.join(self.build_dir, os.path.basename(program)))
 
 
-if not os.path.exists(LIBRARY):
-    raise SystemExit("there is no %s in %s: `make library`, at the top of the repository, puts it there" % (LIBRARY, os.getcwd()))
+for name in MADE:
+    if not os.path.exists("src/ansi_proved/" + name):
+        raise SystemExit("there is no src/ansi_proved/%s in %s: `make library`, at the top of the repository, puts it there" % (name, os.getcwd()))
 
 events = Extension(
     "ansi_proved._events",

@@ -230,6 +230,9 @@ class Calls(unittest.TestCase):
         self.assertIn("<title>&lt;T&gt;</title>", page)
         self.assertEqual(ansi_proved.page(b"\x1b[1mhi", "light", title="<T>", lang="de"), page.encode())
         self.assertIn("<title>Terminal output</title>", ansi_proved.page("hi"))
+        self.assertIn("<title>&amp;&lt;&gt;&quot;&#39;&#13;</title>", ansi_proved.page("hi", title="&<>\"'\r"))
+        self.assertIn('<html lang="%s">' % (64 * "a"), ansi_proved.page("hi", lang=64 * "a"))
+        self.assertRaises(ValueError, ansi_proved.page, "hi", lang=65 * "a")
         self.assertEqual(len({ansi_proved.page("\x1b[31mhi", it) for it in ansi_proved.STYLINGS}), 4)
         classes = re.findall(r'class="(.*?)"', ansi_proved.to_html("\x1b[1;31mhi", "classes"))[0].split()
         for rules in (*map(ansi_proved.stylesheet, ("both", "light", "dark")), ansi_proved.stylesheet(), ansi_proved.page("a", "classes")):
@@ -251,6 +254,8 @@ class Calls(unittest.TestCase):
         for text, wanted in rows:
             self.assertEqual((ansi_proved.shown(text), ansi_proved.shown(text.encode())), (wanted, wanted.encode()))
         self.assertEqual(ansi_proved.shown("ab\x1b[Hc", 2, 1), "cb\n")
+        self.assertEqual(ansi_proved.shown("abc\r\x1b[X", 2, 2), "ab\n")
+        self.assertEqual(ansi_proved.shown(100 * "\x1b[24Hx\x1bc"), 100 * (23 * "\n" + "x\n"))
         self.assertEqual(ansi_proved.shown("abc", columns=2, rows=5), "abc\n")
         self.assertRaisesRegex(ValueError, "^a screen has 2 to 1000 columns and 1 to 1000 rows, and not 1x24$", ansi_proved.shown, "a", 1)
         self.assertRaisesRegex(TypeError, "^columns and rows are int, and not int and str$", ansi_proved.shown, "a", 80, "24")

@@ -3,7 +3,7 @@
 #![cfg(feature = "screen")]
 
 use ansi_proved::screen::{CannotOpen, Color, Part, Place, Screen};
-use ansi_proved::Styling;
+use ansi_proved::{to_html, Styling};
 use std::panic::catch_unwind;
 use std::sync::Mutex;
 use std::thread;
@@ -133,6 +133,9 @@ fn links_and_html() {
     let html = |attributes: &str| format!("<a rel=\"nofollow noreferrer\" href=\"http://x\" {attributes}>l</a>&lt;\n");
     assert_eq!(screen.to_html(Styling::Classes), html("class=\"ansi-link\""));
     assert_eq!(screen.to_html(Styling::Light), html("style=\"color:inherit;\""));
+    for styling in [Styling::Both, Styling::Light, Styling::Dark, Styling::Classes] {
+        assert_eq!(shown(10, 3, "\x1b[31mr").to_html(styling), to_html("\x1b[31mr\x1b[0m\n", styling));
+    }
 }
 
 #[test]
@@ -147,6 +150,30 @@ fn a_clone_goes_on_by_itself() {
     assert_eq!(clone.cell(2, 1).unwrap().style.foreground, Color::Named(1));
     drop(screen);
     assert_eq!(clone.history_text(0), "1");
+}
+
+/// What differs in anything that a program can read is not equal.
+#[test]
+fn each_difference_counts() {
+    let colours = ["31", "32", "91", "41", "101", "38;5;1", "38;5;200", "48;5;1", "38;2;1;2;3", "38;2;1;2;4", "38;2;1;3;3", "38;2;2;2;3"];
+    let attributes = ["0", "1", "2", "3", "4", "4:2", "4:3", "4:4", "4:5", "5", "7", "8", "9", "53"];
+    let mut streams: Vec<String> = colours.iter().chain(&attributes).map(|it| format!("\x1b[{it}mA")).collect();
+    streams.extend(["", " ", "B", "A\u{301}", "A\u{302}", "A\u{301}\u{302}", "\u{4E2D}", "\x1b]8;;https://a\x1b\\A"].map(String::from));
+    let cells: Vec<_> = streams.iter().map(|it| shown(4, 2, it).cell(0, 0).unwrap()).collect();
+    all_differ(&streams, &cells);
+    let lines = ["ABCD", "ABCDE"];
+    all_differ(&lines, &lines.map(|it| shown(4, 2, it).cell(0, 3).unwrap()));
+    let modes = ["", "\x1b[?25l", "\x1b[?1049h", "\x1b[?7l", "\x1b[4h", "\x1b[?6h"];
+    all_differ(&modes, &modes.map(|it| shown(4, 2, it).modes()));
+    let places = ["", "A", "\r\n", "\r\nA"];
+    all_differ(&places, &places.map(|it| shown(4, 2, it).cursor()));
+}
+
+fn all_differ<T: PartialEq + std::fmt::Debug>(names: &[impl std::fmt::Debug], all: &[T]) {
+    for (name, one) in names.iter().zip(all) {
+        let same: Vec<_> = names.iter().zip(all).filter(|(_, it)| *it == one).map(|(it, _)| it).collect();
+        assert_eq!(same.len(), 1, "{name:?} is equal to all of {same:?}");
+    }
 }
 
 #[test]

@@ -235,6 +235,7 @@ fn events_of_each_kind() {
     ];
     assert_eq!(events([stream]).collect::<Vec<_>>(), wanted);
     assert_eq!(events(stream.chunks(1)).collect::<Vec<_>>(), wanted);
+    assert_eq!(events([b"\x1b[256;65535m"]).collect::<Vec<_>>(), [csi(&[&[256], &[65535]], b'm')]);
 }
 
 #[test]

@@ -6,7 +6,7 @@
 -- spaces are kept); CSS Generated Content, 1.2 and 2 (a number that is no text); CSS Viewport, 3 (a phone
 -- draws it at its own width); HTML, 4.2.4 (a stylesheet of another file), for which Content Security Policy,
 -- 6.1.14, wants no leave for rules of the page's own.
-use Rattle.std.specs.Prelude.{ℕ, Bool, not, ◌&&◌, List, [], ◌∷◌, ◌++◌, codes, Option, None, Some, is_some, option_copied, if◌then◌else◌}
+use Rattle.std.specs.Prelude.{ℕ, ◌+◌, Bool, not, ◌&&◌, nat_eq, nat_lt, List, [], ◌∷◌, ◌++◌, length, codes, bytes_eq, Option, None, Some, is_some, option_copied, if◌then◌else◌}
 use Rattle.std.specs.List.{flat_map}
 use Rattle.ansi_html.specs.declared.scheme.Scheme.{Scheme}
 use Rattle.ansi_html.specs.declared.scheme.Scheme.TheVariants.{Light, Dark, Both}
@@ -14,9 +14,7 @@ use Rattle.ansi_html.specs.declared.scheme.Styling.{Styling}
 use Rattle.ansi_html.specs.declared.scheme.Styling.TheVariants.{Inline, Classes}
 use Rattle.ansi_html.specs.Html.{escaped_text}
 use Rattle.ansi_html.specs.Stylesheet.{stylesheet}
-use Rattle.ansi2html.specs.declared.form.Form.{Form}
 use Rattle.ansi2html.specs.declared.form.Said.{Said}
-use Rattle.ansi2html.specs.declared.form.Form.TheVariants.{Fragment, Page}
 
 -- lines, each with the line feed that ends it
 abbrev pub lines : List (List ℕ) → List ℕ
@@ -35,8 +33,8 @@ named_scheme Light = lines (codes "<meta name=\"color-scheme\" content=\"light\"
 named_scheme Dark = lines (codes "<meta name=\"color-scheme\" content=\"dark\">" ∷ [])
 named_scheme Both = lines (codes "<meta name=\"color-scheme\" content=\"light dark\">" ∷ [])
 
--- The page up to its language, from there to its title, and from what says how it looks to its text. A reader drops
--- the line feed after <pre>.
+-- The page up to its language, from there to its title, from what says how it looks to its body, and from there to a
+-- text. A reader drops the line feed after <pre>.
 abbrev pub before_language : List ℕ
 before_language = lines (codes "<!DOCTYPE html>" ∷ []) ++ codes "<html lang=\""
 
@@ -52,11 +50,16 @@ before_title =
 abbrev pub after_title : List ℕ
 after_title = lines (codes "</title>" ∷ [])
 
+abbrev pub after_head : List ℕ
+after_head = lines (codes "</head>" ∷ codes "<body>" ∷ [])
+
 -- A page without rules whose long lines are wrapped says so by a class, for which the stylesheet has a rule.
 abbrev pub before_text : (wraps : Bool) → List ℕ
-before_text wraps =
-    lines
-    (codes "</head>" ∷ codes "<body>" ∷ (if wraps then codes "<pre class=\"ansi-wrap\">" else codes "<pre>") ∷ [])
+before_text wraps = lines ((if wraps then codes "<pre class=\"ansi-wrap\">" else codes "<pre>") ∷ [])
+
+-- the end of a text
+abbrev pub after_text : List ℕ
+after_text = lines (codes "</pre>" ∷ [])
 
 -- the rules of the classes, where there are any
 abbrev pub page_rules : Styling → Scheme → List ℕ
@@ -118,26 +121,59 @@ page_looks styling scheme said = looks_by styling scheme said (option_copied sai
 abbrev pub wraps_by_class : Said → Bool
 wraps_by_class said = is_some (option_copied said.stylesheet) && not said.scrolls
 
--- The page as far as its text, with what is said of it, of which the bytes with a meaning in HTML are
+-- The page as far as its body, with what is said of it, of which the bytes with a meaning in HTML are
 -- references.
 abbrev pub page_head : Styling → Scheme → Said → List ℕ
 page_head styling scheme said =
     before_language ++ (escaped_text said.language.now ++ (before_title
     ++ (escaped_text said.title.now ++ (after_title
-    ++ (page_looks styling scheme said ++ before_text (wraps_by_class said))))))
+    ++ (page_looks styling scheme said ++ after_head)))))
 
--- the page after its text
+-- the page after its last text
 abbrev pub page_tail : List ℕ
 page_tail = lines (codes "</pre>" ∷ codes "</body>" ∷ codes "</html>" ∷ [])
 
--- a fragment stands alone; a page has a head and a tail
-abbrev pub head_of : Form → Styling → Scheme → Said → List ℕ
-head_of Fragment styling scheme said = []
-head_of Page styling scheme said = page_head styling scheme said
+-- Where a page has several files, each has a heading (HTML, 4.3.6): its name as it was given, of which the bytes with a
+-- meaning in HTML are references. That of standard input is in words.
+abbrev pub name_shown : (name : List ℕ) → List ℕ
+name_shown name = if bytes_eq name (codes "-") then codes "standard input" else name
 
-abbrev pub tail_of : Form → List ℕ
-tail_of Fragment = []
-tail_of Page = page_tail
+abbrev pub heading : (name : List ℕ) → List ℕ
+heading name = codes "<h2>" ++ (escaped_text (name_shown name) ++ lines (codes "</h2>" ∷ []))
+
+-- The head of a page stands before its first file alone, and headings where there are several.
+abbrev pub head_of : (is_first : Bool) → Styling → Scheme → Said → List ℕ
+head_of is_first styling scheme said = if is_first then page_head styling scheme said else []
+
+abbrev pub heading_of : (is_one_of_many : Bool) → (name : List ℕ) → List ℕ
+heading_of is_one_of_many name = if is_one_of_many then heading name else []
+
+-- What stands before the text of a file of a page, and after it; files are numbered from 0.
+abbrev pub before_part : Styling → Scheme → Said → (count number : ℕ) → (name : List ℕ) → List ℕ
+before_part styling scheme said count number name =
+    head_of (nat_eq number 0) styling scheme said
+    ++ (heading_of (nat_lt 1 count) name ++ before_text (wraps_by_class said))
+
+abbrev pub after_part : (count number : ℕ) → List ℕ
+after_part count number = if nat_eq (number + 1) count then page_tail else after_text
+
+-- what stands before a file, the file, by its name, and what stands after it
+abbrev pub Around : Type 0
+Around = List ℕ × List (List ℕ) × List ℕ
+
+abbrev pub around_of : Styling → Scheme → Said → (count number : ℕ) → (name : List ℕ) → Around
+around_of styling scheme said count number name =
+    (before_part styling scheme said count number name, name ∷ [], after_part count number)
+
+-- the same of all files, from a number on
+abbrev pub around_from : Styling → Scheme → Said → (count number : ℕ) → (names : List (List ℕ)) → List Around
+around_from styling scheme said count number [] = []
+around_from styling scheme said count number (name ∷ names) =
+    around_of styling scheme said count number name ∷ around_from styling scheme said count (number + 1) names
+
+-- the page of these files
+abbrev pub page_around : Styling → Scheme → Said → (names : List (List ℕ)) → List Around
+page_around styling scheme said names = around_from styling scheme said (length names) 0 names
 
 -- How pages without rules look, by the stylesheet: as those with rules do.
 abbrev pub linked_rules : List ℕ

@@ -1,6 +1,8 @@
--- The screen that each stream begins with.
-use Rattle.ansi_screen.specs.declared.size.Size.{Size}
+-- The screen that shows a stream of these bytes, before them.
+use Rattle.std.specs.Prelude.{ℕ, List}
 use Rattle.ansi_screen.specs.After.{State, new_state}
+use Rattle.screen_text.specs.declared.recording.ShownSize.{ShownSize}
+use Rattle.screen_text.specs.Recording.{size_for}
 
-abbrev pub screen_of : Size → State
-screen_of size = new_state size.columns size.rows
+abbrev pub screen_for : ShownSize → (read : List ℕ) → State
+screen_for shown read = new_state (size_for shown read).columns (size_for shown read).rows

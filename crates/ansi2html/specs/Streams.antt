@@ -11,7 +11,7 @@ use Rattle.ansi_html.specs.Blocker as blocker
 use Rattle.html_urls.specs.declared.linking.Linking.{Linking}
 use Rattle.html_urls.specs.Linker.{text_from, ending_from}
 use Rattle.html_urls.specs.Resumed.{html_after, lined_after, blocked_after}
-use Rattle.ansi_screen.specs.declared.size.Size.{Size}
+use Rattle.screen_text.specs.declared.recording.ShownSize.{ShownSize}
 use Rattle.ansi2html.specs.declared.streams.Blocking.{Blocking}
 use Rattle.ansi2html.specs.declared.streams.BlockingUrls.{BlockingUrls}
 use Rattle.ansi2html.specs.declared.streams.Converting.{Converting}
@@ -49,8 +49,8 @@ has_numbers blocking = blocking.has_numbers
 abbrev pub urls_have_numbers : BlockingUrls → Bool
 urls_have_numbers blocking = blocking.has_numbers
 
--- the size of the screens
-abbrev pub size_of : Showing → Size
+-- which size the screens have
+abbrev pub size_of : Showing → ShownSize
 size_of showing = showing.size
 
 -- what writers of HTML write by calls in which addresses are links, and then still

@@ -1,7 +1,7 @@
 //! What stands around the text.
-ghost use Rattle.std.specs.Prelude.{◌≡◌, ◌++◌, ℕ, List, option_copied, IfOk, OnOk};
+ghost use Rattle.std.specs.Prelude.{◌≡◌, ◌<◌, ◌++◌, ℕ, List, option_copied, IfOk, OnOk};
 ghost use Rattle.anstyle_parse.specs.Io.Output.{Adds, Causes, Writes};
-ghost use Rattle.ansi2html.specs.Page.{page_colors, named_scheme, page_rules, number_color, line_rules, page_lines, text_rules, page_style, page_link, page_looks, wraps_by_class, before_text, page_head, head_of, tail_of, linked_rules, site_rules};
+ghost use Rattle.ansi2html.specs.Page.{page_colors, named_scheme, page_rules, number_color, line_rules, page_lines, text_rules, page_style, page_link, page_looks, wraps_by_class, before_text, page_head, name_shown, heading, head_of, heading_of, before_part, after_part, linked_rules, site_rules};
 ghost use Rattle.ansi_html.specs.Html.{escaped_text};
 ghost use Rattle.ansi_html.specs.Reader.{Attributes, Place, in_value, seen_from};
 
@@ -65,24 +65,37 @@ const BEFORE_ADDRESS: &[u8] = br#"<link rel="stylesheet" href=""#;
 /// What stands after the address.
 const AFTER_ADDRESS: &[u8] = b"\">\n";
 
-/// The end of the head, to the text. Browsers drop the newline after `<pre>`, so that one
-/// which begins the text stays.
-const BEFORE_TEXT: &[u8] = br#"</head>
+/// The end of the head, to the body.
+const AFTER_HEAD: &[u8] = br#"</head>
 <body>
-<pre>
 "#;
+
+/// What stands before a text. Browsers drop the newline after `<pre>`, so that one which begins the text stays.
+const BEFORE_TEXT: &[u8] = b"<pre>\n";
 
 /// The same of a page that has its long lines wrapped by the stylesheet elsewhere.
-const BEFORE_WRAPPED: &[u8] = br#"</head>
-<body>
-<pre class="ansi-wrap">
-"#;
+const BEFORE_WRAPPED: &[u8] = b"<pre class=\"ansi-wrap\">\n";
 
-/// The page after the text.
+/// What stands after a text that is not the last.
+const AFTER_TEXT: &[u8] = b"</pre>\n";
+
+/// The page after its last text.
 const PAGE_TAIL: &[u8] = br#"</pre>
 </body>
 </html>
 "#;
+
+/// What stands before the name of a file that heads its text.
+const BEFORE_NAME: &[u8] = b"<h2>";
+
+/// What stands after it.
+const AFTER_NAME: &[u8] = b"</h2>\n";
+
+/// The name by which standard input is read.
+pub const STANDARD: &str = "-";
+
+/// Its heading.
+const STANDARD_INPUT: &str = "standard input";
 
 /// The colours of a page: as its reader has it, or black on white, or white on a dark ground.
 fn colors(scheme: Scheme) -> &'static [u8]
@@ -223,14 +236,14 @@ fn wraps_by_class(said: Said<'_>) -> bool
     said.stylesheet.is_some() && !said.scrolls
 }
 
-/// The end of the head, to the text.
+/// What stands before a text.
 fn before_text(wraps: bool) -> &'static [u8]
     ensures { result.now ≡ before_text wraps }
 {
     if wraps { BEFORE_WRAPPED } else { BEFORE_TEXT }
 }
 
-/// Writes the page as far as its text.
+/// Writes the page as far as its body.
 fn put_head<W: Sink>(output: &mut Output<W>, styling: Styling, scheme: Scheme, said: Said<'_>)
     ensures { Adds W.Sink (page_head styling scheme said.entry) output.old output.new }
 {
@@ -240,27 +253,82 @@ fn put_head<W: Sink>(output: &mut Output<W>, styling: Styling, scheme: Scheme, s
     put_text(output, said.title);
     output.put(AFTER_TITLE);
     put_looks(output, styling, scheme, said);
-    output.put(before_text(wraps_by_class(said)));
+    output.put(AFTER_HEAD);
 }
 
-impl Form {
-    /// What is written before the text: of a page, its head with these words, in which `& < > " '` and
-    /// carriage returns are character references, and with the colours of the scheme. Where no stylesheet is
-    /// named, the rules are in the head, with those of the classes where styles are said by classes. A page's
-    /// takes memory.
-    pub fn head(
+/// Writes the head, before the first file.
+fn put_head_once<W: Sink>(
+    output: &mut Output<W>,
+    is_first: bool,
+    styling: Styling,
+    scheme: Scheme,
+    said: Said<'_>,
+)
+    ensures { Adds W.Sink (head_of is_first styling scheme said.entry) output.old output.new }
+{
+    if is_first {
+        put_head(output, styling, scheme, said);
+    }
+}
+
+/// A name as a heading has it.
+fn name_shown(name: &str) -> &str
+    ensures { result.now ≡ name_shown name.now }
+{
+    if name == STANDARD {
+        STANDARD_INPUT
+    } else {
+        name
+    }
+}
+
+/// Writes the heading of a file.
+fn put_heading<W: Sink>(output: &mut Output<W>, name: &str)
+    ensures { Adds W.Sink (heading name.now) output.old output.new }
+{
+    output.put(BEFORE_NAME);
+    put_text(output, name_shown(name));
+    output.put(AFTER_NAME);
+}
+
+/// The same, where it is one of many.
+fn put_heading_of<W: Sink>(output: &mut Output<W>, is_one_of_many: bool, name: &str)
+    ensures { Adds W.Sink (heading_of is_one_of_many name.now) output.old output.new }
+{
+    if is_one_of_many {
+        put_heading(output, name);
+    }
+}
+
+/// Which file of a page one is.
+#[derive(Debug, Clone, Copy)]
+pub struct Place {
+    /// How many there are.
+    pub count: usize,
+    /// Its number, from 0.
+    pub number: usize,
+}
+
+impl Place {
+    /// What stands before the text of the file of this name: before the first one the head of the page, with these words, in
+    /// which `& < > " '` and carriage returns are character references, and with the colours of the scheme. Where no
+    /// stylesheet is named, the rules are in the head, with those of the classes where styles are said by classes. Where
+    /// there are several files, each name is a heading, escaped likewise. It takes memory.
+    pub fn before(
         self,
         alloc: Global,
+        name: &str,
         styling: Styling,
         scheme: Scheme,
         said: Said<'_>,
     ) -> Result<Vec<u8>, AllocError>
-        ensures { IfOk result (λ head. head.items ≡ head_of self styling scheme said.entry) }
+        ensures { IfOk result (λ text. text.items
+            ≡ before_part styling scheme said.entry self.count self.number name.now) }
     {
         let mut output = Output::new(FromWrite::new(Vec::new(alloc)));
-        if self == Form::Page {
-            put_head(&mut output, styling, scheme, said);
-        }
+        put_head_once(&mut output, self.number == 0, styling, scheme, said);
+        put_heading_of(&mut output, self.count > 1, name);
+        output.put(before_text(wraps_by_class(said)));
         let (writer, answer) = output.finish();
         match answer {
             Ok(()) => Ok(writer.into_inner()),
@@ -268,13 +336,15 @@ impl Form {
         }
     }
 
-    /// What is written after it.
-    pub fn tail(self) -> &'static [u8]
-        ensures { result.now ≡ tail_of self }
+    /// What stands after it.
+    pub fn after(self) -> &'static [u8]
+        requires { self.number < self.count }
+        ensures { result.now ≡ after_part self.count self.number }
     {
-        match self {
-            Form::Fragment => b"",
-            Form::Page => PAGE_TAIL,
+        if self.number + 1 == self.count {
+            PAGE_TAIL
+        } else {
+            AFTER_TEXT
         }
     }
 }

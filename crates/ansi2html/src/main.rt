@@ -2,24 +2,32 @@
 //! whole page, or a fragment.
 #![tactic(auto)]
 
+mod folder;
 mod form;
+mod parts;
 mod streams;
 mod words;
 
-use ansi_html::Scheme;
+ghost use Rattle.std.specs.Prelude.{IfSome};
+ghost use Rattle.screen_text.specs.Recording.{CanBeShown};
+
+use ansi_html::{Scheme, Styling};
 use command_line::{
-    OUTPUT, Target, answered, asked_of, buffered, failed, given_line, have_failed, inputs, misused,
-    value_of, wrong_size,
+    OUTPUT, Target, answered, asked_of, buffered, failed, file_failed, given_line, have_failed,
+    inputs, misused, value_of, wrong_size,
 };
 use each_source::{Stopped, write_each};
-use form::{Form, Said, write_stylesheet};
-use screen_text::{SHOWN, screen_size};
+use folder::{Unpaged, first_twice, is_folder, page_names, page_path};
+use form::{Form, STANDARD, Said, write_stylesheet};
+use parts::{Frame, one_has_failed, parts, write_parts};
+use screen_text::{SHOWN, ShownSize, screen_size};
+use std::fs;
 use std::process::ExitCode;
 use streams::{Blocking, BlockingUrls, Converting, ConvertingUrls, Lining, LiningUrls, Showing};
 use words::{
-    HELP, NO_FILES, NO_LANGUAGE, NOT_OF_A_PAGE, NOT_SHOWN, ONE_FILE, OPTIONS, URLS_NOT_SHOWN,
-    asks_for_lines, asks_for_stylesheet, asks_for_urls, asks_to_scroll, form, language,
-    says_of_a_page, scheme, stylesheet_address, styling, title,
+    HELP, NO_FILES, NO_LANGUAGE, NOT_OF_A_PAGE, NOT_SHOWN, ONE_FILE, OPTIONS, TWICE, UNNAMED,
+    URLS_NOT_SHOWN, asks_for_lines, asks_for_stylesheet, asks_for_urls, asks_to_scroll, form,
+    language, says_of_a_page, scheme, stylesheet_address, styling, title, title_or,
 };
 
 /// The name at the front of what the program says of failures.
@@ -44,8 +52,10 @@ fn main(rt: HostRuntime) -> ExitCode {
         }
         return stylesheet(rt, options, scheme);
     }
+    let output = value_of(options, OUTPUT);
+    let folder = output.filter(|output| is_folder(output));
     let has_lines = asks_for_lines(options);
-    if has_lines && line.files.len() > 1 {
+    if has_lines && line.files.len() > 1 && folder.is_none() {
         return misused(&rt, ONE_FILE);
     }
     if has_lines && size.is_some() {
@@ -70,48 +80,184 @@ fn main(rt: HostRuntime) -> ExitCode {
         has_lines,
         scrolls: asks_to_scroll(options),
     };
-    let Ok(head) = form.head(rt.alloc(), styling, scheme, said) else {
+    let frame = Frame {
+        styling,
+        scheme,
+        said,
+    };
+    let how = How {
+        form,
+        styling,
+        has_lines,
+        has_urls,
+    };
+    let names = line.files.as_slice();
+    match folder {
+        Some(folder) => pages(rt, options, names, folder, size, how, frame),
+        None => written(rt, names, output, size, how, frame),
+    }
+}
+
+/// How the text of files is written.
+#[derive(Debug, Clone, Copy)]
+struct How {
+    form: Form,
+    styling: Styling,
+    has_lines: bool,
+    has_urls: bool,
+}
+
+/// Writes each of these files, as a page or a fragment of its own, into the folder, which is made where it is not there.
+fn pages(
+    rt: HostRuntime,
+    options: &[String],
+    names: &[String],
+    folder: &str,
+    size: Option<ShownSize>,
+    how: How,
+    frame: Frame<'_>,
+) -> ExitCode
+    requires { IfSome size CanBeShown }
+{
+    if names.is_empty() {
+        return refused(&rt, STANDARD, UNNAMED);
+    }
+    let pages = match page_names(rt.alloc(), names) {
+        Ok(pages) => pages,
+        Err(Unpaged::Unnamed(name)) => return refused(&rt, name, UNNAMED),
+        Err(Unpaged::NoMemory) => return failed(&rt, PROGRAM, "out of memory"),
+    };
+    if let Some(page) = first_twice(pages.as_slice()) {
+        return refused(&rt, page, TWICE);
+    }
+    if let Err(error) = fs::create_dir_all(&rt, folder) {
+        file_failed(&rt, PROGRAM, folder, error);
+        return ExitCode::FAILURE;
+    }
+    let mut status = ExitCode::SUCCESS;
+    for (name, page) in names.chunks(1).zip(pages.iter()) {
+        let Ok(path) = page_path(rt.alloc(), folder, page) else {
+            return failed(&rt, PROGRAM, "out of memory");
+        };
+        let said = Said {
+            title: title_or(options, page),
+            ..frame.said
+        };
+        let frame = Frame { said, ..frame };
+        let ended = written(rt, name, Some(path.as_str()), size, how, frame);
+        if ended != ExitCode::SUCCESS {
+            status = ended;
+        }
+    }
+    status
+}
+
+/// Says what is wrong with the name of a file, on standard error, and answers status 2.
+fn refused(rt: &HostRuntime, name: &str, what: &str) -> ExitCode {
+    match format!(in rt.alloc(); "{PROGRAM}: {name:?}: {what} (see {PROGRAM} --help)") {
+        Ok(text) => misused(rt, text.as_str()),
+        Err(_) => failed(rt, PROGRAM, "out of memory"),
+    }
+}
+
+/// Writes these files, as one page or fragment.
+fn written(
+    rt: HostRuntime,
+    names: &[String],
+    output: Option<&str>,
+    size: Option<ShownSize>,
+    how: How,
+    frame: Frame<'_>,
+) -> ExitCode
+    requires { IfSome size CanBeShown }
+{
+    match how.form {
+        Form::Page => page(rt, names, output, size, how, frame),
+        Form::Fragment => fragment(rt, names, output, size, how),
+    }
+}
+
+/// Writes the page of these files.
+fn page(
+    rt: HostRuntime,
+    names: &[String],
+    output: Option<&str>,
+    size: Option<ShownSize>,
+    how: How,
+    frame: Frame<'_>,
+) -> ExitCode
+    requires { IfSome size CanBeShown }
+{
+    let How {
+        styling,
+        has_lines,
+        has_urls,
+        ..
+    } = how;
+    let Ok(mut parts) = parts(rt, PROGRAM, names, frame) else {
         return failed(&rt, PROGRAM, "out of memory");
     };
-    let (head, tail) = (head.as_slice(), form.tail());
-    let Ok(mut inputs) = inputs(rt, PROGRAM, line.files.as_slice()) else {
-        return failed(&rt, PROGRAM, "out of memory");
-    };
-    let (target, output) = match Target::open(rt, PROGRAM, value_of(options, OUTPUT)) {
+    let (target, output) = match Target::open(rt, PROGRAM, output) {
         Ok(opened) => opened,
         Err(status) => return status,
     };
-    let (readers, output) = (inputs.as_mut_slice(), buffered(output));
+    let (written, output) = (parts.as_mut_slice(), buffered(output));
     let has_numbers = has_lines;
-    let ran = match (size, form) {
-        (Some(size), _) => {
-            let showing = Showing::new(rt.alloc(), size, styling);
-            write_each(&showing, head, readers, output, tail)
-        }
-        (None, Form::Page) if has_urls => {
+    let ran = match size {
+        Some(size) => write_parts(&Showing::new(rt.alloc(), size, styling), written, output),
+        None if has_urls => {
             let blocking = BlockingUrls {
                 styling,
                 has_numbers,
             };
-            write_each(&blocking, head, readers, output, tail)
+            write_parts(&blocking, written, output)
         }
-        (None, Form::Page) => {
+        None => {
             let blocking = Blocking {
                 styling,
                 has_numbers,
             };
-            write_each(&blocking, head, readers, output, tail)
+            write_parts(&blocking, written, output)
         }
-        (None, Form::Fragment) if has_lines && has_urls => {
-            write_each(&LiningUrls { styling }, head, readers, output, tail)
+    };
+    target.ended(one_has_failed(parts.as_slice()), ran)
+}
+
+/// Writes the text of these files, with nothing around it.
+fn fragment(
+    rt: HostRuntime,
+    names: &[String],
+    output: Option<&str>,
+    size: Option<ShownSize>,
+    how: How,
+) -> ExitCode
+    requires { IfSome size CanBeShown }
+{
+    let How {
+        styling,
+        has_lines,
+        has_urls,
+        ..
+    } = how;
+    let Ok(mut inputs) = inputs(rt, PROGRAM, names) else {
+        return failed(&rt, PROGRAM, "out of memory");
+    };
+    let (target, output) = match Target::open(rt, PROGRAM, output) {
+        Ok(opened) => opened,
+        Err(status) => return status,
+    };
+    let (readers, output) = (inputs.as_mut_slice(), buffered(output));
+    let ran = match size {
+        Some(size) => {
+            let showing = Showing::new(rt.alloc(), size, styling);
+            write_each(&showing, b"", readers, output, b"")
         }
-        (None, Form::Fragment) if has_urls => {
-            write_each(&ConvertingUrls { styling }, head, readers, output, tail)
+        None if has_lines && has_urls => {
+            write_each(&LiningUrls { styling }, b"", readers, output, b"")
         }
-        (None, Form::Fragment) if has_lines => {
-            write_each(&Lining { styling }, head, readers, output, tail)
-        }
-        (None, Form::Fragment) => write_each(&Converting { styling }, head, readers, output, tail),
+        None if has_urls => write_each(&ConvertingUrls { styling }, b"", readers, output, b""),
+        None if has_lines => write_each(&Lining { styling }, b"", readers, output, b""),
+        None => write_each(&Converting { styling }, b"", readers, output, b""),
     };
     target.ended(have_failed(inputs.as_slice()), ran)
 }

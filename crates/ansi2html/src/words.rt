@@ -41,6 +41,12 @@ const IN_LANGUAGE: &str = "--lang=";
 /// The greatest length of the tag of a language.
 const MOST_OF_A_TAG: usize = 64;
 
+/// What is said of a name that no page can be named after, as of standard input.
+pub const UNNAMED: &str = "no page in a folder can be named after it";
+
+/// What is said of a name that more than one file has.
+pub const TWICE: &str = "two files of this name would be one page in the folder";
+
 /// What is said of a language that is no tag.
 pub const NO_LANGUAGE: &str =
     "ansi2html: a language is a tag of letters, digits and hyphens, as en or pt-BR, 64 at most (see ansi2html --help)";
@@ -52,7 +58,7 @@ pub const NOT_OF_A_PAGE: &str =
 /// What is said where files are named beside `--stylesheet`.
 pub const NO_FILES: &str = "ansi2html: --stylesheet reads no file (see ansi2html --help)";
 
-/// What is said where lines are asked for of more than one file.
+/// What is said where lines are asked for of more than one file, in one page.
 pub const ONE_FILE: &str = "ansi2html: lines are those of one file (see ansi2html --help)";
 
 /// What is said where lines are asked for of what a terminal showed.
@@ -73,9 +79,10 @@ usage: ansi2html [--page] [--title=TEXT] [--css=ADDRESS] [--lang=TAG] [--scroll]
        ansi2html --stylesheet [--light | --dark] [-o FILE]
 
 Writes the text of files as a web page, in its colours, or as a fragment, to be put into
-a <pre> of another page in UTF-8. Input is UTF-8. Each file is a stream of its own.
-With no FILE, or for -, standard input is read. Words behind -- name files, whatever
-they begin with. A value may also be the next word, as in --title TEXT.
+a <pre> of another page in UTF-8. Input is UTF-8. Each file is a stream of its own; in
+a page each of several stands below its name. With no FILE, or for -, standard input
+is read. Words behind -- name files, whatever they begin with. A value may also be the
+next word, as in --title TEXT.
 
   --page                  write a whole page, light or dark as its reader has it:
                           what is written without this too, unless --fragment stands
@@ -92,26 +99,33 @@ they begin with. A value may also be the next word, as in --title TEXT.
   --lines                 each line in an element of its own with its number, to link
                           to: page.html#L10; numbers are not copied with the text.
                           A page draws them; a fragment needs the rules that
-                          --stylesheet writes. For one FILE, and not with --shown
+                          --stylesheet writes. For one FILE a page, and not with
+                          --shown
   --scroll                long lines are not wrapped: the page scrolls
   --urls                  addresses in the text that begin with https://, http:// or
                           mailto: are links too. Not with --shown
   --stylesheet            write the stylesheet of classes, lines and pages by --css, and
                           read nothing
-  --shown                 write what a terminal of 80x24 showed instead: the lines
-                          that scrolled off, and what stands there at the end;
-                          of its links the last 1,024 that began are kept
+  --shown                 write what a terminal showed instead: the lines that
+                          scrolled off, and what stands there at the end; of its
+                          links the last 1,024 that began are kept. Its size is
+                          that which a recording by script says in its first
+                          line, and else 1000x100
   --shown=COLUMNSxROWS    the same of this size, from 2x1 to 1000x1000
   -o FILE, --output=FILE  write to FILE, in its place once all went well: it is
-                          whole or as it was, and may be one that is read
+                          whole or as it was, and may be one that is read. Where its
+                          name ends in /, as in -o pages/, it is a folder, made if it
+                          is not there, in which each file has a page of its own:
+                          a.log the page pages/a.log.html, with the title a.log
   -h, --help              say this
   --version               say which version it is
 
-Examples, a log as a page, a listing, a log whose lines can be linked to, and a build with
-its progress bars as they ended:
+Examples, a log as a page, a listing, a log whose lines can be linked to, a page for each
+of many logs, and a build with its progress bars as they ended:
   ansi2html -o log.html log
   ls --color=always | ansi2html --title 'My files' > listing.html
   ansi2html --lines -o build.html build.log
+  ansi2html -o pages/ *.log
   ansi2html --shown recording > build.html
 ";
 
@@ -198,11 +212,18 @@ pub fn asks_for_stylesheet(words: &[String]) -> bool
     has_word(words, "--stylesheet")
 }
 
+/// The title of the page: the last that the words say, and else this one.
+pub fn title_or<'a>(words: &'a [String], other: &'a str) -> &'a str
+    ensures { result.now ≡ unwrap_or (last_value (codes "--title=") (map string_bytes words.now)) other.now }
+{
+    value_of(words, TITLED).unwrap_or(other)
+}
+
 /// The title of the page: the last that the words say.
 pub fn title(words: &[String]) -> &str
     ensures { result.now ≡ unwrap_or (last_value (codes "--title=") (map string_bytes words.now)) default_title }
 {
-    value_of(words, TITLED).unwrap_or(TITLE)
+    title_or(words, TITLE)
 }
 
 /// The address of the stylesheet that a page has in place of rules: the last that the words say, if any.

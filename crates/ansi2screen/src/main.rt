@@ -11,7 +11,7 @@ use command_line::{
     wrong_size,
 };
 use each_source::Stopped;
-use screen_draw::{Form, Noting, show_to_end, update_to_end};
+use screen_draw::{Form, show_to_end, update_to_end};
 use std::process::ExitCode;
 use words::{
     BOTH, HELP, MORE_FILES, OPTIONS, SIZE, asks_for_updates, asks_to_draw, named_file, named_size,
@@ -54,7 +54,7 @@ fn main(rt: HostRuntime) -> ExitCode {
         let Ok(other) = Screen::new(rt.alloc(), size.columns, size.rows) else {
             return failed(&rt, PROGRAM, "out of memory");
         };
-        wanted = Some(Noting::new(other));
+        wanted = Some(other);
     }
     let (target, output) = match Target::open(rt, PROGRAM, value_of(options, OUTPUT)) {
         Ok(opened) => opened,

@@ -1,7 +1,7 @@
 -- What a maker of performers shows.
-use Rattle.ansi_screen.specs.declared.size.Size.{Size}
+use Rattle.screen_text.specs.declared.recording.ShownSize.{ShownSize}
 use Rattle.ansi2text.specs.declared.streams.Showing.{Showing}
 
--- the size of its screens
-abbrev pub size_of : Showing → Size
+-- which size its screens have
+abbrev pub size_of : Showing → ShownSize
 size_of showing = showing.size

@@ -31,8 +31,10 @@ name files, whatever they begin with.
   --lf                    drop a carriage return right before a line feed, as
                           dos2unix does: each line of a recording by script ends
                           with both; --safe and --shown never write both
-  --shown                 write what a terminal of 80x24 showed instead: the lines
-                          that scrolled off, and what stands there at the end
+  --shown                 write what a terminal showed instead: the lines that
+                          scrolled off, and what stands there at the end. Its
+                          size is that which a recording by script says in its
+                          first line, and else 1000x100
   --shown=COLUMNSxROWS    the same of this size, from 2x1 to 1000x1000; it may be
                           the next word, as in --shown 120x40
   -o FILE, --output=FILE  write to FILE, in its place once all went well: it is

@@ -22,7 +22,7 @@ use Rattle.ansi_screen.specs.declared.function.Setting.TheVariants.{Rendition, S
 use Rattle.ansi_screen.specs.declared.function.Function.{Function}
 use Rattle.ansi_screen.specs.declared.function.Function.TheVariants.{Edits, Moves, Sets, Nothing}
 use Rattle.ansi_screen.specs.Cells.{blank, emptied, with_mark, one_more, is_right, cell_at, marked_before, going_on, cut, within, change, erased, moved_back, moved_on}
-use Rattle.ansi_screen.specs.Display.{Display, here, row_start, row_end, row_cells, fresh}
+use Rattle.ansi_screen.specs.Display.{Display, here, row_start, row_end, row_cells, fresh, renewed}
 use Rattle.ansi_screen.specs.Moves.{to_row, to_column, settled, tabbed, tabbed_back, with_stop}
 use Rattle.ansi_screen.specs.Edits.{with_cells, space, row_going_on, erased_cells, erased_part, erased_display, erased_line, erased_characters, deleted_characters, inserted_characters, rows_up, rows_down, is_in_margins, inserted_lines, deleted_lines, index, reverse_index, row_above_ended, erases_from_row, erases_first}
 use Rattle.ansi_screen.specs.Widths.{is_shown, columns}
@@ -434,7 +434,7 @@ good-escaped final d s =
     (good-if (final == 0x45) (index (to_column 0 d)) _ (good-index (to_column 0 d) s)
     (good-if (final == 0x48) _ _ s
     (good-if (final == 0x4D) (reverse_index (settled d)) _ (good-reverse (settled d) s)
-    (good-if (final == 0x63) (fresh d.width d.height) d (good-new d.width d.height) s))))))
+    (good-if (final == 0x63) (renewed d) d (good-new d.width d.height) s))))))
 
 good-charset : (mark final : ℕ) (d : Display) → HasGood d → HasGood (with_charset mark final d)
 unfolding with_charset

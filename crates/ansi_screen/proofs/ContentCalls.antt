@@ -15,7 +15,7 @@ use Rattle.ansi_screen.specs.declared.function.Setting.TheVariants.{Rendition, S
 use Rattle.ansi_screen.specs.declared.function.Function.{Function}
 use Rattle.ansi_screen.specs.declared.function.Function.TheVariants.{Edits, Moves, Sets, Nothing}
 use Rattle.ansi_screen.specs.Cells.{blank}
-use Rattle.ansi_screen.specs.Display.{Display, fresh}
+use Rattle.ansi_screen.specs.Display.{Display, fresh, renewed}
 use Rattle.ansi_screen.specs.Moves.{to_column, settled, to_position, tabbed, tabbed_back, with_stop}
 use Rattle.ansi_screen.specs.Edits.{space, index, reverse_index}
 use Rattle.ansi_screen.specs.Widths.{is_shown, columns}
@@ -214,7 +214,7 @@ holds-escaped : (final : ℕ) (d : Display) → Holds d → Holds (escaped final
 unfolding escaped
 holds-escaped final d s =
     let place : Display = settled d in
-    let seventh : Display = if final == 0x63 then fresh d.width d.height else d in
+    let seventh : Display = if final == 0x63 then renewed d else d in
     let sixth : Display = if final == 0x4D then reverse_index place else seventh in
     let fifth : Display = if final == 0x48 then with_stop true d else sixth in
     let fourth : Display = if final == 0x45 then index (to_column 0 d) else fifth in
@@ -226,7 +226,7 @@ holds-escaped final d s =
     (holds-if (final == 0x45) (index (to_column 0 d)) fifth (holds-index (to_column 0 d) s)
     (holds-if (final == 0x48) (with_stop true d) sixth s
     (holds-if (final == 0x4D) (reverse_index place) seventh (holds-reverse place s)
-    (holds-if (final == 0x63) (fresh d.width d.height) d (holds-new d.width d.height) s))))))
+    (holds-if (final == 0x63) (renewed d) d (holds-new d.width d.height) s))))))
 
 holds-charset : (mark final : ℕ) (d : Display) → Holds d → Holds (with_charset mark final d)
 unfolding with_charset

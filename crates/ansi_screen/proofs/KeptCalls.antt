@@ -18,7 +18,7 @@ use Rattle.ansi_screen.specs.declared.function.Setting.TheVariants.{Rendition, S
 use Rattle.ansi_screen.specs.declared.function.Function.{Function}
 use Rattle.ansi_screen.specs.declared.function.Function.TheVariants.{Edits, Moves, Sets, Nothing}
 use Rattle.ansi_screen.specs.Cells.{blank, is_right, marked_before}
-use Rattle.ansi_screen.specs.Display.{Display, here, row_end, stops, blanks, fresh, most_columns, most_rows}
+use Rattle.ansi_screen.specs.Display.{Display, Picture, IsSized, here, row_end, stops, blanks, fresh, renewed, most_columns, most_rows}
 use Rattle.ansi_screen.specs.Links.{commanded}
 use Rattle.ansi_screen.specs.Moves.{to_row, to_column, settled, up, down, line_of, to_position, tabbed, tabbed_back, with_stop}
 use Rattle.ansi_screen.specs.Edits.{space, with_cells, row_going_on, inserted_characters, index, reverse_index}
@@ -317,11 +317,18 @@ kept-executed byte d s =
     (λ f. kept-if (byte == 0x0E) (shifted true d) sixth (λ is. kept-shifted true d s)
     (λ g. kept-if (byte == 0x0F) (shifted false d) d (λ is. kept-shifted false d s) (λ none. s))))))
 
+-- another picture
+sized-shown : (p : Picture) (d : Display) → IsSized d → IsSized (record d { shown = p })
+sized-shown p d s = record { two_columns = s.two_columns; columns_limit = s.columns_limit; a_row = s.a_row; rows_limit = s.rows_limit; cells_fill = s.cells_fill; hidden_fill = s.hidden_fill; tabs_fill = s.tabs_fill; cursor_row = s.cursor_row; cursor_column = s.cursor_column; saved_row = s.saved_row; saved_column = s.saved_column; hidden_row = s.hidden_row; hidden_column = s.hidden_column; margins = s.margins; margins_within = s.margins_within }
+
+pub kept-picture : (p : Picture) (d : Display) → IsScreen d → IsScreen (record d { shown = p })
+kept-picture p d s = record { sized = sized-shown p d s.sized; whole = s.whole; hidden_whole = s.hidden_whole; in_margins = s.in_margins }
+
 kept-escaped : (final : ℕ) (d : Display) → IsScreen d → IsScreen (escaped final d)
 unfolding escaped
 kept-escaped final d s =
     let place : Display = settled d in
-    let new : Display = fresh d.width d.height in
+    let new : Display = renewed d in
     let seventh : Display = if final == 0x63 then new else d in
     let sixth : Display = if final == 0x4D then reverse_index place else seventh in
     let fifth : Display = if final == 0x48 then with_stop true d else sixth in
@@ -335,7 +342,8 @@ kept-escaped final d s =
     (λ f. kept-if (final == 0x48) (with_stop true d) sixth (λ is. kept-stop true d s)
     (λ g. kept-if (final == 0x4D) (reverse_index place) seventh (λ is. kept-reverse_index place (kept-settled d s))
     (λ h. kept-if (final == 0x63) new d
-    (λ is. new-screen d.width d.height s.sized.two_columns s.sized.columns_limit s.sized.a_row s.sized.rows_limit) (λ none. s)))))))
+    (λ is. kept-picture d.shown (fresh d.width d.height)
+    (new-screen d.width d.height s.sized.two_columns s.sized.columns_limit s.sized.a_row s.sized.rows_limit)) (λ none. s)))))))
 
 kept-designated : (intermediates : List ℕ) (final : ℕ) (d : Display) → IsScreen d → IsScreen (designated intermediates final d)
 unfolding designated

@@ -1,6 +1,6 @@
 -- Calls that change nothing but the cursor; and what a reset leaves.
 use Rattle.std.proofs.Common.{◌≡◌, inl, inr, ℕ, zero, suc, arith, true, false, List, [], ◌∷◌, ◌++◌, refl, ap, sym, ◌∙◌}
-use Rattle.std.specs.Prelude.{min}
+use Rattle.std.specs.Prelude.{min, None}
 use Rattle.std.specs.Fn.{iterate}
 use Rattle.std.specs.List.{AllByRecursion}
 use Rattle.std.proofs.lemmas.Bool.{ne_eqb}
@@ -12,11 +12,12 @@ use Rattle.ansi_screen.specs.declared.function.Move.TheVariants.{Up, Down, Forwa
 use Rattle.ansi_screen.specs.declared.function.Function.{Function}
 use Rattle.ansi_screen.specs.declared.function.Function.TheVariants.{Moves, Nothing}
 use Rattle.ansi_screen.specs.declared.function.Setting.TheVariants.{Rendition}
-use Rattle.ansi_screen.specs.Display.{Display}
+use Rattle.ansi_screen.specs.Display.{Display, Picture, fresh, renewed}
 use Rattle.ansi_screen.specs.Modes.{restored}
 use Rattle.ansi_screen.specs.Moves.{settled, tabbed_back}
-use Rattle.ansi_screen.specs.After.{State, new_state, function_of, moved, set, controlled, sequenced, escaped, designated, is_repeat, after, after_all, Shows, first_of, second_of, count}
-use Rattle.ansi_screen.specs.Laws.{reset, save, restore, IsMoveOrStyle}
+use Rattle.ansi_screen.specs.After.{State, function_of, moved, set, controlled, sequenced, escaped, designated, is_repeat, after, after_all, Shows, first_of, second_of, count}
+use Rattle.ansi_screen.specs.Laws.{with_shown, reset, save, restore, IsMoveOrStyle}
+use Rattle.ansi_screen.proofs.PictureLemmas.{same-after_all}
 
 -- the display with another cursor
 abbrev at_place : Place → Display → Display
@@ -119,7 +120,7 @@ after-restore : (s : State) → (after restore s).display ≡ restored s.display
 unfolding designated escaped
 after-restore s = refl
 
-pub after-reset : (s : State) → after reset s ≡ new_state s.display.width s.display.height
+pub after-reset : (s : State) → after reset s ≡ record { display = renewed s.display; last = None }
 unfolding designated escaped
 after-reset s = refl
 
@@ -137,9 +138,13 @@ enclosed-restores calls s are absolute =
     ∙ ap (λ (d : Display). at_place d.saved d) begun)))
 
 pub reset-forgets : (calls : List Call) (a b : State) → a.display.width ≡ b.display.width → a.display.height ≡ b.display.height
-    → after_all (reset ∷ calls) a ≡ after_all (reset ∷ calls) b
+    → with_shown b.display.shown (after_all (reset ∷ calls) a) ≡ after_all (reset ∷ calls) b
 reset-forgets calls a b same_width same_height =
-    ap (after_all calls) (after-reset a ∙ (ap (λ n. new_state n a.display.height) same_width ∙ (ap (λ n. new_state b.display.width n) same_height ∙ sym (after-reset b))))
+    let p : Picture = b.display.shown in
+    let new : ℕ → ℕ → State = λ w h. record { display = record (fresh w h) { shown = p }; last = None } in
+    sym (same-after_all p calls (after reset a))
+    ∙ ap (after_all calls) (ap (with_shown p) (after-reset a) ∙ (ap (λ n. new n a.display.height) same_width
+    ∙ (ap (λ n. new b.display.width n) same_height ∙ sym (after-reset b))))
 
 pub Shows-only : (bytes : List ℕ) (old first second : State) → Shows old bytes first → Shows old bytes second → first ≡ second
 Shows-only bytes old first second (calls, are, is) (others, are_others, is_other) =

@@ -15,11 +15,15 @@ pub mod TextLemmas
 pub mod CallLemmas
 pub mod RepeatLemmas
 pub mod LeavingLemmas
+pub mod PictureLemmas
+pub mod LeftLemmas
 pub mod LawLemmas
 pub mod ScrollLemmas
 pub mod PlainLemmas
 pub mod RowLemmas
 pub mod EditLemmas
+pub mod DamageLemmas
+pub mod SendLemmas
 pub mod CharacterLemmas
 pub mod SizeLemmas
 pub mod SwitchLemmas
@@ -27,6 +31,4 @@ pub mod FollowingLemmas
 pub mod ColorLemmas
 pub mod ContentLemmas
 pub mod ContentCalls
-pub mod AloneLemmas
-pub mod ModeLemmas
 mod EqualityLemmas

@@ -2,7 +2,7 @@
 use Rattle.std.proofs.Common.{◌≡◌, ℕ, zero, suc, ◌+◌, ◌-◌, ◌*◌, ◌<◌, ◌≤◌, Bool, true, false, ◌&&◌, List, [], ◌∷◌, ◌++◌, length, get_or, take, drop, refl, ap, ap₂, sym, ◌∙◌, subst, arith}
 use Rattle.std.specs.Prelude.{min, replicate, map, nat_lt, nat_eq, if◌then◌else◌}
 use Rattle.std.specs.List.{AllByRecursion}
-use Rattle.std.proofs.lemmas.List.{places, same_lists, take_at, drop_at, drop-drop, append_assoc, append-nil, length-append, length-take-le, length-drop, length-replicate, replicate-append-replicate, take-append-drop, take_all, drop_all, length-map, map-append, get_or-replicate, get_or-take, get_or-drop, take-map, drop-map}
+use Rattle.std.proofs.lemmas.List.{places, same_lists, take_at, drop_at, drop-drop, append_assoc, append-nil, length-append, length-take-le, length-drop, length-replicate, replicate-append-replicate, take-append-drop, take_all, drop_all, length-map, map-append, get_or-replicate, take-map, drop-map}
 use Rattle.std.proofs.lemmas.Grind.{flat_map-append}
 use Rattle.std.proofs.Math.Nat.{suc-mul, add-mul, mul-le-mul_right}
 use Rattle.std.proofs.lemmas.Bool.{and_right, false≢true}
@@ -12,7 +12,7 @@ use Rattle.ansi_style.specs.Style.{plain}
 use Rattle.ansi_screen.specs.declared.cell.Cell.{Cell}
 use Rattle.ansi_screen.specs.Cells.{blank, cut, cell_at, is_right, going_on, within, change, erased, moved_back, moved_on}
 use Rattle.ansi_screen.specs.Display.{Display, row_start}
-use Rattle.ansi_screen.specs.Edits.{row_above_ended}
+use Rattle.ansi_screen.specs.Edits.{row_above_ended, with_cells}
 use Rattle.ansi_screen.specs.Following.{copied}
 use Rattle.ansi_screen.specs.Grid.{Grid, with_list, flat, in_order, AreRows, times, IsOrder}
 use Rattle.ansi_screen.specs.Reachable.{RowsBegin}
@@ -327,7 +327,7 @@ filled-all g h space filled same =
     let whole : h * g.width ≡ length g.cells = ap (λ n. n * g.width) same ∙ sym filled in
     ap (λ l. with_list l g) (ap₂ (λ a b. within a b (erased space) g.cells) none whole ∙ erased-all (length g.cells) space g.cells refl)
 
-same-grid : (g other : Grid) → g.width ≡ other.width → g.height ≡ other.height → with_list other.cells g ≡ other
+pub same-grid : (g other : Grid) → g.width ≡ other.width → g.height ≡ other.height → with_list other.cells g ≡ other
 same-grid g other wide high = ap₂ (λ w h. record { width = w; height = h; cells = other.cells }) wide high
 
 pub copied-whole : (g other : Grid) (h : ℕ) → length g.cells ≡ g.height * g.width → length other.cells ≡ other.height * other.width
@@ -344,11 +344,11 @@ copied-whole g other h filled filled_too wide high same =
     ap (λ l. with_list l g) (ap₂ (λ a b. copied a b other.cells g.cells) none whole ∙ all)
     ∙ same-grid g other wide high
 
-pub erase-from : (g one two : Grid) (row column w h : ℕ) (space : Cell) → length g.cells ≡ g.height * g.width → RowsBegin g.width g.cells
+pub erase-from : (g one two : Display) (row column w h : ℕ) (space : Cell) → length g.cells ≡ g.height * g.width → RowsBegin g.width g.cells
     → row < g.height → column < g.width → w ≡ g.width → h ≡ g.height
-    → one ≡ with_list (change (row * g.width + column) (row * g.width + w) (erased space) g.cells) g
-    → two ≡ with_list (within ((row + 1) * one.width) (h * one.width) (erased space) one.cells) one
-    → two ≡ with_list (change (row * g.width + column) (length g.cells) (erased space) g.cells) g
+    → one ≡ with_cells (change (row * g.width + column) (row * g.width + w) (erased space) g.cells) g
+    → two ≡ with_cells (within ((row + 1) * one.width) (h * one.width) (erased space) one.cells) one
+    → two ≡ with_cells (change (row * g.width + column) (length g.cells) (erased space) g.cells) g
 erase-from g one two row column w h space filled begin inside few wide high is then_is =
     let p : ℕ = row * g.width + column in
     let q : ℕ = row * g.width + g.width in
@@ -359,18 +359,18 @@ erase-from g one two row column w h space filled begin inside few wide high is t
     let uncut : cut q g.cells ≡ g.cells = sym (cut-none g.cells q (and_right (nat_lt 0 q) (is_right (cell_at q g.cells).part) free)) in
     let cells : List Cell = cut p g.cells in
     let long : length cells ≡ length g.cells = length-cut p g.cells in
-    let first : one ≡ with_list (within p q (erased space) cells) g =
-    is ∙ ap (λ l. with_list l g) (ap (λ n. change p (row * g.width + n) (erased space) g.cells) wide ∙ ap (λ l. within p q (erased space) (cut p l)) uncut) in
-    then_is ∙ (ap (λ (f : Grid). with_list (within ((row + 1) * f.width) (h * f.width) (erased space) f.cells) f) first
-    ∙ ap (λ l. with_list l g) (ap₂ (λ a b. within a b (erased space) (within p q (erased space) cells)) next end
+    let first : one ≡ with_cells (within p q (erased space) cells) g =
+    is ∙ ap (λ l. with_cells l g) (ap (λ n. change p (row * g.width + n) (erased space) g.cells) wide ∙ ap (λ l. within p q (erased space) (cut p l)) uncut) in
+    then_is ∙ (ap (λ (f : Display). with_cells (within ((row + 1) * f.width) (h * f.width) (erased space) f.cells) f) first
+    ∙ ap (λ l. with_cells l g) (ap₂ (λ a b. within a b (erased space) (within p q (erased space) cells)) next end
     ∙ (erased-join p q (length g.cells) space cells (omega (arith, few)) (omega (arith, below, filled, suc-mul row g.width)) (omega (arith, long))
     ∙ ap (λ l. within p (length g.cells) (erased space) (cut p l)) (cut-past g.cells (length g.cells) (omega arith)))))
 
-pub erase-to : (g one two : Grid) (row column : ℕ) (space : Cell) → length g.cells ≡ g.height * g.width → RowsBegin g.width g.cells
+pub erase-to : (g one two : Display) (row column : ℕ) (space : Cell) → length g.cells ≡ g.height * g.width → RowsBegin g.width g.cells
     → row < g.height → column < g.width
-    → one ≡ with_list (change (row * g.width + 0) (row * g.width + (column + 1)) (erased space) g.cells) g
-    → two ≡ with_list (within (0 * one.width) (row * one.width) (erased space) one.cells) one
-    → two ≡ with_list (change 0 (row * g.width + (column + 1)) (erased space) g.cells) g
+    → one ≡ with_cells (change (row * g.width + 0) (row * g.width + (column + 1)) (erased space) g.cells) g
+    → two ≡ with_cells (within (0 * one.width) (row * one.width) (erased space) one.cells) one
+    → two ≡ with_cells (change 0 (row * g.width + (column + 1)) (erased space) g.cells) g
 erase-to g one two row column space filled begin inside few is then_is =
     let a : ℕ = row * g.width in
     let q : ℕ = row * g.width + (column + 1) in
@@ -381,10 +381,10 @@ erase-to g one two row column space filled begin inside few is then_is =
     let long : length cells ≡ length g.cells = length-cut q g.cells in
     let free : is_right (cell_at a cells).part ≡ false = clear-cut_other q a g.cells (begin row) in
     let uncut : cut a cells ≡ cells = sym (cut-none cells a (and_right (nat_lt 0 a) (is_right (cell_at a cells).part) free)) in
-    let first : one ≡ with_list (within a q (erased space) cells) g =
-    is ∙ ap (λ l. with_list l g) (ap (λ n. change n q (erased space) g.cells) start ∙ ap (within a q (erased space)) uncut) in
-    then_is ∙ (ap (λ (f : Grid). with_list (within (0 * f.width) (row * f.width) (erased space) f.cells) f) first
-    ∙ ap (λ l. with_list l g) (ap (λ n. within n a (erased space) (within a q (erased space) cells)) none
+    let first : one ≡ with_cells (within a q (erased space) cells) g =
+    is ∙ ap (λ l. with_cells l g) (ap (λ n. change n q (erased space) g.cells) start ∙ ap (within a q (erased space)) uncut) in
+    then_is ∙ (ap (λ (f : Display). with_cells (within (0 * f.width) (row * f.width) (erased space) f.cells) f) first
+    ∙ ap (λ l. with_cells l g) (ap (λ n. within n a (erased space) (within a q (erased space) cells)) none
     ∙ (erased-before a q space cells (omega arith) (omega (arith, below, filled, suc-mul row g.width, long, few))
     ∙ ap (within 0 q (erased space)) (cut-first cells 0 (omega arith)))))
 
@@ -591,19 +591,3 @@ module _ (g : Grid) (first last count : ℕ) (space : Cell) (filled : length g.c
       ap (λ l. with_list l g)
       (sym (ap₂ (λ a b. within a b (moved_on (count * g.width) space) g.cells) from to
       ∙ rw (run-is, rest-is, most, none) (append-nil (replicate n space ++ []) ∙ append-nil (replicate n space))))
-
--- the last cell of the row above
-pub last-above : (r h w : ℕ) (cells : List Cell) → 0 < r → 0 < w → r < h → length cells ≡ h * w
-    → cell_at (length (take w (drop ((r - 1) * w) cells)) - 1) (take w (drop ((r - 1) * w) cells)) ≡ cell_at (r * w - 1) cells
-last-above r h w cells some wide inside filled =
-    let a : ℕ = (r - 1) * w in
-    let one : suc (r - 1) ≡ r = omega (arith, some) in
-    let next : r * w ≡ a + w = sym (ap (λ n. n * w) one) ∙ suc-mul (r - 1) w in
-    let below : r * w ≤ h * w = mul-le-mul_right {m = r} {n = h} w (omega (arith, inside)) in
-    let row : List Cell = take w (drop a cells) in
-    let long : length row ≡ w = length-take-le w (drop a cells) (omega (arith, length-drop a cells, filled, below, next)) in
-    let last : w - 1 < w = omega (arith, wide) in
-    let at : a + (w - 1) ≡ r * w - 1 = omega (arith, next, wide) in
-    ap (λ n. cell_at (n - 1) row) long
-    ∙ (get_or-take w (drop a cells) (w - 1) (blank plain) last
-    ∙ (get_or-drop a cells (w - 1) (blank plain) ∙ ap (λ n. cell_at n cells) at))

@@ -223,12 +223,6 @@ same-both on place end xs ys some last inside same = record {
   long = length-going_on on place xs ∙ (same.long ∙ sym (length-going_on on place ys));
 }
 
--- the row that ends at a place does not go on, and nothing else is changed
-pub same-above : (on : Bool) (place end : ℕ) (cells : List Cell) → place - 1 < end → Same (place - 1) end (going_on on place cells) cells
-unfolding going_on
-same-above on place end cells last =
-    same-set (place - 1) end (place - 1) cells (record (cell_at (place - 1) cells) { goes_on = on }) (omega arith) last
-
 -- wider
 pub same-wider : (start end first last : ℕ) (xs ys : List Cell) → Same start end xs ys → first ≤ start → end ≤ last → Same first last xs ys
 same-wider start end first last xs ys same from to =

@@ -12,7 +12,7 @@ use Rattle.ansi_screen.specs.declared.function.Setting.{Setting}
 use Rattle.ansi_screen.specs.declared.function.Setting.TheVariants.{Rendition, SetModes, ResetModes, Margins, ScrollUp, ScrollDown, ForwardTab, ClearStops, SaveCursor, RestoreCursor}
 use Rattle.ansi_screen.specs.declared.function.Function.{Function}
 use Rattle.ansi_screen.specs.declared.function.Function.TheVariants.{Edits, Moves, Sets, Nothing}
-use Rattle.ansi_screen.specs.Display.{Display, row_start, row_end, fresh}
+use Rattle.ansi_screen.specs.Display.{Display, row_start, row_end, renewed}
 use Rattle.ansi_screen.specs.Moves.{to_row, to_column, settled, tabbed, tabbed_back, with_stop}
 use Rattle.ansi_screen.specs.Edits.{row_going_on, erased_part, erased_display, erased_line, erased_characters, deleted_characters, inserted_characters, rows_up, rows_down, is_in_margins, inserted_lines, deleted_lines, index, reverse_index, row_above_ended, erases_from_row, erases_first}
 use Rattle.ansi_screen.specs.Widths.{is_shown, columns}
@@ -243,7 +243,7 @@ module _ (width height : ℕ) where
       (sized-if (byte == 0x0D) _ _ s
       (sized-if (byte == 0x0E) _ _ s (sized-if (byte == 0x0F) _ d s s)))))
 
-  sized-fresh : (d : Display) → HasSize d → HasSize (fresh d.width d.height)
+  sized-fresh : (d : Display) → HasSize d → HasSize (renewed d)
   sized-fresh d s = (s.0, s.1, omega (arith, s.1))
 
   sized-escaped : (final : ℕ) (d : Display) → HasSize d → HasSize (escaped final d)
@@ -255,7 +255,7 @@ module _ (width height : ℕ) where
       (sized-if (final == 0x45) (index (to_column 0 d)) _ (sized-index (to_column 0 d) s)
       (sized-if (final == 0x48) _ _ s
       (sized-if (final == 0x4D) (reverse_index (settled d)) _ (sized-reverse (settled d) s)
-      (sized-if (final == 0x63) (fresh d.width d.height) d (sized-fresh d s) s))))))
+      (sized-if (final == 0x63) (renewed d) d (sized-fresh d s) s))))))
 
   sized-charset : (mark final : ℕ) (d : Display) → HasSize d → HasSize (with_charset mark final d)
   unfolding with_charset

@@ -7,7 +7,7 @@ use Rattle.ansi_screen.specs.declared.function.Edit.TheVariants.{InsertCharacter
 use Rattle.ansi_screen.specs.declared.function.Setting.TheVariants.{Rendition, SetModes, ResetModes, Margins, ScrollUp, ScrollDown, ForwardTab, ClearStops, SaveCursor, RestoreCursor}
 use Rattle.ansi_screen.specs.declared.function.Function.{Function}
 use Rattle.ansi_screen.specs.declared.function.Function.TheVariants.{Edits, Moves, Sets, Nothing}
-use Rattle.ansi_screen.specs.Display.{Display, fresh}
+use Rattle.ansi_screen.specs.Display.{Display, renewed}
 use Rattle.ansi_screen.specs.Moves.{to_row, to_column, settled, tabbed}
 use Rattle.ansi_screen.specs.Edits.{row_going_on, erased_part, erased_display, inserted_characters, rows_up, rows_down, index, reverse_index, row_above_ended, erases_from_row}
 use Rattle.ansi_screen.specs.Widths.{is_shown, columns}
@@ -120,7 +120,7 @@ main-escaped final d s =
     (main-if (final == 0x45) (index (to_column 0 d)) _ (main-index (to_column 0 d) s)
     (main-if (final == 0x48) _ _ s
     (main-if (final == 0x4D) (reverse_index (settled d)) _ (main-reverse (settled d) s)
-    (main-if (final == 0x63) (fresh d.width d.height) d refl s))))))
+    (main-if (final == 0x63) (renewed d) d refl s))))))
 
 main-charset : (mark final : ℕ) (d : Display) → IsMain d → IsMain (with_charset mark final d)
 unfolding with_charset

@@ -1,5 +1,5 @@
 -- The text of rows, cell by cell and row by row.
-use Rattle.std.proofs.Common.{◌≡◌, ℕ, suc, ◌+◌, ◌-◌, ◌<◌, ◌≤◌, Bool, true, false, List, [], ◌∷◌, ◌++◌, length, get_or, take, drop, set, refl, ap, ap₂, sym, ◌∙◌, subst, arith, add-one}
+use Rattle.std.proofs.Common.{◌≡◌, ℕ, zero, suc, ◌+◌, ◌-◌, ◌<◌, ◌≤◌, Bool, true, false, List, [], ◌∷◌, ◌++◌, length, get_or, take, drop, set, refl, ap, ap₂, sym, ◌∙◌, subst, arith, add-one}
 use Rattle.std.specs.Prelude.{◌==◌, encode_utf8}
 use Rattle.std.specs.List.{flat_map}
 use Rattle.std.proofs.lemmas.Bool.{ne_eqb}
@@ -14,9 +14,13 @@ use Rattle.anstyle_parse.proofs.Written.Output.{Adds-append, Adds-append3}
 use Rattle.ansi_screen.specs.declared.cell.Cell.{Cell}
 use Rattle.ansi_screen.specs.declared.cell.Marks.{Marks}
 use Rattle.ansi_screen.specs.declared.cell.Marks.TheVariants.{Unmarked, One, Two}
-use Rattle.ansi_screen.specs.Cells.{is_right}
+use Rattle.ansi_style.specs.Style.{plain}
+use Rattle.ansi_screen.specs.declared.text.LeftOut.{LeftOut}
+use Rattle.ansi_screen.specs.declared.text.LeftOut.TheVariants.{Blanks, Unprinted}
+use Rattle.ansi_screen.specs.Cells.{blank, is_right}
+use Rattle.ansi_screen.specs.Grid.{IsBlankFrom}
 use Rattle.ansi_screen.specs.Display.{Display, row_cells}
-use Rattle.ansi_screen.specs.Text.{used, marks_text, is_unmarked, cell_text, row_text, rows_text}
+use Rattle.ansi_screen.specs.Text.{is_blank, is_unprinted, left_out, used, marks_text, is_unmarked, cell_text, row_text, rows_text}
 
 -- one cell more, which is left out at the end, or is not
 module _ (is_left_out : Cell → Bool) where
@@ -72,6 +76,27 @@ module _ (is_left_out : Cell → Bool) where
   used-end cells n d some inside same other =
       let back : n - 1 + 1 ≡ n = omega arith in
       sym back ∙ (sym (used-more_other cells (n - 1) d (omega arith) other) ∙ (ap (λ k. used is_left_out (take k cells)) back ∙ same))
+
+  -- where what is left out is all that stands there, or stands after so many cells
+  used-none : (cells : List Cell) → is_left_out (blank plain) ≡ true → IsBlankFrom 0 cells → used is_left_out cells ≡ 0
+  used-none [] out is = refl
+  used-none (cell ∷ cells) out is =
+      let rest = used-none cells out (λ place _. is (suc place) (omega arith)) in
+      let first : is_left_out cell ≡ true = ap is_left_out (is 0 (omega arith)) ∙ out in
+      rw (rest, first) refl
+
+  pub used-rest : (cells : List Cell) (n : ℕ) → is_left_out (blank plain) ≡ true → IsBlankFrom n cells
+      → used is_left_out (take n cells) ≡ used is_left_out cells
+  used-rest cells zero out is = sym (used-none cells out is)
+  used-rest [] (suc n) out is = refl
+  used-rest (cell ∷ cells) (suc n) out is =
+      rw (used-rest cells n out (λ place less. is (suc place) (omega (arith, less)))) refl
+
+-- A plain blank is left out, in whichever way.
+pub left_out-blank : (ends : LeftOut) → left_out ends (blank plain) ≡ true
+unfolding is_blank is_unprinted
+left_out-blank Blanks = refl
+left_out-blank Unprinted = refl
 
 module _ {W : Type 0} (sink : SinkOf W) where
   -- some cells more are written

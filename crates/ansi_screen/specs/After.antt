@@ -16,7 +16,7 @@ use Rattle.ansi_screen.specs.declared.function.Setting.{Setting}
 use Rattle.ansi_screen.specs.declared.function.Setting.TheVariants.{Rendition, SetModes, ResetModes, Margins, ScrollUp, ScrollDown, ForwardTab, ClearStops, SaveCursor, RestoreCursor}
 use Rattle.ansi_screen.specs.declared.function.Function.{Function}
 use Rattle.ansi_screen.specs.declared.function.Function.TheVariants.{Edits, Moves, Sets, Nothing}
-use Rattle.ansi_screen.specs.Display.{Display, fresh}
+use Rattle.ansi_screen.specs.Display.{Display, fresh, renewed, forgotten}
 use Rattle.ansi_screen.specs.Links.{commanded}
 use Rattle.ansi_screen.specs.Moves.{to_column, settled, up, down, to_line, line_of, to_position, tabbed, tabbed_back, with_stop, cleared_stops}
 use Rattle.ansi_screen.specs.Edits.{erased_display, erased_line, erased_characters, deleted_characters, inserted_characters, inserted_lines, deleted_lines, scrolled_up, scrolled_down, index, reverse_index}
@@ -140,7 +140,7 @@ escaped final d =
     else if final == 0x45 then index (to_column 0 d)
     else if final == 0x48 then with_stop true d
     else if final == 0x4D then reverse_index (settled d)
-    else if final == 0x63 then fresh d.width d.height
+    else if final == 0x63 then renewed d
     else d
 
 -- An escape sequence with an intermediate designates a character set.
@@ -158,6 +158,10 @@ pub record State : Type 0 where
 -- a new screen
 abbrev pub new_state : ℕ → ℕ → State
 new_state width height = record { display = fresh width height; last = None }
+
+-- its damage is forgotten: as it is, it is shown
+abbrev pub as_shown : State → State
+as_shown s = record s { display = forgotten s.display }
 
 -- marks, and what has no glyph, are not repeated
 unfoldable pub repeatable : ℕ → Option ℕ

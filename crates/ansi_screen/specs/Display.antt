@@ -8,6 +8,22 @@ use Rattle.ansi_screen.specs.declared.place.Charsets.{Charsets}
 use Rattle.ansi_screen.specs.declared.place.Place.{Place}
 use Rattle.ansi_screen.specs.Cells.{blank}
 
+-- What decides, beside the cells that show, what a call does: what was saved, margins, tabs, and the alternate screen
+-- with what it covers.
+pub record Frame : Type 0 where
+  pub saved : Place
+  pub top : ℕ
+  pub bottom : ℕ
+  pub tabs : List Bool
+  pub is_alternate : Bool
+  pub hidden : List Cell
+  pub hidden_saved : Place
+
+-- cells and frame
+pub record Picture : Type 0 where
+  pub cells : List Cell
+  pub frame : Frame
+
 pub record Display : Type 0 where
   -- columns and rows
   pub width : ℕ
@@ -34,6 +50,27 @@ pub record Display : Type 0 where
   pub is_alternate : Bool
   pub hidden : List Cell
   pub hidden_saved : Place
+  -- the picture of it when its damage (`Damage`) was last forgotten; no call reads it
+  pub shown : Picture
+
+-- its picture
+abbrev pub picture : Display → Picture
+picture d = record {
+  cells = d.cells;
+  frame = record {
+    saved = d.saved;
+    top = d.top;
+    bottom = d.bottom;
+    tabs = d.tabs;
+    is_alternate = d.is_alternate;
+    hidden = d.hidden;
+    hidden_saved = d.hidden_saved;
+  };
+}
+
+-- its damage is forgotten: as it is, it is shown
+abbrev pub forgotten : Display → Display
+forgotten d = record d { shown = picture d }
 
 -- limits of the sizes that are taken
 abbrev pub most_columns : ℕ
@@ -59,7 +96,7 @@ stops (suc n) = stops n ++ (n % 8 == 0) ∷ []
 abbrev pub blanks : ℕ → ℕ → List Cell
 blanks width height = replicate (height * width) (blank plain)
 
--- A new display, and after RIS each display.
+-- A new display, of which nothing was shown but blanks.
 abbrev pub fresh : ℕ → ℕ → Display
 fresh width height = record {
   width = width;
@@ -78,7 +115,23 @@ fresh width height = record {
   is_alternate = false;
   hidden = blanks width height;
   hidden_saved = home;
+  shown = record {
+    cells = blanks width height;
+    frame = record {
+      saved = home;
+      top = 0;
+      bottom = height;
+      tabs = stops width;
+      is_alternate = false;
+      hidden = blanks width height;
+      hidden_saved = home;
+    };
+  };
 }
+
+-- RIS: each display is a new one, but for what was shown of it.
+abbrev pub renewed : Display → Display
+renewed d = record (fresh d.width d.height) { shown = d.shown }
 
 -- What holds of the sizes and places of every display.
 pub record IsSized (d : Display) : Type 0 where
@@ -111,3 +164,7 @@ here d = d.cursor.row * d.width + d.cursor.column
 -- the cells of a row
 abbrev pub row_cells : ℕ → Display → List Cell
 row_cells row d = take d.width (drop (row * d.width) d.cells)
+
+-- and those of the row when the damage was last forgotten
+abbrev pub shown_cells : ℕ → Display → List Cell
+shown_cells row d = take d.width (drop (row * d.width) d.shown.cells)

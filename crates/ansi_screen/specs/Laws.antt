@@ -11,7 +11,7 @@ use Rattle.ansi_screen.specs.declared.function.Function.{Function}
 use Rattle.ansi_screen.specs.declared.function.Function.TheVariants.{Edits, Moves, Sets}
 use Rattle.ansi_screen.specs.declared.function.Setting.TheVariants.{ScrollDown}
 use Rattle.ansi_screen.specs.Cells.{plain_cell, blank}
-use Rattle.ansi_screen.specs.Display.{Display, blanks}
+use Rattle.ansi_screen.specs.Display.{Display, Picture, blanks}
 use Rattle.ansi_screen.specs.Widths.{is_shown, columns}
 use Rattle.ansi_screen.specs.Print.{wrapped}
 use Rattle.ansi_screen.specs.After.{State, function_of, displayed}
@@ -25,6 +25,10 @@ save = esc_dispatch [] false 0x37
 
 abbrev pub restore : Call
 restore = esc_dispatch [] false 0x38
+
+-- a screen of which something else was shown when its damage was last forgotten
+abbrev pub with_shown : Picture → State → State
+with_shown picture s = record s { display = record s.display { shown = picture } }
 
 -- a control sequence that moves the cursor, or selects a style
 abbrev pub IsMoveOrStyle : Call → Type 0

@@ -1,5 +1,6 @@
 pub mod Cells
 pub mod Display
+pub mod Damage
 pub mod Following
 pub mod Moves
 pub mod Edits
@@ -16,5 +17,4 @@ pub mod Leaving
 pub mod Size
 pub mod Text
 pub mod Laws
-pub mod Alone
 pub mod TextsProof

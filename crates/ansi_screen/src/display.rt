@@ -12,14 +12,15 @@ mod performer;
 mod print;
 
 use crate::cell::Cell;
+use crate::damage::Damage;
 use crate::grid::Grid;
 use crate::place::Place;
 use crate::screen::{MAX_COLUMNS, MAX_ROWS, MIN_COLUMNS, MIN_ROWS};
 use crate::tabs::reset_stops;
-pub(crate) use modes::first_field;
 pub(crate) use performer::first_of;
 use std::alloc::{AllocError, Global};
 use std::marker::Model;
+use std::snapshot::Snapshot;
 
 /// Cells in rows, the cursor, margins, tabs and modes, and the alternate screen.
 #[derive(Drop)]
@@ -45,11 +46,29 @@ pub(crate) struct Display {
     is_alternate: bool,
     hidden: Grid,
     hidden_saved: Place,
+    /// What can have changed since it was forgotten, and, for clauses alone, the picture of then.
+    damage: Damage,
+    shown: Shown,
+}
+
+/// A picture of a display. It is there for clauses alone, and takes no memory.
+#[derive(Drop)]
+pub(crate) struct Shown {
+    cells: Snapshot<Grid>,
+    hidden: Snapshot<Grid>,
+    tabs: Snapshot<Vec<bool>>,
+    /// What is saved on the screen that shows and on the hidden one.
+    saved: Snapshot<Place>,
+    hidden_saved: Snapshot<Place>,
+    top: Snapshot<usize>,
+    bottom: Snapshot<usize>,
+    is_alternate: Snapshot<bool>,
 }
 
 impl Model for Display {
     ghost use Rattle.std.specs.Prelude.{◌≡◌};
-    ghost use Rattle.ansi_screen.specs.Display.{Display, IsSized};
+    ghost use Rattle.ansi_screen.specs.Display.{Display};
+    ghost use Rattle.ansi_screen.specs.Damage.{IsDisplay};
 
     ghost Value = { Display };
 
@@ -70,30 +89,56 @@ impl Model for Display {
       is_alternate = s.is_alternate;
       hidden = s.hidden.cells;
       hidden_saved = s.hidden_saved;
+      shown = record {
+        cells = s.shown.cells.value.cells;
+        frame = record {
+          saved = s.shown.saved.value;
+          top = s.shown.top.value;
+          bottom = s.shown.bottom.value;
+          tabs = s.shown.tabs.value.items;
+          is_alternate = s.shown.is_alternate.value;
+          hidden = s.shown.hidden.value.cells;
+          hidden_saved = s.shown.hidden_saved.value;
+        };
+      };
     } };
 
-    ghost invariant = { λ s. (s.hidden.width ≡ s.cells.width) × (s.hidden.height ≡ s.cells.height) × IsSized (record {
-      width = s.cells.width;
-      height = s.cells.height;
-      cells = s.cells.cells;
-      cursor = s.cursor;
-      saved = s.saved;
-      top = s.top;
-      bottom = s.bottom;
-      tabs = s.tabs.items;
-      wraps = s.wraps;
-      inserts = s.inserts;
-      is_visible = s.is_visible;
-      links = s.links;
-      link = s.link;
-      is_alternate = s.is_alternate;
-      hidden = s.hidden.cells;
-      hidden_saved = s.hidden_saved;
-    }) };
+    ghost invariant = { λ s. (s.hidden.width ≡ s.cells.width) × (s.hidden.height ≡ s.cells.height)
+        × IsDisplay s.damage (record {
+          width = s.cells.width;
+          height = s.cells.height;
+          cells = s.cells.cells;
+          cursor = s.cursor;
+          saved = s.saved;
+          top = s.top;
+          bottom = s.bottom;
+          tabs = s.tabs.items;
+          wraps = s.wraps;
+          inserts = s.inserts;
+          is_visible = s.is_visible;
+          links = s.links;
+          link = s.link;
+          is_alternate = s.is_alternate;
+          hidden = s.hidden.cells;
+          hidden_saved = s.hidden_saved;
+          shown = record {
+            cells = s.shown.cells.value.cells;
+            frame = record {
+              saved = s.shown.saved.value;
+              top = s.shown.top.value;
+              bottom = s.shown.bottom.value;
+              tabs = s.shown.tabs.value.items;
+              is_alternate = s.shown.is_alternate.value;
+              hidden = s.shown.hidden.value.cells;
+              hidden_saved = s.shown.hidden_saved.value;
+            };
+          };
+        }) };
 }
 
 impl Display {
     ghost use Rattle.ansi_screen.specs.Display.{fresh, IsSized, row_cells};
+    ghost use Rattle.ansi_screen.specs.Grid.{IsBlankFrom};
 
     /// A blank screen of so many columns and rows, with the cursor at its top left. `Err` means
     /// that memory is wanting.
@@ -108,6 +153,17 @@ impl Display {
         let hidden = Grid::new(alloc, columns, rows as u16)?;
         let mut tabs = Vec::from_elem(alloc, false, columns)?;
         reset_stops(tabs.as_mut_slice());
+        let damage = Damage::all(alloc, rows)?;
+        let shown = Shown {
+            cells: Snapshot::of(&cells),
+            hidden: Snapshot::of(&hidden),
+            tabs: Snapshot::of(&tabs),
+            saved: Snapshot::of(&Place::home()),
+            hidden_saved: Snapshot::of(&Place::home()),
+            top: Snapshot::of(&0),
+            bottom: Snapshot::of(&rows),
+            is_alternate: Snapshot::of(&false),
+        };
         Ok(Display {
             cells,
             cursor: Place::home(),
@@ -123,6 +179,8 @@ impl Display {
             is_alternate: false,
             hidden,
             hidden_saved: Place::home(),
+            damage,
+            shown,
         })
     }
 
@@ -149,6 +207,15 @@ impl Display {
         ensures columns { length result.now ≡ self.now.width }
     {
         self.cells.row(row)
+    }
+
+    /// From which column on all cells of a row are plain blanks.
+    pub(crate) fn written(&self, row: usize) -> usize
+        requires { row < self.now.height }
+        ensures within { result ≤ self.now.width }
+        ensures rest { IsBlankFrom result (row_cells row self.now) }
+    {
+        self.cells.written(row)
     }
 
     /// Where the cursor is, with the style of what comes next.

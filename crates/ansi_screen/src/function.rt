@@ -1,7 +1,6 @@
 //! Control functions by their final byte.
 ghost use Rattle.std.specs.Prelude.{◌≡◌};
 ghost use Rattle.ansi_screen.specs.After.{function_of, is_known};
-ghost use Rattle.ansi_screen.specs.Alone.{moves_alone, edits_row, is_erase_in_line, edits_cells, sets_alone};
 
 /// Edits of cells.
 #[derive(Clone, Copy)]
@@ -137,81 +136,4 @@ impl Function {
             _ => Function::Nothing,
         }
     }
-
-    /// Whether it changes nothing but the cursor: a move, SGR or CHT.
-    fn moves_alone(self) -> bool
-        ensures { result ≡ moves_alone self }
-    {
-        matches!(
-            self,
-            Function::Moves(_) | Function::Sets(Setting::Rendition | Setting::ForwardTab)
-        )
-    }
-
-    /// Whether it changes nothing but cells of the cursor's row, whether the row above goes on in it, and the cursor: ICH,
-    /// DCH, EL or ECH.
-    fn edits_row(self) -> bool
-        ensures { result ≡ edits_row self }
-    {
-        matches!(
-            self,
-            Function::Edits(
-                Edit::InsertCharacters
-                    | Edit::DeleteCharacters
-                    | Edit::EraseInLine
-                    | Edit::EraseCharacters
-            )
-        )
-    }
-
-    /// Whether it is EL.
-    pub(crate) fn is_erase_in_line(self) -> bool
-        ensures { result ≡ is_erase_in_line self }
-    {
-        matches!(self, Function::Edits(Edit::EraseInLine))
-    }
-
-    /// Whether it changes nothing but cells and the cursor: an edit of cells, SU or SD.
-    fn edits_cells(self) -> bool
-        ensures { result ≡ edits_cells self }
-    {
-        matches!(
-            self,
-            Function::Edits(_) | Function::Sets(Setting::ScrollUp | Setting::ScrollDown)
-        )
-    }
-
-    /// Whether it changes nothing but modes: SM and RM, and what is no function.
-    pub(crate) fn sets_alone(self) -> bool
-        ensures { result ≡ sets_alone self }
-    {
-        matches!(
-            self,
-            Function::Sets(Setting::SetModes | Setting::ResetModes) | Function::Nothing
-        )
-    }
-}
-
-/// Whether a control sequence without intermediates changes nothing but the cursor, by its final byte: it moves it
-/// or is SGR.
-pub fn moves_alone(final_byte: u8) -> bool
-    ensures { result ≡ moves_alone (function_of final_byte) }
-{
-    Function::of(final_byte).moves_alone()
-}
-
-/// Whether a control sequence without intermediates changes nothing but cells of the cursor's row, whether the row above
-/// goes on in it, and the cursor, by its final byte: ICH, DCH, EL or ECH.
-pub fn edits_row(final_byte: u8) -> bool
-    ensures { result ≡ edits_row (function_of final_byte) }
-{
-    Function::of(final_byte).edits_row()
-}
-
-/// Whether a control sequence without intermediates changes nothing but cells and the cursor, by its final byte: it
-/// erases, inserts, deletes or scrolls them.
-pub fn edits_cells(final_byte: u8) -> bool
-    ensures { result ≡ edits_cells (function_of final_byte) }
-{
-    Function::of(final_byte).edits_cells()
 }

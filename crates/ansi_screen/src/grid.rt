@@ -1,14 +1,16 @@
 //! The cells of a screen: rows, of which each can stand anywhere in memory.
-ghost use Rattle.std.specs.Prelude.{◌≡◌, true, false, ◌+◌, ◌-◌, ◌*◌, ◌<◌, ◌≤◌, ◌++◌, length, take, drop, replicate, IfOk};
+ghost use Rattle.std.specs.Prelude.{◌≡◌, ℕ, true, false, ◌+◌, ◌-◌, ◌*◌, ◌<◌, ◌≤◌, ◌++◌, length, take, drop, replicate, IfOk};
 ghost use Rattle.ansi_style.specs.Style.{plain};
-ghost use Rattle.ansi_screen.specs.Cells.{blank, marked_before, going_on, within, change, erased, moved_back, moved_on, deleted, inserted};
+ghost use Rattle.ansi_screen.specs.Cells.{blank, cell_at, marked_before, going_on, within, change, erased, moved_back, moved_on, deleted, inserted};
+ghost use Rattle.ansi_screen.specs.Damage.{KeepsColumns, IsOutside, span_at};
 ghost use Rattle.ansi_screen.specs.Following.{copied};
-ghost use Rattle.ansi_screen.specs.Grid.{with_list, IsOrder};
+ghost use Rattle.ansi_screen.specs.Grid.{with_list, IsBlankFrom, IsOrder};
 ghost use Rattle.ansi_screen.specs.Print.{glyph};
 ghost use Rattle.ansi_screen.specs.Reachable.{RowsBegin};
 ghost use Rattle.ansi_screen.specs.Runs.{with_glyphs};
 
 use crate::cell::Cell;
+use crate::damage::Damage;
 use crate::row::{Row, has_ground};
 use ansi_style::Style;
 use std::alloc::{AllocError, Global};
@@ -133,6 +135,16 @@ impl Grid {
         self.rows[at].as_slice()
     }
 
+    /// From which column on all cells of a row are plain blanks.
+    pub(crate) fn written(&self, row: usize) -> usize
+        requires { row < self.now.height }
+        ensures within { result ≤ self.now.width }
+        ensures rest { IsBlankFrom result (take self.now.width (drop (row * self.now.width) self.now.cells)) }
+    {
+        let at = usize::from(self.order[row]);
+        self.rows[at].written()
+    }
+
     /// All cells of a row are blank.
     fn fill_row(&mut self, row: usize, style: Style)
         requires { row < self.old.height }
@@ -145,7 +157,7 @@ impl Grid {
     }
 
     /// The rows from `first` up to `last` are blank.
-    fn fill_rows(&mut self, first: usize, last: usize, style: Style)
+    pub(crate) fn fill_rows(&mut self, first: usize, last: usize, style: Style)
         requires order { first ≤ last }
         requires within { last ≤ self.old.height }
         ensures { self.new ≡ with_list (within (first * self.old.width) (last * self.old.width) (erased (blank style))
@@ -184,6 +196,46 @@ impl Grid {
             let height = self.height();
             self.fill_rows(0, height, style);
             self.end_writing(style);
+        }
+    }
+
+    /// The columns of a row from `left` up to `right`, outside which both are the same, become as those of another grid
+    /// are.
+    fn copy_columns(&mut self, row: usize, left: usize, right: usize, other: &Grid)
+        requires width { self.old.width ≡ other.now.width }
+        requires row { row < self.old.height }
+        requires other_row { row < other.now.height }
+        requires order { left ≤ right }
+        requires within { right ≤ self.old.width }
+        requires kept { KeepsColumns left right (take other.now.width (drop (row * other.now.width) other.now.cells))
+            (take self.old.width (drop (row * self.old.width) self.old.cells)) }
+        ensures { self.new ≡ with_list (copied (row * self.old.width) (row * self.old.width + self.old.width)
+            other.now.cells self.old.cells) self.old }
+    {
+        self.is_written = true;
+        let at = usize::from(self.order[row]);
+        let other_at = usize::from(other.order[row]);
+        self.rows[at].copy_columns(left, right, &other.rows[other_at]);
+    }
+
+    /// All cells become as those of another grid are, from which they differ in those alone of which damage was noted.
+    pub(crate) fn copy_changed(&mut self, other: &Grid, damage: &Damage)
+        requires width { self.old.width ≡ other.now.width }
+        requires height { self.old.height ≡ other.now.height }
+        requires spans { length damage.now.spans ≡ self.old.height }
+        requires kept { (row column : ℕ) → row < self.old.height → column < self.old.width
+            → IsOutside (span_at damage.now.spans row) column
+            → cell_at (row * self.old.width + column) self.old.cells
+            ≡ cell_at (row * self.old.width + column) other.now.cells }
+        ensures { self.new ≡ other.now }
+    {
+        // The cells fill the rows.
+        let width = self.width();
+        let _ = other.width();
+        let (first, past) = damage.rows();
+        for row in first..past {
+            let (left, right) = damage.columns(row, width);
+            self.copy_columns(row, left, right, other);
         }
     }
 
@@ -246,31 +298,6 @@ impl Grid {
         self.is_written = true;
         let at = usize::from(self.order[row]);
         self.rows[at].erase(start, end, style);
-    }
-
-    /// Blanks from a cell on.
-    pub(crate) fn erase_from(&mut self, row: usize, column: usize, style: Style)
-        requires row { row < self.old.height }
-        requires column { column < self.old.width }
-        ensures { self.new ≡ with_list (change (row * self.old.width + column) (length self.old.cells)
-            (erased (blank style)) self.old.cells) self.old }
-    {
-        let width = self.width();
-        let height = self.height();
-        self.erase(row, column, width, style);
-        self.fill_rows(row + 1, height, style);
-    }
-
-    /// Blanks up to a cell, and there.
-    pub(crate) fn erase_to(&mut self, row: usize, column: usize, style: Style)
-        requires row { row < self.old.height }
-        requires column { column < self.old.width }
-        ensures { self.new ≡ with_list (change 0 (row * self.old.width + (column + 1))
-            (erased (blank style)) self.old.cells) self.old }
-    {
-        let _ = self.width();
-        self.erase(row, 0, column + 1, style);
-        self.fill_rows(0, row, style);
     }
 
     /// All cells are blank.
@@ -353,14 +380,16 @@ impl Grid {
         self.rows[at].mark_before(column, mark);
     }
 
-    /// Says whether a row goes on in the next.
-    pub(crate) fn set_goes_on(&mut self, row: usize, on: bool)
+    /// Says whether a row goes on in the next, and answers whether it did not before.
+    pub(crate) fn set_goes_on(&mut self, row: usize, on: bool) -> bool
         requires { row < self.old.height }
-        ensures { self.new ≡ with_list (going_on on (row * self.old.width + self.old.width) self.old.cells) self.old }
+        ensures cells { self.new ≡ with_list (going_on on (row * self.old.width + self.old.width) self.old.cells)
+            self.old }
+        ensures same { result ≡ false → self.new ≡ self.old }
     {
         self.is_written = true;
         let at = usize::from(self.order[row]);
-        self.rows[at].set_goes_on(on);
+        self.rows[at].set_goes_on(on)
     }
 
     /// The first `count` of the rows from `first` up to `last` come behind the others.

@@ -1,13 +1,13 @@
 //! Laws of screens.
-ghost use Rattle.std.specs.Prelude.{◌≡◌, ◌≤◌, ◌+◌, ◌↔◌, ℕ, false, List, [], ◌∷◌, ◌++◌, length, IsTrue};
+ghost use Rattle.std.specs.Prelude.{◌≡◌, ◌≤◌, ◌+◌, ◌↔◌, ℕ, None, false, List, [], ◌∷◌, ◌++◌, length, IsTrue};
 ghost use Rattle.std.specs.List.{flat_map, AllByRecursion};
 ghost use Rattle.anstyle_parse.specs.Stream.Call.{Call};
-ghost use Rattle.ansi_screen.specs.Display.{most_columns, most_rows};
+ghost use Rattle.ansi_screen.specs.Display.{Picture, renewed, most_columns, most_rows};
 ghost use Rattle.ansi_screen.specs.Reachable.{IsScreen, HasContents};
 ghost use Rattle.ansi_screen.specs.After.{State, new_state, after, after_all, Shows};
 ghost use Rattle.ansi_screen.specs.Leaving.{ScrollsBy, leaving, before_scroll};
 ghost use Rattle.ansi_screen.specs.Edits.{rows_up};
-ghost use Rattle.ansi_screen.specs.Laws.{KeepsRows, once_scrolled, reset, save, restore, IsMoveOrStyle, carriage_return, erase_rest, printing, typing, lines_text, FitsIn, page, text_columns};
+ghost use Rattle.ansi_screen.specs.Laws.{with_shown, KeepsRows, once_scrolled, reset, save, restore, IsMoveOrStyle, carriage_return, erase_rest, printing, typing, lines_text, FitsIn, page, text_columns};
 
 use crate::cell::{Cell, Marks, Part};
 use crate::leaving::{Scrolling, TakeRow};
@@ -54,10 +54,17 @@ pub fn determined()
 
 /// ESC c makes every screen a new one of its size; so after it, nothing counts that came before.
 pub fn reset()
-    ensures new { (screen : State) → after reset screen ≡ new_state screen.display.width screen.display.height }
+    ensures new { (screen : State) → (after reset screen).display ≡ renewed screen.display }
+    ensures last { (screen : State) → (after reset screen).last ≡ None }
     ensures forgets { (a b : State) (calls : List Call)
         → a.display.width ≡ b.display.width → a.display.height ≡ b.display.height
-        → after_all (reset ∷ calls) a ≡ after_all (reset ∷ calls) b }
+        → with_shown b.display.shown (after_all (reset ∷ calls) a) ≡ after_all (reset ∷ calls) b }
+{}
+
+/// What was shown of a screen when its damage was last forgotten decides nothing, and no call changes it.
+pub fn unread()
+    ensures { (screen : State) (picture : Picture) (calls : List Call)
+        → after_all calls (with_shown picture screen) ≡ with_shown picture (after_all calls screen) }
 {}
 
 /// ESC 7 and ESC 8 enclose moves and styles: out of origin mode, nothing of them is left.

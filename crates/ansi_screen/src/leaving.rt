@@ -1,6 +1,7 @@
 //! A screen of which no row is lost: what scrolls off at its top is handed on.
-ghost use Rattle.std.specs.Prelude.{◌≡◌, ◌≤◌, ℕ, List, ◌∷◌, map};
+ghost use Rattle.std.specs.Prelude.{◌≡◌, ◌≤◌, ℕ, List, ◌∷◌, length, map};
 ghost use Rattle.ansi_screen.specs.declared.cell.Cell.{Cell as ACell};
+ghost use Rattle.ansi_screen.specs.Grid.{IsBlankFrom};
 ghost use Rattle.ansi_screen.specs.Leaving.{TakesRows, first_rows, printed_rows, swapped};
 
 use crate::cell::Cell;
@@ -18,8 +19,10 @@ pub trait TakeRow {
     // What handing on what it holds back does to it.
     ghost passes_on: { Self → Self → Type 0 };
 
-    /// Takes the cells of a row.
-    fn take_row(&mut self, row: &[Cell])
+    /// Takes the cells of a row, of which those from `written` on are plain blanks.
+    fn take_row(&mut self, row: &[Cell], written: usize)
+        requires within { written ≤ length row.now }
+        requires rest { IsBlankFrom written row.now }
         ensures { takes self.old row.now self.new };
 
     /// Hands on what it holds back, as a writer may of rows that it has taken.
@@ -56,7 +59,7 @@ fn hand_on<R: TakeRow>(display: &Display, count: usize, taker: &mut R)
     ensures { TakesRows R.takes taker.old (first_rows count display.now) taker.new }
 {
     for row in 0..count {
-        taker.take_row(display.row(row));
+        taker.take_row(display.row(row), display.written(row));
     }
 }
 

@@ -5,8 +5,8 @@
 //! byte what the definition in `specs/After.antt` says of the whole stream.
 #![tactic(auto)]
 
-mod alone;
 mod cell;
+mod damage;
 mod display;
 mod function;
 mod grid;
@@ -24,12 +24,10 @@ mod text;
 mod texts;
 mod width;
 
-pub use alone::modes_alone;
 pub use cell::{Cell, Marks, Part};
-pub use function::{edits_cells, edits_row, moves_alone};
 pub use leaving::{Scrolling, TakeCommand, TakeRow};
 pub use place::{Charsets, Place};
 pub use screen::{MAX_COLUMNS, MAX_ROWS, MIN_COLUMNS, MIN_ROWS, Screen};
 pub use size::Size;
-pub use text::{LeftOut, goes_on, put_cells, used};
+pub use text::{LeftOut, goes_on, put_cells, used, used_of_written};
 pub use width::is_shown;

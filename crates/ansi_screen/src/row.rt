@@ -2,6 +2,7 @@
 ghost use Rattle.std.specs.Prelude.{◌≡◌, false, ◌+◌, ◌<◌, ◌≤◌, length, replicate, IfOk};
 ghost use Rattle.ansi_style.specs.Style.{plain};
 ghost use Rattle.ansi_screen.specs.Cells.{blank, marked_before, going_on, within, change, erased, deleted, inserted};
+ghost use Rattle.ansi_screen.specs.Damage.{KeepsColumns};
 ghost use Rattle.ansi_screen.specs.Grid.{IsBlankFrom};
 ghost use Rattle.ansi_screen.specs.Print.{glyph};
 ghost use Rattle.ansi_screen.specs.Reachable.{IsWhole};
@@ -84,6 +85,23 @@ fn clear_written(cells: &mut [Cell], written: usize, start: usize, end: usize) -
     }
 }
 
+/// Cells become as others are, from which they differ between `left` and `right` alone. From `written` on both are plain
+/// blanks.
+fn copy_between(cells: &mut [Cell], left: usize, right: usize, written: usize, others: &[Cell])
+    requires length { length cells.old ≡ length others.now }
+    requires order { left ≤ right }
+    requires within { right ≤ length cells.old }
+    requires kept { KeepsColumns left right others.now cells.old }
+    requires blank { IsBlankFrom written cells.old }
+    requires others_blank { IsBlankFrom written others.now }
+    ensures { cells.new ≡ others.now }
+{
+    let past = right.min(written);
+    if left < past {
+        cells[left..past].copy_from_slice(&others[left..past]);
+    }
+}
+
 impl Row {
     /// So many blank cells.
     pub(crate) fn new(alloc: Global, width: usize) -> Result<Row, AllocError>
@@ -99,6 +117,15 @@ impl Row {
         ensures { result.now ≡ self.now }
     {
         self.cells.as_slice()
+    }
+
+    /// From which column on all cells are plain blanks.
+    #[inline]
+    pub(crate) fn written(&self) -> usize
+        ensures within { result ≤ length self.now }
+        ensures rest { IsBlankFrom result self.now }
+    {
+        self.written
     }
 
     /// All cells are blank.
@@ -121,6 +148,28 @@ impl Row {
         let past = self.written.max(other.written);
         runs::copy(self.cells.as_mut_slice(), past, other.cells.as_slice());
         self.written = other.written;
+    }
+
+    /// It becomes as another one is, from which it differs in the columns from `left` up to `right` alone.
+    pub(crate) fn copy_columns(&mut self, left: usize, right: usize, other: &Row)
+        requires length { length self.old ≡ length other.now }
+        requires order { left ≤ right }
+        requires within { right ≤ length self.old }
+        requires kept { KeepsColumns left right other.now self.old }
+        ensures cells { self.new ≡ other.now }
+        ensures length { length self.new ≡ length self.old }
+        ensures whole { IsWhole (length self.old) self.new }
+    {
+        let others_written = other.written;
+        let written = self.written.max(others_written);
+        copy_between(
+            self.cells.as_mut_slice(),
+            left,
+            right,
+            written,
+            other.cells.as_slice(),
+        );
+        self.written = others_written;
     }
 
     /// Blanks from `start` up to `end`.
@@ -211,17 +260,21 @@ impl Row {
         self.written = self.written.max(column);
     }
 
-    /// Says whether it goes on in the next row.
-    pub(crate) fn set_goes_on(&mut self, on: bool)
+    /// Says whether it goes on in the next row, and answers whether it did not before.
+    pub(crate) fn set_goes_on(&mut self, on: bool) -> bool
         requires { 0 < length self.old }
         ensures cells { self.new ≡ going_on on (length self.old) self.old }
         ensures length { length self.new ≡ length self.old }
         ensures whole { IsWhole (length self.old) self.new }
+        ensures same { result ≡ false → self.new ≡ self.old }
     {
         if goes_on(self.cells.as_slice()) != on {
             let end = self.cells.len();
             runs::set_goes_on(self.cells.as_mut_slice(), end, on);
             self.written = end;
+            true
+        } else {
+            false
         }
     }
 }

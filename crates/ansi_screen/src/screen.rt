@@ -1,5 +1,5 @@
 //! A screen as a performer.
-ghost use Rattle.std.specs.Prelude.{◌≡◌, ◌<◌, ◌≤◌, false, [], length, take, IfOk};
+ghost use Rattle.std.specs.Prelude.{◌≡◌, ◌<◌, ◌≤◌, ◌⊎◌, ℕ, false, [], length, take, IfOk};
 ghost use Rattle.ansi_screen.specs.After.{repeatable, is_repeat};
 
 use crate::cell::Cell;
@@ -64,14 +64,16 @@ fn is_repeat(intermediates: &[u8], final_byte: u8) -> bool
 }
 
 impl Screen {
-    ghost use Rattle.ansi_screen.specs.Display.{IsSized, row_cells};
+    ghost use Rattle.ansi_screen.specs.Display.{IsSized, row_cells, shown_cells, picture};
+    ghost use Rattle.ansi_screen.specs.Grid.{IsBlankFrom};
     ghost use Rattle.anstyle_parse.specs.Stream.Call.{print, esc_dispatch};
     ghost use Rattle.anstyle_parse.specs.Stream.Items.{EachIs};
-    ghost use Rattle.ansi_screen.specs.After.{new_state, after_all};
+    ghost use Rattle.ansi_screen.specs.After.{new_state, as_shown, after_all};
     ghost use Rattle.ansi_screen.specs.Runs.{is_printed_ascii};
     ghost use Rattle.ansi_screen.specs.Laws.{printing};
     ghost use Rattle.ansi_screen.specs.Leaving.{before_scroll, leaving, all_left, swapped};
-    ghost use Rattle.ansi_screen.specs.Following.{IsNear};
+    ghost use Rattle.ansi_screen.specs.Following.{IsShownOf, HasSizeOf};
+    ghost use Rattle.ansi_screen.specs.Damage.{KeepsColumns};
 
     /// A blank screen of so many columns and rows, with the cursor at its top left. `Err` means
     /// that memory is wanting.
@@ -114,6 +116,15 @@ impl Screen {
         self.display.row(row)
     }
 
+    /// From which column on all cells of a row are plain blanks: what lies there need not be looked at.
+    pub fn written(&self, row: usize) -> usize
+        requires { row < self.now.display.height }
+        ensures within { result ≤ self.now.display.width }
+        ensures rest { IsBlankFrom result (row_cells row self.now.display) }
+    {
+        self.display.written(row)
+    }
+
     /// Where the cursor is, with the style of what comes next.
     pub fn cursor(&self) -> Place
         ensures { result ≡ self.now.display.cursor }
@@ -135,16 +146,60 @@ impl Screen {
         self.display.link()
     }
 
-    /// Becomes as another screen of its size is, from which it may differ in the rows from `first` up to `past`, in the
-    /// cursor, modes and links; and, where `is_framed` says so, in margins, tabs, saved places and the alternate screen.
-    ///
-    /// No other rows are copied, and no memory is taken.
-    pub fn catch_up(&mut self, other: &Screen, first: usize, past: usize, is_framed: bool)
-        requires { IsNear first past is_framed other.now.display self.old.display }
-        ensures { self.new ≡ other.now }
+    /// Its damage is forgotten: as it is, it is shown. It takes time of the rows that can have changed, and of those
+    /// between them.
+    pub fn forget(&mut self)
+        ensures { self.new ≡ as_shown self.old }
     {
-        self.display
-            .catch_up(other.display(), first, past, is_framed);
+        self.display.forget();
+    }
+
+    /// The rows outside which no cell can have changed since that was last forgotten: from the first answer up to the
+    /// second. Of a new screen all can have.
+    pub fn changed_rows(&self) -> (usize, usize)
+        ensures order { result.0 ≤ result.1 }
+        ensures within { result.1 ≤ self.now.display.height }
+        ensures kept { (row : ℕ) → row < self.now.display.height → (row < result.0) ⊎ (result.1 ≤ row)
+            → row_cells row self.now.display ≡ shown_cells row self.now.display }
+    {
+        self.display.changed_rows()
+    }
+
+    /// The columns of a row that can have changed: from the first answer up to the second. They are those that were
+    /// written, and one on each side, where a half of a wide character can have been lost.
+    pub fn changed(&self, row: usize) -> (usize, usize)
+        requires { row < self.now.display.height }
+        ensures order { result.0 ≤ result.1 }
+        ensures within { result.1 ≤ self.now.display.width }
+        ensures kept { KeepsColumns result.0 result.1 (shown_cells row self.now.display)
+            (row_cells row self.now.display) }
+    {
+        self.display.changed(row)
+    }
+
+    /// Whether margins, tabs, what is saved or the alternate screen with what it covers can have changed.
+    pub fn is_framed(&self) -> bool
+        ensures { result ≡ false → (picture self.now.display).frame ≡ self.now.display.shown.frame }
+    {
+        self.display.is_framed()
+    }
+
+    /// Becomes as another screen is, from which it differs in no more than can have changed of that, and in the cursor,
+    /// modes and links. Nothing else is copied, and no memory is taken.
+    pub fn catch_up(&mut self, other: &Screen)
+        requires { IsShownOf other.now.display self.old.display }
+        ensures { self.new ≡ as_shown other.now }
+    {
+        self.display.catch_up(other.display());
+        self.printed = other.printed;
+    }
+
+    /// Becomes as another screen of its size is. No memory is taken.
+    pub fn copy_from(&mut self, other: &Screen)
+        requires { HasSizeOf other.now.display self.old.display }
+        ensures { self.new ≡ as_shown other.now }
+    {
+        self.display.copy_from(other.display());
         self.printed = other.printed;
     }
 

@@ -2,6 +2,7 @@
 ghost use Rattle.std.specs.Prelude.{◌≡◌, ◌-◌, ◌≤◌, ◌<◌, [], ◌∷◌, length, take, encode_utf8, IsTrue};
 ghost use Rattle.std.specs.List.{flat_map};
 ghost use Rattle.anstyle_parse.specs.Io.Output.{Adds};
+ghost use Rattle.ansi_screen.specs.Grid.{IsBlankFrom};
 ghost use Rattle.ansi_screen.specs.Text.{is_blank, is_unprinted, left_out, used, goes_on, is_unmarked, cell_text, row_text, used_rows, rows_text, text_of, marks_text};
 
 use crate::cell::{Cell, Marks, Part};
@@ -79,6 +80,16 @@ pub fn used(cells: &[Cell], ends: LeftOut) -> usize
         end -= 1;
     }
     end
+}
+
+/// The same of a row whose cells from `written` on are plain blanks: these are left out, and not looked at.
+pub fn used_of_written(cells: &[Cell], written: usize, ends: LeftOut) -> usize
+    requires within { written ≤ length cells.now }
+    requires rest { IsBlankFrom written cells.now }
+    ensures used { result ≡ used (left_out ends) cells.now }
+    ensures within { result ≤ length cells.now }
+{
+    used(&cells[..written], ends)
 }
 
 /// How many cells come up to four of which one is not left out: from the end of a row, four are looked at together.
@@ -278,7 +289,7 @@ impl Display {
     {
         let mut end = 0;
         for row in 0..self.rows() {
-            if used(self.row(row), ends) > 0 {
+            if used_of_written(self.row(row), self.written(row), ends) > 0 {
                 end = row + 1;
             }
         }

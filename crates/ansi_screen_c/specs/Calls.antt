@@ -54,12 +54,9 @@ LacksUpdate room needed shown wanted = LacksRoom (update_of (display_of shown) (
 abbrev pub IsRefusedUpdate : (room : List ℕ) (needed : ℕ) → Option Terminal → Option Terminal → Type 0
 IsRefusedUpdate room needed shown wanted = (needed ≡ 0) ⊎ Both (LacksUpdate room needed) shown wanted
 
--- Both show the same; the one is the other's copy.
+-- Both show the same.
 abbrev pub ShowSameOf : Terminal → Terminal → Type 0
 ShowSameOf one other = ShowSame (display_of one) (display_of other)
-
-abbrev pub IsCopy : Terminal → Terminal → Type 0
-IsCopy terminal copy = copy ≡ terminal
 
 -- Bytes of a screen stand at the front of the room; or not, as above.
 abbrev pub ReadsOf : (Terminal → List ℕ) → (room room_after : List ℕ) (written : ℕ) → Terminal → Type 0

@@ -10,7 +10,7 @@ mod page;
 mod same;
 mod text;
 
-ghost use Rattle.std.specs.Prelude.{◌≡◌, ◌≤◌, None, IfSome};
+ghost use Rattle.std.specs.Prelude.{◌≡◌, ◌≤◌, None, Some, IfSome};
 ghost use Rattle.std.specs.Bool.{OnTrue, OnFalse};
 ghost use Rattle.screen_pieces.specs.Styles.{style_of};
 ghost use Rattle.screen_pieces.specs.Terminal.{IsNew, Feeds, Begins, HasCell, HasRow, HasModes, display_of};
@@ -238,11 +238,33 @@ pub extern "C" fn ansi_screen_cell(
     match screen.take(alloc) {
         None => false,
         Some(held) => {
-            let written = held.put_cell(row, column, cell);
-            screen.put(held);
-            written
+            if held.put_plain_cell(row, column, cell) {
+                screen.put(held);
+                true
+            } else {
+                put_any_cell(screen, row, column, cell, held)
+            }
         }
     }
+}
+
+/// The same with any cell of a screen that is to be held, out of line: so the call that most cells take saves no registers.
+#[cold]
+#[inline(never)]
+fn put_any_cell(
+    screen: &mut Handle,
+    row: usize,
+    column: usize,
+    cell: &mut CellBytes,
+    held: Box<Terminal>,
+) -> bool
+    ensures cell { OnTrue result (HasCell row column cell.new held.value) }
+    ensures kept { screen.new.value ≡ Some held.value }
+    ensures refused { OnFalse result (cell.new ≡ cell.old) }
+{
+    let written = held.put_cell(row, column, cell);
+    screen.put(held);
+    written
 }
 
 /// Writes the cells of a row, counted from 0, to the front of the room. It answers false, and writes none, where

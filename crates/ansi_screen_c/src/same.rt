@@ -1,7 +1,8 @@
 //! Whether two screens show the same, and a copy of a screen, for C.
 ghost use Rattle.std.specs.Prelude.{◌≡◌, None, IfSome, Decides};
 ghost use Rattle.std.specs.Bool.{OnTrue, OnFalse};
-ghost use Rattle.ansi_screen_c.specs.Calls.{Both, ShowSameOf, IsCopy};
+ghost use Rattle.ansi_screen_c.specs.Calls.{Both, ShowSameOf};
+ghost use Rattle.screen_pieces.specs.Terminal.{IsCopy};
 
 use crate::handle::Handle;
 use screen_pieces::Terminal;
@@ -34,7 +35,7 @@ pub extern "C" fn ansi_screen_equal(alloc: Global, one: &mut Handle, other: &mut
 
 /// A copy on the heap.
 fn copied(alloc: Global, terminal: &Terminal) -> Option<Box<Terminal>>
-    ensures { IfSome result (λ held. held.value ≡ terminal.now) }
+    ensures { IfSome result (λ held. IsCopy terminal.now held.value) }
 {
     let Ok(copy) = terminal.copy(alloc) else {
         return None;

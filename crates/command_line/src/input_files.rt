@@ -159,8 +159,8 @@ impl Stream for Input<'_> {
     }
 }
 
-/// Says on standard error why a file failed.
-pub(crate) fn file_failed(rt: &HostRuntime, program: &str, name: &str, error: io::Error) {
+/// Says on standard error why a file failed, or a folder.
+pub fn file_failed(rt: &HostRuntime, program: &str, name: &str, error: io::Error) {
     let text = format!(in rt.alloc(); "{error}");
     let reason = match &text {
         Ok(text) => without_number(text.as_str()),

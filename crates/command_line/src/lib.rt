@@ -13,7 +13,7 @@ mod options;
 mod output_file;
 
 use anstyle_parse::io::{Buffer, Fault, FromWrite};
-pub use input_files::{Input, have_failed, inputs};
+pub use input_files::{Input, file_failed, have_failed, inputs};
 pub use line::{Line, Place, given_line, line_of};
 pub use options::{OUTPUT, Request, VERSION, answered, asked_of, given_words, has_word, value_of};
 pub use output_file::{Destination, Target};

@@ -1,7 +1,7 @@
 -- Sources that were read, one after another.
 use Rattle.std.proofs.Common.{◌≡◌, ℕ, Bool, true, false, ◌&&◌, not, List, [], ◌∷◌, ◌++◌, Option, None, Some, Result, Ok, Err, is_err, ◌⊎◌, inl, inr, length, set, get_or, ◌<◌, refl, sym, ◌∙◌, subst, arith}
 use Rattle.std.specs.List.{flat_map}
-use Rattle.std.specs.Io.KnownBytes.{Appends}
+use Rattle.std.specs.Io.KnownBytes.{Appends, Consumes}
 use Rattle.std.proofs.KnownBytes.{Appends-kept}
 use Rattle.anstyle_parse.specs.declared.io.Fault.{Fault}
 use Rattle.anstyle_parse.specs.declared.io.Fault.TheVariants.{Read, Write, Flush}
@@ -10,49 +10,83 @@ use Rattle.anstyle_parse.specs.declared.io.output.Output.{Output}
 use Rattle.anstyle_parse.specs.Io.AddingProof.{AddsAt, FinishesAt}
 use Rattle.anstyle_parse.specs.Io.Output.{writer_in, fault_in, Adds, Finishes, Writes, Causes}
 use Rattle.anstyle_parse.specs.declared.io.devices.Source.{Ghosts as SourceOf}
-use Rattle.anstyle_parse.specs.Stream.Call.{Call}
 use Rattle.each_source.specs.declared.Stopped.{Stopped}
 use Rattle.each_source.specs.declared.Stopped.TheVariants.{NoMemory, Stuck, AtFault}
-use Rattle.each_source.specs.Each.{IsRead, AreRead, AreWhole, AddsEach, Reaches, WritesEach, stopped_by}
+use Rattle.each_source.specs.Each.{Given, IsRead, IsBegun, AreRead, AreWhole, LacksMemory, AddsEach, Reaches, WritesEach, stopped_by}
 
 module _ {R : Type 0} (source : SourceOf R) where
   -- what is known of sources that were read whole is known where less is
-  pub IsRead-when : {A B : Type 0} (reader after : R) (calls : List Call) → (B → A) → IsRead source A reader after calls → IsRead source B reader after calls
-  IsRead-when reader after calls narrows is = record {
-    read = is.read;
+  pub IsRead-when : {A B : Type 0} (reader after : R) (given : Given) → (B → A) → IsRead source A reader after given → IsRead source B reader after given
+  IsRead-when reader after given narrows is = record {
     at_end = is.at_end;
     consumed = is.consumed;
     are_calls = is.are_calls;
     ended = λ b. is.ended (narrows b);
   }
 
-  pub AreRead-when : {A B : Type 0} (readers readers_after : List R) (calls : List (List Call)) → (B → A)
-      → AreRead source A readers readers_after calls → AreRead source B readers readers_after calls
-  AreRead-when readers readers_after [] narrows are = are
-  AreRead-when [] readers_after (calls ∷ others) narrows are = absurd are
-  AreRead-when (reader ∷ readers) [] (calls ∷ others) narrows are = absurd are
-  AreRead-when (reader ∷ readers) (after ∷ readers_after) (calls ∷ others) narrows are =
-      (IsRead-when reader after calls narrows are.0, AreRead-when readers readers_after others narrows are.1)
+  -- and where none was begun
+  pub AreRead-when : {A B : Type 0} (C : Type 0) (readers readers_after : List R) (given : List Given) → (B → A)
+      → AreRead source A ⊥ readers readers_after given → AreRead source B C readers readers_after given
+  AreRead-when C readers readers_after [] narrows (inl same) = inl same
+  AreRead-when C readers readers_after [] narrows (inr begun) = absurd begun.0
+  AreRead-when C [] readers_after (one ∷ others) narrows are = absurd are
+  AreRead-when C (reader ∷ readers) [] (one ∷ others) narrows are = absurd are
+  AreRead-when C (reader ∷ readers) (after ∷ readers_after) (one ∷ others) narrows are =
+      (IsRead-when reader after one narrows are.0, AreRead-when C readers readers_after others narrows are.1)
+
+  pub AreRead-narrow : {A B : Type 0} (C : Type 0) (readers readers_after : List R) (given : List Given) → (B → A)
+      → AreRead source A C readers readers_after given → AreRead source B C readers readers_after given
+  AreRead-narrow C readers readers_after [] narrows are = are
+  AreRead-narrow C [] readers_after (one ∷ others) narrows are = absurd are
+  AreRead-narrow C (reader ∷ readers) [] (one ∷ others) narrows are = absurd are
+  AreRead-narrow C (reader ∷ readers) (after ∷ readers_after) (one ∷ others) narrows are =
+      (IsRead-when reader after one narrows are.0, AreRead-narrow C readers readers_after others narrows are.1)
 
   -- the next source is read too
-  AreRead-push : {A : Type 0} (readers readers_after : List R) (calls : List (List Call)) (more : List Call) (d after : R)
-      → length calls < length readers_after → AreRead source A readers readers_after calls → IsRead source A (get_or readers_after (length calls) d) after more
-      → AreRead source A readers (set readers_after (length calls) after) (calls ++ more ∷ [])
-  AreRead-push {A = A} readers (reader ∷ readers_after) [] more d after below same is =
-      subst (λ rs. AreRead source A rs (after ∷ readers_after) (more ∷ [])) same (is, refl)
-  AreRead-push {A = A} readers [] calls more d after below are is = absurd (omega arith)
-  AreRead-push [] (reader_after ∷ readers_after) (calls ∷ others) more d after below are is = absurd are
-  AreRead-push (reader ∷ readers) (reader_after ∷ readers_after) (calls ∷ others) more d after below are is =
+  AreRead-push : {A : Type 0} (readers readers_after : List R) (given : List Given) (more : Given) (d after : R)
+      → length given < length readers_after → AreRead source A ⊥ readers readers_after given → IsRead source A (get_or readers_after (length given) d) after more
+      → AreRead source A ⊥ readers (set readers_after (length given) after) (given ++ more ∷ [])
+  AreRead-push {A = A} readers (reader ∷ readers_after) [] more d after below (inl same) is =
+      subst (λ rs. AreRead source A ⊥ rs (after ∷ readers_after) (more ∷ [])) same (is, inl refl)
+  AreRead-push {A = A} readers (reader ∷ readers_after) [] more d after below (inr begun) is = absurd begun.0
+  AreRead-push {A = A} readers [] given more d after below are is = absurd (omega arith)
+  AreRead-push [] (reader_after ∷ readers_after) (one ∷ others) more d after below are is = absurd are
+  AreRead-push (reader ∷ readers) (reader_after ∷ readers_after) (one ∷ others) more d after below are is =
       (are.0, AreRead-push readers readers_after others more d after (omega arith) are.1 is)
 
-  pub AreRead-push_at : {A : Type 0} (readers readers_after : List R) (calls : List (List Call)) (more : List Call) (d reader after : R) (i : ℕ)
-      → length calls ≡ i → i < length readers_after → reader ≡ get_or readers_after i d → AreRead source A readers readers_after calls → IsRead source A reader after more
-      → AreRead source A readers (set readers_after i after) (calls ++ more ∷ [])
-  AreRead-push_at {A = A} readers readers_after calls more d reader after i e below its are is =
-      let there : length calls < length readers_after = omega (arith, e, below) in
+  pub AreRead-push_at : {A : Type 0} (readers readers_after : List R) (given : List Given) (more : Given) (d reader after : R) (i : ℕ)
+      → length given ≡ i → i < length readers_after → reader ≡ get_or readers_after i d → AreRead source A ⊥ readers readers_after given → IsRead source A reader after more
+      → AreRead source A ⊥ readers (set readers_after i after) (given ++ more ∷ [])
+  AreRead-push_at {A = A} readers readers_after given more d reader after i e below its are is =
+      let there : length given < length readers_after = omega (arith, e, below) in
       let read = subst (λ k. IsRead source A (get_or readers_after k d) after more) (sym e) (subst (λ r. IsRead source A r after more) its is) in
-      subst (λ k. AreRead source A readers (set readers_after k after) (calls ++ more ∷ [])) e
-      (AreRead-push readers readers_after calls more d after there are read)
+      subst (λ k. AreRead source A ⊥ readers (set readers_after k after) (given ++ more ∷ [])) e
+      (AreRead-push readers readers_after given more d after there are read)
+
+  -- the next source is begun
+  abbrev IsFrontOf : R → R → Type 0
+  IsFrontOf reader after = (front : List ℕ) × Consumes (source.remaining reader) (source.remaining after) front
+
+  AreRead-begin : (A : Type 0) {B : Type 0} (readers readers_after : List R) (given : List Given) (d after : R) → B
+      → length given < length readers_after → AreRead source A ⊥ readers readers_after given → IsFrontOf (get_or readers_after (length given) d) after
+      → AreRead source A B readers (set readers_after (length given) after) given
+  AreRead-begin A {B = B} readers (reader ∷ readers_after) [] d after why below (inl same) is =
+      inr (why, subst (λ rs. IsBegun source rs (after ∷ readers_after)) same (is, refl))
+  AreRead-begin A readers (reader ∷ readers_after) [] d after why below (inr begun) is = absurd begun.0
+  AreRead-begin A readers [] given d after why below are is = absurd (omega arith)
+  AreRead-begin A [] (reader_after ∷ readers_after) (one ∷ others) d after why below are is = absurd are
+  AreRead-begin A (reader ∷ readers) (reader_after ∷ readers_after) (one ∷ others) d after why below are is =
+      (are.0, AreRead-begin A readers readers_after others d after why (omega arith) are.1 is)
+
+  pub AreRead-begin_at : (A : Type 0) {B : Type 0} (readers readers_after : List R) (given : List Given) (d reader after : R) (i : ℕ) → B
+      → length given ≡ i → i < length readers_after → reader ≡ get_or readers_after i d → AreRead source A ⊥ readers readers_after given
+      → (front : List ℕ) × Consumes (source.remaining reader) (source.remaining after) front
+      → AreRead source A B readers (set readers_after i after) given
+  AreRead-begin_at A {B = B} readers readers_after given d reader after i why e below its are is =
+      let there : length given < length readers_after = omega (arith, e, below) in
+      let read = subst (λ k. IsFrontOf (get_or readers_after k d) after) (sym e) (subst (λ r. IsFrontOf r after) its is) in
+      subst (λ k. AreRead source A B readers (set readers_after k after) given) e
+      (AreRead-begin A readers readers_after given d after why there are read)
 
 module _ {W T : Type 0} (sink : SinkOf W) where
   -- a text that is written whole stays, however the output ends
@@ -75,54 +109,54 @@ module _ {W T : Type 0} (sink : SinkOf W) where
       by_added (inr part) = let end = subst (λ f. FinishesAt f sink (writer_in final) new answer) part.fault finishes in inl end.1
 
   -- a run from what was read, what was written and why
-  pub WritesEach-from : {R : Type 0} (source : SourceOf R) (text : List Call → List ℕ) (head tail : List ℕ) (readers readers_after : List R) (writer new : W)
-      (middle final : Output W) (answer : Result T Fault) (calls : List (List Call)) → (fault_in final ≡ None → fault_in middle ≡ None)
-      → AreRead source (fault_in middle ≡ None) readers readers_after calls → (fault_in middle ≡ None → length calls ≡ length readers)
-      → (answer ≡ Err Write) ⊎ (fault_in final ≡ None) → Writes (head ++ (flat_map text calls ++ tail)) (sink.contents writer) (sink.contents new) answer
+  pub WritesEach-from : {R : Type 0} (source : SourceOf R) (text : Given → List ℕ) (head tail : List ℕ) (readers readers_after : List R) (writer new : W)
+      (middle final : Output W) (answer : Result T Fault) (given : List Given) → (fault_in final ≡ None → fault_in middle ≡ None)
+      → AreRead source (fault_in middle ≡ None) ⊥ readers readers_after given → (fault_in middle ≡ None → length given ≡ length readers)
+      → (answer ≡ Err Write) ⊎ (fault_in final ≡ None) → Writes (head ++ (flat_map text given ++ tail)) (sink.contents writer) (sink.contents new) answer
       → Causes (sink.has_failed writer) (sink.has_failed new) answer
       → WritesEach source sink text head tail readers readers_after writer new (stopped_by answer)
-  WritesEach-from source text head tail readers readers_after writer new middle final (Ok done) calls before are all (inl e) written causes =
+  WritesEach-from source text head tail readers readers_after writer new middle final (Ok done) given before are all (inl e) written causes =
       absurd (let clash : Ok done ≡ Err Write = e in cc)
-  WritesEach-from source text head tail readers readers_after writer new middle final (Ok done) calls before are all (inr clear) written causes = record {
-    calls = calls;
-    are_read = AreRead-when source readers readers_after calls (λ _. before clear) are;
+  WritesEach-from source text head tail readers readers_after writer new middle final (Ok done) given before are all (inr clear) written causes = record {
+    given = given;
+    are_read = AreRead-when source _ readers readers_after given (λ _. before clear) are;
     written = (written, all (before clear));
     causes = causes;
   }
-  WritesEach-from source text head tail readers readers_after writer new middle final (Err Flush) calls before are all (inl e) written causes =
+  WritesEach-from source text head tail readers readers_after writer new middle final (Err Flush) given before are all (inl e) written causes =
       absurd (let clash : Err Flush ≡ Err Write = e in cc)
-  WritesEach-from source text head tail readers readers_after writer new middle final (Err Flush) calls before are all (inr clear) written causes = record {
-    calls = calls;
-    are_read = AreRead-when source readers readers_after calls (λ _. before clear) are;
+  WritesEach-from source text head tail readers readers_after writer new middle final (Err Flush) given before are all (inr clear) written causes = record {
+    given = given;
+    are_read = AreRead-when source _ readers readers_after given (λ _. before clear) are;
     written = (written, all (before clear));
     causes = causes;
   }
-  WritesEach-from source text head tail readers readers_after writer new middle final (Err Write) calls before are all which written causes = record {
-    calls = calls;
-    are_read = AreRead-when source readers readers_after calls (λ never. absurd never) are;
+  WritesEach-from source text head tail readers readers_after writer new middle final (Err Write) given before are all which written causes = record {
+    given = given;
+    are_read = AreRead-when source _ readers readers_after given (λ never. absurd never) are;
     written = written;
     causes = causes;
   }
-  WritesEach-from source text head tail readers readers_after writer new middle final (Err Read) calls before are all which written causes = absurd written
+  WritesEach-from source text head tail readers readers_after writer new middle final (Err Read) given before are all which written causes = absurd written
 
 module _ {W : Type 0} (sink : SinkOf W) where
   -- the same where it came to an end before all sources: without memory, or stuck
-  pub WritesEach-stopped : {R S : Type 0} (source : SourceOf R) (text : List Call → List ℕ) (head tail : List ℕ) (readers readers_after : List R) (writer new : W)
+  pub WritesEach-stopped : {R S : Type 0} (source : SourceOf R) (text : Given → List ℕ) (head tail : List ℕ) (readers readers_after : List R) (writer new : W)
       (first final : Output W) (answer : Result S Stopped) → is_err answer ≡ true
       → (added : AddsEach source sink text readers readers_after first final answer)
-      → (fault_in final ≡ None → Appends (sink.contents writer) (sink.contents new) (head ++ flat_map text added.calls))
+      → (fault_in final ≡ None → Appends (sink.contents writer) (sink.contents new) (head ++ flat_map text added.given))
       → WritesEach source sink text head tail readers readers_after writer new answer
   WritesEach-stopped source text head tail readers readers_after writer new first final (Ok done) is added written =
       absurd (let clash : false ≡ true = is in cc)
   WritesEach-stopped source text head tail readers readers_after writer new first final (Err NoMemory) is added written = record {
-    calls = added.calls;
-    are_read = AreRead-when source readers readers_after added.calls (λ _. (tt, added.reaches.0)) added.are_read;
+    given = added.given;
+    are_read = AreRead-narrow source _ readers readers_after added.given (λ _. (tt, added.reaches.0)) added.are_read;
     written = (written added.reaches.0, added.reaches.1);
     causes = tt;
   }
   WritesEach-stopped source text head tail readers readers_after writer new first final (Err Stuck) is added written = record {
-    calls = added.calls;
-    are_read = AreRead-when source readers readers_after added.calls (λ never. absurd never) added.are_read;
+    given = added.given;
+    are_read = AreRead-narrow source _ readers readers_after added.given (λ never. absurd never) added.are_read;
     written = (written added.reaches.0, added.reaches.1);
     causes = tt;
   }
@@ -151,3 +185,9 @@ reached_all (Err stopped) fault read given is reaches = absurd (let clash : true
 pub whole_unless_stopped : {T : Type 0} (answer : Result T Stopped) → is_err answer ≡ false → AreWhole answer
 whole_unless_stopped (Ok done) is = tt
 whole_unless_stopped (Err stopped) is = absurd (let clash : true ≡ false = is in cc)
+
+-- where no memory was wanting none is begun
+pub AreRead-known : {R T A B : Type 0} (source : SourceOf R) (answer : Result T Stopped) (readers readers_after : List R) (given : List Given) → is_err answer ≡ false
+    → (B → A) → AreRead source A (LacksMemory answer) readers readers_after given → AreRead source B ⊥ readers readers_after given
+AreRead-known source (Ok done) readers readers_after given is narrows are = AreRead-narrow source _ readers readers_after given narrows are
+AreRead-known source (Err stopped) readers readers_after given is narrows are = absurd (let clash : true ≡ false = is in cc)

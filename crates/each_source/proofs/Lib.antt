@@ -1,1 +1,2 @@
 pub mod EachLemmas
+mod ReadLemmas

@@ -26,41 +26,45 @@ abbrev pub text_read : (at_end : Bool) → List ℕ → List ℕ
 text_read true bytes = as_read_whole bytes
 text_read false bytes = as_read bytes
 
--- What a source gave, and the calls of what is read of it; where it was read whole, why no more was read.
-pub record IsRead {R : Type 0} (source : SourceOf R) (whole : Type 0) (reader reader_after : R) (calls : List Call) : Type 0 where
+-- what a source gave, and the calls of what is read of that
+pub record Given : Type 0 where
   pub read : List ℕ
-  pub at_end : Bool
-  pub consumed : Consumes (source.remaining reader) (source.remaining reader_after) read
-  pub are_calls : AreCalls (text_read at_end read) calls
-  pub ended : whole → IsTrue at_end × HasEnded source reader_after (length read)
-
--- The first sources were read, each with its calls, and the others were not touched.
-abbrev pub AreRead : {R : Type 0} → SourceOf R → (whole : Type 0) → (readers readers_after : List R) → List (List Call) → Type 0
-AreRead source whole readers readers_after [] = readers_after ≡ readers
-AreRead source whole (reader ∷ readers) (after ∷ readers_after) (calls ∷ others) =
-    IsRead source whole reader after calls × AreRead source whole readers readers_after others
-AreRead source whole _ _ (calls ∷ others) = ⊥
-
--- A new parser was given what the source gave, and its performer received the calls of what is read of that. Unless the
--- writer is stuck or a fault is kept, the source has ended.
-pub record Reads {R W P : Type 0} (source : SourceOf R) (receives : P → List Call → P → Type 0)
-    (output_of : P → Output W) (reader reader_after : R) (performer performer_after : P) (is_stuck : Bool) : Type 0 where
-  pub read : List ℕ
-  pub at_end : Bool
   pub calls : List Call
-  pub consumed : Consumes (source.remaining reader) (source.remaining reader_after) read
-  pub are_calls : AreCalls (text_read at_end read) calls
-  pub received : receives performer calls performer_after
-  pub ended : is_stuck ≡ false → fault_in (output_of performer_after) ≡ None
-      → IsTrue at_end × HasEnded source reader_after (length read)
+
+-- A source gave these bytes first, and if they did not say which performer its stream has, no more.
+abbrev pub BeginsWith : (enough : List ℕ → Bool) → (front : List ℕ) → Given → Type 0
+BeginsWith enough front given =
+    (rest : List ℕ) × (given.read ≡ front ++ rest) × ((enough front ≡ true) ⊎ (rest ≡ []))
+
+-- What a source gave, and the calls of what is read of it; where it was read whole, why no more was read.
+pub record IsRead {R : Type 0} (source : SourceOf R) (whole : Type 0) (reader reader_after : R) (given : Given) : Type 0 where
+  pub at_end : Bool
+  pub consumed : Consumes (source.remaining reader) (source.remaining reader_after) given.read
+  pub are_calls : AreCalls (text_read at_end given.read) given.calls
+  pub ended : whole → IsTrue at_end × HasEnded source reader_after (length given.read)
+
+-- Of the first source the front was read, and the others were not touched.
+abbrev pub IsBegun : {R : Type 0} → SourceOf R → (readers readers_after : List R) → Type 0
+IsBegun source (reader ∷ readers) (after ∷ readers_after) =
+    ((front : List ℕ) × Consumes (source.remaining reader) (source.remaining after) front) × (readers_after ≡ readers)
+IsBegun source _ _ = ⊥
+
+-- The first sources were read, each with its calls; where the next one was begun its front was read, and the others were
+-- not touched.
+abbrev pub AreRead : {R : Type 0} → SourceOf R → (whole begun : Type 0) → (readers readers_after : List R) → List Given → Type 0
+AreRead source whole begun readers readers_after [] =
+    (readers_after ≡ readers) ⊎ (begun × IsBegun source readers readers_after)
+AreRead source whole begun (reader ∷ readers) (after ∷ readers_after) (given ∷ others) =
+    IsRead source whole reader after given × AreRead source whole begun readers readers_after others
+AreRead source whole begun _ _ (given ∷ others) = ⊥
 
 -- One source was read, and the text of its calls went to the output. It was read whole, unless the output failed or
 -- its writer is stuck.
-pub record WritesOne {R W : Type 0} (source : SourceOf R) (sink : SinkOf W) (text : List Call → List ℕ)
+pub record WritesOne {R W : Type 0} (source : SourceOf R) (sink : SinkOf W) (text : Given → List ℕ)
     (reader reader_after : R) (output output_after : Output W) (is_stuck : Bool) : Type 0 where
-  pub calls : List Call
-  pub is_read : IsRead source ((is_stuck ≡ false) × (fault_in output_after ≡ None)) reader reader_after calls
-  pub added : Adds sink (text calls) output output_after
+  pub given : Given
+  pub is_read : IsRead source ((is_stuck ≡ false) × (fault_in output_after ≡ None)) reader reader_after given
+  pub added : Adds sink (text given) output output_after
   pub clear : is_stuck ≡ true → fault_in output_after ≡ None
 
 -- How many sources of those that are given were read: all, unless the output failed; where there was no memory for the
@@ -77,13 +81,19 @@ AreWhole (Err (AtFault Write)) = ⊥
 AreWhole (Err Stuck) = ⊥
 AreWhole _ = ⊤
 
+-- The next source was begun, and there was no memory for its performer.
+abbrev pub LacksMemory : {T : Type 0} → Result T Stopped → Type 0
+LacksMemory (Err NoMemory) = ⊤
+LacksMemory _ = ⊥
+
 -- Sources were read one after another, and their texts, joined, went to the output.
-pub record AddsEach {R W T : Type 0} (source : SourceOf R) (sink : SinkOf W) (text : List Call → List ℕ)
+pub record AddsEach {R W T : Type 0} (source : SourceOf R) (sink : SinkOf W) (text : Given → List ℕ)
     (readers readers_after : List R) (output output_after : Output W) (answer : Result T Stopped) : Type 0 where
-  pub calls : List (List Call)
-  pub are_read : AreRead source (AreWhole answer × (fault_in output_after ≡ None)) readers readers_after calls
-  pub added : Adds sink (flat_map text calls) output output_after
-  pub reaches : Reaches answer (fault_in output_after) (length calls) (length readers)
+  pub given : List Given
+  pub are_read : AreRead source (AreWhole answer × (fault_in output_after ≡ None)) (LacksMemory answer)
+      readers readers_after given
+  pub added : Adds sink (flat_map text given) output output_after
+  pub reaches : Reaches answer (fault_in output_after) (length given) (length readers)
 
 -- what stopped it, where the output failed
 abbrev pub stopped_by : {T : Type 0} → Result T Fault → Result T Stopped
@@ -109,11 +119,11 @@ StopsBy failed failed_after (Err (AtFault fault)) = IsTrue failed_after
 StopsBy failed failed_after (Err NoMemory) = ⊤
 StopsBy failed failed_after (Err Stuck) = ⊤
 
--- A run over sources: the calls of what is read of each, what was written, and why no more was.
-pub record WritesEach {R W T : Type 0} (source : SourceOf R) (sink : SinkOf W) (text : List Call → List ℕ)
+-- A run over sources: what each gave and the calls of what is read of it, what was written, and why no more was.
+pub record WritesEach {R W T : Type 0} (source : SourceOf R) (sink : SinkOf W) (text : Given → List ℕ)
     (head tail : List ℕ) (readers readers_after : List R) (writer writer_after : W) (answer : Result T Stopped) : Type 0 where
-  pub calls : List (List Call)
-  pub are_read : AreRead source (AreWhole answer) readers readers_after calls
-  pub written : WritesJoin answer (sink.contents writer) (sink.contents writer_after) head (flat_map text calls) tail
-      (length calls) (length readers)
+  pub given : List Given
+  pub are_read : AreRead source (AreWhole answer) (LacksMemory answer) readers readers_after given
+  pub written : WritesJoin answer (sink.contents writer) (sink.contents writer_after) head (flat_map text given) tail
+      (length given) (length readers)
   pub causes : StopsBy (sink.has_failed writer) (sink.has_failed writer_after) answer

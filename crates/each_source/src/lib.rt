@@ -4,13 +4,14 @@
 
 mod reading;
 
-ghost use Rattle.std.specs.Prelude.{◌≡◌, ◌++◌, ℕ, List, None, OnOk, IfOk, IfErr};
-ghost use Rattle.anstyle_parse.specs.Stream.Call.{Call};
+ghost use Rattle.std.specs.Prelude.{◌≡◌, ◌≤◌, ◌++◌, ℕ, Bool, List, None, OnOk, IfOk, IfErr, IsTrue, length};
+ghost use Rattle.std.specs.Io.KnownBytes.{Consumes};
 ghost use Rattle.anstyle_parse.specs.Io.Output.{fault_in, Adds};
-ghost use Rattle.each_source.specs.Each.{WritesOne, AddsEach, WritesEach, stopped_by};
+ghost use Rattle.each_source.specs.Each.{Given, BeginsWith, WritesOne, AddsEach, WritesEach, stopped_by};
 
 use anstyle_parse::io::{Fault, FromRead, Output, Sink, Source, WritingPerformer};
-use reading::{Ended, read_to};
+pub use reading::MOST_FRONT;
+use reading::{Ended, PIECE, read_front, read_to};
 use std::io::Read;
 
 /// Why not all was written.
@@ -36,27 +37,35 @@ impl<R: Read> Stream for FromRead<R> {
     fn ended_in_string(&self, _begin: u64) {}
 }
 
-/// Makes the performer of each stream.
+/// Makes the performer of each stream, and may look at its first bytes before.
 pub trait Begin<P: WritingPerformer<W>, W: Sink> {
-    // What a performer of its writes by a list of calls,
-    ghost text: { Self → List Call → List ℕ };
-    // and what is still to be written after these.
-    ghost ending: { Self → List Call → List ℕ };
+    // What a performer of its writes by what a source gave,
+    ghost text: { Self → Given → List ℕ };
+    // and what is still to be written after that.
+    ghost ending: { Self → Given → List ℕ };
+    // Whether these bytes at the front of a stream say which performer it has.
+    ghost enough: { Self → List ℕ → Bool };
 
-    /// A performer that has received no call, over this output. Nothing is written. Where there is no memory
-    /// for one, the output comes back as it was.
-    fn begin(&self, output: Output<W>) -> Result<P, Output<W>>
+    /// Whether these bytes at the front of a stream say which performer it has, whatever comes after them. If not, more
+    /// are read before it begins; [`MOST_FRONT`] are enough for each.
+    fn is_enough(&self, front: &[u8]) -> bool
+        ensures enough { result ≡ enough self.now front.now }
+        ensures limit { MOST_FRONT ≤ length front.now → IsTrue result };
+
+    /// A performer that has received no call, over this output, for a stream that begins with these bytes. Nothing is
+    /// written. Where there is no memory for one, the output comes back as it was.
+    fn begin(&self, front: &[u8], output: Output<W>) -> Result<P, Output<W>>
         ensures output { IfOk result (λ performer. P.output_in performer ≡ output) }
-        ensures text { IfOk result (λ performer. (calls : List Call)
-            → P.text_from performer calls ≡ text self.now calls) }
-        ensures ending { IfOk result (λ performer. (calls : List Call)
-            → P.ending_from performer calls ≡ ending self.now calls) }
+        ensures text { IfOk result (λ performer. (given : Given) → BeginsWith (enough self.now) front.now given
+            → P.text_from performer given.calls ≡ text self.now given) }
+        ensures ending { IfOk result (λ performer. (given : Given) → BeginsWith (enough self.now) front.now given
+            → P.ending_from performer given.calls ≡ ending self.now given) }
         ensures kept { IfErr result (λ kept. kept ≡ output) };
 }
 
 /// Writes the text of all that the reader gives, and its ending, to an output with no fault: until the reader
 /// ends or fails, or the output does, or its writer is stuck, which the answer says. `Err` where there is no memory for
-/// the performer: then nothing is read.
+/// the performer: then no more is read than what `begin` looked at.
 fn write_one<P: WritingPerformer<W>, B: Begin<P, W>, R: Stream, W: Sink>(
     begin: &B,
     reader: &mut R,
@@ -64,11 +73,15 @@ fn write_one<P: WritingPerformer<W>, B: Begin<P, W>, R: Stream, W: Sink>(
 ) -> Result<(Output<W>, bool), Output<W>>
     requires { fault_in output ≡ None }
     ensures written { IfOk result (λ one. WritesOne R.Source W.Sink
-        (λ calls. B.text begin.now calls ++ B.ending begin.now calls) reader.old reader.new output one.0 one.1) }
-    ensures kept { IfErr result (λ after. (after ≡ output) × (reader.new ≡ reader.old)) }
+        (λ given. B.text begin.now given ++ B.ending begin.now given) reader.old reader.new output one.0 one.1) }
+    ensures kept { IfErr result (λ after. after ≡ output) }
+    ensures begun { IfErr result (λ _. (front : List ℕ)
+        × Consumes (R.remaining reader.old) (R.remaining reader.new) front) }
 {
-    let mut performer = begin.begin(output)?;
-    let ended = read_to::<P, R, W>(reader, &mut performer);
+    let mut piece = [0; PIECE];
+    let (count, reached) = read_front::<P, B, R, W>(begin, reader, &mut piece);
+    let mut performer = begin.begin(&piece[..count], output)?;
+    let ended = read_to::<P, R, W>(reader, &mut performer, &piece[..count], reached);
     let is_stuck = ended.is_stuck();
     if let Ended::InString(begin) = ended {
         reader.ended_in_string(begin);
@@ -86,7 +99,7 @@ fn add_each<P: WritingPerformer<W>, B: Begin<P, W>, R: Stream, W: Sink>(
     output: Output<W>,
 ) -> (Output<W>, Result<(), Stopped>)
     ensures { AddsEach R.Source W.Sink
-        (λ calls. B.text begin.now calls ++ B.ending begin.now calls)
+        (λ given. B.text begin.now given ++ B.ending begin.now given)
         readers.old readers.new output result.0 result.1 }
 {
     let mut output = output;
@@ -130,7 +143,9 @@ fn stopped_by(answer: Result<(), Fault>) -> Result<(), Stopped>
 /// - `Err(Stuck)` where what the writer holds back could not be passed on (`Sink::is_stuck`): the texts of what
 ///   was read by then were given to the writer, no more is read, and then it is flushed once, whatever that answers;
 /// - `Err(NoMemory)` where `begin` had no memory for the next stream's performer: the texts before it are written,
-///   and then the writer is flushed once, whatever that answers.
+///   and then the writer is flushed once, whatever that answers. Of the next stream no more is read than `begin` looks at.
+// (out of line: a program has one for each kind of performer, and in one frame they would touch the memory of all)
+#[inline(never)]
 pub fn write_each<P: WritingPerformer<W>, B: Begin<P, W>, R: Stream, W: Sink>(
     begin: &B,
     head: &[u8],
@@ -140,7 +155,7 @@ pub fn write_each<P: WritingPerformer<W>, B: Begin<P, W>, R: Stream, W: Sink>(
 ) -> (W, Result<(), Stopped>)
     // What is written is the join of what is written of each.
     ensures joined { WritesEach R.Source W.Sink
-        (λ calls. B.text begin.now calls ++ B.ending begin.now calls) head.now tail.now
+        (λ given. B.text begin.now given ++ B.ending begin.now given) head.now tail.now
         readers.old readers.new writer result.0 result.1 }
 
     // With Ok nothing of it is held back.

@@ -1,14 +1,18 @@
 //! What one source gives, to a performer, as long as what that writes gets on.
-ghost use Rattle.std.specs.Prelude.{◌≡◌, false, None, IfSome, IfNone};
+ghost use Rattle.std.specs.Prelude.{◌≡◌, ◌≤◌, false, None, IfSome, IfNone, length, take};
+ghost use Rattle.std.specs.Io.KnownBytes.{Consumes};
 ghost use Rattle.anstyle_parse.specs.Io.Output.{fault_in};
-ghost use Rattle.each_source.specs.Each.{Reads};
-ghost use Rattle.each_source.specs.Ended.{is_stuck, HasNoEscape, IsLastEscape};
+ghost use Rattle.each_source.specs.Ended.{is_stuck, HasNoEscape, IsLastEscape, GivesOn, IsUpTo, Reads};
 
+use crate::Begin;
 use anstyle_parse::io::{Sink, Source, WritingPerformer};
 use anstyle_parse::{Parser, Utf8Parser};
 
 /// The bytes that one read is asked for.
-const PIECE: usize = 4096;
+pub(crate) const PIECE: usize = 4096;
+
+/// So many bytes at the front of a stream always say which performer it has.
+pub const MOST_FRONT: usize = PIECE;
 
 const ESCAPE: u8 = 0x1B;
 
@@ -29,6 +33,17 @@ impl Ended {
     {
         matches!(self, Ended::Stuck)
     }
+}
+
+/// How far a source is read.
+#[derive(Clone, Copy)]
+pub(crate) enum Reached {
+    /// More may come.
+    Middle,
+    /// It is at its end,
+    End,
+    /// or a read has failed.
+    Failure,
 }
 
 /// Where the last sequence of a stream begins, as its pieces come.
@@ -66,19 +81,84 @@ fn last_escape(bytes: &[u8]) -> Option<usize>
     None
 }
 
-/// Gives what the reader gives to a new parser, as a reader of logs reads it ([`Parser::advance_log`]), in pieces of at
-/// most 4096 bytes, until the reader ends or fails, the performer's output keeps a fault, or what its writer holds back
-/// can't be passed on. At most 2^64 - 1 reads are made. What was written of a piece is passed on before the next read.
+/// Reads the front of a stream, as far as it has to be seen before its performer begins: to the front of this piece. The
+/// answer is how many bytes there are, and how far the source is read.
+pub(crate) fn read_front<P: WritingPerformer<W>, B: Begin<P, W>, R: Source, W: Sink>(
+    begin: &B,
+    reader: &mut R,
+    piece: &mut [u8; PIECE],
+) -> (usize, Reached)
+    ensures within { result.0 ≤ PIECE }
+    ensures consumed { Consumes (R.remaining reader.old) (R.remaining reader.new) (take result.0 piece.new) }
+    ensures reached { IsUpTo R.Source (B.enough begin.now) reader.new (take result.0 piece.new) result.1 }
+{
+    let mut count = 0;
+    'count: while !begin.is_enough(&piece[..count]) {
+        match reader.read(&mut piece[count..]) {
+            None => return (count, Reached::Failure),
+            Some(0) => return (count, Reached::End),
+            Some(more) => count += more,
+        }
+    }
+    (count, Reached::Middle)
+}
+
+/// Gives a piece to the parser, and passes on what was written of it; of none nothing is done. The answer is why no more is to be read, if so: the
+/// performer's output keeps a fault, or what its writer holds back can't be passed on.
+fn give<P: WritingPerformer<W>, W: Sink>(
+    parser: &mut Parser<Utf8Parser>,
+    performer: &mut P,
+    piece: &[u8],
+) -> Option<Ended>
+    requires { fault_in (P.output_in performer.old) ≡ None }
+    ensures { GivesOn P.receives P.output_in parser.old performer.old piece.now parser.new performer.new result }
+{
+    if piece.is_empty() {
+        return None;
+    }
+    parser.advance_log(performer, piece);
+    performer.pass_on();
+    if performer.output().fault().is_some() {
+        return Some(Ended::Over);
+    }
+    if performer.output().is_stuck() {
+        return Some(Ended::Stuck);
+    }
+    None
+}
+
+/// Gives what the reader gives to a new parser, as a reader of logs reads it ([`Parser::advance_log`]): the front that is
+/// read, and then pieces of at most 4096 bytes, until the reader ends or fails, the performer's output keeps a fault, or
+/// what its writer holds back can't be passed on. At most 2^64 - 1 reads are made. What was written of a piece is passed
+/// on before the next read.
 pub(crate) fn read_to<P: WritingPerformer<W>, R: Source, W: Sink>(
     reader: &mut R,
     performer: &mut P,
+    front: &[u8],
+    reached: Reached,
 ) -> Ended
     requires { fault_in (P.output_in performer.old) ≡ None }
-    ensures { Reads R.Source P.receives P.output_in reader.old reader.new performer.old performer.new
+    ensures { Reads R.Source P.receives P.output_in front.now reached reader.old reader.new performer.old performer.new
         (is_stuck result) }
 {
     let mut parser = Parser::<Utf8Parser>::new();
     let mut last = LastSequence { read: 0, begins: 0 };
+    let stopped = give(&mut parser, performer, front);
+    last.take(front, parser.is_in_sequence());
+    if let Some(ended) = stopped {
+        return ended;
+    }
+    match reached {
+        Reached::Middle => {}
+        Reached::End => {
+            parser.end_log(performer);
+            return at_end(&parser, last.begins);
+        }
+        Reached::Failure => {
+            parser.end_log(performer);
+            return Ended::Over;
+        }
+    }
     let mut piece = [0; PIECE];
     for turn in 0..u64::MAX {
         match reader.read(&mut piece) {
@@ -91,14 +171,10 @@ pub(crate) fn read_to<P: WritingPerformer<W>, R: Source, W: Sink>(
                 return at_end(&parser, last.begins);
             }
             Some(count) => {
-                parser.advance_log(performer, &piece[..count]);
+                let stopped = give(&mut parser, performer, &piece[..count]);
                 last.take(&piece[..count], parser.is_in_sequence());
-                performer.pass_on();
-                if performer.output().fault().is_some() {
-                    return Ended::Over;
-                }
-                if performer.output().is_stuck() {
-                    return Ended::Stuck;
+                if let Some(ended) = stopped {
+                    return ended;
                 }
             }
         }

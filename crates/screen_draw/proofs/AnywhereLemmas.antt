@@ -17,9 +17,10 @@ use Rattle.ansi_screen.proofs.SizeLemmas.{sized-after_all}
 use Rattle.screen_draw.specs.Draw.{shown_screen_calls, drawn_calls}
 use Rattle.screen_draw.specs.Redrawn.{drawn_state}
 use Rattle.screen_draw.proofs.RedrawnLemmas.{redrawn-is}
+use Rattle.screen_draw.proofs.NotedLemmas.{since-stays}
 
 pub drawn-anywhere : (d : Display) (before : List ℕ) (old new : State) → AreCalls (canon (drawn_calls d)) (drawn_calls d) → IsScreen d → HasContents d → IsScreen old.display
-    → old.display.width ≡ d.width → old.display.height ≡ d.height → Shows old (before ++ canon (drawn_calls d)) new → new ≡ drawn_state d
+    → old.display.width ≡ d.width → old.display.height ≡ d.height → Shows old (before ++ canon (drawn_calls d)) new → new ≡ drawn_state old.display.shown d
 drawn-anywhere d before old new made is holds old_is width height (calls, are, leads) =
     let first = machine_calls decoded (before ++ escape_byte ∷ []) (new_machine []) in
     let rest = (escape_text [] false ++ 0x63 ∷ []) ++ canon (shown_screen_calls d) in
@@ -30,4 +31,4 @@ drawn-anywhere d before old new made is holds old_is width height (calls, are, l
     leads
     ∙ ap (λ (l : List Call). after_all l old) same
     ∙ after_all-append first (drawn_calls d) old
-    ∙ redrawn-is d (after_all first old) is holds sized.0 sized.1
+    ∙ (redrawn-is d (after_all first old) is holds sized.0 sized.1 ∙ ap (λ p. drawn_state p d) (since-stays first old))

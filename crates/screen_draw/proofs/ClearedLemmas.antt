@@ -8,7 +8,7 @@ use Rattle.ansi_style.specs.Style.{plain}
 use Rattle.ansi_screen.specs.declared.cell.Cell.{Cell}
 use Rattle.ansi_screen.specs.declared.place.Place.{Place}
 use Rattle.ansi_screen.specs.Cells.{blank, cell_at}
-use Rattle.ansi_screen.specs.Display.{Display, home, fresh, blanks, stops, row_end}
+use Rattle.ansi_screen.specs.Display.{Display, home, renewed, blanks, stops, row_end}
 use Rattle.ansi_screen.specs.Edits.{erased_cells}
 use Rattle.ansi_screen.specs.Moves.{to_row, to_position}
 use Rattle.ansi_screen.specs.Modes.{with_private_mode, with_alternate, to_main, into_margins, restored, with_margins}
@@ -65,7 +65,7 @@ module _ (base : Display) (cells : List Cell) where
 
 -- the main screen, with nothing covered
 abbrev main_of : Display → List Cell → Place → Place → Display
-main_of d cells p q = record (fresh d.width d.height) {
+main_of d cells p q = record (renewed d) {
   cells = cells;
   cursor = p;
   saved = q;
@@ -92,10 +92,10 @@ drawn-fill : (d : Display) → length (drawn_cells d) ≡ length d.cells
 drawn-fill d =
     set-long (d.cursor.column == d.width) (map as_drawn d.cells) (row_end d - 1) (as_printed (cell_at (row_end d - 1) d.cells)) ∙ drawn-length d.cells
 
-left_at : (d : Display) (s : State) (t : Bool) → d.is_alternate ≡ t → IsScreen d → HasContents d → s.display ≡ as_shown d → Main d (after_all (leave_calls t) s)
+left_at : (d : Display) (s : State) (t : Bool) → d.is_alternate ≡ t → IsScreen d → HasContents d → s.display ≡ as_shown d.shown d → Main d (after_all (leave_calls t) s)
 unfolding with_private_mode with_alternate to_main restored
 left_at d s true is screen contents at =
-    let e : Display = as_shown d in
+    let e : Display = as_shown d.shown d in
     let y : Display = record e {
       cells = e.hidden;
       saved = e.hidden_saved;
@@ -130,9 +130,9 @@ left_at d s false is screen contents at =
         (
           d.saved,
           at
-              ∙ (ap (λ l. record (as_shown d) { hidden = l }) hidden
-              ∙ (ap (λ q. record (as_shown d) { hidden = blanks d.width d.height; hidden_saved = q }) nothing.1
-              ∙ ap (λ t. record (as_shown d) { hidden = blanks d.width d.height; hidden_saved = home; is_alternate = t }) is)),
+              ∙ (ap (λ l. record (as_shown d.shown d) { hidden = l }) hidden
+              ∙ (ap (λ q. record (as_shown d.shown d) { hidden = blanks d.width d.height; hidden_saved = q }) nothing.1
+              ∙ ap (λ t. record (as_shown d.shown d) { hidden = blanks d.width d.height; hidden_saved = home; is_alternate = t }) is)),
         ),
       ),
     )
@@ -157,7 +157,7 @@ after-all_rows d cells p q s screen contents at =
 
 -- the modes
 after-reset_modes : (d : Display) (cells : List Cell) (p q : Place) (s : State) → IsScreen d → HasContents d → s.display ≡ main_of d cells p q
-    → (r : Place) × ((after_all reset_modes s).display ≡ on (record (fresh d.width d.height) { saved = q; tabs = d.tabs }) cells r)
+    → (r : Place) × ((after_all reset_modes s).display ≡ on (record (renewed d) { saved = q; tabs = d.tabs }) cells r)
 unfolding with_private_mode
 after-reset_modes d cells p q s screen contents at =
     let (r, rows) = after-all_rows d cells p q s screen contents at in
@@ -174,7 +174,7 @@ after-reset_modes d cells p q s screen contents at =
 first-stop : (n width : ℕ) → n ≡ width → length {A = Bool} [] + n ≡ width
 first-stop n width is = omega arith
 
-pub cleared-is : (d : Display) (s : State) → IsScreen d → HasContents d → s.display ≡ as_shown d → (after_all (cleared_calls d) s).display ≡ fresh d.width d.height
+pub cleared-is : (d : Display) (s : State) → IsScreen d → HasContents d → s.display ≡ as_shown d.shown d → (after_all (cleared_calls d) s).display ≡ renewed d
 cleared-is d s screen contents at =
     let w : ℕ = d.width in
     let h : ℕ = d.height in
@@ -187,7 +187,7 @@ cleared-is d s screen contents at =
     let left : one.display ≡ main_of d cells p q = more.1.1 in
     let two : State = after_all reset_modes one in
     let (r, modes) = after-reset_modes d cells p q one screen contents left in
-    let base : Display = record (fresh w h) { saved = q } in
+    let base : Display = record (renewed d) { saved = q } in
     let three : State = after_all plain_calls two in
     let plainly : three.display ≡ on (tabbed base d.tabs) cells (record home { column = 0 }) =
     after-plain two ∙ ap (λ (e : Display). record e { cursor = home }) modes in

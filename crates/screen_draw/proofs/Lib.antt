@@ -26,13 +26,7 @@ pub mod FrameLemmas
 pub mod ChangesLemmas
 pub mod MarginLemmas
 pub mod UpdatesLemmas
-pub mod ChangedLemmas
 pub mod ColumnLemmas
-pub mod NotingLemmas
-pub mod EditLemmas
-pub mod EscapeLemmas
-pub mod ModeLemmas
 pub mod SkippedLemmas
-pub mod RowTextLemmas
 pub mod NotedLemmas
-pub mod TrackedLemmas
+pub mod PictureLemmas

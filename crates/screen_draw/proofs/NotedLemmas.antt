@@ -1,24 +1,44 @@
--- A screen that notes what its calls change, behind a list of calls.
-use Rattle.std.proofs.Common.{◌≡◌, List, [], ◌∷◌, ap, sym, ◌∙◌, subst}
-use Rattle.anstyle_parse.specs.Stream.Call.{Call, Goes}
-use Rattle.ansi_screen.specs.After.{State, after_all}
-use Rattle.ansi_screen.specs.Display.{Display}
-use Rattle.screen_draw.specs.declared.noting.Noting.{Noting}
-use Rattle.screen_draw.specs.Changed.{Keeps}
-use Rattle.screen_draw.specs.Noting.{screen_of, changed_of, HasNoted, Notes}
+-- What a screen has noted stays noted; and of a drawing, nothing counts that stood there but the picture.
+use Rattle.std.proofs.Common.{◌≡◌, ℕ, List, refl, ap, sym, ◌∙◌, subst}
+use Rattle.std.specs.Prelude.{None}
+use Rattle.anstyle_parse.specs.Stream.Call.{Call}
+use Rattle.ansi_screen.specs.After.{State, after, after_all, as_shown}
+use Rattle.ansi_screen.specs.Display.{Display, Picture, picture, IsSized, fresh}
+use Rattle.ansi_screen.specs.Following.{IsShownOf}
+use Rattle.ansi_screen.proofs.LawLemmas.{after-reset}
+use Rattle.ansi_screen.proofs.PictureLemmas.{same-after_all}
+use Rattle.ansi_screen.proofs.SizeLemmas.{sized-after_all}
+use Rattle.screen_draw.proofs.PictureLemmas.{sized-since}
+use Rattle.screen_draw.specs.Draw.{escape, shown_screen_calls, drawn_calls}
+use Rattle.ansi_screen.specs.Laws.{with_shown}
 
--- the screen is the one behind the calls
-pub noted-screen : (calls : List Call) (old new : Noting) → Goes Notes old calls new → screen_of new ≡ after_all calls (screen_of old)
-noted-screen [] old new goes = ap (λ (n : Noting). screen_of n) goes
-noted-screen (call ∷ calls) old new goes =
-    let middle : Noting = goes.0 in
-    noted-screen calls middle new goes.2 ∙ ap (after_all calls) goes.1.screen
+-- the picture stays
+pub since-stays : (calls : List Call) (s : State) → (after_all calls s).display.shown ≡ s.display.shown
+since-stays calls s = ap (λ (e : State). e.display.shown) (same-after_all s.display.shown calls s)
 
--- and what they can change is noted
-pub noted-keeps : (calls : List Call) (old new : Noting) (shown : Display) → Goes Notes old calls new
-    → HasNoted old shown → HasNoted new shown
-noted-keeps [] old new shown goes keeps = subst (λ (n : Noting). HasNoted n shown) (sym goes) keeps
-noted-keeps (call ∷ calls) old new shown goes keeps =
-    let middle : Noting = goes.0 in
-    noted-keeps calls middle new shown goes.2
-    (subst (λ (s : State). Keeps (changed_of middle) shown s.display) (sym goes.1.screen) (goes.1.noted shown keeps))
+-- So what differs from the display of the picture stays noted, as the size stays.
+pub noted-stays : (calls : List Call) (s : State) (d : Display) → IsSized s.display → IsShownOf s.display d
+    → IsShownOf (after_all calls s).display d
+noted-stays calls s d sized noted =
+    let size = sized-after_all s.display.width s.display.height calls s (refl, refl, sized.margins_within) in
+    record { width = noted.width ∙ sym size.0; height = noted.height ∙ sym size.1; picture = since-stays calls s ∙ noted.picture }
+
+-- so it is where the screen was forgotten, and is the one that is shown but for the picture
+pub still-noted : (shown wanted begun new : State) (calls : List Call) → as_shown wanted ≡ as_shown shown → begun ≡ as_shown wanted
+    → IsSized wanted.display → new ≡ after_all calls begun → IsShownOf new.display shown.display
+still-noted shown wanted begun new calls same forgets sized is =
+    let small : IsSized begun.display = subst (λ (s : State). IsSized s.display) (sym forgets) (sized-since (picture wanted.display) wanted.display sized) in
+    let now : IsShownOf begun.display shown.display =
+    subst (λ (s : State). IsShownOf s.display shown.display) (sym (forgets ∙ same)) (record { width = refl; height = refl; picture = refl }) in
+    subst (λ (s : State). IsShownOf s.display shown.display) (sym is) (noted-stays calls begun shown.display small now)
+
+-- A drawing begins with RIS.
+pub drawing-forgets : (drawn : Display) (a b : State) → a.display.width ≡ b.display.width → a.display.height ≡ b.display.height
+    → after_all (drawn_calls drawn) a ≡ with_shown a.display.shown (after_all (drawn_calls drawn) b)
+drawing-forgets drawn a b width height =
+    let p : Picture = a.display.shown in
+    let rest : List Call = shown_screen_calls drawn in
+    let new : ℕ → ℕ → State = λ w h. record { display = record (fresh w h) { shown = p }; last = None } in
+    ap (after_all rest)
+    (after-reset a ∙ (ap (λ w. new w a.display.height) width ∙ (ap (new b.display.width) height ∙ ap (with_shown p) (sym (after-reset b)))))
+    ∙ same-after_all p rest (after (escape 0x63) b)

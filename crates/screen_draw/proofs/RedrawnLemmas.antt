@@ -3,7 +3,7 @@ use Rattle.std.proofs.Common.{◌≡◌, ℕ, ◌+◌, Bool, true, List, [], len
 use Rattle.std.specs.Prelude.{map, None}
 use Rattle.ansi_screen.specs.declared.cell.Cell.{Cell}
 use Rattle.ansi_screen.specs.declared.place.Place.{Place}
-use Rattle.ansi_screen.specs.Display.{Display, home, fresh, stops, letters}
+use Rattle.ansi_screen.specs.Display.{Display, Picture, home, fresh, renewed, stops, letters}
 use Rattle.ansi_screen.specs.After.{State, after, after_all}
 use Rattle.ansi_screen.specs.Reachable.{IsScreen, HasContents}
 use Rattle.ansi_screen.proofs.LawLemmas.{after-reset}
@@ -14,11 +14,12 @@ use Rattle.screen_draw.proofs.CanvasLemmas.{on, after-plain}
 use Rattle.screen_draw.proofs.BehindLemmas.{IsOpen, after-screen}
 use Rattle.screen_draw.proofs.RestLemmas.{over, after-covered, stops_from, stops-are, after-stops, after-margins}
 use Rattle.screen_draw.proofs.CursorLemmas.{full, after-cursor}
+use Rattle.screen_draw.proofs.PictureLemmas.{screen-since, contents-since}
 
 first-column : (n width : ℕ) → n ≡ width → length {A = Bool} [] + n ≡ width
 first-column n width is = omega arith
 
-module _ (d : Display) (new : State) (screen : IsScreen d) (contents : HasContents d) (new-is : new.display ≡ fresh d.width d.height) where
+module _ (d : Display) (new : State) (screen : IsScreen d) (contents : HasContents d) (new-is : new.display ≡ renewed d) where
   opened : IsOpen (over d)
   opened = record { top = refl; bottom = refl; replaces = refl; unlinked = refl; wide = screen.sized.two_columns }
 
@@ -45,7 +46,7 @@ module _ (d : Display) (new : State) (screen : IsScreen d) (contents : HasConten
       let (k, stopped) = after-stops base all d.tabs [] third (first-column (length d.tabs) d.width screen.sized.tabs_fill) (none, tabs) in
       after-margins (record base { tabs = d.tabs }) all k d (after_all (stops_calls 0 d.tabs) third) stopped contents.margins screen.sized.margins screen.sized.margins_within refl refl refl
 
-  pub shown-is : after_all (shown_screen_calls d) new ≡ drawn_state d
+  pub shown-is : after_all (shown_screen_calls d) new ≡ drawn_state d.shown d
   shown-is =
       let before : State = before_cursor d new in
       let (p, at, letter) = before-is in
@@ -56,7 +57,9 @@ module _ (d : Display) (new : State) (screen : IsScreen d) (contents : HasConten
       (after-modes d placed ∙ ap (λ (e : Display). record e { wraps = d.wraps; inserts = d.inserts; is_visible = d.is_visible }) there)
 
 pub redrawn-is : (d : Display) (old : State) → IsScreen d → HasContents d → old.display.width ≡ d.width → old.display.height ≡ d.height
-    → after_all (drawn_calls d) old ≡ drawn_state d
+    → after_all (drawn_calls d) old ≡ drawn_state old.display.shown d
 redrawn-is d old screen contents width height =
-    shown-is d (after (escape 0x63) old) screen contents
-    (ap (λ (s : State). s.display) (after-reset old) ∙ (ap (λ n. fresh n old.display.height) width ∙ ap (λ n. fresh d.width n) height))
+    let since : Picture = old.display.shown in
+    shown-is (record d { shown = since }) (after (escape 0x63) old) (screen-since since d screen) (contents-since since d contents)
+    (ap (λ (s : State). s.display) (after-reset old)
+    ∙ (ap (λ n. record (fresh n old.display.height) { shown = since }) width ∙ ap (λ n. record (fresh d.width n) { shown = since }) height))

@@ -1,13 +1,11 @@
 -- Rows that are the same draw nothing, and leave the cursor where it stands: so they can be skipped.
-use Rattle.std.proofs.Common.{◌≡◌, ℕ, zero, suc, ◌+◌, ◌-◌, ◌<◌, ◌≤◌, true, false, List, [], ◌++◌, refl, ap, sym, ◌∙◌, arith, append-nil}
-use Rattle.std.specs.Prelude.{min}
+use Rattle.std.proofs.Common.{◌≡◌, ℕ, zero, suc, ◌+◌, ◌-◌, ◌<◌, ◌≤◌, true, List, [], ◌++◌, refl, ap, sym, ◌∙◌, arith, append-nil}
 use Rattle.ansi_screen.specs.declared.cell.Cell.{Cell}
 use Rattle.ansi_screen.specs.declared.place.Place.{Place}
 use Rattle.ansi_screen.specs.Display.{Display, row_cells}
-use Rattle.screen_draw.specs.declared.changed.Changed.{Changed}
 use Rattle.screen_draw.specs.declared.changes.Brush.{Brush}
 use Rattle.screen_draw.specs.Alike.{has_same_frame}
-use Rattle.screen_draw.specs.Changed.{KeepsFrame, Keeps}
+use Rattle.screen_draw.specs.Changed.{KeepsFrame}
 use Rattle.screen_draw.specs.Update.{row_calls, brush_after, begun_at, place_behind, rows_calls}
 use Rattle.screen_draw.proofs.UnchangedLemmas.{row-nothing, frame-refl}
 
@@ -47,26 +45,19 @@ module _ (start : Place) (shown wanted : Display) where
         last.1 ∙ before.1,
       )
 
-  module _ (changed : Changed) (keeps : Keeps changed shown wanted) where
-    -- all rows before the first that can have changed
-    pub rows-first : (first : ℕ) → first ≤ changed.first → first ≤ wanted.height
-        → (rows_calls first start shown wanted ≡ []) × (place_behind first start shown wanted ≡ start)
-    rows-first first from inside = rows-above first (λ row less. keeps.above row (omega arith) (omega arith))
-
-    -- and behind the last
-    pub rows-past : (past : ℕ) → past ≡ min changed.past wanted.height
-        → (rows_calls wanted.height start shown wanted ≡ rows_calls past start shown wanted)
-        × (place_behind wanted.height start shown wanted ≡ place_behind past start shown wanted)
-    rows-past past is =
-        let whole : past + (wanted.height - past) ≡ wanted.height = omega arith in
-        let same = rows-below past (wanted.height - past) (λ row less from. keeps.below row (omega arith) (omega arith)) in (
-          ap (λ n. rows_calls n start shown wanted) (sym whole) ∙ same.0,
-          ap (λ n. place_behind n start shown wanted) (sym whole) ∙ same.1,
-        )
+  -- behind the last that is compared
+  pub rows-past : (past : ℕ) → past ≤ wanted.height
+      → ((row : ℕ) → row < wanted.height → past ≤ row → row_cells row wanted ≡ row_cells row shown)
+      → (rows_calls wanted.height start shown wanted ≡ rows_calls past start shown wanted)
+      × (place_behind wanted.height start shown wanted ≡ place_behind past start shown wanted)
+  rows-past past inside keeps =
+      let whole : past + (wanted.height - past) ≡ wanted.height = omega arith in
+      let same = rows-below past (wanted.height - past) (λ row less from. keeps row (omega arith) from) in (
+        ap (λ n. rows_calls n start shown wanted) (sym whole) ∙ same.0,
+        ap (λ n. place_behind n start shown wanted) (sym whole) ∙ same.1,
+      )
 
 -- the same frame
-pub frame-kept : (shown wanted : Display) (changed : Changed) → Keeps changed shown wanted → changed.is_framed ≡ false → has_same_frame shown wanted ≡ true
+pub frame-kept : (shown wanted : Display) → KeepsFrame shown wanted → has_same_frame shown wanted ≡ true
 unfolding has_same_frame
-frame-kept shown wanted changed keeps none =
-    let frame : KeepsFrame shown wanted = keeps.frame none in
-    rw (frame.alternate, frame.hidden, frame.saved, frame.hidden_saved, frame.tabs) (frame-refl shown)
+frame-kept shown wanted frame = rw (frame.alternate, frame.hidden, frame.saved, frame.hidden_saved, frame.tabs) (frame-refl shown)

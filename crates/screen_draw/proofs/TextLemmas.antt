@@ -7,7 +7,7 @@ use Rattle.ansi_screen.specs.declared.cell.Cell.{Cell}
 use Rattle.ansi_screen.specs.declared.cell.Part.{Part}
 use Rattle.ansi_screen.specs.declared.cell.Part.TheVariants.{Empty, Whole, Left, Right}
 use Rattle.ansi_screen.specs.Cells.{is_right, cell_at, blank}
-use Rattle.ansi_screen.specs.Display.{Display, row_cells, row_end}
+use Rattle.ansi_screen.specs.Display.{Display, Picture, row_cells, row_end}
 use Rattle.ansi_screen.specs.Text.{marks_text, is_unmarked, is_blank, cell_text, used, row_text, used_rows, rows_text, text_of}
 use Rattle.screen_draw.specs.Draw.{is_erased}
 use Rattle.screen_draw.specs.Redrawn.{printed_part, as_printed, as_drawn, as_shown}
@@ -123,5 +123,5 @@ cells-drawn : (d : Display) (pending : Bool)
 cells-drawn d true = texts-set (map as_drawn d.cells) d.cells (row_end d - 1) (as_printed (cell_at (row_end d - 1) d.cells)) (texts-drawn d.cells) (one-printed (cell_at (row_end d - 1) d.cells))
 cells-drawn d false = texts-drawn d.cells
 
-pub text-drawn : (d : Display) → text_of (as_shown d) ≡ text_of d
-text-drawn d = text-same (as_shown d) d refl refl (cells-drawn d (d.cursor.column == d.width))
+pub text-drawn : (since : Picture) (d : Display) → text_of (as_shown since d) ≡ text_of d
+text-drawn since d = text-same (as_shown since d) d refl refl (cells-drawn d (d.cursor.column == d.width))

@@ -1,5 +1,5 @@
 -- A terminal that follows a stream shows behind each piece what the bytes so far lead to.
-use Rattle.std.proofs.Common.{◌≡◌, ℕ, zero, suc, Bool, true, List, [], ◌∷◌, ◌++◌, take, None, Some, is_some, length, Result, Err, refl, ap, sym, ◌∙◌, subst, inl, inr, append_assoc, append-nil}
+use Rattle.std.proofs.Common.{◌≡◌, ℕ, zero, suc, Bool, true, List, [], ◌∷◌, ◌++◌, take, None, Some, is_some, length, Result, Err, refl, ap, ap₂, sym, ◌∙◌, subst, inl, inr, append_assoc, append-nil}
 use Rattle.std.specs.Prelude.{◌⊎◌, IsTrue}
 use Rattle.std.specs.Io.KnownBytes.{Consumes, IsAtEnd}
 use Rattle.std.specs.List.{AllByRecursion}
@@ -13,27 +13,33 @@ use Rattle.anstyle_parse.specs.declared.io.output.Output.{Output}
 use Rattle.anstyle_parse.specs.Io.AddingProof.{AddsAt, Adds-nil}
 use Rattle.anstyle_parse.specs.Io.Output.{fault_in, Adds, AddsAll, AddsPrefix}
 use Rattle.anstyle_parse.specs.Stream.Call.{Call}
+use Rattle.anstyle_parse.specs.Stream.Calls.{Continues}
 use Rattle.anstyle_parse.specs.Stream.Canon.{canon}
 use Rattle.anstyle_parse.proofs.Canonical.Items.{AreCalls-nil}
 use Rattle.anstyle_parse.proofs.Canonical.Replay.{replay}
 use Rattle.anstyle_parse.proofs.Written.Output.{Adds-append}
 use Rattle.ansi_screen.specs.After.{State, after_all, Shows}
 use Rattle.ansi_screen.specs.Reachable.{IsScreen, HasContents}
-use Rattle.ansi_screen.specs.Display.{Display}
+use Rattle.ansi_screen.specs.Display.{Display, Picture, picture, forgotten, IsSized}
 use Rattle.ansi_screen.proofs.KeptCalls.{kept-after_all}
 use Rattle.ansi_screen.proofs.ContentCalls.{contents-after_all}
+use Rattle.ansi_screen.proofs.PictureLemmas.{same-after_all}
 use Rattle.ansi_screen.proofs.SizeLemmas.{HasSize, sized-after_all}
 use Rattle.ansi_screen.proofs.LawLemmas.{after_all-append, Shows-only}
 use Rattle.screen_draw.specs.declared.updates.Stopped.{Stopped}
 use Rattle.screen_draw.specs.declared.updates.Stopped.TheVariants.{Stuck, AtFault}
 use Rattle.screen_draw.specs.Draw.{drawn_calls}
 use Rattle.screen_draw.specs.Drawing.{IsDrawing, Draws}
+use Rattle.ansi_screen.specs.Following.{IsShownOf}
+use Rattle.ansi_screen.specs.Laws.{with_shown}
 use Rattle.screen_draw.specs.Redrawn.{as_shown}
 use Rattle.screen_draw.specs.Update.{update_calls}
 use Rattle.screen_draw.specs.Updates.{updates_calls, followed_calls, last_of, AreScreens, joined, IsPiece, StopsBy, LeadsTo, Follows, GetsOn}
 use Rattle.screen_draw.proofs.DrawLemmas.{both-drawing, drawing-lawful, draws-append}
 use Rattle.screen_draw.proofs.RedrawnLemmas.{redrawn-is}
 use Rattle.screen_draw.proofs.UpdatedLemmas.{updated-is}
+use Rattle.screen_draw.proofs.PictureLemmas.{update-since}
+use Rattle.screen_draw.proofs.NotedLemmas.{noted-stays}
 
 -- a piece more
 pub joined-more : (pieces : List (List ℕ)) (piece : List ℕ) → joined (pieces ++ piece ∷ []) ≡ joined pieces ++ piece
@@ -114,30 +120,30 @@ module _ (first : State) (screen : IsScreen first.display) (contents : HasConten
   has-size bytes s shows = subst (λ (e : State). HasSize width height e.display) (sym shows.2)
       (sized-after_all width height shows.0 first (refl, refl, screen.sized.margins_within))
 
-  updates-follow : (before : List ℕ) (pieces : List (List ℕ)) (screens : List State) (current old : State)
-      → Shows first before current → AreScreens first before pieces screens → old.display ≡ as_shown current.display
-      → (after_all (updates_calls current screens) old).display ≡ as_shown (last_of current screens).display
-  updates-follow before [] [] current old shows are at = at
-  updates-follow before (piece ∷ pieces) (next ∷ screens) current old shows are at =
+  updates-follow : (since : Picture) (before : List ℕ) (pieces : List (List ℕ)) (screens : List State) (current old : State)
+      → Shows first before current → AreScreens first before pieces screens → old.display ≡ as_shown since current.display
+      → (after_all (updates_calls current screens) old).display ≡ as_shown since (last_of current screens).display
+  updates-follow since before [] [] current old shows are at = at
+  updates-follow since before (piece ∷ pieces) (next ∷ screens) current old shows are at =
       let calls : List Call = update_calls current.display next.display in
       let here = has-size before current shows in
       let there = has-size (before ++ piece) next are.0 in
       ap (λ (e : State). e.display) (after_all-append calls (updates_calls next screens) old)
-      ∙ updates-follow (before ++ piece) pieces screens next (after_all calls old) are.0 are.1
-      (updated-is current.display next.display old
+      ∙ updates-follow since (before ++ piece) pieces screens next (after_all calls old) are.0 are.1
+      (updated-is current.display next.display since old
       (is-screen before current shows) (has-contents before current shows)
       (is-screen (before ++ piece) next are.0) (has-contents (before ++ piece) next are.0)
       (here.0 ∙ sym there.0) (here.1 ∙ sym there.1) at)
-  updates-follow before [] (next ∷ screens) current old shows are at = absurd are
-  updates-follow before (piece ∷ pieces) [] current old shows are at = absurd are
+  updates-follow since before [] (next ∷ screens) current old shows are at = absurd are
+  updates-follow since before (piece ∷ pieces) [] current old shows are at = absurd are
 
   pub followed-is : (pieces : List (List ℕ)) (screens : List State) (old : State)
       → old.display.width ≡ width → old.display.height ≡ height → AreScreens first [] pieces screens
-      → (after_all (followed_calls first screens) old).display ≡ as_shown (last_of first screens).display
+      → (after_all (followed_calls first screens) old).display ≡ as_shown old.display.shown (last_of first screens).display
   followed-is pieces screens old wide high are =
       let drawn : List Call = drawn_calls first.display in
       ap (λ (e : State). e.display) (after_all-append drawn (updates_calls first screens) old)
-      ∙ updates-follow [] pieces screens first (after_all drawn old) (shows-nothing first) are
+      ∙ updates-follow old.display.shown [] pieces screens first (after_all drawn old) (shows-nothing first) are
       (ap (λ (e : State). e.display) (redrawn-is first.display old screen contents wide high))
 
 shows-last : (first current : State) (before : List ℕ) (pieces : List (List ℕ)) (screens : List State)
@@ -198,15 +204,16 @@ passed-on sink calls a b c draws none = record {
 }
 
 -- an update more
-pub draws-more : {W : Type 0} (sink : SinkOf W) (first shown screen : State) (screens : List State) (a b c d : Output W)
-    → Draws sink (updates_calls first screens) a b → shown ≡ last_of first screens
-    → Adds sink (canon (update_calls shown.display screen.display)) b c → AllByRecursion IsDrawing (update_calls shown.display screen.display)
+pub draws-more : {W : Type 0} (sink : SinkOf W) (first shown wanted screen : State) (p q : Picture) (screens : List State) (a b c d : Output W)
+    → Draws sink (updates_calls first screens) a b → shown ≡ with_shown p (last_of first screens) → wanted ≡ with_shown q screen
+    → Adds sink (canon (update_calls shown.display wanted.display)) b c → AllByRecursion IsDrawing (update_calls shown.display wanted.display)
     → Adds sink [] c d → Draws sink (updates_calls first (screens ++ screen ∷ [])) a d
-draws-more sink first shown screen screens a b c d before same added drawing none =
+draws-more sink first shown wanted screen p q screens a b c d before same next added drawing none =
     let now : State = last_of first screens in
     let calls : List Call = update_calls now.display screen.display in
-    let more : Draws sink calls b c = subst (λ (s : State). Draws sink (update_calls s.display screen.display) b c) same
-    (record { added = added; drawing = drawing }) in
+    let is : update_calls shown.display wanted.display ≡ calls =
+    ap₂ (λ (s t : State). update_calls s.display t.display) same next ∙ update-since p q now.display screen.display in
+    let more : Draws sink calls b c = subst (λ (l : List Call). Draws sink l b c) is (record { added = added; drawing = drawing }) in
     subst (λ l. Draws sink l a d) (sym (calls-more first screen screens))
     (draws-append sink (updates_calls first screens) calls a b d before (passed-on sink calls b c d more none))
 
@@ -214,7 +221,7 @@ draws-more sink first shown screen screens a b c d before same added drawing non
 pub follows : {R W T : Type 0} (source : SourceOf R) (sink : SinkOf W) (reader reader_after : R) (first last : State) (a b c : Output W) (answer : Result T Stopped)
     (pieces : List (List ℕ)) (screens : List State)
     → Consumes (source.remaining reader) (source.remaining reader_after) (joined pieces) → AllByRecursion IsPiece pieces
-    → AreScreens first [] pieces screens → last ≡ last_of first screens
+    → AreScreens first [] pieces screens → last ≡ with_shown last.display.shown (last_of first screens)
     → Draws sink (drawn_calls first.display) a b → Draws sink (updates_calls first screens) b c
     → StopsBy answer (IsTrue source.zero_is_end → IsAtEnd (source.remaining reader_after)) (fault_in c)
     (source.has_failed reader) (source.has_failed reader_after) (length (joined pieces))
@@ -246,3 +253,37 @@ begins sink shown first a b c same added drawing none =
 -- no update yet
 pub no-updates : {W : Type 0} (sink : SinkOf W) (a : Output W) → Draws sink [] a a
 no-updates sink a = record { added = Adds-nil sink a; drawing = tt }
+
+-- with the picture that it has
+pub with-own : (s t : State) (since : Picture) → s ≡ with_shown since t → s ≡ with_shown s.display.shown t
+with-own s t since is = is ∙ ap (λ (e : State). with_shown e.display.shown t) (sym is)
+
+pub was-forgotten : (last wanted new : State) (since : Picture) → wanted ≡ with_shown since last → new ≡ record wanted { display = forgotten wanted.display }
+    → new ≡ with_shown (picture last.display) last
+was-forgotten last wanted new since is forgets = forgets ∙ ap (λ (s : State). record s { display = forgotten s.display }) is
+
+-- A piece more comes to the wanted screen: where both were the last one, it has noted all in which they differ then.
+pub record ComesOn (first last shown new : State) (before piece : List ℕ) : Type 0 where
+  pub next : State
+  pub shows : Shows first (before ++ piece) next
+  pub is : new ≡ with_shown (picture last.display) next
+  pub noted : IsShownOf new.display shown.display
+
+pub comes-on : (first last shown wanted new : State) (since : Picture) (before piece : List ℕ) (calls : List Call) → Shows first before last
+    → Continues before piece calls → shown ≡ with_shown since last → wanted ≡ with_shown (picture last.display) last → IsSized wanted.display
+    → new ≡ after_all calls wanted → ComesOn first last shown new before piece
+comes-on first last shown wanted new since before piece calls shows continues same to sized is =
+    let earlier : List Call = shows.0 in
+    let now : IsShownOf wanted.display shown.display =
+    subst (λ (s : State). IsShownOf wanted.display s.display) (sym same)
+    (subst (λ (s : State). IsShownOf s.display (with_shown since last).display) (sym to) (record { width = refl; height = refl; picture = refl })) in
+    record {
+      next = after_all calls last;
+      shows = (
+        earlier ++ calls,
+        continues earlier shows.1,
+        ap (after_all calls) shows.2 ∙ sym (after_all-append earlier calls first),
+      );
+      is = is ∙ (ap (after_all calls) to ∙ same-after_all (picture last.display) calls last);
+      noted = subst (λ (s : State). IsShownOf s.display shown.display) (sym is) (noted-stays calls wanted shown.display sized now);
+    }

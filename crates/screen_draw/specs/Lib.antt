@@ -2,13 +2,9 @@ pub mod Alike
 pub mod Bound
 pub mod Buffers
 pub mod Changed
-pub mod Columns
 pub mod Draw
 pub mod Drawing
 pub mod Laws
-pub mod Noting
-pub mod NotedTexts
-pub mod Tracked
 pub mod Redrawn
 pub mod Update
 pub mod Updates

@@ -4,7 +4,7 @@ use Rattle.ansi_screen.specs.declared.cell.Cell.{Cell}
 use Rattle.ansi_screen.specs.declared.cell.Part.{Part}
 use Rattle.ansi_screen.specs.declared.cell.Part.TheVariants.{Empty, Whole}
 use Rattle.ansi_screen.specs.Cells.{cell_at}
-use Rattle.ansi_screen.specs.Display.{Display, row_end}
+use Rattle.ansi_screen.specs.Display.{Display, Picture, row_end}
 use Rattle.ansi_screen.specs.After.{State}
 use Rattle.screen_draw.specs.Draw.{is_erased}
 
@@ -28,9 +28,10 @@ drawn_cells d =
     then slice_set (map as_drawn d.cells) (row_end d - 1) (as_printed (cell_at (row_end d - 1) d.cells))
     else map as_drawn d.cells
 
--- the display, on which no link has begun; and the screen, on which nothing is left to REP
-abbrev pub as_shown : Display → Display
-as_shown d = record d { cells = drawn_cells d; hidden = map as_drawn d.hidden; links = 0; link = 0 }
+-- the display, on which no link has begun; and the screen, on which nothing is left to REP. The terminal that shows it has
+-- a picture of its own, from which on it notes what changes, and keeps that.
+abbrev pub as_shown : (since : Picture) → Display → Display
+as_shown since d = record d { cells = drawn_cells d; hidden = map as_drawn d.hidden; links = 0; link = 0; shown = since }
 
-abbrev pub drawn_state : Display → State
-drawn_state d = record { display = as_shown d; last = None }
+abbrev pub drawn_state : (since : Picture) → Display → State
+drawn_state since d = record { display = as_shown since d; last = None }

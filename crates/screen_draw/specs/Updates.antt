@@ -17,6 +17,7 @@ use Rattle.ansi_screen.specs.Reachable.{IsScreen, HasContents}
 use Rattle.screen_draw.specs.declared.updates.Stopped.{Stopped}
 use Rattle.screen_draw.specs.declared.updates.Stopped.TheVariants.{Stuck, AtFault}
 use Rattle.screen_draw.specs.Draw.{drawn_calls}
+use Rattle.ansi_screen.specs.Laws.{with_shown}
 use Rattle.screen_draw.specs.Redrawn.{as_shown}
 use Rattle.screen_draw.specs.Update.{update_calls}
 
@@ -74,7 +75,7 @@ StopsBy {T} (Ok done) at_end fault failed failed_after count = (fault ≡ None) 
 abbrev pub LeadsTo : State → List ℕ → State → Type 0
 LeadsTo first bytes wanted = (old new : State) → IsScreen first.display → HasContents first.display
     → old.display.width ≡ first.display.width → old.display.height ≡ first.display.height
-    → Shows old bytes new → new.display ≡ as_shown wanted.display
+    → Shows old bytes new → new.display ≡ as_shown old.display.shown wanted.display
 
 -- A reader's bytes were followed, from a screen on.
 pub record Follows {R W T : Type 0} (source : SourceOf R) (sink : SinkOf W) (reader reader_after : R)
@@ -85,7 +86,8 @@ pub record Follows {R W T : Type 0} (source : SourceOf R) (sink : SinkOf W) (rea
   pub consumed : Consumes (source.remaining reader) (source.remaining reader_after) (joined pieces)
   pub each : AllByRecursion IsPiece pieces
   pub are_screens : AreScreens first [] pieces screens
-  pub is_last : last ≡ last_of first screens
+  -- in all but the picture, from which on the last one notes what changes
+  pub is_last : last ≡ with_shown last.display.shown (last_of first screens)
   -- the text that was written, of which a parser makes these calls and no others
   pub written : Adds sink (canon (followed_calls first screens)) output output_after
   pub made : AreCalls (canon (followed_calls first screens)) (followed_calls first screens)

@@ -4,11 +4,11 @@ ghost use Rattle.std.specs.Bool.{beq};
 ghost use Rattle.ansi_screen.specs.Print.{draws};
 ghost use Rattle.screen_draw.specs.Alike.{are_same_marks, are_same_parts, are_alike, all_two, are_same_sets, are_same_places, has_same_frame, has_same_margins, has_same_modes, looks_same, is_plain, lacks_print, is_steady};
 ghost use Rattle.screen_draw.specs.Buffers.{cells_of};
-ghost use Rattle.screen_draw.specs.Changed.{Keeps};
+ghost use Rattle.screen_draw.specs.Changed.{AreCompared};
 
 use crate::buffer::Buffer;
 use crate::cells::{is_erased, is_same};
-use crate::changed::Changed;
+use crate::changed::Compared;
 use ansi_screen::{Cell, Charsets, Marks, Part, Place, Screen};
 
 /// Whether the marks are the same.
@@ -196,23 +196,23 @@ pub(crate) fn lacks_print(screen: &Screen) -> bool
 }
 
 /// Whether both have the same frame, which is not asked where it can not have changed.
-fn keeps_frame(a: &Screen, b: &Screen, changed: Changed) -> bool
-    requires { Keeps changed a.now.display b.now.display }
+fn keeps_frame(a: &Screen, b: &Screen, compared: Compared) -> bool
+    requires { AreCompared compared a.now.display b.now.display }
     ensures { result ≡ has_same_frame a.now.display b.now.display }
 {
-    !changed.is_framed || has_same_frame(a, b)
+    !compared.has_frame(b) || has_same_frame(a, b)
 }
 
 /// Whether only cells, the cursor with its style, margins, DECAWM and DECTCEM can differ, where no more can
 /// have changed.
 #[tactic(auto, unfolding(crate::specs::Alike::is_steady))]
-pub(crate) fn is_steady(a: &Screen, b: &Screen, changed: Changed) -> bool
-    requires { Keeps changed a.now.display b.now.display }
+pub(crate) fn is_steady(a: &Screen, b: &Screen, compared: Compared) -> bool
+    requires { AreCompared compared a.now.display b.now.display }
     ensures { result ≡ is_steady a.now.display b.now.display }
 {
     is_plain(a)
         && is_plain(b)
         && !lacks_print(a)
         && are_same_sets(a.cursor().charsets, b.cursor().charsets)
-        && keeps_frame(a, b, changed)
+        && keeps_frame(a, b, compared)
 }

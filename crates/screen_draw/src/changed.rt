@@ -1,71 +1,55 @@
-//! What can have changed of a screen since another one.
-ghost use Rattle.std.specs.Prelude.{◌≡◌, ◌≤◌, true, false};
+//! What an update compares of two screens.
+ghost use Rattle.std.specs.Prelude.{◌≡◌, ◌<◌, ◌≤◌, ◌⊎◌, ℕ, false};
+ghost use Rattle.ansi_screen.specs.Display.{Display, row_cells};
+ghost use Rattle.ansi_screen.specs.Damage.{KeepsColumns};
+ghost use Rattle.screen_draw.specs.Changed.{AreCompared, KeepsFrame};
 
-/// The rows from `first` up to `past`, the cursor, modes and links can have changed; and where `is_framed` says so,
-/// margins, tabs, saved places and the alternate screen with what it covers.
+use ansi_screen::Screen;
+
+/// All of both; or only what the wanted one has noted, where that is all in which it differs from what is shown.
 #[derive(Clone, Copy)]
-pub(crate) struct Changed {
-    pub(crate) first: usize,
-    pub(crate) past: usize,
-    pub(crate) is_framed: bool,
+pub(crate) enum Compared {
+    All,
+    Noted,
 }
 
-impl Changed {
-    ghost use Rattle.ansi_screen.specs.Display.{Display};
-    ghost use Rattle.screen_draw.specs.Changed.{Keeps, with_rows, both};
-
-    /// Nothing of a screen of so many rows.
-    pub(crate) fn nothing(rows: usize) -> Changed
-        ensures kept { (shown : Display) → Keeps result shown shown }
-        ensures rows { result.first ≡ rows }
-        ensures frame { result.is_framed ≡ false }
+impl Compared {
+    /// The rows that are compared: from the first answer up to the second.
+    pub(crate) fn rows(self, wanted: &Screen) -> (usize, usize)
+        ensures order { result.0 ≤ result.1 }
+        ensures within { result.1 ≤ wanted.now.display.height }
+        ensures others { (shown : Display) (row : ℕ) → AreCompared self shown wanted.now.display
+            → row < wanted.now.display.height → (row < result.0) ⊎ (result.1 ≤ row)
+            → row_cells row wanted.now.display ≡ row_cells row shown }
     {
-        Changed {
-            first: rows,
-            past: 0,
-            is_framed: false,
+        match self {
+            Compared::All => (0, wanted.rows()),
+            Compared::Noted => wanted.changed_rows(),
         }
     }
 
-    /// All of a screen of so many rows.
-    pub(crate) fn all(rows: usize) -> Changed
-        ensures { (old new : Display) → new.width ≡ old.width → new.height ≡ old.height → new.height ≡ rows
-            → Keeps result old new }
+    /// The columns of a row that are compared: from the first answer up to the second.
+    pub(crate) fn columns(self, wanted: &Screen, row: usize) -> (usize, usize)
+        requires { row < wanted.now.display.height }
+        ensures order { result.0 ≤ result.1 }
+        ensures within { result.1 ≤ wanted.now.display.width }
+        ensures kept { (shown : Display) → AreCompared self shown wanted.now.display
+            → KeepsColumns result.0 result.1 (row_cells row shown) (row_cells row wanted.now.display) }
     {
-        Changed {
-            first: 0,
-            past: rows,
-            is_framed: true,
+        match self {
+            Compared::All => (0, wanted.columns()),
+            Compared::Noted => wanted.changed(row),
         }
     }
 
-    /// Whether it has no row and no frame.
-    pub(crate) fn is_nothing(self) -> bool
-        ensures rows { result ≡ true → self.past ≤ self.first }
-        ensures frame { result ≡ true → self.is_framed ≡ false }
+    /// Whether saved places, tabs and the alternate screen are compared.
+    pub(crate) fn has_frame(self, wanted: &Screen) -> bool
+        ensures { (shown : Display) → AreCompared self shown wanted.now.display → result ≡ false
+            → KeepsFrame shown wanted.now.display }
     {
-        self.past <= self.first && !self.is_framed
-    }
-
-    /// What another one has too.
-    pub(crate) fn with(self, other: Changed) -> Changed
-        ensures { result ≡ both self other }
-    {
-        Changed {
-            first: self.first.min(other.first),
-            past: self.past.max(other.past),
-            is_framed: self.is_framed || other.is_framed,
-        }
-    }
-
-    /// The rows from `first` up to `past` too.
-    pub(crate) fn with_rows(self, first: usize, past: usize) -> Changed
-        ensures { result ≡ with_rows first past self }
-    {
-        Changed {
-            first: self.first.min(first),
-            past: self.past.max(past),
-            is_framed: self.is_framed,
+        match self {
+            Compared::All => true,
+            Compared::Noted => wanted.is_framed(),
         }
     }
 }

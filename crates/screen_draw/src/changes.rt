@@ -5,8 +5,8 @@ ghost use Rattle.ansi_screen.specs.Cells.{is_right, cell_at};
 ghost use Rattle.ansi_screen.specs.declared.cell.Cell.{Cell};
 ghost use Rattle.ansi_style.specs.declared.style.Style.{Style};
 ghost use Rattle.ansi_screen.specs.Display.{most_columns, most_rows, IsSized};
-ghost use Rattle.screen_draw.specs.Changed.{Keeps};
-ghost use Rattle.screen_draw.specs.Columns.{KeepsColumns, KeepsSpans};
+ghost use Rattle.ansi_screen.specs.Damage.{KeepsColumns};
+ghost use Rattle.screen_draw.specs.Changed.{AreCompared};
 ghost use Rattle.screen_draw.specs.Draw.{is_erased, position, select, wrap_calls, last_cell, last_column};
 ghost use Rattle.screen_draw.specs.Drawing.{Draws};
 ghost use Rattle.screen_draw.specs.Update.{move_calls, erased_run, erased_columns, painted_calls, is_done, change_calls, half_columns, brush_behind, row_calls, brush_after, begun_at, place_behind, rows_calls, wants_wrap, cursor_changes, mode_changes, changes_from, changes_calls};
@@ -14,8 +14,7 @@ ghost use Rattle.screen_draw.specs.Update.{move_calls, erased_run, erased_column
 use crate::alike::{alike_front, are_alike, has_same_margins, lacks_print};
 use crate::calls::{put_number, put_position, put_private_mode, put_style};
 use crate::cells::{is_erased, is_same, put_marked, put_style_change};
-use crate::changed::Changed;
-use crate::columns::{Span, columns_of};
+use crate::changed::Compared;
 use crate::places::put_wrap;
 use crate::rest::{last_of_row, put_margins_of};
 use ansi_screen::{Cell, Part, Place, Screen};
@@ -227,27 +226,26 @@ fn put_row<W: Sink>(
     brush.place
 }
 
-/// Draws the cells that differ, in the rows and columns that can have changed, from the cursor's place on. The answer
-/// is where it stands then.
+/// Draws the cells that differ, of those that are compared, from the cursor's place on. The answer is where it stands
+/// then.
 fn put_rows<W: Sink>(
     output: &mut Output<W>,
     start: Place,
     shown: &Screen,
     wanted: &Screen,
-    changed: Changed,
-    spans: &[Span],
+    compared: Compared,
 ) -> Place
-    requires rows { Keeps changed shown.now.display wanted.now.display }
-    requires columns { KeepsSpans spans.now shown.now.display wanted.now.display }
+    requires { AreCompared compared shown.now.display wanted.now.display }
     ensures calls { Draws W.Sink (rows_calls wanted.now.display.height start shown.now.display wanted.now.display)
         output.old output.new }
     ensures place { result ≡ place_behind wanted.now.display.height start shown.now.display wanted.now.display }
 {
-    let past = changed.past.min(wanted.rows());
-    let first = changed.first.min(past);
+    // The sizes are within their limits.
+    let _ = wanted.columns();
+    let (first, past) = compared.rows(wanted);
     let mut place = start;
     for row in first..past {
-        let columns = columns_of(spans, row, wanted.columns());
+        let columns = compared.columns(wanted, row);
         place = put_row(output, row, place, columns, shown.row(row), wanted.row(row));
     }
     place
@@ -299,21 +297,18 @@ fn put_mode_change<W: Sink>(output: &mut Output<W>, mode: u16, old: bool, new: b
     }
 }
 
-/// Draws what differs in cells, cursor, DECAWM and DECTCEM, where the cursor stands at a place, and no other rows, and
-/// of these no other columns, can have changed.
+/// Draws what differs in cells, cursor, DECAWM and DECTCEM, where the cursor stands at a place.
 fn put_changes_from<W: Sink>(
     output: &mut Output<W>,
     start: Place,
     shown: &Screen,
     wanted: &Screen,
-    changed: Changed,
-    spans: &[Span],
+    compared: Compared,
 )
-    requires rows { Keeps changed shown.now.display wanted.now.display }
-    requires columns { KeepsSpans spans.now shown.now.display wanted.now.display }
+    requires { AreCompared compared shown.now.display wanted.now.display }
     ensures { Draws W.Sink (changes_from start shown.now.display wanted.now.display) output.old output.new }
 {
-    let place = put_rows(output, start, shown, wanted, changed, spans);
+    let place = put_rows(output, start, shown, wanted, compared);
     put_cursor_changes(output, place, wanted);
     put_mode_change(output, 7, shown.wraps(), wanted.wraps());
     put_mode_change(
@@ -335,24 +330,21 @@ fn at_home(place: Place) -> Place
     }
 }
 
-/// Draws what differs in margins, cells, cursor, DECAWM and DECTCEM, where no other rows, and of these no other
-/// columns, can have changed.
+/// Draws what differs in margins, cells, cursor, DECAWM and DECTCEM.
 pub(crate) fn put_changes<W: Sink>(
     output: &mut Output<W>,
     shown: &Screen,
     wanted: &Screen,
-    changed: Changed,
-    spans: &[Span],
+    compared: Compared,
 )
-    requires rows { Keeps changed shown.now.display wanted.now.display }
-    requires columns { KeepsSpans spans.now shown.now.display wanted.now.display }
+    requires { AreCompared compared shown.now.display wanted.now.display }
     ensures { Draws W.Sink (changes_calls shown.now.display wanted.now.display) output.old output.new }
 {
     if has_same_margins(shown, wanted) {
-        put_changes_from(output, shown.cursor(), shown, wanted, changed, spans);
+        put_changes_from(output, shown.cursor(), shown, wanted, compared);
     } else {
         put_margins_of(output, wanted);
         let home = at_home(shown.cursor());
-        put_changes_from(output, home, shown, wanted, changed, spans);
+        put_changes_from(output, home, shown, wanted, compared);
     }
 }

@@ -1,29 +1,29 @@
 //! Laws of drawing. Each is the contract of a function that does nothing.
 ghost use Rattle.std.specs.Prelude.{◌≡◌, ◌<◌, ◌≤◌, ◌+◌, ◌*◌, ℕ, true, List, [], length};
 ghost use Rattle.ansi_screen.specs.After.{State, after_all, Shows};
-ghost use Rattle.ansi_screen.specs.Display.{Display};
+ghost use Rattle.ansi_screen.specs.Display.{Display, IsSized, Picture};
+ghost use Rattle.ansi_screen.specs.Following.{IsShownOf};
 ghost use Rattle.ansi_screen.specs.Reachable.{IsScreen, HasContents};
 ghost use Rattle.ansi_screen.specs.Text.{text_of};
 ghost use Rattle.ansi_style.specs.Style.{HasBytes};
 ghost use Rattle.screen_draw.specs.Bound.{differing_cells, calls_of_cell, calls_of_rest};
 ghost use Rattle.screen_draw.specs.Draw.{drawn_calls};
 ghost use Rattle.screen_draw.specs.Laws.{HasModes};
-ghost use Rattle.screen_draw.specs.Noting.{screen_of, HasNoted, Notes};
+ghost use Rattle.ansi_screen.specs.Laws.{with_shown};
 ghost use Rattle.screen_draw.specs.Redrawn.{as_shown, drawn_state};
 ghost use Rattle.screen_draw.specs.Alike.{are_alike, is_steady};
 ghost use Rattle.screen_draw.specs.Update.{move_calls, change_calls, update_calls};
 ghost use Rattle.screen_draw.specs.Updates.{AreScreens, followed_calls, last_of, joined};
 ghost use Rattle.screen_draw.specs.declared.changes.Brush.{Brush};
-ghost use Rattle.screen_draw.specs.declared.noting.Noting.{Noting};
-ghost use Rattle.anstyle_parse.specs.Stream.Call.{Call, Goes};
+ghost use Rattle.anstyle_parse.specs.Stream.Call.{Call};
 ghost use Rattle.ansi_screen.specs.declared.cell.Cell.{Cell};
 
 /// Whatever stood there, nothing of it counts: the calls that draw a screen lead any two screens of one
-/// size to the same one.
+/// size to the same one. Each of them keeps the picture from which on it notes what changes.
 pub fn forgets()
     ensures { (drawn : Display) (a b : State)
         → a.display.width ≡ b.display.width → a.display.height ≡ b.display.height
-        → after_all (drawn_calls drawn) a ≡ after_all (drawn_calls drawn) b }
+        → after_all (drawn_calls drawn) a ≡ with_shown a.display.shown (after_all (drawn_calls drawn) b) }
 {}
 
 /// A drawing leaves the modes, and the style and the character sets of what comes next, as they are on the
@@ -42,15 +42,16 @@ pub fn selected()
 pub fn redrawn()
     ensures { (drawn : Display) (old : State) → IsScreen drawn → HasContents drawn
         → old.display.width ≡ drawn.width → old.display.height ≡ drawn.height
-        → after_all (drawn_calls drawn) old ≡ drawn_state drawn }
+        → after_all (drawn_calls drawn) old ≡ drawn_state old.display.shown drawn }
 {}
 
 /// The other screen shows: the calls of an update lead a terminal that shows the one, as a drawing or an update
 /// leaves it, to what a drawing of the other leads to.
 pub fn updated()
-    ensures { (shown wanted : Display) (old : State) → IsScreen shown → HasContents shown
+    ensures { (shown wanted : Display) (since : Picture) (old : State) → IsScreen shown → HasContents shown
         → IsScreen wanted → HasContents wanted → shown.width ≡ wanted.width → shown.height ≡ wanted.height
-        → old.display ≡ as_shown shown → (after_all (update_calls shown wanted) old).display ≡ as_shown wanted }
+        → old.display ≡ as_shown since shown
+        → (after_all (update_calls shown wanted) old).display ≡ as_shown since wanted }
 {}
 
 /// A terminal follows a stream: the calls of a drawing, and of an update behind each piece, lead every screen of the
@@ -60,7 +61,8 @@ pub fn followed()
         → IsScreen first.display → HasContents first.display
         → old.display.width ≡ first.display.width → old.display.height ≡ first.display.height
         → AreScreens first [] pieces screens
-        → (after_all (followed_calls first screens) old).display ≡ as_shown (last_of first screens).display }
+        → (after_all (followed_calls first screens) old).display
+        ≡ as_shown old.display.shown (last_of first screens).display }
     ensures whole { (first : State) (pieces : List (List ℕ)) (screens : List State)
         → AreScreens first [] pieces screens → Shows first (joined pieces) (last_of first screens) }
 {}
@@ -69,7 +71,7 @@ pub fn followed()
 /// that follows a stream shows the text of the screen that the stream leads to (`followed`): what `--updates` writes of
 /// a stream has the text of the stream.
 pub fn same_text()
-    ensures shown { (d : Display) → text_of (as_shown d) ≡ text_of d }
+    ensures shown { (since : Picture) (d : Display) → text_of (as_shown since d) ≡ text_of d }
     ensures drawn { (drawn : Display) (old : State) → IsScreen drawn → HasContents drawn
         → old.display.width ≡ drawn.width → old.display.height ≡ drawn.height
         → text_of (after_all (drawn_calls drawn) old).display ≡ text_of drawn }
@@ -80,13 +82,11 @@ pub fn same_text()
         → text_of (after_all (followed_calls first screens) old).display ≡ text_of (last_of first screens).display }
 {}
 
-/// What differs from a screen that is shown stays noted: behind calls a `Noting` has the screen that they lead to, and
-/// where all was noted before them in which it differs from what is shown, all is noted behind them.
+/// What differs from a screen that is shown stays noted: where a screen has noted all in which it differs from the one
+/// that is shown, it has behind any calls.
 pub fn noted()
-    ensures screen { (calls : List Call) (old new : Noting) → Goes Notes old calls new
-        → screen_of new ≡ after_all calls (screen_of old) }
-    ensures noted { (calls : List Call) (old new : Noting) (shown : Display) → Goes Notes old calls new
-        → HasNoted old shown → HasNoted new shown }
+    ensures { (calls : List Call) (screen : State) (shown : Display) → IsSized screen.display
+        → IsShownOf screen.display shown → IsShownOf (after_all calls screen).display shown }
 {}
 
 /// What is the same is not drawn: nothing of a screen that shows, and no cell that is like the one that stands there,

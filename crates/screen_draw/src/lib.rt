@@ -5,7 +5,7 @@
 //! wanted.forget();
 //! parser.advance_all(wanted, piece);
 //! update_noted(shown, wanted, output);
-//! behind.advance_all(shown, piece);
+//! shown.catch_up(wanted);
 //! // both screens have taken the piece: the next one may come
 //! ```
 #![tactic(auto)]
@@ -17,13 +17,10 @@ mod cells;
 mod changed;
 mod changes;
 mod cleared;
-mod columns;
 pub mod laws;
-mod noting;
 mod places;
 mod rest;
 mod showing;
-mod tracked;
 mod updates;
 mod whole;
 
@@ -33,23 +30,20 @@ ghost use Rattle.anstyle_parse.specs.Stream.Calls.{AreCalls};
 ghost use Rattle.anstyle_parse.specs.Stream.Canon.{canon};
 ghost use Rattle.screen_draw.specs.Bound.{draw_bound, update_bound};
 ghost use Rattle.screen_draw.specs.Draw.{drawn_calls};
-ghost use Rattle.screen_draw.specs.Drawing.{IsDrawing, HaveNoReset, Draws};
-ghost use Rattle.screen_draw.specs.Noting.{display_of, HasNoted};
-ghost use Rattle.screen_draw.specs.Tracked.{HasTracked, HasTrackedColumns};
+ghost use Rattle.screen_draw.specs.Drawing.{IsDrawing, HaveNoReset};
+ghost use Rattle.ansi_screen.specs.Following.{IsShownOf};
 ghost use Rattle.screen_draw.specs.Redrawn.{as_shown, drawn_state};
 ghost use Rattle.screen_draw.specs.Update.{update_calls};
 ghost use Rattle.ansi_screen.specs.After.{State, Shows};
-ghost use Rattle.ansi_screen.specs.Display.{IsSized};
+ghost use Rattle.ansi_screen.specs.Display.{Picture, IsSized};
 ghost use Rattle.ansi_screen.specs.Reachable.{IsScreen, HasContents};
 ghost use Rattle.std.specs.Prelude.{◌≡◌, ◌≤◌, ◌++◌, ℕ, List, length};
 ghost use Rattle.std.specs.List.{AllByRecursion};
 
 use ansi_screen::Screen;
 use anstyle_parse::io::{Output, Sink};
-use changed::Changed;
-pub use noting::Noting;
+use changed::Compared;
 pub use showing::{Form, show_to_end};
-use tracked::Tracked;
 pub use updates::{Stopped, update_to_end};
 use whole::{put_all, put_update};
 
@@ -73,13 +67,13 @@ pub fn draw<W: Sink>(screen: &Screen, output: &mut Output<W>)
     // stream leads to has these premises (`ansi_screen::laws::reachable`, `contents`).
     ensures redrawn { (old new : State) → IsScreen screen.now.display → HasContents screen.now.display
         → old.display.width ≡ screen.now.display.width → old.display.height ≡ screen.now.display.height
-        → Shows old (canon (drawn_calls screen.now.display)) new → new ≡ drawn_state screen.now.display }
+        → Shows old (canon (drawn_calls screen.now.display)) new → new ≡ drawn_state old.display.shown screen.now.display }
 
     // So it does behind any bytes, also where these have begun a string or a character.
     ensures anywhere { (before : List ℕ) (old new : State) → IsScreen screen.now.display
         → HasContents screen.now.display → IsScreen old.display
         → old.display.width ≡ screen.now.display.width → old.display.height ≡ screen.now.display.height
-        → Shows old (before ++ canon (drawn_calls screen.now.display)) new → new ≡ drawn_state screen.now.display }
+        → Shows old (before ++ canon (drawn_calls screen.now.display)) new → new ≡ drawn_state old.display.shown screen.now.display }
 
     // They print what is shown, and have no controls but SO and SI, and no strings.
     ensures only { AllByRecursion IsDrawing (drawn_calls screen.now.display) }
@@ -112,10 +106,11 @@ pub fn update<W: Sink>(shown: &Screen, wanted: &Screen, output: &mut Output<W>)
     ensures lawful { AreLawful (update_calls shown.now.display wanted.now.display) }
 
     // A terminal that shows the one, as a drawing or an update leaves it, shows by this text the other.
-    ensures updated { (old new : State) → IsScreen shown.now.display → HasContents shown.now.display
-        → IsScreen wanted.now.display → HasContents wanted.now.display → old.display ≡ as_shown shown.now.display
+    ensures updated { (since : Picture) (old new : State) → IsScreen shown.now.display → HasContents shown.now.display
+        → IsScreen wanted.now.display → HasContents wanted.now.display
+        → old.display ≡ as_shown since shown.now.display
         → Shows old (canon (update_calls shown.now.display wanted.now.display)) new
-        → new.display ≡ as_shown wanted.now.display }
+        → new.display ≡ as_shown since wanted.now.display }
 
     // They print what is shown, and have no controls but SO and SI, and no strings; there is neither RIS nor DECSTR.
     ensures only { AllByRecursion IsDrawing (update_calls shown.now.display wanted.now.display) }
@@ -125,62 +120,40 @@ pub fn update<W: Sink>(shown: &Screen, wanted: &Screen, output: &mut Output<W>)
     ensures bound { IsSized wanted.now.display → length (canon (update_calls shown.now.display wanted.now.display))
         ≤ update_bound shown.now.display wanted.now.display }
 {
-    put_update(output, shown, wanted, Changed::all(wanted.rows()), &[]);
+    put_update(output, shown, wanted, Compared::All);
 }
 
-/// Writes what [`update`] writes, and compares of the rows those alone that were noted.
+/// Writes what [`update`] writes, and compares only what the wanted screen has noted, to the column.
 ///
-/// All has to be noted in which what is wanted differs from what is shown. So it is where both have the same size and
-/// nothing was forgotten; and where both were the same when [`Noting::forget`] was called, whatever `wanted` has taken
-/// since ([`laws::noted`]).
-// Out of line `tests/cells` finds it, and counts what it alone takes, in `draw_tests`; and the next one in `ansi2screen`.
+/// That has to be all in which it differs from what is shown. So it is where both were the same when
+/// [`Screen::forget`] was called, whatever `wanted` has taken since ([`laws::noted`]).
+// Out of line `tests/cells` finds it, and counts what it alone takes, in `ansi2screen`.
 #[inline(never)]
-pub fn update_noted<W: Sink>(shown: &Screen, wanted: &Noting, output: &mut Output<W>)
-    requires noted { HasNoted wanted.now shown.now.display }
+pub fn update_noted<W: Sink>(shown: &Screen, wanted: &Screen, output: &mut Output<W>)
+    requires noted { IsShownOf wanted.now.display shown.now.display }
 
-    // It adds the canonical text of the calls of an update.
-    ensures text { Adds W.Sink (canon (update_calls shown.now.display (display_of wanted.now))) output.old output.new }
+    // It adds the canonical text of these calls.
+    ensures text { Adds W.Sink (canon (update_calls shown.now.display wanted.now.display)) output.old output.new }
 
     // A parser makes these calls of it, and no others.
-    ensures made { AreCalls (canon (update_calls shown.now.display (display_of wanted.now)))
-        (update_calls shown.now.display (display_of wanted.now)) }
-    ensures lawful { AreLawful (update_calls shown.now.display (display_of wanted.now)) }
+    ensures made { AreCalls (canon (update_calls shown.now.display wanted.now.display))
+        (update_calls shown.now.display wanted.now.display) }
+    ensures lawful { AreLawful (update_calls shown.now.display wanted.now.display) }
 
     // A terminal that shows the one, as a drawing or an update leaves it, shows by this text the other.
-    ensures updated { (old new : State) → IsScreen shown.now.display → HasContents shown.now.display
-        → IsScreen (display_of wanted.now) → HasContents (display_of wanted.now)
-        → old.display ≡ as_shown shown.now.display
-        → Shows old (canon (update_calls shown.now.display (display_of wanted.now))) new
-        → new.display ≡ as_shown (display_of wanted.now) }
+    ensures updated { (since : Picture) (old new : State) → IsScreen shown.now.display → HasContents shown.now.display
+        → IsScreen wanted.now.display → HasContents wanted.now.display
+        → old.display ≡ as_shown since shown.now.display
+        → Shows old (canon (update_calls shown.now.display wanted.now.display)) new
+        → new.display ≡ as_shown since wanted.now.display }
 
     // They print what is shown, and have no controls but SO and SI, and no strings; there is neither RIS nor DECSTR.
-    ensures only { AllByRecursion IsDrawing (update_calls shown.now.display (display_of wanted.now)) }
-    ensures no_reset { HaveNoReset (update_calls shown.now.display (display_of wanted.now)) }
+    ensures only { AllByRecursion IsDrawing (update_calls shown.now.display wanted.now.display) }
+    ensures no_reset { HaveNoReset (update_calls shown.now.display wanted.now.display) }
 
     // As many as a drawing, where all is drawn, and so many to clear what is shown.
-    ensures bound { IsSized (display_of wanted.now)
-        → length (canon (update_calls shown.now.display (display_of wanted.now)))
-        ≤ update_bound shown.now.display (display_of wanted.now) }
+    ensures bound { IsSized wanted.now.display → length (canon (update_calls shown.now.display wanted.now.display))
+        ≤ update_bound shown.now.display wanted.now.display }
 {
-    put_update(output, shown, wanted.screen(), wanted.changed(), &[]);
-}
-
-/// Writes what [`update`] writes, and compares of each row those columns alone that can have changed.
-#[inline(never)]
-pub(crate) fn update_noted_columns<W: Sink>(
-    shown: &Screen,
-    wanted: &Tracked,
-    output: &mut Output<W>,
-)
-    requires rows { HasTracked wanted.now shown.now.display }
-    requires columns { HasTrackedColumns wanted.now shown.now.display }
-    ensures { Draws W.Sink (update_calls shown.now.display wanted.now.screen.display) output.old output.new }
-{
-    put_update(
-        output,
-        shown,
-        wanted.screen(),
-        wanted.changed(),
-        wanted.spans(),
-    );
+    put_update(output, shown, wanted, Compared::Noted);
 }

@@ -1,75 +1,15 @@
 //! Updates, behind each piece of a stream.
-ghost use Rattle.std.specs.Prelude.{◌≡◌, ◌++◌, [], ℕ, List, None};
+ghost use Rattle.std.specs.Prelude.{◌≡◌, [], None};
 ghost use Rattle.anstyle_parse.specs.Io.Output.{fault_in, Adds};
-ghost use Rattle.anstyle_parse.specs.Views.Accumulator.{front_of};
-ghost use Rattle.anstyle_parse.specs.Views.Parser.{IsAfter};
-ghost use Rattle.ansi_screen.specs.After.{State, Shows};
-ghost use Rattle.screen_draw.specs.Noting.{screen_of};
-ghost use Rattle.screen_draw.specs.Tracked.{HasTracked};
 ghost use Rattle.screen_draw.specs.Updates.{Follows, GetsOn};
 
-use crate::changed::Changed;
-use crate::noting::Noting;
-use crate::tracked::Tracked;
-use crate::{draw, update_noted_columns};
+use crate::{draw, update_noted};
 use ansi_screen::Screen;
 use anstyle_parse::io::{Fault, Output, Sink, Source};
 use anstyle_parse::{Parser, Utf8Parser};
 
 /// The bytes that one read is asked for: as many as a pipe of Linux holds.
 const PIECE: usize = 65_536;
-
-/// In the time in which a byte is taken as many cells are copied. At 120x40 a cell took 0.5 ns, and a byte of short
-/// sequences 4.4.
-const CELLS_A_BYTE: usize = 8;
-
-/// Of so many cells two screens take 1 MB, which a processor holds near. Where there are more, a cell took 3.3 ns at 300x100,
-/// and 8 at 1000x1000, which is counted as a byte.
-const NEAR_CELLS: usize = 13_000;
-
-/// In the time in which a parser is copied as many cells are.
-const PARSER_CELLS: usize = 64;
-
-/// Whether less time goes by where a screen comes to another one by [`Screen::catch_up`], and a parser is copied, than
-/// where so many bytes are taken a second time.
-fn is_copied(changed: Changed, screen: &Screen, bytes: usize) -> bool {
-    let rows = changed
-        .past
-        .min(screen.rows())
-        .saturating_sub(changed.first);
-    let covered_rows = if changed.is_framed { screen.rows() } else { 0 };
-    let cells = (rows + covered_rows) * screen.columns() + PARSER_CELLS;
-    cells <= bytes || (cells <= NEAR_CELLS && cells / CELLS_A_BYTE <= bytes)
-}
-
-/// The screen that is shown, and the parser that has made it, come to where the wanted one and its parser are, which
-/// have taken a piece more: by a copy of what can have changed, or by taking the piece a second time.
-fn come_after(
-    shown: &mut Screen,
-    behind: &mut Parser<Utf8Parser>,
-    wanted: &Tracked,
-    parser: &Parser<Utf8Parser>,
-    piece: &[u8],
-)
-    requires { HasTracked wanted.now shown.old.display }
-    ensures screen { (first : State) (before : List ℕ) → Shows first before shown.old
-        → IsAfter front_of behind.old before → Shows first (before ++ piece.now) wanted.now.screen
-        → shown.new ≡ wanted.now.screen }
-    ensures parser { (before : List ℕ) → IsAfter front_of behind.old before
-        → IsAfter front_of parser.now (before ++ piece.now) → IsAfter front_of behind.new (before ++ piece.now) }
-{
-    let changed = wanted.changed();
-    let screen = wanted.screen();
-    if is_copied(changed, screen, piece.len()) {
-        // (a clone never fails)
-        if let Ok(clone) = parser.clone() {
-            shown.catch_up(screen, changed.first, changed.past, changed.is_framed);
-            *behind = clone;
-            return;
-        }
-    }
-    behind.advance_texts(shown, piece);
-}
 
 /// Why no more was followed.
 #[derive(Debug, Clone, Copy, PartialEq, Eq)]
@@ -99,9 +39,8 @@ fn hand_on<W: Sink>(output: &mut Output<W>) -> Result<(), Stopped>
 /// to, until the reader ends or fails, or a write fails, of which none has before, or what the writer holds back can't be
 /// passed on. What was written is handed on before the next read. At most 2^64 - 1 reads are made. No memory is taken.
 ///
-/// Of the rows only those are compared that the bytes of a read can have changed, and of such a row only the columns that
-/// can have. Then these rows are copied; or, where they have many cells for the bytes of the read, these are taken a
-/// second time.
+/// `wanted` takes the bytes. Of both screens only that is compared, drawn and copied which `wanted` has noted since the read
+/// before, to the column.
 ///
 /// Both screens are the one that is drawn first; in the end `wanted` has the last one. The answer is
 ///
@@ -113,19 +52,15 @@ fn hand_on<W: Sink>(output: &mut Output<W>) -> Result<(), Stopped>
 pub fn update_to_end<R: Source, W: Sink>(
     reader: &mut R,
     shown: &mut Screen,
-    wanted: &mut Noting,
+    wanted: &mut Screen,
     output: &mut Output<W>,
 ) -> Result<(), Stopped>
-    requires same { shown.old ≡ screen_of wanted.old }
+    requires same { shown.old ≡ wanted.old }
     requires no_fault { fault_in output.old ≡ None }
-    ensures { Follows R.Source W.Sink reader.old reader.new (screen_of wanted.old) (screen_of wanted.new)
-        output.old output.new result }
+    ensures { Follows R.Source W.Sink reader.old reader.new wanted.old wanted.new output.old output.new result }
 {
-    // The sizes of both are within their limits.
-    let _ = wanted.screen().columns();
     draw(shown, output);
     hand_on(output)?;
-    let mut behind = Parser::<Utf8Parser>::new();
     let mut parser = Parser::<Utf8Parser>::new();
     let mut piece = [0; PIECE];
     for turn in 0..u64::MAX {
@@ -133,17 +68,13 @@ pub fn update_to_end<R: Source, W: Sink>(
             None => return Err(Stopped::AtFault(Fault::Read)),
             Some(0) => return Ok(()),
             Some(count) => {
-                wanted.tracked.forget();
-                parser.advance_texts(&mut wanted.tracked, &piece[..count]);
-                update_noted_columns(shown, &wanted.tracked, output);
+                wanted.forget();
+                // The sizes are within their limits.
+                let _ = wanted.columns();
+                parser.advance_texts(wanted, &piece[..count]);
+                update_noted(shown, wanted, output);
                 hand_on(output)?;
-                come_after(
-                    shown,
-                    &mut behind,
-                    &wanted.tracked,
-                    &parser,
-                    &piece[..count],
-                );
+                shown.catch_up(wanted);
             }
         }
     }

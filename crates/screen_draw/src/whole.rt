@@ -1,6 +1,5 @@
 //! A whole screen, and the one that it covers.
-ghost use Rattle.screen_draw.specs.Changed.{Keeps};
-ghost use Rattle.screen_draw.specs.Columns.{KeepsSpans};
+ghost use Rattle.screen_draw.specs.Changed.{AreCompared};
 ghost use Rattle.screen_draw.specs.Draw.{covered_calls, shown_screen_calls, drawn_calls};
 ghost use Rattle.screen_draw.specs.Drawing.{Draws};
 ghost use Rattle.screen_draw.specs.Update.{update_calls};
@@ -9,10 +8,9 @@ ghost use Rattle.std.specs.Prelude.{◌≡◌};
 use crate::alike::{is_steady, looks_same};
 use crate::buffer::Buffer;
 use crate::calls::{put_escape, put_private_mode};
-use crate::changed::Changed;
+use crate::changed::Compared;
 use crate::changes::put_changes;
 use crate::cleared::put_cleared;
-use crate::columns::Span;
 use crate::places::put_screen;
 use crate::rest::put_rest;
 use ansi_screen::Screen;
@@ -49,21 +47,18 @@ pub(crate) fn put_all<W: Sink>(output: &mut Output<W>, screen: &Screen)
     put_shown_screen(output, screen);
 }
 
-/// Draws what differs; all, where more differs than cells, margins, the cursor, DECAWM and DECTCEM. Of the rows only
-/// those are compared that can have changed, and of such a row only the columns that can have changed.
+/// Draws what differs; all, where more differs than cells, margins, the cursor, DECAWM and DECTCEM.
 pub(crate) fn put_update<W: Sink>(
     output: &mut Output<W>,
     shown: &Screen,
     wanted: &Screen,
-    changed: Changed,
-    spans: &[Span],
+    compared: Compared,
 )
-    requires rows { Keeps changed shown.now.display wanted.now.display }
-    requires columns { KeepsSpans spans.now shown.now.display wanted.now.display }
+    requires { AreCompared compared shown.now.display wanted.now.display }
     ensures { Draws W.Sink (update_calls shown.now.display wanted.now.display) output.old output.new }
 {
-    if is_steady(shown, wanted, changed) {
-        put_changes(output, shown, wanted, changed, spans);
+    if is_steady(shown, wanted, compared) {
+        put_changes(output, shown, wanted, compared);
     } else if !looks_same(shown, wanted) {
         put_cleared(output, shown);
         put_shown_screen(output, wanted);

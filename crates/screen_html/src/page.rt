@@ -27,7 +27,7 @@ fn put_rows<W: Sink>(
     let mut is_open = false;
     for row in 0..count {
         let cells = screen.row(row);
-        put_row(writer, links, cells);
+        put_row(writer, links, cells, screen.written(row));
         is_open = goes_on(cells);
     }
     is_open

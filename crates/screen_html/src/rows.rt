@@ -1,6 +1,7 @@
 //! Rows as HTML.
-ghost use Rattle.std.specs.Prelude.{◌≡◌, ◌∷◌, [], map};
+ghost use Rattle.std.specs.Prelude.{◌≡◌, ◌≤◌, ◌∷◌, [], length, map};
 ghost use Rattle.anstyle_parse.specs.Io.Output.{Adds};
+ghost use Rattle.ansi_screen.specs.Grid.{IsBlankFrom};
 ghost use Rattle.ansi_screen.specs.Text.{marks_text};
 ghost use Rattle.ansi_html.specs.Html.{escaped_text};
 ghost use Rattle.ansi_html.specs.Styled.{output_of as styled_output, styling_of, shown_in, WritesStyled};
@@ -9,7 +10,7 @@ ghost use Rattle.screen_html.specs.Shown.{cell_styled, line_feed, row_styled};
 use crate::runs::{BLOCK, copy_run, put_run};
 use crate::table::{LinkMemory, LinkTable};
 use ansi_html::{StyledWriter, Styling};
-use ansi_screen::{Cell, LeftOut, Marks, TakeCommand, TakeRow, goes_on, used};
+use ansi_screen::{Cell, LeftOut, Marks, TakeCommand, TakeRow, goes_on, used_of_written};
 use ansi_style::Style;
 use anstyle_parse::io::{Output, Sink};
 use screen_text::WriteRows;
@@ -70,11 +71,18 @@ pub(crate) fn put_line_feed<W: Sink>(writer: &mut StyledWriter<W>, links: &LinkT
 }
 
 /// Writes a row, without the cells at its end where nothing was printed; with a line feed, unless
-/// it goes on.
-pub(crate) fn put_row<W: Sink>(writer: &mut StyledWriter<W>, links: &LinkTable, row: &[Cell])
+/// it goes on. Those from `written` on are plain blanks, and are not looked at.
+pub(crate) fn put_row<W: Sink>(
+    writer: &mut StyledWriter<W>,
+    links: &LinkTable,
+    row: &[Cell],
+    written: usize,
+)
+    requires within { written ≤ length row.now }
+    requires rest { IsBlankFrom written row.now }
     ensures { WritesStyled W.Sink writer.old (row_styled links.now row.now) writer.new }
 {
-    let end = used(row, LeftOut::Unprinted);
+    let end = used_of_written(row, written, LeftOut::Unprinted);
     put_cells(writer, links, &row[..end]);
     if !goes_on(row) {
         put_line_feed(writer, links);
@@ -122,8 +130,8 @@ impl<W: Sink> TakeRow for HtmlRows<W> {
 
     ghost passes_on = { PassesOn W.Sink };
 
-    fn take_row(&mut self, row: &[Cell]) {
-        put_row(&mut self.writer, &self.links, row);
+    fn take_row(&mut self, row: &[Cell], written: usize) {
+        put_row(&mut self.writer, &self.links, row, written);
         self.is_open = goes_on(row);
     }
 

@@ -4,9 +4,14 @@ use Rattle.anstyle_parse.specs.Stream.Call.{Call}
 use Rattle.anstyle_parse.specs.Stream.Calls.{Continues}
 use Rattle.anstyle_parse.proofs.Division.Only.{AreCalls-only}
 use Rattle.ansi_screen.specs.After.{State, Shows, after_all}
-use Rattle.ansi_screen.specs.Leaving.{TakesRows, all_left}
+use Rattle.ansi_screen.specs.Leaving.{screen_of, TakesRows, all_left}
 use Rattle.ansi_screen.specs.TextsProof.{after_all-append, all_left-append}
+use Rattle.screen_draw.proofs.NotedLemmas.{since-stays}
+use Rattle.ansi_screen.specs.Display.{Picture}
+use Rattle.ansi_screen.specs.Laws.{with_shown}
+use Rattle.screen_pieces.specs.declared.watched.Watched.{Watched}
 use Rattle.screen_pieces.specs.History.{Kept, kept_of, KeepsLeft, Takes}
+use Rattle.screen_pieces.specs.Watched.{WatchesAll}
 use Rattle.screen_pieces.proofs.HistoryLemmas.{kept-all, same-room}
 
 pub shows-more : (first old new : State) (before more : List ℕ) (made : List Call) → Continues before more made
@@ -33,3 +38,13 @@ keeps-more first screen before more made old new continues shows kept taken =
 pub keeps-none : (most columns : ℕ) (kept : Kept) → kept ≡ kept_of most columns [] → kept ≡ kept_of kept.most kept.columns []
 keeps-none most columns kept is =
     is ∙ ap₂ (λ m n. kept_of m n []) (sym (ap (λ (k : Kept). k.most) is)) (sym (ap (λ (k : Kept). k.columns) is))
+
+-- The picture since which it notes what changes stays.
+pub picture-stays : (made : List Call) (old new : Watched) → WatchesAll old made new
+    → (screen_of new.scrolling).display.shown ≡ (screen_of old.scrolling).display.shown
+picture-stays made old new watches =
+    ap (λ (s : State). s.display.shown) watches.scrolls.screen ∙ since-stays made (screen_of old.scrolling)
+
+-- a screen with the picture that it has
+pub with-own : (s first : State) (since : Picture) → s ≡ with_shown since first → s ≡ with_shown s.display.shown first
+with-own s first since is = is ∙ ap (λ (e : State). with_shown e.display.shown first) (sym is)

@@ -1,5 +1,5 @@
 -- What the bytes of a cell say.
-use Rattle.std.specs.Prelude.{◌≡◌, ℕ, ◌==◌, if◌then◌else◌}
+use Rattle.std.specs.Prelude.{◌≡◌, ◌≤◌, ℕ, ◌==◌, if◌then◌else◌}
 use Rattle.ansi_style.specs.declared.style.Color.TheVariants.{Default}
 use Rattle.ansi_screen.specs.declared.cell.Cell.{Cell}
 use Rattle.ansi_screen.specs.declared.cell.Part.{Part}
@@ -7,7 +7,7 @@ use Rattle.ansi_screen.specs.declared.cell.Part.TheVariants.{Empty, Whole, Left,
 use Rattle.ansi_screen.specs.declared.cell.Marks.{Marks}
 use Rattle.ansi_screen.specs.declared.cell.Marks.TheVariants.{Unmarked, One, Two}
 use Rattle.screen_pieces.specs.declared.cell.CellBytes.{CellBytes}
-use Rattle.screen_pieces.specs.Styles.{style_of, is_set}
+use Rattle.screen_pieces.specs.Styles.{style_of, is_set, kind_of}
 
 abbrev pub part_of : ℕ → Part
 part_of number = if number == 1 then Whole else if number == 2 then Left else if number == 3 then Right else Empty
@@ -15,9 +15,9 @@ part_of number = if number == 1 then Whole else if number == 2 then Left else if
 abbrev pub marks_of : (count first second : ℕ) → Marks
 marks_of count first second = if count == 1 then One first else if count == 2 then Two first second else Unmarked
 
--- It has the terminal's own colours and no marks.
-pub record IsBare (cell : Cell) : Type 0 where
-  pub foreground : cell.style.foreground ≡ Default
+-- It has no marks and the terminal's own background, and the number of its foreground's kind is at most this.
+pub record IsPlain (most : ℕ) (cell : Cell) : Type 0 where
+  pub foreground : kind_of cell.style.foreground ≤ most
   pub background : cell.style.background ≡ Default
   pub marks : cell.marks ≡ Unmarked
 

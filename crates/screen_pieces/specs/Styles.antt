@@ -27,6 +27,14 @@ color_by kind first second third =
     else if kind == 4 then Direct first second third
     else Default
 
+-- the kind of a colour by its number, as `color_by` has it
+abbrev pub kind_of : Color → ℕ
+kind_of Default = 0
+kind_of (Named hue) = 1
+kind_of (Bright hue) = 2
+kind_of (Indexed number) = 3
+kind_of (Direct red green blue) = 4
+
 abbrev pub color_of : ColorBytes → Color
 color_of bytes =
     color_by bytes.kind (first_of bytes.values) (first_of (behind bytes.values)) (first_of (behind (behind bytes.values)))

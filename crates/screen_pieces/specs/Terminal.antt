@@ -6,10 +6,11 @@ use Rattle.anstyle_parse.specs.Stream.Calls.{AreCalls}
 use Rattle.anstyle_parse.specs.Views.Accumulator.{front_of}
 use Rattle.anstyle_parse.specs.Views.Parser.{IsAfter}
 use Rattle.ansi_screen.specs.declared.cell.Cell.{Cell}
-use Rattle.ansi_screen.specs.After.{State, new_state, Shows}
+use Rattle.ansi_screen.specs.After.{State, new_state, Shows, as_shown}
 use Rattle.ansi_screen.specs.Cells.{blank}
 use Rattle.ansi_screen.specs.Display.{Display, row_cells}
 use Rattle.ansi_screen.specs.Leaving.{screen_of as scrolling_screen, taker_of}
+use Rattle.ansi_screen.specs.Laws.{with_shown}
 use Rattle.screen_html.specs.Links.{Kept as KeptLink, no_links}
 use Rattle.screen_html.specs.Page.{all_links}
 use Rattle.screen_pieces.specs.declared.cell.CellBytes.{CellBytes}
@@ -37,13 +38,24 @@ links_of terminal = terminal.watched.links
 abbrev pub KeepsLinks : State → List ℕ → List KeptLink → Type 0
 KeepsLinks first bytes links = (calls : List Call) × AreCalls bytes calls × (links ≡ all_links calls first no_links)
 
+-- the first screen of a stream, with the picture from which on this one notes what changes: no call reads that
+abbrev pub begun : (first : State) → Terminal → State
+begun first terminal = with_shown (display_of terminal).shown first
+
 -- It stands after the bytes: its screen is the one that they lead to, from a first one on, its parser stands after
 -- them, and what it keeps are the last rows that left by them and the last links that began.
 pub record StandsAfter (first : State) (bytes : List ℕ) (terminal : Terminal) : Type 0 where
-  pub shows : Shows first bytes (screen_of terminal)
+  pub shows : Shows (begun first terminal) bytes (screen_of terminal)
   pub parser : IsAfter front_of terminal.parser bytes
   pub history : KeepsLeft first bytes (history_of terminal)
   pub links : KeepsLinks first bytes (links_of terminal)
+
+-- Another one stands where it stands, in all that it shows and keeps; what it notes is what changes from now on.
+pub record IsCopy (terminal copy : Terminal) : Type 0 where
+  pub screen : screen_of copy ≡ as_shown (screen_of terminal)
+  pub parser : copy.parser ≡ terminal.parser
+  pub history : history_of copy ≡ history_of terminal
+  pub links : links_of copy ≡ links_of terminal
 
 -- It takes the next bytes of the stream: whatever bytes it stood after, it stands after these too.
 pub record Feeds (piece : List ℕ) (old new : Terminal) : Type 0 where

@@ -1,15 +1,19 @@
 //! Cells in plain bytes.
 ghost use Rattle.std.specs.Prelude.{◌≡◌, ◌≤◌, length, take, drop, map};
 ghost use Rattle.std.specs.List.{All};
-ghost use Rattle.std.specs.Bool.{OnTrue};
-ghost use Rattle.screen_pieces.specs.Cells.{cell_in, part_of, marks_of, IsBare};
+ghost use Rattle.std.specs.Bool.{OnTrue, OnFalse};
+ghost use Rattle.ansi_screen.specs.declared.cell.Marks.TheVariants.{Unmarked};
+ghost use Rattle.screen_pieces.specs.Cells.{cell_in, part_of, marks_of, IsPlain};
+ghost use Rattle.screen_pieces.specs.Styles.{color_of, kind_of};
 
-use crate::style::{ColorBytes, StyleBytes, flag};
+use crate::style::{ColorBytes, StyleBytes, flag, kind_number};
 use ansi_screen::{Cell, Marks, Part};
-use ansi_style::Color;
 
 /// How many cells are looked at together.
-const FEW: usize = 4;
+const FEW: usize = 10;
+
+/// The last of the kinds of colours that have a number at most.
+const NUMBERED: u8 = 3;
 
 /// What one place of a screen shows.
 #[repr(C)]
@@ -73,20 +77,32 @@ impl CellBytes {
     }
 }
 
-/// Whether a cell has neither colours nor marks, as most have.
+/// How many marks there are.
 #[inline(always)]
-fn is_bare(cell: &Cell) -> bool
-    ensures { OnTrue result (IsBare cell.now) }
+fn mark_count(marks: &Marks) -> u8
+    ensures { result ≡ 0 → marks.now ≡ Unmarked }
 {
-    matches!(cell.style.foreground, Color::Default)
-        & matches!(cell.style.background, Color::Default)
-        & matches!(cell.marks, Marks::Unmarked)
+    match *marks {
+        Marks::Unmarked => 0,
+        Marks::One(_) => 1,
+        Marks::Two(_, _) => 2,
+    }
 }
 
-/// The bytes of a cell that has neither.
+/// 0 where a cell has no marks and the terminal's own background, as most have: bits, so that those of many cells are soon
+/// put together.
 #[inline(always)]
-fn of_bare(cell: &Cell) -> CellBytes
-    requires { IsBare cell.now }
+fn beside(cell: &Cell) -> u8
+    ensures { result ≡ 0 → IsPlain (kind_of cell.now.style.foreground) cell.now }
+{
+    kind_number(&cell.style.background) | mark_count(&cell.marks)
+}
+
+/// The bytes of such a cell, of whose foreground these are the bytes.
+#[inline(always)]
+fn with_foreground(cell: &Cell, foreground: ColorBytes) -> CellBytes
+    requires plain { IsPlain 3 cell.now }
+    requires foreground { color_of foreground ≡ cell.now.style.foreground }
     ensures { cell_in result ≡ cell.now }
 {
     CellBytes {
@@ -94,11 +110,32 @@ fn of_bare(cell: &Cell) -> CellBytes
         first_mark: 0,
         second_mark: 0,
         link: cell.link,
-        style: StyleBytes::with(&cell.style, ColorBytes::own(), ColorBytes::own()),
+        style: StyleBytes::with(&cell.style, foreground, ColorBytes::own()),
         mark_count: 0,
         part: part_number(cell.part),
         goes_on: flag(cell.goes_on),
     }
+}
+
+/// Writes the bytes of a cell where that is soon done: where it is such a cell, and its foreground has a number at most.
+#[inline(always)]
+pub(crate) fn put_plain(cell: &Cell, room: &mut CellBytes) -> bool
+    ensures written { OnTrue result (cell_in room.new ≡ cell.now) }
+    ensures refused { OnFalse result (room.new ≡ room.old) }
+{
+    let kind = kind_number(&cell.style.foreground);
+    if beside(cell) != 0 {
+        return false;
+    }
+    let foreground = if kind == 0 {
+        ColorBytes::own()
+    } else if kind > NUMBERED {
+        return false;
+    } else {
+        ColorBytes::by_number(&cell.style.foreground)
+    };
+    *room = with_foreground(cell, foreground);
+    true
 }
 
 /// Writes the bytes of any cell, out of line: else LLVM puts together what this and a bare cell write.
@@ -127,39 +164,56 @@ fn put_any(cell: &Cell, room: &mut CellBytes)
 pub(crate) fn put_cell(cell: &Cell, room: &mut CellBytes)
     ensures { cell_in room.new ≡ cell.now }
 {
-    if is_bare(cell) {
-        *room = of_bare(cell);
-    } else {
+    if !put_plain(cell, room) {
         put_any(cell, room);
     }
 }
 
-/// Whether each of the cells has neither colours nor marks.
+/// 0 where all cells have no marks and the terminal's own background; and a number that is at least that of each foreground's
+/// kind.
 #[inline(always)]
-fn are_bare(cells: &[Cell]) -> bool
-    ensures { OnTrue result (All IsBare cells.now) }
+fn kinds(cells: &[Cell]) -> (u8, u8)
+    ensures { result.0 ≡ 0 → All (IsPlain result.1) cells.now }
 {
-    let mut bare = true;
+    let mut others = 0;
+    let mut most = 0;
     for cell in cells {
-        bare = bare & is_bare(cell);
+        others = others | beside(cell);
+        most = most | kind_number(&cell.style.foreground);
     }
-    bare
+    (others, most)
 }
 
-/// Writes cells that have neither to the front of the room.
+/// Writes cells in the terminal's own colours, without marks, to the front of the room.
 #[inline(always)]
 fn put_bare(cells: &[Cell], room: &mut [CellBytes])
-    requires bare { All IsBare cells.now }
+    requires bare { All (IsPlain 0) cells.now }
     requires room { length cells.now ≤ length room.old }
     ensures written { map cell_in (take (length cells.now) room.new) ≡ cells.now }
     ensures rest { drop (length cells.now) room.new ≡ drop (length cells.now) room.old }
 {
     for (place, cell) in cells.iter().enumerate() {
-        room[place] = of_bare(cell);
+        room[place] = with_foreground(cell, ColorBytes::own());
+    }
+}
+
+/// Writes cells to the front of the room that have no marks, the terminal's own background, and foregrounds that have a
+/// number at most.
+#[inline(always)]
+fn put_numbered(cells: &[Cell], room: &mut [CellBytes])
+    requires plain { All (IsPlain 3) cells.now }
+    requires room { length cells.now ≤ length room.old }
+    ensures written { map cell_in (take (length cells.now) room.new) ≡ cells.now }
+    ensures rest { drop (length cells.now) room.new ≡ drop (length cells.now) room.old }
+{
+    for (place, cell) in cells.iter().enumerate() {
+        room[place] = with_foreground(cell, ColorBytes::by_number(&cell.style.foreground));
     }
 }
 
 /// Writes any cells to the front of the room.
+#[cold]
+#[inline(never)]
 fn put_each(cells: &[Cell], room: &mut [CellBytes])
     requires { length cells.now ≤ length room.old }
     ensures written { map cell_in (take (length cells.now) room.new) ≡ cells.now }
@@ -177,10 +231,13 @@ fn put_few(cells: &[Cell], room: &mut [CellBytes])
     ensures written { map cell_in (take (length cells.now) room.new) ≡ cells.now }
     ensures rest { drop (length cells.now) room.new ≡ drop (length cells.now) room.old }
 {
-    if are_bare(cells) {
+    let (others, most) = kinds(cells);
+    if others != 0 || most > NUMBERED {
+        put_each(cells, room);
+    } else if most == 0 {
         put_bare(cells, room);
     } else {
-        put_each(cells, room);
+        put_numbered(cells, room);
     }
 }
 
@@ -191,7 +248,7 @@ pub(crate) fn put_cells(cells: &[Cell], room: &mut [CellBytes])
     ensures rest { drop (length cells.now) room.new ≡ drop (length cells.now) room.old }
 {
     let mut done = 0;
-    'fours: while FEW <= cells.len() - done {
+    'tens: while FEW <= cells.len() - done {
         put_few(&cells[done..done + FEW], &mut room[done..done + FEW]);
         done += FEW;
     }

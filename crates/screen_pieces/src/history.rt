@@ -191,7 +191,7 @@ impl TakeRow for History {
 
     ghost passes_on = { λ old new. new ≡ kept_of old.most old.columns [] };
 
-    fn take_row(&mut self, row: &[Cell]) {
+    fn take_row(&mut self, row: &[Cell], _written: usize) {
         self.keep(row);
     }
 

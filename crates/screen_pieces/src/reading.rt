@@ -6,7 +6,7 @@ ghost use Rattle.screen_pieces.specs.Styles.{style_of};
 ghost use Rattle.screen_pieces.specs.Text.{HasText, LacksRoom, text_of_row, text_of_part};
 ghost use Rattle.screen_pieces.specs.History.{text_of_kept};
 
-use crate::cell::{CellBytes, put_cell, put_cells};
+use crate::cell::{CellBytes, put_cell, put_cells, put_plain};
 use crate::modes::ModeBytes;
 use crate::style::StyleBytes;
 use crate::terminal::Terminal;
@@ -80,6 +80,19 @@ impl Terminal {
         }
         put_cell(&self.screen().row(row)[column], room);
         true
+    }
+
+    /// Writes the cell as [`Terminal::put_cell`] does, where that is soon done: where it has no marks, the terminal's own
+    /// background, and a foreground that has a number at most. False anywhere else, and nothing is written.
+    #[inline(always)]
+    pub fn put_plain_cell(&self, row: usize, column: usize, room: &mut CellBytes) -> bool
+        ensures cell { OnTrue result (HasCell row column room.new self.now) }
+        ensures refused { OnFalse result (room.new ≡ room.old) }
+    {
+        if self.screen().rows() <= row || self.screen().columns() <= column {
+            return false;
+        }
+        put_plain(&self.screen().row(row)[column], room)
     }
 
     /// Writes the cells of a row, counted from 0, to the front of the room; false, where there is no such row or

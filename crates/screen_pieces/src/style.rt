@@ -1,6 +1,7 @@
 //! Styles in plain bytes, of which any are valid.
-ghost use Rattle.std.specs.Prelude.{◌≡◌};
-ghost use Rattle.screen_pieces.specs.Styles.{color_of, underline_of, is_set, style_of};
+ghost use Rattle.std.specs.Prelude.{◌≡◌, ◌≤◌};
+ghost use Rattle.ansi_style.specs.declared.style.Color.TheVariants.{Default};
+ghost use Rattle.screen_pieces.specs.Styles.{color_of, kind_of, underline_of, is_set, style_of};
 
 use ansi_style::{Color, Style, Underline};
 
@@ -34,9 +35,22 @@ pub struct StyleBytes {
     pub overlined: u8,
 }
 
-impl ColorBytes {
-    ghost use Rattle.ansi_style.specs.declared.style.Color.TheVariants.{Default};
+/// The number of the kind of a colour.
+#[inline(always)]
+pub(crate) fn kind_number(color: &Color) -> u8
+    ensures kind { result ≡ kind_of color.now }
+    ensures own { result ≡ 0 → color.now ≡ Default }
+{
+    match *color {
+        Color::Default => 0,
+        Color::Named(_) => 1,
+        Color::Bright(_) => 2,
+        Color::Indexed(_) => 3,
+        Color::Direct(_, _, _) => 4,
+    }
+}
 
+impl ColorBytes {
     /// The terminal's own colour.
     #[inline(always)]
     pub(crate) fn own() -> ColorBytes
@@ -45,6 +59,25 @@ impl ColorBytes {
         ColorBytes {
             kind: 0,
             values: [0, 0, 0],
+        }
+    }
+
+    /// A colour that is the terminal's own or has a number: two bytes of its memory tell it, and no table of cases.
+    #[inline(always)]
+    pub(crate) fn by_number(color: &Color) -> ColorBytes
+        requires { kind_of color.now ≤ 3 }
+        ensures { color_of result ≡ color.now }
+    {
+        let number = match *color {
+            Color::Default => 0,
+            Color::Named(hue) => hue as u8,
+            Color::Bright(hue) => hue as u8,
+            Color::Indexed(number) => number,
+            Color::Direct(red, _, _) => red,
+        };
+        ColorBytes {
+            kind: kind_number(color),
+            values: [number, 0, 0],
         }
     }
 

@@ -1,6 +1,6 @@
 //! A screen with the parser that leads to it.
 ghost use Rattle.std.specs.Prelude.{◌≡◌, ◌≤◌, [], IfOk};
-ghost use Rattle.ansi_screen.specs.After.{new_state};
+ghost use Rattle.ansi_screen.specs.After.{new_state, as_shown};
 
 use crate::history::History;
 use crate::watched::Watched;
@@ -21,16 +21,16 @@ pub struct Terminal {
 
 /// A screen as this one is.
 fn copied(alloc: Global, screen: &Screen) -> Result<Screen, AllocError>
-    ensures { IfOk result (λ copy. copy ≡ screen.now) }
+    ensures { IfOk result (λ copy. copy ≡ as_shown screen.now) }
 {
     let (columns, rows) = (screen.columns(), screen.rows());
     let mut copy = Screen::new(alloc, columns, rows)?;
-    copy.catch_up(screen, 0, rows, true);
+    copy.copy_from(screen);
     Ok(copy)
 }
 
 impl Terminal {
-    ghost use Rattle.screen_pieces.specs.Terminal.{screen_of, history_of, links_of, StandsAfter, Feeds, Begins, IsNew};
+    ghost use Rattle.screen_pieces.specs.Terminal.{screen_of, history_of, links_of, StandsAfter, Feeds, Begins, IsNew, IsCopy};
 
     /// A blank screen of so many columns and rows, at the beginning of a stream. `Err` means that memory is
     /// wanting.
@@ -71,7 +71,7 @@ impl Terminal {
 
     /// Another one that stands where it stands, in all that it shows and keeps. `Err` means that memory is wanting.
     pub fn copy(&self, alloc: Global) -> Result<Terminal, AllocError>
-        ensures { IfOk result (λ copy. copy ≡ self.now) }
+        ensures { IfOk result (IsCopy self.now) }
     {
         let parser = self.parser.clone()?;
         let screen = copied(alloc, self.screen())?;

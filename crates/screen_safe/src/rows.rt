@@ -1,10 +1,11 @@
 //! Rows as safe text.
-ghost use Rattle.std.specs.Prelude.{false};
+ghost use Rattle.std.specs.Prelude.{◌≤◌, false, length};
+ghost use Rattle.ansi_screen.specs.Grid.{IsBlankFrom};
 ghost use Rattle.safe_text.specs.Marks.{mark_between};
 ghost use Rattle.safe_text.specs.Writer.{Takes};
 ghost use Rattle.screen_safe.specs.Characters.{marks_of, cell_characters, cells_marked, row_marked};
 
-use ansi_screen::{Cell, LeftOut, Marks, TakeCommand, TakeRow, goes_on, used};
+use ansi_screen::{Cell, LeftOut, Marks, TakeCommand, TakeRow, goes_on, used_of_written};
 use anstyle_parse::io::{CallWriter, Output, Sink, WritingPerformer};
 use safe_text::SafeWriter;
 use screen_text::WriteRows;
@@ -59,11 +60,13 @@ fn take_cells<W: Sink>(writer: &mut SafeWriter<W>, cells: &[Cell])
 }
 
 /// The characters of a row, without the cells at its end where nothing was printed; with a line feed, unless it goes
-/// on.
-fn take_characters<W: Sink>(writer: &mut SafeWriter<W>, row: &[Cell])
+/// on. Those from `written` on are plain blanks, and are not looked at.
+fn take_characters<W: Sink>(writer: &mut SafeWriter<W>, row: &[Cell], written: usize)
+    requires within { written ≤ length row.now }
+    requires rest { IsBlankFrom written row.now }
     ensures { Takes W.Sink writer.old (row_marked row.now) writer.new }
 {
-    let end = used(row, LeftOut::Unprinted);
+    let end = used_of_written(row, written, LeftOut::Unprinted);
     take_cells(writer, &row[..end]);
     if !goes_on(row) {
         writer.take('\n');
@@ -101,8 +104,8 @@ impl<W: Sink> TakeRow for SafeRows<W> {
 
     ghost passes_on = { PassesOn W.Sink };
 
-    fn take_row(&mut self, row: &[Cell]) {
-        take_characters(&mut self.writer, row);
+    fn take_row(&mut self, row: &[Cell], written: usize) {
+        take_characters(&mut self.writer, row, written);
         self.is_open = goes_on(row);
     }
 

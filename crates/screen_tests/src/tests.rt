@@ -1,7 +1,14 @@
 //! Rows that were worked by hand, by the library that they are of, and the names of the screen.
+mod damage;
+mod draw;
+mod history;
 mod html;
 mod leaving;
+mod page;
+mod safe_shown;
+mod same;
 mod screen;
+mod terminal;
 
 use anstyle_parse::io::Fault;
 use std::process::Abort;

@@ -12,3 +12,4 @@ pub mod ThroughLemmas
 pub mod TwiceLemmas
 pub mod BoundLemmas
 pub mod PageLemmas
+mod RecordingLemmas

@@ -1,24 +1,22 @@
 -- A mark on a screen on which plain text is typed: it goes to the character before the cursor.
-use Rattle.std.proofs.Common.{◌≡◌, ℕ, zero, suc, ◌+◌, ◌-◌, ◌*◌, ◌≤◌, Bool, true, false, List, [], ◌∷◌, ◌++◌, length, set, refl, ap, sym, ◌∙◌, subst, inl, inr, arith}
+use Rattle.std.proofs.Common.{◌≡◌, ℕ, zero, suc, ◌+◌, ◌-◌, ◌*◌, ◌≤◌, Bool, true, false, List, [], ◌∷◌, ◌++◌, length, set, refl, ap, sym, ◌∙◌, inl, inr, arith}
 use Rattle.std.specs.Prelude.{◌⊎◌, ◌&&◌, nat_lt, nat_eq, ◌==◌, not, encode_utf8, if◌then◌else◌}
 use Rattle.std.specs.List.{flat_map}
 use Rattle.std.proofs.lemmas.Bool.{and_right, ne_eqb}
 use Rattle.std.proofs.lemmas.List.{append-nil, append_assoc, length-append}
-use Rattle.std.proofs.lemmas.Grind.{flat_map-append}
 use Rattle.anstyle_parse.specs.Stream.Call.{print}
 use Rattle.ansi_screen.specs.declared.cell.Cell.{Cell}
 use Rattle.ansi_screen.specs.declared.cell.Marks.{Marks}
 use Rattle.ansi_screen.specs.declared.cell.Marks.TheVariants.{Unmarked, One, Two}
 use Rattle.ansi_screen.specs.declared.cell.Part.TheVariants.{Whole, Left, Right}
-use Rattle.ansi_screen.specs.Cells.{printed_cell, blank, is_right, cell_at, one_more, with_mark, marked_before}
+use Rattle.ansi_screen.specs.Cells.{printed_cell, is_right, cell_at, one_more, with_mark, marked_before}
 use Rattle.ansi_screen.specs.Display.{Display}
-use Rattle.ansi_screen.specs.Edits.{with_cells}
 use Rattle.ansi_screen.specs.Widths.{is_shown, columns}
 use Rattle.ansi_screen.specs.Print.{glyph, printed, shown, marked}
 use Rattle.ansi_screen.specs.Text.{cell_text, marks_text, is_unprinted, is_empty, is_unmarked}
 use Rattle.ansi_screen.specs.Leaving.{is_wrapping, rows_left}
 use Rattle.ansi_screen.proofs.PlainLemmas.{plain, at}
-use Rattle.screen_text.proofs.RowTextLemmas.{spaces, IsPrinted, ArePrinted, printed-append, printed-parts}
+use Rattle.screen_text.proofs.RowTextLemmas.{spaces, IsPrinted, printed-append, printed-parts}
 use Rattle.screen_text.proofs.TypedLemmas.{joined, length-joined, Typed}
 
 -- The cells of a character: one, or a left half and a right one, which may have marks.

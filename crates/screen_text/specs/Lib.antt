@@ -4,4 +4,5 @@ pub mod Shown
 pub mod Writer
 pub mod Laws
 pub mod Options
+pub mod Recording
 pub mod ShowingProof

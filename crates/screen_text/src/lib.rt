@@ -8,12 +8,14 @@ ghost use Rattle.screen_text.specs.Shown.{left_text, ending_text};
 pub mod laws;
 mod option;
 mod performer;
+mod recording;
 mod rows;
 
 use ansi_screen::Screen;
 use anstyle_parse::io::{Fault, Output, Sink, Source, write_calls_by};
 pub use option::{NoSize, SHOWN, screen_size};
 pub use performer::ShownWriter;
+pub use recording::ShownSize;
 pub use rows::{TextRows, WriteRows};
 
 /// Writes what a screen showed of all bytes that the reader gives, in UTF-8: each row of the main screen as it scrolls

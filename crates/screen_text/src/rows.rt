@@ -1,12 +1,13 @@
 //! Rows as lines of text, and what writes rows.
-ghost use Rattle.std.specs.Prelude.{◌≡◌, ℕ, List};
+ghost use Rattle.std.specs.Prelude.{◌≡◌, ◌≤◌, ℕ, List, length};
 ghost use Rattle.anstyle_parse.specs.declared.io.output.Output.{Output as AnOutput};
 ghost use Rattle.anstyle_parse.specs.Io.Output.{Adds};
 ghost use Rattle.ansi_screen.specs.declared.cell.Cell.{Cell as ACell};
+ghost use Rattle.ansi_screen.specs.Grid.{IsBlankFrom};
 ghost use Rattle.screen_text.specs.Lines.{row_text, closing};
 ghost use Rattle.screen_text.specs.Rows.{WritesRow, WritesCommand, WritesNothing};
 
-use ansi_screen::{Cell, LeftOut, TakeCommand, TakeRow, goes_on, put_cells, used};
+use ansi_screen::{Cell, LeftOut, TakeCommand, TakeRow, goes_on, put_cells, used_of_written};
 use anstyle_parse::io::{Output, Sink};
 
 /// Takes rows, and writes each to an output as it comes.
@@ -48,11 +49,13 @@ pub trait WriteRows<W: Sink>: TakeCommand {
 }
 
 /// Writes a row, without the cells at its end where nothing was printed; with a line feed, unless
-/// it goes on.
-fn put_row<W: Sink>(output: &mut Output<W>, row: &[Cell])
+/// it goes on. Those from `written` on are plain blanks, and are not looked at.
+fn put_row<W: Sink>(output: &mut Output<W>, row: &[Cell], written: usize)
+    requires within { written ≤ length row.now }
+    requires rest { IsBlankFrom written row.now }
     ensures { Adds W.Sink (row_text row.now) output.old output.new }
 {
-    let end = used(row, LeftOut::Unprinted);
+    let end = used_of_written(row, written, LeftOut::Unprinted);
     put_cells(output, &row[..end]);
     if !goes_on(row) {
         output.put_byte(b'\n');
@@ -90,8 +93,8 @@ impl<W: Sink> TakeRow for TextRows<W> {
 
     ghost passes_on = { PassesOn W.Sink };
 
-    fn take_row(&mut self, row: &[Cell]) {
-        put_row(&mut self.output, row);
+    fn take_row(&mut self, row: &[Cell], written: usize) {
+        put_row(&mut self.output, row, written);
         self.is_open = goes_on(row);
     }
 

@@ -9,7 +9,7 @@ use ansi_screen::Screen;
 use ansi_strip::strip_inert;
 use anstyle_parse::io::{Buffer, FromRead, FromWrite, Output, Source};
 use event_pieces::{Event, feed};
-use screen_draw::{Form, Noting, show_to_end, update_to_end};
+use screen_draw::{Form, show_to_end, update_to_end};
 use screen_html::{LinkMemory, convert_shown};
 use std::alloc::{AllocError, Global};
 use stream_state::StreamState;
@@ -185,7 +185,7 @@ fn shown(alloc: Global, document: &[u8]) -> Result<Vec<u8>, AllocError> {
 
 fn updates<R: Source>(alloc: Global, reader: &mut R) -> Result<Vec<u8>, AllocError> {
     let mut screen = Screen::new(alloc, COLUMNS, ROWS)?;
-    let mut wanted = Noting::new(Screen::new(alloc, COLUMNS, ROWS)?);
+    let mut wanted = Screen::new(alloc, COLUMNS, ROWS)?;
     let mut output = Output::new(paper(alloc));
     let _ = update_to_end(reader, &mut screen, &mut wanted, &mut output);
     let (writer, _) = output.finish();

@@ -1,8 +1,9 @@
 //! Edits of cells.
 ghost use Rattle.std.specs.Prelude.{◌≡◌, ◌+◌, ◌*◌, ◌<◌, ◌≤◌, length};
-ghost use Rattle.ansi_screen.specs.Display.{row_start, row_end};
+ghost use Rattle.ansi_screen.specs.Cells.{going_on, within, erased, deleted, inserted};
+ghost use Rattle.ansi_screen.specs.Display.{here, row_start, row_end};
 ghost use Rattle.ansi_screen.specs.Moves.{settled};
-ghost use Rattle.ansi_screen.specs.Edits.{row_going_on, row_above_ended, erases_from_row, erases_first, erased_part, erased_display, erased_line, erased_characters, deleted_characters, inserted_characters, rows_up, rows_down, scrolled_up, scrolled_down, inserted_lines, deleted_lines, index, reverse_index};
+ghost use Rattle.ansi_screen.specs.Edits.{with_cells, space, erased_cells, row_going_on, row_above_ended, erases_from_row, erases_first, erased_part, erased_display, erased_line, erased_characters, deleted_characters, inserted_characters, rows_up, rows_down, scrolled_up, scrolled_down, inserted_lines, deleted_lines, index, reverse_index};
 
 use super::Display;
 
@@ -13,9 +14,7 @@ impl Display {
     {
         let row = self.cursor.row;
         if is_begun_anew && 0 < row {
-            self.cells.set_goes_on(row - 1, false);
-            // The cells fill the rows.
-            let _ = self.cells.width();
+            self.set_row_goes_on(row - 1, false);
         }
     }
 
@@ -43,20 +42,86 @@ impl Display {
         requires { self.old.cursor.column < self.old.width }
         ensures { self.new ≡ erased_part kind 0 (length self.old.cells) self.old }
     {
-        let (row, column) = (self.cursor.row, self.cursor.column);
-        let style = self.cursor.style;
         match kind {
-            0 => self.cells.erase_from(row, column, style),
-            1 => self.cells.erase_to(row, column, style),
-            _ => self.cells.erase_all(style),
+            0 => self.erase_from_cursor(),
+            1 => self.erase_to_cursor(),
+            _ => self.erase_all(),
         }
+    }
+
+    /// From the cursor to the end of the screen.
+    fn erase_from_cursor(&mut self)
+        requires { self.old.cursor.column < self.old.width }
+        ensures { self.new ≡ erased_cells (here self.old) (length self.old.cells) self.old }
+    {
+        let (row, column) = (self.cursor.row, self.cursor.column);
+        // Each row begins with a character.
+        let width = self.cells.width();
+        let height = self.cells.height();
+        self.erase_columns(column, width);
+        self.clear_rows(row + 1, height);
+    }
+
+    /// From the beginning of the screen to the cursor, and there.
+    fn erase_to_cursor(&mut self)
+        requires { self.old.cursor.column < self.old.width }
+        ensures { self.new ≡ erased_cells 0 (here self.old + 1) self.old }
+    {
+        let (row, column) = (self.cursor.row, self.cursor.column);
+        // Each row begins with a character.
+        let _ = self.cells.width();
+        self.erase_columns(0, column + 1);
+        self.clear_rows(0, row);
+    }
+
+    /// All of the screen.
+    fn erase_all(&mut self)
+        ensures { self.new ≡ erased_cells 0 (length self.old.cells) self.old }
+    {
+        let style = self.cursor.style;
+        // The cells fill the rows, before and after.
+        let _ = self.cells.width();
+        let height = self.cells.height();
+        self.damage.note_rows(0, height);
+        self.cells.erase_all(style);
+        let _ = self.cells.width();
+    }
+
+    /// The rows from `first` up to `last` are blank.
+    fn clear_rows(&mut self, first: usize, last: usize)
+        requires order { first ≤ last }
+        requires within { last ≤ self.old.height }
+        ensures { self.new ≡ with_cells (within (first * self.old.width) (last * self.old.width)
+            (erased (space self.old)) self.old.cells) self.old }
+    {
+        let style = self.cursor.style;
+        // The cells fill the rows, before and after.
+        let _ = self.cells.width();
+        self.damage.note_rows(first, last);
+        self.cells.fill_rows(first, last, style);
+        let _ = self.cells.width();
+    }
+
+    /// From a column of the cursor's row up to another.
+    fn erase_columns(&mut self, start: usize, end: usize)
+        requires start { start < self.old.width }
+        requires order { start ≤ end }
+        requires within { end ≤ self.old.width }
+        ensures { self.new ≡ erased_cells (row_start self.old + start) (row_start self.old + end) self.old }
+    {
+        let row = self.cursor.row;
+        let style = self.cursor.style;
+        // Each row begins with a character.
+        let _ = self.cells.width();
+        self.damage.note(row, start, end);
+        self.cells.erase(row, start, end, style);
         // The cells fill the rows.
         let _ = self.cells.width();
     }
 
     /// Whether EL erases the first cell of the cursor's row.
     #[tactic(auto, unfolding(crate::specs::Edits::erases_first))]
-    pub(crate) fn erases_first(&self, kind: u16) -> bool
+    fn erases_first(&self, kind: u16) -> bool
         ensures { result ≡ erases_first kind self.now }
     {
         kind != 0 || self.cursor.column == 0
@@ -79,16 +144,13 @@ impl Display {
         requires { self.old.cursor.column < self.old.width }
         ensures { self.new ≡ erased_part kind (row_start self.old) (row_end self.old) self.old }
     {
-        let (row, column) = (self.cursor.row, self.cursor.column);
+        let column = self.cursor.column;
         let width = self.cells.width();
-        let style = self.cursor.style;
         match kind {
-            0 => self.cells.erase(row, column, width, style),
-            1 => self.cells.erase(row, 0, column + 1, style),
-            _ => self.cells.erase(row, 0, width, style),
+            0 => self.erase_columns(column, width),
+            1 => self.erase_columns(0, column + 1),
+            _ => self.erase_columns(0, width),
         }
-        // The cells fill the rows.
-        let _ = self.cells.width();
     }
 
     /// ECH
@@ -97,21 +159,29 @@ impl Display {
         requires { self.old.cursor.column < self.old.width }
         ensures { self.new ≡ erased_characters count self.old }
     {
-        let (row, column) = (self.cursor.row, self.cursor.column);
+        let column = self.cursor.column;
         let end = self.cells.width().min(column + usize::from(count));
-        let style = self.cursor.style;
-        self.cells.erase(row, column, end, style);
-        // The cells fill the rows.
-        let _ = self.cells.width();
+        self.erase_columns(column, end);
     }
 
     /// Says whether the cursor's row goes on in the next.
     pub(super) fn set_goes_on(&mut self, on: bool)
         ensures { self.new ≡ row_going_on on self.old }
     {
-        self.cells.set_goes_on(self.cursor.row, on);
-        // The cells fill the rows.
-        let _ = self.cells.width();
+        let row = self.cursor.row;
+        self.set_row_goes_on(row, on);
+    }
+
+    /// Says whether a row goes on in the next. Mostly it is so already.
+    fn set_row_goes_on(&mut self, row: usize, on: bool)
+        requires { row < self.old.height }
+        ensures { self.new ≡ with_cells (going_on on (row * self.old.width + self.old.width) self.old.cells) self.old }
+    {
+        // Each row begins with a character.
+        let width = self.cells.width();
+        if self.cells.set_goes_on(row, on) {
+            self.damage.note(row, width - 1, width);
+        }
     }
 
     /// DCH
@@ -120,10 +190,22 @@ impl Display {
         requires { self.old.cursor.column < self.old.width }
         ensures { self.new ≡ deleted_characters count self.old }
     {
+        self.set_goes_on(false);
+        self.delete_cells(usize::from(count));
+    }
+
+    /// The same, where the row ends.
+    fn delete_cells(&mut self, count: usize)
+        requires { self.old.cursor.column < self.old.width }
+        ensures { self.new ≡ with_cells (deleted count (here self.old) (row_end self.old) (space self.old)
+            self.old.cells) self.old }
+    {
         let (row, column) = (self.cursor.row, self.cursor.column);
         let style = self.cursor.style;
-        self.cells.set_goes_on(row, false);
-        self.cells.delete(row, column, usize::from(count), style);
+        // Each row begins with a character.
+        let width = self.cells.width();
+        self.damage.note(row, column, width);
+        self.cells.delete(row, column, count, style);
         // The cells fill the rows.
         let _ = self.cells.width();
     }
@@ -136,10 +218,22 @@ impl Display {
         ensures width { self.new.width ≡ self.old.width }
         ensures cursor { self.new.cursor ≡ self.old.cursor }
     {
+        self.set_goes_on(false);
+        self.insert_cells(usize::from(count));
+    }
+
+    /// The same, where the row ends.
+    fn insert_cells(&mut self, count: usize)
+        requires { self.old.cursor.column < self.old.width }
+        ensures { self.new ≡ with_cells (inserted count (here self.old) (row_end self.old) (space self.old)
+            self.old.cells) self.old }
+    {
         let (row, column) = (self.cursor.row, self.cursor.column);
         let style = self.cursor.style;
-        self.cells.set_goes_on(row, false);
-        self.cells.insert(row, column, usize::from(count), style);
+        // Each row begins with a character.
+        let width = self.cells.width();
+        self.damage.note(row, column, width);
+        self.cells.insert(row, column, count, style);
         // The cells fill the rows.
         let _ = self.cells.width();
     }
@@ -152,8 +246,10 @@ impl Display {
         ensures { self.new ≡ rows_up count first last self.old }
     {
         let style = self.cursor.style;
+        // The cells fill the rows, before and after.
+        let _ = self.cells.width();
+        self.damage.note_rows(first, last);
         self.cells.move_back(first, last, usize::from(count), style);
-        // The cells fill the rows.
         let _ = self.cells.width();
     }
 
@@ -165,8 +261,10 @@ impl Display {
         ensures { self.new ≡ rows_down count first last self.old }
     {
         let style = self.cursor.style;
+        // The cells fill the rows, before and after.
+        let _ = self.cells.width();
+        self.damage.note_rows(first, last);
         self.cells.move_on(first, last, usize::from(count), style);
-        // The cells fill the rows.
         let _ = self.cells.width();
     }
 

@@ -1,35 +1,107 @@
-//! A display that becomes as another one is.
-ghost use Rattle.std.specs.Prelude.{◌≡◌, ◌*◌, ◌≤◌};
-ghost use Rattle.ansi_screen.specs.Display.{IsSized};
-ghost use Rattle.ansi_screen.specs.Following.{IsNear, with_frame, with_shown};
+//! What can have changed of a display, and one that becomes as another is.
+ghost use Rattle.std.specs.Prelude.{◌≡◌, ◌<◌, ◌≤◌, ◌⊎◌, ℕ, false};
+ghost use Rattle.ansi_screen.specs.Display.{IsSized, picture, forgotten, row_cells, shown_cells};
+ghost use Rattle.ansi_screen.specs.Following.{IsShownOf, HasSizeOf, with_cells_of, with_frame_of};
 
-use crate::display::Display;
+use crate::display::{Display, Shown};
+use std::snapshot::Snapshot;
 
 impl Display {
-    /// Becomes as another one is, from which it may differ in rows from `first` up to `past`, and in its frame where
-    /// `is_framed` says so.
-    pub(crate) fn catch_up(&mut self, other: &Display, first: usize, past: usize, is_framed: bool)
-        requires { IsNear first past is_framed other.now self.old }
-        ensures { self.new ≡ other.now }
+    ghost use Rattle.ansi_screen.specs.Damage.{KeepsColumns};
+
+    /// Its damage is forgotten: as it is, it is shown.
+    pub(crate) fn forget(&mut self)
+        ensures { self.new ≡ forgotten self.old }
     {
-        let end = past.min(self.cells.height());
-        self.copy_shown(other, first.min(end), end);
-        if is_framed {
-            self.copy_frame(other);
-        }
+        self.damage.forget();
+        self.shown = Shown {
+            cells: Snapshot::of(&self.cells),
+            hidden: Snapshot::of(&self.hidden),
+            tabs: Snapshot::of(&self.tabs),
+            saved: Snapshot::of(&self.saved),
+            hidden_saved: Snapshot::of(&self.hidden_saved),
+            top: Snapshot::of(&self.top),
+            bottom: Snapshot::of(&self.bottom),
+            is_alternate: Snapshot::of(&self.is_alternate),
+        };
     }
 
-    /// The rows from `first` up to `past`, the cursor, modes and links become as those of another one are.
-    fn copy_shown(&mut self, other: &Display, first: usize, past: usize)
-        requires width { self.old.width ≡ other.now.width }
-        requires height { self.old.height ≡ other.now.height }
-        requires order { first ≤ past }
-        requires within { past ≤ self.old.height }
-        ensures shown { self.new ≡ with_shown (first * self.old.width) (past * self.old.width) other.now self.old }
-        ensures sized { IsSized self.old }
-        ensures sized_too { IsSized other.now }
+    /// The rows outside which no cell can have changed: from the first answer up to the second.
+    pub(crate) fn changed_rows(&self) -> (usize, usize)
+        ensures order { result.0 ≤ result.1 }
+        ensures within { result.1 ≤ self.now.height }
+        ensures kept { (row : ℕ) → row < self.now.height → (row < result.0) ⊎ (result.1 ≤ row)
+            → row_cells row self.now ≡ shown_cells row self.now }
     {
-        self.cells.copy_rows(first, past, &other.cells);
+        // The cells fill the rows.
+        let _ = self.cells.width();
+        self.damage.rows()
+    }
+
+    /// The columns of a row that can have changed: from the first answer up to the second.
+    pub(crate) fn changed(&self, row: usize) -> (usize, usize)
+        requires { row < self.now.height }
+        ensures order { result.0 ≤ result.1 }
+        ensures within { result.1 ≤ self.now.width }
+        ensures kept { KeepsColumns result.0 result.1 (shown_cells row self.now) (row_cells row self.now) }
+    {
+        let width = self.cells.width();
+        self.damage.columns(row, width)
+    }
+
+    /// Whether margins, tabs, what is saved or the alternate screen can have changed.
+    pub(crate) fn is_framed(&self) -> bool
+        ensures { result ≡ false → (picture self.now).frame ≡ self.now.shown.frame }
+    {
+        self.damage.is_framed()
+    }
+
+    /// Becomes as another one is, from which it differs in no more than can have changed of that.
+    pub(crate) fn catch_up(&mut self, other: &Display)
+        requires { IsShownOf other.now self.old }
+        ensures { self.new ≡ forgotten other.now }
+    {
+        self.copy_changed(other);
+        if other.is_framed() {
+            self.copy_frame(other);
+        }
+        self.forget();
+    }
+
+    /// Becomes as another one of its size is.
+    pub(crate) fn copy_from(&mut self, other: &Display)
+        requires { HasSizeOf other.now self.old }
+        ensures { self.new ≡ forgotten other.now }
+    {
+        self.copy_all(other);
+        self.copy_frame(other);
+        self.forget();
+    }
+
+    /// The cells that can have changed, the cursor, modes and links become as those of another one are.
+    fn copy_changed(&mut self, other: &Display)
+        requires { IsShownOf other.now self.old }
+        ensures shown { self.new ≡ with_cells_of other.now self.old }
+    {
+        self.damage.note_all();
+        self.cells.copy_changed(&other.cells, &other.damage);
+        // The cells fill the rows.
+        let _ = self.cells.width();
+        self.cursor = other.cursor;
+        self.wraps = other.wraps;
+        self.inserts = other.inserts;
+        self.is_visible = other.is_visible;
+        self.links = other.links;
+        self.link = other.link;
+    }
+
+    /// All cells, the cursor, modes and links become as those of another one are.
+    fn copy_all(&mut self, other: &Display)
+        requires { HasSizeOf other.now self.old }
+        ensures shown { self.new ≡ with_cells_of other.now self.old }
+    {
+        self.damage.note_all();
+        self.cells.copy_all(&other.cells);
         // The cells fill the rows.
         let _ = self.cells.width();
         self.cursor = other.cursor;
@@ -44,8 +116,9 @@ impl Display {
     fn copy_frame(&mut self, other: &Display)
         requires width { self.old.width ≡ other.now.width }
         requires height { self.old.height ≡ other.now.height }
-        ensures { self.new ≡ with_frame other.now self.old }
+        ensures { self.new ≡ with_frame_of other.now self.old }
     {
+        self.damage.note_all();
         self.saved = other.saved;
         self.top = other.top;
         self.bottom = other.bottom;

@@ -22,6 +22,7 @@ impl Display {
     pub(crate) fn swap_screens(&mut self)
         ensures { self.new ≡ swapped self.old }
     {
+        self.damage.note_all();
         mem::swap(&mut self.cells, &mut self.hidden);
     }
 

@@ -1,7 +1,7 @@
 //! Modes, margins, saved cursors, the alternate screen.
 ghost use Rattle.std.specs.Prelude.{◌≡◌, ◌<◌};
 ghost use Rattle.anstyle_parse.specs.Views.Params.{groups_shown};
-ghost use Rattle.ansi_screen.specs.Display.{fresh};
+ghost use Rattle.ansi_screen.specs.Display.{renewed};
 ghost use Rattle.ansi_screen.specs.Modes.{with_style, shifted, with_charset, saving, into_margins, restored, with_origin, with_margins, to_alternate, to_main, with_alternate, with_private_mode, with_mode, with_modes, softly_reset, first_field};
 
 use super::Display;
@@ -12,7 +12,7 @@ use anstyle_parse::Params;
 use std::mem;
 
 /// The first field of a group; 0, where there is none.
-pub(crate) fn first_field(group: &[u16]) -> u16
+pub(super) fn first_field(group: &[u16]) -> u16
     ensures { result ≡ first_field group.now }
 {
     match group {
@@ -53,6 +53,7 @@ impl Display {
     pub(super) fn save(&mut self)
         ensures { self.new ≡ saving self.old }
     {
+        self.damage.note_frame();
         self.saved = self.cursor;
     }
 
@@ -90,6 +91,7 @@ impl Display {
             self.cells.height()
         };
         if first < bottom {
+            self.damage.note_frame();
             self.top = first - 1;
             self.bottom = bottom;
             self.to_position(0, 0);
@@ -103,6 +105,7 @@ impl Display {
     {
         if !self.is_alternate {
             let style = self.cursor.style;
+            self.damage.note_all();
             mem::swap(&mut self.cells, &mut self.hidden);
             self.cells.fill(style);
             self.saved = Place::home();
@@ -117,6 +120,7 @@ impl Display {
         ensures { self.new ≡ to_main self.old }
     {
         if self.is_alternate {
+            self.damage.note_all();
             mem::swap(&mut self.cells, &mut self.hidden);
             self.hidden.fill(Style::default());
             self.saved = self.hidden_saved;
@@ -183,6 +187,7 @@ impl Display {
     pub(super) fn soft_reset(&mut self)
         ensures { self.new ≡ softly_reset self.old }
     {
+        self.damage.note_frame();
         self.cursor.style = Style::default();
         self.cursor.is_relative = false;
         self.cursor.charsets = Charsets::letters();
@@ -196,8 +201,9 @@ impl Display {
 
     /// RIS
     pub(super) fn reset(&mut self)
-        ensures { self.new ≡ fresh self.old.width self.old.height }
+        ensures { self.new ≡ renewed self.old }
     {
+        self.damage.note_all();
         self.cells.fill(Style::default());
         self.hidden.fill(Style::default());
         reset_stops(self.tabs.as_mut_slice());

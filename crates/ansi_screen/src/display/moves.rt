@@ -158,6 +158,7 @@ impl Display {
         ensures { self.new ≡ with_stop stops self.old }
     {
         let column = self.cursor.column.min(self.cells.width() - 1);
+        self.damage.note_frame();
         self.tabs[column] = stops;
     }
 
@@ -167,7 +168,10 @@ impl Display {
     {
         match kind {
             0 => self.set_stop(false),
-            3 => self.tabs.as_mut_slice().fill(false),
+            3 => {
+                self.damage.note_frame();
+                self.tabs.as_mut_slice().fill(false);
+            }
             _ => {}
         }
     }

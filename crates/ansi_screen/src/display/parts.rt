@@ -1,13 +1,10 @@
 //! What decides what a call does, as it stands.
 ghost use Rattle.std.specs.Prelude.{◌≡◌, ◌<◌, ◌*◌, ◌-◌, length, take, drop};
-ghost use Rattle.ansi_screen.specs.Cells.{cell_at};
-ghost use Rattle.ansi_screen.specs.Display.{IsSized, row_start, row_cells};
-ghost use Rattle.ansi_screen.specs.Text.{goes_on};
+ghost use Rattle.ansi_screen.specs.Display.{IsSized};
 
 use crate::cell::Cell;
 use crate::display::Display;
 use crate::place::Place;
-use crate::text::goes_on;
 
 impl Display {
     /// The cells of a row of the screen that is hidden, counted from 0.
@@ -17,25 +14,6 @@ impl Display {
         ensures columns { length result.now ≡ self.now.width }
     {
         self.hidden.row(row)
-    }
-
-    /// Whether the row above the cursor's goes on in it.
-    pub(crate) fn is_continued(&self) -> bool
-        ensures { result ≡ (cell_at (row_start self.now - 1) self.now.cells).goes_on }
-    {
-        if self.cursor.row == 0 {
-            self.row(0)[0].goes_on
-        } else {
-            self.row_goes_on(self.cursor.row - 1)
-        }
-    }
-
-    /// Whether a row goes on in the next.
-    fn row_goes_on(&self, row: usize) -> bool
-        requires { row < self.now.height }
-        ensures { result ≡ goes_on (row_cells row self.now) }
-    {
-        goes_on(self.row(row))
     }
 
     /// What DECSC saved on the screen that shows.

@@ -62,6 +62,9 @@ impl Display {
     {
         if 0 < self.cursor.column {
             let (row, column) = (self.cursor.row, self.cursor.column);
+            // Each row begins with a character.
+            let _ = self.cells.width();
+            self.damage.note(row, column - 1, column);
             self.cells.mark_before(row, column, c);
             // The cells fill the rows.
             let _ = self.cells.width();
@@ -150,10 +153,14 @@ impl Display {
     {
         let (row, column) = (self.cursor.row, self.cursor.column);
         let style = self.cursor.style;
+        let next = column + usize::from(columns);
+        // Each row begins with a character.
+        let _ = self.cells.width();
+        self.damage.note(row, column, next);
         self.cells.put(row, column, columns, c, style, self.link);
         // The cells fill the rows.
         let _ = self.cells.width();
-        self.cursor.column += usize::from(columns);
+        self.cursor.column = next;
     }
 
     /// How many characters of one column each the cursor's row has room for, each of which comes into a cell as it
@@ -179,9 +186,13 @@ impl Display {
     {
         let (row, column) = (self.cursor.row, self.cursor.column);
         let style = self.cursor.style;
+        let next = column + run.len();
+        // Each row begins with a character.
+        let _ = self.cells.width();
+        self.damage.note(row, column, next);
         self.cells.put_run(row, column, run, style, self.link);
         // The cells fill the rows.
         let _ = self.cells.width();
-        self.cursor.column += run.len();
+        self.cursor.column = next;
     }
 }

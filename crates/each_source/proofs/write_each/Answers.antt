@@ -2,21 +2,20 @@
 use Rattle.std.proofs.Common.{◌++◌, ℕ, List, sym, ◌∙◌, subst}
 use Rattle.std.specs.List.{flat_map}
 use Rattle.std.specs.Io.KnownBytes.{Appends}
-use Rattle.anstyle_parse.specs.Stream.Call.{Call}
 use Rattle.anstyle_parse.proofs.Written.Run.{Adds-no_fault}
 use Rattle.anstyle_parse.proofs.Written.Output.{Adds-append, Writes-finish, Causes-finish}
-use Rattle.each_source.specs.Each.{WritesEach, stopped_by}
+use Rattle.each_source.specs.Each.{Given, WritesEach, stopped_by}
 use Rattle.each_source.specs.declared.Stopped.{Stopped}
 use Rattle.std.specs.Prelude.{Result}
-use Rattle.each_source.proofs.EachLemmas.{AreRead-when, written_whole, clear_or_written, WritesEach-from, WritesEach-stopped, reached_all, whole_unless_stopped}
+use Rattle.each_source.proofs.EachLemmas.{AreRead-known, written_whole, clear_or_written, WritesEach-from, WritesEach-stopped, reached_all, whole_unless_stopped}
 use Rattle.each_source.proofs.write_each.Goals as goal
 
 pub returns-then-is_err-clause-joined : goal.returns-then-is_err-clause-joined
 returns-then-is_err-clause-joined g c =
     let sink = g.W.Sink in
     let d = c.add_each-output.ensures in
-    let text : List Call → List ℕ = λ calls. g.B.Begin.text c.args.begin.now calls ++ g.B.Begin.ending c.args.begin.now calls in
-    let texts = flat_map text d.calls in
+    let text : Given → List ℕ = λ given. g.B.Begin.text c.args.begin.now given ++ g.B.Begin.ending c.args.begin.now given in
+    let texts = flat_map text d.given in
     let head = c.args.head.now in
     let start = c.new-output.result in
     let first = c.put.new.self in
@@ -33,8 +32,8 @@ returns-clause-joined g c =
     let W = g.row.W.Denot in
     let sink = g.W.Sink in
     let d = c.add_each-output.ensures in
-    let text : List Call → List ℕ = λ calls. g.B.Begin.text c.args.begin.now calls ++ g.B.Begin.ending c.args.begin.now calls in
-    let texts = flat_map text d.calls in
+    let text : Given → List ℕ = λ given. g.B.Begin.text c.args.begin.now given ++ g.B.Begin.ending c.args.begin.now given in
+    let texts = flat_map text d.given in
     let head = c.args.head.now in
     let tail = c.args.tail.now in
     let start = c.new-output.result in
@@ -48,8 +47,8 @@ returns-clause-joined g c =
     let added = Adds-append sink head (texts ++ tail) start first final c.put.ensures (Adds-append sink texts tail first middle final d.added c.put-2.ensures) in
     let reached = reached_all c.add_each-output.result.1 _ _ _ (sym c.is_err.ensures.value ∙ c.if-is_err.false) d.reaches in
     let Ran : W → Result (Unit {0}) Stopped → Type 0 = λ w a. WritesEach g.R.Source sink text head tail c.args.readers.now c.add_each-output.new.readers w new a in
-    let ran = WritesEach-from sink g.R.Source text head tail c.args.readers.now c.add_each-output.new.readers start.writer new middle final answer d.calls
-    (Adds-no_fault R W (Unit {0}) g.R.Source sink tail middle final c.put-2.ensures) (AreRead-when g.R.Source c.args.readers.now c.add_each-output.new.readers d.calls (λ none. (whole_unless_stopped c.add_each-output.result.1 (sym c.is_err.ensures.value ∙ c.if-is_err.false), none)) d.are_read) reached
+    let ran = WritesEach-from sink g.R.Source text head tail c.args.readers.now c.add_each-output.new.readers start.writer new middle final answer d.given
+    (Adds-no_fault R W (Unit {0}) g.R.Source sink tail middle final c.put-2.ensures) (AreRead-known g.R.Source c.add_each-output.result.1 c.args.readers.now c.add_each-output.new.readers d.given (sym c.is_err.ensures.value ∙ c.if-is_err.false) (λ none. (whole_unless_stopped c.add_each-output.result.1 (sym c.is_err.ensures.value ∙ c.if-is_err.false), none)) d.are_read) reached
     (clear_or_written sink (head ++ (texts ++ tail)) start final new answer none added finishes)
     (Writes-finish sink (head ++ (texts ++ tail)) start final new answer none added finishes)
     (Causes-finish sink (head ++ (texts ++ tail)) start final new answer none added finishes) in

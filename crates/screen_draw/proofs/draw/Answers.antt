@@ -20,7 +20,7 @@ returns-clause-lawful g c = drawing-lawful (drawn_calls c.args.screen.now.displa
 pub returns-clause-redrawn : goal.returns-clause-redrawn
 returns-clause-redrawn g c = λ old new is holds width height shows.
     let d = c.args.screen.now.display in
-    Shows-only (canon (drawn_calls d)) old new (drawn_state d) shows
+    Shows-only (canon (drawn_calls d)) old new (drawn_state old.display.shown d) shows
     (drawn_calls d, replay (drawn_calls d) (drawing-lawful (drawn_calls d) c.put_all.ensures.drawing), sym (redrawn-is d old is holds width height))
 
 pub returns-clause-anywhere : goal.returns-clause-anywhere

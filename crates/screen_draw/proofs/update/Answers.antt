@@ -1,5 +1,4 @@
 -- They are lawful, and so replayed.
-use Rattle.std.proofs.Common.{sym, arith}
 use Rattle.anstyle_parse.proofs.Canonical.Replay.{replay}
 use Rattle.screen_draw.specs.Update.{update_calls}
 use Rattle.screen_draw.proofs.BoundLemmas.{update-bound}
@@ -9,10 +8,7 @@ use Rattle.screen_draw.proofs.UpdatedLemmas.{updated-shows}
 use Rattle.screen_draw.proofs.update.Goals as goal
 
 pub put_update-requires : goal.put_update-requires
-put_update-requires g c = record {
-  rows = c.all.ensures c.args.shown.now.display c.args.wanted.now.display (sym c.requires.columns) (sym c.requires.rows) (sym c.rows.ensures.rows);
-  columns = λ row inside noted. absurd (omega (arith, noted));
-}
+put_update-requires g c = record { width = c.requires.columns; height = c.requires.rows; noted = λ is. cc is }
 
 pub returns-clause-made : goal.returns-clause-made
 returns-clause-made g c =
@@ -26,8 +22,8 @@ pub returns-clause-no_reset : goal.returns-clause-no_reset
 returns-clause-no_reset g c = no-reset c.args.shown.now.display c.args.wanted.now.display
 
 pub returns-clause-updated : goal.returns-clause-updated
-returns-clause-updated g c = λ old new from has to gets is shows.
-    updated-shows c.args.shown.now.display c.args.wanted.now.display old new c.put_update.ensures.drawing c.requires.columns c.requires.rows from has to gets is shows
+returns-clause-updated g c = λ since old new from has to gets is shows.
+    updated-shows c.args.shown.now.display c.args.wanted.now.display since old new c.put_update.ensures.drawing c.requires.columns c.requires.rows from has to gets is shows
 
 pub returns-clause-bound : goal.returns-clause-bound
 returns-clause-bound g c = λ sized. update-bound c.args.shown.now.display c.args.wanted.now.display sized c.put_update.ensures.drawing

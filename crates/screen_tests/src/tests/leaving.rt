@@ -3,14 +3,17 @@ use super::assert_written;
 use ansi_screen::laws::scrolled_off;
 use ansi_screen::{
     Cell, LeftOut, Part, Screen, Scrolling, Size, TakeCommand, TakeRow, goes_on, put_cells, used,
+    used_of_written,
 };
 use ansi_style::Style;
+use anstyle_parse::Perform;
 use anstyle_parse::io::{FromRead, FromWrite, Output, write_calls_by};
 use screen_text::laws::{
     bound, clean, lines, plain_screen, plain_text, returned, rewritten, shown_twice,
 };
-use screen_text::{NoSize, SHOWN, ShownWriter, TextRows, screen_size, write_shown};
+use screen_text::{NoSize, SHOWN, ShownSize, ShownWriter, TextRows, screen_size, write_shown};
 use std::alloc::{AllocError, Global};
+use std::process::Abort;
 use std::test::Fail;
 
 /// Counts the rows that it takes, and keeps whether the last one goes on.
@@ -28,7 +31,7 @@ impl TakeRow for Counter {
 
     ghost passes_on = { λ _ _. ⊤ };
 
-    fn take_row(&mut self, row: &[Cell]) {
+    fn take_row(&mut self, row: &[Cell], _written: usize) {
         self.count = self.count.saturating_add(1);
         self.goes_on = row.last().is_some_and(|cell| cell.goes_on);
     }
@@ -181,8 +184,47 @@ fn sizes(rt: HostRuntime) -> Result<(), Fail> {
     assert_eq!(rt; (usual.columns, usual.rows), (80, 24));
     assert_eq!(rt; SHOWN, "--shown");
     assert_eq!(rt; screen_size(None), Ok(None));
-    assert_eq!(rt; screen_size(Some("")), Ok(Some(usual)));
-    assert_eq!(rt; screen_size(Some("=120x40")), Ok(Some(size)));
+    assert_eq!(rt; screen_size(Some("")), Ok(Some(ShownSize::Recorded)));
+    assert_eq!(rt;
+        screen_size(Some("=120x40")),
+        Ok(Some(ShownSize::Fixed(size)))
+    );
     assert_eq!(rt; screen_size(Some("120x40")), Err(NoSize));
+    Ok(())
+}
+
+// What script(1) of util-linux 2.38.1 writes on a terminal of 120x40.
+#[test]
+fn recorded_sizes(rt: HostRuntime) -> Result<(), Fail> {
+    let line =
+        b"Script started on 2026-11-28 08:05:31+00:00 [TERM=\"xterm\" TTY=\"/dev/pts/0\" COLUMNS=\"120\" LINES=\"40\"]\n";
+    let recorded = ShownSize::Recorded;
+    let size = recorded.of(line);
+    assert_eq!(rt; (size.columns, size.rows), (120, 40));
+    assert!(rt; recorded.is_decided(line) && !recorded.is_decided(b"Script"));
+    let usual = recorded.of(b"a\n");
+    assert_eq!(rt; (usual.columns, usual.rows), (1000, 100));
+    assert_eq!(rt; ShownSize::Fixed(size).of(b"a\n"), size);
+    assert!(rt; ShownSize::Fixed(size).is_decided(b""));
+    Ok(())
+}
+
+/// How far the only row of a screen is written, and how much of it is used.
+fn written(rt: &impl Abort, screen: &Screen) -> (usize, usize) {
+    assert!(rt; screen.rows() == 1);
+    let written = screen.written(0);
+    (
+        written,
+        used_of_written(screen.row(0), written, LeftOut::Unprinted),
+    )
+}
+
+// A row is looked at as far as it was written.
+#[test]
+fn written_rows(rt: HostRuntime) -> Result<(), Fail> {
+    let mut screen = Screen::new(rt.alloc(), 4, 1)?;
+    assert_eq!(rt; written(&rt, &screen), (0, 0));
+    screen.print('a');
+    assert_eq!(rt; written(&rt, &screen), (1, 1));
     Ok(())
 }

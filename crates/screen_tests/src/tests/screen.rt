@@ -2,7 +2,7 @@
 //! tests/screen_twin.
 use ansi_screen::laws::{
     clones, contents, determined, enclosed, equality, plain_text, reachable, reset, rewritten,
-    rows_leave, show,
+    rows_leave, show, unread,
 };
 use ansi_screen::{
     Cell, Charsets, MAX_COLUMNS, MAX_ROWS, MIN_COLUMNS, MIN_ROWS, Marks, Part, Place, Screen,
@@ -90,6 +90,7 @@ fn laws(_rt: HostRuntime) {
     rewritten();
     rows_leave();
     reset();
+    unread();
     equality();
     clones();
 }

@@ -1,8 +1,8 @@
 -- The parts of the rules, one after another.
-use Rattle.std.proofs.Common.{◌++◌, ◌∷◌, [], List, ℕ, codes, subst}
+use Rattle.std.proofs.Common.{List, ℕ, subst}
 use Rattle.anstyle_parse.specs.Io.Output.{Adds}
 use Rattle.anstyle_parse.proofs.Written.Output.{Adds-append}
-use Rattle.ansi2html.specs.Page.{lines, number_color}
+use Rattle.ansi2html.specs.Page.{number_color}
 use Rattle.ansi2html.proofs.form.put_line_rules.Goals as goal
 
 pub returns : goal.returns

@@ -1,5 +1,5 @@
--- What is read so far has gone to the performer, and nothing failed.
-use Rattle.std.proofs.Common.{◌≡◌, ◌≤◌, List, ℕ, None, length}
+-- The front and what is read so far has gone to the performer, and nothing failed.
+use Rattle.std.proofs.Common.{◌≡◌, ◌≤◌, ◌++◌, List, ℕ, None, length}
 use Rattle.std.specs.Io.KnownBytes.{Consumes}
 use Rattle.anstyle_parse.specs.Views.Accumulator.{front_of}
 use Rattle.anstyle_parse.specs.Machine.AsRead.{as_read}
@@ -11,14 +11,13 @@ use Rattle.each_source.proofs.reading.read_to.Given as goal
 
 abbrev pub invariant-loop-turn : goal.invariant-loop-turn
 invariant-loop-turn g l = record {
-  read : List ℕ;
+  rest : List ℕ;
   calls : List Call;
-  consumed : Consumes (g.R.Source.remaining l.initial.reader) (g.R.Source.remaining l.reader) read;
-  are_calls : AreCalls (as_read read) calls;
-  received : g.P.PerformText.receives l.initial.performer calls l.performer;
-  stands : IsAfter front_of l.parser (as_read read);
+  consumed : Consumes (g.R.Source.remaining l.initial.reader) (g.R.Source.remaining l.reader) rest;
+  are_calls : AreCalls (as_read (l.front ++ rest)) calls;
+  received : g.P.PerformText.receives l.fn.performer calls l.performer;
+  stands : IsAfter front_of l.parser (as_read (l.front ++ rest));
   no_fault : fault_in (g.P.WritingPerformer.output_in l.performer) ≡ None;
-  not_failed : g.R.Source.has_failed l.reader ≡ g.R.Source.has_failed l.initial.reader;
-  counted : l.turn ≤ length read;
+  counted : l.turn ≤ length rest;
   room : length l.piece ≡ 4096;
 }

@@ -1,10 +1,11 @@
 -- It can not have changed.
-use Rattle.std.proofs.Common.{sym, ◌∙◌}
-use Rattle.screen_draw.proofs.CellsLemmas.{not-true}
+use Rattle.std.proofs.Common.{sym, ap, ◌∙◌}
+use Rattle.std.specs.Prelude.{not}
 use Rattle.screen_draw.proofs.SkippedLemmas.{frame-kept}
 use Rattle.screen_draw.proofs.alike.keeps_frame.Goals as goal
 
-pub returns-then-not-changed : goal.returns-then-not-changed
-returns-then-not-changed c =
-    c.if-not-changed.true
-    ∙ sym (frame-kept c.args.a.now.display c.args.b.now.display c.args.changed c.requires (not-true c.args.changed.is_framed c.if-not-changed.true))
+pub returns-then-not-has_frame : goal.returns-then-not-has_frame
+returns-then-not-has_frame c =
+    let a = c.args.a.now.display in
+    let b = c.args.b.now.display in
+    ap not c.if-not-has_frame.true ∙ sym (frame-kept a b (c.has_frame.ensures a c.requires c.if-not-has_frame.true))

@@ -1,9 +1,6 @@
--- Call after call.
-use Rattle.screen_draw.proofs.NotedLemmas.{noted-screen, noted-keeps}
+-- Its size and its picture stay.
+use Rattle.screen_draw.proofs.NotedLemmas.{noted-stays}
 use Rattle.screen_draw.proofs.laws.noted.Goals as goal
 
-pub returns-clause-screen : goal.returns-clause-screen
-returns-clause-screen c = λ calls old new goes. noted-screen calls old new goes
-
-pub returns-clause-noted : goal.returns-clause-noted
-returns-clause-noted c = λ calls old new shown goes noted. noted-keeps calls old new shown goes noted
+pub returns : goal.returns
+returns c = λ calls screen shown sized noted. noted-stays calls screen shown sized noted

@@ -9,12 +9,12 @@ use Rattle.screen_draw.proofs.UpdatesLemmas.{followed-is}
 use Rattle.screen_draw.proofs.laws.same_text.Goals as goal
 
 pub returns-clause-shown : goal.returns-clause-shown
-returns-clause-shown c = λ d. text-drawn d
+returns-clause-shown c = λ since d. text-drawn since d
 
 pub returns-clause-drawn : goal.returns-clause-drawn
 returns-clause-drawn c = λ drawn old screen contents width height.
-    ap (λ (s : State). text_of s.display) (redrawn-is drawn old screen contents width height) ∙ text-drawn drawn
+    ap (λ (s : State). text_of s.display) (redrawn-is drawn old screen contents width height) ∙ text-drawn old.display.shown drawn
 
 pub returns-clause-followed : goal.returns-clause-followed
 returns-clause-followed c = λ first old pieces screens screen contents wide high are.
-    ap text_of (followed-is first screen contents pieces screens old wide high are) ∙ text-drawn (last_of first screens).display
+    ap text_of (followed-is first screen contents pieces screens old wide high are) ∙ text-drawn old.display.shown (last_of first screens).display

@@ -8,19 +8,19 @@ use Rattle.anstyle_parse.specs.Views.Accumulator.{front_of}
 use Rattle.anstyle_parse.specs.Views.Parser.{IsAfter}
 use Rattle.anstyle_parse.proofs.Canonical.Items.{AreCalls-nil}
 use Rattle.ansi_screen.specs.After.{State, Shows}
+use Rattle.ansi_screen.specs.Display.{picture}
 use Rattle.screen_draw.specs.Draw.{drawn_calls}
 use Rattle.screen_draw.specs.Drawing.{Draws}
+use Rattle.ansi_screen.specs.Laws.{with_shown}
 use Rattle.screen_draw.specs.Update.{update_calls}
-use Rattle.screen_draw.specs.Updates.{IsPiece, joined}
-use Rattle.screen_draw.specs.Tracked.{HasTracked, HasTrackedColumns}
-use Rattle.screen_draw.proofs.TrackedLemmas.{tracked-shows}
-use Rattle.screen_draw.proofs.UpdatesLemmas.{joined-more, last-more, pieces-more, screens-more, text-passed-on, no-updates, begins, draws-more, stops-there, follows}
+use Rattle.screen_draw.specs.Updates.{IsPiece, joined, last_of}
+use Rattle.screen_draw.proofs.UpdatesLemmas.{joined-more, last-more, pieces-more, screens-more, text-passed-on, no-updates, begins, draws-more, stops-there, follows, with-own, was-forgotten, comes-on}
 use Rattle.screen_draw.proofs.updates.update_to_end.Goals as goal
 
 pub returns-in_err-hand_on : goal.returns-in_err-hand_on
 returns-in_err-hand_on g c =
     let given = err_from_is_err_and c.from_residual.result c.from_residual.ensures.1 in
-    let first = c.args.wanted.now.tracked.screen in
+    let first = c.args.wanted.now in
     let drawn : Draws g.W.Sink (drawn_calls first.display) c.args.output.now c.hand_on.new.output =
     begins g.W.Sink c.args.shown.now first _ _ _ c.requires.same c.draw.ensures.text c.draw.ensures.only c.hand_on.ensures.passed in
     rw (given.1, given.2)
@@ -36,11 +36,10 @@ loop-turn-init g c = record {
   each = tt;
   are_screens = tt;
   is_last = refl;
+  is_shown = c.requires.same ∙ ap (λ (s : State). with_shown s.display.shown c.args.wanted.now) (sym c.requires.same);
   draws = no-updates g.W.Sink c.hand_on.new.output;
   shows = ([], AreCalls-nil, refl);
-  same = c.requires.same;
   stands = c.new-parser.ensures.stands;
-  stands_behind = c.new-behind.ensures.stands;
   no_fault = c.in_ok-hand_on.ensures.answer;
   not_failed = refl;
   counted = omega arith;
@@ -50,10 +49,10 @@ loop-turn-init g c = record {
 pub returns-in-None : goal.returns-in-None
 returns-in-None g c =
     let before = c.loop-turn.invariant in
-    follows g.R.Source g.W.Sink _ _ c.args.wanted.now.tracked.screen c.loop-turn.wanted.tracked.screen c.args.output.now c.hand_on.new.output c.loop-turn.output _ before.pieces before.screens
+    follows g.R.Source g.W.Sink _ _ c.args.wanted.now c.loop-turn.wanted c.args.output.now c.hand_on.new.output c.loop-turn.output _ before.pieces before.screens
     (Consumes-kept _ _ _ (joined before.pieces) before.consumed c.in-None.ensures.nothing_passed)
     before.each before.are_screens before.is_last
-    (begins g.W.Sink c.args.shown.now c.args.wanted.now.tracked.screen _ _ _ c.requires.same c.draw.ensures.text c.draw.ensures.only c.hand_on.ensures.passed)
+    (begins g.W.Sink c.args.shown.now c.args.wanted.now _ _ _ c.requires.same c.draw.ensures.text c.draw.ensures.only c.hand_on.ensures.passed)
     before.draws (before.no_fault, inl c.in-None.ensures.failed)
 
 pub returns-in-Some-eq0 : goal.returns-in-Some-eq0
@@ -63,96 +62,103 @@ returns-in-Some-eq0 g c =
     subst (λ n. Consumes (g.R.Source.remaining c.loop-turn.reader) (g.R.Source.remaining c.read.new.self) (take n c.read.new.into))
     c.in-Some-eq0.field-0-test c.in-Some-eq0.ensures.passed in
     let room : 0 < length c.read.new.into = omega (arith, c.read.auto.into, before.room) in
-    follows g.R.Source g.W.Sink _ _ c.args.wanted.now.tracked.screen c.loop-turn.wanted.tracked.screen c.args.output.now c.hand_on.new.output c.loop-turn.output _ before.pieces before.screens
+    follows g.R.Source g.W.Sink _ _ c.args.wanted.now c.loop-turn.wanted c.args.output.now c.hand_on.new.output c.loop-turn.output _ before.pieces before.screens
     (subst (Consumes (g.R.Source.remaining c.args.reader.now) (g.R.Source.remaining c.read.new.self)) (append-nil (joined before.pieces))
     (Consumes-trans _ _ _ (joined before.pieces) [] before.consumed none))
     before.each before.are_screens before.is_last
-    (begins g.W.Sink c.args.shown.now c.args.wanted.now.tracked.screen _ _ _ c.requires.same c.draw.ensures.text c.draw.ensures.only c.hand_on.ensures.passed)
+    (begins g.W.Sink c.args.shown.now c.args.wanted.now _ _ _ c.requires.same c.draw.ensures.text c.draw.ensures.only c.hand_on.ensures.passed)
     before.draws (before.no_fault, (λ zero. c.in-Some-eq0.ensures.end c.in-Some-eq0.field-0-test room zero, c.in-Some-eq0.ensures.not_failed ∙ before.not_failed))
 
-pub update_noted_columns-requires : goal.update_noted_columns-requires
-update_noted_columns-requires g c =
-    let old = c.forget.new.self in
-    let same : c.loop-turn.shown ≡ old.screen = c.loop-turn.invariant.same ∙ sym c.forget.ensures.screen in
-    let rows = subst (λ (s : State). HasTracked old s.display) (sym same) c.forget.ensures.shown in
+pub update_noted-requires : goal.update_noted-requires
+update_noted-requires g c =
+    let before = c.loop-turn.invariant in
+    let first = c.args.wanted.now in
+    let last = last_of first before.screens in
     record {
-      rows = c.advance_texts.ensures.calls.changed c.loop-turn.shown.display rows;
-      columns = c.advance_texts.ensures.calls.columns c.loop-turn.shown.display rows
-          (subst (λ (s : State). HasTrackedColumns old s.display) (sym same) c.forget.ensures.columns);
+      noted = (comes-on first last c.loop-turn.shown c.forget.new.self c.advance_texts.new.performer c.loop-turn.shown.display.shown (joined before.pieces)
+          (take c.in-Some.count c.read.new.into) _ before.shows (c.advance_texts.ensures.stream (joined before.pieces) before.stands) before.is_shown
+          (was-forgotten last c.loop-turn.wanted c.forget.new.self c.loop-turn.wanted.display.shown before.is_last c.forget.ensures)
+          c.columns.ensures.sized c.advance_texts.ensures.calls).noted;
     }
 
 pub returns-in_err-hand_on-in-Some : goal.returns-in_err-hand_on-in-Some
 returns-in_err-hand_on-in-Some g c =
     let given = err_from_is_err_and c.from_residual-in_err-hand_on-in-Some.result c.from_residual-in_err-hand_on-in-Some.ensures.1 in
     let before = c.loop-turn.invariant in
-    let first = c.args.wanted.now.tracked.screen in
-    let next = c.advance_texts.new.performer.screen in
+    let first = c.args.wanted.now in
+    let last = last_of first before.screens in
+    let wanted = c.advance_texts.new.performer in
     let bytes = take c.in-Some.count c.read.new.into in
-    let shows = tracked-shows first (joined before.pieces) bytes _ c.forget.new.self c.advance_texts.new.performer
-    (subst (Shows first (joined before.pieces)) (sym c.forget.ensures.screen) before.shows)
-    (c.advance_texts.ensures.stream (joined before.pieces) before.stands) c.advance_texts.ensures.calls in
+    let comes = comes-on first last c.loop-turn.shown c.forget.new.self wanted c.loop-turn.shown.display.shown (joined before.pieces)
+    bytes _ before.shows (c.advance_texts.ensures.stream (joined before.pieces) before.stands) before.is_shown
+    (was-forgotten last c.loop-turn.wanted c.forget.new.self c.loop-turn.wanted.display.shown before.is_last c.forget.ensures)
+    c.columns.ensures.sized c.advance_texts.ensures.calls in
     let drawn : Draws g.W.Sink (drawn_calls first.display) c.args.output.now c.hand_on.new.output =
     begins g.W.Sink c.args.shown.now first _ _ _ c.requires.same c.draw.ensures.text c.draw.ensures.only c.hand_on.ensures.passed in
-    let last = text-passed-on g.W.Sink (canon (update_calls c.loop-turn.shown.display next.display)) _ _ _
-    c.update_noted_columns.ensures.added c.hand_on-in-Some.ensures.passed in
+    let passed = text-passed-on g.W.Sink (canon (update_calls c.loop-turn.shown.display wanted.display)) _ _ _
+    c.update_noted.ensures.text c.hand_on-in-Some.ensures.passed in
     let is_piece : IsPiece bytes = (
       omega (arith, length-take c.in-Some.count c.read.new.into, c.in-Some.ensures.within, c.in-Some.count-test),
       omega (arith, length-take c.in-Some.count c.read.new.into, c.read.auto.into, before.room),
     ) in
-    let updated = draws-more g.W.Sink first c.loop-turn.shown next before.screens _ _ _ _ before.draws
-    (before.same ∙ before.is_last)
-    c.update_noted_columns.ensures.added c.update_noted_columns.ensures.drawing c.hand_on-in-Some.ensures.passed in
+    let updated = draws-more g.W.Sink first c.loop-turn.shown wanted comes.next _ _ before.screens _ _ _ _ before.draws
+    before.is_shown comes.is c.update_noted.ensures.text c.update_noted.ensures.only c.hand_on-in-Some.ensures.passed in
+    let ended : last_of first (before.screens ++ comes.next ∷ []) ≡ comes.next = last-more first comes.next before.screens in
     rw (given.1, given.2)
-    (follows g.R.Source g.W.Sink _ _ first next c.args.output.now c.hand_on.new.output c.hand_on-in-Some.new.output _
-    (before.pieces ++ bytes ∷ []) (before.screens ++ next ∷ [])
+    (follows g.R.Source g.W.Sink _ _ first wanted c.args.output.now c.hand_on.new.output c.hand_on-in-Some.new.output _
+    (before.pieces ++ bytes ∷ []) (before.screens ++ comes.next ∷ [])
     (subst (Consumes (g.R.Source.remaining c.args.reader.now) (g.R.Source.remaining c.read.new.self)) (sym (joined-more before.pieces bytes))
     (Consumes-trans _ _ _ _ _ before.consumed c.in-Some.ensures.passed))
     (pieces-more IsPiece before.pieces bytes before.each is_piece)
-    (screens-more first next [] bytes before.pieces before.screens before.are_screens shows)
-    (sym (last-more first next before.screens)) drawn updated
-    (stops-there g.W.Sink (Unit {0}) _ _ _ _ _ c.loop-turn.output c.hand_on-in-Some.new.output last before.no_fault _ c.in_err-hand_on-in-Some.ensures.answer
+    (screens-more first comes.next [] bytes before.pieces before.screens before.are_screens comes.shows)
+    (with-own wanted comes.next _ comes.is ∙ ap (with_shown wanted.display.shown) (sym ended)) drawn updated
+    (stops-there g.W.Sink (Unit {0}) _ _ _ _ _ c.loop-turn.output c.hand_on-in-Some.new.output passed before.no_fault _ c.in_err-hand_on-in-Some.ensures.answer
     (c.in-Some.ensures.not_failed ∙ before.not_failed)))
 
--- what differs is tracked
-pub come_after-requires : goal.come_after-requires
-come_after-requires g c =
-    let old = c.forget.new.self in
-    let same : c.loop-turn.shown ≡ old.screen = c.loop-turn.invariant.same ∙ sym c.forget.ensures.screen in
-    c.advance_texts.ensures.calls.changed c.loop-turn.shown.display
-    (subst (λ (s : State). HasTracked old s.display) (sym same) c.forget.ensures.shown)
+-- what differs was noted
+pub catch_up-requires : goal.catch_up-requires
+catch_up-requires g c =
+    let before = c.loop-turn.invariant in
+    let first = c.args.wanted.now in
+    let last = last_of first before.screens in
+    (comes-on first last c.loop-turn.shown c.forget.new.self c.advance_texts.new.performer c.loop-turn.shown.display.shown (joined before.pieces)
+    (take c.in-Some.count c.read.new.into) _ before.shows (c.advance_texts.ensures.stream (joined before.pieces) before.stands) before.is_shown
+    (was-forgotten last c.loop-turn.wanted c.forget.new.self c.loop-turn.wanted.display.shown before.is_last c.forget.ensures)
+    c.columns.ensures.sized c.advance_texts.ensures.calls).noted
 
 pub loop-turn-preserved : goal.loop-turn-preserved
 loop-turn-preserved g c =
     let before = c.loop-turn.invariant in
-    let first = c.args.wanted.now.tracked.screen in
-    let next = c.advance_texts.new.performer.screen in
+    let first = c.args.wanted.now in
+    let last = last_of first before.screens in
+    let wanted = c.advance_texts.new.performer in
     let bytes = take c.in-Some.count c.read.new.into in
+    let comes = comes-on first last c.loop-turn.shown c.forget.new.self wanted c.loop-turn.shown.display.shown (joined before.pieces)
+    bytes _ before.shows (c.advance_texts.ensures.stream (joined before.pieces) before.stands) before.is_shown
+    (was-forgotten last c.loop-turn.wanted c.forget.new.self c.loop-turn.wanted.display.shown before.is_last c.forget.ensures)
+    c.columns.ensures.sized c.advance_texts.ensures.calls in
     let more = sym (joined-more before.pieces bytes) in
+    let ended : last_of first (before.screens ++ comes.next ∷ []) ≡ comes.next = last-more first comes.next before.screens in
     let is_piece : IsPiece bytes = (
       omega (arith, length-take c.in-Some.count c.read.new.into, c.in-Some.ensures.within, c.in-Some.count-test),
       omega (arith, length-take c.in-Some.count c.read.new.into, c.read.auto.into, before.room),
     ) in
-    let shows = tracked-shows first (joined before.pieces) bytes _ c.forget.new.self c.advance_texts.new.performer
-    (subst (Shows first (joined before.pieces)) (sym c.forget.ensures.screen) before.shows)
-    (c.advance_texts.ensures.stream (joined before.pieces) before.stands) c.advance_texts.ensures.calls in
-    let stands = c.advance_texts.ensures.stands (joined before.pieces) before.stands in
+    let shown : c.catch_up.new.self ≡ with_shown (picture comes.next.display) comes.next =
+    was-forgotten comes.next wanted c.catch_up.new.self _ comes.is c.catch_up.ensures in
     record {
       pieces = before.pieces ++ bytes ∷ [];
-      screens = before.screens ++ next ∷ [];
+      screens = before.screens ++ comes.next ∷ [];
       consumed = subst (Consumes (g.R.Source.remaining c.args.reader.now) (g.R.Source.remaining c.read.new.self)) more
           (Consumes-trans _ _ _ _ _ before.consumed c.in-Some.ensures.passed);
       each = pieces-more IsPiece before.pieces bytes before.each is_piece;
-      are_screens = screens-more first next [] bytes before.pieces before.screens before.are_screens shows;
-      is_last = sym (last-more first next before.screens);
-      draws = draws-more g.W.Sink first c.loop-turn.shown next before.screens _ _ _ _ before.draws
-          (before.same ∙ before.is_last)
-          c.update_noted_columns.ensures.added c.update_noted_columns.ensures.drawing c.hand_on-in-Some.ensures.passed;
-      shows = subst (λ l. Shows first l next) more shows;
-      same = c.come_after.ensures.screen first (joined before.pieces)
-          (subst (Shows first (joined before.pieces)) (sym before.same) before.shows) before.stands_behind shows;
-      stands = subst (IsAfter front_of c.advance_texts.new.self) more stands;
-      stands_behind = subst (IsAfter front_of c.come_after.new.behind) more
-          (c.come_after.ensures.parser (joined before.pieces) before.stands_behind stands);
+      are_screens = screens-more first comes.next [] bytes before.pieces before.screens before.are_screens comes.shows;
+      is_last = with-own wanted comes.next _ comes.is ∙ ap (with_shown wanted.display.shown) (sym ended);
+      is_shown = with-own c.catch_up.new.self comes.next _ shown ∙ ap (with_shown c.catch_up.new.self.display.shown) (sym ended);
+      draws = draws-more g.W.Sink first c.loop-turn.shown wanted comes.next _ _ before.screens _ _ _ _ before.draws
+          before.is_shown comes.is c.update_noted.ensures.text c.update_noted.ensures.only c.hand_on-in-Some.ensures.passed;
+      shows = subst (λ l. Shows first l (last_of first (before.screens ++ comes.next ∷ []))) more
+          (subst (Shows first (joined before.pieces ++ bytes)) (sym ended) comes.shows);
+      stands = subst (IsAfter front_of c.advance_texts.new.self) more (c.advance_texts.ensures.stands (joined before.pieces) before.stands);
       no_fault = c.in_ok-hand_on-in-Some.ensures.answer;
       not_failed = c.in-Some.ensures.not_failed ∙ before.not_failed;
       counted = omega (arith, before.counted, is_piece.0, ap length more, length-append (joined before.pieces) bytes);
@@ -162,7 +168,7 @@ loop-turn-preserved g c =
 pub returns : goal.returns
 returns g c =
     let before = c.loop-turn.invariant in
-    follows g.R.Source g.W.Sink _ _ c.args.wanted.now.tracked.screen c.loop-turn.wanted.tracked.screen c.args.output.now c.hand_on.new.output c.loop-turn.output _ before.pieces before.screens
+    follows g.R.Source g.W.Sink _ _ c.args.wanted.now c.loop-turn.wanted c.args.output.now c.hand_on.new.output c.loop-turn.output _ before.pieces before.screens
     before.consumed before.each before.are_screens before.is_last
-    (begins g.W.Sink c.args.shown.now c.args.wanted.now.tracked.screen _ _ _ c.requires.same c.draw.ensures.text c.draw.ensures.only c.hand_on.ensures.passed)
+    (begins g.W.Sink c.args.shown.now c.args.wanted.now _ _ _ c.requires.same c.draw.ensures.text c.draw.ensures.only c.hand_on.ensures.passed)
     before.draws (before.no_fault, inr (omega (arith, before.counted, c.loop-turn-test.false)))

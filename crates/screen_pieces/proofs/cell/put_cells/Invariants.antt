@@ -3,12 +3,12 @@ use Rattle.std.proofs.Common.{◌≡◌, ◌≤◌, ◌-◌, length, take, drop,
 use Rattle.screen_pieces.specs.Cells.{cell_in}
 use Rattle.screen_pieces.proofs.cell.put_cells.Given as goal
 
-abbrev pub invariant-fours : goal.invariant-fours
-invariant-fours l = record {
+abbrev pub invariant-tens : goal.invariant-tens
+invariant-tens l = record {
   within : l.done ≤ length l.cells;
   written : map cell_in (take l.done l.room) ≡ take l.done l.cells;
   rest : drop (length l.cells) l.room ≡ drop (length l.cells) l.initial.room;
 }
 
-abbrev pub decreases-fours : goal.decreases-fours
-decreases-fours l = length l.cells - l.done
+abbrev pub decreases-tens : goal.decreases-tens
+decreases-tens l = length l.cells - l.done

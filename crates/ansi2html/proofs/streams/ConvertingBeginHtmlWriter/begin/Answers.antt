@@ -4,7 +4,7 @@ use Rattle.ansi2html.specs.Streams.{said_as}
 use Rattle.ansi2html.proofs.streams.ConvertingBeginHtmlWriter.begin.Goals as goal
 
 pub returns-clause-text : goal.returns-clause-text
-returns-clause-text g c = text_from-new (said_as c.args.self.now) c.new.result c.new.ensures.new
+returns-clause-text g c = λ given _. text_from-new (said_as c.args.self.now) c.new.result c.new.ensures.new given.calls
 
 pub returns-clause-ending : goal.returns-clause-ending
-returns-clause-ending g c = ending_from-new (said_as c.args.self.now) c.new.result c.new.ensures.new
+returns-clause-ending g c = λ given _. ending_from-new (said_as c.args.self.now) c.new.result c.new.ensures.new given.calls

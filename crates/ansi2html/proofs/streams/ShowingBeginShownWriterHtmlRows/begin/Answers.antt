@@ -1,17 +1,17 @@
 -- What a new writer writes.
 use Rattle.std.proofs.Common.{ap, ◌∙◌}
-use Rattle.ansi2html.specs.Sizes.{screen_of}
+use Rattle.ansi2html.specs.Sizes.{screen_for}
 use Rattle.ansi2html.specs.Streams.{size_of, shown_as}
 use Rattle.screen_html.specs.Writer.{standing_of}
 use Rattle.screen_html.proofs.ShownLemmas.{left-new, ending-new}
 use Rattle.ansi2html.proofs.streams.ShowingBeginShownWriterHtmlRows.begin.Goals as goal
 
 pub returns-in-Ok-clause-text : goal.returns-in-Ok-clause-text
-returns-in-Ok-clause-text g c =
+returns-in-Ok-clause-text g c = λ given begins.
     let new = ap standing_of c.new.ensures.rows ∙ c.new-rows.ensures.new in
-    left-new (shown_as c.args.self.now) standing_of (screen_of (size_of c.args.self.now)) c.new.result (c.new.ensures.screen ∙ c.in-Ok.ensures) new
+    left-new (shown_as c.args.self.now) standing_of (screen_for (size_of c.args.self.now) given.read) c.new.result (c.new.ensures.screen ∙ c.in-Ok.ensures given begins) new given.calls
 
 pub returns-in-Ok-clause-ending : goal.returns-in-Ok-clause-ending
-returns-in-Ok-clause-ending g c =
+returns-in-Ok-clause-ending g c = λ given begins.
     let new = ap standing_of c.new.ensures.rows ∙ c.new-rows.ensures.new in
-    ending-new (shown_as c.args.self.now) standing_of (screen_of (size_of c.args.self.now)) c.new.result (c.new.ensures.screen ∙ c.in-Ok.ensures) new
+    ending-new (shown_as c.args.self.now) standing_of (screen_for (size_of c.args.self.now) given.read) c.new.result (c.new.ensures.screen ∙ c.in-Ok.ensures given begins) new given.calls

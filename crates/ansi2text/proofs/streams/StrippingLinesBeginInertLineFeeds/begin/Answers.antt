@@ -6,7 +6,7 @@ use Rattle.ansi_strip.specs.TakingProof.{text_of-new, ending_of-new}
 use Rattle.ansi2text.proofs.streams.StrippingLinesBeginInertLineFeeds.begin.Goals as goal
 
 pub returns-clause-text : goal.returns-clause-text
-returns-clause-text g c = λ calls. text_of-new (performer_in c.over.result) c.over.ensures.new (filter is_inert calls)
+returns-clause-text g c = λ given _. text_of-new (performer_in c.over.result) c.over.ensures.new (filter is_inert given.calls)
 
 pub returns-clause-ending : goal.returns-clause-ending
-returns-clause-ending g c = λ calls. ending_of-new (performer_in c.over.result) c.over.ensures.new (filter is_inert calls)
+returns-clause-ending g c = λ given _. ending_of-new (performer_in c.over.result) c.over.ensures.new (filter is_inert given.calls)

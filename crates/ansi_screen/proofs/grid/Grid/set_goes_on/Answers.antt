@@ -1,13 +1,14 @@
 -- The last cell of a row says it, as the one of the list.
-use Rattle.std.proofs.Common.{◌+◌, ◌*◌, ◌<◌, length, set, refl, sym, ◌∙◌, subst}
-use Rattle.std.proofs.lemmas.List.{get_or_read}
+use Rattle.std.proofs.Common.{◌≡◌, ◌+◌, ◌*◌, ◌<◌, List, length, set, refl, ap, sym, ◌∙◌, subst}
+use Rattle.std.proofs.lemmas.List.{get_or_read, set-get_or}
+use Rattle.ansi_screen.specs.declared.cell.Cell.{Cell}
 use Rattle.ansi_screen.specs.Cells.{going_on}
-use Rattle.ansi_screen.specs.Grid.{Grid}
+use Rattle.ansi_screen.specs.Grid.{Grid, flat, in_order}
 use Rattle.ansi_screen.proofs.GridLemmas.{with-rows, edited, row-going}
 use Rattle.ansi_screen.proofs.grid.Grid.set_goes_on.Goals as goal
 
-pub returns : goal.returns
-returns c =
+pub returns-clause-cells : goal.returns-clause-cells
+returns-clause-cells c =
     let w = c.self.inside.width in
     let order = c.self.inside.order.items in
     let rows = c.self.inside.rows.items in
@@ -20,3 +21,14 @@ returns c =
     (edited w r order rows c.self.invariant.0 c.self.invariant.1 c.self.invariant.2 inside (λ l. going_on c.args.on (length l) l) (λ l. going_on c.args.on (r * w + w) l) at c.index_mut.result.now new same
     c.index_mut.ensures.value c.set_goes_on.ensures.cells
     (row-going w r order rows c.self.invariant.0 c.self.invariant.1 c.self.invariant.2 inside c.args.on))
+
+pub returns-clause-same : goal.returns-clause-same
+returns-clause-same c = λ none.
+    let order = c.self.inside.order.items in
+    let rows = c.self.inside.rows.items in
+    let at = c.from-at.result in
+    let row = c.index_mut.result.now in
+    let kept : set rows at c.set_goes_on.new.self ≡ rows =
+    ap (set rows at) (c.set_goes_on.ensures.same none ∙ c.index_mut.ensures.value) ∙ set-get_or rows at row in
+    ap (λ (l : List (List Cell)). let g : Grid = record { width = c.self.inside.width; height = length order; cells = flat (in_order order l) } in g) kept
+    ∙ c.self.view_is

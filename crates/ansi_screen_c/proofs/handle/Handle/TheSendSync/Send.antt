@@ -14,7 +14,7 @@ use Rattle.std.specs.declared.alloc.Global.{Global}
 use Rattle.std.proofs.Crossing as heap
 use Rattle.std.proofs.alloc.Global.TheSendSync as memory
 use Rattle.screen_pieces.specs.contracts.terminal.Terminal as held
-use Rattle.screen_pieces.proofs.terminal.Terminal.TheSendSync.{the_send as inside}
+use Rattle.screen_pieces.proofs.SendLemmas.{terminal_send as inside}
 use Rattle.ansi_screen_c.specs.Handle.{owned}
 use Rattle.ansi_screen_c.specs.contracts.handle.Handle.{the_row, the_type}
 

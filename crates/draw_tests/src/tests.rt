@@ -1,2 +1,0 @@
-//! What a screen is made of, and what draws it.
-mod draw;

@@ -1,0 +1,39 @@
+-- The calls of the piece are received, and what was written by them is passed on.
+use Rattle.std.proofs.Common.{◌≡◌, true, false, is_some, sym, ap, ◌∙◌}
+use Rattle.anstyle_parse.specs.Io.Output.{fault_in}
+use Rattle.anstyle_parse.proofs.Written.Output.{None-from_is_some}
+use Rattle.each_source.proofs.ReadLemmas.{passed-on}
+use Rattle.each_source.proofs.reading.give.Goals as goal
+
+pub returns-then-is_some : goal.returns-then-is_some
+returns-then-is_some g c = record {
+  received = λ first before stands has.
+      passed-on g.P.PerformText.receives g.met.P.PerformText.receives_more first c.advance_log.new.performer c.pass_on.new.self _
+      (c.advance_log.ensures.received first before stands has) c.pass_on.ensures;
+  stands = c.advance_log.ensures.stands;
+  clear = tt;
+  over = λ moving none.
+      let clash : true ≡ false = sym c.if-is_some.true ∙ c.is_some.ensures ∙ ap is_some (c.fault.ensures ∙ ap fault_in c.output.ensures) ∙ ap is_some none in cc;
+}
+
+pub returns-then-is_stuck : goal.returns-then-is_stuck
+returns-then-is_stuck g c = record {
+  received = λ first before stands has.
+      passed-on g.P.PerformText.receives g.met.P.PerformText.receives_more first c.advance_log.new.performer c.pass_on.new.self _
+      (c.advance_log.ensures.received first before stands has) c.pass_on.ensures;
+  stands = c.advance_log.ensures.stands;
+  clear = tt;
+  over = λ moving none. let clash : true ≡ false = moving in cc;
+}
+
+pub returns : goal.returns
+returns g c = record {
+  received = λ first before stands has.
+      passed-on g.P.PerformText.receives g.met.P.PerformText.receives_more first c.advance_log.new.performer c.pass_on.new.self _
+      (c.advance_log.ensures.received first before stands has) c.pass_on.ensures;
+  stands = c.advance_log.ensures.stands;
+  clear =
+      None-from_is_some (fault_in (g.P.WritingPerformer.output_in c.pass_on.new.self))
+      (sym (c.is_some.ensures ∙ ap is_some (c.fault.ensures ∙ ap fault_in c.output.ensures)) ∙ c.if-is_some.false);
+  over = tt;
+}

@@ -1,2 +1,0 @@
-//! Sources one after another, and the names of what programs share.
-mod each;

@@ -1,5 +1,0 @@
-//! Rows that were worked by hand.
-mod history;
-mod page;
-mod same;
-mod terminal;

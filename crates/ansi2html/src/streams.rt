@@ -6,8 +6,7 @@ ghost use Rattle.ansi_html.specs.Blocks.{blocked_text, blocked_ending};
 ghost use Rattle.html_urls.specs.Html.{urls_text, urls_ending, lined_urls_text, lined_urls_ending, blocked_urls_text, blocked_urls_ending};
 ghost use Rattle.each_source.specs.Each.{Given, BeginsWith};
 ghost use Rattle.screen_html.specs.Shown.{left_html, ending_html};
-ghost use Rattle.screen_text.specs.Recording.{is_decided, CanBeShown};
-ghost use Rattle.ansi2html.specs.Sizes.{screen_for};
+ghost use Rattle.screen_text.specs.Recording.{is_decided, screen_for, CanBeShown};
 
 use ansi_html::{BlocksWriter, HtmlWriter, LinesWriter, Styling};
 use ansi_screen::Screen;
@@ -249,8 +248,7 @@ impl Showing {
         ensures { IfOk result (λ parts. (given : Given) → BeginsWith (is_decided (size_of self.now)) front.now given
             → parts.0 ≡ screen_for (size_of self.now) given.read) }
     {
-        let size = self.size.of(front);
-        let screen = Screen::new(self.alloc, size.columns, size.rows)?;
+        let screen = self.size.screen(self.alloc, front)?;
         let memory = LinkMemory::new(self.alloc)?;
         Ok((screen, memory))
     }

@@ -3,21 +3,20 @@
 ghost use Rattle.std.specs.Prelude.{◌≡◌, true, filter, IfOk, IfErr};
 ghost use Rattle.ansi_strip.specs.Inert.{inert_text, is_inert};
 ghost use Rattle.ansi_strip.specs.LineFeeds.{decided, waiting};
-ghost use Rattle.ansi2text.specs.Sizes.{screen_for, no_text};
+ghost use Rattle.ansi2text.specs.Ending.{no_text};
 ghost use Rattle.each_source.specs.Each.{Given, BeginsWith};
 ghost use Rattle.safe_text.specs.Marks.{decided_marked, undecided_marked};
 ghost use Rattle.screen_safe.specs.Shown.{safe_left, safe_ending};
-ghost use Rattle.screen_text.specs.Recording.{is_decided, CanBeShown};
+ghost use Rattle.screen_text.specs.Recording.{is_decided, screen_for, CanBeShown};
 ghost use Rattle.screen_text.specs.Shown.{left_text, ending_text};
 
-use ansi_screen::Screen;
 use ansi_strip::{Inert, LineFeeds, Stripper};
 use anstyle_parse::io::{CallWriter, Output, Sink};
 use each_source::Begin;
 use safe_text::MarkingWriter;
 use screen_safe::SafeRows;
 use screen_text::{ShownSize, ShownWriter, TextRows};
-use std::alloc::{AllocError, Global};
+use std::alloc::Global;
 
 /// Each stream is stripped, to text that drives no terminal.
 #[derive(Debug, Clone, Copy, PartialEq, Eq)]
@@ -128,15 +127,6 @@ impl Showing {
     {
         Showing { alloc, size }
     }
-
-    /// A blank screen for a stream that begins with these bytes.
-    fn screen(&self, front: &[u8]) -> Result<Screen, AllocError>
-        ensures { IfOk result (λ screen. (given : Given) → BeginsWith (is_decided (size_of self.now)) front.now given
-            → screen ≡ screen_for (size_of self.now) given.read) }
-    {
-        let size = self.size.of(front);
-        Screen::new(self.alloc, size.columns, size.rows)
-    }
 }
 
 /// What each showed is text.
@@ -165,7 +155,7 @@ impl<W: Sink> Begin<ShownWriter<TextRows<W>>, W> for Showing {
             ≡ ending_text (screen_for (size_of self.now) given.read) given.calls) }
         ensures kept { IfErr result (λ kept. kept ≡ output) }
     {
-        match self.screen(front) {
+        match self.size.screen(self.alloc, front) {
             Ok(screen) => Ok(ShownWriter::new(screen, TextRows::new(output))),
             Err(_) => Err(output),
         }
@@ -198,7 +188,7 @@ impl<W: Sink> Begin<ShownWriter<SafeRows<W>>, W> for Showing {
             ≡ safe_ending (screen_for (size_of self.now) given.read) given.calls) }
         ensures kept { IfErr result (λ kept. kept ≡ output) }
     {
-        match self.screen(front) {
+        match self.size.screen(self.alloc, front) {
             Ok(screen) => Ok(ShownWriter::new(screen, SafeRows::new(output))),
             Err(_) => Err(output),
         }

@@ -20,10 +20,9 @@ pub record HasSizeOf (other d : Display) : Type 0 where
 abbrev pub copied : (start end : ℕ) → (others cells : List Cell) → List Cell
 copied start end others cells = within start end (λ run. take (end - start) (drop start others)) cells
 
--- the other one's cells, its cursor, modes and links
-abbrev pub with_cells_of : (other d : Display) → Display
-with_cells_of other d = record d {
-  cells = other.cells;
+-- the other one's cursor, its modes and links
+abbrev pub with_cursor_of : (other d : Display) → Display
+with_cursor_of other d = record d {
   cursor = other.cursor;
   wraps = other.wraps;
   inserts = other.inserts;
@@ -31,6 +30,10 @@ with_cells_of other d = record d {
   links = other.links;
   link = other.link;
 }
+
+-- these and its cells
+abbrev pub with_cells_of : (other d : Display) → Display
+with_cells_of other d = with_cursor_of other (record d { cells = other.cells })
 
 -- the other one's frame
 abbrev pub with_frame_of : (other d : Display) → Display

@@ -1,5 +1,5 @@
 -- The size of a screen, and the texts that say one.
-use Rattle.std.specs.Prelude.{◌≡◌, ℕ, ◌≤◌, ◌==◌, List, Option, None, Some, MatchOption}
+use Rattle.std.specs.Prelude.{◌≡◌, ℕ, ◌≤◌, ◌==◌, ◌&&◌, nat_le, List, Option, None, Some, MatchOption, if◌then◌else◌}
 use Rattle.std.specs.List.{before_first, after_first}
 use Rattle.std.specs.Str.Parse.{IsNumeral, digits_value}
 use Rattle.ansi_screen.specs.declared.size.Size.{Size}
@@ -9,6 +9,12 @@ use Rattle.ansi_screen.specs.Display.{most_columns, most_rows}
 abbrev pub IsTaken : Size → Type 0
 IsTaken size =
     (2 ≤ size.columns) × (size.columns ≤ most_columns) × (1 ≤ size.rows) × (size.rows ≤ most_rows)
+
+-- so many columns and rows, where a screen can have them
+abbrev pub size_if_taken : (columns rows : ℕ) → Option Size
+size_if_taken columns rows =
+    if nat_le 2 columns && nat_le columns most_columns && nat_le 1 rows && nat_le rows most_rows
+    then Some (record { columns = columns; rows = rows }) else None
 
 -- 80 columns and 24 rows: those of the VT100, and of terminals that are told nothing else
 abbrev pub a_terminal : Size

@@ -1,6 +1,6 @@
 //! The size of a screen, and how a text says it.
-ghost use Rattle.std.specs.Prelude.{◌≡◌, ℕ, ◌^◌, ◌<◌, MatchOption};
-ghost use Rattle.ansi_screen.specs.Size.{a_terminal, IsNumber, IsSaid};
+ghost use Rattle.std.specs.Prelude.{◌≡◌, ℕ, ◌^◌, ◌<◌, IfSome, MatchOption};
+ghost use Rattle.ansi_screen.specs.Size.{a_terminal, size_if_taken, IsNumber, IsSaid, IsTaken};
 
 use crate::screen::{MAX_COLUMNS, MAX_ROWS, MIN_COLUMNS, MIN_ROWS};
 
@@ -22,21 +22,29 @@ impl Size {
         }
     }
 
+    /// So many columns and rows, where a screen can have them: 2 to 1,000 columns, and 1 to 1,000 rows.
+    pub fn of(columns: usize, rows: usize) -> Option<Size>
+        ensures size { result ≡ size_if_taken columns rows }
+        ensures taken { IfSome result IsTaken }
+    {
+        let is_taken = MIN_COLUMNS <= columns
+            && columns <= MAX_COLUMNS
+            && MIN_ROWS <= rows
+            && rows <= MAX_ROWS;
+        if is_taken {
+            Some(Size { columns, rows })
+        } else {
+            None
+        }
+    }
+
     /// The size that a text says, COLUMNSxROWS, of 2 to 1,000 columns and 1 to 1,000 rows, in decimal.
     /// `None` for a text that says none.
     pub fn parse(text: &str) -> Option<Size>
         ensures { IsSaid text.now result }
     {
         let (columns, rows) = text.split_once('x')?;
-        let size = Size {
-            columns: number(columns)?,
-            rows: number(rows)?,
-        };
-        let is_taken = MIN_COLUMNS <= size.columns
-            && size.columns <= MAX_COLUMNS
-            && MIN_ROWS <= size.rows
-            && size.rows <= MAX_ROWS;
-        if is_taken { Some(size) } else { None }
+        Size::of(number(columns)?, number(rows)?)
     }
 }
 

@@ -34,7 +34,7 @@ use Rattle.ansi_screen.specs.Following.{IsShownOf}
 use Rattle.ansi_screen.specs.Laws.{with_shown}
 use Rattle.screen_draw.specs.Redrawn.{as_shown}
 use Rattle.screen_draw.specs.Update.{update_calls}
-use Rattle.screen_draw.specs.Updates.{updates_calls, followed_calls, last_of, AreScreens, joined, IsPiece, StopsBy, LeadsTo, Follows, GetsOn}
+use Rattle.screen_draw.specs.Updates.{updates_calls, followed_calls, last_of, AreScreens, joined, IsPiece, StopsBy, LeadsTo, Follows, GetsOn, LooksAs}
 use Rattle.screen_draw.proofs.DrawLemmas.{both-drawing, drawing-lawful, draws-append}
 use Rattle.screen_draw.proofs.RedrawnLemmas.{redrawn-is}
 use Rattle.screen_draw.proofs.UpdatedLemmas.{updated-is}
@@ -254,6 +254,16 @@ begins sink shown first a b c same added drawing none =
 pub no-updates : {W : Type 0} (sink : SinkOf W) (a : Output W) → Draws sink [] a a
 no-updates sink a = record { added = Adds-nil sink a; drawing = tt }
 
+-- a piece more
+pub shows-more : (first last : State) (before piece : List ℕ) (calls : List Call) → Shows first before last → Continues before piece calls
+    → Shows first (before ++ piece) (after_all calls last)
+shows-more first last before piece calls shows continues =
+    let earlier : List Call = shows.0 in (
+      earlier ++ calls,
+      continues earlier shows.1,
+      ap (after_all calls) shows.2 ∙ sym (after_all-append earlier calls first),
+    )
+
 -- with the picture that it has
 pub with-own : (s t : State) (since : Picture) → s ≡ with_shown since t → s ≡ with_shown s.display.shown t
 with-own s t since is = is ∙ ap (λ (e : State). with_shown e.display.shown t) (sym is)
@@ -273,17 +283,26 @@ pub comes-on : (first last shown wanted new : State) (since : Picture) (before p
     → Continues before piece calls → shown ≡ with_shown since last → wanted ≡ with_shown (picture last.display) last → IsSized wanted.display
     → new ≡ after_all calls wanted → ComesOn first last shown new before piece
 comes-on first last shown wanted new since before piece calls shows continues same to sized is =
-    let earlier : List Call = shows.0 in
     let now : IsShownOf wanted.display shown.display =
     subst (λ (s : State). IsShownOf wanted.display s.display) (sym same)
     (subst (λ (s : State). IsShownOf s.display (with_shown since last).display) (sym to) (record { width = refl; height = refl; picture = refl })) in
     record {
       next = after_all calls last;
-      shows = (
-        earlier ++ calls,
-        continues earlier shows.1,
-        ap (after_all calls) shows.2 ∙ sym (after_all-append earlier calls first),
-      );
+      shows = shows-more first last before piece calls shows continues;
       is = is ∙ (ap (after_all calls) to ∙ same-after_all (picture last.display) calls last);
       noted = subst (λ (s : State). IsShownOf s.display shown.display) (sym is) (noted-stays calls wanted shown.display sized now);
     }
+
+-- A piece more comes to the screen that is shown: it looks as the one to which all of it leads.
+pub comes-too : (first last next shown new : State) (before piece : List ℕ) (calls : List Call) → Shows first before last
+    → Continues before piece calls → LooksAs last shown → new ≡ after_all calls shown → Shows first (before ++ piece) next → LooksAs next new
+comes-too first last next shown new before piece calls shows continues same is wanted =
+    let since : Picture = shown.display.shown in
+    let there : after_all calls last ≡ next =
+    Shows-only (before ++ piece) first (after_all calls last) next (shows-more first last before piece calls shows continues) wanted in
+    with-own new next since
+    (is ∙ (ap (after_all calls) same ∙ (same-after_all since calls last ∙ ap (λ (s : State). with_shown since s) there)))
+
+-- It is copied from a screen that looks so.
+pub comes-copied : (next wanted new : State) → LooksAs next wanted → new ≡ as_shown wanted → LooksAs next new
+comes-copied next wanted new looks copied = with-own new next (picture next.display) (was-forgotten next wanted new wanted.display.shown looks copied)

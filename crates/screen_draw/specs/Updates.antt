@@ -35,6 +35,10 @@ abbrev pub last_of : State → List State → State
 last_of first [] = first
 last_of first (screen ∷ screens) = last_of screen screens
 
+-- A screen looks as another one: it is the same but for the picture from which on it notes what changes.
+abbrev pub LooksAs : State → State → Type 0
+LooksAs other screen = screen ≡ with_shown screen.display.shown other
+
 -- Each screen is the one that all bytes lead to, from the first screen and a new parser on, up to the end of its
 -- piece; `before` was read before these pieces.
 abbrev pub AreScreens : State → (before : List ℕ) → List (List ℕ) → List State → Type 0
@@ -86,8 +90,7 @@ pub record Follows {R W T : Type 0} (source : SourceOf R) (sink : SinkOf W) (rea
   pub consumed : Consumes (source.remaining reader) (source.remaining reader_after) (joined pieces)
   pub each : AllByRecursion IsPiece pieces
   pub are_screens : AreScreens first [] pieces screens
-  -- in all but the picture, from which on the last one notes what changes
-  pub is_last : last ≡ with_shown last.display.shown (last_of first screens)
+  pub is_last : LooksAs (last_of first screens) last
   -- the text that was written, of which a parser makes these calls and no others
   pub written : Adds sink (canon (followed_calls first screens)) output output_after
   pub made : AreCalls (canon (followed_calls first screens)) (followed_calls first screens)

@@ -1,7 +1,11 @@
 //! Updates, behind each piece of a stream.
-ghost use Rattle.std.specs.Prelude.{◌≡◌, [], None};
+ghost use Rattle.std.specs.Prelude.{◌≡◌, ◌++◌, [], ℕ, List, None};
 ghost use Rattle.anstyle_parse.specs.Io.Output.{fault_in, Adds};
-ghost use Rattle.screen_draw.specs.Updates.{Follows, GetsOn};
+ghost use Rattle.anstyle_parse.specs.Views.Accumulator.{front_of};
+ghost use Rattle.anstyle_parse.specs.Views.Parser.{IsAfter};
+ghost use Rattle.ansi_screen.specs.After.{State, Shows};
+ghost use Rattle.ansi_screen.specs.Following.{IsShownOf};
+ghost use Rattle.screen_draw.specs.Updates.{Follows, GetsOn, LooksAs};
 
 use crate::{draw, update_noted};
 use ansi_screen::Screen;
@@ -10,6 +14,53 @@ use anstyle_parse::{Parser, Utf8Parser};
 
 /// The bytes that one read is asked for: as many as a pipe of Linux holds.
 const PIECE: usize = 65_536;
+
+/// In the time in which a byte is taken as many cells are copied. At 120x40 a cell took 0.5 ns, and a byte of short
+/// sequences 4.4.
+const CELLS_A_BYTE: usize = 8;
+
+/// Of so many cells two screens take 1 MB, which a processor holds near. Where there are more, a cell took 3.3 ns at 300x100,
+/// and 8 at 1000x1000, which is counted as a byte.
+const NEAR_CELLS: usize = 13_000;
+
+/// In the time in which a parser is copied as many cells are.
+const PARSER_CELLS: usize = 64;
+
+/// Whether less time goes by where a screen comes to this one by [`Screen::catch_up`], and a parser is copied, than
+/// where so many bytes are taken a second time.
+fn is_copied(wanted: &Screen, bytes: usize) -> bool {
+    let (first, past) = wanted.changed_rows();
+    let covered_rows = if wanted.is_framed() { wanted.rows() } else { 0 };
+    let cells = (past - first + covered_rows) * wanted.columns() + PARSER_CELLS;
+    cells <= bytes || (cells <= NEAR_CELLS && cells / CELLS_A_BYTE <= bytes)
+}
+
+/// The screen that is shown, and the parser that has made it, come to where the wanted one and its parser are, which
+/// have taken a piece more: by a copy of what can have changed, or by taking the piece too.
+fn come_after(
+    shown: &mut Screen,
+    shown_parser: &mut Parser<Utf8Parser>,
+    wanted: &Screen,
+    parser: &Parser<Utf8Parser>,
+    piece: &[u8],
+)
+    requires noted { IsShownOf wanted.now.display shown.old.display }
+    ensures screen { (first last next : State) (before : List ℕ) → IsAfter front_of shown_parser.old before
+        → Shows first before last → LooksAs last shown.old
+        → Shows first (before ++ piece.now) next → LooksAs next wanted.now → LooksAs next shown.new }
+    ensures parser { (before : List ℕ) → IsAfter front_of shown_parser.old before
+        → IsAfter front_of parser.now (before ++ piece.now) → IsAfter front_of shown_parser.new (before ++ piece.now) }
+{
+    if is_copied(wanted, piece.len()) {
+        // (a clone never fails)
+        if let Ok(clone) = parser.clone() {
+            shown.catch_up(wanted);
+            *shown_parser = clone;
+            return;
+        }
+    }
+    shown_parser.advance_texts(shown, piece);
+}
 
 /// Why no more was followed.
 #[derive(Debug, Clone, Copy, PartialEq, Eq)]
@@ -39,8 +90,8 @@ fn hand_on<W: Sink>(output: &mut Output<W>) -> Result<(), Stopped>
 /// to, until the reader ends or fails, or a write fails, of which none has before, or what the writer holds back can't be
 /// passed on. What was written is handed on before the next read. At most 2^64 - 1 reads are made. No memory is taken.
 ///
-/// `wanted` takes the bytes. Of both screens only that is compared, drawn and copied which `wanted` has noted since the read
-/// before, to the column.
+/// `wanted` takes the bytes. Of both screens only that is compared and drawn which `wanted` has noted since the read before,
+/// to the column. Then that is copied; or, where it is many cells for the bytes of the read, `shown` takes these too.
 ///
 /// Both screens are the one that is drawn first; in the end `wanted` has the last one. The answer is
 ///
@@ -61,6 +112,7 @@ pub fn update_to_end<R: Source, W: Sink>(
 {
     draw(shown, output);
     hand_on(output)?;
+    let mut shown_parser = Parser::<Utf8Parser>::new();
     let mut parser = Parser::<Utf8Parser>::new();
     let mut piece = [0; PIECE];
     for turn in 0..u64::MAX {
@@ -74,7 +126,7 @@ pub fn update_to_end<R: Source, W: Sink>(
                 parser.advance_texts(wanted, &piece[..count]);
                 update_noted(shown, wanted, output);
                 hand_on(output)?;
-                shown.catch_up(wanted);
+                come_after(shown, &mut shown_parser, wanted, &parser, &piece[..count]);
             }
         }
     }

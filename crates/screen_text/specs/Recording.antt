@@ -6,8 +6,9 @@ use Rattle.std.specs.Prelude.{◌≡◌, ℕ, ◌+◌, ◌-◌, ◌*◌, ◌==�
 use Rattle.std.specs.List.{starts_with, list_any}
 use Rattle.std.specs.Option.{option_or, unwrap_or}
 use Rattle.ansi_screen.specs.declared.size.Size.{Size}
-use Rattle.ansi_screen.specs.Display.{most_columns, most_rows}
-use Rattle.ansi_screen.specs.Size.{IsTaken}
+use Rattle.ansi_screen.specs.After.{State, new_state}
+use Rattle.ansi_screen.specs.Display.{most_columns}
+use Rattle.ansi_screen.specs.Size.{size_if_taken, IsTaken}
 use Rattle.screen_text.specs.declared.recording.ShownSize.{ShownSize}
 use Rattle.screen_text.specs.declared.recording.ShownSize.TheVariants.{Recorded, Fixed}
 
@@ -38,11 +39,6 @@ after_number number [] = []
 after_number number (b ∷ bytes) = if is_digit_of number b then after_number (number * 10 + (b - 0x30)) bytes else b ∷ bytes
 
 -- this size, where a screen can have it, and where nothing follows
-abbrev pub size_if_taken : (columns rows : ℕ) → Option Size
-size_if_taken columns rows =
-    if nat_le 2 columns && nat_le columns most_columns && nat_le 1 rows && nat_le rows most_rows
-    then Some (record { columns = columns; rows = rows }) else None
-
 abbrev pub size_of_all : (columns rows : ℕ) → Option (List ℕ) → Option Size
 size_of_all columns rows (Some []) = size_if_taken columns rows
 size_of_all columns rows _ = None
@@ -81,6 +77,10 @@ size_for (Fixed size) bytes = size
 abbrev pub is_decided : ShownSize → List ℕ → Bool
 is_decided Recorded front = nat_le most_front (length front) || list_any (λ b. b == 0x0A) front
 is_decided (Fixed size) front = true
+
+-- the screen that shows a stream of these bytes, before them
+abbrev pub screen_for : ShownSize → (read : List ℕ) → State
+screen_for shown read = new_state (size_for shown read).columns (size_for shown read).rows
 
 -- A screen can have the size, where one is given.
 abbrev pub CanBeShown : ShownSize → Type 0

@@ -1,10 +1,11 @@
 //! The size of the screen by which a stream is shown: one that is given, or the one that a recording says.
-ghost use Rattle.std.specs.Prelude.{◌≡◌, ◌≤◌, ◌++◌, ◌⊎◌, [], true, ℕ, List, codes, length, take, IsTrue, IfSome};
+ghost use Rattle.std.specs.Prelude.{◌≡◌, ◌≤◌, ◌++◌, ◌⊎◌, [], true, ℕ, List, codes, length, take, IsTrue, IfOk, IfSome};
 ghost use Rattle.std.specs.Option.{option_map};
 ghost use Rattle.ansi_screen.specs.Size.{IsTaken};
-ghost use Rattle.screen_text.specs.Recording.{first_line, after_text, number_from, after_number, size_if_taken, size_of_all, size_by_rows, size_of_end, size_of_line, recorded_size, of_a_log, is_digit_of, size_for, is_decided, CanBeShown};
+ghost use Rattle.screen_text.specs.Recording.{first_line, after_text, number_from, after_number, size_of_all, size_by_rows, size_of_end, size_of_line, recorded_size, of_a_log, is_digit_of, size_for, screen_for, is_decided, CanBeShown};
 
-use ansi_screen::{MAX_COLUMNS, MAX_ROWS, MIN_COLUMNS, MIN_ROWS, Size};
+use ansi_screen::{MAX_COLUMNS, Screen, Size};
+use std::alloc::{AllocError, Global};
 
 /// No more bytes of a stream are looked at for the size.
 pub const MOST_FRONT: usize = 4096;
@@ -51,6 +52,16 @@ impl ShownSize {
             },
             ShownSize::Fixed(size) => size,
         }
+    }
+
+    /// The blank screen for a stream that begins with these bytes, and goes on where they decide its size.
+    pub fn screen(self, alloc: Global, front: &[u8]) -> Result<Screen, AllocError>
+        requires { CanBeShown self }
+        ensures { IfOk result (λ screen. (rest : List ℕ) → (is_decided self front.now ≡ true) ⊎ (rest ≡ [])
+            → screen ≡ screen_for self (front.now ++ rest)) }
+    {
+        let size = self.of(front);
+        Screen::new(alloc, size.columns, size.rows)
     }
 }
 
@@ -138,24 +149,8 @@ fn size_of_all(columns: usize, rows: usize, bytes: &[u8]) -> Option<Size>
 {
     match after_text(END, bytes) {
         None => None,
-        Some([]) => size_if_taken(columns, rows),
+        Some([]) => Size::of(columns, rows),
         Some(_) => None,
-    }
-}
-
-/// This size, if a screen can have it.
-fn size_if_taken(columns: usize, rows: usize) -> Option<Size>
-    ensures said { result ≡ size_if_taken columns rows }
-    ensures taken { IfSome result IsTaken }
-{
-    let is_taken = MIN_COLUMNS <= columns
-        && columns <= MAX_COLUMNS
-        && MIN_ROWS <= rows
-        && rows <= MAX_ROWS;
-    if is_taken {
-        Some(Size { columns, rows })
-    } else {
-        None
     }
 }
 

@@ -1,7 +1,7 @@
 //! What can have changed of a display, and one that becomes as another is.
 ghost use Rattle.std.specs.Prelude.{◌≡◌, ◌<◌, ◌≤◌, ◌⊎◌, ℕ, false};
 ghost use Rattle.ansi_screen.specs.Display.{IsSized, picture, forgotten, row_cells, shown_cells};
-ghost use Rattle.ansi_screen.specs.Following.{IsShownOf, HasSizeOf, with_cells_of, with_frame_of};
+ghost use Rattle.ansi_screen.specs.Following.{IsShownOf, HasSizeOf, with_cells_of, with_cursor_of, with_frame_of};
 
 use crate::display::{Display, Shown};
 use std::snapshot::Snapshot;
@@ -87,12 +87,7 @@ impl Display {
         self.cells.copy_changed(&other.cells, &other.damage);
         // The cells fill the rows.
         let _ = self.cells.width();
-        self.cursor = other.cursor;
-        self.wraps = other.wraps;
-        self.inserts = other.inserts;
-        self.is_visible = other.is_visible;
-        self.links = other.links;
-        self.link = other.link;
+        self.copy_cursor(other);
     }
 
     /// All cells, the cursor, modes and links become as those of another one are.
@@ -104,6 +99,15 @@ impl Display {
         self.cells.copy_all(&other.cells);
         // The cells fill the rows.
         let _ = self.cells.width();
+        self.copy_cursor(other);
+    }
+
+    /// The cursor, modes and links become as those of another one are.
+    fn copy_cursor(&mut self, other: &Display)
+        requires width { self.old.width ≡ other.now.width }
+        requires height { self.old.height ≡ other.now.height }
+        ensures { self.new ≡ with_cursor_of other.now self.old }
+    {
         self.cursor = other.cursor;
         self.wraps = other.wraps;
         self.inserts = other.inserts;

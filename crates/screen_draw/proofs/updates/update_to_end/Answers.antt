@@ -8,12 +8,11 @@ use Rattle.anstyle_parse.specs.Views.Accumulator.{front_of}
 use Rattle.anstyle_parse.specs.Views.Parser.{IsAfter}
 use Rattle.anstyle_parse.proofs.Canonical.Items.{AreCalls-nil}
 use Rattle.ansi_screen.specs.After.{State, Shows}
-use Rattle.ansi_screen.specs.Display.{picture}
 use Rattle.screen_draw.specs.Draw.{drawn_calls}
 use Rattle.screen_draw.specs.Drawing.{Draws}
 use Rattle.ansi_screen.specs.Laws.{with_shown}
 use Rattle.screen_draw.specs.Update.{update_calls}
-use Rattle.screen_draw.specs.Updates.{IsPiece, joined, last_of}
+use Rattle.screen_draw.specs.Updates.{IsPiece, joined, last_of, LooksAs}
 use Rattle.screen_draw.proofs.UpdatesLemmas.{joined-more, last-more, pieces-more, screens-more, text-passed-on, no-updates, begins, draws-more, stops-there, follows, with-own, was-forgotten, comes-on}
 use Rattle.screen_draw.proofs.updates.update_to_end.Goals as goal
 
@@ -40,6 +39,7 @@ loop-turn-init g c = record {
   draws = no-updates g.W.Sink c.hand_on.new.output;
   shows = ([], AreCalls-nil, refl);
   stands = c.new-parser.ensures.stands;
+  stands_shown = c.new-shown_parser.ensures.stands;
   no_fault = c.in_ok-hand_on.ensures.answer;
   not_failed = refl;
   counted = omega arith;
@@ -116,8 +116,8 @@ returns-in_err-hand_on-in-Some g c =
     (c.in-Some.ensures.not_failed ∙ before.not_failed)))
 
 -- what differs was noted
-pub catch_up-requires : goal.catch_up-requires
-catch_up-requires g c =
+pub come_after-requires : goal.come_after-requires
+come_after-requires g c =
     let before = c.loop-turn.invariant in
     let first = c.args.wanted.now in
     let last = last_of first before.screens in
@@ -143,8 +143,10 @@ loop-turn-preserved g c =
       omega (arith, length-take c.in-Some.count c.read.new.into, c.in-Some.ensures.within, c.in-Some.count-test),
       omega (arith, length-take c.in-Some.count c.read.new.into, c.read.auto.into, before.room),
     ) in
-    let shown : c.catch_up.new.self ≡ with_shown (picture comes.next.display) comes.next =
-    was-forgotten comes.next wanted c.catch_up.new.self _ comes.is c.catch_up.ensures in
+    let looks = with-own wanted comes.next _ comes.is in
+    let stands = c.advance_texts.ensures.stands (joined before.pieces) before.stands in
+    let shown : LooksAs comes.next c.come_after.new.shown =
+    c.come_after.ensures.screen first last comes.next (joined before.pieces) before.stands_shown before.shows before.is_shown comes.shows looks in
     record {
       pieces = before.pieces ++ bytes ∷ [];
       screens = before.screens ++ comes.next ∷ [];
@@ -152,13 +154,15 @@ loop-turn-preserved g c =
           (Consumes-trans _ _ _ _ _ before.consumed c.in-Some.ensures.passed);
       each = pieces-more IsPiece before.pieces bytes before.each is_piece;
       are_screens = screens-more first comes.next [] bytes before.pieces before.screens before.are_screens comes.shows;
-      is_last = with-own wanted comes.next _ comes.is ∙ ap (with_shown wanted.display.shown) (sym ended);
-      is_shown = with-own c.catch_up.new.self comes.next _ shown ∙ ap (with_shown c.catch_up.new.self.display.shown) (sym ended);
+      is_last = looks ∙ ap (with_shown wanted.display.shown) (sym ended);
+      is_shown = shown ∙ ap (with_shown c.come_after.new.shown.display.shown) (sym ended);
       draws = draws-more g.W.Sink first c.loop-turn.shown wanted comes.next _ _ before.screens _ _ _ _ before.draws
           before.is_shown comes.is c.update_noted.ensures.text c.update_noted.ensures.only c.hand_on-in-Some.ensures.passed;
       shows = subst (λ l. Shows first l (last_of first (before.screens ++ comes.next ∷ []))) more
           (subst (Shows first (joined before.pieces ++ bytes)) (sym ended) comes.shows);
-      stands = subst (IsAfter front_of c.advance_texts.new.self) more (c.advance_texts.ensures.stands (joined before.pieces) before.stands);
+      stands = subst (IsAfter front_of c.advance_texts.new.self) more stands;
+      stands_shown = subst (IsAfter front_of c.come_after.new.shown_parser) more
+          (c.come_after.ensures.parser (joined before.pieces) before.stands_shown stands);
       no_fault = c.in_ok-hand_on-in-Some.ensures.answer;
       not_failed = c.in-Some.ensures.not_failed ∙ before.not_failed;
       counted = omega (arith, before.counted, is_piece.0, ap length more, length-append (joined before.pieces) bytes);

@@ -1,6 +1,6 @@
 -- What a new writer writes.
 use Rattle.std.proofs.Common.{ap, ◌∙◌}
-use Rattle.ansi2html.specs.Sizes.{screen_for}
+use Rattle.screen_text.specs.Recording.{screen_for}
 use Rattle.ansi2html.specs.Streams.{size_of, shown_as}
 use Rattle.screen_html.specs.Writer.{standing_of}
 use Rattle.screen_html.proofs.ShownLemmas.{left-new, ending-new}

@@ -87,23 +87,24 @@ fn main(rt: HostRuntime) -> ExitCode {
     };
     let how = How {
         form,
-        styling,
-        has_lines,
+        frame,
+        size,
         has_urls,
     };
     let names = line.files.as_slice();
     match folder {
-        Some(folder) => pages(rt, options, names, folder, size, how, frame),
-        None => written(rt, names, output, size, how, frame),
+        Some(folder) => pages(rt, options, names, folder, how),
+        None => written(rt, names, output, how),
     }
 }
 
-/// How the text of files is written.
+/// How the text of files is written: with what around it on a page, shown by a screen or not, with addresses as links or
+/// not.
 #[derive(Debug, Clone, Copy)]
-struct How {
+struct How<'a> {
     form: Form,
-    styling: Styling,
-    has_lines: bool,
+    frame: Frame<'a>,
+    size: Option<ShownSize>,
     has_urls: bool,
 }
 
@@ -113,11 +114,9 @@ fn pages(
     options: &[String],
     names: &[String],
     folder: &str,
-    size: Option<ShownSize>,
-    how: How,
-    frame: Frame<'_>,
+    how: How<'_>,
 ) -> ExitCode
-    requires { IfSome size CanBeShown }
+    requires { IfSome how.entry.size CanBeShown }
 {
     if names.is_empty() {
         return refused(&rt, STANDARD, UNNAMED);
@@ -141,10 +140,10 @@ fn pages(
         };
         let said = Said {
             title: title_or(options, page),
-            ..frame.said
+            ..how.frame.said
         };
-        let frame = Frame { said, ..frame };
-        let ended = written(rt, name, Some(path.as_str()), size, how, frame);
+        let frame = Frame { said, ..how.frame };
+        let ended = written(rt, name, Some(path.as_str()), How { frame, ..how });
         if ended != ExitCode::SUCCESS {
             status = ended;
         }
@@ -165,15 +164,13 @@ fn written(
     rt: HostRuntime,
     names: &[String],
     output: Option<&str>,
-    size: Option<ShownSize>,
-    how: How,
-    frame: Frame<'_>,
+    how: How<'_>,
 ) -> ExitCode
-    requires { IfSome size CanBeShown }
+    requires { IfSome how.entry.size CanBeShown }
 {
     match how.form {
-        Form::Page => page(rt, names, output, size, how, frame),
-        Form::Fragment => fragment(rt, names, output, size, how),
+        Form::Page => page(rt, names, output, how),
+        Form::Fragment => fragment(rt, names, output, how),
     }
 }
 
@@ -182,19 +179,11 @@ fn page(
     rt: HostRuntime,
     names: &[String],
     output: Option<&str>,
-    size: Option<ShownSize>,
-    how: How,
-    frame: Frame<'_>,
+    how: How<'_>,
 ) -> ExitCode
-    requires { IfSome size CanBeShown }
+    requires { IfSome how.entry.size CanBeShown }
 {
-    let How {
-        styling,
-        has_lines,
-        has_urls,
-        ..
-    } = how;
-    let Ok(mut parts) = parts(rt, PROGRAM, names, frame) else {
+    let Ok(mut parts) = parts(rt, PROGRAM, names, how.frame) else {
         return failed(&rt, PROGRAM, "out of memory");
     };
     let (target, output) = match Target::open(rt, PROGRAM, output) {
@@ -202,10 +191,11 @@ fn page(
         Err(status) => return status,
     };
     let (written, output) = (parts.as_mut_slice(), buffered(output));
-    let has_numbers = has_lines;
-    let ran = match size {
+    let styling = how.frame.styling;
+    let has_numbers = how.frame.said.has_lines;
+    let ran = match how.size {
         Some(size) => write_parts(&Showing::new(rt.alloc(), size, styling), written, output),
-        None if has_urls => {
+        None if how.has_urls => {
             let blocking = BlockingUrls {
                 styling,
                 has_numbers,
@@ -228,17 +218,10 @@ fn fragment(
     rt: HostRuntime,
     names: &[String],
     output: Option<&str>,
-    size: Option<ShownSize>,
-    how: How,
+    how: How<'_>,
 ) -> ExitCode
-    requires { IfSome size CanBeShown }
+    requires { IfSome how.entry.size CanBeShown }
 {
-    let How {
-        styling,
-        has_lines,
-        has_urls,
-        ..
-    } = how;
     let Ok(mut inputs) = inputs(rt, PROGRAM, names) else {
         return failed(&rt, PROGRAM, "out of memory");
     };
@@ -247,15 +230,17 @@ fn fragment(
         Err(status) => return status,
     };
     let (readers, output) = (inputs.as_mut_slice(), buffered(output));
-    let ran = match size {
+    let styling = how.frame.styling;
+    let has_lines = how.frame.said.has_lines;
+    let ran = match how.size {
         Some(size) => {
             let showing = Showing::new(rt.alloc(), size, styling);
             write_each(&showing, b"", readers, output, b"")
         }
-        None if has_lines && has_urls => {
+        None if has_lines && how.has_urls => {
             write_each(&LiningUrls { styling }, b"", readers, output, b"")
         }
-        None if has_urls => write_each(&ConvertingUrls { styling }, b"", readers, output, b""),
+        None if how.has_urls => write_each(&ConvertingUrls { styling }, b"", readers, output, b""),
         None if has_lines => write_each(&Lining { styling }, b"", readers, output, b""),
         None => write_each(&Converting { styling }, b"", readers, output, b""),
     };

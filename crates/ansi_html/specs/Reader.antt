@@ -1,5 +1,5 @@
 -- A reader of HTML, as far as it is used here: text, line breaks, tags with quoted attributes, and
--- the six character references. First it makes one 0A of each 0D, with the 0A behind it where there is
+-- the six character references. First it makes one 0A of each 0D, with the 0A after it where there is
 -- one (HTML standard, 13.2.3.5). The states are those of the standard's tokenizer that such text meets:
 -- data (13.2.5.1), character reference (13.2.5.72 to 80), tag and its name (13.2.5.6 to 8), attributes
 -- (13.2.5.32 to 40), attribute value, double-quoted (13.2.5.36), and a reference in it. A start tag opens an
@@ -81,7 +81,7 @@ byte_of shown = shown.byte
 abbrev pub href_of : Shown → List ℕ
 href_of shown = shown.attributes.href
 
--- Newlines, normalized: each 0D is 0A, and a 0A behind it is dropped.
+-- Newlines, normalized: each 0D is 0A, and a 0A after it is dropped.
 abbrev pub normalized_from : (returned : Bool) → List ℕ → List ℕ
 normalized_from returned [] = []
 normalized_from returned (b ∷ bytes) =

@@ -31,7 +31,7 @@ pub enum Place {
     Value,
     /// The same where it is a size, as after `--shown`, which may also stand alone; and else an option, or the name of a file.
     Size,
-    /// The name of a file: it stands behind `--`.
+    /// The name of a file: it stands after `--`.
     Files,
 }
 
@@ -146,7 +146,7 @@ impl Place {
         }
     }
 
-    /// The place of the word behind one that is the value of none.
+    /// The place of the word after one that is no option's value.
     fn behind(word: &str, options: &[&str]) -> Place
         ensures { result ≡ place_behind (texts options.now) word.now }
     {

@@ -84,7 +84,7 @@ impl<'a> EventWriter<'a> {
     }
 
     /// The first `count` bytes of a block. Where there is room for all of it, it is put whole: what the room has
-    /// behind them is put where it was.
+    /// after them is put where it was.
     #[inline(always)]
     fn put_front(&mut self, block: &[u8; BLOCK], count: usize)
         requires { count ≤ length block.now }
@@ -245,7 +245,7 @@ impl<'a> EventWriter<'a> {
             && self.events[self.written - 1].kind == TEXT
     }
 
-    /// What the room has from a place on is a text: behind another one it belongs to that one's record.
+    /// What the room has from a place on is a text: after another one it belongs to that one's record.
     #[inline(always)]
     fn note_text(&mut self, start: usize)
         ensures { NotesText start self.old self.new }

@@ -9,7 +9,7 @@ const CHUNK: usize = 16;
 /// The number of each of them.
 const NUMBERS: [u8; CHUNK] = [0, 1, 2, 3, 4, 5, 6, 7, 8, 9, 10, 11, 12, 13, 14, 15];
 
-/// The first `count` bytes of a chunk, and behind them those that another one has there.
+/// The first `count` bytes of a chunk, and after them those that another one has there.
 #[inline(always)]
 fn with_front(front: &[u8; CHUNK], count: usize, behind: &[u8; CHUNK]) -> [u8; CHUNK]
     requires { count ≤ length front.now }
@@ -21,7 +21,7 @@ fn with_front(front: &[u8; CHUNK], count: usize, behind: &[u8; CHUNK]) -> [u8; C
         .to_array()
 }
 
-/// Puts the first `count` bytes of a chunk at the front of a place of the same size. What the place has behind them
+/// Puts the first `count` bytes of a chunk at the front of a place of the same size. What the place has after them
 /// stays. No copy asks how many they are.
 #[inline(always)]
 pub fn put_over(place: &mut [u8], front: &[u8; CHUNK], count: usize)

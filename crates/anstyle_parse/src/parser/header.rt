@@ -222,7 +222,7 @@ fn digit_count(chunk: &[u8; CHUNK]) -> usize
 }
 
 /// The number that the first `count` of three bytes make, which are digits. Nothing of it is asked by a branch: what
-/// comes behind them counts for nothing.
+/// comes after them counts for nothing.
 #[inline(always)]
 fn few_digits(first: u8, second: u8, third: u8, count: usize) -> u16
     requires few { count ≤ 3 }

@@ -353,7 +353,7 @@ pub(crate) fn put_begin<W: Sink>(
     put_span_begin(output, styling, style);
 }
 
-/// Closes them.
+/// Closes the span, and then the link, where there are these.
 #[inline(always)]
 pub(crate) fn put_end<W: Sink>(output: &mut Output<W>, style: &Style, link: &[u8])
     ensures { Adds W.Sink (element_end (element style.now link.now)) output.old output.new }

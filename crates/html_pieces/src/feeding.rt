@@ -23,22 +23,24 @@ const CAPACITY: usize = 16384;
 /// The bytes of a piece that a call takes at most.
 const MOST_TAKEN: usize = 4096;
 
-/// How much less is tried where that did not suffice.
+/// Where the HTML of the bytes that are tried finds no room, their number is divided by this, and they are tried again.
 const SHARE: usize = 2;
 
-/// What the last bytes led to counts for a fourth less with each try that finds room.
+/// With each try that finds room `html_of_a_byte` falls by this part, a fourth, or is set to what the try led to, if that
+/// is more.
 const FADES: u8 = 4;
 
-/// A try is to leave so much of the room: an eighth.
+/// [`next_try`] plans to leave this part of the room free: an eighth.
 const LEFT: usize = 8;
 
-/// Fewer bytes than these are not tried at the end of a room.
+/// [`next_try`] plans fewer bytes than these only where no more are left of the piece; else it plans none.
 const LEAST_TRY: usize = 32;
 
-/// So many bytes of HTML are tried in a shorter buffer, where fewer bytes are cleared.
+/// The size of a shorter buffer, for few bytes of HTML. A call clears its buffer first, and a short one costs less.
 const SHORT_CAPACITY: usize = 4096;
 
-/// So many bytes of HTML for each byte of a piece are thought of for a shorter buffer.
+/// The shorter buffer is tried where it has at least so many bytes for each byte of the piece, and more where the last
+/// bytes led to more HTML.
 const SHORT_SHARE: usize = 16;
 
 impl HtmlState {
@@ -251,8 +253,8 @@ impl HtmlState {
     }
 }
 
-/// How many of so many bytes are tried next, in so much room, where those before led to so much HTML each: as many as
-/// would leave an eighth of it. None where that would be few and not all.
+/// How many of `bytes` bytes are tried next in this room, where each of those before led to `html_of_a_byte` bytes of
+/// HTML: as many as would leave an eighth of the room. 0 where those are few, but not all that are left.
 fn next_try(bytes: usize, room: usize, html_of_a_byte: usize) -> usize
     ensures { result ≤ bytes }
 {

@@ -65,7 +65,7 @@ impl StreamState {
         self.resume().is_in_char()
     }
 
-    /// Stands where the parser stands.
+    /// Keeps where the parser stands.
     pub fn save(&mut self, parser: &Parser)
         requires { (before : List ℕ) × IsAfter front_of parser.now before }
         ensures { (before : List ℕ) → IsAfter front_of parser.now before

@@ -57,9 +57,9 @@ pub(crate) fn are_last_visible(bytes: &[u8]) -> bool
     }
 }
 
-/// A bit for each byte: whether it is no verbatim text. 0x20 is subtracted, and a byte below that wraps to 0xE0 or more:
-/// so one comparison finds what is outside of 0x20 to 0x7F. In the same way one finds what is neither 0x09 nor 0x0A.
-/// `"` and `&` differ in one bit, which is masked so that one comparison finds both; so do `<` and `>`.
+/// A bit for each byte: whether it is no verbatim text. 0x20 is subtracted, and a byte below that wraps to 0xE0 or
+/// more: so one comparison finds what is outside of 0x20 to 0x7F. In the same way one finds what is neither 0x09 nor
+/// 0x0A. `"` and `&` differ in one bit, which is masked so that one comparison finds both; so do `<` and `>`.
 #[inline(always)]
 pub(crate) fn not_verbatim(bytes: u8x16) -> u64
     ensures { result ≡ mask_l (map (λ b. not (is_verbatim b)) bytes) }

@@ -206,8 +206,8 @@ impl<W: Sink> HtmlWriter<W> {
         }
     }
 
-    /// Writes text: bytes with no meaning in HTML many at once, and the others one by one. What comes after 0D begins with
-    /// a line break, unless it is 0A.
+    /// Writes text: bytes with no meaning in HTML many at once, and the others one by one. What comes after 0D begins
+    /// with a line break, unless it is 0A.
     #[inline(always)]
     fn put_text(&mut self, text: &[u8])
         ensures { TakesBytes W.Sink self.old text.now self.new }

@@ -1,8 +1,8 @@
 -- The words of a line: which are options, and which name files.
 --
 -- Source: POSIX.1-2024, XBD 12.2 (guideline 10: after -- all are operands; 13: - is standard input);
--- options may stand after operands, the value of a long one after = or as the next word, and that of -o right after it, as
--- GNU has it.
+-- options may stand after operands, the value of a long one after = or as the next word, and that of -o right after it,
+-- as GNU has it.
 use Rattle.std.specs.Prelude.{ℕ, Bool, not, ◌&&◌, ◌||◌, nat_eq, nat_le, length, List, [], ◌∷◌, ◌++◌, codes, bytes_eq, Option, None, Some, if◌then◌else◌}
 use Rattle.std.specs.List.{starts_with, list_any, list_all, before_first, after_first}
 use Rattle.command_line.specs.declared.line.Place.{Place}

@@ -16,7 +16,8 @@ use std::rt::Env;
 /// The options and the files of a line.
 #[derive(Drop)]
 pub struct Line {
-    /// The options, in their order; `--title TEXT` is here `--title=TEXT`, and `-o FILE` and `-oFILE` are `--output=FILE`.
+    /// The options, in their order; `--title TEXT` is here `--title=TEXT`, and `-o FILE` and `-oFILE` are
+    /// `--output=FILE`.
     pub options: Vec<String>,
     /// The names of files, in their order; `-` is one of them.
     pub files: Vec<String>,
@@ -29,7 +30,8 @@ pub enum Place {
     Words,
     /// The value of the option that stands before it, as after `-o` or `--title`.
     Value,
-    /// The same where it is a size, as after `--shown`, which may also stand alone; and else an option, or the name of a file.
+    /// The same where it is a size, as after `--shown`, which may also stand alone; and else an option, or the name of
+    /// a file.
     Size,
     /// The name of a file: it stands after `--`.
     Files,

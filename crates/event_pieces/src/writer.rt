@@ -238,7 +238,8 @@ impl<'a> EventWriter<'a> {
         ensures some { OnTrue result (0 < self.now.written) }
         ensures within { OnTrue result (self.now.written ≤ length self.now.events.now) }
         ensures text { (events : List Event) (last : Event) (rest : List Event)
-            → self.now.events.now ≡ events ++ last ∷ rest → self.now.written ≡ length events + 1 → result ≡ is_text last }
+            → self.now.events.now ≡ events ++ last ∷ rest → self.now.written ≡ length events + 1
+            → result ≡ is_text last }
     {
         self.written > 0
             && self.written <= self.events.len()

@@ -26,8 +26,8 @@ const MOST_TAKEN: usize = 4096;
 /// Where the HTML of the bytes that are tried finds no room, their number is divided by this, and they are tried again.
 const SHARE: usize = 2;
 
-/// With each try that finds room `html_of_a_byte` falls by this part, a fourth, or is set to what the try led to, if that
-/// is more.
+/// With each try that finds room `html_of_a_byte` falls by this part, a fourth, or is set to what the try led to, if
+/// that is more.
 const FADES: u8 = 4;
 
 /// [`next_try`] plans to leave this part of the room free: an eighth.
@@ -48,8 +48,8 @@ impl HtmlState {
     /// ([`advance_log`](anstyle_parse::Parser::advance_log)), and writes their HTML to the front of the room.
     ///
     /// With `Some` all of their HTML is written, and the state stands after all bytes so far. Of some bytes
-    /// at least one is taken; at most 4,096 are, and at most 16,384 bytes are written. What it costs is in proportion to
-    /// both: bytes whose HTML finds no room are few beside those that were taken. The HTML is
+    /// at least one is taken; at most 4,096 are, and at most 16,384 bytes are written. What it costs is in proportion
+    /// to both: bytes whose HTML finds no room are few beside those that were taken. The HTML is
     /// UTF-8 by itself. Past it the room is as it was.
     ///
     /// With `None` the piece is not empty and the room is below [`LEAST_ROOM`]: then nothing
@@ -77,9 +77,9 @@ impl HtmlState {
         Some(self.take_others(piece, first, room))
     }
 
-    /// Ends the stream: writes U+FFFD where a character is begun, and what closes the element that is open, if one is, to
-    /// the front of the room, and answers how many bytes that are. The state then begins a stream in the same styling.
-    /// Past it the room is as it was.
+    /// Ends the stream: writes U+FFFD where a character is begun, and what closes the element that is open, if one is,
+    /// to the front of the room, and answers how many bytes that are. The state then begins a stream in the same
+    /// styling. Past it the room is as it was.
     ///
     /// With `None` the room is below [`END_ROOM`]: then nothing was done.
     pub fn end(&mut self, room: &mut [u8]) -> Option<usize>
@@ -99,8 +99,8 @@ impl HtmlState {
         Some(put_front(room, buffer.bytes()))
     }
 
-    /// Takes the verbatim text at the front of the piece, if that is all of it, or more than half of it and more than what
-    /// surely fits, and is its own HTML. It goes to the room as it is, with no parser.
+    /// Takes the verbatim text at the front of the piece, if that is all of it, or more than half of it and more than
+    /// what surely fits, and is its own HTML. It goes to the room as it is, with no parser.
     fn take_verbatim(&self, piece: &[u8], sure: usize, room: &mut [u8]) -> Option<usize>
         requires { length piece.now ≤ length room.old }
         ensures within { IfSome result (λ taken. taken ≤ length piece.now) }
@@ -144,8 +144,8 @@ impl HtmlState {
         }
     }
 
-    /// Takes more of the piece, of which some bytes were taken, as far as it finds room. Apart, since a call clears its own
-    /// arrays, used or not.
+    /// Takes more of the piece, of which some bytes were taken, as far as it finds room. Apart, since a call clears its
+    /// own arrays, used or not.
     #[inline(never)]
     fn take_others(&mut self, piece: &[u8], first: Fed, room: &mut [u8]) -> Fed
         requires taken { first.taken ≤ length piece.now }

@@ -149,8 +149,8 @@ designated [] final d = escaped final d
 designated (mark ∷ []) final d = with_charset mark final d
 designated (mark ∷ other ∷ others) final d = d
 
--- REP prints the character of the call just before again, and changes nothing behind any other
--- call, also behind another REP: what it repeats is kept beside the display.
+-- REP prints the character of the call just before again, and changes nothing after any other
+-- call, also after another REP: what it repeats is kept beside the display.
 pub record State : Type 0 where
   pub display : Display
   pub last : Option ℕ

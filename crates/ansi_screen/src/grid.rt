@@ -71,7 +71,7 @@ fn numbers(alloc: Global, count: u16) -> Result<Vec<u16>, AllocError>
     Ok(order)
 }
 
-/// The first `count` come behind the others.
+/// The first `count` come after the others.
 fn rotate_back(order: &mut [u16], count: usize)
     requires { count ≤ length order.old }
     ensures { order.new ≡ drop count order.old ++ take count order.old }
@@ -308,7 +308,7 @@ impl Grid {
         self.fill(style);
     }
 
-    /// Deletes cells of a row from `start` on; those behind them move there.
+    /// Deletes cells of a row from `start` on; those after them move there.
     pub(crate) fn delete(&mut self, row: usize, start: usize, count: usize, style: Style)
         requires row { row < self.old.height }
         requires start { start ≤ self.old.width }
@@ -392,7 +392,7 @@ impl Grid {
         self.rows[at].set_goes_on(on)
     }
 
-    /// The first `count` of the rows from `first` up to `last` come behind the others.
+    /// The first `count` of the rows from `first` up to `last` come after the others.
     fn rotate_back(&mut self, first: usize, last: usize, count: usize)
         requires order { first ≤ last }
         requires within { last ≤ self.old.height }

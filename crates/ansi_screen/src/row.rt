@@ -186,7 +186,7 @@ impl Row {
         self.written = clear(cells, self.written, start, end, style);
     }
 
-    /// Deletes cells from `start` on; those behind them move there.
+    /// Deletes cells from `start` on; those after them move there.
     pub(crate) fn delete(&mut self, start: usize, count: usize, style: Style)
         requires { start ≤ length self.old }
         ensures cells { self.new ≡ deleted count start (length self.old) (blank style) self.old }

@@ -44,7 +44,7 @@ pub enum Request {
     Version,
 }
 
-/// What the first word asks for, whatever stands behind it: `--help` and `-h`, or `--version`.
+/// What the first word asks for, whatever stands after it: `--help` and `-h`, or `--version`.
 pub fn asked_of(first: Option<&str>) -> Option<Request>
     ensures { result ≡ asked_of (option_copied first.entry) }
 {

@@ -185,7 +185,7 @@ fn is_plain(screen: &Screen) -> bool
     !screen.cursor().is_relative && !screen.inserts() && !draws(screen.cursor().charsets)
 }
 
-/// Whether a wrap is pending behind a cell where nothing is printed.
+/// Whether a wrap is pending after a cell where nothing is printed.
 #[tactic(auto, unfolding(crate::specs::Alike::lacks_print))]
 pub(crate) fn lacks_print(screen: &Screen) -> bool
     ensures { result ≡ lacks_print screen.now.display }

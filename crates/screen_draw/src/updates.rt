@@ -1,4 +1,4 @@
-//! Updates, behind each piece of a stream.
+//! Updates, after each piece of a stream.
 ghost use Rattle.std.specs.Prelude.{◌≡◌, ◌++◌, [], ℕ, List, None};
 ghost use Rattle.anstyle_parse.specs.Io.Output.{fault_in, Adds};
 ghost use Rattle.anstyle_parse.specs.Views.Accumulator.{front_of};

@@ -128,7 +128,7 @@ impl LinkTable {
         }
     }
 
-    /// Keeps the link of a command, behind which the one of this number is in force.
+    /// Keeps the link of a command, after which the one of this number is in force.
     #[tactic(auto, unfolding(crate::specs::Links::links_after))]
     pub fn take_command(&mut self, number: u32, parts: &[&[u8]])
         ensures { self.new ≡ links_after number (map (λ part. part.now) parts.now) self.old }

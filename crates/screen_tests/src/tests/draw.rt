@@ -151,7 +151,7 @@ fn updates_of(
     Ok((bytes_of(rt, output), last))
 }
 
-/// The drawing of a blank screen ends with its modes, and one update comes behind it.
+/// The drawing of a blank screen ends with its modes, and one update comes after it.
 #[test]
 fn updates_of_a_stream(rt: HostRuntime) -> Result<(), Fail> {
     let (written, last) = updates_of(&rt, b"\x1b[2;2H\x1b[1mX")?;

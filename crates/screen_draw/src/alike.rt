@@ -78,7 +78,7 @@ fn are_buffers_alike(buffer: Buffer, a: &Screen, b: &Screen) -> bool
     requires rows { a.now.display.height ≡ b.now.display.height }
     ensures { result ≡ all_two are_alike (cells_of buffer a.now.display) (cells_of buffer b.now.display) }
 {
-    // The sizes are within their limits.
+    // (for the proof: the sizes are within their limits)
     let _ = b.rows();
     for row in 0..a.rows() {
         if !are_all_alike(buffer.row(a, row), buffer.row(b, row)) {

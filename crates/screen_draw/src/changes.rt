@@ -240,7 +240,7 @@ fn put_rows<W: Sink>(
         output.old output.new }
     ensures place { result ≡ place_behind wanted.now.display.height start shown.now.display wanted.now.display }
 {
-    // The sizes are within their limits.
+    // (for the proof: the sizes are within their limits)
     let _ = wanted.columns();
     let (first, past) = compared.rows(wanted);
     let mut place = start;

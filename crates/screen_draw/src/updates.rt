@@ -15,7 +15,7 @@ use anstyle_parse::{Parser, Utf8Parser};
 /// The bytes that one read is asked for: as many as a pipe of Linux holds.
 const PIECE: usize = 65_536;
 
-/// In the time in which a byte is taken as many cells are copied. At 120x40 a cell took 0.5 ns, and a byte of short
+/// How many cells are copied in the time in which a byte is taken. At 120x40 a cell took 0.5 ns, and a byte of short
 /// sequences 4.4.
 const CELLS_A_BYTE: usize = 8;
 
@@ -23,7 +23,7 @@ const CELLS_A_BYTE: usize = 8;
 /// and 8 at 1000x1000, which is counted as a byte.
 const NEAR_CELLS: usize = 13_000;
 
-/// In the time in which a parser is copied as many cells are.
+/// How many cells are copied in the time in which a parser is copied.
 const PARSER_CELLS: usize = 64;
 
 /// Whether less time goes by where a screen comes to this one by [`Screen::catch_up`], and a parser is copied, than
@@ -121,7 +121,7 @@ pub fn update_to_end<R: Source, W: Sink>(
             Some(0) => return Ok(()),
             Some(count) => {
                 wanted.forget();
-                // The sizes are within their limits.
+                // (for the proof: the sizes are within their limits)
                 let _ = wanted.columns();
                 parser.advance_texts(wanted, &piece[..count]);
                 update_noted(shown, wanted, output);

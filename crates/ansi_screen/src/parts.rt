@@ -7,8 +7,8 @@ use crate::place::Place;
 use crate::screen::Screen;
 
 impl Screen {
-    /// The cells of a row, counted from 0, of the screen that is hidden: of the main one, while the alternate one shows;
-    /// else blanks.
+    /// The cells of a row, counted from 0, of the screen that is hidden: of the main one, while the alternate one
+    /// shows; else blanks.
     pub fn hidden_row(&self, row: usize) -> &[Cell]
         requires { row < self.now.display.height }
         ensures cells { result.now

@@ -85,8 +85,8 @@ pub fn mode(first: Option<&str>, more: bool) -> Option<Mode>
     }
 }
 
-/// The mode that the words name: the first does, and the second names the file that is read; one that names no mode names
-/// the file. `None`, for other words, means the usage.
+/// The mode that the words name: the first does, and the second names the file that is read; one that names no mode
+/// names the file. `None`, for other words, means the usage.
 pub fn mode_named(words: &[String]) -> Option<Mode>
     ensures { result ≡ mode_in (map string_bytes words.now) }
 {

@@ -58,16 +58,16 @@ most_piece = 65536
 abbrev pub IsPiece : List ℕ → Type 0
 IsPiece piece = (0 < length piece) × (length piece ≤ most_piece)
 
--- Whether what was written gets on: the output keeps no fault; or one; or none, but its writer could not pass on what it
--- holds back.
+-- Whether what was written gets on: the output keeps no fault; or one; or none, but its writer could not pass on what
+-- it holds back.
 abbrev pub GetsOn : {T : Type 0} → Result T Stopped → (fault : Option Fault) → Type 0
 GetsOn (Ok done) fault = fault ≡ None
 GetsOn (Err Stuck) fault = fault ≡ None
 GetsOn (Err (AtFault Write)) fault = IsSome fault
 GetsOn (Err (AtFault _)) fault = ⊥
 
--- Why no more was read: a write failed; or all was given to the writer, which could not pass on what it holds back; or as
--- `EndsAs` has it.
+-- Why no more was read: a write failed; or all was given to the writer, which could not pass on what it holds back; or
+-- as `EndsAs` has it.
 abbrev pub StopsBy : {T : Type 0} → Result T Stopped → (at_end : Type 0) → (fault : Option Fault)
     → (failed failed_after : Bool) → ℕ → Type 0
 StopsBy (Err Stuck) at_end fault failed failed_after count = (fault ≡ None) × (failed_after ≡ failed)

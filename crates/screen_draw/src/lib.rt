@@ -67,13 +67,15 @@ pub fn draw<W: Sink>(screen: &Screen, output: &mut Output<W>)
     // stream leads to has these premises (`ansi_screen::laws::reachable`, `contents`).
     ensures redrawn { (old new : State) → IsScreen screen.now.display → HasContents screen.now.display
         → old.display.width ≡ screen.now.display.width → old.display.height ≡ screen.now.display.height
-        → Shows old (canon (drawn_calls screen.now.display)) new → new ≡ drawn_state old.display.shown screen.now.display }
+        → Shows old (canon (drawn_calls screen.now.display)) new
+        → new ≡ drawn_state old.display.shown screen.now.display }
 
     // So it does after any bytes, also where these have begun a string or a character.
     ensures anywhere { (before : List ℕ) (old new : State) → IsScreen screen.now.display
         → HasContents screen.now.display → IsScreen old.display
         → old.display.width ≡ screen.now.display.width → old.display.height ≡ screen.now.display.height
-        → Shows old (before ++ canon (drawn_calls screen.now.display)) new → new ≡ drawn_state old.display.shown screen.now.display }
+        → Shows old (before ++ canon (drawn_calls screen.now.display)) new
+        → new ≡ drawn_state old.display.shown screen.now.display }
 
     // They print what is shown, and have no controls but SO and SI, and no strings.
     ensures only { AllByRecursion IsDrawing (drawn_calls screen.now.display) }

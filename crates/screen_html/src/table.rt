@@ -55,8 +55,8 @@ impl LinkMemory {
 /// The links of a stream by the numbers that a screen gives them: the last 1,024 that began.
 #[derive(Drop)]
 pub struct LinkTable {
-    /// A link's place is its number modulo `MOST_KEPT`. Those past the last place that had a link keep none: there is memory
-    /// for them, which is not written.
+    /// A link's place is its number modulo `MOST_KEPT`. Those past the last place that had a link keep none: there is
+    /// memory for them, which is not written.
     places: Vec<Place>,
     none: Link,
 }

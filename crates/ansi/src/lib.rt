@@ -1,5 +1,6 @@
-//! The stripper, safe text, the HTML and the calls of a stream in pieces, for C and for what calls C. `include/ansi_strip.h`,
-//! `include/ansi_safe.h`, `include/ansi_html.h` and `include/ansi_events.h` declare them, and say what their caller owes.
+//! The stripper, safe text, the HTML and the calls of a stream in pieces, for C and for what calls C.
+//! `include/ansi_strip.h`, `include/ansi_safe.h`, `include/ansi_html.h` and `include/ansi_events.h` declare them, and
+//! say what their caller owes.
 #![tactic(auto)]
 
 ghost use Rattle.std.specs.Prelude.{◌≡◌, []};

@@ -1,6 +1,7 @@
 -- One page a file, in a folder.
 --
--- Source: POSIX.1-2024, XBD 4.16 (pathname resolution: what ends in a slash is a directory; . and .. name none by itself).
+-- Source: POSIX.1-2024, XBD 4.16 (pathname resolution: what ends in a slash is a directory; . and .. name none by
+-- itself).
 use Rattle.std.specs.Prelude.{◌≡◌, ℕ, Bool, nat_eq, List, [], ◌∷◌, ◌++◌, map, codes, bytes_eq, Option, None, Some, if◌then◌else◌, ⊤}
 use Rattle.std.specs.List.{ends_with, list_any}
 use Rattle.std.specs.Path.{path_file_name}
@@ -11,7 +12,8 @@ use Rattle.ansi2html.specs.declared.folder.Unpaged.TheVariants.{NoMemory, Unname
 abbrev pub is_folder : (output : List ℕ) → Bool
 is_folder output = ends_with nat_eq output (codes "/")
 
--- What a page is named after: the last part of its file's name. Standard input has no name, nor has what is . or .. there.
+-- What a page is named after: the last part of its file's name. Standard input has no name, nor has what is . or ..
+-- there.
 abbrev pub page_name : (name : List ℕ) → Option (List ℕ)
 page_name name = if bytes_eq name (codes "-") then None else path_file_name name
 

@@ -85,9 +85,9 @@ line_rules scheme =
 abbrev pub page_lines : (has_lines : Bool) → Scheme → List ℕ
 page_lines has_lines scheme = if has_lines then line_rules scheme else []
 
--- Long lines are wrapped, or the page scrolls. A block of lines that is out of sight is not laid out before it is scrolled to (CSS
--- Containment, 4); until then it is as high as its lines. Where lines are not wrapped it is as wide as its longest one,
--- which would be cut off otherwise.
+-- Long lines are wrapped, or the page scrolls. A block of lines that is out of sight is not laid out before it is
+-- scrolled to (CSS Containment, 4); until then it is as high as its lines. Where lines are not wrapped it is as wide as
+-- its longest one, which would be cut off otherwise.
 abbrev pub text_rules : (scrolls : Bool) → List ℕ
 text_rules scrolls =
     if scrolls

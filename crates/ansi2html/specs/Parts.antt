@@ -17,7 +17,8 @@ readers_of part = part.readers.items
 abbrev pub around : Part Input → Around
 around part = (part.before.items, map name_of part.readers.items, part.after.now)
 
--- One is written: what stands before its text, that, and what stands after it. Where all went well nothing is held back.
+-- One is written: what stands before its text, that, and what stands after it. Where all went well nothing is held
+-- back.
 abbrev pub WritesPart : {R W : Type 0} → SourceOf R → SinkOf W → (text : Given → List ℕ) → (part part_after : Part R)
     → (writer writer_after : W) → Result (Unit {0}) Stopped → Type 0
 WritesPart source sink text part part_after writer writer_after answer =
@@ -30,8 +31,8 @@ abbrev pub GoesOn : Result (Unit {0}) Stopped → (next none : Type 0) → Type 
 GoesOn (Ok done) next none = next
 GoesOn (Err stopped) next none = none
 
--- They are written in turn, each to what those before it left. One that is not written whole is the last, and those after
--- it are not touched.
+-- They are written in turn, each to what those before it left. One that is not written whole is the last, and those
+-- after it are not touched.
 abbrev pub WritesParts : {R W : Type 0} → SourceOf R → SinkOf W → (text : Given → List ℕ) → (parts parts_after : List (Part R))
     → (writer writer_after : W) → Result (Unit {0}) Stopped → Type 0
 WritesParts source sink text [] parts_after writer writer_after answer = (parts_after ≡ []) × (writer_after ≡ writer) × (answer ≡ Ok tt)

@@ -22,7 +22,8 @@ form_from form (word ∷ words) = form_from (form_after form word) words
 abbrev pub form_of : (words : List (List ℕ)) → Form
 form_of words = form_from Page words
 
--- Words say something of a page: its title, its stylesheet, its language, or that it scrolls. A fragment has none of them.
+-- Words say something of a page: its title, its stylesheet, its language, or that it scrolls. A fragment has none of
+-- them.
 abbrev pub is_of_a_page : (word : List ℕ) → Bool
 is_of_a_page word =
     starts_with nat_eq word (codes "--title=") || (starts_with nat_eq word (codes "--css=")

@@ -310,10 +310,10 @@ pub struct Place {
 }
 
 impl Place {
-    /// What stands before the text of the file of this name: before the first one the head of the page, with these words, in
-    /// which `& < > " '` and carriage returns are character references, and with the colours of the scheme. Where no
-    /// stylesheet is named, the rules are in the head, with those of the classes where styles are said by classes. Where
-    /// there are several files, each name is a heading, escaped likewise. It takes memory.
+    /// What stands before the text of the file of this name: before the first one the head of the page, with these
+    /// words, in which `& < > " '` and carriage returns are character references, and with the colours of the scheme.
+    /// Where no stylesheet is named, the rules are in the head, with those of the classes where styles are said by
+    /// classes. Where there are several files, each name is a heading, escaped likewise. It takes memory.
     pub fn before(
         self,
         alloc: Global,
@@ -364,8 +364,8 @@ fn put_site_rules<W: Sink>(output: &mut Output<W>, scheme: Scheme)
     output.put(LINKED_RULES);
 }
 
-/// Writes the stylesheet for pages of the scheme: the rules of the classes, of lines, and of pages by `--css`. The writer is handed back,
-/// flushed; the answer is that of a write or of the flush that failed.
+/// Writes the stylesheet for pages of the scheme: the rules of the classes, of lines, and of pages by `--css`. The
+/// writer is handed back, flushed; the answer is that of a write or of the flush that failed.
 pub fn write_stylesheet<W: Sink>(scheme: Scheme, writer: W) -> (W, Result<(), Fault>)
     ensures written { Writes (site_rules scheme) (W.contents writer) (W.contents result.0) result.1 }
 

@@ -108,7 +108,8 @@ struct How<'a> {
     has_urls: bool,
 }
 
-/// Writes each of these files, as a page or a fragment of its own, into the folder, which is made where it is not there.
+/// Writes each of these files, as a page or a fragment of its own, into the folder, which is made where it is not
+/// there.
 fn pages(
     rt: HostRuntime,
     options: &[String],

@@ -40,7 +40,8 @@ pub fn parts<'a>(
     frame: Frame<'_>,
 ) -> Result<Vec<Part<Input<'a>>>, AllocError>
     ensures { IfOk result (λ parts. map around parts.items
-        ≡ page_around frame.entry.styling frame.entry.scheme frame.entry.said (names_read (map string_bytes names.now))) }
+        ≡ page_around frame.entry.styling frame.entry.scheme frame.entry.said
+        (names_read (map string_bytes names.now))) }
 {
     let mut parts = Vec::new(rt.alloc());
     if names.is_empty() {

@@ -192,9 +192,11 @@ impl<W: Sink> Begin<Linking<BlocksWriter<W>>, W> for BlockingUrls {
     ghost use Rattle.html_urls.specs.Linker.{performer_in};
     ghost use Rattle.ansi2html.specs.Streams.{urls_blocked_as, urls_have_numbers, blocks_with_urls, blocks_ending_with_urls};
 
-    ghost text = { λ blocking given. blocked_urls_text (urls_have_numbers blocking) (urls_blocked_as blocking) given.calls };
+    ghost text = { λ blocking given.
+        blocked_urls_text (urls_have_numbers blocking) (urls_blocked_as blocking) given.calls };
 
-    ghost ending = { λ blocking given. blocked_urls_ending (urls_have_numbers blocking) (urls_blocked_as blocking) given.calls };
+    ghost ending = { λ blocking given.
+        blocked_urls_ending (urls_have_numbers blocking) (urls_blocked_as blocking) given.calls };
 
     ghost enough = { λ _ _. true };
 
@@ -259,9 +261,11 @@ impl<W: Sink> Begin<ShownWriter<HtmlRows<W>>, W> for Showing {
     ghost use Rattle.screen_text.specs.Writer.{rows_of, text_from, ending_from};
     ghost use Rattle.ansi2html.specs.Streams.{size_of, shown_as};
 
-    ghost text = { λ showing given. left_html (shown_as showing) (screen_for (size_of showing) given.read) given.calls };
+    ghost text = { λ showing given.
+        left_html (shown_as showing) (screen_for (size_of showing) given.read) given.calls };
 
-    ghost ending = { λ showing given. ending_html (shown_as showing) (screen_for (size_of showing) given.read) given.calls };
+    ghost ending = { λ showing given.
+        ending_html (shown_as showing) (screen_for (size_of showing) given.read) given.calls };
 
     ghost enough = { λ showing. is_decided (size_of showing) };
 
@@ -271,10 +275,12 @@ impl<W: Sink> Begin<ShownWriter<HtmlRows<W>>, W> for Showing {
 
     fn begin(&self, front: &[u8], output: Output<W>) -> Result<ShownWriter<HtmlRows<W>>, Output<W>>
         ensures output { IfOk result (λ performer. output_of (rows_of performer) ≡ output) }
-        ensures text { IfOk result (λ performer. (given : Given) → BeginsWith (is_decided (size_of self.now)) front.now given
+        ensures text { IfOk result (λ performer. (given : Given)
+            → BeginsWith (is_decided (size_of self.now)) front.now given
             → text_from standing_of row_html after_row after_command performer given.calls
             ≡ left_html (shown_as self.now) (screen_for (size_of self.now) given.read) given.calls) }
-        ensures ending { IfOk result (λ performer. (given : Given) → BeginsWith (is_decided (size_of self.now)) front.now given
+        ensures ending { IfOk result (λ performer. (given : Given)
+            → BeginsWith (is_decided (size_of self.now)) front.now given
             → ending_from standing_of row_html after_row after_command closing_html performer given.calls
             ≡ ending_html (shown_as self.now) (screen_for (size_of self.now) given.read) given.calls) }
         ensures kept { IfErr result (λ kept. kept ≡ output) }

@@ -15,7 +15,7 @@ pub const SIZE: &str = "--size=";
 /// What asks for the bytes that draw the screen.
 const DRAW: &str = "--draw";
 
-/// What asks for a drawing and the updates behind it.
+/// What asks for a drawing and the updates after it.
 const UPDATES: &str = "--updates";
 
 /// What is said where both are asked for.
@@ -52,7 +52,7 @@ pub fn asks_to_draw(words: &[String]) -> bool
     has_word(words, DRAW)
 }
 
-/// Whether the words ask for a drawing and the updates behind it.
+/// Whether the words ask for a drawing and the updates after it.
 pub fn asks_for_updates(words: &[String]) -> bool
     ensures { result ≡ asks_for_updates (map string_bytes words.now) }
 {

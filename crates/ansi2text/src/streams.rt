@@ -108,8 +108,8 @@ impl<W: Sink> Begin<MarkingWriter<W>, W> for MakingSafe {
     }
 }
 
-/// Each stream is shown by a screen of this size, or of the one that it says: as text or as safe text, as the type of its
-/// performer says.
+/// Each stream is shown by a screen of this size, or of the one that it says: as text or as safe text, as the type of
+/// its performer says.
 #[derive(Drop)]
 pub struct Showing {
     alloc: Global,
@@ -147,10 +147,12 @@ impl<W: Sink> Begin<ShownWriter<TextRows<W>>, W> for Showing {
 
     fn begin(&self, front: &[u8], output: Output<W>) -> Result<ShownWriter<TextRows<W>>, Output<W>>
         ensures output { IfOk result (λ performer. output_of (rows_of performer) ≡ output) }
-        ensures text { IfOk result (λ performer. (given : Given) → BeginsWith (is_decided (size_of self.now)) front.now given
+        ensures text { IfOk result (λ performer. (given : Given)
+            → BeginsWith (is_decided (size_of self.now)) front.now given
             → text_from is_open row_text_at after_row after_command performer given.calls
             ≡ left_text (screen_for (size_of self.now) given.read) given.calls) }
-        ensures ending { IfOk result (λ performer. (given : Given) → BeginsWith (is_decided (size_of self.now)) front.now given
+        ensures ending { IfOk result (λ performer. (given : Given)
+            → BeginsWith (is_decided (size_of self.now)) front.now given
             → ending_from is_open row_text_at after_row after_command closing performer given.calls
             ≡ ending_text (screen_for (size_of self.now) given.read) given.calls) }
         ensures kept { IfErr result (λ kept. kept ≡ output) }
@@ -180,10 +182,12 @@ impl<W: Sink> Begin<ShownWriter<SafeRows<W>>, W> for Showing {
 
     fn begin(&self, front: &[u8], output: Output<W>) -> Result<ShownWriter<SafeRows<W>>, Output<W>>
         ensures output { IfOk result (λ performer. output_of (rows_of performer) ≡ output) }
-        ensures text { IfOk result (λ performer. (given : Given) → BeginsWith (is_decided (size_of self.now)) front.now given
+        ensures text { IfOk result (λ performer. (given : Given)
+            → BeginsWith (is_decided (size_of self.now)) front.now given
             → text_from standing_of row_safe after_row after_command performer given.calls
             ≡ safe_left (screen_for (size_of self.now) given.read) given.calls) }
-        ensures ending { IfOk result (λ performer. (given : Given) → BeginsWith (is_decided (size_of self.now)) front.now given
+        ensures ending { IfOk result (λ performer. (given : Given)
+            → BeginsWith (is_decided (size_of self.now)) front.now given
             → ending_from standing_of row_safe after_row after_command closing_safe performer given.calls
             ≡ safe_ending (screen_for (size_of self.now) given.read) given.calls) }
         ensures kept { IfErr result (λ kept. kept ≡ output) }

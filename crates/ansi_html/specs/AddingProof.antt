@@ -47,6 +47,6 @@ module _ {W : Type 0} (sink : SinkOf W) where
             (Adds-append sink (html_from styling at calls) (text_from middle more) (output_of old) (output_of middle) (output_of new) first.added second.added);
       }
 
-  -- the end of the element that is open behind the calls
+  -- the end of the element that is open after the calls
   pub ending_from-taken : (old new : HtmlWriter W) (calls : List Call) → TakesAll sink old calls new → ending_from new [] ≡ ending_from old calls
   ending_from-taken old new calls taken = ap (λ at. element_end at.shown) taken.standing

@@ -1,6 +1,6 @@
--- The HTML of a list of calls in blocks of lines: each block is one element, with as many lines as a block has, the last one with
--- what is left. So a browser lays out what shows of a long text alone. In a block stands text, as in HTML without blocks, or
--- numbered lines.
+-- The HTML of a list of calls in blocks of lines: each block is one element, with as many lines as a block has, the
+-- last one with what is left. So a browser lays out what shows of a long text alone. In a block stands text, as in HTML
+-- without blocks, or numbered lines.
 use Rattle.std.specs.Prelude.{◌≡◌, ℕ, Bool, true, false, ◌&&◌, ◌==◌, ◌-◌, List, [], ◌∷◌, ◌++◌, codes, if◌then◌else◌}
 use Rattle.std.specs.List.{AllByRecursion, flat_map}
 use Rattle.anstyle_parse.specs.Stream.Call.{Call}
@@ -34,8 +34,8 @@ abbrev pub inside_end : (numbered : Bool) → Lined → List ℕ
 inside_end false it = element_end it.at.shown
 inside_end true it = lined_end it
 
--- Where HTML in blocks stands: where what is in them does, and how many lines the block that is open may still take, or 0
--- where none is.
+-- Where HTML in blocks stands: where what is in them does, and how many lines the block that is open may still take, or
+-- 0 where none is.
 pub record Blocked : Type 0 where
   pub inside : Lined
   pub left : ℕ
@@ -46,8 +46,8 @@ blocked inside left = record { inside = inside; left = left }
 abbrev pub blocked_at_start : Blocked
 blocked_at_start = blocked lined_at_start 0
 
--- A block begins before its first text, where none is open, and ends with the line feed of its last line: then nothing is
--- open.
+-- A block begins before its first text, where none is open, and ends with the line feed of its last line: then nothing
+-- is open.
 abbrev pub left_with_text : Blocked → ℕ
 left_with_text it = if it.left == 0 then lines_a_block else it.left
 
@@ -107,7 +107,8 @@ blocked_html numbered styling calls = blocked_text numbered styling calls ++ blo
 abbrev pub in_blocks : (parts : List (List ℕ)) → List ℕ
 in_blocks parts = flat_map (λ part. block_begin ++ (part ++ block_end)) parts
 
--- HTML in blocks of which nothing but their tags tells it from HTML without: what stands in them, one after another, is that.
+-- HTML in blocks of which nothing but their tags tells it from HTML without: what stands in them, one after another, is
+-- that.
 pub record AreBlocksOf (inside html : List ℕ) : Type 0 where
   pub parts : List (List ℕ)
   pub blocks : html ≡ in_blocks parts

@@ -1,6 +1,7 @@
--- The grammar of the HTML. A fragment is text, spans, and links of text and spans; no span stands in a span, and no link
--- in a link. A span has one attribute, either of colours and declarations or of class names, both from a fixed
--- vocabulary, and a link has a URI and says that its colour is its text's; in a text there are line breaks. Nothing else is in it.
+-- The grammar of the HTML. A fragment is text, spans, and links of text and spans; no span stands in a span, and no
+-- link in a link. A span has one attribute, either of colours and declarations or of class names, both from a fixed
+-- vocabulary, and a link has a URI and says that its colour is its text's; in a text there are line breaks. Nothing
+-- else is in it.
 use Rattle.std.specs.Prelude.{◌≡◌, ℕ, Bool, false, ◌||◌, ◌&&◌, nat_le, ◌==◌, not, List, [], ◌∷◌, ◌++◌, codes, IsTrue}
 use Rattle.std.specs.List.{AllByRecursion, Contains, list_all}
 use Rattle.ansi_html.specs.declared.contrast.Rgb.{Rgb}

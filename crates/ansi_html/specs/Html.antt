@@ -165,8 +165,8 @@ abbrev pub html : Styling → List Call → List ℕ
 html styling calls = html_text styling calls ++ html_ending calls
 
 -- The bytes of HTML at most for each byte of a stream, and those that close what is open at its end. Four bytes, as
--- `ESC [ m` and a character, may change a style: by declarations that is the end of a span (7), the longest beginning of another
--- (275), or by classes (119), the end of a link (4), a line break (4) and the longest text (6).
+-- `ESC [ m` and a character, may change a style: by declarations that is the end of a span (7), the longest beginning
+-- of another (275), or by classes (119), the end of a link (4), a line break (4) and the longest text (6).
 abbrev pub html_of_a_byte : Styling → ℕ
 html_of_a_byte (Inline scheme) = 74
 html_of_a_byte Classes = 35

@@ -1,5 +1,5 @@
 -- A reader of HTML, as far as it is used here: text, line breaks, tags with quoted attributes, and
--- the six character references. First it makes one 0A of each 0D, with the 0A behind it where there is
+-- the six character references. First it makes one 0A of each 0D, with the 0A after it where there is
 -- one (HTML standard, 13.2.3.5). The states are those of the standard's tokenizer that such text meets:
 -- data (13.2.5.1), character reference (13.2.5.72 to 80), tag and its name (13.2.5.6 to 8), attributes
 -- (13.2.5.32 to 40), attribute value, double-quoted (13.2.5.36), and a reference in it. A start tag opens an
@@ -49,8 +49,8 @@ both_names [] second = second
 both_names (b ∷ first) second = (b ∷ first) ++ spaced_before second
 
 -- What holds in an element that stands in another: the declarations and classes of both, those of the outer one first
--- (colours and fonts are inherited, and lines go on: CSS Cascade 4, 7; CSS Text Decoration 3, 2), and its own link or else that
--- of the outer one.
+-- (colours and fonts are inherited, and lines go on: CSS Cascade 4, 7; CSS Text Decoration 3, 2), and its own link or
+-- else that of the outer one.
 abbrev pub within : (outer own : Attributes) → Attributes
 within outer own = record {
   style = outer.style ++ own.style;
@@ -58,7 +58,8 @@ within outer own = record {
   href = if is_none own.href then outer.href else own.href;
 }
 
--- Of elements that are open, the innermost first, each by what holds in it: what holds in that one, and those around it.
+-- Of elements that are open, the innermost first, each by what holds in it: what holds in that one, and those around
+-- it.
 abbrev pub in_force : List Attributes → Attributes
 in_force [] = no_attributes
 in_force (attributes ∷ outer) = attributes
@@ -81,7 +82,7 @@ byte_of shown = shown.byte
 abbrev pub href_of : Shown → List ℕ
 href_of shown = shown.attributes.href
 
--- Newlines, normalized: each 0D is 0A, and a 0A behind it is dropped.
+-- Newlines, normalized: each 0D is 0A, and a 0A after it is dropped.
 abbrev pub normalized_from : (returned : Bool) → List ℕ → List ℕ
 normalized_from returned [] = []
 normalized_from returned (b ∷ bytes) =
@@ -114,8 +115,8 @@ referred name =
     else if bytes_eq name (codes "#13") then 0x0D ∷ []
     else []
 
--- What one byte leads to. A tag with attributes opens an element, and one without is an end tag, which ends the innermost
--- one; or it is a `br`, which changes nothing.
+-- What one byte leads to. A tag with attributes opens an element, and one without is an end tag, which ends the
+-- innermost one; or it is a `br`, which changes nothing.
 abbrev pub place_after : Place → ℕ → Place
 place_after (in_text opened) b =
     if b == 0x3C then in_name opened [] else if b == 0x26 then in_reference opened [] else in_text opened

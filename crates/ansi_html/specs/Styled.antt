@@ -29,14 +29,14 @@ each_styled style link bytes = map (λ byte. styled style link (byte ∷ [])) by
 abbrev pub element_of : Styled → Element
 element_of it = element it.style it.link
 
--- before it, behind text of an element; and the element of the last text behind it
+-- where the HTML stands before it, after text of an element; and the element of the last text after it
 abbrev pub before : Element → Styled → Standing
 before shown it = record { shown = shown; selected = element_of it; returned = false }
 
 abbrev pub behind : Element → Styled → Element
 behind shown it = after_text shown (element_of it) it.text
 
--- the HTML of texts, one after another, behind text of an element; and the element of the last
+-- the HTML of texts, one after another, after text of an element; and the element of the last
 abbrev pub styled_html : Styling → Element → List Styled → List ℕ
 styled_html styling shown [] = []
 styled_html styling shown (it ∷ texts) =

@@ -5,7 +5,7 @@ use Rattle.ansi_style.specs.declared.style.Style.{Style}
 use Rattle.ansi_html.specs.Palette.{hex_byte}
 use Rattle.ansi_html.specs.Css.{text_if, is_underlined, lines_css, underline_css}
 
--- the six digits of a colour, as they stand behind `#`
+-- the six digits of a colour, as they stand after `#`
 abbrev pub digits : Rgb → List ℕ
 digits color = hex_byte color.red ++ (hex_byte color.green ++ hex_byte color.blue)
 

@@ -46,7 +46,7 @@ pub(crate) fn invisibles(bytes: u8x16) -> u64
     (bytes.simd_lt(u8x16::splat(0x21)) | bytes.simd_gt(u8x16::splat(0x7E))).to_bitmask()
 }
 
-/// Whether there are sixteen bytes, and the last sixteen are none of these.
+/// Whether there are sixteen bytes, and none of the last sixteen is invisible.
 #[inline(always)]
 pub(crate) fn are_last_visible(bytes: &[u8]) -> bool
     ensures { IsTrue result → PassAtEnd is_visible bytes.now }
@@ -57,8 +57,9 @@ pub(crate) fn are_last_visible(bytes: &[u8]) -> bool
     }
 }
 
-/// A bit for each byte: whether it is no verbatim text. With 20 taken off, modulo 100, the bytes from 20 to 7F are the
-/// smallest, and with 09 taken off 09 and 0A; `"` and `&` differ in one bit, and so do `<` and `>`.
+/// A bit for each byte: whether it is no verbatim text. 0x20 is subtracted, and a byte below that wraps to 0xE0 or
+/// more: so one comparison finds what is outside of 0x20 to 0x7F. In the same way one finds what is neither 0x09 nor
+/// 0x0A. `"` and `&` differ in one bit, which is masked so that one comparison finds both; so do `<` and `>`.
 #[inline(always)]
 pub(crate) fn not_verbatim(bytes: u8x16) -> u64
     ensures { result ≡ mask_l (map (λ b. not (is_verbatim b)) bytes) }

@@ -172,7 +172,7 @@ fn underline_word(underline: Underline) -> &'static [u8]
     }
 }
 
-/// What the name of a class has behind its prefix.
+/// What the name of a class has after its prefix.
 fn put_word<W: Sink>(output: &mut Output<W>, class: Class)
     ensures { Adds W.Sink (class_word class) output.old output.new }
 {

@@ -146,7 +146,7 @@ pub(crate) fn put_reversed_text<W: Sink>(
     put_themed(output, scheme, b"color:", dark, light_text(dim, shades));
 }
 
-/// That ground.
+/// A ground of the page's own text: white on dark pages, and black on light ones.
 pub(crate) fn put_reversed_ground<W: Sink>(output: &mut Output<W>, scheme: Scheme)
     ensures { Adds W.Sink (reversed_ground scheme) output.old output.new }
 {

@@ -75,7 +75,7 @@ pub use verbatim::verbatim_length;
 /// (OSC 8) that stands in `<a rel="nofollow noreferrer" href="…" style="…">…</a>`, one for each run of equal link. By
 /// classes the attribute is `class`. A link is shown where its URI begins with `https://`, `http://` or `mailto:`,
 /// has the bytes 21 to 7E only, and was not cut. Since a carriage return that comes by a reference ends
-/// no line, `<br>` stands before the text behind it, unless that is a line feed. Nothing else is written,
+/// no line, `<br>` stands before the text after it, unless that is a line feed. Nothing else is written,
 /// so no input brings in markup.
 ///
 /// The page has to be UTF-8, and to have a newline of its own right after `<pre>`, since a browser
@@ -112,7 +112,7 @@ pub fn convert<R: Source, W: Sink>(
     ensures read_back { (calls : List Call) → read (html styling calls) ≡ shown_from styling no_element calls }
     ensures text { (calls : List Call) → map byte_of (read (html styling calls)) ≡ stripped calls }
 
-    // Its lines are those of the text: 0D with or without 0A behind it ends one, as 0A does. (A 0D at
+    // Its lines are those of the text: 0D with or without 0A after it ends one, as 0A does. (A 0D at
     // the very end does not.)
     ensures lines { (bytes : List ℕ) (calls : List Call) → AreCalls bytes calls
         → ends_in_return (stripped calls) ≡ false

@@ -256,7 +256,7 @@ fn has_scheme(uri: &[u8]) -> bool
     uri.starts_with(b"https://") || uri.starts_with(b"http://") || uri.starts_with(b"mailto:")
 }
 
-/// Whether it is ASCII without controls and the space.
+/// Whether a URI is ASCII without controls and the space.
 fn are_visible(uri: &[u8]) -> bool
     ensures { result ≡ list_all is_visible uri.now }
 {
@@ -288,7 +288,7 @@ fn after_visible(uri: &[u8]) -> &[u8]
     rest
 }
 
-/// Whether a byte is.
+/// Whether a byte is visible: of ASCII, and neither a control nor the space.
 fn is_visible(byte: u8) -> bool
     ensures { result ≡ is_visible byte }
 {

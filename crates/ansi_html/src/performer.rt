@@ -26,7 +26,7 @@ use std::simd::prelude::*;
 /// Writes the text of a stream as HTML, in the style that the stream selects.
 ///
 /// Each printed character, and of the controls tab (09), line feed (0A) and carriage return
-/// (0D), is text; `& < > " '` and 0D are written as character references, and text behind 0D
+/// (0D), is text; `& < > " '` and 0D are written as character references, and text after 0D
 /// that is not 0A begins with `<br>`. Text that is not plain stands in `<span style="…">…</span>`, one for
 /// each run of equal style and link, and text of a link in `<a … href="…" style="…">…</a>`, one for each run of
 /// equal link; by classes the attribute is `class`. An element is opened only before text, and closed before text of
@@ -129,7 +129,7 @@ impl<W: Sink> HtmlWriter<W> {
         self.output
     }
 
-    /// Text of the selected style and link may follow. Behind 0D it begins with a line break, unless it is 0A.
+    /// Text of the selected style and link may follow. After 0D it begins with a line break, unless it is 0A.
     #[inline(always)]
     fn begin_text(&mut self, is_line_feed: bool)
         ensures styling { styling_of self.new ≡ styling_of self.old }
@@ -206,7 +206,8 @@ impl<W: Sink> HtmlWriter<W> {
         }
     }
 
-    /// Writes text: what has no meaning in HTML at once, and what stands behind 0D begins anew.
+    /// Writes text: bytes with no meaning in HTML many at once, and the others one by one. What comes after 0D begins
+    /// with a line break, unless it is 0A.
     #[inline(always)]
     fn put_text(&mut self, text: &[u8])
         ensures { TakesBytes W.Sink self.old text.now self.new }
@@ -290,7 +291,7 @@ impl<W: Sink> HtmlWriter<W> {
     }
 }
 
-/// A line break behind 0D, unless a line feed follows.
+/// A line break after 0D, unless a line feed follows.
 #[inline(never)]
 fn put_line_break<W: Sink>(output: &mut Output<W>, is_line_feed: bool)
     ensures { Adds W.Sink (line_break true is_line_feed) output.old output.new }
@@ -352,7 +353,7 @@ pub(crate) fn put_begin<W: Sink>(
     put_span_begin(output, styling, style);
 }
 
-/// Closes them.
+/// Closes the span, and then the link, where there are these.
 #[inline(always)]
 pub(crate) fn put_end<W: Sink>(output: &mut Output<W>, style: &Style, link: &[u8])
     ensures { Adds W.Sink (element_end (element style.now link.now)) output.old output.new }
@@ -427,7 +428,7 @@ fn put_span<W: Sink>(output: &mut Output<W>, styling: Styling, style: &Style)
     }
 }
 
-/// The names of a style's classes behind a text, and the end of their attribute and tag.
+/// The names of a style's classes after a text, and the end of their attribute and tag.
 #[inline(never)]
 fn put_classes_between<W: Sink>(output: &mut Output<W>, before: &[u8], linked: bool, style: Style)
     ensures { Adds W.Sink (before.now ++ (class_names (classes_of linked style) ++ codes "\">")) output.old output.new }
@@ -615,7 +616,7 @@ impl<W: Sink> Perform for HtmlWriter<W> {
 }
 
 /// A text is of one style, and its bytes are written at once but for those with a meaning in HTML;
-/// what stands behind 0D begins anew.
+/// what comes after 0D begins with a line break, unless it is 0A.
 impl<W: Sink> PerformText for HtmlWriter<W> {
     ghost use Rattle.ansi_html.specs.Writer.{TakesAll};
     ghost use Rattle.ansi_html.specs.AddingProof.{TakesAll-none, TakesAll-one, TakesAll-more};

@@ -14,8 +14,8 @@ use crate::scheme::Scheme;
 use ansi_style::{Color, Style};
 use anstyle_parse::canon::{Output, Sink};
 
-/// What begins a tag, and a colour. It is out of line, so that the compiler does not make one write of unknown length of
-/// this and the next.
+/// What begins a tag, and a colour. It is out of line, so that the compiler does not make one write of unknown length
+/// of this and the next.
 #[inline(never)]
 fn put_with_color<W: Sink>(output: &mut Output<W>, color: &[u8; 6])
     ensures { (one : AnRgb) → color.now ≡ digits one

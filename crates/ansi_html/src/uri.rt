@@ -5,7 +5,7 @@ ghost use Rattle.ansi_html.specs.Links.{max_link};
 /// The bytes of a link at most: 1,023 that are stored, and twelve separators between thirteen parts.
 pub(crate) const MAX_LINK: usize = 1035;
 
-/// A URI, as far as it is written. What stood in its room before stays behind it, so that to clear it costs nothing.
+/// A URI, as far as it is written. What its room held before stays after it, so that to clear it costs nothing.
 #[derive(Drop)]
 pub(crate) struct Uri {
     room: [u8; MAX_LINK],
@@ -43,7 +43,7 @@ impl Uri {
         self.count = 0;
     }
 
-    /// Writes these bytes behind it.
+    /// Writes these bytes after it.
     #[inline(always)]
     pub(crate) fn append(&mut self, bytes: &[u8])
         requires room { length (uri_in self.old) + length bytes.now ≤ max_link }

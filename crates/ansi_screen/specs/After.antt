@@ -52,8 +52,8 @@ first_of groups = first_field (slice_index_or groups 0 [])
 abbrev pub second_of : List (List ℕ) → ℕ
 second_of groups = first_field (slice_index_or groups 1 [])
 
--- No number is given: SCOSC and SCORC have none. (With numbers `s` is DECSLRM, which is known where margins left and right
--- are, and `u` is no function of xterm's.)
+-- No number is given: SCOSC and SCORC have none. (With numbers `s` is DECSLRM, which is known where margins left and
+-- right are, and `u` is no function of xterm's.)
 abbrev pub is_bare : List (List ℕ) → Bool
 is_bare groups = first_of groups == 0 && nat_le (length groups) 1
 
@@ -149,8 +149,8 @@ designated [] final d = escaped final d
 designated (mark ∷ []) final d = with_charset mark final d
 designated (mark ∷ other ∷ others) final d = d
 
--- REP prints the character of the call just before again, and changes nothing behind any other
--- call, also behind another REP: what it repeats is kept beside the display.
+-- REP prints the character of the call just before again, and changes nothing after any other
+-- call, also after another REP: what it repeats is kept beside the display.
 pub record State : Type 0 where
   pub display : Display
   pub last : Option ℕ

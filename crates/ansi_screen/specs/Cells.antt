@@ -80,8 +80,8 @@ within start end how cells =
 abbrev pub change : ℕ → ℕ → (List Cell → List Cell) → List Cell → List Cell
 change start end how cells = within start end how (cut start (cut end cells))
 
--- What is done to a run of cells: all blank; moved towards its front, with blanks behind;
--- moved towards its end, with blanks before. What moves out of the run is lost.
+-- What is done to a run of cells: all blank; moved towards its front, with blanks after it;
+-- moved towards its end, with blanks before it. What moves out of the run is lost.
 abbrev pub erased : Cell → List Cell → List Cell
 erased space run = replicate (length run) space
 

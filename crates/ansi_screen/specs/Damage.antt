@@ -28,12 +28,13 @@ span_at spans row = get_or spans row no_span
 abbrev pub joined : (left right : ℕ) → Span → Span
 joined left right span = record { left = min span.left left; right = max span.right right }
 
--- A column is neither among those that were written nor beside them, where a half of a wide character can have been cut.
+-- A column is neither among those that were written nor beside them, where a half of a wide character can have been
+-- cut.
 abbrev pub IsOutside : Span → ℕ → Type 0
 IsOutside span column = (column + 1 < span.left) ⊎ (span.right < column)
 
--- Each cell is as in the picture but for those in the span of its row and beside it; and so is the frame, unless that is
--- noted.
+-- Each cell is as in the picture but for those in the span of its row and beside it; and so is the frame, unless that
+-- is noted.
 pub record HasDamage (width height : ℕ) (noted : Noted) (shown now : Picture) : Type 0 where
   pub long : length now.cells ≡ length shown.cells
   pub cells : (row column : ℕ) → row < height → column < width → IsOutside (span_at noted.spans row) column

@@ -83,7 +83,7 @@ pub record FitsIn (width : ℕ) (line : List ℕ) : Type 0 where
   pub no_longer : length line ≤ width
   pub narrow : AllByRecursion IsNarrow line
 
--- the cells of a row that shows a line: its characters, plain, and blanks behind them
+-- the cells of a row that shows a line: its characters, plain, and blanks after them
 abbrev pub line_cells : ℕ → List ℕ → List Cell
 line_cells width line = map (λ c. plain_cell c plain Whole) line ++ replicate (width - length line) (blank plain)
 

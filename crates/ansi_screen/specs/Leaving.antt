@@ -1,4 +1,5 @@
--- Rows that leave: what scrolls off at the top of the main screen, or is taken away with all of it, and is gone for good.
+-- Rows that leave: what scrolls off at the top of the main screen, or is taken away with all of it, and is gone for
+-- good.
 --
 -- Sources: xterm(1), "-sl" (lines scrolled off the top of the window are saved); its ctlseqs, 1049 (nothing
 -- of the alternate screen is saved), LF, IND, NEL, SU; the VT510 manual, "DECAWM", "DECSTBM". Before ED 2

@@ -18,7 +18,7 @@ abbrev pub begins_link : List (List ℕ) → Bool
 begins_link (number ∷ params ∷ uri ∷ others) = bytes_eq number (codes "8") && not (length uri == 0)
 begins_link parts = false
 
--- So many links have a number, on from 1. One that begins behind them has none.
+-- So many links have a number, on from 1. One that begins after them has none.
 abbrev pub most_links : ℕ
 most_links = 4294967295
 

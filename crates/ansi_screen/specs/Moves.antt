@@ -28,7 +28,8 @@ down n d = to_row (if nat_lt d.cursor.row d.bottom then min (d.cursor.row + n) (
 abbrev pub to_line : ℕ → Display → Display
 to_line line d = to_row (if d.cursor.is_relative then min (d.top + line) (d.bottom - 1) else line) d
 
--- the cursor's line, counted as VPA counts; VPR goes so many lines forward, with no regard to the margins but in origin mode
+-- the cursor's line, counted as VPA counts; VPR goes so many lines forward, with no regard to the margins but in origin
+-- mode
 abbrev pub line_of : Display → ℕ
 line_of d = if d.cursor.is_relative then d.cursor.row - d.top else d.cursor.row
 

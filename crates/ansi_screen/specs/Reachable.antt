@@ -23,7 +23,7 @@ left_style cell = if is_left cell.part then Some cell.style else None
 abbrev pub right_style : Cell → Option Style
 right_style cell = if is_right cell.part then Some cell.style else None
 
--- Each right half of a wide character stands right behind a left half of its style, and each left half
+-- Each right half of a wide character stands right after a left half of its style, and each left half
 -- before a right one; `behind` is the style of the left half that stands before these cells, if one does.
 abbrev pub ArePaired : Option Style → List Cell → Type 0
 ArePaired behind [] = behind ≡ None

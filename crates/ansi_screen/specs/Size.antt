@@ -24,7 +24,7 @@ a_terminal = record { columns = 80; rows = 24 }
 abbrev pub IsNumber : List ℕ → ℕ → Type 0
 IsNumber text n = IsNumeral 10 text × (n ≡ digits_value 10 text)
 
--- COLUMNSxROWS: one number before the first x, and one behind it
+-- COLUMNSxROWS: one number before the first x, and one after it
 abbrev pub Says : List ℕ → Size → Type 0
 Says text size =
     IsNumber (before_first (λ b. b == 0x78) text) size.columns × IsNumber (after_first (λ b. b == 0x78) text) size.rows

@@ -15,7 +15,7 @@ pub enum Part {
     Right,
 }
 
-/// The characters of no column that came behind a cell's own: at most two are kept.
+/// The characters of no column that came after a cell's own: at most two are kept.
 #[derive(Debug, Clone, Copy, PartialEq, Eq)]
 pub enum Marks {
     Unmarked,

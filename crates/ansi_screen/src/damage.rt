@@ -105,7 +105,8 @@ impl Damage {
         self.is_framed = false;
     }
 
-    /// The columns of a row from `left` up to `right` too. Mostly all of the screen is noted already, or some of the row.
+    /// The columns of a row from `left` up to `right` too. Mostly all of the screen is noted already, or some of the
+    /// row.
     #[inline]
     pub(crate) fn note(&mut self, row: usize, left: usize, right: usize)
         requires row { row < length self.old.spans }
@@ -173,7 +174,8 @@ impl Damage {
         }
     }
 
-    /// The columns of a row of so many that were written, and those beside them: from the first answer up to the second.
+    /// The columns of a row of so many that were written, and those beside them: from the first answer up to the
+    /// second.
     pub(crate) fn columns(&self, row: usize, width: usize) -> (usize, usize)
         requires { row < length self.now.spans }
         ensures order { result.0 ≤ result.1 }

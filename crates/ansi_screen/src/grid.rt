@@ -71,7 +71,7 @@ fn numbers(alloc: Global, count: u16) -> Result<Vec<u16>, AllocError>
     Ok(order)
 }
 
-/// The first `count` come behind the others.
+/// The first `count` come after the others.
 fn rotate_back(order: &mut [u16], count: usize)
     requires { count ≤ length order.old }
     ensures { order.new ≡ drop count order.old ++ take count order.old }
@@ -163,7 +163,7 @@ impl Grid {
         ensures { self.new ≡ with_list (within (first * self.old.width) (last * self.old.width) (erased (blank style))
             self.old.cells) self.old }
     {
-        // The cells fill the rows.
+        // (for the proof: the cells fill the rows)
         let _ = self.width();
         for row in first..last {
             self.fill_row(row, style);
@@ -190,7 +190,7 @@ impl Grid {
     pub(crate) fn fill(&mut self, style: Style)
         ensures { self.new ≡ with_list (replicate (length self.old.cells) (blank style)) self.old }
     {
-        // The cells fill the rows.
+        // (for the proof: the cells fill the rows)
         let _ = self.width();
         if self.has_writing() || has_ground(style) {
             let height = self.height();
@@ -229,7 +229,7 @@ impl Grid {
             ≡ cell_at (row * self.old.width + column) other.now.cells }
         ensures { self.new ≡ other.now }
     {
-        // The cells fill the rows.
+        // (for the proof as well: the cells of both fill the rows)
         let width = self.width();
         let _ = other.width();
         let (first, past) = damage.rows();
@@ -262,7 +262,7 @@ impl Grid {
         ensures { self.new ≡ with_list (copied (first * self.old.width) (last * self.old.width) other.now.cells
             self.old.cells) self.old }
     {
-        // The cells fill the rows.
+        // (for the proof: the cells of both fill the rows)
         let _ = self.width();
         let _ = other.width();
         for row in first..last {
@@ -276,7 +276,7 @@ impl Grid {
         requires height { self.old.height ≡ other.now.height }
         ensures { self.new ≡ other.now }
     {
-        // The cells fill the rows.
+        // (for the proof: the cells of both fill the rows)
         let _ = self.width();
         let _ = other.width();
         if other.has_writing() {
@@ -308,7 +308,7 @@ impl Grid {
         self.fill(style);
     }
 
-    /// Deletes cells of a row from `start` on; those behind them move there.
+    /// Deletes cells of a row from `start` on; those after them move there.
     pub(crate) fn delete(&mut self, row: usize, start: usize, count: usize, style: Style)
         requires row { row < self.old.height }
         requires start { start ≤ self.old.width }
@@ -392,7 +392,7 @@ impl Grid {
         self.rows[at].set_goes_on(on)
     }
 
-    /// The first `count` of the rows from `first` up to `last` come behind the others.
+    /// The first `count` of the rows from `first` up to `last` come after the others.
     fn rotate_back(&mut self, first: usize, last: usize, count: usize)
         requires order { first ≤ last }
         requires within { last ≤ self.old.height }
@@ -431,7 +431,7 @@ impl Grid {
         ensures { self.new ≡ with_list (within (first * self.old.width) (last * self.old.width)
             (moved_back (count * self.old.width) (blank style)) self.old.cells) self.old }
     {
-        // The cells fill the rows.
+        // (for the proof: the cells fill the rows)
         let _ = self.width();
         if self.empties(first, last, count) {
             self.fill(style);
@@ -449,7 +449,7 @@ impl Grid {
         ensures { self.new ≡ with_list (within (first * self.old.width) (last * self.old.width)
             (moved_on (count * self.old.width) (blank style)) self.old.cells) self.old }
     {
-        // The cells fill the rows.
+        // (for the proof: the cells fill the rows)
         let _ = self.width();
         if self.empties(first, last, count) {
             self.fill(style);

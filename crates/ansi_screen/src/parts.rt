@@ -7,8 +7,8 @@ use crate::place::Place;
 use crate::screen::Screen;
 
 impl Screen {
-    /// The cells of a row, counted from 0, of the screen that is hidden: of the main one, while the alternate one shows;
-    /// else blanks.
+    /// The cells of a row, counted from 0, of the screen that is hidden: of the main one, while the alternate one
+    /// shows; else blanks.
     pub fn hidden_row(&self, row: usize) -> &[Cell]
         requires { row < self.now.display.height }
         ensures cells { result.now
@@ -32,7 +32,7 @@ impl Screen {
         self.display().hidden_saved()
     }
 
-    /// The margins (DECSTBM), counted from 0: the row of the upper one, and the row behind the lower one.
+    /// The margins (DECSTBM), counted from 0: the row of the upper one, and the row after the lower one.
     pub fn margins(&self) -> (usize, usize)
         ensures top { result.0 ≡ self.now.display.top }
         ensures bottom { result.1 ≡ self.now.display.bottom }
@@ -49,7 +49,7 @@ impl Screen {
         self.display().stops()
     }
 
-    /// DECAWM: a character behind the last column goes to the next row.
+    /// DECAWM: a character after the last column goes to the next row.
     pub fn wraps(&self) -> bool
         ensures { result ≡ self.now.display.wraps }
     {

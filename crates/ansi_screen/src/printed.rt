@@ -18,8 +18,8 @@ fn is_printed_ascii(byte: u8) -> bool
     matches!(byte, 0x20..=0x7E)
 }
 
-/// A bit for each of sixteen bytes, the lowest for the first: whether it is no printed ASCII. With 20
-/// taken off, modulo 100, that is the 5F smallest.
+/// A bit for each of sixteen bytes, the lowest for the first: whether it is no printed ASCII. 0x20 is
+/// subtracted, and a byte below that wraps to 0xE0 or more: so one comparison finds what is outside of 0x20 to 0x7E.
 #[inline(always)]
 fn unprinted(bytes: u8x16) -> u64
     ensures { result ≡ mask_l (map (λ b. not (is_printed_ascii b)) bytes) }

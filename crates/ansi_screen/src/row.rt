@@ -45,8 +45,8 @@ pub(crate) fn has_ground(style: Style) -> bool
     !matches!(style.background, Color::Default)
 }
 
-/// The cells from `start` up to `end` are blank, whatever stood beside them. From `written` on they were plain blanks; the
-/// answer is from where on they are so then.
+/// The cells from `start` up to `end` are blank, whatever stood beside them. From `written` on they were plain blanks;
+/// the answer is from where on they are so then.
 fn clear(cells: &mut [Cell], written: usize, start: usize, end: usize, style: Style) -> usize
     requires order { start ≤ end }
     requires within { end ≤ length cells.old }
@@ -85,8 +85,8 @@ fn clear_written(cells: &mut [Cell], written: usize, start: usize, end: usize) -
     }
 }
 
-/// Cells become as others are, from which they differ between `left` and `right` alone. From `written` on both are plain
-/// blanks.
+/// Cells become as others are, from which they differ between `left` and `right` alone. From `written` on both are
+/// plain blanks.
 fn copy_between(cells: &mut [Cell], left: usize, right: usize, written: usize, others: &[Cell])
     requires length { length cells.old ≡ length others.now }
     requires order { left ≤ right }
@@ -186,7 +186,7 @@ impl Row {
         self.written = clear(cells, self.written, start, end, style);
     }
 
-    /// Deletes cells from `start` on; those behind them move there.
+    /// Deletes cells from `start` on; those after them move there.
     pub(crate) fn delete(&mut self, start: usize, count: usize, style: Style)
         requires { start ≤ length self.old }
         ensures cells { self.new ≡ deleted count start (length self.old) (blank style) self.old }

@@ -221,8 +221,8 @@ fn fill_each(cells: &mut [Cell], run: &[u8], style: Style, link: u32)
     }
 }
 
-/// The same, where all cells are made alike first, by copies, and then each gets its character. It is out of line, so that
-/// a short run does not pay for it.
+/// The same, where all cells are made alike first, by copies, and then each gets its character. It is out of line, so
+/// that a short run does not pay for it.
 #[inline(never)]
 fn fill_by_copies(cells: &mut [Cell], run: &[u8], style: Style, link: u32)
     requires { length cells.old ≡ length run.now }

@@ -146,8 +146,8 @@ impl Screen {
         self.display.link()
     }
 
-    /// Its damage is forgotten: as it is, it is shown. It takes time of the rows that can have changed, and of those
-    /// between them.
+    /// Forgets what can have changed: as it is now, it counts as shown. This takes time for each row that can have
+    /// changed, and for those between them.
     pub fn forget(&mut self)
         ensures { self.new ≡ as_shown self.old }
     {

@@ -30,7 +30,8 @@ pub(crate) trait PutRuns: Perform {
         → receives old calls middle → receives middle more new → receives old (calls ++ more) new };
 }
 
-/// Prints a text, run by run, with what stands between two runs. It stands in line where a text comes, since many are short.
+/// Prints a text, run by run, with what stands between two runs. It stands in line where a text comes, since many are
+/// short.
 #[inline(always)]
 pub(crate) fn print_by_runs<P: PutRuns>(performer: &mut P, text: &str)
     ensures { P.receives performer.old (text_calls text.now) performer.new }

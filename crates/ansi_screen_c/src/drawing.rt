@@ -8,9 +8,9 @@ use crate::handle::Handle;
 use crate::told;
 use std::alloc::Global;
 
-/// Writes the bytes after which a terminal of its size shows the screen to the front of the room, and how many there are.
-/// It answers false where no screen is held, or memory is wanting, which is taken while they are made: then the number
-/// is 0; and where the room has fewer bytes than the number.
+/// Writes the bytes after which a terminal of its size shows the screen to the front of the room, and how many there
+/// are. It answers false where no screen is held, or memory is wanting, which is taken while they are made: then the
+/// number is 0; and where the room has fewer bytes than the number.
 #[unsafe(no_mangle)]
 pub extern "C" fn ansi_screen_draw(
     alloc: Global,
@@ -35,8 +35,8 @@ pub extern "C" fn ansi_screen_draw(
     }
 }
 
-/// The same with the bytes after which a terminal that shows the one screen shows the other. It also answers false, with
-/// the number 0, where they have different sizes.
+/// The same with the bytes after which a terminal that shows the one screen shows the other. It also answers false,
+/// with the number 0, where they have different sizes.
 #[unsafe(no_mangle)]
 pub extern "C" fn ansi_screen_update(
     alloc: Global,

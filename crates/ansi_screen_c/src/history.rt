@@ -44,8 +44,8 @@ pub extern "C" fn ansi_screen_open_with(
     }
 }
 
-/// Writes how many of the rows that left the screen are kept, and how many have left in all. It answers false, and writes
-/// nothing, where no screen is held.
+/// Writes how many of the rows that left the screen are kept, and how many have left in all. It answers false, and
+/// writes nothing, where no screen is held.
 #[unsafe(no_mangle)]
 pub extern "C" fn ansi_screen_history(
     alloc: Global,
@@ -69,7 +69,8 @@ pub extern "C" fn ansi_screen_history(
     }
 }
 
-/// As [`ansi_screen_row`](crate::ansi_screen_row), of a row that left: of those that are kept the oldest is the first, 0.
+/// As [`ansi_screen_row`](crate::ansi_screen_row), of a row that left: of those that are kept the oldest is the first,
+/// 0.
 #[unsafe(no_mangle)]
 pub extern "C" fn ansi_screen_history_row(
     alloc: Global,

@@ -248,7 +248,8 @@ pub extern "C" fn ansi_screen_cell(
     }
 }
 
-/// The same with any cell of a screen that is to be held, out of line: so the call that most cells take saves no registers.
+/// The same with any cell of a screen that is to be held, out of line: so the call that most cells take saves no
+/// registers.
 #[cold]
 #[inline(never)]
 fn put_any_cell(

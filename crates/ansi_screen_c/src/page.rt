@@ -10,9 +10,9 @@ use crate::handle::Handle;
 use crate::told;
 use std::alloc::Global;
 
-/// Writes what the screen shows as HTML, in the styling of a number, to the front of the room, and how many bytes it has. It
-/// answers false where no screen is held, or memory is wanting, which is taken while they are made: then the number is 0; and
-/// where the room has fewer bytes than the number.
+/// Writes what the screen shows as HTML, in the styling of a number, to the front of the room, and how many bytes it
+/// has. It answers false where no screen is held, or memory is wanting, which is taken while they are made: then the
+/// number is 0; and where the room has fewer bytes than the number.
 #[unsafe(no_mangle)]
 pub extern "C" fn ansi_screen_html(
     alloc: Global,

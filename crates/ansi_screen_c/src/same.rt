@@ -8,8 +8,8 @@ use crate::handle::Handle;
 use screen_pieces::Terminal;
 use std::alloc::Global;
 
-/// Answers whether both screens show the same: as many columns and rows, the same cells, the cursor, with the style of what
-/// comes next, and modes. It answers false where one of them is not held.
+/// Answers whether both screens show the same: as many columns and rows, the same cells, the cursor, with the style of
+/// what comes next, and modes. It answers false where one of them is not held.
 #[unsafe(no_mangle)]
 pub extern "C" fn ansi_screen_equal(alloc: Global, one: &mut Handle, other: &mut Handle) -> bool
     ensures same { Decides result (Both ShowSameOf one.old.value other.old.value) }
@@ -46,8 +46,8 @@ fn copied(alloc: Global, terminal: &Terminal) -> Option<Box<Terminal>>
     Some(held)
 }
 
-/// Holds a copy of a screen, in place of what it held, which is freed: it stands where that one stands, in all that it shows
-/// and keeps. It answers false, and holds none, where no screen is held that is copied, or memory is wanting.
+/// Holds a copy of a screen, in place of what it held, which is freed: it stands where that one stands, in all that it
+/// shows and keeps. It answers false, and holds none, where no screen is held that is copied, or memory is wanting.
 #[unsafe(no_mangle)]
 pub extern "C" fn ansi_screen_copy(alloc: Global, copy: &mut Handle, screen: &mut Handle) -> bool
     ensures copied { OnTrue result (Both IsCopy screen.old.value copy.new.value) }

@@ -181,7 +181,9 @@ pub fn is_clear(bytes: &[u8]) -> bool
     }
 }
 
-/// Whether the first `count` of sixteen bytes are clear, as [`is_clear`] says it of a text. With FF taken off, modulo 100, 7F to FE are 80 and more.
+/// Whether the first `count` of sixteen bytes are clear, as [`is_clear`] says it of a text. 0xFF is subtracted, and
+/// what falls below 0 wraps: so 0x7F to 0xFE become 0x80 to 0xFF, which one comparison finds. 0xFF becomes
+/// 0 and passes: it begins no character that drives a terminal.
 #[inline(always)]
 pub fn is_clear_front(chunk: &[u8; 16], count: usize) -> bool
     requires { count ≤ 16 }

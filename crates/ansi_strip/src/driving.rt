@@ -12,7 +12,7 @@ use std::simd::prelude::*;
 /// How many bytes are tested at once in a long text.
 const BLOCK: usize = 64;
 
-/// And in any other.
+/// How many bytes are tested at once in a shorter text, or in what is left of a long one.
 const CHUNK: usize = 16;
 
 /// The character of one byte that drives a terminal.

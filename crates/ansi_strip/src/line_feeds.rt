@@ -27,7 +27,8 @@ impl<W: Sink> LineFeeds<W> {
     /// Writes the carriage return that waits, unless a line feed comes.
     #[inline]
     fn release(&mut self, next: u8)
-        ensures added { Adds W.Sink (if next == 0x0A then [] else held_in self.old) (output_of self.old) (output_of self.new) }
+        ensures added { Adds W.Sink (if next == 0x0A then [] else held_in self.old)
+            (output_of self.old) (output_of self.new) }
         ensures held { held_in self.new ≡ [] }
     {
         if self.waits && next != b'\n' {

@@ -124,7 +124,7 @@ color_in (kind ∷ red ∷ green ∷ blue ∷ []) = if kind == 2 then mixed red 
 color_in (kind ∷ space ∷ red ∷ green ∷ blue ∷ more) = if kind == 2 then mixed red green blue else None
 color_in _ = None
 
--- a colour behind its code; none changes nothing, and the underline's is read and not kept
+-- a colour after its code; none changes nothing, and the underline's is read and not kept
 abbrev pub with_color : ℕ → Option Color → Style → Style
 with_color code None style = style
 with_color code (Some color) style =
@@ -155,7 +155,7 @@ abbrev mutual
       else change (with_group (code ∷ [])) ∷ selections groups
   selections (group ∷ groups) = change (with_group group) ∷ selections groups
 
-  -- Behind the code of a colour: 5;n or 2;red;green;blue. Another kind is no colour and is
+  -- After the code of a colour: 5;n or 2;red;green;blue. Another kind is no colour and is
   -- dropped; so is a group of several fields, here and in place of each number below, and the
   -- colour with it.
   pub color_selections : ℕ → List (List ℕ) → List Selection

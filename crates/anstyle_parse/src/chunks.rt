@@ -18,8 +18,8 @@ pub(crate) fn lanes(chunk: &[u8; CHUNK]) -> u8x16
     u8x16::from_slice(chunk)
 }
 
-/// A bit for each byte, the lowest for the first: whether it is none of the `count` from 20 on. With
-/// 20 taken off, modulo 100, these are the smallest.
+/// A bit for each byte, the lowest for the first: whether it is none of the `count` from 0x20 on. 0x20 is subtracted,
+/// and a byte below that wraps to 0xE0 or more: so one comparison with `count` finds what is below and what is above.
 #[inline(always)]
 pub(crate) fn outside(bytes: u8x16, count: u8) -> u64
     requires { count ≤ 0xE0 }

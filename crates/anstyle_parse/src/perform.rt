@@ -140,7 +140,7 @@ pub trait PerformText: Perform {
     }
 
     /// A text that stands at the front of sixteen bytes, the first `count` of them, and is of characters of one byte
-    /// alone: as by `print_with_layout`. What comes behind it in `chunk` is no part of the text: it is there so that an
+    /// alone: as by `print_with_layout`. What comes after it in `chunk` is no part of the text: it is there so that an
     /// implementation can look at all sixteen bytes at once, or copy them, whatever `count` is. A parser hands on no
     /// text that is empty or begins with layout.
     ///

@@ -228,7 +228,7 @@ fn character_of_four(a: u8, b: u8, c: u8, d: u8) -> char
     scalar_value(((a as u32 % 8 * 64 + b as u32 % 64) * 64 + c as u32 % 64) * 64 + d as u32 % 64)
 }
 
-/// The character of a number that is one. What is required is that, so nothing is tested.
+/// The character of this number. That there is one is required of the caller, so nothing is tested.
 #[inline(always)]
 fn scalar_value(number: u32) -> char
     requires { InScalarRange number }

@@ -1,8 +1,8 @@
 -- The words of a line: which are options, and which name files.
 --
--- Source: POSIX.1-2024, XBD 12.2 (guideline 10: behind -- all are operands; 13: - is standard input);
--- options may stand behind operands, the value of a long one after = or as the next word, and that of -o right behind it, as
--- GNU has it.
+-- Source: POSIX.1-2024, XBD 12.2 (guideline 10: after -- all are operands; 13: - is standard input);
+-- options may stand after operands, the value of a long one after = or as the next word, and that of -o right after it,
+-- as GNU has it.
 use Rattle.std.specs.Prelude.{ℕ, Bool, not, ◌&&◌, ◌||◌, nat_eq, nat_le, length, List, [], ◌∷◌, ◌++◌, codes, bytes_eq, Option, None, Some, if◌then◌else◌}
 use Rattle.std.specs.List.{starts_with, list_any, list_all, before_first, after_first}
 use Rattle.command_line.specs.declared.line.Place.{Place}
@@ -21,7 +21,7 @@ is_digit byte = nat_le 0x30 byte && nat_le byte 0x39
 abbrev pub is_number : (text : List ℕ) → Bool
 is_number text = not (nat_eq (length text) 0) && list_all is_digit text
 
--- a word that has the form of a size, COLUMNSxROWS: a number before the first x, and one behind it
+-- a word that has the form of a size, COLUMNSxROWS: a number before the first x, and one after it
 abbrev pub is_size : (word : List ℕ) → Bool
 is_size word =
     is_number (before_first (λ byte. nat_eq byte 0x78) word) && is_number (after_first (λ byte. nat_eq byte 0x78) word)
@@ -30,7 +30,7 @@ is_size word =
 abbrev pub may_have_size : (options : List (List ℕ)) → (word : List ℕ) → Bool
 may_have_size options word = is_one_of options word && list_any (is_valued word) options
 
--- the place of the word behind one that is none's value
+-- the place of the word after one that is no option's value
 abbrev pub place_behind : (options : List (List ℕ)) → (word : List ℕ) → Place
 place_behind options word =
     if bytes_eq word (codes "--") then Files
@@ -38,7 +38,7 @@ place_behind options word =
     else if may_have_size options word then Size
     else Words
 
--- the place of the word behind this one
+-- the place of the word after this one
 abbrev pub place_after : (options : List (List ℕ)) → Place → (word : List ℕ) → Place
 place_after options Files word = Files
 place_after options Value word = Words
@@ -57,7 +57,7 @@ before_value option = if bytes_eq option (codes "-o") then codes "--output=" els
 abbrev pub joined : (option value : List ℕ) → List ℕ
 joined option value = before_value option ++ value
 
--- what a word is that is none's value: -o with the name of a file right behind it, or others
+-- what a word is that is no option's value: -o with the name of a file right after it, or others
 abbrev pub output_or : (name : Option (List ℕ)) → (others : List (List ℕ)) → List (List ℕ)
 output_or None others = others
 output_or (Some name) others = joined (codes "-o") name ∷ []

@@ -53,8 +53,8 @@ Asks options words asked =
     MatchOption (find (λ word. not (is_one_of options word)) words) (asked ≡ None)
     (λ word. (request : Request) × (asked ≡ Some request) × Means options word request)
 
--- The status of a program that was asked this: 2 for a word that it doesn't know, or that has no value; else 0, or that of
--- an output that failed.
+-- The status of a program that was asked this: 2 for a word that it doesn't know, or that has no value; else 0, or that
+-- of an output that failed.
 abbrev pub AnswersWith : Request → (status : ℕ) → Type 0
 AnswersWith (Unvalued word) status = status ≡ 2
 AnswersWith (Unknown word) status = status ≡ 2

@@ -21,8 +21,8 @@ abbrev pub fault_status : (named : Bool) → Fault → Option Error → ℕ
 fault_status true fault error = 1
 fault_status false fault error = status_after fault error
 
--- Where the output failed or is stuck, or there was no memory, the status says so, and so it does where an input failed. Else it
--- is 0, unless the new file could not take its place.
+-- Where the output failed or is stuck, or there was no memory, the status says so, and so it does where an input
+-- failed. Else it is 0, unless the new file could not take its place.
 abbrev pub EndsAs : {T : Type 0} → (named replacing has_failed : Bool) → (held : List ℕ) → Option Error → Result T Stopped
     → (status : ℕ) → Type 0
 EndsAs named replacing has_failed held error (Err NoMemory) status = status ≡ 1

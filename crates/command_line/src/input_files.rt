@@ -184,7 +184,7 @@ fn is_written_quoted(name: &str) -> bool {
     name.is_empty() || name.chars().any(|c| c.is_control())
 }
 
-/// The words of an error, without its number, which stands behind them.
+/// The words of an error, without its number, which stands after them.
 fn without_number(text: &str) -> &str {
     match text.split_once(" (os error ") {
         Some((words, _)) => words,

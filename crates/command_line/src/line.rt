@@ -16,7 +16,8 @@ use std::rt::Env;
 /// The options and the files of a line.
 #[derive(Drop)]
 pub struct Line {
-    /// The options, in their order; `--title TEXT` is here `--title=TEXT`, and `-o FILE` and `-oFILE` are `--output=FILE`.
+    /// The options, in their order; `--title TEXT` is here `--title=TEXT`, and `-o FILE` and `-oFILE` are
+    /// `--output=FILE`.
     pub options: Vec<String>,
     /// The names of files, in their order; `-` is one of them.
     pub files: Vec<String>,
@@ -29,9 +30,10 @@ pub enum Place {
     Words,
     /// The value of the option that stands before it, as after `-o` or `--title`.
     Value,
-    /// The same where it is a size, as after `--shown`, which may also stand alone; and else an option, or the name of a file.
+    /// The same where it is a size, as after `--shown`, which may also stand alone; and else an option, or the name of
+    /// a file.
     Size,
-    /// The name of a file: it stands behind `--`.
+    /// The name of a file: it stands after `--`.
     Files,
 }
 
@@ -146,7 +148,7 @@ impl Place {
         }
     }
 
-    /// The place of the word behind one that is the value of none.
+    /// The place of the word after one that is no option's value.
     fn behind(word: &str, options: &[&str]) -> Place
         ensures { result ≡ place_behind (texts options.now) word.now }
     {

@@ -133,9 +133,9 @@ pub(crate) fn after<'a>(word: &'a str, option: &str) -> Option<&'a str>
 }
 
 /// The end of a program whose words ask for this: `help` is what it says of itself, with its usage
-/// up to the first line that is empty. Standard input is not read. The status is 0, or where standard output does not take
-/// the answer 141 or 1, as of [`Target::ended`](crate::Target::ended), and 2 for a word that the program doesn't know or an
-/// option without its value, which a line on standard error shows; for the former the usage follows it.
+/// up to the first line that is empty. Standard input is not read. The status is 0, or where standard output does not
+/// take the answer 141 or 1, as of [`Target::ended`](crate::Target::ended), and 2 for a word that the program doesn't
+/// know or an option without its value, which a line on standard error shows; for the former the usage follows it.
 pub fn answered(
     rt: &(impl Print + Eprint),
     program: &str,

@@ -72,8 +72,8 @@ struct Replacing {
 
 impl<'a> Target<'a> {
     /// Opens what is written to: standard output where no file is named, or `-`. Where a file, or none, has the name,
-    /// what is written goes to a new file beside it; else, as of a device, it goes there. `Err` has the status that the program
-    /// then ends with, and why was said on standard error.
+    /// what is written goes to a new file beside it; else, as of a device, it goes there. `Err` has the status that the
+    /// program then ends with, and why was said on standard error.
     pub fn open(
         rt: HostRuntime,
         program: &'a str,

@@ -49,8 +49,8 @@ IsBegun source (reader ∷ readers) (after ∷ readers_after) =
     ((front : List ℕ) × Consumes (source.remaining reader) (source.remaining after) front) × (readers_after ≡ readers)
 IsBegun source _ _ = ⊥
 
--- The first sources were read, each with its calls; where the next one was begun its front was read, and the others were
--- not touched.
+-- The first sources were read, each with its calls; where the next one was begun its front was read, and the others
+-- were not touched.
 abbrev pub AreRead : {R : Type 0} → SourceOf R → (whole begun : Type 0) → (readers readers_after : List R) → List Given → Type 0
 AreRead source whole begun readers readers_after [] =
     (readers_after ≡ readers) ⊎ (begun × IsBegun source readers readers_after)

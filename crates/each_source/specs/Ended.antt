@@ -36,8 +36,8 @@ abbrev pub is_over : Reached → Bool
 is_over Middle = false
 is_over _ = true
 
--- A piece went to a parser, and its calls to a performer. Where the answer is why no more is to be read, a fault is kept
--- or the writer is stuck, and else no fault is.
+-- A piece went to a parser, and its calls to a performer. Where the answer is why no more is to be read, a fault is
+-- kept or the writer is stuck, and else no fault is.
 pub record GivesOn {W P : Type 0} (receives : P → List Call → P → Type 0) (output_of : P → Output W)
     (parser : Parser Utf8Parser) (performer : P) (piece : List ℕ) (parser_after : Parser Utf8Parser) (performer_after : P)
     (stopped : Option Ended) : Type 0 where

@@ -132,9 +132,10 @@ fn stopped_by(answer: Result<(), Fault>) -> Result<(), Stopped>
 
 /// Writes the head, the text of each reader in turn, and the tail.
 ///
-/// Each reader is a stream of its own: it goes to a new parser, in pieces of at most 4096 bytes, as a reader of logs reads
-/// them ([`Parser::advance_log`](anstyle_parse::Parser::advance_log)), and to a performer of its own, which `begin` makes. A read that fails ends its stream, and the next reader goes on: whether one has
-/// failed the readers say. The writer is always handed back. The answer is
+/// Each reader is a stream of its own: it goes to a new parser, in pieces of at most 4096 bytes, as a reader of logs
+/// reads them ([`Parser::advance_log`](anstyle_parse::Parser::advance_log)), and to a performer of its own, which
+/// `begin` makes. A read that fails ends its stream, and the next reader goes on: whether one has failed the readers
+/// say. The writer is always handed back. The answer is
 ///
 /// - `Ok(())` where each reader was read to its end or to a failed read, and the flush that followed went well;
 /// - `Err(AtFault(Fault::Flush))` where that flush failed;
@@ -143,7 +144,8 @@ fn stopped_by(answer: Result<(), Fault>) -> Result<(), Stopped>
 /// - `Err(Stuck)` where what the writer holds back could not be passed on (`Sink::is_stuck`): the texts of what
 ///   was read by then were given to the writer, no more is read, and then it is flushed once, whatever that answers;
 /// - `Err(NoMemory)` where `begin` had no memory for the next stream's performer: the texts before it are written,
-///   and then the writer is flushed once, whatever that answers. Of the next stream no more is read than `begin` looks at.
+///   and then the writer is flushed once, whatever that answers. Of the next stream no more is read than `begin` looks
+///   at.
 // (out of line: a program has one for each kind of performer, and in one frame they would touch the memory of all)
 #[inline(never)]
 pub fn write_each<P: WritingPerformer<W>, B: Begin<P, W>, R: Stream, W: Sink>(

@@ -81,8 +81,8 @@ fn last_escape(bytes: &[u8]) -> Option<usize>
     None
 }
 
-/// Reads the front of a stream, as far as it has to be seen before its performer begins: to the front of this piece. The
-/// answer is how many bytes there are, and how far the source is read.
+/// Reads the front of a stream, as far as it has to be seen before its performer begins: to the front of this piece.
+/// The answer is how many bytes there are, and how far the source is read.
 pub(crate) fn read_front<P: WritingPerformer<W>, B: Begin<P, W>, R: Source, W: Sink>(
     begin: &B,
     reader: &mut R,
@@ -103,8 +103,8 @@ pub(crate) fn read_front<P: WritingPerformer<W>, B: Begin<P, W>, R: Source, W: S
     (count, Reached::Middle)
 }
 
-/// Gives a piece to the parser, and passes on what was written of it; of none nothing is done. The answer is why no more is to be read, if so: the
-/// performer's output keeps a fault, or what its writer holds back can't be passed on.
+/// Gives a piece to the parser, and passes on what was written of it; of none nothing is done. The answer is why no
+/// more is to be read, if so: the performer's output keeps a fault, or what its writer holds back can't be passed on.
 fn give<P: WritingPerformer<W>, W: Sink>(
     parser: &mut Parser<Utf8Parser>,
     performer: &mut P,
@@ -127,10 +127,10 @@ fn give<P: WritingPerformer<W>, W: Sink>(
     None
 }
 
-/// Gives what the reader gives to a new parser, as a reader of logs reads it ([`Parser::advance_log`]): the front that is
-/// read, and then pieces of at most 4096 bytes, until the reader ends or fails, the performer's output keeps a fault, or
-/// what its writer holds back can't be passed on. At most 2^64 - 1 reads are made. What was written of a piece is passed
-/// on before the next read.
+/// Gives what the reader gives to a new parser, as a reader of logs reads it ([`Parser::advance_log`]): the front that
+/// is read, and then pieces of at most 4096 bytes, until the reader ends or fails, the performer's output keeps a
+/// fault, or what its writer holds back can't be passed on. At most 2^64 - 1 reads are made. What was written of a
+/// piece is passed on before the next read.
 pub(crate) fn read_to<P: WritingPerformer<W>, R: Source, W: Sink>(
     reader: &mut R,
     performer: &mut P,

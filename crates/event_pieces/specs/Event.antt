@@ -40,7 +40,7 @@ is_set number = not (number == 0)
 abbrev pub max_intermediates : ℕ
 max_intermediates = 2
 
--- Whether a field has others behind it in its group: 1, or 0.
+-- Whether a field has others after it in its group: 1, or 0.
 abbrev pub goes_on : List ℕ → ℕ
 goes_on [] = 0
 goes_on (field ∷ fields) = 1
@@ -158,7 +158,7 @@ intermediates_of (csi_dispatch groups intermediates ignore final) = intermediate
 intermediates_of (esc_dispatch intermediates ignore final) = intermediates
 intermediates_of _ = []
 
--- The record of so many bytes of the room from a place on. A flag is 0 or 1; behind the intermediates stands 0,
+-- The record of so many bytes of the room from a place on. A flag is 0 or 1; after the intermediates stands 0,
 -- and so it does in the bytes that only fill the record.
 abbrev pub record_with : (start size kind byte : ℕ) (flag : Bool) (intermediates : List ℕ) → Event
 record_with start size kind byte flag intermediates = record {
@@ -193,7 +193,7 @@ with_length event size = record {
 abbrev pub is_text : Event → Bool
 is_text event = event.kind == text_kind
 
--- A record before others. A text and the text behind it are one record.
+-- A record before others. A text and the text after it are one record.
 abbrev pub joined : Event → List Event → List Event
 joined event [] = event ∷ []
 joined event (next ∷ events) =

@@ -71,7 +71,7 @@ pub record Suits (calls : List Call) (writer : EventWriter) : Type 0 where
   pub events_fit : writer.written + length calls ≤ length writer.events.now
   pub room_fits : writer.used + length (calls_bytes calls) ≤ length writer.room.now
 
--- A writer over these records and this room has written those of the calls. Behind them both are as they were.
+-- A writer over these records and this room has written those of the calls. After these, both are as they were.
 pub record Has (calls : List Call) (events : List Event) (room : List ℕ) (writer : EventWriter) : Type 0 where
   pub written : writer.written ≡ length (records_of 0 calls)
   pub used : writer.used ≡ length (calls_bytes calls)

@@ -61,7 +61,7 @@ pub struct Event {
     pub flag: u8,
     /// How many intermediates it has, a marker among them.
     pub intermediate_count: u8,
-    /// The intermediates; behind them 0.
+    /// The intermediates, and 0 after them.
     pub intermediates: [u8; MAX_INTERMEDIATES],
     /// Nothing: each is 0.
     pub padding: [u8; PADDING],

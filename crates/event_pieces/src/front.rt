@@ -13,7 +13,8 @@ pub(crate) const BLOCK: usize = 16;
 /// How many fields stand in so many bytes.
 pub(crate) const FIELDS_OF_A_BLOCK: usize = 5;
 
-/// Where the bytes of fields stand there: each field has two, and a zero behind them, which stands behind all of these.
+/// Where each byte of a block of fields comes from: a field has two bytes, and a zero after them. The zero is number
+/// 16, the first of the zero bytes that the sixteen bytes of the fields are shuffled with.
 const PLACES: [usize; BLOCK] = [0, 1, 16, 2, 3, 16, 4, 5, 16, 6, 7, 16, 8, 9, 16, 16];
 
 /// The first fields of a header as they stand in the room, each of them a group of its own.

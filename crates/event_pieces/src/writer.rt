@@ -84,7 +84,7 @@ impl<'a> EventWriter<'a> {
     }
 
     /// The first `count` bytes of a block. Where there is room for all of it, it is put whole: what the room has
-    /// behind them is put where it was.
+    /// after them is put where it was.
     #[inline(always)]
     fn put_front(&mut self, block: &[u8; BLOCK], count: usize)
         requires { count ≤ length block.now }
@@ -238,14 +238,15 @@ impl<'a> EventWriter<'a> {
         ensures some { OnTrue result (0 < self.now.written) }
         ensures within { OnTrue result (self.now.written ≤ length self.now.events.now) }
         ensures text { (events : List Event) (last : Event) (rest : List Event)
-            → self.now.events.now ≡ events ++ last ∷ rest → self.now.written ≡ length events + 1 → result ≡ is_text last }
+            → self.now.events.now ≡ events ++ last ∷ rest → self.now.written ≡ length events + 1
+            → result ≡ is_text last }
     {
         self.written > 0
             && self.written <= self.events.len()
             && self.events[self.written - 1].kind == TEXT
     }
 
-    /// What the room has from a place on is a text: behind another one it belongs to that one's record.
+    /// What the room has from a place on is a text: after another one it belongs to that one's record.
     #[inline(always)]
     fn note_text(&mut self, start: usize)
         ensures { NotesText start self.old self.new }

@@ -10,8 +10,8 @@ use Rattle.ansi_html.specs.Html.{html_of_a_byte, html_of_an_end}
 abbrev pub most_html : ℕ → ℕ
 most_html count = 6534 * count
 
--- Those that many bytes lead to: for each of them, and of the 1,042 that are pending at most, what a byte of a stream does, and what
--- the style and the link do that were selected before.
+-- Those that many bytes lead to: for each of them, and of the 1,042 that are pending at most, what a byte of a stream
+-- does, and what the style and the link do that were selected before.
 abbrev pub most_together : Styling → ℕ → ℕ
 most_together styling count = html_of_a_byte styling * (max_checkpoint + count) + 6457
 

@@ -66,7 +66,7 @@ zero_style = record {
   overlined = 0;
 }
 
--- the numbers of a state are zero (the bytes behind a length of 0 may be any)
+-- the numbers of a state are zero (the bytes after a length of 0 may be any)
 pub record IsZero (state : HtmlState) : Type 0 where
   pub stream : state.stream.length ≡ 0
   pub shown_style : state.shown.style ≡ zero_style

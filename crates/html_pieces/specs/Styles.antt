@@ -9,7 +9,7 @@ use Rattle.ansi_style.specs.Style.{hue_at}
 use Rattle.html_pieces.specs.declared.style.ColorBytes.{ColorBytes}
 use Rattle.html_pieces.specs.declared.style.StyleBytes.{StyleBytes}
 
--- the first byte of a list, and what is behind it
+-- the first byte of a list, and what is after it
 abbrev pub first_of : List ℕ → ℕ
 first_of [] = 0
 first_of (b ∷ bytes) = b

@@ -23,22 +23,24 @@ const CAPACITY: usize = 16384;
 /// The bytes of a piece that a call takes at most.
 const MOST_TAKEN: usize = 4096;
 
-/// How much less is tried where that did not suffice.
+/// Where the HTML of the bytes that are tried finds no room, their number is divided by this, and they are tried again.
 const SHARE: usize = 2;
 
-/// What the last bytes led to counts for a fourth less with each try that finds room.
+/// With each try that finds room `html_of_a_byte` falls by this part, a fourth, or is set to what the try led to, if
+/// that is more.
 const FADES: u8 = 4;
 
-/// A try is to leave so much of the room: an eighth.
+/// [`next_try`] plans to leave this part of the room free: an eighth.
 const LEFT: usize = 8;
 
-/// Fewer bytes than these are not tried at the end of a room.
+/// [`next_try`] plans fewer bytes than these only where no more are left of the piece; else it plans none.
 const LEAST_TRY: usize = 32;
 
-/// So many bytes of HTML are tried in a shorter buffer, where fewer bytes are cleared.
+/// The size of a shorter buffer, for few bytes of HTML. A call clears its buffer first, and a short one costs less.
 const SHORT_CAPACITY: usize = 4096;
 
-/// So many bytes of HTML for each byte of a piece are thought of for a shorter buffer.
+/// The shorter buffer is tried where it has at least so many bytes for each byte of the piece, and more where the last
+/// bytes led to more HTML.
 const SHORT_SHARE: usize = 16;
 
 impl HtmlState {
@@ -46,8 +48,8 @@ impl HtmlState {
     /// ([`advance_log`](anstyle_parse::Parser::advance_log)), and writes their HTML to the front of the room.
     ///
     /// With `Some` all of their HTML is written, and the state stands after all bytes so far. Of some bytes
-    /// at least one is taken; at most 4,096 are, and at most 16,384 bytes are written. What it costs is in proportion to
-    /// both: bytes whose HTML finds no room are few beside those that were taken. The HTML is
+    /// at least one is taken; at most 4,096 are, and at most 16,384 bytes are written. What it costs is in proportion
+    /// to both: bytes whose HTML finds no room are few beside those that were taken. The HTML is
     /// UTF-8 by itself. Past it the room is as it was.
     ///
     /// With `None` the piece is not empty and the room is below [`LEAST_ROOM`]: then nothing
@@ -75,9 +77,9 @@ impl HtmlState {
         Some(self.take_others(piece, first, room))
     }
 
-    /// Ends the stream: writes U+FFFD where a character is begun, and what closes the element that is open, if one is, to
-    /// the front of the room, and answers how many bytes that are. The state then begins a stream in the same styling.
-    /// Past it the room is as it was.
+    /// Ends the stream: writes U+FFFD where a character is begun, and what closes the element that is open, if one is,
+    /// to the front of the room, and answers how many bytes that are. The state then begins a stream in the same
+    /// styling. Past it the room is as it was.
     ///
     /// With `None` the room is below [`END_ROOM`]: then nothing was done.
     pub fn end(&mut self, room: &mut [u8]) -> Option<usize>
@@ -97,8 +99,8 @@ impl HtmlState {
         Some(put_front(room, buffer.bytes()))
     }
 
-    /// Takes the verbatim text at the front of the piece, if that is all of it, or more than half of it and more than what
-    /// surely fits, and is its own HTML. It goes to the room as it is, with no parser.
+    /// Takes the verbatim text at the front of the piece, if that is all of it, or more than half of it and more than
+    /// what surely fits, and is its own HTML. It goes to the room as it is, with no parser.
     fn take_verbatim(&self, piece: &[u8], sure: usize, room: &mut [u8]) -> Option<usize>
         requires { length piece.now ≤ length room.old }
         ensures within { IfSome result (λ taken. taken ≤ length piece.now) }
@@ -142,8 +144,8 @@ impl HtmlState {
         }
     }
 
-    /// Takes more of the piece, of which some bytes were taken, as far as it finds room. Apart, since a call clears its own
-    /// arrays, used or not.
+    /// Takes more of the piece, of which some bytes were taken, as far as it finds room. Apart, since a call clears its
+    /// own arrays, used or not.
     #[inline(never)]
     fn take_others(&mut self, piece: &[u8], first: Fed, room: &mut [u8]) -> Fed
         requires taken { first.taken ≤ length piece.now }
@@ -251,8 +253,8 @@ impl HtmlState {
     }
 }
 
-/// How many of so many bytes are tried next, in so much room, where those before led to so much HTML each: as many as
-/// would leave an eighth of it. None where that would be few and not all.
+/// How many of `bytes` bytes are tried next in this room, where each of those before led to `html_of_a_byte` bytes of
+/// HTML: as many as would leave an eighth of the room. 0 where those are few, but not all that are left.
 fn next_try(bytes: usize, room: usize, html_of_a_byte: usize) -> usize
     ensures { result ≤ bytes }
 {

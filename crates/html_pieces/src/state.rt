@@ -41,8 +41,8 @@ pub struct HtmlState {
     pub returned: u8,
     /// 1 colours for light pages, 2 for dark ones, 3 classes; any other number is colours for both.
     pub styling: u8,
-    /// How many bytes of HTML each of the last bytes led to, those before for less, or 255 for more: by it is chosen how many
-    /// are tried at once.
+    /// How many bytes of HTML a byte of the stream led to lately, at most 255. Each try that finds room lets it fall by
+    /// a fourth, or sets it to what the try led to, if that is more. How many bytes are tried at once depends on it.
     pub html_of_a_byte: u8,
 }
 
@@ -58,7 +58,7 @@ impl ElementBytes {
         }
     }
 
-    /// Holds this one.
+    /// Holds this element.
     pub(crate) fn hold(&mut self, element: Element<'_>)
         requires { length element.link.now ≤ max_link }
         ensures { held_element self.new ≡ element_in element.entry }
@@ -134,7 +134,7 @@ impl HtmlState {
         styling_at(self.styling)
     }
 
-    /// The HTML stands there.
+    /// Keeps where the HTML stands.
     pub(crate) fn save(&mut self, standing: Standing<'_>)
         requires shown { length standing.shown.link.now ≤ max_link }
         requires selected { length standing.selected.link.now ≤ max_link }

@@ -1,7 +1,7 @@
 -- Addresses in a text.
 --
 -- Sources: RFC 3986, 2 (the characters of a URI) and 3.1 (those of a scheme); GitHub Flavored Markdown, 6.9
--- ("Autolinks (extension)"), for what stands behind an address: marks at its end, and brackets that it does not open.
+-- ("Autolinks (extension)"), for what stands after an address: marks at its end, and brackets that it does not open.
 use Rattle.std.specs.Prelude.{ℕ, zero, suc, Bool, false, not, ◌||◌, ◌&&◌, nat_le, nat_lt, nat_eq, ◌==◌, List, [], ◌∷◌, ◌++◌, codes, length, take, drop, count_by, if◌then◌else◌}
 use Rattle.std.specs.List.{list_all, starts_with}
 use Rattle.anstyle_parse.specs.Stream.Bytes.{semicolon}
@@ -10,7 +10,7 @@ use Rattle.ansi_html.specs.Links.{has_scheme}
 abbrev pub is_between : (first last : ℕ) → ℕ → Bool
 is_between first last b = nat_le first b && nat_le b last
 
--- a letter, a digit, `+`, `-` or `.`: a byte of a scheme, right behind which none begins
+-- a letter, a digit, `+`, `-` or `.`: a byte of a scheme, right after which none begins
 abbrev pub is_scheme_byte : ℕ → Bool
 is_scheme_byte b =
     is_between 0x30 0x39 b
@@ -55,7 +55,7 @@ last_byte [] = 0
 last_byte (b ∷ []) = b
 last_byte (b ∷ next ∷ text) = last_byte (next ∷ text)
 
--- the last byte stands behind the address: a bracket that is not opened, or a mark
+-- the last byte stands after the address: a bracket that is not opened, or a mark
 abbrev pub is_behind : (text : List ℕ) → (last : ℕ) → Bool
 is_behind text last =
     if last == 0x29 then is_unmatched text 0x28 0x29
@@ -65,7 +65,7 @@ is_behind text last =
 abbrev pub ends_behind : (text : List ℕ) → Bool
 ends_behind text = is_behind text (last_byte text)
 
--- how many of the first bytes are the address: all, without those that stand behind it
+-- how many of the first bytes are the address: all, without those that stand after it
 abbrev pub address_length : (count : ℕ) → (text : List ℕ) → ℕ
 address_length zero text = 0
 address_length (suc count) text =
@@ -77,7 +77,7 @@ address_of text = take (address_length (length text) text) text
 abbrev pub behind_address : (text : List ℕ) → List ℕ
 behind_address text = drop (address_length (length text) text) text
 
--- A scheme, and more behind it. A separator of commands, which would part it, is not in it.
+-- A scheme, and more after it. A separator of commands, which would part it, is not in it.
 abbrev pub is_whole_byte : ℕ → Bool
 is_whole_byte b = is_uri_byte b && not (b == semicolon)
 

@@ -4,7 +4,7 @@ ghost use Rattle.std.specs.List.{list_all};
 ghost use Rattle.ansi_html.specs.Links.{has_scheme};
 ghost use Rattle.html_urls.specs.Addresses.{is_scheme_byte, is_uri_byte, begins_scheme, is_mark, is_unmatched, is_behind, ends_behind, address_length, is_whole_byte, is_address};
 
-/// Whether the byte may stand in a scheme, so that none begins right behind it.
+/// Whether the byte may stand in a scheme, so that none begins right after it.
 pub(crate) fn is_scheme_byte(byte: u8) -> bool
     ensures { result ≡ is_scheme_byte byte }
 {
@@ -96,7 +96,7 @@ fn address_length(text: &[u8]) -> usize
     0
 }
 
-/// The address, and what stands behind it.
+/// The address, and what stands after it.
 pub(crate) fn split_address(text: &[u8]) -> (&[u8], &[u8])
     ensures address { result.0.now ≡ take (address_length (length text.now) text.now) text.now }
     ensures behind { result.1.now ≡ drop (address_length (length text.now) text.now) text.now }
@@ -118,7 +118,7 @@ fn are_whole_bytes(text: &[u8]) -> bool
     text.iter().all(|byte| is_whole_byte(*byte))
 }
 
-/// Whether these are an address: a scheme, and more behind it.
+/// Whether these are an address: a scheme, and more after it.
 #[tactic(auto, unfolding(crate::specs::Addresses::is_address))]
 pub(crate) fn is_address(text: &[u8]) -> bool
     ensures { result ≡ is_address text.now }

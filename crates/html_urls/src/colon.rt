@@ -6,7 +6,7 @@ ghost use Rattle.html_urls.specs.Colon.{is_no_colon, is_of_scheme, is_end, EndsO
 /// The byte with which each scheme ends, or which stands near its end.
 const COLON: u8 = b':';
 
-/// The front of a text, up to its first colon; and what comes behind that.
+/// The front of a text, up to its first colon; and what comes after that.
 pub(crate) fn split_at_colon(text: &str) -> (&str, Option<&str>)
     ensures before { EachIs is_no_colon result.0.now }
     ensures found { IfSome result.1 (λ behind. text.now ≡ result.0.now ++ 0x3A ∷ behind.now) }
@@ -35,7 +35,7 @@ fn from_colon(bytes: &[u8]) -> &[u8]
     rest
 }
 
-/// Whether the byte may stand in a scheme, before or behind its colon.
+/// Whether the byte may stand in a scheme, before or after its colon.
 fn is_of_scheme(byte: u8) -> bool
     ensures { result ≡ is_of_scheme byte }
 {

@@ -52,7 +52,7 @@ impl Held {
         self.append(&[byte]);
     }
 
-    /// Takes these bytes behind it.
+    /// Takes these bytes after it.
     fn append(&mut self, bytes: &[u8])
         requires room { length (held_in self.old) + length bytes.now ≤ max_held }
         ensures { held_in self.new ≡ held_in self.old ++ bytes.now }

@@ -66,8 +66,8 @@ fn ran<R: Read + Drop>(rt: &HostRuntime, mode: Mode, reader: R) -> ExitCode {
     ended(rt, run(mode, &mut reader, buffered(rt.stdout())))
 }
 
-/// Says on standard error why a file was not opened, by its name as Rattle writes a text, and answers status 1. Where that can't
-/// be written nothing is done about it.
+/// Says on standard error why a file was not opened, by its name as Rattle writes a text, and answers status 1. Where
+/// that can't be written nothing is done about it.
 fn not_opened(rt: &impl Eprint, name: &str, error: io::Error) -> ExitCode
     ensures { exit_status result ≡ 1 }
 {

@@ -44,7 +44,7 @@ pub enum Request {
     Version,
 }
 
-/// What the first word asks for, whatever stands behind it: `--help` and `-h`, or `--version`.
+/// What the first word asks for, whatever stands after it: `--help` and `-h`, or `--version`.
 pub fn asked_of(first: Option<&str>) -> Option<Request>
     ensures { result ≡ asked_of (option_copied first.entry) }
 {
@@ -85,8 +85,8 @@ pub fn mode(first: Option<&str>, more: bool) -> Option<Mode>
     }
 }
 
-/// The mode that the words name: the first does, and the second names the file that is read; one that names no mode names
-/// the file. `None`, for other words, means the usage.
+/// The mode that the words name: the first does, and the second names the file that is read; one that names no mode
+/// names the file. `None`, for other words, means the usage.
 pub fn mode_named(words: &[String]) -> Option<Mode>
     ensures { result ≡ mode_in (map string_bytes words.now) }
 {

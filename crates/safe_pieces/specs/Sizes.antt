@@ -1,8 +1,8 @@
 -- How many bytes of safe text there can be.
 use Rattle.std.specs.Prelude.{◌*◌, ◌+◌, ℕ}
 
--- The bytes of safe text at most that so many bytes of a stream lead to: ten for each character and each mark. Each byte
--- makes two characters at most (U+FFFD for one that it breaks off, and its own), with a mark before each; and two
+-- The bytes of safe text at most that so many bytes of a stream lead to: ten for each character and each mark. Each
+-- byte makes two characters at most (U+FFFD for one that it breaks off, and its own), with a mark before each; and two
 -- characters wait at most.
 abbrev pub most_safe : ℕ → ℕ
 most_safe count = 40 * count + 20

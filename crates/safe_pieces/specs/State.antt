@@ -47,7 +47,7 @@ pub record StandsFor (state : SafeState) (before : List ℕ) : Type 0 where
   pub held : (calls : List Call) → AreCalls (as_read before) calls → held_in state ≡ waiting (marked_from nothing_hidden calls)
   pub hiding : (calls : List Call) → AreCalls (as_read before) calls → hiding_in state ≡ hiding_from nothing_hidden calls
 
--- the numbers of a state are zero (the bytes behind a length of 0 may be any)
+-- the numbers of a state are zero (the bytes after a length of 0 may be any)
 pub record IsZero (state : SafeState) : Type 0 where
   pub stream : state.stream.length ≡ 0
   pub before : state.before ≡ 0

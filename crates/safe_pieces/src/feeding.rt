@@ -45,8 +45,9 @@ impl SafeState {
     /// ([`advance_log`](anstyle_parse::Parser::advance_log)), and writes their safe text to the front of the room.
     ///
     /// With `Some` all of their safe text is written but for what waits for the next character, with the marks where
-    /// hidden text begins and ends, and the state stands after all bytes so far. Of some bytes at least one is taken; with 40 bytes of room for each byte of the piece, and
-    /// 40 more, all of them are. The text is UTF-8 by itself. Past it the room is as it was.
+    /// hidden text begins and ends, and the state stands after all bytes so far. Of some bytes at least one is taken;
+    /// with 40 bytes of room for each byte of the piece, and 40 more, all of them are. The text is UTF-8 by itself.
+    /// Past it the room is as it was.
     ///
     /// With `None` the piece is not empty and the room is below [`LEAST_ROOM`]: then nothing
     /// was done.
@@ -64,8 +65,9 @@ impl SafeState {
         }
     }
 
-    /// Ends the stream: writes what still waits, U+FFFD where a character is begun, and `<U+shown>` where hidden text is
-    /// not closed, to the front of the room, and answers how many bytes that are. The state then begins a stream. Past them the room is as it was.
+    /// Ends the stream: writes what still waits, U+FFFD where a character is begun, and `<U+shown>` where hidden text
+    /// is not closed, to the front of the room, and answers how many bytes that are. The state then begins a stream.
+    /// Past them the room is as it was.
     ///
     /// With `None` the room is below [`END_ROOM`]: then nothing was done.
     pub fn end(&mut self, room: &mut [u8]) -> Option<usize>

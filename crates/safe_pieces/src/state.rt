@@ -8,8 +8,8 @@ use stream_state::StreamState;
 
 /// Where a stream and its safe text stand between two pieces.
 ///
-/// Any bytes in it are a valid state, and zero bytes are one that begins a stream. It owns nothing, and may be copied or
-/// written down.
+/// Any bytes in it are a valid state, and zero bytes are one that begins a stream. It owns nothing, and may be copied
+/// or written down.
 #[repr(C)]
 #[derive(Clone, Copy)]
 pub struct SafeState {

@@ -9,7 +9,7 @@ use Rattle.safe_text.specs.Safe.{characters, written, last_written, safe_from}
 abbrev pub waits : ℕ → Bool
 waits c = c == 0x0D || c == 0x3C || is_joiner c
 
--- Whether it is decided how a character is written, by what has come after it: `<` waits behind `U` too.
+-- Whether it is decided how a character is written, by what has come after it: `<` waits after `U` too.
 unfoldable pub is_decided : ℕ → (after : List ℕ) → Bool
 is_decided c [] = not (waits c)
 is_decided c (u ∷ []) = not (c == 0x3C && u == 0x55)

@@ -14,7 +14,7 @@ held_characters Joiner = 0x200D ∷ []
 held_characters TextSelector = 0xFE0E ∷ []
 held_characters EmojiSelector = 0xFE0F ∷ []
 
--- whether they still wait behind this character: `<` does behind `U`
+-- whether they still wait after this character: `<` does after `U`
 abbrev pub goes_on : Held → ℕ → Bool
 goes_on Less c = c == 0x55
 goes_on _ c = false

@@ -16,8 +16,8 @@ abbrev pub named : List ℕ → ℕ
 named cs =
     if next_of cs == 0x68 then hides else if next_of cs == 0x73 then shows else number_from 0 cs
 
--- The characters and the marks of a text, where `<U+`, a name and `>` are the one with that name: in the midst of such a
--- one up to its `>` nothing more.
+-- The characters and the marks of a text, where `<U+`, a name and `>` are the one with that name: in the midst of such
+-- a one up to its `>` nothing more.
 abbrev pub read_from : (within : Bool) → List ℕ → List ℕ
 read_from within [] = []
 read_from true (c ∷ cs) = read_from (not (c == 0x3E)) cs

@@ -53,7 +53,7 @@ impl Held {
         }
     }
 
-    /// Whether it still waits behind this character.
+    /// Whether it still waits after this character.
     pub(crate) fn goes_on(self, c: char) -> bool
         ensures { result ≡ goes_on self c }
     {

@@ -18,8 +18,9 @@ fn is_plain(byte: u8) -> bool
     matches!(byte, 0x09..=0x0A | 0x20..=0x3B | 0x3D..=0x7E)
 }
 
-/// A bit for each of sixteen bytes, the lowest for the first: whether it is none of plain text. With 20 taken
-/// off, modulo 100, the bytes from 20 to 7E are the smallest, and with 09 taken off 09 and 0A.
+/// A bit for each of sixteen bytes, the lowest for the first: whether it is none of plain text. 0x20 is
+/// subtracted, and a byte below that wraps to 0xE0 or more: so one comparison finds what is outside of 0x20 to 0x7E. In
+/// the same way one finds what is neither 0x09 nor 0x0A.
 #[inline(always)]
 fn others(bytes: u8x16) -> u64
     ensures { result ≡ mask_l (map (λ b. not (is_plain b)) bytes) }

@@ -74,7 +74,7 @@ looks_same a b =
 unfoldable pub is_plain : Display → Bool
 is_plain d = not d.cursor.is_relative && (not d.inserts && not (draws d.cursor.charsets))
 
--- A wrap is pending behind a cell where nothing is printed.
+-- A wrap is pending after a cell where nothing is printed.
 unfoldable pub lacks_print : Display → Bool
 lacks_print d = d.cursor.column == d.width && is_erased (cell_at (row_end d - 1) d.cells)
 

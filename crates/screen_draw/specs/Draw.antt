@@ -80,7 +80,7 @@ is_fresh cell = is_erased cell && are_equal cell.style plain
 abbrev pub first_pen : Pen
 first_pen = record { is_there = false; style = plain }
 
--- the pen behind a cell; ECH leaves the cursor where it is
+-- the pen after a cell; ECH leaves the cursor where it is
 unfoldable pub pen_behind : Cell → Pen → Pen
 pen_behind cell pen =
     if is_fresh cell then record pen { is_there = false }
@@ -118,7 +118,7 @@ cells_calls width place pen [] = []
 cells_calls width place pen (cell ∷ cells) =
     cell_calls width place pen cell ++ cells_calls width (suc place) (pen_behind cell pen) cells
 
--- the pen behind them
+-- the pen after them
 abbrev pub pen_after : Pen → List Cell → Pen
 pen_after pen [] = pen
 pen_after pen (cell ∷ cells) = pen_after (pen_behind cell pen) cells
@@ -197,7 +197,7 @@ modes_calls d =
 abbrev pub margins_calls : Display → List Call
 margins_calls d = sequence ((d.top + 1) ∷ d.bottom ∷ []) 0x72 ∷ []
 
--- Behind the cells: tabs, DECSTBM, the cursor, modes.
+-- After the cells: tabs, DECSTBM, the cursor, modes.
 abbrev pub rest_calls : Display → List Call
 rest_calls d =
     plain_calls

@@ -28,8 +28,8 @@ drawn_cells d =
     then slice_set (map as_drawn d.cells) (row_end d - 1) (as_printed (cell_at (row_end d - 1) d.cells))
     else map as_drawn d.cells
 
--- the display, on which no link has begun; and the screen, on which nothing is left to REP. The terminal that shows it has
--- a picture of its own, from which on it notes what changes, and keeps that.
+-- the display, on which no link has begun; and the screen, on which nothing is left to REP. The terminal that shows it
+-- has a picture of its own, from which on it notes what changes, and keeps that.
 abbrev pub as_shown : (since : Picture) → Display → Display
 as_shown since d = record d { cells = drawn_cells d; hidden = map as_drawn d.hidden; links = 0; link = 0; shown = since }
 

@@ -30,7 +30,7 @@ erased_run style (cell ∷ cells) =
     if is_erased cell && are_equal cell.style style then suc (erased_run style cells) else 0
 
 -- How many columns are erased at once, of which the first is followed by old cells, and to be followed by others: its
--- own, those of the run, and the right half of an old wide character behind them, since a terminal may keep it where
+-- own, those of the run, and the right half of an old wide character after them, since a terminal may keep it where
 -- the left one is erased. What is to stand there is no right half, and so drawn next.
 abbrev pub erased_columns : Style → List Cell → List Cell → ℕ
 erased_columns style olds cells =
@@ -86,7 +86,7 @@ brush_after row column brush (old ∷ olds) (new ∷ news) =
     brush_after row (suc column) (brush_behind row column brush old new news) olds news
 brush_after row column brush olds news = brush
 
--- the brush with which a row begins, and where the cursor, which began at a place, stands behind so many rows
+-- the brush with which a row begins, and where the cursor, which began at a place, stands after so many rows
 abbrev pub begun_at : Place → Brush
 begun_at place = record { place = place; erased = 0 }
 

@@ -1,4 +1,4 @@
--- What a terminal is given that follows a stream: a drawing, and an update behind each piece that was read.
+-- What a terminal is given that follows a stream: a drawing, and an update after each piece that was read.
 use Rattle.std.specs.Prelude.{◌≡◌, ◌<◌, ◌≤◌, ℕ, Bool, List, [], ◌∷◌, ◌++◌, length, take, Option, None, Some, IsSome, Result, Ok, Err, ⊤, IsTrue}
 use Rattle.std.specs.List.{AllByRecursion, flat_map}
 use Rattle.std.specs.Io.KnownBytes.{Consumes, IsAtEnd}
@@ -26,7 +26,7 @@ abbrev pub updates_calls : State → List State → List Call
 updates_calls first [] = []
 updates_calls first (screen ∷ screens) = update_calls first.display screen.display ++ updates_calls screen screens
 
--- behind a drawing of the first.
+-- after a drawing of the first.
 abbrev pub followed_calls : State → List State → List Call
 followed_calls first screens = drawn_calls first.display ++ updates_calls first screens
 
@@ -58,16 +58,16 @@ most_piece = 65536
 abbrev pub IsPiece : List ℕ → Type 0
 IsPiece piece = (0 < length piece) × (length piece ≤ most_piece)
 
--- Whether what was written gets on: the output keeps no fault; or one; or none, but its writer could not pass on what it
--- holds back.
+-- Whether what was written gets on: the output keeps no fault; or one; or none, but its writer could not pass on what
+-- it holds back.
 abbrev pub GetsOn : {T : Type 0} → Result T Stopped → (fault : Option Fault) → Type 0
 GetsOn (Ok done) fault = fault ≡ None
 GetsOn (Err Stuck) fault = fault ≡ None
 GetsOn (Err (AtFault Write)) fault = IsSome fault
 GetsOn (Err (AtFault _)) fault = ⊥
 
--- Why no more was read: a write failed; or all was given to the writer, which could not pass on what it holds back; or as
--- `EndsAs` has it.
+-- Why no more was read: a write failed; or all was given to the writer, which could not pass on what it holds back; or
+-- as `EndsAs` has it.
 abbrev pub StopsBy : {T : Type 0} → Result T Stopped → (at_end : Type 0) → (fault : Option Fault)
     → (failed failed_after : Bool) → ℕ → Type 0
 StopsBy (Err Stuck) at_end fault failed failed_after count = (fault ≡ None) × (failed_after ≡ failed)
@@ -84,7 +84,7 @@ LeadsTo first bytes wanted = (old new : State) → IsScreen first.display → Ha
 -- A reader's bytes were followed, from a screen on.
 pub record Follows {R W T : Type 0} (source : SourceOf R) (sink : SinkOf W) (reader reader_after : R)
     (first last : State) (output output_after : Output W) (answer : Result T Stopped) : Type 0 where
-  -- what each read gave, and the screens behind it
+  -- what each read gave, and the screen after each
   pub pieces : List (List ℕ)
   pub screens : List State
   pub consumed : Consumes (source.remaining reader) (source.remaining reader_after) (joined pieces)
@@ -94,7 +94,7 @@ pub record Follows {R W T : Type 0} (source : SourceOf R) (sink : SinkOf W) (rea
   -- the text that was written, of which a parser makes these calls and no others
   pub written : Adds sink (canon (followed_calls first screens)) output output_after
   pub made : AreCalls (canon (followed_calls first screens)) (followed_calls first screens)
-  -- behind each piece it leads to what the bytes so far lead to
+  -- after each piece it leads to what the bytes so far lead to
   pub leads : (count : ℕ)
       → LeadsTo first (canon (followed_calls first (take count screens))) (last_of first (take count screens))
   pub stops : StopsBy answer

@@ -78,7 +78,7 @@ fn are_buffers_alike(buffer: Buffer, a: &Screen, b: &Screen) -> bool
     requires rows { a.now.display.height ≡ b.now.display.height }
     ensures { result ≡ all_two are_alike (cells_of buffer a.now.display) (cells_of buffer b.now.display) }
 {
-    // The sizes are within their limits.
+    // (for the proof: the sizes are within their limits)
     let _ = b.rows();
     for row in 0..a.rows() {
         if !are_all_alike(buffer.row(a, row), buffer.row(b, row)) {
@@ -185,7 +185,7 @@ fn is_plain(screen: &Screen) -> bool
     !screen.cursor().is_relative && !screen.inserts() && !draws(screen.cursor().charsets)
 }
 
-/// Whether a wrap is pending behind a cell where nothing is printed.
+/// Whether a wrap is pending after a cell where nothing is printed.
 #[tactic(auto, unfolding(crate::specs::Alike::lacks_print))]
 pub(crate) fn lacks_print(screen: &Screen) -> bool
     ensures { result ≡ lacks_print screen.now.display }

@@ -5,8 +5,8 @@ ghost use Rattle.screen_draw.specs.Buffers.{cells_of, saved_of};
 
 use ansi_screen::{Cell, Place, Screen};
 
-/// Of the two buffers of a screen one is shown. The other one is hidden: while the alternate screen shows, it is the main
-/// one.
+/// Of the two buffers of a screen one is shown. The other one is hidden: while the alternate screen shows, it is the
+/// main one.
 #[derive(Clone, Copy)]
 pub(crate) enum Buffer {
     Shown,

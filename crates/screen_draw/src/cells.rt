@@ -164,7 +164,7 @@ fn put_drawn<W: Sink>(output: &mut Output<W>, width: usize, place: usize, pen: P
     put_shown(output, cell);
 }
 
-/// Draws the cell at a place. The answer is the pen behind it.
+/// Draws the cell at a place. The answer is the pen after it.
 #[tactic(auto, unfolding(crate::specs::Draw::cell_calls, crate::specs::Draw::pen_behind))]
 fn put_cell<W: Sink>(
     output: &mut Output<W>,
@@ -195,7 +195,7 @@ fn put_cell<W: Sink>(
     }
 }
 
-/// Draws the cells of a row from the place on where it begins, on a screen that is blank. The answer is the pen behind
+/// Draws the cells of a row from the place on where it begins, on a screen that is blank. The answer is the pen after
 /// them.
 fn put_row<W: Sink>(
     output: &mut Output<W>,

@@ -57,8 +57,8 @@ fn erased_run(style: Style, cells: &[Cell]) -> usize
     cells.len()
 }
 
-/// How many columns are erased at once, where so many cells behind the first are to be erased too: one, these, and an
-/// old right half behind them, which a terminal may keep where its left one is erased.
+/// How many columns are erased at once, where so many cells after the first are to be erased too: one, these, and an
+/// old right half after them, which a terminal may keep where its left one is erased.
 fn erased_columns(run: usize, olds: &[Cell]) -> usize
     requires { run ≤ length olds.now }
     ensures columns { (style : Style) (cells : List Cell) → run ≡ erased_run style cells
@@ -118,7 +118,7 @@ impl Brush {
         Brush { place, erased: 0 }
     }
 
-    /// The brush behind a cell that is erased already.
+    /// The brush after a cell that is erased already.
     fn passed(self) -> Brush
         requires { 0 < self.erased }
         ensures { result ≡ record self { erased = self.erased - 1 } }
@@ -147,7 +147,7 @@ fn cell_in(cells: &[Cell], column: usize) -> &Cell
     &cells[column]
 }
 
-/// The cells behind a column.
+/// The cells after a column.
 fn cells_behind(cells: &[Cell], column: usize) -> &[Cell]
     requires { column < length cells.now }
     ensures { result.now ≡ drop (column + 1) cells.now }
@@ -155,7 +155,7 @@ fn cells_behind(cells: &[Cell], column: usize) -> &[Cell]
     &cells[column + 1..]
 }
 
-/// Draws the cell of a column, which is to be drawn. The answer is the brush behind it.
+/// Draws the cell of a column, which is to be drawn. The answer is the brush after it.
 fn put_change<W: Sink>(
     output: &mut Output<W>,
     row: usize,
@@ -240,7 +240,7 @@ fn put_rows<W: Sink>(
         output.old output.new }
     ensures place { result ≡ place_behind wanted.now.display.height start shown.now.display wanted.now.display }
 {
-    // The sizes are within their limits.
+    // (for the proof: the sizes are within their limits)
     let _ = wanted.columns();
     let (first, past) = compared.rows(wanted);
     let mut place = start;

@@ -54,8 +54,8 @@ pub fn updated()
         → (after_all (update_calls shown wanted) old).display ≡ as_shown since wanted }
 {}
 
-/// A terminal follows a stream: the calls of a drawing, and of an update behind each piece, lead every screen of the
-/// size to the one that all pieces lead to; and so behind each of the pieces, since these may be any.
+/// A terminal follows a stream: the calls of a drawing, and of an update after each piece, lead every screen of the
+/// size to the one that all pieces lead to; and so after each of the pieces, since these may be any.
 pub fn followed()
     ensures shown { (first old : State) (pieces : List (List ℕ)) (screens : List State)
         → IsScreen first.display → HasContents first.display
@@ -83,7 +83,7 @@ pub fn same_text()
 {}
 
 /// What differs from a screen that is shown stays noted: where a screen has noted all in which it differs from the one
-/// that is shown, it has behind any calls.
+/// that is shown, it has after any calls.
 pub fn noted()
     ensures { (calls : List Call) (screen : State) (shown : Display) → IsSized screen.display
         → IsShownOf screen.display shown → IsShownOf (after_all calls screen).display shown }

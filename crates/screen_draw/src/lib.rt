@@ -1,5 +1,5 @@
 //! Draws a screen: bytes after which a terminal shows it, whatever it showed before; and updates: bytes that lead from
-//! one screen to another. So a terminal follows a stream, behind each piece of which only what differs is written:
+//! one screen to another. So a terminal follows a stream, after each piece of which only what differs is written:
 //!
 //! ```
 //! wanted.forget();
@@ -53,7 +53,7 @@ use whole::{put_all, put_update};
 /// what is saved, tabs, margins, modes, and the cursor with its style. No memory is taken.
 ///
 /// Not drawn are links, what REP would repeat, and whether a row goes on in the next. A space stands as a printed one
-/// where nothing was printed: where half of a wide character was lost, where marks came behind nothing, and in
+/// where nothing was printed: where half of a wide character was lost, where marks came after nothing, and in
 /// the last column, where a wrap is pending.
 pub fn draw<W: Sink>(screen: &Screen, output: &mut Output<W>)
     // It adds the canonical text of these calls.
@@ -67,13 +67,15 @@ pub fn draw<W: Sink>(screen: &Screen, output: &mut Output<W>)
     // stream leads to has these premises (`ansi_screen::laws::reachable`, `contents`).
     ensures redrawn { (old new : State) → IsScreen screen.now.display → HasContents screen.now.display
         → old.display.width ≡ screen.now.display.width → old.display.height ≡ screen.now.display.height
-        → Shows old (canon (drawn_calls screen.now.display)) new → new ≡ drawn_state old.display.shown screen.now.display }
+        → Shows old (canon (drawn_calls screen.now.display)) new
+        → new ≡ drawn_state old.display.shown screen.now.display }
 
-    // So it does behind any bytes, also where these have begun a string or a character.
+    // So it does after any bytes, also where these have begun a string or a character.
     ensures anywhere { (before : List ℕ) (old new : State) → IsScreen screen.now.display
         → HasContents screen.now.display → IsScreen old.display
         → old.display.width ≡ screen.now.display.width → old.display.height ≡ screen.now.display.height
-        → Shows old (before ++ canon (drawn_calls screen.now.display)) new → new ≡ drawn_state old.display.shown screen.now.display }
+        → Shows old (before ++ canon (drawn_calls screen.now.display)) new
+        → new ≡ drawn_state old.display.shown screen.now.display }
 
     // They print what is shown, and have no controls but SO and SI, and no strings.
     ensures only { AllByRecursion IsDrawing (drawn_calls screen.now.display) }
@@ -89,7 +91,7 @@ pub fn draw<W: Sink>(screen: &Screen, output: &mut Output<W>)
 /// Of cells only those are drawn that differ; and where a wrap is to be pending, the last character of the cursor's row
 /// once more, unless the cursor stands there already. Where more differs than cells, margins, the cursor with its
 /// style, DECAWM and DECTCEM, as where the alternate screen comes, all is drawn, without a reset; so it is, unless
-/// nothing differs, where one of them has origin mode, IRM or line drawing, or in the shown one a wrap is pending behind
+/// nothing differs, where one of them has origin mode, IRM or line drawing, or in the shown one a wrap is pending after
 /// what is erased. No memory is taken.
 ///
 /// Not drawn is what [`draw`] doesn't draw.

@@ -1,4 +1,4 @@
-//! What is drawn behind the cells: tabs, margins, the cursor, modes.
+//! What is drawn after the cells: tabs, margins, the cursor, modes.
 ghost use Rattle.std.specs.Prelude.{◌≡◌, ◌+◌, ◌<◌, ◌≤◌, ◌∷◌, [], length};
 ghost use Rattle.ansi_screen.specs.Display.{most_columns, most_rows, IsSized};
 ghost use Rattle.screen_draw.specs.Draw.{sequence, escape, stop_calls, stops_calls, is_last_wide, last_cell, last_column, cursor_calls, modes_calls, margins_calls, rest_calls};

@@ -1,4 +1,4 @@
-//! Updates, behind each piece of a stream.
+//! Updates, after each piece of a stream.
 ghost use Rattle.std.specs.Prelude.{◌≡◌, ◌++◌, [], ℕ, List, None};
 ghost use Rattle.anstyle_parse.specs.Io.Output.{fault_in, Adds};
 ghost use Rattle.anstyle_parse.specs.Views.Accumulator.{front_of};
@@ -15,15 +15,15 @@ use anstyle_parse::{Parser, Utf8Parser};
 /// The bytes that one read is asked for: as many as a pipe of Linux holds.
 const PIECE: usize = 65_536;
 
-/// In the time in which a byte is taken as many cells are copied. At 120x40 a cell took 0.5 ns, and a byte of short
+/// How many cells are copied in the time in which a byte is taken. At 120x40 a cell took 0.5 ns, and a byte of short
 /// sequences 4.4.
 const CELLS_A_BYTE: usize = 8;
 
-/// Of so many cells two screens take 1 MB, which a processor holds near. Where there are more, a cell took 3.3 ns at 300x100,
-/// and 8 at 1000x1000, which is counted as a byte.
+/// Of so many cells two screens take 1 MB, which a processor holds near. Where there are more, a cell took 3.3 ns at
+/// 300x100, and 8 at 1000x1000, which is counted as a byte.
 const NEAR_CELLS: usize = 13_000;
 
-/// In the time in which a parser is copied as many cells are.
+/// How many cells are copied in the time in which a parser is copied.
 const PARSER_CELLS: usize = 64;
 
 /// Whether less time goes by where a screen comes to this one by [`Screen::catch_up`], and a parser is copied, than
@@ -87,11 +87,13 @@ fn hand_on<W: Sink>(output: &mut Output<W>) -> Result<(), Stopped>
 }
 
 /// Draws a screen, and after each read of at most 65,536 bytes the update to the screen that all bytes so far lead
-/// to, until the reader ends or fails, or a write fails, of which none has before, or what the writer holds back can't be
-/// passed on. What was written is handed on before the next read. At most 2^64 - 1 reads are made. No memory is taken.
+/// to, until the reader ends or fails, or a write fails, of which none has before, or what the writer holds back can't
+/// be passed on. What was written is handed on before the next read. At most 2^64 - 1 reads are made. No memory is
+/// taken.
 ///
-/// `wanted` takes the bytes. Of both screens only that is compared and drawn which `wanted` has noted since the read before,
-/// to the column. Then that is copied; or, where it is many cells for the bytes of the read, `shown` takes these too.
+/// `wanted` takes the bytes. Of both screens only that is compared and drawn which `wanted` has noted since the read
+/// before, to the column. Then that is copied; or, where it is many cells for the bytes of the read, `shown` takes
+/// these too.
 ///
 /// Both screens are the one that is drawn first; in the end `wanted` has the last one. The answer is
 ///
@@ -121,7 +123,7 @@ pub fn update_to_end<R: Source, W: Sink>(
             Some(0) => return Ok(()),
             Some(count) => {
                 wanted.forget();
-                // The sizes are within their limits.
+                // (for the proof: the sizes are within their limits)
                 let _ = wanted.columns();
                 parser.advance_texts(wanted, &piece[..count]);
                 update_noted(shown, wanted, output);

@@ -26,7 +26,7 @@ place_of number links = slice_index_or links (number % most_kept) (kept 0 [])
 unfoldable pub link_at : ℕ → List Kept → List ℕ
 link_at number links = if (place_of number links).number == number then (place_of number links).link else []
 
--- a command, where the link of this number is in force behind it
+-- a command, where the link of this number is in force after it
 unfoldable pub links_after : ℕ → List (List ℕ) → List Kept → List Kept
 links_after number parts links =
     if is_link_command parts && not (number == 0)

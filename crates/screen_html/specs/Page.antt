@@ -10,8 +10,8 @@ use Rattle.screen_text.specs.Lines.{rows_text, open_after, closing}
 use Rattle.screen_html.specs.Links.{Kept, links_after}
 use Rattle.screen_html.specs.Shown.{rows_styled, closing_styled}
 
--- the rows up to the last in which something was printed, in the styles of their cells and in the links that are kept; a
--- line that is open at the end is ended
+-- the rows up to the last in which something was printed, in the styles of their cells and in the links that are kept;
+-- a line that is open at the end is ended
 abbrev pub page_styled : List Kept → Display → List Styled
 page_styled links d = rows_styled links (printed_rows d) ++ closing_styled (open_after false (printed_rows d))
 
@@ -22,7 +22,8 @@ page_html styling links d = all_html styling (page_styled links d)
 abbrev pub page_text : Display → List ℕ
 page_text d = rows_text (printed_rows d) ++ closing (open_after false (printed_rows d))
 
--- The links that are kept after a call that has led to this screen: a command may have begun one, whose number is then in force.
+-- The links that are kept after a call that has led to this screen: a command may have begun one, whose number is then
+-- in force.
 abbrev pub links_by : Call → State → List Kept → List Kept
 links_by (osc_dispatch parts bell_terminated) s links = links_after s.display.link parts links
 links_by call s links = links

@@ -39,7 +39,7 @@ row_styled links row =
 abbrev pub rows_styled : List Kept → List (List Cell) → List Styled
 rows_styled links rows = flat_map (row_styled links) rows
 
--- the rows that leave a screen, each with the links that are kept as it leaves; and the links behind them
+-- the rows that leave a screen, each with the links that are kept as it leaves; and the links after them
 abbrev pub handed_styled : List Kept → List Handed → List Styled
 handed_styled links [] = []
 handed_styled links (leaving row ∷ others) = row_styled links row ++ handed_styled links others

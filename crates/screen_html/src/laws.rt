@@ -30,11 +30,12 @@ pub fn last_links()
         → link_at (length earlier + 1) (numbered 1 (earlier ++ parts ∷ later) before) ≡ [] }
 {}
 
-/// The HTML of what a screen shows: reading it gives each cell's characters with the declarations of its style or its classes,
-/// and its link (`read_back`), and so the text of the rows that show (`text`). With the links of the stream that led there, each
-/// begins with https://, http:// or mailto: (`links`), and it has at most 6527 bytes for each byte of the text, and 11 more
-/// (`bound`). From a new screen on its lines are those of the text, no markup comes in (`grammar`), and it is UTF-8. Where no row
-/// has left and the main screen shows, it is all that `convert_shown` writes (`whole`).
+/// The HTML of what a screen shows: reading it gives each cell's characters with the declarations of its style or its
+/// classes, and its link (`read_back`), and so the text of the rows that show (`text`). With the links of the stream
+/// that led there, each begins with https://, http:// or mailto: (`links`), and it has at most 6527 bytes for each byte
+/// of the text, and 11 more (`bound`). From a new screen on its lines are those of the text, no markup comes in
+/// (`grammar`), and it is UTF-8. Where no row has left and the main screen shows, it is all that `convert_shown` writes
+/// (`whole`).
 pub fn page()
     ensures read_back { (styling : Styling) (links : List Kept) (d : Display)
         → read (page_html styling links d) ≡ all_shown styling (page_styled links d) }
@@ -47,7 +48,8 @@ pub fn page()
         ≤ 6527 * length (page_text (after_all calls s).display) + 11 }
     ensures lines { (styling : Styling) (columns rows : ℕ) (bytes : List ℕ) (calls : List Call) → AreCalls bytes calls
         → drawn (page_html styling (all_links calls (new_state columns rows) no_links)
-        (after_all calls (new_state columns rows)).display) ≡ page_text (after_all calls (new_state columns rows)).display }
+        (after_all calls (new_state columns rows)).display)
+        ≡ page_text (after_all calls (new_state columns rows)).display }
     ensures grammar { (styling : Styling) (columns rows : ℕ) (bytes : List ℕ) (calls : List Call) → AreCalls bytes calls
         → IsFragment styling (page_html styling (all_links calls (new_state columns rows) no_links)
         (after_all calls (new_state columns rows)).display) }

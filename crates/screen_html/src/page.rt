@@ -21,7 +21,8 @@ fn put_rows<W: Sink>(
     count: usize,
 ) -> bool
     requires { count ≤ screen.now.display.height }
-    ensures rows { WritesStyled W.Sink writer.old (rows_styled links.now (first_rows count screen.now.display)) writer.new }
+    ensures rows { WritesStyled W.Sink writer.old (rows_styled links.now (first_rows count screen.now.display))
+        writer.new }
     ensures open { result ≡ open_after false (first_rows count screen.now.display) }
 {
     let mut is_open = false;
@@ -33,10 +34,10 @@ fn put_rows<W: Sink>(
     is_open
 }
 
-/// Writes the rows that a screen shows, as [`convert_shown`](crate::convert_shown) writes those that still show at the end of
-/// a stream, but not the main screen's where the alternate one shows: each up to the last cell in which something was printed,
-/// with a line feed, and a row that goes on and the next one as one line; without the rows at the end in which nothing was
-/// printed. Cells have the links of this table.
+/// Writes the rows that a screen shows, as [`convert_shown`](crate::convert_shown) writes those that still show at the
+/// end of a stream, but not the main screen's where the alternate one shows: each up to the last cell in which
+/// something was printed, with a line feed, and a row that goes on and the next one as one line; without the rows at
+/// the end in which nothing was printed. Cells have the links of this table.
 pub fn write_screen<W: Sink>(
     screen: &Screen,
     links: &LinkTable,

@@ -55,8 +55,8 @@ impl LinkMemory {
 /// The links of a stream by the numbers that a screen gives them: the last 1,024 that began.
 #[derive(Drop)]
 pub struct LinkTable {
-    /// A link's place is its number modulo `MOST_KEPT`. Those past the last place that had a link keep none: there is memory
-    /// for them, which is not written.
+    /// A link's place is its number modulo `MOST_KEPT`. Those past the last place that had a link keep none: there is
+    /// memory for them, which is not written.
     places: Vec<Place>,
     none: Link,
 }
@@ -128,7 +128,7 @@ impl LinkTable {
         }
     }
 
-    /// Keeps the link of a command, behind which the one of this number is in force.
+    /// Keeps the link of a command, after which the one of this number is in force.
     #[tactic(auto, unfolding(crate::specs::Links::links_after))]
     pub fn take_command(&mut self, number: u32, parts: &[&[u8]])
         ensures { self.new ≡ links_after number (map (λ part. part.now) parts.now) self.old }

@@ -89,8 +89,8 @@ fn mark_count(marks: &Marks) -> u8
     }
 }
 
-/// 0 where a cell has no marks and the terminal's own background, as most have: bits, so that those of many cells are soon
-/// put together.
+/// 0 where a cell has no marks and the terminal's own background, as most have: bits, so that those of many cells are
+/// soon put together.
 #[inline(always)]
 fn beside(cell: &Cell) -> u8
     ensures { result ≡ 0 → IsPlain (kind_of cell.now.style.foreground) cell.now }
@@ -117,7 +117,8 @@ fn with_foreground(cell: &Cell, foreground: ColorBytes) -> CellBytes
     }
 }
 
-/// Writes the bytes of a cell where that is soon done: where it is such a cell, and its foreground has a number at most.
+/// Writes the bytes of a cell where that is soon done: where it is such a cell, and its foreground has a number at
+/// most.
 #[inline(always)]
 pub(crate) fn put_plain(cell: &Cell, room: &mut CellBytes) -> bool
     ensures written { OnTrue result (cell_in room.new ≡ cell.now) }
@@ -169,8 +170,8 @@ pub(crate) fn put_cell(cell: &Cell, room: &mut CellBytes)
     }
 }
 
-/// 0 where all cells have no marks and the terminal's own background; and a number that is at least that of each foreground's
-/// kind.
+/// 0 where all cells have no marks and the terminal's own background; and a number that is at least that of each
+/// foreground's kind.
 #[inline(always)]
 fn kinds(cells: &[Cell]) -> (u8, u8)
     ensures { result.0 ≡ 0 → All (IsPlain result.1) cells.now }

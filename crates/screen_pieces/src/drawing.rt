@@ -48,8 +48,8 @@ impl Terminal {
     ghost use Rattle.screen_pieces.specs.Terminal.{display_of};
 
     /// Writes the bytes after which any terminal of its size shows what it shows to the front of the room, and answers
-    /// how many there are. `Err` has 0 where memory is wanting, which is taken while they are made; and else how many bytes
-    /// there are, which the room has not; then what stands in the room does not count.
+    /// how many there are. `Err` has 0 where memory is wanting, which is taken while they are made; and else how many
+    /// bytes there are, which the room has not; then what stands in the room does not count.
     pub fn draw(&self, alloc: Global, room: &mut [u8]) -> Result<usize, usize>
         ensures text { IfOk result (HasText (drawing_of (display_of self.now)) room.old room.new) }
         ensures refused { IfErr result
@@ -61,10 +61,11 @@ impl Terminal {
         }
     }
 
-    /// The same with the bytes after which a terminal that shows this screen shows `wanted`. `Err` also has 0 where they
-    /// have different sizes.
+    /// The same with the bytes after which a terminal that shows this screen shows `wanted`. `Err` also has 0 where
+    /// they have different sizes.
     pub fn update(&self, alloc: Global, wanted: &Terminal, room: &mut [u8]) -> Result<usize, usize>
-        ensures text { IfOk result (HasText (update_of (display_of self.now) (display_of wanted.now)) room.old room.new) }
+        ensures text { IfOk result (HasText (update_of (display_of self.now) (display_of wanted.now))
+            room.old room.new) }
         ensures refused { IfErr result (λ needed. (needed ≡ 0)
             ⊎ LacksRoom (update_of (display_of self.now) (display_of wanted.now)) room.old needed) }
     {

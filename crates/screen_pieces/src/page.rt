@@ -37,10 +37,10 @@ fn page(alloc: Global, screen: &Screen, links: &LinkTable, styling: Styling) -> 
 impl Terminal {
     ghost use Rattle.screen_pieces.specs.Terminal.{links_of};
 
-    /// Writes what it shows as HTML to the front of the room, in the styling of a number: 1 for light pages, 2 for dark ones, 3
-    /// by classes, and any other for both. It answers how many bytes there are. `Err` has 0 where memory is wanting, which is
-    /// taken while they are made; and else how many bytes there are, which the room has not; then what stands in the room does
-    /// not count.
+    /// Writes what it shows as HTML to the front of the room, in the styling of a number: 1 for light pages, 2 for dark
+    /// ones, 3 by classes, and any other for both. It answers how many bytes there are. `Err` has 0 where memory is
+    /// wanting, which is taken while they are made; and else how many bytes there are, which the room has not; then
+    /// what stands in the room does not count.
     pub fn html(&self, alloc: Global, styling: u8, room: &mut [u8]) -> Result<usize, usize>
         ensures text { IfOk result (HasText (html_of styling self.now) room.old room.new) }
         ensures refused { IfErr result
@@ -52,9 +52,9 @@ impl Terminal {
         }
     }
 
-    /// Writes the URI of a link to the front of the room, and answers how many bytes it has; none where no link of the number
-    /// is kept, or its URI is not one that is shown. `Err` has how many bytes there are, which the room has not; then what stands
-    /// in the room does not count.
+    /// Writes the URI of a link to the front of the room, and answers how many bytes it has; none where no link of the
+    /// number is kept, or its URI is not one that is shown. `Err` has how many bytes there are, which the room has not;
+    /// then what stands in the room does not count.
     pub fn link_uri(&self, number: u32, room: &mut [u8]) -> Result<usize, usize>
         ensures text { IfOk result (HasText (link_at number (links_of self.now)) room.old room.new) }
         ensures refused { IfErr result (LacksRoom (link_at number (links_of self.now)) room.old) }

@@ -82,8 +82,8 @@ impl Terminal {
         true
     }
 
-    /// Writes the cell as [`Terminal::put_cell`] does, where that is soon done: where it has no marks, the terminal's own
-    /// background, and a foreground that has a number at most. False anywhere else, and nothing is written.
+    /// Writes the cell as [`Terminal::put_cell`] does, where that is soon done: where it has no marks, the terminal's
+    /// own background, and a foreground that has a number at most. False anywhere else, and nothing is written.
     #[inline(always)]
     pub fn put_plain_cell(&self, row: usize, column: usize, room: &mut CellBytes) -> bool
         ensures cell { OnTrue result (HasCell row column room.new self.now) }
@@ -108,9 +108,9 @@ impl Terminal {
         true
     }
 
-    /// Writes the text of a row, counted from 0, without the blanks at its end to the front of the room, and answers how
-    /// many bytes it has. `Err` has 0 where there is no such row, and else how many bytes the text has, which the room
-    /// has not; then what stands in the room does not count.
+    /// Writes the text of a row, counted from 0, without the blanks at its end to the front of the room, and answers
+    /// how many bytes it has. `Err` has 0 where there is no such row, and else how many bytes the text has, which the
+    /// room has not; then what stands in the room does not count.
     pub fn row_text(&self, row: usize, room: &mut [u8]) -> Result<usize, usize>
         ensures text { IfOk result (HasText (text_of_row row (display_of self.now)) room.old room.new) }
         ensures refused { IfErr result
@@ -122,8 +122,8 @@ impl Terminal {
         put_text(self.screen().row(row), room)
     }
 
-    /// The same with the cells of a row from the column `start` up to the column `end`, blanks too. `Err` also has 0 where
-    /// there are no such columns.
+    /// The same with the cells of a row from the column `start` up to the column `end`, blanks too. `Err` also has 0
+    /// where there are no such columns.
     pub fn part_text(
         &self,
         row: usize,
@@ -143,8 +143,8 @@ impl Terminal {
         writer.answer()
     }
 
-    /// The same with all of the screen: each row without the blanks at its end, and a line feed, without the blank rows at
-    /// the end.
+    /// The same with all of the screen: each row without the blanks at its end, and a line feed, without the blank rows
+    /// at the end.
     pub fn text(&self, room: &mut [u8]) -> Result<usize, usize>
         ensures text { IfOk result (HasText (text_of (display_of self.now)) room.old room.new) }
         ensures refused { IfErr result (LacksRoom (text_of (display_of self.now)) room.old) }

@@ -52,8 +52,8 @@ fn have_same_modes(a: &Screen, b: &Screen) -> bool
 impl Terminal {
     ghost use Rattle.screen_pieces.specs.Terminal.{display_of};
 
-    /// Whether it shows what the other one shows: as many columns and rows, the same cells, the cursor, with the style of
-    /// what comes next, and modes.
+    /// Whether it shows what the other one shows: as many columns and rows, the same cells, the cursor, with the style
+    /// of what comes next, and modes.
     pub fn shows_same(&self, other: &Terminal) -> bool
         ensures { Decides result (ShowSame (display_of self.now) (display_of other.now)) }
     {

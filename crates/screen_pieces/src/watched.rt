@@ -11,7 +11,8 @@ pub(crate) struct Watched {
     pub(crate) links: LinkTable,
 }
 
-/// A call does to the screen what it does; and a command is told to the links, with the number of the link then in force.
+/// A call does to the screen what it does; and a command is told to the links, with the number of the link then in
+/// force.
 impl Perform for Watched {
     ghost use Rattle.screen_pieces.specs.Watched.{Watches};
 

@@ -8,7 +8,7 @@ use Rattle.ansi_screen.specs.Cells.{is_right}
 use Rattle.ansi_screen.specs.Text.{is_unprinted, goes_on, used}
 use Rattle.safe_text.specs.Marks.{mark_between}
 
--- the characters of no column that came behind a cell's own
+-- the characters of no column that came after a cell's own
 abbrev pub marks_of : Marks → List ℕ
 marks_of Unmarked = []
 marks_of (One first) = first ∷ []

@@ -6,8 +6,8 @@ use Rattle.screen_text.specs.declared.option.NoSize.{NoSize}
 use Rattle.screen_text.specs.declared.recording.ShownSize.{ShownSize}
 use Rattle.screen_text.specs.declared.recording.ShownSize.TheVariants.{Recorded, Fixed}
 
--- The size of the screen that is asked for, by the text behind the option: with no option no screen is; with
--- nothing behind it, that which the stream says; and else the one that is said behind =, where a text says one.
+-- The size of the screen that is asked for, by the text after the option: with no option no screen is; with
+-- nothing after it, that which the stream says; and else the one that is said after =, where a text says one.
 abbrev pub IsAsked : (behind : Option (List ℕ)) → Result (Option ShownSize) NoSize → Type 0
 IsAsked None asked = asked ≡ Ok None
 IsAsked (Some []) asked = asked ≡ Ok (Some Recorded)

@@ -1,7 +1,7 @@
 -- The size of the terminal of which script(1) made a recording: the first line of the recording says it.
 --
--- Source: util-linux, term-utils/script.c, `log_start`: the first line ends with ` COLUMNS="%d" LINES="%d"]` where script
--- stands on a terminal, after words in the user's language, and else it says no size.
+-- Source: util-linux, term-utils/script.c, `log_start`: the first line ends with ` COLUMNS="%d" LINES="%d"]` where
+-- script stands on a terminal, after words in the user's language, and else it says no size.
 use Rattle.std.specs.Prelude.{◌≡◌, ℕ, ◌+◌, ◌-◌, ◌*◌, ◌==◌, ◌&&◌, ◌||◌, nat_le, nat_eq, Bool, true, List, [], ◌∷◌, length, take, drop, codes, Option, None, Some, if◌then◌else◌}
 use Rattle.std.specs.List.{starts_with, list_any}
 use Rattle.std.specs.Option.{option_or, unwrap_or}
@@ -25,8 +25,8 @@ first_line (b ∷ bytes) = if b == 0x0A then [] else b ∷ first_line bytes
 unfoldable pub after_text : (text bytes : List ℕ) → Option (List ℕ)
 after_text text bytes = if starts_with nat_eq bytes text then Some (drop (length text) bytes) else None
 
--- The number that digits at the front say in decimal, and what follows them. A number past the limits of a screen is not
--- read on: what follows is then a digit, which no size has there.
+-- The number that digits at the front say in decimal, and what follows them. A number past the limits of a screen is
+-- not read on: what follows is then a digit, which no size has there.
 abbrev pub is_digit_of : (number b : ℕ) → Bool
 is_digit_of number b = nat_le 0x30 b && nat_le b 0x39 && nat_le number most_columns
 

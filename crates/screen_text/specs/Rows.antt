@@ -10,7 +10,7 @@ use Rattle.ansi_screen.specs.declared.cell.Cell.{Cell}
 use Rattle.ansi_screen.specs.After.{State, after}
 use Rattle.ansi_screen.specs.Leaving.{rows_left}
 
--- what is handed on by a screen: a row, or a command by its parts, with the number of the link in force behind it
+-- what is handed on by a screen: a row, or a command by its parts, with the number of the link in force after it
 pub data Handed : Type 0 where
   leaving : List Cell → Handed
   command : ℕ → List (List ℕ) → Handed

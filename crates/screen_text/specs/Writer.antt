@@ -16,7 +16,7 @@ rows_of performer = taker_of performer.scrolling
 abbrev pub screen_of : {R : Type 0} → ShownWriter R → State
 screen_of performer = scrolling_screen performer.scrolling
 
--- what it writes by a list of calls, as it stands, and at the end behind them
+-- what it writes by a list of calls, as it stands, and at the end after them
 abbrev pub text_from : {R S : Type 0} → (standing_in : R → S) → (row_text : S → List Cell → List ℕ)
     → (after_row : S → List Cell → S) → (after_command : S → ℕ → List (List ℕ) → S) → ShownWriter R → List Call → List ℕ
 text_from standing_in row_text after_row after_command performer calls =

@@ -6,14 +6,14 @@ ghost use Rattle.screen_text.specs.Recording.{CanBeShown};
 use crate::recording::ShownSize;
 use ansi_screen::Size;
 
-/// The option; a size may follow behind `=`.
+/// The option; a size may follow after `=`.
 pub const SHOWN: &str = "--shown";
 
-/// A text behind the option says no size.
+/// A text after the option says no size.
 #[derive(Clone, Copy, Debug, PartialEq, Eq)]
 pub struct NoSize;
 
-/// The size of the screen that is asked for, by the text behind the option: with none no screen is, and with an
+/// The size of the screen that is asked for, by the text after the option: with none no screen is, and with an
 /// empty one it is that which the stream says.
 pub fn screen_size(behind: Option<&str>) -> Result<Option<ShownSize>, NoSize>
     ensures asked { IsAsked (option_copied behind.entry) result }

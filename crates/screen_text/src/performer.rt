@@ -10,8 +10,8 @@ use ansi_screen::{Screen, Scrolling, TakeCommand, TakeRow};
 use anstyle_parse::io::{Output, Sink, WritingPerformer};
 use anstyle_parse::{Params, Perform, PerformText};
 
-/// Gives each row of a screen's main screen to a writer of rows as it leaves, and when it hands its output back the rows
-/// that still show, as [`write_shown`](crate::write_shown) says.
+/// Gives each row of a screen's main screen to a writer of rows as it leaves, and when it hands its output back the
+/// rows that still show, as [`write_shown`](crate::write_shown) says.
 ///
 /// No memory is taken. A write that fails stops the writing: the fault is kept.
 #[derive(Drop)]
@@ -125,8 +125,8 @@ impl<W: Sink, R: WriteRows<W>> WritingPerformer<W> for ShownWriter<R> {
         rows.into_output()
     }
 
-    ghost adds = { adds-shown W.Sink R.takes R.takes_command R.passes_on R.output_in R.standing_in R.row_text R.after_row
-        R.after_command R.writes_row R.writes_command R.writes_nothing };
+    ghost adds = { adds-shown W.Sink R.takes R.takes_command R.passes_on R.output_in R.standing_in R.row_text
+        R.after_row R.after_command R.writes_row R.writes_command R.writes_nothing };
 
     ghost ends = { λ old calls new shows _.
         ends-shown W.Sink R.takes R.takes_command R.passes_on R.output_in R.standing_in R.row_text R.after_row

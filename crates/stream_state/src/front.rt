@@ -6,10 +6,10 @@ use std::simd::prelude::*;
 /// How many bytes are put at once.
 const CHUNK: usize = 16;
 
-/// The number of each of them.
+/// The place of each byte in a chunk.
 const NUMBERS: [u8; CHUNK] = [0, 1, 2, 3, 4, 5, 6, 7, 8, 9, 10, 11, 12, 13, 14, 15];
 
-/// The first `count` bytes of a chunk, and behind them those that another one has there.
+/// The first `count` bytes of a chunk, and after them those that another one has there.
 #[inline(always)]
 fn with_front(front: &[u8; CHUNK], count: usize, behind: &[u8; CHUNK]) -> [u8; CHUNK]
     requires { count ≤ length front.now }
@@ -21,8 +21,8 @@ fn with_front(front: &[u8; CHUNK], count: usize, behind: &[u8; CHUNK]) -> [u8; C
         .to_array()
 }
 
-/// Puts the first `count` bytes of a chunk at the front of a place of the same size. What the place has behind them
-/// stays. No copy asks how many they are.
+/// Puts the first `count` bytes of a chunk at the front of a place of the same size. What the place has after them
+/// stays. The whole place is written, so the copy has a fixed length, whatever `count` is.
 #[inline(always)]
 pub fn put_over(place: &mut [u8], front: &[u8; CHUNK], count: usize)
     requires same_size { length place.old ≡ length front.now }

@@ -45,8 +45,8 @@ impl<'a> LentBytes<'a> {
         self.written = end;
     }
 
-    /// Holds as many of these bytes as there is room for, which is not for all, and answers how many: `None` where there is
-    /// no room. It is out of line, since mostly there is room for all.
+    /// Holds as many of these bytes as there is room for, which is not for all, and answers how many: `None` where
+    /// there is no room. It is out of line, since mostly there is room for all.
     #[inline(never)]
     fn hold_front(&mut self, bytes: &[u8]) -> Option<usize>
         requires over { limit_of self.old < length (held_in self.old) + length bytes.now }

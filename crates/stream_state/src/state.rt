@@ -47,7 +47,8 @@ impl StreamState {
         parser
     }
 
-    /// Leads a new parser to where the stream stands, in its place: it is large to copy. Nothing is done with its calls.
+    /// Leads a new parser to where the stream stands, in its place: it is large to copy. Nothing is done with its
+    /// calls.
     #[inline(always)]
     pub fn resume_in(&self, parser: &mut Parser)
         ensures { (before : List ℕ) → IsAfter front_of parser.old [] → StandsFor self.now before
@@ -65,7 +66,7 @@ impl StreamState {
         self.resume().is_in_char()
     }
 
-    /// Stands where the parser stands.
+    /// Keeps where the parser stands.
     pub fn save(&mut self, parser: &Parser)
         requires { (before : List ℕ) × IsAfter front_of parser.now before }
         ensures { (before : List ℕ) → IsAfter front_of parser.now before

@@ -2,7 +2,7 @@
 //!
 //! A [`StreamState`](stream_state::StreamState) says where the stream stands; [`feed`] takes bytes of a piece
 //! and writes their text into a slice, and [`end`] what the end leads to. No memory is taken, and no input
-//! is refused. Behind it a [`LineState`] drops each carriage return right before a line feed.
+//! is refused. After that a [`LineState`] can drop each carriage return right before a line feed.
 //!
 //! ```
 //! let mut state = StreamState::new();

@@ -18,7 +18,8 @@ pub const LINE_END_ROOM: usize = 1;
 
 /// Where a text stands between two pieces, each of whose carriage returns right before a line feed goes.
 ///
-/// Any byte in it is a valid state, and 0 is one that begins a text. It owns nothing, and may be copied or written down.
+/// Any byte in it is a valid state, and 0 is one that begins a text. It owns nothing, and may be copied or written
+/// down.
 #[repr(C)]
 #[derive(Clone, Copy)]
 pub struct LineState {
@@ -56,8 +57,8 @@ impl LineState {
         Some(Fed { taken, written })
     }
 
-    /// Ends the text: writes the carriage return that waits, if one does, to the front of the room, and answers how many
-    /// bytes that are. The state then begins a text. Past them the room is as it was.
+    /// Ends the text: writes the carriage return that waits, if one does, to the front of the room, and answers how
+    /// many bytes that are. The state then begins a text. Past them the room is as it was.
     ///
     /// With `None` the room is below [`LINE_END_ROOM`]: then nothing was done.
     pub fn end(&mut self, room: &mut [u8]) -> Option<usize>

@@ -67,7 +67,7 @@ impl<'a> SliceWriter<'a> {
     }
 
     /// The first `count` of sixteen bytes more. Where there is room for the whole chunk, it is put whole: what the room
-    /// has behind them is put where it was.
+    /// has after them is put where it was.
     #[inline(always)]
     fn put_front(&mut self, chunk: &[u8; 16], count: usize)
         requires { count ≤ length chunk.now }

@@ -1,6 +1,6 @@
-//! Does a job that users of this software wait for, on documents that it makes itself, and prints a digest of what comes
-//! of them: what `bench/run` times. Its arguments are the job (`all`: each of them), a seed below 2^32, and how many
-//! documents; each seed makes others.
+//! Does a job that users of this software wait for, on documents that it makes itself, and prints a digest of what
+//! comes of them: what `bench/run` times. Its arguments are the job (`all`: each of them), a seed below 2^32, and how
+//! many documents; each seed makes others.
 #![tactic(auto)]
 
 mod digest;

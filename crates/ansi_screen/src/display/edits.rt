@@ -55,7 +55,7 @@ impl Display {
         ensures { self.new ≡ erased_cells (here self.old) (length self.old.cells) self.old }
     {
         let (row, column) = (self.cursor.row, self.cursor.column);
-        // Each row begins with a character.
+        // (for the proof as well: no row begins with a right half)
         let width = self.cells.width();
         let height = self.cells.height();
         self.erase_columns(column, width);
@@ -68,7 +68,7 @@ impl Display {
         ensures { self.new ≡ erased_cells 0 (here self.old + 1) self.old }
     {
         let (row, column) = (self.cursor.row, self.cursor.column);
-        // Each row begins with a character.
+        // (for the proof: no row begins with a right half)
         let _ = self.cells.width();
         self.erase_columns(0, column + 1);
         self.clear_rows(0, row);
@@ -79,7 +79,7 @@ impl Display {
         ensures { self.new ≡ erased_cells 0 (length self.old.cells) self.old }
     {
         let style = self.cursor.style;
-        // The cells fill the rows, before and after.
+        // (for the proof: the cells fill the rows, now and after the change below)
         let _ = self.cells.width();
         let height = self.cells.height();
         self.damage.note_rows(0, height);
@@ -95,7 +95,7 @@ impl Display {
             (erased (space self.old)) self.old.cells) self.old }
     {
         let style = self.cursor.style;
-        // The cells fill the rows, before and after.
+        // (for the proof: the cells fill the rows, now and after the change below)
         let _ = self.cells.width();
         self.damage.note_rows(first, last);
         self.cells.fill_rows(first, last, style);
@@ -111,11 +111,11 @@ impl Display {
     {
         let row = self.cursor.row;
         let style = self.cursor.style;
-        // Each row begins with a character.
+        // (for the proof: no row begins with a right half)
         let _ = self.cells.width();
         self.damage.note(row, start, end);
         self.cells.erase(row, start, end, style);
-        // The cells fill the rows.
+        // (for the proof: the cells fill the rows)
         let _ = self.cells.width();
     }
 
@@ -177,7 +177,7 @@ impl Display {
         requires { row < self.old.height }
         ensures { self.new ≡ with_cells (going_on on (row * self.old.width + self.old.width) self.old.cells) self.old }
     {
-        // Each row begins with a character.
+        // (for the proof as well: no row begins with a right half)
         let width = self.cells.width();
         if self.cells.set_goes_on(row, on) {
             self.damage.note(row, width - 1, width);
@@ -202,11 +202,11 @@ impl Display {
     {
         let (row, column) = (self.cursor.row, self.cursor.column);
         let style = self.cursor.style;
-        // Each row begins with a character.
+        // (for the proof as well: no row begins with a right half)
         let width = self.cells.width();
         self.damage.note(row, column, width);
         self.cells.delete(row, column, count, style);
-        // The cells fill the rows.
+        // (for the proof: the cells fill the rows)
         let _ = self.cells.width();
     }
 
@@ -230,11 +230,11 @@ impl Display {
     {
         let (row, column) = (self.cursor.row, self.cursor.column);
         let style = self.cursor.style;
-        // Each row begins with a character.
+        // (for the proof as well: no row begins with a right half)
         let width = self.cells.width();
         self.damage.note(row, column, width);
         self.cells.insert(row, column, count, style);
-        // The cells fill the rows.
+        // (for the proof: the cells fill the rows)
         let _ = self.cells.width();
     }
 
@@ -246,7 +246,7 @@ impl Display {
         ensures { self.new ≡ rows_up count first last self.old }
     {
         let style = self.cursor.style;
-        // The cells fill the rows, before and after.
+        // (for the proof: the cells fill the rows, now and after the change below)
         let _ = self.cells.width();
         self.damage.note_rows(first, last);
         self.cells.move_back(first, last, usize::from(count), style);
@@ -261,7 +261,7 @@ impl Display {
         ensures { self.new ≡ rows_down count first last self.old }
     {
         let style = self.cursor.style;
-        // The cells fill the rows, before and after.
+        // (for the proof: the cells fill the rows, now and after the change below)
         let _ = self.cells.width();
         self.damage.note_rows(first, last);
         self.cells.move_on(first, last, usize::from(count), style);

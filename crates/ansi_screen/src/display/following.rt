@@ -9,7 +9,7 @@ use std::snapshot::Snapshot;
 impl Display {
     ghost use Rattle.ansi_screen.specs.Damage.{KeepsColumns};
 
-    /// Its damage is forgotten: as it is, it is shown.
+    /// Forgets what can have changed: as it is now, it counts as shown.
     pub(crate) fn forget(&mut self)
         ensures { self.new ≡ forgotten self.old }
     {
@@ -33,7 +33,7 @@ impl Display {
         ensures kept { (row : ℕ) → row < self.now.height → (row < result.0) ⊎ (result.1 ≤ row)
             → row_cells row self.now ≡ shown_cells row self.now }
     {
-        // The cells fill the rows.
+        // (for the proof: the cells fill the rows)
         let _ = self.cells.width();
         self.damage.rows()
     }
@@ -85,7 +85,7 @@ impl Display {
     {
         self.damage.note_all();
         self.cells.copy_changed(&other.cells, &other.damage);
-        // The cells fill the rows.
+        // (for the proof: the cells fill the rows)
         let _ = self.cells.width();
         self.copy_cursor(other);
     }
@@ -97,7 +97,7 @@ impl Display {
     {
         self.damage.note_all();
         self.cells.copy_all(&other.cells);
-        // The cells fill the rows.
+        // (for the proof: the cells fill the rows)
         let _ = self.cells.width();
         self.copy_cursor(other);
     }

@@ -11,7 +11,7 @@ use crate::width::{columns, is_shown};
 use anstyle_parse::Params;
 use std::mem;
 
-/// A character takes no more columns.
+/// The most columns that a character takes.
 const MOST_COLUMNS: usize = 2;
 
 /// The number of ED that erases all of a screen.
@@ -26,7 +26,7 @@ impl Display {
         mem::swap(&mut self.cells, &mut self.hidden);
     }
 
-    /// Of so many rows that scroll up within the margins.
+    /// How many rows leave where so many scroll up within the margins.
     #[tactic(auto, unfolding(crate::specs::Leaving::leaving_up))]
     fn leaving_up(&self, count: u16) -> usize
         ensures count { result ≡ leaving_up count self.now }
@@ -39,7 +39,7 @@ impl Display {
         }
     }
 
-    /// By a move to the next row.
+    /// How many rows leave by a move to the next row.
     #[tactic(auto, unfolding(crate::specs::Leaving::leaving_by_index))]
     fn leaving_by_index(&self) -> usize
         ensures count { result ≡ leaving_by_index self.now }
@@ -83,7 +83,7 @@ impl Display {
         }
     }
 
-    /// By a control.
+    /// How many rows leave by a control.
     #[tactic(auto, unfolding(crate::specs::Leaving::leaving_by_control))]
     pub(crate) fn leaving_by_control(&self, byte: u8) -> usize
         ensures count { result ≡ leaving_by_control byte self.now }
@@ -116,7 +116,7 @@ impl Display {
         }
     }
 
-    /// By the function of a control sequence.
+    /// How many rows leave by the function of a control sequence.
     #[tactic(auto, unfolding(crate::specs::Leaving::leaving_by_function))]
     fn leaving_by_function(&self, function: Function, params: &Params) -> usize
         ensures count { result ≡ leaving_by_function function (groups_shown params.now) self.now }
@@ -135,7 +135,7 @@ impl Display {
         }
     }
 
-    /// By a control sequence of which nothing was dropped.
+    /// How many rows leave by a control sequence of which nothing was dropped.
     #[tactic(auto, unfolding(crate::specs::Leaving::leaving_by_sequence))]
     pub(crate) fn leaving_by_sequence(
         &self,

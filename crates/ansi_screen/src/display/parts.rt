@@ -30,7 +30,7 @@ impl Display {
         self.hidden_saved
     }
 
-    /// The margins: the row of the upper one, and the row behind the lower one.
+    /// The margins: the row of the upper one, and the row after the lower one.
     pub(crate) fn margins(&self) -> (usize, usize)
         ensures top { result.0 ≡ self.now.top }
         ensures bottom { result.1 ≡ self.now.bottom }
@@ -47,7 +47,7 @@ impl Display {
         self.tabs.as_slice()
     }
 
-    /// DECAWM: a character behind the last column goes to the next row.
+    /// DECAWM: a character after the last column goes to the next row.
     pub(crate) fn wraps(&self) -> bool
         ensures { result ≡ self.now.wraps }
     {

@@ -37,7 +37,7 @@ fn two_fields(params: &Params) -> (u16, u16)
     (first, second)
 }
 
-/// Whether no number is given. (Behind a number the same final bytes are others' functions, as DECSLRM.)
+/// Whether no number is given. (After a number the same final bytes are other functions, such as DECSLRM.)
 fn is_bare(params: &Params) -> bool
     ensures { result ≡ is_bare (groups_shown params.now) }
 {

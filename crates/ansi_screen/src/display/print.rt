@@ -62,11 +62,11 @@ impl Display {
     {
         if 0 < self.cursor.column {
             let (row, column) = (self.cursor.row, self.cursor.column);
-            // Each row begins with a character.
+            // (for the proof: no row begins with a right half)
             let _ = self.cells.width();
             self.damage.note(row, column - 1, column);
             self.cells.mark_before(row, column, c);
-            // The cells fill the rows.
+            // (for the proof: the cells fill the rows)
             let _ = self.cells.width();
         }
     }
@@ -154,11 +154,11 @@ impl Display {
         let (row, column) = (self.cursor.row, self.cursor.column);
         let style = self.cursor.style;
         let next = column + usize::from(columns);
-        // Each row begins with a character.
+        // (for the proof: no row begins with a right half)
         let _ = self.cells.width();
         self.damage.note(row, column, next);
         self.cells.put(row, column, columns, c, style, self.link);
-        // The cells fill the rows.
+        // (for the proof: the cells fill the rows)
         let _ = self.cells.width();
         self.cursor.column = next;
     }
@@ -187,11 +187,11 @@ impl Display {
         let (row, column) = (self.cursor.row, self.cursor.column);
         let style = self.cursor.style;
         let next = column + run.len();
-        // Each row begins with a character.
+        // (for the proof: no row begins with a right half)
         let _ = self.cells.width();
         self.damage.note(row, column, next);
         self.cells.put_run(row, column, run, style, self.link);
-        // The cells fill the rows.
+        // (for the proof: the cells fill the rows)
         let _ = self.cells.width();
         self.cursor.column = next;
     }

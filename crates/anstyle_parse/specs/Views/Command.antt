@@ -13,7 +13,7 @@ texting_of command = record (new_machine tt) {
   open_part = drop command.closed command.text.items;
 }
 
--- Plain text from the front of the bytes, for which there is room, is stored behind the open part.
+-- Plain text from the front of the bytes, for which there is room, is stored after the open part.
 pub record StoresPlain (old : Machine ⊤) (bytes : List ℕ) (new : Machine ⊤) (left : List ℕ) : Type 0 where
   pub text : List ℕ
   pub whole : bytes ≡ text ++ left

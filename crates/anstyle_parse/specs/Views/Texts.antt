@@ -39,7 +39,8 @@ pub record IsTextAt (parser : Parser Utf8Parser) (bytes text left : List ℕ) : 
   pub encoded : text ≡ encode_utf8_all characters
   pub joined : bytes ≡ text ++ left
 
--- The performer has received the calls of such a text at the front, and what comes after it is left; or nothing is done.
+-- The performer has received the calls of such a text at the front, and what comes after it is left; or nothing is
+-- done.
 abbrev pub TakesText : {P : Type 0} → (P → List Call → P → Type 0) → Parser Utf8Parser → P → List ℕ → P → List ℕ → Type 0
 TakesText receives parser before bytes after left =
     ((after ≡ before) × (left ≡ bytes))

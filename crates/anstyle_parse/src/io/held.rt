@@ -9,7 +9,7 @@ pub(super) const CAPACITY: usize = 8192;
 /// How long a block is, which is copied whole.
 const BLOCK: usize = 16;
 
-/// Up to 8192 bytes. There is room for a block behind them, also where they are so many.
+/// Up to 8192 bytes. There is room for a block after them, even where they are 8192.
 #[derive(Drop)]
 pub(super) struct Held {
     bytes: [u8; CAPACITY + BLOCK],
@@ -71,7 +71,7 @@ impl Held {
         true
     }
 
-    /// The same with the first `count` bytes of a block. The block is copied whole: what stands behind
+    /// The same with the first `count` bytes of a block. The block is copied whole: what stands after
     /// the bytes that are held is none of them.
     #[inline(always)]
     pub(super) fn hold_front(&mut self, block: &[u8; BLOCK], count: usize) -> bool

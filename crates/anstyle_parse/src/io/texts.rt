@@ -7,8 +7,8 @@ use crate::accumulator::Utf8Parser;
 use crate::parser::Parser;
 use crate::perform::PerformText;
 
-/// Gives what the reader gives to a new parser, as [`perform_to_end`](super::perform_to_end) does, and the parser hands on
-/// texts ([`Parser::advance_texts`]): for a performer that takes one at once, as a screen. The answers are the same.
+/// Gives what the reader gives to a new parser, as [`perform_to_end`](super::perform_to_end) does, and the parser hands
+/// on texts ([`Parser::advance_texts`]): for a performer that takes one at once, as a screen. The answers are the same.
 pub fn perform_texts_to_end<P: PerformText, R: Source>(
     reader: &mut R,
     performer: &mut P,

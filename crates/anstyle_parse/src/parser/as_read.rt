@@ -82,14 +82,14 @@ impl Parser<Utf8Parser> {
     ghost use Rattle.anstyle_parse.specs.Stream.Texts.{HasReceivedTexts};
     ghost use Rattle.anstyle_parse.specs.Views.Parser.{machine_of, calls_made, IsAfter};
 
-    /// Takes bytes, as [`advance_heeded`](Parser::advance_heeded) does, but as a reader of logs reads them: a byte A0..FF
-    /// that belongs to no character is U+FFFD, and BEL ends a string APC, PM or SOS.
+    /// Takes bytes, as [`advance_heeded`](Parser::advance_heeded) does, but as a reader of logs reads them: a byte
+    /// A0..FF that belongs to no character is U+FFFD, and BEL ends a string APC, PM or SOS.
     ///
     /// A stream may come in any pieces, but all by this call.
     #[inline]
     pub fn advance_log<P: PerformText>(&mut self, performer: &mut P, bytes: &[u8])
-        // The headline: where the parser stands after what was read of the bytes before, it stands after what is read of
-        // all; and a performer that has received exactly the calls of that has received exactly those of all.
+        // The headline: where the parser stands after what was read of the bytes before, it stands after what is read
+        // of all; and a performer that has received exactly the calls of that has received exactly those of all.
         ensures stands { (before : List ℕ) → IsAfter front_of self.old (as_read before)
             → IsAfter front_of self.new (as_read (before ++ bytes.now)) }
         ensures received { (first : P) (before : List ℕ) → IsAfter front_of self.old (as_read before)

@@ -17,7 +17,7 @@ const MAX_FIELD: u32 = 65535;
 /// How many digits are taken at once.
 const FEW_DIGITS: usize = 3;
 
-/// What each of them counts, where there are none to three of them.
+/// What each digit is multiplied by, where there are none, one, two or three of them.
 static PLACES: [[u16; FEW_DIGITS]; FEW_DIGITS + 1] = [
     [0, 0, 0],
     [1, 0, 0],
@@ -221,8 +221,8 @@ fn digit_count(chunk: &[u8; CHUNK]) -> usize
     }
 }
 
-/// The number that the first `count` of three bytes make, which are digits. Nothing of it is asked by a branch: what
-/// comes behind them counts for nothing.
+/// The number that the first `count` of three bytes make, which are digits. No branch asks for `count`: the bytes
+/// after them are multiplied by 0.
 #[inline(always)]
 fn few_digits(first: u8, second: u8, third: u8, count: usize) -> u16
     requires few { count ≤ 3 }

@@ -720,7 +720,7 @@ impl<C: CharAccumulator> Parser<C> {
 impl<C: CharAccumulator> Parser<C> {
     ghost use Rattle.anstyle_parse.specs.Views.Parser.{CanTakeAll};
 
-    /// Directly behind ESC P: what hooks the string; another byte by the table.
+    /// Directly after ESC P: what hooks the string; another byte by the table.
     #[inline(always)]
     fn take_device_final<'a, P: Perform>(
         &mut self,

@@ -16,7 +16,7 @@ const TITLE: &[u8] = b"\x1b]0;x\x1b\\";
 /// Their canonical text, of which the command has eight bytes.
 const TEXT: &[u8] = b"\x1b]0;x\x1bX\x9c\x1b\\";
 
-/// Lines that end behind a sequence, with few bytes behind them and with many, and their canonical text.
+/// Lines that end after a sequence, with few bytes after them and with many, and their canonical text.
 const LINES: [(&[u8], &[u8]); 2] = [
     (b"x\x1b[m\nabc", b"x\x1b[0m\nabc"),
     (
@@ -103,7 +103,7 @@ fn few_writes(rt: HostRuntime) -> Result<(), Fail> {
     Ok(())
 }
 
-/// By line, a line feed behind a sequence hands its line on before the text that comes next, however much stands behind
+/// By line, a line feed after a sequence hands its line on before the text that comes next, however much stands after
 /// it: one write of what was held back, one of the line feed, and one of the rest as the piece ends.
 #[test]
 fn a_line_feed_hands_its_line_on(rt: HostRuntime) {

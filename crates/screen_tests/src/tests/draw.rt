@@ -151,7 +151,7 @@ fn updates_of(
     Ok((bytes_of(rt, output), last))
 }
 
-/// The drawing of a blank screen ends with its modes, and one update comes behind it.
+/// The drawing of a blank screen ends with its modes, and one update comes after it.
 #[test]
 fn updates_of_a_stream(rt: HostRuntime) -> Result<(), Fail> {
     let (written, last) = updates_of(&rt, b"\x1b[2;2H\x1b[1mX")?;
@@ -214,8 +214,8 @@ fn laws(_rt: HostRuntime) {
     same_text();
 }
 
-/// Writes what a piece of a stream changes, as the page of the crate `screen_draw` shows it. Before and after it both screens are
-/// the same, but for the pictures from which on they note what changes.
+/// Writes what a piece of a stream changes, as the page of the crate `screen_draw` shows it. Before and after it both
+/// screens are the same, but for the pictures from which on they note what changes.
 fn show_piece<W: Sink>(
     parser: &mut Parser<Utf8Parser>,
     shown: &mut Screen,
@@ -316,8 +316,8 @@ fn what_is_noted(rt: HostRuntime) -> Result<(), Fail> {
     Ok(())
 }
 
-/// A character, the next one, which stands where the cursor is, in its style, and a bell. `tests/cells` counts what these take
-/// on a screen of 20x6.
+/// A character, the next one, which stands where the cursor is, in its style, and a bell. `tests/cells` counts what
+/// these take on a screen of 20x6.
 #[test]
 fn updates_of_what_is_noted(rt: HostRuntime) -> Result<(), Fail> {
     let (mut first, mut last) = blank_screens(rt.alloc(), 20, 6)?;

@@ -161,12 +161,7 @@ fn refused(rt: &HostRuntime, name: &str, what: &str) -> ExitCode {
 }
 
 /// Writes these files, as one page or fragment.
-fn written(
-    rt: HostRuntime,
-    names: &[String],
-    output: Option<&str>,
-    how: How<'_>,
-) -> ExitCode
+fn written(rt: HostRuntime, names: &[String], output: Option<&str>, how: How<'_>) -> ExitCode
     requires { IfSome how.entry.size CanBeShown }
 {
     match how.form {
@@ -176,12 +171,7 @@ fn written(
 }
 
 /// Writes the page of these files.
-fn page(
-    rt: HostRuntime,
-    names: &[String],
-    output: Option<&str>,
-    how: How<'_>,
-) -> ExitCode
+fn page(rt: HostRuntime, names: &[String], output: Option<&str>, how: How<'_>) -> ExitCode
     requires { IfSome how.entry.size CanBeShown }
 {
     let Ok(mut parts) = parts(rt, PROGRAM, names, how.frame) else {
@@ -215,12 +205,7 @@ fn page(
 }
 
 /// Writes the text of these files, with nothing around it.
-fn fragment(
-    rt: HostRuntime,
-    names: &[String],
-    output: Option<&str>,
-    how: How<'_>,
-) -> ExitCode
+fn fragment(rt: HostRuntime, names: &[String], output: Option<&str>, how: How<'_>) -> ExitCode
     requires { IfSome how.entry.size CanBeShown }
 {
     let Ok(mut inputs) = inputs(rt, PROGRAM, names) else {

@@ -25,7 +25,6 @@ use Rattle.ansi_style.specs.declared.style.Style.{Style}
 use Rattle.ansi_style.specs.Codes.{one, codes_text}
 use Rattle.ansi_screen.specs.declared.cell.Cell.{Cell}
 use Rattle.ansi_screen.specs.declared.place.Charsets.{Charsets}
-use Rattle.ansi_screen.specs.declared.place.Place.{Place}
 use Rattle.ansi_screen.specs.Widths.{is_shown}
 use Rattle.screen_draw.specs.declared.cells.Pen.{Pen}
 use Rattle.screen_draw.specs.Draw.{escape, sequence, private_mode, set_or_reset, select, cell_calls, cells_calls, pen_behind, pen_after, stop_calls, stops_calls, charset_final, charsets_calls, drawn_character}

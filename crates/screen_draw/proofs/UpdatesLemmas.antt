@@ -5,7 +5,6 @@ use Rattle.std.specs.Io.KnownBytes.{Consumes, IsAtEnd}
 use Rattle.std.specs.List.{AllByRecursion}
 use Rattle.std.proofs.lemmas.Bool.{false≢true}
 use Rattle.std.proofs.lemmas.Grind.{flat_map-append}
-use Rattle.anstyle_parse.specs.declared.io.Fault.{Fault}
 use Rattle.anstyle_parse.specs.declared.io.Fault.TheVariants.{Read, Write, Flush}
 use Rattle.anstyle_parse.specs.declared.io.devices.Sink.{Ghosts as SinkOf}
 use Rattle.anstyle_parse.specs.declared.io.devices.Source.{Ghosts as SourceOf}
@@ -20,7 +19,7 @@ use Rattle.anstyle_parse.proofs.Canonical.Replay.{replay}
 use Rattle.anstyle_parse.proofs.Written.Output.{Adds-append}
 use Rattle.ansi_screen.specs.After.{State, after_all, Shows}
 use Rattle.ansi_screen.specs.Reachable.{IsScreen, HasContents}
-use Rattle.ansi_screen.specs.Display.{Display, Picture, picture, forgotten, IsSized}
+use Rattle.ansi_screen.specs.Display.{Picture, picture, forgotten, IsSized}
 use Rattle.ansi_screen.proofs.KeptCalls.{kept-after_all}
 use Rattle.ansi_screen.proofs.ContentCalls.{contents-after_all}
 use Rattle.ansi_screen.proofs.PictureLemmas.{same-after_all}
@@ -304,5 +303,5 @@ comes-too first last next shown new before piece calls shows continues same is w
     (is ∙ (ap (after_all calls) same ∙ (same-after_all since calls last ∙ ap (λ (s : State). with_shown since s) there)))
 
 -- It is copied from a screen that looks so.
-pub comes-copied : (next wanted new : State) → LooksAs next wanted → new ≡ as_shown wanted → LooksAs next new
+pub comes-copied : (next wanted new : State) → LooksAs next wanted → new ≡ record wanted { display = forgotten wanted.display } → LooksAs next new
 comes-copied next wanted new looks copied = with-own new next (picture next.display) (was-forgotten next wanted new wanted.display.shown looks copied)

@@ -1,5 +1,5 @@
 -- One row more.
-use Rattle.std.proofs.Common.{◌≡◌, ℕ, ◌*◌, take, drop, refl, sym, ap₂, ◌∙◌, subst, arith}
+use Rattle.std.proofs.Common.{◌≡◌, ℕ, ◌*◌, take, drop, sym, ap₂, ◌∙◌, subst, arith}
 use Rattle.screen_draw.specs.Alike.{all_two, are_alike}
 use Rattle.screen_draw.specs.Buffers.{cells_of}
 use Rattle.screen_draw.proofs.AlikeLemmas.{rows-more, rows-differ}

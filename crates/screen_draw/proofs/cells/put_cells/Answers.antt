@@ -1,8 +1,8 @@
 -- One row more.
-use Rattle.std.proofs.Common.{◌≡◌, ℕ, ◌+◌, ◌*◌, ◌≤◌, take, drop, length, sym, ap, ◌∙◌, subst, arith}
+use Rattle.std.proofs.Common.{ℕ, ◌+◌, ◌*◌, ◌≤◌, length, sym, subst, arith}
 use Rattle.ansi_screen.specs.Display.{most_rows}
 use Rattle.screen_draw.specs.Buffers.{cells_of}
-use Rattle.screen_draw.specs.Draw.{first_pen, cells_calls, pen_after}
+use Rattle.screen_draw.specs.Draw.{first_pen, cells_calls}
 use Rattle.screen_draw.specs.Drawing.{Draws}
 use Rattle.screen_draw.proofs.BufferLemmas.{row-fits, row-below, all-rows}
 use Rattle.screen_draw.proofs.DrawLemmas.{draws-row, pen-row}

@@ -121,10 +121,12 @@ come_after-requires g c =
     let before = c.loop-turn.invariant in
     let first = c.args.wanted.now in
     let last = last_of first before.screens in
-    (comes-on first last c.loop-turn.shown c.forget.new.self c.advance_texts.new.performer c.loop-turn.shown.display.shown (joined before.pieces)
-    (take c.in-Some.count c.read.new.into) _ before.shows (c.advance_texts.ensures.stream (joined before.pieces) before.stands) before.is_shown
-    (was-forgotten last c.loop-turn.wanted c.forget.new.self c.loop-turn.wanted.display.shown before.is_last c.forget.ensures)
-    c.columns.ensures.sized c.advance_texts.ensures.calls).noted
+    record {
+      noted = (comes-on first last c.loop-turn.shown c.forget.new.self c.advance_texts.new.performer c.loop-turn.shown.display.shown (joined before.pieces)
+          (take c.in-Some.count c.read.new.into) _ before.shows (c.advance_texts.ensures.stream (joined before.pieces) before.stands) before.is_shown
+          (was-forgotten last c.loop-turn.wanted c.forget.new.self c.loop-turn.wanted.display.shown before.is_last c.forget.ensures)
+          c.columns.ensures.sized c.advance_texts.ensures.calls).noted;
+    }
 
 pub loop-turn-preserved : goal.loop-turn-preserved
 loop-turn-preserved g c =

@@ -1,6 +1,5 @@
 pub mod Words
 pub mod Page
-pub mod Sizes
 pub mod Streams
 pub mod Parts
 pub mod Folder

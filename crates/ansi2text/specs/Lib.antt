@@ -1,3 +1,3 @@
-pub mod Sizes
+pub mod Ending
 pub mod Streams
 pub mod Words

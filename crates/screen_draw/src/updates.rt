@@ -26,12 +26,26 @@ const NEAR_CELLS: usize = 13_000;
 /// How many cells are copied in the time in which a parser is copied.
 const PARSER_CELLS: usize = 64;
 
+/// How many cells [`Screen::catch_up`] copies from this screen: those that can have changed, and where the frame can
+/// have, those that the alternate screen covers.
+fn copied_cells(wanted: &Screen) -> usize {
+    let mut cells = if wanted.is_framed() {
+        wanted.rows() * wanted.columns()
+    } else {
+        0
+    };
+    let (first, past) = wanted.changed_rows();
+    for row in first..past {
+        let (left, right) = wanted.changed(row);
+        cells = cells.saturating_add(right - left);
+    }
+    cells
+}
+
 /// Whether less time goes by where a screen comes to this one by [`Screen::catch_up`], and a parser is copied, than
 /// where so many bytes are taken a second time.
 fn is_copied(wanted: &Screen, bytes: usize) -> bool {
-    let (first, past) = wanted.changed_rows();
-    let covered_rows = if wanted.is_framed() { wanted.rows() } else { 0 };
-    let cells = (past - first + covered_rows) * wanted.columns() + PARSER_CELLS;
+    let cells = copied_cells(wanted).saturating_add(PARSER_CELLS);
     cells <= bytes || (cells <= NEAR_CELLS && cells / CELLS_A_BYTE <= bytes)
 }
 

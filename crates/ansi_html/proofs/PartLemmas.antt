@@ -18,7 +18,7 @@ use Rattle.ansi_html.proofs.LinerLemmas.{element_end-none}
 use Rattle.ansi_html.proofs.LineLemmas.{feed-text}
 use Rattle.ansi_html.proofs.BlockLemmas.{IsOutside, IsOutside-start, left-some, one-less, outside-after, AreSound-blocked}
 
-abbrev joined : List (List ℕ) → List ℕ
+abbrev pub joined : List (List ℕ) → List ℕ
 joined parts = flat_map (λ part. part) parts
 
 -- what ends a block, behind text that stands in it
@@ -35,7 +35,7 @@ pub record Rest (none : Bool) (lines html : List ℕ) : Type 0 where
   pub same : lines ≡ (if none then [] else first) ++ joined parts
 
 -- Text comes before it, in a block that goes on, and in one that ends with it.
-Rest-text : (none : Bool) (text lines html : List ℕ) → Rest false lines html
+pub Rest-text : (none : Bool) (text lines html : List ℕ) → Rest false lines html
     → Rest none (text ++ lines) ((if none then block_begin else []) ++ (text ++ html))
 Rest-text true text lines html more = record {
   first = [];
@@ -50,7 +50,7 @@ Rest-text false text lines html more = record {
   same = ap (λ l. text ++ l) more.same ∙ sym (append_assoc text more.first (joined more.parts));
 }
 
-Rest-last : (none : Bool) (text lines html : List ℕ) → Rest true lines html
+pub Rest-last : (none : Bool) (text lines html : List ℕ) → Rest true lines html
     → Rest none (text ++ lines) ((if none then block_begin else []) ++ (text ++ (block_end ++ html)))
 Rest-last true text lines html more = record {
   first = [];

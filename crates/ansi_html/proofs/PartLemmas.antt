@@ -174,17 +174,17 @@ module _ (styling : Styling) where
       record { parts = all.parts; blocks = all.whole; joined = all.same }
 
   -- The same of blocks of text: what is left of one that is open may follow text of the element that is shown.
-  record Others (none : Bool) (shown : Element) (html : List ℕ) : Type 0 where
-    first : List ℕ
-    parts : List (List ℕ)
-    whole : html ≡ (if none then [] else first ++ block_end) ++ in_blocks parts
-    stands : none ≡ false → IsInElement styling shown first
-    fragments : AllByRecursion (IsFragment styling) parts
+  pub record Others (none : Bool) (shown : Element) (html : List ℕ) : Type 0 where
+    pub first : List ℕ
+    pub parts : List (List ℕ)
+    pub whole : html ≡ (if none then [] else first ++ block_end) ++ in_blocks parts
+    pub stands : none ≡ false → IsInElement styling shown first
+    pub fragments : AllByRecursion (IsFragment styling) parts
 
   outside : (none : Bool) (shown : Element) (html : List ℕ) → (none ≡ true → shown ≡ no_element) → none ≡ true → IsInElement styling shown html → IsFragment styling html
   outside none shown html closed is within = IsFragment-outside styling html (subst (λ element. IsInElement styling element html) (closed is) within)
 
-  Others-text : (none : Bool) (shown next : Element) (text html : List ℕ) → (none ≡ true → shown ≡ no_element)
+  pub Others-text : (none : Bool) (shown next : Element) (text html : List ℕ) → (none ≡ true → shown ≡ no_element)
       → ((first : List ℕ) → IsInElement styling next first → IsInElement styling shown (text ++ first)) → Others false next html
       → Others none shown ((if none then block_begin else []) ++ (text ++ html))
   Others-text true shown next text html closed follows more = record {
@@ -202,7 +202,7 @@ module _ (styling : Styling) where
     fragments = more.fragments;
   }
 
-  Others-last : (none : Bool) (shown next : Element) (text html : List ℕ) → (none ≡ true → shown ≡ no_element)
+  pub Others-last : (none : Bool) (shown next : Element) (text html : List ℕ) → (none ≡ true → shown ≡ no_element)
       → IsInElement styling shown text → Others true next html
       → Others none shown ((if none then block_begin else []) ++ (text ++ (block_end ++ html)))
   Others-last true shown next text html closed within more = record {

@@ -2,6 +2,8 @@ pub mod AlikeLemmas
 pub mod RowLemmas
 pub mod ShownLemmas
 pub mod HandedLemmas
+pub mod BlockLemmas
+pub mod BlockRowLemmas
 pub mod CellLemmas
 pub mod WholeLemmas
 pub mod LastLemmas

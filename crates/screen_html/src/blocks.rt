@@ -48,7 +48,7 @@ impl<W: Sink> BlockRows<W> {
 
     /// A line has ended: so does the block, if that was its last one.
     fn end_line(&mut self)
-        requires { 1 ≤ self.entry.left }
+        requires { 1 ≤ (blocked_of self.old).left }
         ensures standing { blocked_of self.new ≡ blocked (blocked_of self.old).inside ((blocked_of self.old).left - 1) }
         ensures added { Adds W.Sink (block_closing ((blocked_of self.old).left - 1)) (blocks_output self.old) (blocks_output self.new) }
     {

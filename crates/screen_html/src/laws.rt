@@ -5,6 +5,7 @@ ghost use Rattle.std.specs.Str.{IsUtf8};
 ghost use Rattle.anstyle_parse.specs.Stream.Call.{Call};
 ghost use Rattle.anstyle_parse.specs.Stream.Calls.{AreCalls};
 ghost use Rattle.ansi_html.specs.declared.scheme.Styling.{Styling};
+ghost use Rattle.ansi_html.specs.Blocks.{AreBlocksOf};
 ghost use Rattle.ansi_html.specs.Grammar.{IsFragment};
 ghost use Rattle.ansi_html.specs.Html.{html};
 ghost use Rattle.ansi_html.specs.Links.{IsLink, link_of};
@@ -17,6 +18,7 @@ ghost use Rattle.screen_text.specs.Laws.{ArePlain, LastIsNotEmpty, lines_bytes};
 ghost use Rattle.screen_text.specs.Shown.{given_all};
 ghost use Rattle.screen_html.specs.Links.{Kept, most_kept, no_links, numbered, AreLinkCommands, link_at};
 ghost use Rattle.screen_html.specs.Shown.{shown_html};
+ghost use Rattle.screen_html.specs.Blocks.{shown_blocked};
 ghost use Rattle.screen_html.specs.Page.{page_styled, page_html, page_text, all_links};
 
 /// Which link a number has: that of the command which got it since the last reset, where fewer than 1,024 links began
@@ -68,4 +70,11 @@ pub fn plain_text()
     ensures { (styling : Styling) (columns rows : ℕ) (lines : List (List ℕ)) (calls : List Call) → 2 ≤ columns
         → 1 ≤ rows → ArePlain lines → LastIsNotEmpty lines → AreCalls (lines_bytes lines) calls
         → shown_html styling (new_state columns rows) calls ≡ html styling calls }
+{}
+
+/// Of what a screen showed as HTML in blocks of lines ([`BlockRows`](crate::BlockRows)) nothing but their tags tells it
+/// from the HTML that [`convert_shown`](crate::convert_shown) writes.
+pub fn blocks()
+    ensures parts { (styling : Styling) (screen : State) (calls : List Call)
+        → AreBlocksOf (shown_html styling screen calls) (shown_blocked styling screen calls) }
 {}

@@ -52,7 +52,7 @@ abbrev pub HaveLinks : List Styled → Type 0
 HaveLinks texts = AllByRecursion (λ (it : Styled). IsSound it.link) texts
 
 module _ (styling : Styling) where
-  HasNoReturn-styled : (shown : Element) (texts : List Styled) → HasNoReturn (styled_html styling shown texts)
+  pub HasNoReturn-styled : (shown : Element) (texts : List Styled) → HasNoReturn (styled_html styling shown texts)
   HasNoReturn-styled shown [] = refl
   HasNoReturn-styled shown (it ∷ texts) =
       HasNoReturn-append (text_html styling (before shown it) false it.text) (styled_html styling (behind shown it) texts)

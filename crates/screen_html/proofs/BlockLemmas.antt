@@ -20,21 +20,33 @@ use Rattle.screen_html.specs.Writer.{Between, row_html, after_row, after_command
 use Rattle.screen_html.specs.Blocks.{Blocked, blocked, at_start, blocked_at_start, left_with_row, left_after_row, row_blocked, after_row_blocked, after_command_blocked, closing_blocked, shown_blocked}
 use Rattle.screen_html.proofs.ShownLemmas.{left-rows, ending-rows}
 
--- where rows lead
-abbrev after_blocked : Blocked → List Handed → Blocked
-after_blocked it all = after_rows after_row_blocked after_command_blocked it all
+-- what writers write of rows, and then of others, of which the last closes
+last_rows-append : {S : Type 0} (row_text : S → List Cell → List ℕ) (next : S → List Cell → S) (told : S → ℕ → List (List ℕ) → S) (close : S → List ℕ)
+    (at : S) (all more : List Handed)
+    → rows_from row_text next told at all ++ last_rows_from row_text next told close (after_rows next told at all) more
+    ≡ last_rows_from row_text next told close at (all ++ more)
+last_rows-append row_text next told close at [] more = refl
+last_rows-append row_text next told close at (leaving row ∷ others) more =
+    let there = next at row in
+    append_assoc (row_text at row) (rows_from row_text next told there others) (last_rows_from row_text next told close (after_rows next told there others) more)
+    ∙ ap (λ l. row_text at row ++ l) (last_rows-append row_text next told close there others more)
+    ∙ sym (append_assoc (row_text at row) (rows_from row_text next told there (others ++ more)) (close (after_rows next told there (others ++ more))))
+last_rows-append row_text next told close at (command number parts ∷ others) more =
+    last_rows-append row_text next told close (told at number parts) others more
 
-inside-after : (it : Blocked) (all : List Handed) → (after_blocked it all).inside ≡ after_rows after_row after_command it.inside all
-inside-after it [] = refl
-inside-after it (leaving row ∷ others) = inside-after (after_row_blocked it row) others
-inside-after it (command number parts ∷ others) = inside-after (after_command_blocked it number parts) others
+-- the HTML of all that is handed on, in blocks and without them
+abbrev pub all_blocked : Blocked → List Handed → List ℕ
+all_blocked it all = last_rows_from row_blocked after_row_blocked after_command_blocked closing_blocked it all
+
+abbrev pub all_html : Between → List Handed → List ℕ
+all_html at all = last_rows_from row_html after_row after_command closing_html at all
 
 -- Where no block is open, no element is, and no line.
-record IsOutside (it : Blocked) : Type 0 where
-  shown : (it.left == 0) ≡ true → it.inside.shown ≡ no_element
-  closed : (it.left == 0) ≡ true → it.inside.is_open ≡ false
+pub record IsOutside (it : Blocked) : Type 0 where
+  pub shown : (it.left == 0) ≡ true → it.inside.shown ≡ no_element
+  pub closed : (it.left == 0) ≡ true → it.inside.is_open ≡ false
 
-outside-start : (styling : Styling) → IsOutside (blocked_at_start styling)
+pub outside-start : (styling : Styling) → IsOutside (blocked_at_start styling)
 outside-start styling = record { shown = λ none. refl; closed = λ none. refl }
 
 -- With a row some lines are left.
@@ -45,7 +57,7 @@ left-some it = by_case (it.left == 0) refl
     by_case true e = refl
     by_case false e = e
 
-outside-row : (it : Blocked) (row : List Cell) → IsOutside (after_row_blocked it row)
+pub outside-row : (it : Blocked) (row : List Cell) → IsOutside (after_row_blocked it row)
 outside-row it row = by_case (goes_on row)
   where
     cells : List Styled
@@ -65,43 +77,21 @@ outside-row it row = by_case (goes_on row)
     by_case true = record { shown = λ none. absurd (cc (sym none ∙ left-some it)); closed = λ none. absurd (cc (sym none ∙ left-some it)) }
     by_case false = record { shown = λ none. shown_after-append it.inside.shown cells (line_feed ∷ []); closed = λ none. refl }
 
-outside-after : (it : Blocked) (all : List Handed) → IsOutside it → IsOutside (after_blocked it all)
-outside-after it [] outside = outside
-outside-after it (leaving row ∷ others) outside = outside-after (after_row_blocked it row) others (outside-row it row)
-outside-after it (command number parts ∷ others) outside =
-    outside-after (after_command_blocked it number parts) others (record { shown = outside.shown; closed = outside.closed })
-
 -- What is written of a row is followed by what is written after it.
 Rest-row : (none ends : Bool) (text lines html : List ℕ) → Rest ends lines html
     → Rest none (text ++ lines) ((if none then block_begin else []) ++ (text ++ ((if ends then block_end else []) ++ html)))
 Rest-row none true text lines html more = Rest-last none text lines html more
 Rest-row none false text lines html more = Rest-text none text lines html more
 
-regroup : (opening text closing others rest : List ℕ)
+pub regroup : (opening text closing others rest : List ℕ)
     → ((opening ++ (text ++ closing)) ++ others) ++ rest ≡ opening ++ (text ++ (closing ++ (others ++ rest)))
 regroup opening text closing others rest =
     append_assoc (opening ++ (text ++ closing)) others rest
     ∙ append_assoc opening (text ++ closing) (others ++ rest)
     ∙ ap (λ l. opening ++ l) (append_assoc text closing (others ++ rest))
 
-Rest-rows : (it : Blocked) (all : List Handed) (lines html : List ℕ) → Rest ((after_blocked it all).left == 0) lines html
-    → Rest (it.left == 0) (rows_from row_html after_row after_command it.inside all ++ lines)
-    (rows_from row_blocked after_row_blocked after_command_blocked it all ++ html)
-Rest-rows it [] lines html more = more
-Rest-rows it (leaving row ∷ others) lines html more =
-    let after = after_row_blocked it row in
-    let text = row_html it.inside row in
-    let opening = if it.left == 0 then block_begin else [] in
-    let closing = if left_after_row it row == 0 then block_end else [] in
-    let their_lines = rows_from row_html after_row after_command after.inside others in
-    let their_html = rows_from row_blocked after_row_blocked after_command_blocked after others in
-    subst (λ l. Rest (it.left == 0) l (((opening ++ (text ++ closing)) ++ their_html) ++ html)) (sym (append_assoc text their_lines lines))
-    (subst (Rest (it.left == 0) (text ++ (their_lines ++ lines))) (sym (regroup opening text closing their_html html))
-    (Rest-row (it.left == 0) (after.left == 0) text (their_lines ++ lines) (their_html ++ html) (Rest-rows after others lines html more)))
-Rest-rows it (command number parts ∷ others) lines html more = Rest-rows (after_command_blocked it number parts) others lines html more
-
 -- At the end nothing is written where no block is open.
-closing-none : (at : Between) → at.shown ≡ no_element → at.is_open ≡ false → closing_html at ≡ []
+pub closing-none : (at : Between) → at.shown ≡ no_element → at.is_open ≡ false → closing_html at ≡ []
 closing-none at shown closed =
     ap₂ (λ (element : Element) (on : Bool). styled_html at.styling element (closing_styled on) ++ element_end (shown_after element (closing_styled on))) shown closed
     ∙ element_end-none
@@ -121,38 +111,41 @@ Rest-end it outside = by_case (it.left == 0) outside.shown outside.closed
       same = sym (append-nil (closing_html it.inside));
     }
 
+Rest-all : (it : Blocked) (all : List Handed) → IsOutside it → Rest (it.left == 0) (all_html it.inside all) (all_blocked it all)
+Rest-all it [] outside = Rest-end it outside
+Rest-all it (leaving row ∷ others) outside =
+    let after = after_row_blocked it row in
+    let text = row_html it.inside row in
+    let opening = if it.left == 0 then block_begin else [] in
+    let closing = if after.left == 0 then block_end else [] in
+    let lines = rows_from row_html after_row after_command after.inside others in
+    let last = closing_html (after_rows after_row after_command after.inside others) in
+    let blocks = rows_from row_blocked after_row_blocked after_command_blocked after others in
+    let close = closing_blocked (after_rows after_row_blocked after_command_blocked after others) in
+    subst (λ l. Rest (it.left == 0) l (((opening ++ (text ++ closing)) ++ blocks) ++ close)) (sym (append_assoc text lines last))
+    (subst (Rest (it.left == 0) (text ++ (lines ++ last))) (sym (regroup opening text closing blocks close))
+    (Rest-row (it.left == 0) (after.left == 0) text (lines ++ last) (blocks ++ close) (Rest-all after others (outside-row it row))))
+Rest-all it (command number parts ∷ others) outside =
+    Rest-all (after_command_blocked it number parts) others (record { shown = outside.shown; closed = outside.closed })
+
 module _ (styling : Styling) (s : State) (calls : List Call) where
-  abbrev all : List Handed
-  all = all_handed (given_all calls) s
+  -- what a stream hands on, as rows leave and at the end
+  abbrev pub all_given : List Handed
+  all_given = all_handed (given_all calls) s ++ map leaving (showing (after_all (given_all calls) s).display)
 
-  abbrev last : List Handed
-  last = map leaving (showing (after_all (given_all calls) s).display)
+  pub blocked-all : all_blocked (blocked_at_start styling) all_given ≡ shown_blocked styling s calls
+  blocked-all =
+      sym (last_rows-append row_blocked after_row_blocked after_command_blocked closing_blocked (blocked_at_start styling)
+      (all_handed (given_all calls) s) (map leaving (showing (after_all (given_all calls) s).display)))
 
-  abbrev start : Blocked
-  start = blocked_at_start styling
-
-  abbrev middle : Blocked
-  middle = after_blocked start all
-
-  abbrev end : Blocked
-  end = after_blocked middle last
-
-  outside-end : IsOutside end
-  outside-end = outside-after middle last (outside-after start all (outside-start styling))
-
-  -- the HTML without blocks, as rows and what closes
-  lines_are : rows_from row_html after_row after_command start.inside all ++ (rows_from row_html after_row after_command middle.inside last ++ closing_html end.inside)
-      ≡ shown_html styling s calls
-  lines_are =
-      ap₂ (λ l m. l ++ m) (left-rows styling s calls)
-      (ap (λ at. rows_from row_html after_row after_command middle.inside last ++ closing_html at) (inside-after middle last)
-      ∙ ap (λ at. last_rows_from row_html after_row after_command closing_html at last) (inside-after start all)
-      ∙ ending-rows styling s calls)
+  pub html-all : all_html (at_start styling) all_given ≡ shown_html styling s calls
+  html-all =
+      sym (last_rows-append row_html after_row after_command closing_html (at_start styling)
+      (all_handed (given_all calls) s) (map leaving (showing (after_all (given_all calls) s).display)))
+      ∙ ap₂ (λ l m. l ++ m) (left-rows styling s calls) (ending-rows styling s calls)
 
   -- Without the tags of the blocks it is the HTML without them.
   pub AreBlocksOf-shown : AreBlocksOf (shown_html styling s calls) (shown_blocked styling s calls)
   AreBlocksOf-shown =
-      let rest = Rest-rows start all (rows_from row_html after_row after_command middle.inside last ++ closing_html end.inside)
-      (last_rows_from row_blocked after_row_blocked after_command_blocked closing_blocked middle last)
-      (Rest-rows middle last (closing_html end.inside) (closing_blocked end) (Rest-end end outside-end)) in
-      record { parts = rest.parts; blocks = rest.whole; joined = sym lines_are ∙ rest.same }
+      let rest = Rest-all (blocked_at_start styling) all_given (outside-start styling) in
+      record { parts = rest.parts; blocks = sym blocked-all ∙ rest.whole; joined = sym html-all ∙ rest.same }

@@ -6,6 +6,8 @@ pub mod BlockLemmas
 pub mod BlockRowLemmas
 pub mod CellLemmas
 pub mod WholeLemmas
+pub mod BlockPartLemmas
+pub mod BlockReadLemmas
 pub mod LastLemmas
 pub mod PageLemmas
 pub mod PlainTextLemmas

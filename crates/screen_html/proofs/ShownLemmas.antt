@@ -32,7 +32,7 @@ abbrev open_behind : Bool → List Handed → Bool
 open_behind on all = after_rows after_line after_text_command on all
 
 -- the rows that still show
-handed-rows : (links : List Kept) (rows : List (List Cell)) → handed_styled links (map leaving rows) ≡ rows_styled links rows
+pub handed-rows : (links : List Kept) (rows : List (List Cell)) → handed_styled links (map leaving rows) ≡ rows_styled links rows
 handed-rows links [] = refl
 handed-rows links (row ∷ rows) = ap (λ l. row_styled links row ++ l) (handed-rows links rows)
 

@@ -12,12 +12,14 @@ use Rattle.ansi_html.proofs.StyledLemmas.{shown_after-append}
 use Rattle.ansi_screen.specs.declared.cell.Cell.{Cell}
 use Rattle.ansi_screen.specs.After.{State, after_all}
 use Rattle.ansi_screen.specs.Text.{used, is_unprinted, goes_on}
+use Rattle.screen_text.specs.declared.performer.ShownWriter.{ShownWriter}
 use Rattle.screen_text.specs.Lines.{showing}
 use Rattle.screen_text.specs.Rows.{Handed, leaving, command, all_handed, rows_from, after_rows, last_rows_from}
 use Rattle.screen_text.specs.Shown.{given_all}
+use Rattle.screen_text.specs.Writer.{rows_of, screen_of, text_from, ending_from}
 use Rattle.screen_html.specs.Shown.{cell_styled, line_feed, row_styled, closing_styled, shown_html}
 use Rattle.screen_html.specs.Writer.{Between, row_html, after_row, after_command, closing_html}
-use Rattle.screen_html.specs.Blocks.{Blocked, blocked, at_start, blocked_at_start, left_with_row, left_after_row, row_blocked, after_row_blocked, after_command_blocked, closing_blocked, shown_blocked}
+use Rattle.screen_html.specs.Blocks.{Blocked, blocked, at_start, blocked_at_start, left_with_row, left_after_row, row_blocked, after_row_blocked, after_command_blocked, closing_blocked, left_blocked, ending_blocked, shown_blocked}
 use Rattle.screen_html.proofs.ShownLemmas.{left-rows, ending-rows}
 
 -- what writers write of rows, and then of others, of which the last closes
@@ -149,3 +151,16 @@ module _ (styling : Styling) (s : State) (calls : List Call) where
   AreBlocksOf-shown =
       let rest = Rest-all (blocked_at_start styling) all_given (outside-start styling) in
       record { parts = rest.parts; blocks = sym blocked-all ∙ rest.whole; joined = sym html-all ∙ rest.same }
+
+  -- what a new writer writes
+  module _ {R : Type 0} (standing_of : R → Blocked) (performer : ShownWriter R) (is : screen_of performer ≡ s)
+      (new : standing_of (rows_of performer) ≡ blocked_at_start styling) where
+    pub left-new : text_from standing_of row_blocked after_row_blocked after_command_blocked performer calls ≡ left_blocked styling s calls
+    left-new =
+        ap₂ (λ at (x : State). rows_from row_blocked after_row_blocked after_command_blocked at (all_handed (given_all calls) x)) new is
+
+    pub ending-new : ending_from standing_of row_blocked after_row_blocked after_command_blocked closing_blocked performer calls
+        ≡ ending_blocked styling s calls
+    ending-new =
+        ap₂ (λ at (x : State). all_blocked (after_rows after_row_blocked after_command_blocked at (all_handed (given_all calls) x))
+        (map leaving (showing (after_all (given_all calls) x).display))) new is

@@ -7,9 +7,10 @@ Usage: bench/opening.py [--rounds N] [--lines N] [PAGE ..]
     --lines N    the lines of the pages that are made where none is named (default 100,000)
 
 Without PAGE it makes a log of plain lines and one with colours, and of each the pages of ansi2html that README names: by
-itself, by --classes and by --lines. Each time is of a browser that has just begun, in milliseconds since it was told the
+itself, by --classes, by --lines and by --shown. Each time is of a browser that has just begun, in milliseconds since it was told the
 address: the first picture with something of the page in it (first-contentful-paint, of the Paint Timing API), the load event,
-the layout of all that shows (`scrollHeight` is asked for then), and the next frame.
+the layout of all that shows (`scrollHeight` is asked for then), and the next frame. `thread` is what the page's main thread has worked
+by then, of a processor: beside other work the times differ by a sixth from run to run, and that by a twentieth.
 """
 
 import argparse
@@ -78,10 +79,13 @@ class Browser:
         target = self.call("Target.createTarget", url="about:blank")["targetId"]
         session = self.call("Target.attachToTarget", targetId=target, flatten=True)["sessionId"]
         self.call("Page.enable", session)
+        self.call("Performance.enable", session, timeDomain="threadTicks")
         self.call("Page.addScriptToEvaluateOnNewDocument", session, source=SCRIPT)
         self.call("Page.navigate", session, url=address)
         found = self.call("Runtime.evaluate", session, expression="window.opened", awaitPromise=True, returnByValue=True)
-        return [round(it) if it is not None else -1 for it in found["result"]["value"]]
+        metrics = self.call("Performance.getMetrics", session)["metrics"]
+        [worked] = [it["value"] * 1000 for it in metrics if it["name"] == "ThreadTime"]
+        return [round(it) if it is not None else -1 for it in [*found["result"]["value"], worked]]
 
     def close(self):
         self.call("Browser.close")
@@ -109,11 +113,16 @@ def logs(count):
 
 def pages(count, folder):
     for name, log in logs(count):
-        for words in ([], ["--classes"], ["--lines"]):
+        for words in ([], ["--classes"], ["--lines"], ["--shown"]):
             path = os.path.join(folder, "-".join([name, *words]) + ".html")
             with open(path, "wb") as page:
                 subprocess.run([PROGRAM, *words], input=log.encode(), stdout=page, check=True)
             yield path
+
+
+def least(times):
+    """The least of those that are known: a page may have no picture yet when all else is done."""
+    return min((it for it in times if it >= 0), default=-1)
 
 
 def main():
@@ -131,9 +140,9 @@ def main():
         for _ in range(options.rounds):
             for page in named:
                 found[page].append(times_of(browser, page))
-        print("%-32s %6s %6s %6s %6s    (load %.1f)" % ("page", "first", "load", "layout", "frame", os.getloadavg()[0]))
+        print("%-32s %6s %6s %6s %6s %6s    (load %.1f)" % ("page", "first", "load", "layout", "frame", "thread", os.getloadavg()[0]))
         for page, times in found.items():
-            print("%-32s %6d %6d %6d %6d" % (os.path.basename(page), *map(min, zip(*times))))
+            print("%-32s %6d %6d %6d %6d %6d" % (os.path.basename(page), *map(least, zip(*times))))
 
 
 if __name__ == "__main__":

@@ -118,7 +118,7 @@ fn pages(
     folder: &str,
     how: How<'_>,
 ) -> ExitCode
-    requires { IfSome how.entry.size CanBeShown }
+    requires { IfSome how.size CanBeShown }
 {
     if names.is_empty() {
         return refused(&rt, STANDARD, UNNAMED);
@@ -163,7 +163,7 @@ fn refused(rt: &HostRuntime, name: &str, what: &str) -> ExitCode {
 
 /// Writes these files, as one page or fragment.
 fn written(rt: HostRuntime, names: &[String], output: Option<&str>, how: How<'_>) -> ExitCode
-    requires { IfSome how.entry.size CanBeShown }
+    requires { IfSome how.size CanBeShown }
 {
     match how.form {
         Form::Page => page(rt, names, output, how),
@@ -173,7 +173,7 @@ fn written(rt: HostRuntime, names: &[String], output: Option<&str>, how: How<'_>
 
 /// Writes the page of these files.
 fn page(rt: HostRuntime, names: &[String], output: Option<&str>, how: How<'_>) -> ExitCode
-    requires { IfSome how.entry.size CanBeShown }
+    requires { IfSome how.size CanBeShown }
 {
     let Ok(mut parts) = parts(rt, PROGRAM, names, how.frame) else {
         return failed(&rt, PROGRAM, "out of memory");
@@ -210,7 +210,7 @@ fn page(rt: HostRuntime, names: &[String], output: Option<&str>, how: How<'_>) -
 
 /// Writes the text of these files, with nothing around it.
 fn fragment(rt: HostRuntime, names: &[String], output: Option<&str>, how: How<'_>) -> ExitCode
-    requires { IfSome how.entry.size CanBeShown }
+    requires { IfSome how.size CanBeShown }
 {
     let Ok(mut inputs) = inputs(rt, PROGRAM, names) else {
         return failed(&rt, PROGRAM, "out of memory");

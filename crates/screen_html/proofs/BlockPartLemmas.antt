@@ -102,7 +102,7 @@ module _ (styling : Styling) where
         parts = [];
         whole = sym (append-nil (close ++ block_end));
         stands = λ is. IsInside-styled styling shown (closing_styled on) (element_end (shown_after shown (closing_styled on))) sound (links-closing on) (textual-closing on)
-        (IsInside-nothing styling (shown_after shown (closing_styled on)));
+            (IsInside-nothing styling (shown_after shown (closing_styled on)));
         fragments = tt;
       }
 

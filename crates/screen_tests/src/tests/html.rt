@@ -54,7 +54,7 @@ fn in_blocks(rt: HostRuntime) -> Result<(), Fail> {
     let rows = BlockRows::new(Styling::Classes, LinkMemory::new(rt.alloc())?, output);
     writes_rows(&rows);
     let performer = ShownWriter::new(Screen::new(rt.alloc(), 3, 1)?, rows);
-    let mut reader = FromRead::new(b"a\n\x1b[3mbcdef");
+    let mut reader = FromRead::new(b"a\n\x1b[3mbcdef".as_slice());
     let (writer, answer) = write_calls_by(performer, &mut reader, b".");
     let wanted = b"<span data-lines=\"500\">a\n<span class=\"ansi-italic\">bcdef</span>\n</span>.";
     assert_written(&rt, (writer.into_inner(), answer), wanted);

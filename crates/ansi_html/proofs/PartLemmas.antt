@@ -1,5 +1,5 @@
 -- Blocks are parts of HTML, each in an element: of lines those of the HTML in lines, and of text fragments.
-use Rattle.std.proofs.Common.{◌≡◌, ◌≢◌, ℕ, Bool, true, false, List, [], ◌∷◌, ◌++◌, codes, refl, sym, ap, ap₂, ◌∙◌, subst, append_assoc, append-nil}
+use Rattle.std.proofs.Common.{◌≡◌, ◌≢◌, ℕ, Bool, true, false, List, [], ◌∷◌, ◌++◌, refl, sym, ap, ap₂, ◌∙◌, subst, append_assoc, append-nil}
 use Rattle.std.specs.Prelude.{◌&&◌, ◌==◌, ◌-◌, if◌then◌else◌}
 use Rattle.std.specs.List.{AllByRecursion, flat_map}
 use Rattle.std.proofs.lemmas.Bool.{ne_eqb}
@@ -8,8 +8,8 @@ use Rattle.ansi_strip.specs.Strip.{stripped_call}
 use Rattle.ansi_strip.proofs.Showable.{IsShowable, AreShowable}
 use Rattle.ansi_html.specs.declared.scheme.Styling.{Styling}
 use Rattle.ansi_html.specs.Html.{Element, no_element, element_end, Standing, after_text, text_html, is_executed, call_html, standing_after}
-use Rattle.ansi_html.specs.Lines.{Lined, lined, ended, text_number, line_opening, line_closing, line_end, lined_call, lined_after, lined_from, lined_at_end, lined_end, lined_at_start, lined_html}
-use Rattle.ansi_html.specs.Blocks.{block_begin, block_end, inside_after, Blocked, blocked, blocked_at_start, left_with_text, block_opening, ends_block, block_closing, blocked_call, block_ended, blocked_after, blocked_from, blocked_at_end, blocked_end, blocked_html, in_blocks, AreBlocksOf, AreBlocksOfFragments}
+use Rattle.ansi_html.specs.Lines.{Lined, lined, ended, text_number, line_opening, line_closing, line_end, lined_call, lined_after, lined_from, lined_at_end, lined_end, lined_html}
+use Rattle.ansi_html.specs.Blocks.{block_begin, block_end, inside_after, Blocked, blocked, blocked_at_start, left_with_text, block_opening, ends_block, block_closing, block_ended, blocked_after, blocked_from, blocked_at_end, blocked_end, blocked_html, in_blocks, AreBlocksOf, AreBlocksOfFragments}
 use Rattle.ansi_html.specs.Grammar.{IsFragment}
 use Rattle.ansi_html.proofs.SoundLemmas.{AreSound, AreSound-start}
 use Rattle.ansi_html.proofs.LawfulText.{AreTextual, AreTextual-stripped}

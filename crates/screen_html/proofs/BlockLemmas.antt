@@ -1,5 +1,5 @@
 -- HTML in blocks is that of the rows, in parts; in each part of the HTML of a stream stands a fragment.
-use Rattle.std.proofs.Common.{◌≡◌, ◌≢◌, ℕ, Bool, true, false, List, [], ◌∷◌, ◌++◌, map, refl, sym, ap, ap₂, ◌∙◌, subst, append_assoc, append-nil}
+use Rattle.std.proofs.Common.{◌≡◌, ℕ, Bool, true, false, List, [], ◌∷◌, ◌++◌, map, refl, sym, ap, ap₂, ◌∙◌, subst, append_assoc, append-nil}
 use Rattle.std.specs.Prelude.{◌==◌, ◌-◌, take, if◌then◌else◌}
 use Rattle.anstyle_parse.specs.Stream.Call.{Call}
 use Rattle.ansi_html.specs.declared.scheme.Styling.{Styling}
@@ -17,9 +17,9 @@ use Rattle.screen_text.specs.Lines.{showing}
 use Rattle.screen_text.specs.Rows.{Handed, leaving, command, all_handed, rows_from, after_rows, last_rows_from}
 use Rattle.screen_text.specs.Shown.{given_all}
 use Rattle.screen_text.specs.Writer.{rows_of, screen_of, text_from, ending_from}
-use Rattle.screen_html.specs.Shown.{cell_styled, line_feed, row_styled, closing_styled, shown_html}
+use Rattle.screen_html.specs.Shown.{cell_styled, line_feed, closing_styled, shown_html}
 use Rattle.screen_html.specs.Writer.{Between, row_html, after_row, after_command, closing_html}
-use Rattle.screen_html.specs.Blocks.{Blocked, blocked, at_start, blocked_at_start, left_with_row, left_after_row, row_blocked, after_row_blocked, after_command_blocked, closing_blocked, left_blocked, ending_blocked, shown_blocked}
+use Rattle.screen_html.specs.Blocks.{Blocked, blocked, at_start, blocked_at_start, left_with_row, row_blocked, after_row_blocked, after_command_blocked, closing_blocked, left_blocked, ending_blocked, shown_blocked}
 use Rattle.screen_html.proofs.ShownLemmas.{left-rows, ending-rows}
 
 -- what writers write of rows, and then of others, of which the last closes

@@ -23,7 +23,7 @@ use Rattle.screen_text.specs.Shown.{given_all}
 use Rattle.screen_html.specs.Links.{Kept, no_links, links_after}
 use Rattle.screen_html.specs.Shown.{row_styled, rows_styled, handed_styled, links_behind, closing_styled, shown_styled}
 use Rattle.screen_html.specs.Writer.{row_html, closing_html}
-use Rattle.screen_html.specs.Blocks.{Blocked, blocked, blocked_at_start, left_after_row, row_blocked, after_row_blocked, after_command_blocked, closing_blocked, shown_blocked}
+use Rattle.screen_html.specs.Blocks.{Blocked, blocked, left_after_row, row_blocked, after_row_blocked, after_command_blocked, closing_blocked, shown_blocked}
 use Rattle.screen_html.proofs.BlockLemmas.{IsOutside, outside-start, outside-row, regroup, closing-none, all_blocked, all_given, blocked-all}
 use Rattle.screen_html.proofs.CellLemmas.{of-shown}
 use Rattle.screen_html.proofs.HandedLemmas.{AreKept, kept-none, kept-after, links-row, links-closing}

@@ -1,6 +1,6 @@
 -- HTML in blocks: a reader sees what it sees of the HTML without them; and it is UTF-8.
 use Rattle.std.proofs.Common.{◌≡◌, ℕ, Bool, true, false, List, [], ◌∷◌, ◌++◌, map, refl, sym, ap, ◌∙◌, subst, append_assoc, append-nil}
-use Rattle.std.specs.Prelude.{encode_utf8, ◌==◌, if◌then◌else◌}
+use Rattle.std.specs.Prelude.{◌==◌, if◌then◌else◌}
 use Rattle.std.specs.List.{AllByRecursion, flat_map}
 use Rattle.std.specs.Str.{IsUtf8}
 use Rattle.std.proofs.lemmas.Str.{IsUtf8-append, IsUtf8-nil}
@@ -13,7 +13,6 @@ use Rattle.ansi_html.specs.Reader.{Attributes, Seen, in_text, seen_from, seen, r
 use Rattle.ansi_html.specs.Styled.{Styled, styled_html, shown_after, bytes_of, all_shown}
 use Rattle.ansi_html.proofs.BlockLemmas.{in_block}
 use Rattle.ansi_html.proofs.ColorLemmas.{choose}
-use Rattle.ansi_html.proofs.LawfulText.{ArePrinted-encode}
 use Rattle.ansi_html.proofs.NewlineLemmas.{is_not_return, HasNoReturn, HasNoReturn-append, HasNoReturn-end, normalized-same}
 use Rattle.ansi_html.proofs.ReadLemmas.{open_in, open-none, seen-element_end}
 use Rattle.ansi_html.proofs.SoundLemmas.{IsSound, IsSound-none}

@@ -1,6 +1,6 @@
 -- A row in blocks: what begins a block, the row, and what ends it.
 use Rattle.std.proofs.Common.{◌≡◌, ℕ, Bool, true, false, List, [], ◌++◌, sym, ap, ◌∙◌, subst}
-use Rattle.std.specs.Prelude.{◌-◌, ◌==◌, if◌then◌else◌}
+use Rattle.std.specs.Prelude.{◌-◌, if◌then◌else◌}
 use Rattle.anstyle_parse.specs.declared.io.devices.Sink.{Ghosts as SinkOf}
 use Rattle.anstyle_parse.specs.Io.Output.{Adds}
 use Rattle.anstyle_parse.proofs.Written.Output.{Adds-nil, Adds-append}

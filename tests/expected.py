@@ -4,7 +4,8 @@ each digest of a random stream comes from the sources of the Rust crate (docs/DE
 import hashlib
 
 from expected_pages import ADDRESS, DARK_LINED_HEAD, DARK_TITLED_HEAD, LIGHT_HEAD, LIGHT_LINED_HEAD, LINED_HEAD, LINKED_HEAD
-from expected_pages import LINKED_SCROLLED_HEAD, PAGE_HEAD, PAGE_TAIL, SCROLLED_HEAD, TITLE, TITLED_HEAD, block_rows, line_rows, numbered
+from expected_pages import LINKED_SCROLLED_HEAD, PAGE_HEAD, PAGE_TAIL, SCROLLED_HEAD, TITLE, TITLED_HEAD, block_rows, in_blocks_begun, line_rows
+from expected_pages import numbered, shown_block_rows
 from expected_shown import SHOWN_NARROW_ROWS, SHOWN_ROWS, SHOWN_USUAL_ROWS, shown_hostile
 from hostile_streams import BLOCK, SIZE, WHOLE, stream, text, times
 from log_rows import BEGUN_ROWS, LINES_CUT, READ_ROWS, RETURN_ROWS
@@ -569,6 +570,10 @@ SHOWN_HTML_USUAL_ROWS = [
     (name, given, text.replace(b'"', b"&quot;").replace(b"<", b"&lt;").replace(b">", b"&gt;")) for name, given, text in SHOWN_USUAL_ROWS if b"\x1b[1m" not in given
 ]
 
+# the same on a page, and more lines than a block has
+in_page = lambda rows: [(name, given, in_blocks_begun(html)) for name, given, html in rows]
+SHOWN_BLOCK_ROWS = shown_block_rows(lambda text: span(RED_TEXT, text))
+
 # The second span is open where the stream ends.
 RED = span(themed(BOTH, b"color", b"#cf222e", b"#ff7b72"), b"h")
 BOLD_RED = span(themed(BOTH, b"color", b"#cf222e", b"#ff7b72") + b"font-weight:bold;", b"i")
@@ -717,14 +722,14 @@ PROGRAMS = [
         ]
         + [Mode(["--lines"], LINE_BLOCK_ROWS, (b"\x1b[mA<\n", lambda number: numbered(number, b"A&lt;\n")), [], LINED_HEAD, PAGE_TAIL, has_blocks=True)]
         + [
-            Mode(words, rows, (b"\x1b[mA<\n", b"A&lt;\n"), [], head, tail, waits=True)
+            Mode(words, rows, (b"\x1b[mA<\n", b"A&lt;\n"), [], head, tail, waits=True, has_blocks=head != b"")
             for words, rows, head, tail in (
                 (["--shown", "--fragment"], SHOWN_HTML_ROWS + SHOWN_HTML_USUAL_ROWS, b"", b""),
-                (["--shown"], SHOWN_HTML_USUAL_ROWS, PAGE_HEAD, PAGE_TAIL),
-                (["--shown=9x9", "--page", "--shown=80x24"], SHOWN_HTML_ROWS, PAGE_HEAD, PAGE_TAIL),
-                (["--shown", "9x9", "--page", "--shown", "80x24"], SHOWN_HTML_ROWS, PAGE_HEAD, PAGE_TAIL),
+                (["--shown"], in_page(SHOWN_HTML_USUAL_ROWS) + SHOWN_BLOCK_ROWS, PAGE_HEAD, PAGE_TAIL),
+                (["--shown=9x9", "--page", "--shown=80x24"], in_page(SHOWN_HTML_ROWS), PAGE_HEAD, PAGE_TAIL),
+                (["--shown", "9x9", "--page", "--shown", "80x24"], in_page(SHOWN_HTML_ROWS), PAGE_HEAD, PAGE_TAIL),
                 (["--shown", "--fragment", "--classes"], [("a class", b"\x1b[1mx\n", classed(b"bold") + b"\n")], b"", b""),
-                (["--shown", "--title=" + TITLE], SHOWN_HTML_ROWS[:1], TITLED_HEAD, PAGE_TAIL),
+                (["--shown", "--title=" + TITLE], in_page(SHOWN_HTML_ROWS[:1]), TITLED_HEAD, PAGE_TAIL),
                 (["--fragment", "--light", "--shown", "--dark"], [("red", b"\x1b[31mx\n", span(b"color:#ff7b72;", b"x") + b"\n")], b"", b""),
                 (["--light", "--shown"], [("red", b"\x1b[31mx\n", span(b"color:#cf222e;", b"x") + b"\n")], LIGHT_HEAD, PAGE_TAIL),
             )

@@ -76,6 +76,12 @@ def in_blocks(html):
     return b"".join(BLOCK_BEGIN + b"".join(lines[at : at + BLOCK]) + BLOCK_END for at in range(0, len(lines), BLOCK))
 
 
+def in_blocks_begun(html):
+    """The same, where the last block is not ended yet if it has room for more lines."""
+    whole = in_blocks(html)
+    return whole if html.count(b"\n") % BLOCK == 0 else whole.removesuffix(BLOCK_END)
+
+
 # Lines that can be linked to (HTML, 3.2.6 and 7.4.6.4): each is one element of the text, whose `id` is L and its number, with a
 # link of no text to itself that has the number in an attribute, which the page's rules draw.
 def numbered(number, html):
@@ -149,4 +155,23 @@ def block_rows(red, line):
         ("a style after 500 lines", b"x\n" * 500 + b"\x1b[31m", BLOCK_BEGIN + lines(1, 500, b"x\n") + end(b"")),
         ("a style over two blocks", b"\x1b[31m" + b"x\n" * 502, BLOCK_BEGIN + styled(1, 500) + end(styled(501, 502))),
         ("three blocks", b"x\n" * 1001, BLOCK_BEGIN + lines(1, 500, b"x\n") + end(lines(501, 1000, b"x\n")) + end(line(1001, b"x\n"))),
+    ]
+
+
+def shown_block_rows(red):
+    """Rows of what a screen of 1,000 columns and 100 rows showed, around the ends of blocks: a line of several rows is one line."""
+    lines, wide = lambda count, text=b"x\n": BLOCK_BEGIN + text * count + BLOCK_END * (count == BLOCK), b"a" * 2500
+    return [
+        ("no line", b"\n\n", b""),
+        ("499 lines", b"x\n" * 499, lines(499)),
+        ("500 lines", b"x\n" * 500, lines(500)),
+        ("501 lines, of which the last has no line feed", b"x\n" * 500 + b"x", lines(500) + lines(1)),
+        ("three blocks", b"x\n" * 1001, lines(500) + lines(500) + lines(1)),
+        ("empty lines over two blocks", b"\n" * 502 + b"x", lines(500, b"\n") + lines(2, b"\n") + b"x\n"),
+        ("a style over two blocks", b"\x1b[31m" + b"x\n" * 502, lines(500, red(b"x") + b"\n") + lines(2, red(b"x") + b"\n")),
+        ("lines of two rows", (b"a" * 1001 + b"\n") * 501, lines(500, b"a" * 1001 + b"\n") + lines(1, b"a" * 1001 + b"\n")),
+        ("a last line of three rows in a block", b"x\n" * 499 + wide + b"\nx\n", lines(499) + wide + b"\n" + BLOCK_END + lines(1)),
+        ("a first line of three rows", b"x\n" * 500 + wide + b"\n", lines(500) + lines(1, wide + b"\n")),
+        ("a last line that is open at the end", b"x\n" * 499 + wide, lines(499) + wide + b"\n" + BLOCK_END),
+        ("the alternate screen at the end, after 500 lines", b"x\n" * 500 + b"\x1b[?1049h\x1b[Hy", lines(500) + lines(1, b"y\n")),
     ]

@@ -71,8 +71,7 @@ class Rows:
         written = [self.run([self.path, *self.alone], part).out for part in parts]
         if self.words == self.alone:
             return b"".join(written)
-        # (what a screen showed stands in no blocks)
-        texts = written if "--shown" in self.alone else list(map(in_blocks, written))
+        texts = list(map(in_blocks, written))
         # (what stands around the text of nothing is the head and the tail)
         assert not empty, empty
         at = around.index(b"<pre>\n")

@@ -20,7 +20,8 @@ use each_source::{Stopped, write_each};
 use folder::{Unpaged, first_twice, is_folder, page_names, page_path};
 use form::{Form, STANDARD, Said, write_stylesheet};
 use parts::{Frame, one_has_failed, parts, write_parts};
-use screen_text::{SHOWN, ShownSize, screen_size};
+use screen_html::{BlockRows, HtmlRows};
+use screen_text::{SHOWN, ShownSize, ShownWriter, screen_size};
 use std::fs;
 use std::process::ExitCode;
 use streams::{Blocking, BlockingUrls, Converting, ConvertingUrls, Lining, LiningUrls, Showing};
@@ -185,7 +186,10 @@ fn page(rt: HostRuntime, names: &[String], output: Option<&str>, how: How<'_>) -
     let styling = how.frame.styling;
     let has_numbers = how.frame.said.has_lines;
     let ran = match how.size {
-        Some(size) => write_parts(&Showing::new(rt.alloc(), size, styling), written, output),
+        Some(size) => {
+            let showing = Showing::new(rt.alloc(), size, styling);
+            write_parts::<ShownWriter<BlockRows<_>>, _, _, _>(&showing, written, output)
+        }
         None if how.has_urls => {
             let blocking = BlockingUrls {
                 styling,
@@ -221,7 +225,7 @@ fn fragment(rt: HostRuntime, names: &[String], output: Option<&str>, how: How<'_
     let ran = match how.size {
         Some(size) => {
             let showing = Showing::new(rt.alloc(), size, styling);
-            write_each(&showing, b"", readers, output, b"")
+            write_each::<ShownWriter<HtmlRows<_>>, _, _, _>(&showing, b"", readers, output, b"")
         }
         None if has_lines && how.has_urls => {
             write_each(&LiningUrls { styling }, b"", readers, output, b"")

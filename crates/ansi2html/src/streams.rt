@@ -5,6 +5,7 @@ ghost use Rattle.ansi_html.specs.Lines.{lined_text, lined_ending};
 ghost use Rattle.ansi_html.specs.Blocks.{blocked_text, blocked_ending};
 ghost use Rattle.html_urls.specs.Html.{urls_text, urls_ending, lined_urls_text, lined_urls_ending, blocked_urls_text, blocked_urls_ending};
 ghost use Rattle.each_source.specs.Each.{Given, BeginsWith};
+ghost use Rattle.screen_html.specs.Blocks.{left_blocked, ending_blocked};
 ghost use Rattle.screen_html.specs.Shown.{left_html, ending_html};
 ghost use Rattle.screen_text.specs.Recording.{is_decided, screen_for, CanBeShown};
 
@@ -13,7 +14,7 @@ use ansi_screen::Screen;
 use anstyle_parse::io::{Output, Sink};
 use each_source::Begin;
 use html_urls::Linking;
-use screen_html::{HtmlRows, LinkMemory};
+use screen_html::{BlockRows, HtmlRows, LinkMemory};
 use screen_text::{ShownSize, ShownWriter};
 use std::alloc::{AllocError, Global};
 
@@ -288,6 +289,46 @@ impl<W: Sink> Begin<ShownWriter<HtmlRows<W>>, W> for Showing {
         match self.parts(front) {
             Ok((screen, memory)) => {
                 let rows = HtmlRows::new(self.styling, memory, output);
+                Ok(ShownWriter::new(screen, rows))
+            }
+            Err(_) => Err(output),
+        }
+    }
+}
+
+/// For a page the same in blocks of lines.
+impl<W: Sink> Begin<ShownWriter<BlockRows<W>>, W> for Showing {
+    ghost use Rattle.screen_html.specs.Blocks.{blocks_output, blocked_of, row_blocked, after_row_blocked, after_command_blocked, closing_blocked};
+    ghost use Rattle.screen_text.specs.Writer.{rows_of, text_from, ending_from};
+    ghost use Rattle.ansi2html.specs.Streams.{size_of, shown_as};
+
+    ghost text = { λ showing given.
+        left_blocked (shown_as showing) (screen_for (size_of showing) given.read) given.calls };
+
+    ghost ending = { λ showing given.
+        ending_blocked (shown_as showing) (screen_for (size_of showing) given.read) given.calls };
+
+    ghost enough = { λ showing. is_decided (size_of showing) };
+
+    fn is_enough(&self, front: &[u8]) -> bool {
+        self.size.is_decided(front)
+    }
+
+    fn begin(&self, front: &[u8], output: Output<W>) -> Result<ShownWriter<BlockRows<W>>, Output<W>>
+        ensures output { IfOk result (λ performer. blocks_output (rows_of performer) ≡ output) }
+        ensures text { IfOk result (λ performer. (given : Given)
+            → BeginsWith (is_decided (size_of self.now)) front.now given
+            → text_from blocked_of row_blocked after_row_blocked after_command_blocked performer given.calls
+            ≡ left_blocked (shown_as self.now) (screen_for (size_of self.now) given.read) given.calls) }
+        ensures ending { IfOk result (λ performer. (given : Given)
+            → BeginsWith (is_decided (size_of self.now)) front.now given
+            → ending_from blocked_of row_blocked after_row_blocked after_command_blocked closing_blocked performer given.calls
+            ≡ ending_blocked (shown_as self.now) (screen_for (size_of self.now) given.read) given.calls) }
+        ensures kept { IfErr result (λ kept. kept ≡ output) }
+    {
+        match self.parts(front) {
+            Ok((screen, memory)) => {
+                let rows = BlockRows::new(self.styling, memory, output);
                 Ok(ShownWriter::new(screen, rows))
             }
             Err(_) => Err(output),

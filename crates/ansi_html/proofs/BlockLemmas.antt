@@ -1,17 +1,17 @@
 -- HTML in blocks: a reader sees what it sees of the HTML without them; it has no 0D, and is UTF-8.
-use Rattle.std.proofs.Common.{◌≡◌, ◌≢◌, ◌<◌, ℕ, suc, Bool, true, false, eqb, eqb-true, ◌-◌, List, [], ◌∷◌, ◌++◌, codes, map, refl, sym, ap, ap₂, ◌∙◌, append_assoc, append-nil, arith}
+use Rattle.std.proofs.Common.{◌≡◌, ◌≢◌, ℕ, Bool, true, false, eqb-true, ◌-◌, List, [], ◌∷◌, ◌++◌, map, refl, sym, ap, ap₂, ◌∙◌, append_assoc, arith}
 use Rattle.std.specs.Prelude.{◌&&◌, ◌==◌, if◌then◌else◌}
 use Rattle.std.specs.List.{flat_map}
 use Rattle.std.specs.Str.{IsUtf8}
-use Rattle.std.proofs.lemmas.Bool.{ne_eqb, and_parts}
+use Rattle.std.proofs.lemmas.Bool.{ne_eqb}
 use Rattle.std.proofs.lemmas.Str.{IsUtf8-append, IsUtf8-nil}
 use Rattle.anstyle_parse.specs.Stream.Call.{Call}
 use Rattle.ansi_strip.specs.Strip.{stripped_call, stripped}
 use Rattle.ansi_strip.proofs.Showable.{IsShowable, AreShowable}
 use Rattle.ansi_html.specs.declared.scheme.Styling.{Styling}
-use Rattle.ansi_html.specs.Html.{Element, no_element, element_end, Standing, after_text, is_executed, standing_after, html}
-use Rattle.ansi_html.specs.Lines.{Lined, lined, ended, lined_after, line_end, lined_end, text_number, lined_at_start}
-use Rattle.ansi_html.specs.Blocks.{lines_a_block, block_begin, block_end, inside_call, inside_after, inside_end, Blocked, blocked, blocked_at_start, left_with_text, block_opening, ends_block, block_closing, left_after, blocked_call, block_ended, blocked_after, blocked_from, blocked_at_end, blocked_end, blocked_html}
+use Rattle.ansi_html.specs.Html.{Element, no_element, element_end, after_text, is_executed, standing_after, html}
+use Rattle.ansi_html.specs.Lines.{Lined, lined, ended, text_number, lined_at_start}
+use Rattle.ansi_html.specs.Blocks.{lines_a_block, block_begin, block_end, inside_call, inside_after, inside_end, Blocked, blocked, blocked_at_start, left_with_text, block_opening, ends_block, block_closing, left_after, block_ended, blocked_after, blocked_from, blocked_at_end, blocked_end, blocked_html}
 use Rattle.ansi_html.specs.Reader.{Attributes, no_attributes, in_force, Seen, seen_from, seen, in_text, read_of, read, byte_of, shown_from}
 use Rattle.ansi_html.proofs.ColorLemmas.{choose}
 use Rattle.ansi_html.proofs.NewlineLemmas.{is_not_return, HasNoReturn, HasNoReturn-append, HasNoReturn-text, HasNoReturn-end, normalized-same}

@@ -1,5 +1,5 @@
 -- What a writer of HTML in blocks does by a call, from what the writer inside of them does.
-use Rattle.std.proofs.Common.{◌≡◌, ◌≢◌, ◌<◌, ℕ, Bool, true, false, eqb, ◌-◌, List, [], ◌∷◌, ◌++◌, length, map, refl, sym, ap, ap₂, ◌∙◌, subst, append_assoc, append-nil, arith}
+use Rattle.std.proofs.Common.{◌≡◌, ◌≢◌, ◌<◌, ℕ, Bool, true, false, ◌-◌, List, [], ◌∷◌, ◌++◌, length, map, refl, sym, ap, ap₂, ◌∙◌, subst, append_assoc, append-nil, arith}
 use Rattle.std.specs.Prelude.{◌&&◌, ◌==◌, if◌then◌else◌}
 use Rattle.std.specs.Str.{IsUtf8, chars, encode_utf8_all}
 use Rattle.std.proofs.lemmas.Bool.{ne_eqb}
@@ -16,7 +16,7 @@ use Rattle.ansi_html.specs.declared.inside.Inside.{Inside}
 use Rattle.ansi_html.specs.declared.blocks.BlocksWriter.{BlocksWriter}
 use Rattle.ansi_html.specs.Html.{element_end, after_text, is_executed}
 use Rattle.ansi_html.specs.Lines.{Lined, lined, ended}
-use Rattle.ansi_html.specs.Blocks.{lines_a_block, block_begin, block_end, inside_call, inside_after, Blocked, blocked, left_with_text, block_opening, ends_block, block_closing, left_after, blocked_call, block_ended, blocked_after, blocked_from, blocked_at_end}
+use Rattle.ansi_html.specs.Blocks.{lines_a_block, block_begin, block_end, inside_call, inside_after, Blocked, blocked, left_with_text, block_opening, block_closing, blocked_call, block_ended, blocked_after, blocked_from, blocked_at_end}
 use Rattle.ansi_html.specs.Inside as inside
 use Rattle.ansi_html.specs.Inside.{inside_from, inside_at_end}
 use Rattle.ansi_html.specs.Blocker.{output_of, numbered_of, styling_of, blocked_of, TakesCall, TakesCalls}

@@ -1,5 +1,5 @@
 -- What the writer inside of blocks does by calls, from what the writer of text or of numbered lines does.
-use Rattle.std.proofs.Common.{◌≡◌, Bool, true, false, List, ℕ, [], ◌∷◌, ◌++◌, refl, sym, ap, ap₂, ◌∙◌, subst}
+use Rattle.std.proofs.Common.{◌≡◌, Bool, true, false, List, [], ◌∷◌, ◌++◌, refl, sym, ap, ◌∙◌, subst}
 use Rattle.anstyle_parse.specs.declared.io.devices.Sink.{Ghosts as SinkOf}
 use Rattle.anstyle_parse.specs.Stream.Call.{Call}
 use Rattle.anstyle_parse.specs.Io.Output.{Adds}
@@ -7,7 +7,7 @@ use Rattle.ansi_html.specs.declared.scheme.Styling.{Styling}
 use Rattle.ansi_html.specs.declared.lines.LinesWriter.{LinesWriter}
 use Rattle.ansi_html.specs.declared.performer.HtmlWriter.{HtmlWriter}
 use Rattle.ansi_html.specs.declared.inside.Inside.{Inside}
-use Rattle.ansi_html.specs.Html.{Standing, html_from, standing_at_end}
+use Rattle.ansi_html.specs.Html.{html_from, standing_at_end}
 use Rattle.ansi_html.specs.Lines.{Lined, lined, lined_from, lined_at_end}
 use Rattle.ansi_html.specs.Blocks.{inside_call, inside_after}
 use Rattle.ansi_html.specs.Inside.{output_of, styling_of, numbered_of, lined_of, inside_from, inside_at_end, TakesCall, TakesCalls}

@@ -1,5 +1,5 @@
 -- Blocks are parts of HTML, each in an element: of lines those of the HTML in lines, and of text fragments.
-use Rattle.std.proofs.Common.{◌≡◌, ◌≢◌, ℕ, Bool, true, false, List, [], ◌∷◌, ◌++◌, codes, refl, sym, ap, ap₂, ◌∙◌, subst, append_assoc, append-nil}
+use Rattle.std.proofs.Common.{◌≡◌, ◌≢◌, ℕ, Bool, true, false, List, [], ◌∷◌, ◌++◌, refl, sym, ap, ap₂, ◌∙◌, subst, append_assoc, append-nil}
 use Rattle.std.specs.Prelude.{◌&&◌, ◌==◌, ◌-◌, if◌then◌else◌}
 use Rattle.std.specs.List.{AllByRecursion, flat_map}
 use Rattle.std.proofs.lemmas.Bool.{ne_eqb}
@@ -8,8 +8,8 @@ use Rattle.ansi_strip.specs.Strip.{stripped_call}
 use Rattle.ansi_strip.proofs.Showable.{IsShowable, AreShowable}
 use Rattle.ansi_html.specs.declared.scheme.Styling.{Styling}
 use Rattle.ansi_html.specs.Html.{Element, no_element, element_end, Standing, after_text, text_html, is_executed, call_html, standing_after}
-use Rattle.ansi_html.specs.Lines.{Lined, lined, ended, text_number, line_opening, line_closing, line_end, lined_call, lined_after, lined_from, lined_at_end, lined_end, lined_at_start, lined_html}
-use Rattle.ansi_html.specs.Blocks.{block_begin, block_end, inside_after, Blocked, blocked, blocked_at_start, left_with_text, block_opening, ends_block, block_closing, blocked_call, block_ended, blocked_after, blocked_from, blocked_at_end, blocked_end, blocked_html, in_blocks, AreBlocksOf, AreBlocksOfFragments}
+use Rattle.ansi_html.specs.Lines.{Lined, lined, ended, text_number, line_opening, line_closing, line_end, lined_call, lined_after, lined_from, lined_at_end, lined_end, lined_html}
+use Rattle.ansi_html.specs.Blocks.{block_begin, block_end, inside_after, Blocked, blocked, blocked_at_start, left_with_text, block_opening, ends_block, block_closing, block_ended, blocked_after, blocked_from, blocked_at_end, blocked_end, blocked_html, in_blocks, AreBlocksOf, AreBlocksOfFragments}
 use Rattle.ansi_html.specs.Grammar.{IsFragment}
 use Rattle.ansi_html.proofs.SoundLemmas.{AreSound, AreSound-start}
 use Rattle.ansi_html.proofs.LawfulText.{AreTextual, AreTextual-stripped}
@@ -18,7 +18,7 @@ use Rattle.ansi_html.proofs.LinerLemmas.{element_end-none}
 use Rattle.ansi_html.proofs.LineLemmas.{feed-text}
 use Rattle.ansi_html.proofs.BlockLemmas.{IsOutside, IsOutside-start, left-some, one-less, outside-after, AreSound-blocked}
 
-abbrev joined : List (List ℕ) → List ℕ
+abbrev pub joined : List (List ℕ) → List ℕ
 joined parts = flat_map (λ part. part) parts
 
 -- what ends a block, behind text that stands in it
@@ -35,7 +35,7 @@ pub record Rest (none : Bool) (lines html : List ℕ) : Type 0 where
   pub same : lines ≡ (if none then [] else first) ++ joined parts
 
 -- Text comes before it, in a block that goes on, and in one that ends with it.
-Rest-text : (none : Bool) (text lines html : List ℕ) → Rest false lines html
+pub Rest-text : (none : Bool) (text lines html : List ℕ) → Rest false lines html
     → Rest none (text ++ lines) ((if none then block_begin else []) ++ (text ++ html))
 Rest-text true text lines html more = record {
   first = [];
@@ -50,7 +50,7 @@ Rest-text false text lines html more = record {
   same = ap (λ l. text ++ l) more.same ∙ sym (append_assoc text more.first (joined more.parts));
 }
 
-Rest-last : (none : Bool) (text lines html : List ℕ) → Rest true lines html
+pub Rest-last : (none : Bool) (text lines html : List ℕ) → Rest true lines html
     → Rest none (text ++ lines) ((if none then block_begin else []) ++ (text ++ (block_end ++ html)))
 Rest-last true text lines html more = record {
   first = [];
@@ -174,17 +174,17 @@ module _ (styling : Styling) where
       record { parts = all.parts; blocks = all.whole; joined = all.same }
 
   -- The same of blocks of text: what is left of one that is open may follow text of the element that is shown.
-  record Others (none : Bool) (shown : Element) (html : List ℕ) : Type 0 where
-    first : List ℕ
-    parts : List (List ℕ)
-    whole : html ≡ (if none then [] else first ++ block_end) ++ in_blocks parts
-    stands : none ≡ false → IsInElement styling shown first
-    fragments : AllByRecursion (IsFragment styling) parts
+  pub record Others (none : Bool) (shown : Element) (html : List ℕ) : Type 0 where
+    pub first : List ℕ
+    pub parts : List (List ℕ)
+    pub whole : html ≡ (if none then [] else first ++ block_end) ++ in_blocks parts
+    pub stands : none ≡ false → IsInElement styling shown first
+    pub fragments : AllByRecursion (IsFragment styling) parts
 
   outside : (none : Bool) (shown : Element) (html : List ℕ) → (none ≡ true → shown ≡ no_element) → none ≡ true → IsInElement styling shown html → IsFragment styling html
   outside none shown html closed is within = IsFragment-outside styling html (subst (λ element. IsInElement styling element html) (closed is) within)
 
-  Others-text : (none : Bool) (shown next : Element) (text html : List ℕ) → (none ≡ true → shown ≡ no_element)
+  pub Others-text : (none : Bool) (shown next : Element) (text html : List ℕ) → (none ≡ true → shown ≡ no_element)
       → ((first : List ℕ) → IsInElement styling next first → IsInElement styling shown (text ++ first)) → Others false next html
       → Others none shown ((if none then block_begin else []) ++ (text ++ html))
   Others-text true shown next text html closed follows more = record {
@@ -202,7 +202,7 @@ module _ (styling : Styling) where
     fragments = more.fragments;
   }
 
-  Others-last : (none : Bool) (shown next : Element) (text html : List ℕ) → (none ≡ true → shown ≡ no_element)
+  pub Others-last : (none : Bool) (shown next : Element) (text html : List ℕ) → (none ≡ true → shown ≡ no_element)
       → IsInElement styling shown text → Others true next html
       → Others none shown ((if none then block_begin else []) ++ (text ++ (block_end ++ html)))
   Others-last true shown next text html closed within more = record {

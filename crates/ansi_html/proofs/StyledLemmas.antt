@@ -9,7 +9,7 @@ use Rattle.std.proofs.lemmas.Str.{IsUtf8-append, IsUtf8-nil}
 use Rattle.ansi_html.specs.declared.scheme.Styling.{Styling}
 use Rattle.ansi_html.specs.Grammar.{IsFragment}
 use Rattle.ansi_html.specs.Html.{escaped_text, Element, no_element, element_value, change, text_html, element_end}
-use Rattle.ansi_html.specs.Reader.{Attributes, href_of, attributes_of, byte_of, in_text, Seen, text, seen_from, seen, read_of, read, drawn_of, drawn}
+use Rattle.ansi_html.specs.Reader.{Attributes, no_attributes, in_force, href_of, attributes_of, byte_of, in_text, Seen, text, seen_from, seen, read_of, read, drawn_of, drawn}
 use Rattle.ansi_html.specs.Styled.{Styled, element_of, before, behind, styled_html, shown_after, all_html, shown_of, all_shown, bytes_of, all_bytes}
 use Rattle.ansi_html.proofs.HtmlLemmas.{false-from_not}
 use Rattle.ansi_html.proofs.ShownLemmas.{AreLinks, AreLinks-append, AreLinks-under, href-by}
@@ -36,10 +36,10 @@ shown_after-append shown [] more = refl
 shown_after-append shown (it ∷ texts) more = shown_after-append (behind shown it) texts more
 
 -- what is seen of them
-abbrev seen_one : Styling → Styled → List Seen
+abbrev pub seen_one : Styling → Styled → List Seen
 seen_one styling it = map (text (attributes_of styling (element_of it))) it.text
 
-abbrev seen_styled : Styling → List Styled → List Seen
+abbrev pub seen_styled : Styling → List Styled → List Seen
 seen_styled styling texts = flat_map (seen_one styling) texts
 
 seen_text-styled : (styling : Styling) (shown : Element) (it : Styled) (bytes : List ℕ)
@@ -52,22 +52,33 @@ abbrev pub HaveLinks : List Styled → Type 0
 HaveLinks texts = AllByRecursion (λ (it : Styled). IsSound it.link) texts
 
 module _ (styling : Styling) where
-  HasNoReturn-styled : (shown : Element) (texts : List Styled) → HasNoReturn (styled_html styling shown texts)
+  pub HasNoReturn-styled : (shown : Element) (texts : List Styled) → HasNoReturn (styled_html styling shown texts)
   HasNoReturn-styled shown [] = refl
   HasNoReturn-styled shown (it ∷ texts) =
       HasNoReturn-append (text_html styling (before shown it) false it.text) (styled_html styling (behind shown it) texts)
       (HasNoReturn-text styling (before shown it) false it.text) (HasNoReturn-styled (behind shown it) texts)
 
+  -- also in the element of a block, which says nothing, and with what follows
+  pub seen-styled_html : (outer : List Attributes) → in_force outer ≡ no_attributes → (shown : Element) (texts : List Styled) (rest : List ℕ)
+      → seen_from (in_text (open_in outer styling shown)) (styled_html styling shown texts ++ rest)
+      ≡ seen_styled styling texts ++ seen_from (in_text (open_in outer styling (shown_after shown texts))) rest
+  seen-styled_html outer nothing shown [] rest = refl
+  seen-styled_html outer nothing shown (it ∷ texts) rest =
+      let here = text_html styling (before shown it) false it.text in
+      let next = behind shown it in
+      ap (seen_from (in_text (open_in outer styling shown))) (append_assoc here (styled_html styling next texts) rest)
+      ∙ seen-text styling outer nothing (before shown it) false it.text (styled_html styling next texts ++ rest)
+      ∙ ap₂ (λ a b. a ++ b) (seen_text-styled styling shown it it.text) (seen-styled_html outer nothing next texts rest)
+      ∙ sym (append_assoc (seen_one styling it) (seen_styled styling texts) (seen_from (in_text (open_in outer styling (shown_after next texts))) rest))
+
   seen-styled : (shown : Element) (texts : List Styled)
       → seen_from (in_text (open_in [] styling shown)) (styled_html styling shown texts ++ element_end (shown_after shown texts)) ≡ seen_styled styling texts
-  seen-styled shown [] =
-      ap (seen_from (in_text (open_in [] styling shown))) (sym (append-nil (element_end shown))) ∙ seen-element_end [] [] styling shown
-  seen-styled shown (it ∷ texts) =
-      let here = text_html styling (before shown it) false it.text in
-      let close = element_end (shown_after (behind shown it) texts) in
-      ap (seen_from (in_text (open_in [] styling shown))) (append_assoc here (styled_html styling (behind shown it) texts) close)
-      ∙ seen-text styling [] refl (before shown it) false it.text (styled_html styling (behind shown it) texts ++ close)
-      ∙ ap₂ (λ a b. a ++ b) (seen_text-styled styling shown it it.text) (seen-styled (behind shown it) texts)
+  seen-styled shown texts =
+      let last = shown_after shown texts in
+      seen-styled_html [] refl shown texts (element_end last)
+      ∙ ap (λ l. seen_styled styling texts ++ l)
+      (ap (seen_from (in_text (open_in [] styling last))) (sym (append-nil (element_end last))) ∙ seen-element_end [] [] styling last)
+      ∙ append-nil (seen_styled styling texts)
 
   seen-all : (texts : List Styled) → seen (all_html styling texts) ≡ seen_styled styling texts
   seen-all texts =
@@ -117,21 +128,25 @@ module _ (styling : Styling) where
   sound-before : (shown : Element) (it : Styled) → IsSound shown.link → IsSound it.link → AreSound (before shown it)
   sound-before shown it sound its = record { shown = sound; selected = its }
 
-  IsInside-styled : (shown : Element) (texts : List Styled) → IsSound shown.link → HaveLinks texts → AllByRecursion (λ it. AreTextual (bytes_of it)) texts
-      → IsInElement styling shown (styled_html styling shown texts ++ element_end (shown_after shown texts))
-  IsInside-styled shown [] sound links are = IsInside-nothing styling shown
-  IsInside-styled shown (it ∷ texts) sound links are =
+  -- what follows texts follows in the element of the last one
+  pub IsSound-shown_after : (shown : Element) (texts : List Styled) → IsSound shown.link → HaveLinks texts → IsSound (shown_after shown texts).link
+  IsSound-shown_after shown [] sound links = sound
+  IsSound-shown_after shown (it ∷ texts) sound links = IsSound-shown_after (behind shown it) texts (either shown (element_of it) it.text sound links.0) links.1
+
+  pub IsInside-styled : (shown : Element) (texts : List Styled) (rest : List ℕ) → IsSound shown.link → HaveLinks texts → AllByRecursion (λ it. AreTextual (bytes_of it)) texts
+      → IsInElement styling (shown_after shown texts) rest → IsInElement styling shown (styled_html styling shown texts ++ rest)
+  IsInside-styled shown [] rest sound links are more = more
+  IsInside-styled shown (it ∷ texts) rest sound links are more =
       let next = behind shown it in
-      let close = element_end (shown_after next texts) in
-      subst (IsInElement styling shown) (sym (append_assoc (text_html styling (before shown it) false it.text) (styled_html styling next texts) close))
-      (IsInside-text_html styling (before shown it) false it.text (styled_html styling next texts ++ close) (sound-before shown it sound links.0) are.0
-      (IsInside-styled next texts (either shown (element_of it) it.text sound links.0) links.1 are.1))
+      subst (IsInElement styling shown) (sym (append_assoc (text_html styling (before shown it) false it.text) (styled_html styling next texts) rest))
+      (IsInside-text_html styling (before shown it) false it.text (styled_html styling next texts ++ rest) (sound-before shown it sound links.0) are.0
+      (IsInside-styled next texts rest (either shown (element_of it) it.text sound links.0) links.1 are.1 more))
 
   -- The HTML of text is a fragment,
   pub IsFragment-styled : (texts : List Styled) → HaveLinks texts → AllByRecursion (λ it. AreTextual (bytes_of it)) texts → IsFragment styling (all_html styling texts)
-  IsFragment-styled texts links are = IsFragment-outside styling (all_html styling texts) (IsInside-styled no_element texts IsSound-none links are)
+  IsFragment-styled texts links are = IsFragment-outside styling (all_html styling texts) (IsInside-styled no_element texts (element_end (shown_after no_element texts)) IsSound-none links are (IsInside-nothing styling (shown_after no_element texts)))
 
-  IsUtf8-styled_html : (shown : Element) (texts : List Styled) → IsSound shown.link → HaveLinks texts → AllByRecursion (λ it. IsUtf8 (escaped_text (bytes_of it))) texts
+  pub IsUtf8-styled_html : (shown : Element) (texts : List Styled) → IsSound shown.link → HaveLinks texts → AllByRecursion (λ it. IsUtf8 (escaped_text (bytes_of it))) texts
       → IsUtf8 (styled_html styling shown texts)
   IsUtf8-styled_html shown [] sound links are = IsUtf8-nil
   IsUtf8-styled_html shown (it ∷ texts) sound links are =

@@ -9,7 +9,7 @@ use Rattle.ansi_html.specs.declared.lines.LinesWriter.{LinesWriter}
 use Rattle.ansi_html.specs.Lines.{lined_from, lined_at_end, lined_end, lined_text, lined_ending}
 use Rattle.ansi_html.specs.Liner as liner
 use Rattle.ansi_html.specs.declared.blocks.BlocksWriter.{BlocksWriter}
-use Rattle.ansi_html.specs.Blocks.{Blocked, blocked_at_start, blocked_from, blocked_at_end, blocked_end, blocked_text, blocked_ending}
+use Rattle.ansi_html.specs.Blocks.{Blocked, blocked_from, blocked_at_end, blocked_end, blocked_text, blocked_ending}
 use Rattle.ansi_html.specs.Blocker as blocker
 
 module _ {W : Type 0} (styling : Styling) (performer : HtmlWriter W) (is : IsNew styling performer) (calls : List Call) where

@@ -4,14 +4,12 @@ ghost use Rattle.anstyle_parse.specs.Stream.Call.{execute};
 ghost use Rattle.anstyle_parse.specs.Io.Output.{Adds};
 ghost use Rattle.ansi_html.specs.Blocks.{blocked, left_with_text, block_opening};
 
+use crate::block::{LINES_A_BLOCK, put_block_end};
 use crate::inside::Inside;
 use crate::scheme::Styling;
 use ansi_strip::is_layout;
 use anstyle_parse::io::{Output, Sink, WritingPerformer};
 use anstyle_parse::{Params, Perform, PerformText};
-
-/// The lines that a block has.
-const LINES: u64 = 500;
 
 /// Writes the text of a stream as [`HtmlWriter`](crate::HtmlWriter) does, or in lines as
 /// [`LinesWriter`](crate::LinesWriter) does, in blocks that a browser may lay out one by one.
@@ -52,7 +50,7 @@ impl<W: Sink> BlocksWriter<W> {
     {
         if self.left == 0 {
             self.inside.begin_block();
-            self.left = LINES;
+            self.left = LINES_A_BLOCK;
         }
     }
 
@@ -162,7 +160,7 @@ impl<W: Sink> WritingPerformer<W> for BlocksWriter<W> {
         let BlocksWriter { inside, left } = self;
         let mut output = inside.into_output();
         if left != 0 {
-            output.put(b"</span>");
+            put_block_end(&mut output);
         }
         output
     }

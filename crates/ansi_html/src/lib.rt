@@ -31,6 +31,7 @@ ghost use Rattle.ansi_html.specs.declared.class.Class.{Class};
 ghost use Rattle.ansi_html.specs.Classes.{class_name, classes_of};
 ghost use Rattle.ansi_html.specs.Stylesheet.{vocabulary, stylesheet, applied, snapped};
 
+mod block;
 mod blocks;
 mod chunks;
 mod class;
@@ -54,6 +55,7 @@ mod uri;
 mod verbatim;
 
 use anstyle_parse::canon::{Fault, Output, Sink, Source, write_calls_by};
+pub use block::{LINES_A_BLOCK, put_block_begin, put_block_end};
 pub use blocks::BlocksWriter;
 pub use lines::LinesWriter;
 pub use link::{Link, is_link_command};

@@ -9,6 +9,7 @@ ghost use Rattle.ansi_html.specs.Lines.{line_begin, line_end, ended};
 ghost use Rattle.ansi_html.specs.Blocks.{block_begin};
 ghost use Rattle.ansi_html.specs.Html.{line_break, beginning, value_of, attribute_text, span_begin, span_end, link_begin, link_end, element, element_begin, element_end, change, escaped, escaped_text};
 
+use crate::block::put_block_begin;
 use crate::chunks::{CHUNK, clear_count, specials};
 use crate::class::put_classes;
 use crate::css::is_plain;
@@ -145,13 +146,12 @@ impl<W: Sink> HtmlWriter<W> {
     }
 
     /// Begins the element of a block, where no element is open.
-    #[inline(never)]
     pub(crate) fn begin_block(&mut self)
         ensures styling { styling_of self.new ≡ styling_of self.old }
         ensures standing { standing_of self.new ≡ standing_of self.old }
         ensures added { Adds W.Sink block_begin (output_of self.old) (output_of self.new) }
     {
-        self.output.put(b"<span data-lines=\"500\">");
+        put_block_begin(&mut self.output);
     }
 
     /// Begins the element of a line, where no element is open.

@@ -2,9 +2,11 @@
 ghost use Rattle.std.specs.Prelude.{◌≡◌, ◌++◌, [], encode_utf8};
 ghost use Rattle.anstyle_parse.specs.Io.Output.{Adds};
 ghost use Rattle.ansi_html.specs.Html.{element, no_element, change, span_begin, span_end, element_begin, element_end, escaped_text};
+ghost use Rattle.ansi_html.specs.Blocks.{block_begin, block_end};
 ghost use Rattle.ansi_html.specs.ShownLinks.{link_in};
 ghost use Rattle.ansi_html.specs.Styled.{output_of, styling_of, shown_in};
 
+use crate::block::{put_block_begin, put_block_end};
 use crate::link::Link;
 use crate::performer::{
     put_begin, put_character, put_end, put_escaped, put_span_begin, put_span_end,
@@ -104,6 +106,24 @@ impl<W: Sink> StyledWriter<W> {
         ensures added { Adds W.Sink (escaped_text text.now) (output_of self.old) (output_of self.new) }
     {
         put_escaped(&mut self.output, text);
+    }
+
+    /// Begins the element of a block. None of text is open.
+    pub fn begin_block(&mut self)
+        ensures styling { styling_of self.new ≡ styling_of self.old }
+        ensures shown { shown_in self.new ≡ shown_in self.old }
+        ensures added { Adds W.Sink block_begin (output_of self.old) (output_of self.new) }
+    {
+        put_block_begin(&mut self.output);
+    }
+
+    /// Ends it.
+    pub fn end_block(&mut self)
+        ensures styling { styling_of self.new ≡ styling_of self.old }
+        ensures shown { shown_in self.new ≡ shown_in self.old }
+        ensures added { Adds W.Sink block_end (output_of self.old) (output_of self.new) }
+    {
+        put_block_end(&mut self.output);
     }
 
     /// The output that it writes to.

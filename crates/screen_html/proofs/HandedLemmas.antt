@@ -137,11 +137,11 @@ links-line_end : (on : Bool) → HaveLinks (if on then [] else line_feed ∷ [])
 links-line_end true = tt
 links-line_end false = (IsSound-none, tt)
 
-links-closing : (on : Bool) → HaveLinks (closing_styled on)
+pub links-closing : (on : Bool) → HaveLinks (closing_styled on)
 links-closing true = (IsSound-none, tt)
 links-closing false = tt
 
-links-row : (links : List Kept) (row : List Cell) → AreKept links → HaveLinks (row_styled links row)
+pub links-row : (links : List Kept) (row : List Cell) → AreKept links → HaveLinks (row_styled links row)
 links-row links row are =
     let cells = take (used is_unprinted row) row in
     links-append (map (cell_styled links) cells) (if goes_on row then [] else line_feed ∷ []) (links-cells links cells are) (links-line_end (goes_on row))

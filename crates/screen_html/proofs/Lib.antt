@@ -2,8 +2,12 @@ pub mod AlikeLemmas
 pub mod RowLemmas
 pub mod ShownLemmas
 pub mod HandedLemmas
+pub mod BlockLemmas
+pub mod BlockRowLemmas
 pub mod CellLemmas
 pub mod WholeLemmas
+pub mod BlockPartLemmas
+pub mod BlockReadLemmas
 pub mod LastLemmas
 pub mod PageLemmas
 pub mod PlainTextLemmas

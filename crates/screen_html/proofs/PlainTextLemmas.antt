@@ -1,7 +1,7 @@
 -- Plain text needs no screen: the HTML of what a screen showed of it is that of the stream.
 use Rattle.std.proofs.Common.{◌≡◌, ℕ, ◌≤◌, Bool, true, false, List, [], ◌∷◌, ◌++◌, map, take, refl, sym, ap, ap₂, ◌∙◌, subst, append_assoc, append-nil}
 use Rattle.std.specs.Prelude.{⊤, ◌==◌, if◌then◌else◌}
-use Rattle.std.specs.List.{AllByRecursion, flat_map}
+use Rattle.std.specs.List.{AllByRecursion}
 use Rattle.std.proofs.lemmas.Grind.{flat_map-append}
 use Rattle.anstyle_parse.specs.Stream.Call.{Call, print, execute, hook, put, unhook, osc_dispatch, csi_dispatch, esc_dispatch}
 use Rattle.anstyle_parse.specs.Stream.Calls.{AreCalls}
@@ -11,7 +11,7 @@ use Rattle.ansi_style.specs.Style.{plain}
 use Rattle.ansi_style.proofs.EqualityLemmas.{are_equal-refl}
 use Rattle.ansi_html.specs.declared.scheme.Styling.{Styling}
 use Rattle.ansi_html.specs.Html.{escaped, escaped_text, Element, element, no_element, element_end, Standing, at_start, after_text, text_html, is_executed, call_html, standing_after, standing_at_end, html_from, html}
-use Rattle.ansi_html.specs.Styled.{Styled, element_of, before, behind, styled_html, shown_after, all_html, all_bytes}
+use Rattle.ansi_html.specs.Styled.{Styled, behind, styled_html, shown_after, all_html, all_bytes}
 use Rattle.ansi_screen.specs.declared.cell.Cell.{Cell}
 use Rattle.ansi_screen.specs.After.{State, new_state, after, after_all}
 use Rattle.ansi_screen.specs.Leaving.{rows_left, all_left}
@@ -20,9 +20,9 @@ use Rattle.ansi_screen.specs.Laws.{printing, line_feed as feed}
 use Rattle.screen_text.specs.Laws.{ArePlain, LastIsNotEmpty, lines_bytes}
 use Rattle.screen_text.specs.Lines.{open_after, showing}
 use Rattle.screen_text.specs.Rows.{Handed, leaving, all_handed}
-use Rattle.screen_text.specs.Shown.{given, given_all, shown_text}
+use Rattle.screen_text.specs.Shown.{given, given_all}
 use Rattle.screen_text.proofs.RowTextLemmas.{IsPlainCell, ArePlainCells, ArePlainRows}
-use Rattle.screen_text.proofs.TextLemmas.{plain-marked_lines, line_calls, lines_calls}
+use Rattle.screen_text.proofs.TextLemmas.{plain-marked_lines, lines_calls}
 use Rattle.screen_text.proofs.ThroughLemmas.{lines-only, stripped-through, through-plain}
 use Rattle.screen_html.specs.Links.{Kept, no_links, link_at}
 use Rattle.screen_html.specs.Shown.{cell_styled, line_feed, row_styled, rows_styled, handed_styled, links_behind, closing_styled, shown_styled, shown_html}

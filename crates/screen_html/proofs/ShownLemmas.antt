@@ -24,7 +24,7 @@ use Rattle.screen_html.specs.Shown.{cell_styled, line_feed, row_styled, rows_sty
 use Rattle.screen_html.specs.Page.{page_styled, page_text}
 use Rattle.screen_html.specs.Writer.{Between, row_html, after_row, after_command, closing_html}
 
-abbrev between : Styling → Element → List Kept → Bool → Between
+abbrev pub between : Styling → Element → List Kept → Bool → Between
 between styling shown links on = record { styling = styling; shown = shown; links = links; is_open = on }
 
 -- whether a line is open behind what is handed on
@@ -32,7 +32,7 @@ abbrev open_behind : Bool → List Handed → Bool
 open_behind on all = after_rows after_line after_text_command on all
 
 -- the rows that still show
-handed-rows : (links : List Kept) (rows : List (List Cell)) → handed_styled links (map leaving rows) ≡ rows_styled links rows
+pub handed-rows : (links : List Kept) (rows : List (List Cell)) → handed_styled links (map leaving rows) ≡ rows_styled links rows
 handed-rows links [] = refl
 handed-rows links (row ∷ rows) = ap (λ l. row_styled links row ++ l) (handed-rows links rows)
 
@@ -76,26 +76,38 @@ module _ (styling : Styling) where
       ∙ sym (append_assoc (styled_html styling shown texts) (styled_html styling middle last) (element_end (shown_after middle last)))
       ∙ ap₂ (λ l it. l ++ element_end it) (sym (styled_html-append styling shown texts last)) (sym (shown_after-append shown texts last))
 
+  -- from the start on
+  pub left-rows : (s : State) (calls : List Call)
+      → rows_from row_html after_row after_command (between styling no_element no_links false) (all_handed (given_all calls) s) ≡ left_html styling s calls
+  left-rows s calls = rows_html no_element no_links false (all_handed (given_all calls) s)
+
+  pub ending-rows : (s : State) (calls : List Call)
+      → last_rows_from row_html after_row after_command closing_html
+      (after_rows after_row after_command (between styling no_element no_links false) (all_handed (given_all calls) s))
+      (map leaving (showing (after_all (given_all calls) s).display))
+      ≡ ending_html styling s calls
+  ending-rows s calls =
+      let all = all_handed (given_all calls) s in
+      let texts = handed_styled no_links all in
+      let links = links_behind no_links all in
+      let d = (after_all (given_all calls) s).display in
+      ap (λ at. last_rows_from row_html after_row after_command closing_html at (map leaving (showing d))) (rows_lead no_element no_links false all)
+      ∙ ap (λ o. last_rows_from row_html after_row after_command closing_html (between styling (shown_after no_element texts) links o) (map leaving (showing d))) (handed_open (given_all calls) s false)
+      ∙ last_rows_html (shown_after no_element texts) links (open_after false (all_left (given_all calls) s)) (showing d)
+      ∙ ap (λ it. styled_html styling (shown_after no_element texts) (ending_styled s calls) ++ element_end it)
+      (sym (shown_after-append no_element (left_styled s calls) (ending_styled s calls)))
+
   -- what a new writer writes
   module _ {R : Type 0} (standing_of : R → Between) (s : State) (performer : ShownWriter R) (is : screen_of performer ≡ s)
       (new : standing_of (rows_of performer) ≡ between styling no_element no_links false) (calls : List Call) where
     pub left-new : text_from standing_of row_html after_row after_command performer calls ≡ left_html styling s calls
     left-new =
-        ap₂ (λ at (x : State). rows_from row_html after_row after_command at (all_handed (given_all calls) x)) new is
-        ∙ rows_html no_element no_links false (all_handed (given_all calls) s)
+        ap₂ (λ at (x : State). rows_from row_html after_row after_command at (all_handed (given_all calls) x)) new is ∙ left-rows s calls
 
     pub ending-new : ending_from standing_of row_html after_row after_command closing_html performer calls ≡ ending_html styling s calls
     ending-new =
-        let all = all_handed (given_all calls) s in
-        let texts = handed_styled no_links all in
-        let links = links_behind no_links all in
-        let d = (after_all (given_all calls) s).display in
         ap₂ (λ at (x : State). last_rows_from row_html after_row after_command closing_html (after_rows after_row after_command at (all_handed (given_all calls) x)) (map leaving (showing (after_all (given_all calls) x).display))) new is
-        ∙ ap (λ at. last_rows_from row_html after_row after_command closing_html at (map leaving (showing d))) (rows_lead no_element no_links false all)
-        ∙ ap (λ o. last_rows_from row_html after_row after_command closing_html (between styling (shown_after no_element texts) links o) (map leaving (showing d))) (handed_open (given_all calls) s false)
-        ∙ last_rows_html (shown_after no_element texts) links (open_after false (all_left (given_all calls) s)) (showing d)
-        ∙ ap (λ it. styled_html styling (shown_after no_element texts) (ending_styled s calls) ++ element_end it)
-        (sym (shown_after-append no_element (left_styled s calls) (ending_styled s calls)))
+        ∙ ending-rows s calls
 
   -- all that is written is the HTML of all texts
   pub shown_html-all : (s : State) (calls : List Call) → shown_html styling s calls ≡ all_html styling (shown_styled s calls)

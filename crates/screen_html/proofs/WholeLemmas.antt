@@ -32,11 +32,11 @@ use Rattle.screen_html.proofs.HandedLemmas.{AreKept, kept-none, kept-after, rows
 use Rattle.screen_html.proofs.CellLemmas.{of-shown, of-page}
 use Rattle.screen_html.proofs.ShownLemmas.{shown_html-all, bytes-page, bytes-shown}
 
-AreTextual-append : (first second : List ℕ) → AreTextual first → AreTextual second → AreTextual (first ++ second)
+pub AreTextual-append : (first second : List ℕ) → AreTextual first → AreTextual second → AreTextual (first ++ second)
 AreTextual-append [] second are others = others
 AreTextual-append (b ∷ first) second are others = (are.0, AreTextual-append first second are.1 others)
 
-textual_feed : is_textual 0x0A ≡ true
+pub textual_feed : is_textual 0x0A ≡ true
 unfolding is_textual
 textual_feed = refl
 
@@ -50,7 +50,7 @@ no_return-feed : HasNoReturn (0x0A ∷ [])
 unfolding is_not_return
 no_return-feed = refl
 
-IsUtf8-escaped : (first second : List ℕ) → IsUtf8 (escaped_text first) → IsUtf8 (escaped_text second) → IsUtf8 (escaped_text (first ++ second))
+pub IsUtf8-escaped : (first second : List ℕ) → IsUtf8 (escaped_text first) → IsUtf8 (escaped_text second) → IsUtf8 (escaped_text (first ++ second))
 IsUtf8-escaped first second one other =
     subst IsUtf8 (sym (flat_map-append escaped first second)) (IsUtf8-append (escaped_text first) (escaped_text second) one other)
 

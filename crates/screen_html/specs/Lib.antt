@@ -1,6 +1,7 @@
 pub mod Attributes
+pub mod Blocks
 pub mod Links
+pub mod Page
 pub mod Places
 pub mod Shown
-pub mod Page
 pub mod Writer

@@ -5,18 +5,20 @@ ghost use Rattle.std.specs.Str.{IsUtf8};
 ghost use Rattle.anstyle_parse.specs.Stream.Call.{Call};
 ghost use Rattle.anstyle_parse.specs.Stream.Calls.{AreCalls};
 ghost use Rattle.ansi_html.specs.declared.scheme.Styling.{Styling};
+ghost use Rattle.ansi_html.specs.Blocks.{AreBlocksOf, AreBlocksOfFragments};
 ghost use Rattle.ansi_html.specs.Grammar.{IsFragment};
 ghost use Rattle.ansi_html.specs.Html.{html};
 ghost use Rattle.ansi_html.specs.Links.{IsLink, link_of};
-ghost use Rattle.ansi_html.specs.Reader.{byte_of, href_of, read, drawn};
+ghost use Rattle.ansi_html.specs.Reader.{byte_of, href_of, seen, read, drawn};
 ghost use Rattle.ansi_html.specs.Styled.{all_shown};
 ghost use Rattle.ansi_screen.specs.After.{State, new_state, after_all};
 ghost use Rattle.ansi_screen.specs.Display.{Display};
 ghost use Rattle.ansi_screen.specs.Leaving.{all_left};
 ghost use Rattle.screen_text.specs.Laws.{ArePlain, LastIsNotEmpty, lines_bytes};
-ghost use Rattle.screen_text.specs.Shown.{given_all};
+ghost use Rattle.screen_text.specs.Shown.{given_all, shown_text};
 ghost use Rattle.screen_html.specs.Links.{Kept, most_kept, no_links, numbered, AreLinkCommands, link_at};
-ghost use Rattle.screen_html.specs.Shown.{shown_html};
+ghost use Rattle.screen_html.specs.Shown.{shown_styled, shown_html};
+ghost use Rattle.screen_html.specs.Blocks.{shown_blocked};
 ghost use Rattle.screen_html.specs.Page.{page_styled, page_html, page_text, all_links};
 
 /// Which link a number has: that of the command which got it since the last reset, where fewer than 1,024 links began
@@ -68,4 +70,27 @@ pub fn plain_text()
     ensures { (styling : Styling) (columns rows : ℕ) (lines : List (List ℕ)) (calls : List Call) → 2 ≤ columns
         → 1 ≤ rows → ArePlain lines → LastIsNotEmpty lines → AreCalls (lines_bytes lines) calls
         → shown_html styling (new_state columns rows) calls ≡ html styling calls }
+{}
+
+/// Of what a screen showed as HTML in blocks of lines ([`BlockRows`](crate::BlockRows)) nothing but their tags tells it
+/// from the HTML that [`convert_shown`](crate::convert_shown) writes (`parts`). So a reader sees the same of it (`same`):
+/// each cell's characters with the declarations of its style or its classes, and its link (`read_back`), and the text
+/// that the screen showed (`text`).
+pub fn blocks()
+    ensures parts { (styling : Styling) (screen : State) (calls : List Call)
+        → AreBlocksOf (shown_html styling screen calls) (shown_blocked styling screen calls) }
+    ensures same { (styling : Styling) (screen : State) (calls : List Call)
+        → seen (shown_blocked styling screen calls) ≡ seen (shown_html styling screen calls) }
+    ensures read_back { (styling : Styling) (screen : State) (calls : List Call)
+        → read (shown_blocked styling screen calls) ≡ all_shown styling (shown_styled screen calls) }
+    ensures text { (styling : Styling) (screen : State) (calls : List Call)
+        → map byte_of (read (shown_blocked styling screen calls)) ≡ shown_text screen calls }
+
+    // No markup comes in: each block is a fragment, as what `convert_shown` writes is one.
+    ensures grammar { (styling : Styling) (columns rows : ℕ) (bytes : List ℕ) (calls : List Call) → AreCalls bytes calls
+        → AreBlocksOfFragments styling (shown_blocked styling (new_state columns rows) calls) }
+
+    // It is UTF-8, whatever was read.
+    ensures utf8 { (styling : Styling) (columns rows : ℕ) (bytes : List ℕ) (calls : List Call) → AreCalls bytes calls
+        → IsUtf8 (shown_blocked styling (new_state columns rows) calls) }
 {}

@@ -32,6 +32,7 @@ ghost use Rattle.screen_text.specs.Shown.{shown_text};
 ghost use Rattle.screen_html.specs.Shown.{shown_styled, left_html, ending_html, shown_html};
 
 mod alike;
+mod blocks;
 pub mod laws;
 mod page;
 mod rows;
@@ -41,6 +42,7 @@ mod table;
 use ansi_html::Styling;
 use ansi_screen::Screen;
 use anstyle_parse::io::{Fault, Output, Sink, Source, write_calls_by};
+pub use blocks::BlockRows;
 pub use page::write_screen;
 pub use rows::HtmlRows;
 use screen_text::ShownWriter;

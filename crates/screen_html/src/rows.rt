@@ -3,6 +3,7 @@ ghost use Rattle.std.specs.Prelude.{◌≡◌, ◌≤◌, ◌∷◌, [], length,
 ghost use Rattle.anstyle_parse.specs.Io.Output.{Adds};
 ghost use Rattle.ansi_screen.specs.Grid.{IsBlankFrom};
 ghost use Rattle.ansi_screen.specs.Text.{marks_text};
+ghost use Rattle.ansi_html.specs.Blocks.{block_begin, block_end};
 ghost use Rattle.ansi_html.specs.Html.{escaped_text};
 ghost use Rattle.ansi_html.specs.Styled.{output_of as styled_output, styling_of, shown_in, WritesStyled};
 ghost use Rattle.screen_html.specs.Shown.{cell_styled, line_feed, row_styled};
@@ -120,6 +121,22 @@ impl<W: Sink> HtmlRows<W> {
             links: memory.into_table(),
             is_open: false,
         }
+    }
+
+    /// Begins the element of a block of lines, before a line.
+    pub(crate) fn begin_block(&mut self)
+        ensures standing { standing_of self.new ≡ standing_of self.old }
+        ensures added { Adds W.Sink block_begin (output_of self.old) (output_of self.new) }
+    {
+        self.writer.begin_block();
+    }
+
+    /// Ends it, after a line.
+    pub(crate) fn end_block(&mut self)
+        ensures standing { standing_of self.new ≡ standing_of self.old }
+        ensures added { Adds W.Sink block_end (output_of self.old) (output_of self.new) }
+    {
+        self.writer.end_block();
     }
 }
 

@@ -3,6 +3,7 @@
 use ansi_html::BlocksWriter;
 use ansi_html::Element;
 use ansi_html::HtmlWriter;
+use ansi_html::LINES_A_BLOCK;
 use ansi_html::LinesWriter;
 use ansi_html::Link;
 use ansi_html::Scheme;
@@ -16,6 +17,8 @@ use ansi_html::contrast::linear;
 use ansi_html::convert;
 use ansi_html::convert_lines;
 use ansi_html::is_link_command;
+use ansi_html::put_block_begin;
+use ansi_html::put_block_end;
 use ansi_html::put_stylesheet;
 use ansi_html::put_text;
 use ansi_html::verbatim_length;
@@ -452,7 +455,9 @@ fn names_of_links(rt: HostRuntime) {
     let mut writer = StyledWriter::new(Styling::Classes, Output::new(memory(rt.alloc())));
     writer.select(Style::default(), &link);
     writer.put_char('a');
+    writer.begin_block();
     writer.put_text(b"<b");
+    writer.end_block();
     writer.pass_on();
     assert!(rt; writer.output().fault().is_none());
     assert_well(&rt, writer.into_output().finish());
@@ -462,6 +467,9 @@ fn names_of_links(rt: HostRuntime) {
 fn names_of_what_is_put(rt: HostRuntime) {
     let mut output = Output::new(memory(rt.alloc()));
     put_text(&mut output, "<");
+    put_block_begin(&mut output);
+    put_block_end(&mut output);
+    assert_eq!(rt; LINES_A_BLOCK, 500);
     put_stylesheet(&mut output, Scheme::Light);
     assert_eq!(rt; verbatim_length(b"a\tb<"), 3);
     output.put(b"a");

@@ -3,8 +3,8 @@ use super::assert_written;
 use ansi_html::{Scheme, Styling};
 use ansi_screen::Screen;
 use anstyle_parse::io::{Fault, FromRead, FromWrite, Output, write_calls_by};
-use screen_html::laws::{last_links, plain_text};
-use screen_html::{HtmlRows, LinkMemory, convert_shown};
+use screen_html::laws::{blocks, last_links, plain_text};
+use screen_html::{BlockRows, HtmlRows, LinkMemory, convert_shown};
 use screen_text::{ShownWriter, WriteRows};
 use std::alloc::{AllocError, Global};
 use std::test::Fail;
@@ -47,9 +47,24 @@ fn by_classes(rt: HostRuntime) -> Result<(), Fail> {
     Ok(())
 }
 
-// The name of the law.
+// A line that wraps and is open at the end: the block ends after its line feed.
+#[test]
+fn in_blocks(rt: HostRuntime) -> Result<(), Fail> {
+    let output = Output::new(FromWrite::new(Vec::new(rt.alloc())));
+    let rows = BlockRows::new(Styling::Classes, LinkMemory::new(rt.alloc())?, output);
+    writes_rows(&rows);
+    let performer = ShownWriter::new(Screen::new(rt.alloc(), 3, 1)?, rows);
+    let mut reader = FromRead::new(b"a\n\x1b[3mbcdef".as_slice());
+    let (writer, answer) = write_calls_by(performer, &mut reader, b".");
+    let wanted = b"<span data-lines=\"500\">a\n<span class=\"ansi-italic\">bcdef</span>\n</span>.";
+    assert_written(&rt, (writer.into_inner(), answer), wanted);
+    Ok(())
+}
+
+// The names of the laws.
 #[test]
 fn laws(_rt: HostRuntime) {
+    blocks();
     last_links();
     plain_text();
 }

@@ -12,9 +12,9 @@ pub returns-then-left-ne0 : goal.returns-then-left-ne0
 returns-then-left-ne0 g c =
     let it = c.args.self in
     let inside = inside_end (numbered_of it) (blocked_of it).inside in
-    let end = c.put.new.self in
+    let end = c.put_block_end.new.output in
     subst (λ (none : Bool). Adds g.W.Sink (inside ++ (if none then [] else block_end)) (output_of it) end) (sym (ne_eqb it.left 0 c.if-left-ne0.true))
-    (Adds-append g.W.Sink inside block_end (output_of it) c.into_output-output.result end c.into_output-output.ensures c.put.ensures)
+    (Adds-append g.W.Sink inside block_end (output_of it) c.into_output-output.result end c.into_output-output.ensures c.put_block_end.ensures)
 
 pub returns-else-left-ne0 : goal.returns-else-left-ne0
 returns-else-left-ne0 g c =

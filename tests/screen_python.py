@@ -110,7 +110,7 @@ def memory_cases(ansi):
         yield "60 screens that are %s leave no memory" % name, "%d kB" % grown if grown > 20_000 else None
     screen = ansi.Screen(80, 24, history=24)
     screen.feed(table.STREAM + "\r\n" * 30)
-    calls = [lambda: screen.cells, screen.text, lambda: screen.display, screen.changed, screen.draw, screen.to_html]
+    calls = [lambda: screen.cells, screen.text, lambda: screen.display, screen.changed, screen.changes, screen.draw, screen.to_html]
     calls += [lambda: screen.history[:], screen.history.text, lambda: screen.cursor, lambda: screen.copy() == screen]
     for call in calls * 2:
         call()
@@ -165,7 +165,7 @@ def closed_cases(ansi):
     for error, said, call in words:
         yield "%s: %s" % (error.__name__, said), unlike(error, said, call)
     screen.close()
-    reads = ["text", "cells", "display", "draw", "to_html", "changed", "cursor", "style", "modes", "copy", "reset", "__str__"]
+    reads = ["text", "cells", "display", "draw", "to_html", "changed", "changes", "cursor", "style", "modes", "copy", "reset", "__str__"]
     reads = [(name, lambda name=name: it() if callable(it := getattr(screen, name)) else it) for name in reads]
     reads += [("row", lambda: screen.row(0)), ("cell", lambda: screen.cell(0, 0)), ("link", lambda: screen.link(1)), ("==", lambda: screen == screen)]
     reads += [("update", lambda: screen.update(screen)), ("history", lambda: len(screen.history)), ("joined", lambda: screen.text(joined=True))]

@@ -451,7 +451,7 @@ impl Screen {
 
     /// The columns of a row, counted from 0, whose cells can have changed since [`Screen::forget`]: those from the first to the
     /// last one that was written, and one on each side. At first all can have; in a clone those since it was made. The cursor and
-    /// modes do not count. None where there is no such row.
+    /// modes do not count. The range is empty where none can have, and where there is no such row.
     pub fn changed(&self, row: usize) -> Range<usize> {
         let (mut first, mut past) = (0, 0);
         unsafe { ansi_screen_changed(self.handle(), row, &raw mut first, &raw mut past) };

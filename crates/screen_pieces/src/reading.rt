@@ -24,7 +24,8 @@ fn put_text(cells: &[Cell], room: &mut [u8]) -> Result<usize, usize>
 }
 
 impl Terminal {
-    ghost use Rattle.screen_pieces.specs.Terminal.{display_of, history_of, HasCell, HasRow, HasKeptRow, HasModes, CanHaveChanged};
+    ghost use Rattle.screen_pieces.specs.Terminal.{display_of, history_of, HasCell, HasRow, HasKeptRow, HasModes};
+    ghost use Rattle.screen_pieces.specs.Terminal.{CanHaveChanged};
 
     /// How many columns and rows it has.
     pub fn size(&self) -> (usize, usize)

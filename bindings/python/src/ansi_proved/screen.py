@@ -426,8 +426,8 @@ class Screen:
         """What can have changed since this was asked before, a `Change` for each row where some has: the columns from the first to the
         last one that was written, and one on each side. Where it was not asked before, that is all; in a copy, what it was fed itself.
 
-        It compares nothing, as `changed` does, and is sooner: what is written again, as it was, is among it. The two do not go by
-        each other. The cursor and modes do not count.
+        Where `changed` compares all cells, this asks what was written, which is sooner: what was written again, as it was, is among it.
+        Neither of the two goes by the other. The cursor and modes do not count.
         """
         with self._lock:
             each = [Change(row, *self._two_by(_changed, row)) for row in range(self._rows)]

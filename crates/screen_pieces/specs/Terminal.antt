@@ -58,14 +58,14 @@ pub record IsCopy (terminal copy : Terminal) : Type 0 where
   pub history : history_of copy ≡ history_of terminal
   pub links : links_of copy ≡ links_of terminal
 
--- It takes the next bytes of the stream: whatever bytes it stood after, it stands after these too. Since when it notes
--- what changes stays.
+-- It takes the next bytes of the stream: whatever bytes it stood after, it stands after these too. It forgets nothing
+-- of what can have changed: the picture from which on that is noted stays.
 pub record Feeds (piece : List ℕ) (old new : Terminal) : Type 0 where
   pub stands : (first : State) (before : List ℕ) → StandsAfter first before old → StandsAfter first (before ++ piece) new
   pub room : SameRoom (history_of old) (history_of new)
   pub since : (display_of new).shown ≡ (display_of old).shown
 
--- It is one of the same size at the beginning of a stream. Since when it notes what changes stays here too.
+-- It is one of the same size at the beginning of a stream. Here too it forgets nothing of what can have changed.
 pub record Begins (old new : Terminal) : Type 0 where
   pub stands : StandsAfter (new_state (display_of old).width (display_of old).height) [] new
   pub room : SameRoom (history_of old) (history_of new)

@@ -93,6 +93,38 @@ UNEQUAL = [
 ]
 # Pairs after which they are equal: what is not told does not count (margins, a saved cursor, tabs), nor how it came to be.
 EQUAL = [("a\x1b[1;31mb\x1b[0m", "xb\x1b[1;1Ha\x1b[31;1mb\x1b[m"), ("", "\x1b7"), ("", "\x1b[3g"), ("\x1b[4h\x1b[4l", "")]
+# Streams that come one after another to a screen of 10 columns and 4 rows, and what can have changed by each: of each row that was written
+# the columns from the first to the last one, and one on each side. At first all has.
+CHANGED_SIZE = 10, 4
+ALL = [(row, 0, 10) for row in range(4)]
+CHANGES = [
+    ("", ALL),
+    ("", []),
+    ("\x1b[3;6Hx", [(2, 4, 7)]),  # a letter in column 5
+    ("\x1b[2;1Ha", [(1, 0, 2)]),  # at the left edge, and at the right one
+    ("\x1b[2;10Hb", [(1, 8, 10)]),
+    ("\x1b[1;3Hc\x1b[1;8Hd\x1b[4;5He", [(0, 1, 9), (3, 3, 6)]),  # two of a row, and what stands between them
+    ("\x1b[2;4H\x1b[K", [(1, 2, 10)]),  # EL from column 3 on, and up to it
+    ("\x1b[2;4H\x1b[1K", [(1, 0, 5)]),
+    ("\x1b[3;3H\u4e2d", [(2, 1, 5)]),  # a wide character in columns 2 and 3; and a letter on its right half
+    ("\x1b[3;4Hx", [(2, 2, 5)]),
+    ("\x1b[3;4Hx", [(2, 2, 5)]),  # the same again is written again
+    ("\x1b[?25l\x1b[?7l\x1b[?7h\x1b[31m\x1b[m\x1b[2;2H", []),  # modes, styles and the cursor
+    ("\x1b7\x1b[2;3r\x1b[r\x1bH\x1b]0;t\x07", []),  # what is saved, margins, tabs, a title
+    ("\x1b[3;1H\x1b[L", ALL[2:]),  # IL moves this row and those below
+    ("\x1b[4;1H\n", ALL),  # a line feed on the last row scrolls
+    ("\x1b[2;9H123", [(1, 7, 10), (2, 0, 2)]),  # autowrap
+    ("\x1b[?1049h", ALL),
+    ("\x1b[?1049l", ALL),
+    ("\x1bc", ALL),
+]
+
+
+def changed_lines():
+    """What tests/callers/cells.c and cells.rs write of them."""
+    for _, changes in CHANGES:
+        yield from ("change %d %d %d" % it for it in changes)
+        yield "forgotten"
 
 
 def cells():

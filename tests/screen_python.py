@@ -77,6 +77,33 @@ def mode_cases(ansi):
     yield "a screen equals no text", "it does" if one == "" or one == 5 or one is None else None
 
 
+def change_cases(ansi):
+    """What can have changed, by streams one after another."""
+    screen = ansi.Screen(*table.CHANGED_SIZE)
+    for stream, changes in table.CHANGES:
+        screen.feed(stream)
+        found = screen.changes()
+        yield "what can have changed after %r" % stream, None if found == changes else "it is %s" % found
+    yield "of the type that it says", None if {*map(type, found)} == {ansi.Change} else "it is %s" % found
+    for stream, row in ("x", 0), ("\x1b[3;9Hyz", 2), ("", None):
+        screen.feed(stream)
+        wanted = [row][: row is not None]
+        asked = screen.changed(), screen.changes(), screen.changed(), screen.changes()
+        is_so = asked[0] == wanted and [it.row for it in asked[1]] == wanted and asked[2:] == ([], [])
+        yield "after %r `changes` and `changed` do not go by each other" % stream, None if is_so else "they are %s" % (asked,)
+        screen.feed(stream and "\x1b[%d;2H." % (row + 1))
+        asked = screen.changes(), screen.changed(), screen.changes(), screen.changed()
+        is_so = asked[1] == wanted and [it.row for it in asked[0]] == wanted and asked[2:] == ([], [])
+        yield "nor the other way round", None if is_so else "they are %s" % (asked,)
+    screen.feed("\x1b[2;2Hx")
+    copy = screen.copy()
+    copy.feed("\x1b[4;1Hy")
+    found = copy.changes(), screen.changes()
+    yield "a copy tells what it was fed itself", None if found == ([(3, 0, 2)], [(1, 0, 3)]) else "it is %s" % (found,)
+    screen.reset()
+    yield "a reset may change all", None if screen.changes() == table.ALL else "it is %s" % screen.changes()
+
+
 def fed(ansi, stream):
     screen = ansi.Screen(4, 3)
     screen.feed(stream)
@@ -110,7 +137,7 @@ def memory_cases(ansi):
         yield "60 screens that are %s leave no memory" % name, "%d kB" % grown if grown > 20_000 else None
     screen = ansi.Screen(80, 24, history=24)
     screen.feed(table.STREAM + "\r\n" * 30)
-    calls = [lambda: screen.cells, screen.text, lambda: screen.display, screen.changed, screen.draw, screen.to_html]
+    calls = [lambda: screen.cells, screen.text, lambda: screen.display, screen.changed, screen.changes, screen.draw, screen.to_html]
     calls += [lambda: screen.history[:], screen.history.text, lambda: screen.cursor, lambda: screen.copy() == screen]
     for call in calls * 2:
         call()
@@ -165,7 +192,7 @@ def closed_cases(ansi):
     for error, said, call in words:
         yield "%s: %s" % (error.__name__, said), unlike(error, said, call)
     screen.close()
-    reads = ["text", "cells", "display", "draw", "to_html", "changed", "cursor", "style", "modes", "copy", "reset", "__str__"]
+    reads = ["text", "cells", "display", "draw", "to_html", "changed", "changes", "cursor", "style", "modes", "copy", "reset", "__str__"]
     reads = [(name, lambda name=name: it() if callable(it := getattr(screen, name)) else it) for name in reads]
     reads += [("row", lambda: screen.row(0)), ("cell", lambda: screen.cell(0, 0)), ("link", lambda: screen.link(1)), ("==", lambda: screen == screen)]
     reads += [("update", lambda: screen.update(screen)), ("history", lambda: len(screen.history)), ("joined", lambda: screen.text(joined=True))]
@@ -189,6 +216,6 @@ def shared_cases():
 
 
 def cases(ansi):
-    for part in (cell_cases, mode_cases, memory_cases, kept_cases, busy_cases, closed_cases):
+    for part in (cell_cases, mode_cases, change_cases, memory_cases, kept_cases, busy_cases, closed_cases):
         yield from part(ansi)
     yield from shared_cases()

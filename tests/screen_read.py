@@ -40,7 +40,7 @@ def difference(done, wanted):
 
 
 def read_cases(name, program):
-    """The screen of every kind of cell; modes and cursors; and screens that are equal, or differ in one thing."""
+    """The screen of every kind of cell; modes and cursors; what can have changed; and screens that are equal, or differ in one thing."""
     size = [str(screen_cells.COLUMNS), str(screen_cells.ROWS)]
     *place, is_shown = screen_cells.CURSOR
     modes = {"autowrap", "cursor_shown"} if is_shown else {"autowrap"}
@@ -51,6 +51,9 @@ def read_cases(name, program):
         found = run([program, *SMALL, stream])
         found.stdout = b"\n".join(found.stdout.splitlines()[: len(wanted)])
         yield "the modes and the cursor of %r, in %s" % (stream, name), difference(found, wanted)
+    size = [str(it) for it in screen_cells.CHANGED_SIZE]
+    done = run([program, *size, "--changes", *(stream for stream, _ in screen_cells.CHANGES)])
+    yield "what can have changed by each stream, to the column, in %s" % name, difference(done, [*screen_cells.changed_lines()])
     for answer, pairs in ("equal", screen_cells.EQUAL), ("unequal", screen_cells.UNEQUAL):
         for pair in pairs:
             for one, other in sorted({pair, pair[::-1]}):

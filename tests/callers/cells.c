@@ -1,9 +1,10 @@
 /* Writes what C reads of a screen, by the names of the header, as tests/screen_cells.py has it:
  *
  *     cells COLUMNS ROWS STREAM [OTHER]
+ *     cells COLUMNS ROWS --changes STREAM ..
  *
  * a line for its size, its modes, its cursor, the style of what comes next, each cell and each link of a cell; and with another stream
- * whether the screen of that shows the same. */
+ * whether the screen of that shows the same. Or what can have changed by each stream, a line for each row of which some has. */
 #include "ansi_screen.h"
 
 #include <stdio.h>
@@ -146,12 +147,35 @@ static ansi_screen shown(char **words, const char *stream)
     return screen;
 }
 
+static void put_changes(char **words)
+{
+    ansi_screen screen = shown(words, "");
+    size_t columns, rows, row, first, past;
+
+    must(ansi_screen_size(&screen, &columns, &rows), "it has a size");
+    for (words += 4; *words; words++) {
+        must(ansi_screen_feed(&screen, (const unsigned char *)*words, strlen(*words)), "it takes a stream");
+        for (row = 0; row < rows; row++) {
+            must(ansi_screen_changed(&screen, row, &first, &past), "what can have changed of a row is told");
+            if (first != past)
+                printf("change %zu %zu %zu\n", row, first, past);
+        }
+        must(ansi_screen_forget(&screen), "it forgets");
+        puts("forgotten");
+    }
+    ansi_screen_close(&screen);
+}
+
 int main(int count, char **words)
 {
     ansi_screen screen, other;
 
     if (count < 4)
         return 2;
+    if (!strcmp(words[3], "--changes")) {
+        put_changes(words);
+        return 0;
+    }
     screen = shown(words, words[3]);
     put_screen(&screen);
     if (count > 4) {

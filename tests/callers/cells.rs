@@ -1,9 +1,10 @@
 //! Writes what Rust reads of a screen, by the names of the package, as tests/screen_cells.py has it:
 //!
 //!     cells COLUMNS ROWS STREAM [OTHER]
+//!     cells COLUMNS ROWS --changes STREAM ..
 //!
 //! a line for its size, its modes, its cursor, the style of what comes next, each cell and each link of a cell; and with another stream
-//! whether the screen of that shows the same.
+//! whether the screen of that shows the same. Or what can have changed by each stream, a line for each row of which some has.
 
 use ansi_proved::screen::{Cell, Color, Modes, Part, Screen, Style, Underline};
 use std::fmt::Write;
@@ -88,6 +89,19 @@ fn print(screen: &Screen) {
     }
 }
 
+fn print_changes(mut screen: Screen, streams: &[String]) {
+    for stream in streams {
+        screen.feed(stream.as_bytes());
+        for row in (0..screen.rows()).filter(|row| !screen.changed(*row).is_empty()) {
+            let columns = screen.changed(row);
+            println!("change {row} {} {}", columns.start, columns.end);
+        }
+        assert!(screen.changed(screen.rows()).is_empty(), "there is no further row");
+        screen.forget();
+        println!("forgotten");
+    }
+}
+
 fn main() {
     let words: Vec<String> = std::env::args().collect();
     let size = [&words[1], &words[2]].map(|word| word.parse().expect("a number"));
@@ -96,6 +110,9 @@ fn main() {
         screen.feed(stream.as_bytes());
         screen
     };
+    if words[3] == "--changes" {
+        return print_changes(shown(&String::new()), &words[4..]);
+    }
     let screen = shown(&words[3]);
     print(&screen);
     if let Some(stream) = words.get(4) {

@@ -42,6 +42,8 @@ static bool (*const style_of)(ansi_screen *, ansi_style *) = ansi_screen_style;
 static bool (*const modes_of)(ansi_screen *, ansi_modes *) = ansi_screen_modes;
 static bool (*const cell_of)(ansi_screen *, size_t, size_t, ansi_cell *) = ansi_screen_cell;
 static bool (*const row_of)(ansi_screen *, size_t, ansi_cell *, size_t) = ansi_screen_row;
+static bool (*const changed)(ansi_screen *, size_t, size_t *, size_t *) = ansi_screen_changed;
+static bool (*const forget)(ansi_screen *) = ansi_screen_forget;
 static bool (*const row_text)(ansi_screen *, size_t, unsigned char *, size_t, size_t *) = ansi_screen_row_text;
 static bool (*const part_text)(ansi_screen *, size_t, size_t, size_t, unsigned char *, size_t,
                                size_t *) = ansi_screen_part_text;
@@ -169,6 +171,7 @@ static void none_is_held(void)
     expect(!reset(&it) && !feed(&it, room, sizeof room), "no screen takes bytes");
     expect(!size_of(&it, &one, &two) && one == 7 && two == 8, "no screen has a size");
     expect(!cursor_of(&it, &one, &two) && one == 7 && two == 8, "no screen has a cursor");
+    expect(!changed(&it, 0, &one, &two) && one == 7 && two == 8 && !forget(&it), "no screen has changed, nor forgets it");
     expect(!style_of(&it, &style) && are((unsigned char *)&style, sizeof style, GUARD), "no screen has a style");
     expect(!modes_of(&it, &modes) && are((unsigned char *)&modes, sizeof modes, GUARD), "no screen has modes");
     expect(!cell_of(&it, 0, 0, cells) && !row_of(&it, 0, cells, 4), "no screen has cells");
@@ -261,6 +264,61 @@ static void cells_and_styles(void)
     expect(style_of(&it, &style) && style.italic == 1 && is_color(style.foreground, ANSI_COLOR_BRIGHT, 4, 0, 0), "94");
     expect(is_color(style.background, ANSI_COLOR_NAMED, 5, 0, 0) && !style.bold, "45");
     close_screen(&it);
+}
+
+/* Of each of four rows what can have changed, from a column up to another; none where they are the same. Then it is forgotten. */
+static void changes_are(ansi_screen *screen, const size_t wanted[4][2], const char *what)
+{
+    size_t row, first, past;
+
+    for (row = 0; row < 4; row++) {
+        first = past = 77;
+        expect(changed(screen, row, &first, &past) && first <= past && past <= 8, "what can have changed is within a row");
+        if (wanted[row][0] == wanted[row][1])
+            expect(first == past, what);
+        else
+            expect(first == wanted[row][0] && past == wanted[row][1], what);
+    }
+    expect(forget(screen), "it is forgotten");
+}
+
+static void changes(void)
+{
+    static const size_t all[4][2] = {{0, 8}, {0, 8}, {0, 8}, {0, 8}}, none[4][2] = {{0, 0}, {0, 0}, {0, 0}, {0, 0}};
+    static const size_t letter[4][2] = {{0, 0}, {0, 0}, {4, 7}, {0, 0}}, edges[4][2] = {{0, 2}, {6, 8}, {0, 0}, {0, 8}};
+    static const size_t end[4][2] = {{0, 0}, {1, 8}, {0, 0}, {0, 0}}, wide[4][2] = {{0, 0}, {0, 0}, {1, 5}, {0, 0}};
+    static const size_t twice[4][2] = {{2, 5}, {0, 0}, {0, 0}, {3, 6}}, of_copy[4][2] = {{0, 2}, {0, 0}, {0, 0}, {0, 0}};
+    ansi_screen it = opened(8, 4), copy = {0};
+    size_t first = 7, past = 9;
+
+    changes_are(&it, all, "of a new screen all can have changed");
+    changes_are(&it, none, "and nothing once it is forgotten");
+    feed_text(&it, "\033[3;6Hx");
+    changes_are(&it, letter, "a letter, and one column on each side");
+    feed_text(&it, "a");
+    expect(!changed(&it, 4, &first, &past) && !changed(&it, (size_t)-1, &first, &past), "there is no fifth row, nor any other");
+    expect(first == 7 && past == 9, "and nothing is written of it");
+    expect(forget(&it) && at(&it, 2, 7), "the cursor stays");
+    feed_text(&it, "\033[1;1Ha\033[2;8Hb\033[4;1Hc\033[4;8Hd");
+    changes_are(&it, edges, "no column is beyond the edges");
+    feed_text(&it, "\033[2;3H\033[K");
+    changes_are(&it, end, "the end of a row is erased");
+    feed_text(&it, "\033[3;3H\xe4\xb8\xad");
+    changes_are(&it, wide, "a wide character has two columns");
+    feed_text(&it, "\033[31m\033[4h\033[4l\033[?25l\033[4;2H\0337\033[3");
+    changes_are(&it, none, "the cursor, styles and modes do not count");
+    feed_text(&it, ";1H\033[4;8H\033D");
+    changes_are(&it, all, "all rows move, and what was begun goes on");
+    feed_text(&it, "\033[1;4Hx\033[4;5Hy");
+    expect(copy_of(&copy, &it), "it is copied");
+    feed_text(&copy, "\033[1;1Hz");
+    changes_are(&copy, of_copy, "a copy tells what changed since");
+    changes_are(&it, twice, "and the screen all of it");
+    expect(reset(&it), "it is reset");
+    changes_are(&it, all, "by which all can have changed");
+    shows(&it, "", "and it is blank");
+    close_screen(&it);
+    close_screen(&copy);
 }
 
 static void wraps_and_links(void)
@@ -672,6 +730,7 @@ int main(int count, char **words)
     rows_of_text();
     outside();
     cells_and_styles();
+    changes();
     wraps_and_links();
     modes();
     pieces();

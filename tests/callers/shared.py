@@ -70,6 +70,7 @@ READS = {
     "len": lambda screen, other: "" if len(screen.history) == 12 else "len",
     "left": lambda screen, other: "" if screen.history.left % ROWS_FED == 0 else "left",
     "changed": lambda screen, other: "" if set(screen.changed()) <= set(range(ROWS)) else "changed",
+    "changes": lambda screen, other: "" if {it.row for it in screen.changes()} <= set(range(ROWS)) else "changes",
     "style": lambda screen, other: "" if not screen.style.bold else "style",
     "modes": lambda screen, other: "" if screen.modes.autowrap else "modes",
     "link": lambda screen, other: screen.link(1),

@@ -27,6 +27,7 @@ use alloc::vec::{self, Vec};
 use core::cell::UnsafeCell;
 use core::ffi::c_void;
 use core::fmt;
+use core::ops::Range;
 use core::panic::RefUnwindSafe;
 use core::ptr;
 
@@ -105,6 +106,15 @@ unsafe extern "C" {
         cells: *mut CellBytes,
         count: usize,
     ) -> bool;
+
+    fn ansi_screen_changed(
+        screen: *mut Handle,
+        row: usize,
+        first: *mut usize,
+        past: *mut usize,
+    ) -> bool;
+
+    fn ansi_screen_forget(screen: *mut Handle) -> bool;
 
     fn ansi_screen_row_text(
         screen: *mut Handle,
@@ -437,6 +447,20 @@ impl Screen {
     /// The cells of each row, from the first on.
     pub fn each_row(&self) -> impl Iterator<Item = Vec<Cell>> + '_ {
         (0..self.rows).map(|row| self.row(row).collect())
+    }
+
+    /// The columns of a row, counted from 0, whose cells can have changed since [`Screen::forget`]: those from the first to the
+    /// last one that was written, and one on each side. At first all can have; in a clone those since it was made. The cursor and
+    /// modes do not count. The range is empty where none can have, and where there is no such row.
+    pub fn changed(&self, row: usize) -> Range<usize> {
+        let (mut first, mut past) = (0, 0);
+        unsafe { ansi_screen_changed(self.handle(), row, &raw mut first, &raw mut past) };
+        first..past
+    }
+
+    /// Forgets what can have changed, as whoever has shown all of it wants. Nothing else changes.
+    pub fn forget(&mut self) {
+        unsafe { ansi_screen_forget(self.handle()) };
     }
 
     /// The URI of a link, by the number that a cell has: it begins with `https://`, `http://` or `mailto:`. Empty where none is

@@ -39,6 +39,20 @@ fn cells_by_rows_and_columns() {
     assert!(screen.row(3).next().is_none());
 }
 
+#[test]
+fn what_can_have_changed() {
+    let mut screen = shown(10, 4, "text");
+    assert_eq!((screen.changed(0), screen.changed(3)), (0..10, 0..10));
+    screen.forget();
+    screen.feed(b"\x1b[3;6Hx\x1b[4;10Hy");
+    let all: Vec<_> = (0..5).map(|row| screen.changed(row)).filter(|it| !it.is_empty()).collect();
+    assert_eq!(all, [4..7, 8..10]);
+    let mut copy = screen.clone();
+    copy.feed(b"\x1b[Ha");
+    assert_eq!((copy.changed(0), copy.changed(2).len(), screen.changed(2)), (0..2, 0, 4..7));
+    assert_eq!((screen.text(), screen.cursor()), ("text\n\n     x\n         y\n".into(), Place { row: 3, column: 10 }));
+}
+
 /// Many may read a screen: iterators, and what asks it meanwhile.
 #[test]
 fn a_shared_reference_reads() {

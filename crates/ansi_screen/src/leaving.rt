@@ -64,6 +64,7 @@ fn hand_on<R: TakeRow>(display: &Display, count: usize, taker: &mut R)
 }
 
 impl<R: TakeRow> Scrolling<R> {
+    ghost use Rattle.ansi_screen.specs.After.{as_shown};
     ghost use Rattle.ansi_screen.specs.Leaving.{screen_of, taker_of};
 
     /// One with this screen, of which no row has left yet.
@@ -86,6 +87,14 @@ impl<R: TakeRow> Scrolling<R> {
         ensures { result.now ≡ taker_of self.now }
     {
         &self.taker
+    }
+
+    /// Forgets what can have changed of the screen, as [`Screen::forget`] does; what takes the rows stays.
+    pub fn forget(&mut self)
+        ensures screen { screen_of self.new ≡ as_shown (screen_of self.old) }
+        ensures taker { taker_of self.new ≡ taker_of self.old }
+    {
+        self.screen.forget();
     }
 
     /// What takes the rows hands on what it holds back; the screen stays.

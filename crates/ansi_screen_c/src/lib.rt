@@ -2,6 +2,7 @@
 //! what their caller owes.
 #![tactic(auto)]
 
+mod changes;
 mod drawing;
 mod handle;
 mod history;

@@ -1,5 +1,5 @@
 -- A screen that takes its stream in pieces.
-use Rattle.std.specs.Prelude.{◌≡◌, ◌<◌, ℕ, List, [], ◌++◌, length, take, drop, map, slice_index_or}
+use Rattle.std.specs.Prelude.{◌≡◌, ◌<◌, ◌≤◌, ℕ, List, [], ◌++◌, length, take, drop, map, slice_index_or}
 use Rattle.ansi_style.specs.Style.{plain}
 use Rattle.anstyle_parse.specs.Stream.Call.{Call}
 use Rattle.anstyle_parse.specs.Stream.Calls.{AreCalls}
@@ -8,7 +8,8 @@ use Rattle.anstyle_parse.specs.Views.Parser.{IsAfter}
 use Rattle.ansi_screen.specs.declared.cell.Cell.{Cell}
 use Rattle.ansi_screen.specs.After.{State, new_state, Shows, as_shown}
 use Rattle.ansi_screen.specs.Cells.{blank}
-use Rattle.ansi_screen.specs.Display.{Display, row_cells}
+use Rattle.ansi_screen.specs.Damage.{KeepsColumns}
+use Rattle.ansi_screen.specs.Display.{Display, row_cells, shown_cells}
 use Rattle.ansi_screen.specs.Leaving.{screen_of as scrolling_screen, taker_of}
 use Rattle.ansi_screen.specs.Laws.{with_shown}
 use Rattle.screen_html.specs.Links.{Kept as KeptLink, no_links}
@@ -57,15 +58,18 @@ pub record IsCopy (terminal copy : Terminal) : Type 0 where
   pub history : history_of copy ≡ history_of terminal
   pub links : links_of copy ≡ links_of terminal
 
--- It takes the next bytes of the stream: whatever bytes it stood after, it stands after these too.
+-- It takes the next bytes of the stream: whatever bytes it stood after, it stands after these too. It forgets nothing
+-- of what can have changed: the picture from which on that is noted stays.
 pub record Feeds (piece : List ℕ) (old new : Terminal) : Type 0 where
   pub stands : (first : State) (before : List ℕ) → StandsAfter first before old → StandsAfter first (before ++ piece) new
   pub room : SameRoom (history_of old) (history_of new)
+  pub since : (display_of new).shown ≡ (display_of old).shown
 
--- It is one of the same size at the beginning of a stream.
+-- It is one of the same size at the beginning of a stream. Here too it forgets nothing of what can have changed.
 pub record Begins (old new : Terminal) : Type 0 where
   pub stands : StandsAfter (new_state (display_of old).width (display_of old).height) [] new
   pub room : SameRoom (history_of old) (history_of new)
+  pub since : (display_of new).shown ≡ (display_of old).shown
 
 -- It is a new screen, with room for so many of the rows that leave it.
 pub record IsNew (columns rows history : ℕ) (terminal : Terminal) : Type 0 where
@@ -103,3 +107,11 @@ pub record HasModes (modes : ModeBytes) (d : Display) : Type 0 where
   pub wraps : is_set modes.wraps ≡ d.wraps
   pub inserts : is_set modes.inserts ≡ d.inserts
   pub origin : is_set modes.has_origin ≡ d.cursor.is_relative
+
+-- Of a row within the screen the columns from one up to another can have changed: the others have the cells that they
+-- had when that was last forgotten.
+pub record CanHaveChanged (row first past : ℕ) (terminal : Terminal) : Type 0 where
+  pub row_within : row < (display_of terminal).height
+  pub order : first ≤ past
+  pub within : past ≤ (display_of terminal).width
+  pub kept : KeepsColumns first past (shown_cells row (display_of terminal)) (row_cells row (display_of terminal))

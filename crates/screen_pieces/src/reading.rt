@@ -25,6 +25,7 @@ fn put_text(cells: &[Cell], room: &mut [u8]) -> Result<usize, usize>
 
 impl Terminal {
     ghost use Rattle.screen_pieces.specs.Terminal.{display_of, history_of, HasCell, HasRow, HasKeptRow, HasModes};
+    ghost use Rattle.screen_pieces.specs.Terminal.{CanHaveChanged};
 
     /// How many columns and rows it has.
     pub fn size(&self) -> (usize, usize)
@@ -106,6 +107,19 @@ impl Terminal {
         }
         put_cells(self.screen().row(row), room);
         true
+    }
+
+    /// The columns of a row, counted from 0, that can have changed since that was last forgotten, or since the screen
+    /// was made, and then all: from the first answer up to the second. They are those that were written, and one on
+    /// each side. `None` where there is no such row.
+    pub fn changed(&self, row: usize) -> Option<(usize, usize)>
+        ensures none { IfNone result ((display_of self.now).height ≤ row) }
+        ensures columns { IfSome result (λ columns. CanHaveChanged row columns.0 columns.1 self.now) }
+    {
+        if self.screen().rows() <= row {
+            return None;
+        }
+        Some(self.screen().changed(row))
     }
 
     /// Writes the text of a row, counted from 0, without the blanks at its end to the front of the room, and answers

@@ -104,6 +104,14 @@ impl Terminal {
         self.parser = Parser::<Utf8Parser>::new();
     }
 
+    /// Forgets what can have changed: as it is now, it counts as shown. It stands where it stood. This takes time for
+    /// each row that can have changed, and for those between them.
+    pub fn forget(&mut self)
+        ensures { IsCopy self.old self.new }
+    {
+        self.watched.scrolling.forget();
+    }
+
     /// The screen.
     pub fn screen(&self) -> &Screen
         ensures { result.now ≡ screen_of self.now }

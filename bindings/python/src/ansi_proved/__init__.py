@@ -30,7 +30,7 @@ from .text import strip, text_of
 __version__ = "0.1.0"
 __all__ = ["STYLINGS", "html_of", "page", "safe", "strip", "stylesheet", "text_of", "to_html"]
 __all__ += ["events", "Csi", "Esc", "Execute", "Hook", "Osc", "Put", "Text", "Unhook"]
-_OF_SCREEN = ["Cell", "Color", "Cursor", "History", "Modes", "Screen", "Style"]
+_OF_SCREEN = ["Cell", "Change", "Color", "Cursor", "History", "Modes", "Screen", "Style"]
 _LATER = {**dict.fromkeys(_OF_SCREEN, ".screen"), "shown": ".shown"}
 __all__ += _LATER
 

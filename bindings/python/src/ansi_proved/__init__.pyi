@@ -4,7 +4,7 @@ from typing import Dict, Iterable, Iterator, Literal, Protocol, TypeVar, Union, 
 
 from .event import Csi as Csi, Esc as Esc, Execute as Execute, Hook as Hook, Osc as Osc, Put as Put, Text as Text
 from .event import Unhook as Unhook
-from .screen import Cell as Cell, Color as Color, Cursor as Cursor, History as History, Modes as Modes
+from .screen import Cell as Cell, Change as Change, Color as Color, Cursor as Cursor, History as History, Modes as Modes
 from .screen import Screen as Screen, Style as Style
 
 _Bytes = Union[bytes, bytearray, memoryview]

@@ -20,6 +20,8 @@ ATTRIBUTES = ["bold", "dim", "italic", "blink", "reverse", "hidden", "struck_out
 
 Cursor = namedtuple("Cursor", "row column shown")
 Cursor.__doc__ = "Where the cursor is, counted from 0. Its column is that of the screen's width where a wrap is pending."
+Change = namedtuple("Change", "row first past")
+Change.__doc__ = "Columns of a row that can have changed: from `first` up to `past`, which is not among them."
 Modes = namedtuple("Modes", "cursor_shown alternate_screen autowrap insert origin")
 Modes.__doc__ = "Modes, each True where it is on."
 Color = namedtuple("Color", "kind values")
@@ -83,6 +85,7 @@ _close, _reset = _call("ansi_screen_close", answer=None), _call("ansi_screen_res
 _feed = _call("ansi_screen_feed", _AT, _SIZE)
 _cursor, _style, _modes = _call("ansi_screen_cursor", _AT, _AT), _call("ansi_screen_style", _AT), _call("ansi_screen_modes", _AT)
 _cell, _row = _call("ansi_screen_cell", _SIZE, _SIZE, _AT), _call("ansi_screen_row", _SIZE, _AT, _SIZE)
+_changed, _forget = _call("ansi_screen_changed", _SIZE, _AT, _AT), _call("ansi_screen_forget")
 _text, _row_text = _call("ansi_screen_text", *_WRITES), _call("ansi_screen_row_text", _SIZE, *_WRITES)
 _part_text = _call("ansi_screen_part_text", _SIZE, _SIZE, _SIZE, *_WRITES)
 _draw, _update = _call("ansi_screen_draw", *_WRITES), _call("ansi_screen_update", _AT, *_WRITES)
@@ -419,16 +422,28 @@ class Screen:
             before, self._known = self._known, self._each_row()
             return [row for row in range(self._rows) if self._known[row] != before[row]]
 
+    def changes(self):
+        """What can have changed since this was asked before, a `Change` for each row where some has: the columns from the first to the
+        last one that was written, and one on each side. Where it was not asked before, that is all; in a copy, what it was fed itself.
+
+        Where `changed` compares all cells, this asks what was written, which is sooner: what was written again, as it was, is among it.
+        Neither of the two goes by the other. The cursor and modes do not count.
+        """
+        with self._lock:
+            each = [Change(row, *self._two_by(_changed, row)) for row in range(self._rows)]
+            self._held(_forget(self._at))
+        return [it for it in each if it.first < it.past]
+
     @property
     def history(self):
         """The rows that left the screen, of which the last are kept."""
         return History(self)
 
-    def _two_by(self, call):
+    def _two_by(self, call, *given):
         """The two numbers that a call writes."""
         memory = self._idle.taken()
         with self._lock:
-            self._held(call(self._at, memory.numbers_at, memory.second_at))
+            self._held(call(self._at, *given, memory.numbers_at, memory.second_at))
         found = tuple(memory.numbers)
         self._idle.append(memory)
         return found

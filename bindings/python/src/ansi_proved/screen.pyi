@@ -13,6 +13,11 @@ class Cursor(NamedTuple):
     column: int
     shown: bool
 
+class Change(NamedTuple):
+    row: int
+    first: int
+    past: int
+
 class Modes(NamedTuple):
     cursor_shown: bool
     alternate_screen: bool
@@ -74,6 +79,7 @@ class Screen:
     def cell(self, row: int, column: int) -> Cell: ...
     def row(self, row: int) -> List[Cell]: ...
     def changed(self) -> List[int]: ...
+    def changes(self) -> List[Change]: ...
     @property
     def history(self) -> History: ...
     @property

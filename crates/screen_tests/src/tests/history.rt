@@ -1,5 +1,5 @@
 //! Rows that left a screen.
-use screen_pieces::laws::{copies_stand, rows_are_whole};
+use screen_pieces::laws::{changes_are_told, copies_stand, rows_are_whole};
 use screen_pieces::{CellBytes, History, Terminal};
 use std::alloc::Global;
 use std::test::Fail;
@@ -31,6 +31,7 @@ fn first(history: &History, number: usize) -> (char, usize) {
 fn cells_of_rows(rt: HostRuntime) -> Result<(), Fail> {
     rows_are_whole();
     copies_stand();
+    changes_are_told();
     let terminal = shown(rt.alloc(), b"a\r\nb\r\nc")?;
     assert_eq!(rt; first(terminal.history(), 0), ('a', 4));
     assert_eq!(rt; first(terminal.history(), 1), (' ', 0));

@@ -89,6 +89,19 @@ fn cells(rt: HostRuntime) -> Result<(), Fail> {
     Ok(())
 }
 
+// Of a new screen all can have changed; then what is written, and a column on each side.
+#[test]
+fn changes(rt: HostRuntime) -> Result<(), Fail> {
+    let mut terminal = shown(rt.alloc(), b"a", b"b")?;
+    assert_eq!(rt; terminal.changed(2), Some((0, 4)));
+    terminal.forget();
+    terminal.feed(b"\x1b[2;1Hx");
+    assert_eq!(rt; terminal.changed(1), Some((0, 2)));
+    assert_eq!(rt; terminal.changed(3), None);
+    assert_eq!(rt; text(&terminal), (Ok(5), *b"ab\nx\n\0\0\0"));
+    Ok(())
+}
+
 // What was begun before a reset is forgotten.
 #[test]
 fn resets(rt: HostRuntime) -> Result<(), Fail> {

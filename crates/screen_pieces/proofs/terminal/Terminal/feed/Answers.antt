@@ -30,4 +30,5 @@ returns c =
                 (links-more _ old before _ _ _ _ continues stands.shows (links-since p first before _ stands.links) made.links);
           };
       room = same-room _ _ _ made.scrolls.taken;
+      since = stays;
     }

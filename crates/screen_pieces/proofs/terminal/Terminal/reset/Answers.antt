@@ -2,7 +2,7 @@
 use Rattle.std.proofs.Common.{[], ap, ◌∙◌}
 use Rattle.anstyle_parse.proofs.Canonical.Items.{AreCalls-nil}
 use Rattle.ansi_screen.proofs.LawLemmas.{after-reset}
-use Rattle.ansi_screen.specs.After.{new_state}
+use Rattle.ansi_screen.specs.After.{State, new_state}
 use Rattle.ansi_screen.specs.Leaving.{screen_of}
 use Rattle.screen_pieces.specs.History.{Kept}
 use Rattle.screen_pieces.proofs.FeedLemmas.{keeps-none, with-own}
@@ -28,4 +28,5 @@ returns c =
         most = ap (λ (k : Kept). k.most) c.pass_on.ensures.taker ∙ room.most;
         columns = ap (λ (k : Kept). k.columns) c.pass_on.ensures.taker ∙ room.columns;
       };
+      since = ap (λ (s : State). s.display.shown) (c.pass_on.ensures.screen ∙ c.esc_dispatch.ensures.screen ∙ after-reset old);
     }

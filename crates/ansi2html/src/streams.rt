@@ -322,7 +322,8 @@ impl<W: Sink> Begin<ShownWriter<BlockRows<W>>, W> for Showing {
             ≡ left_blocked (shown_as self.now) (screen_for (size_of self.now) given.read) given.calls) }
         ensures ending { IfOk result (λ performer. (given : Given)
             → BeginsWith (is_decided (size_of self.now)) front.now given
-            → ending_from blocked_of row_blocked after_row_blocked after_command_blocked closing_blocked performer given.calls
+            → ending_from blocked_of row_blocked after_row_blocked after_command_blocked closing_blocked
+            performer given.calls
             ≡ ending_blocked (shown_as self.now) (screen_for (size_of self.now) given.read) given.calls) }
         ensures kept { IfErr result (λ kept. kept ≡ output) }
     {

@@ -69,7 +69,8 @@ blocked_after_all styling s calls =
 
 abbrev pub left_blocked : Styling → State → List Call → List ℕ
 left_blocked styling s calls =
-    rows_from row_blocked after_row_blocked after_command_blocked (blocked_at_start styling) (all_handed (given_all calls) s)
+    rows_from row_blocked after_row_blocked after_command_blocked (blocked_at_start styling)
+    (all_handed (given_all calls) s)
 
 abbrev pub ending_blocked : Styling → State → List Call → List ℕ
 ending_blocked styling s calls =
@@ -91,7 +92,8 @@ abbrev pub TakesRow : {W : Type 0} → SinkOf W → BlockRows W → List Cell �
 TakesRow sink old row new = WritesRow sink blocks_output blocked_of row_blocked after_row_blocked old row new
 
 abbrev pub TakesCommand : {W : Type 0} → SinkOf W → BlockRows W → ℕ → List (List ℕ) → BlockRows W → Type 0
-TakesCommand sink old number parts new = WritesCommand sink blocks_output blocked_of after_command_blocked old number parts new
+TakesCommand sink old number parts new =
+    WritesCommand sink blocks_output blocked_of after_command_blocked old number parts new
 
 abbrev pub PassesOn : {W : Type 0} → SinkOf W → BlockRows W → BlockRows W → Type 0
 PassesOn sink old new = WritesNothing sink blocks_output blocked_of old new

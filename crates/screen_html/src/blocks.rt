@@ -11,9 +11,9 @@ use screen_text::WriteRows;
 
 /// Writes rows as [`HtmlRows`] does, in blocks that a browser may lay out one by one.
 ///
-/// Each block, `<span data-lines="500">…</span>`, has 500 lines, with the line feeds at their ends, and the last one what
-/// is left. A line of several rows is one line, and stands in one block. A block begins before its first row, so where
-/// no row is taken there is none.
+/// Each block, `<span data-lines="500">…</span>`, has 500 lines, with the line feeds at their ends, and the last one
+/// what is left. A line of several rows is one line, and stands in one block. A block begins before its first row, so
+/// where no row is taken there is none.
 #[derive(Drop)]
 pub struct BlockRows<W> {
     rows: HtmlRows<W>,
@@ -37,8 +37,10 @@ impl<W: Sink> BlockRows<W> {
 
     /// A row follows: where no block is open, the next one begins.
     fn begin_row(&mut self)
-        ensures standing { blocked_of self.new ≡ blocked (blocked_of self.old).inside (left_with_row (blocked_of self.old)) }
-        ensures added { Adds W.Sink (block_opening (blocked_of self.old)) (blocks_output self.old) (blocks_output self.new) }
+        ensures standing { blocked_of self.new
+            ≡ blocked (blocked_of self.old).inside (left_with_row (blocked_of self.old)) }
+        ensures added { Adds W.Sink (block_opening (blocked_of self.old))
+            (blocks_output self.old) (blocks_output self.new) }
     {
         if self.left == 0 {
             self.rows.begin_block();
@@ -49,8 +51,10 @@ impl<W: Sink> BlockRows<W> {
     /// A line has ended: so does the block, if that was its last one.
     fn end_line(&mut self)
         requires { 1 ≤ (blocked_of self.old).left }
-        ensures standing { blocked_of self.new ≡ blocked (blocked_of self.old).inside ((blocked_of self.old).left - 1) }
-        ensures added { Adds W.Sink (block_closing ((blocked_of self.old).left - 1)) (blocks_output self.old) (blocks_output self.new) }
+        ensures standing { blocked_of self.new
+            ≡ blocked (blocked_of self.old).inside ((blocked_of self.old).left - 1) }
+        ensures added { Adds W.Sink (block_closing ((blocked_of self.old).left - 1))
+            (blocks_output self.old) (blocks_output self.new) }
     {
         self.left -= 1;
         if self.left == 0 {

@@ -49,7 +49,7 @@ extern "C" {
 
 /* The events, and the room, with which any `count` bytes are always taken at once. */
 #define ANSI_EVENTS_EVENTS(count) (2 * (size_t)(count))
-#define ANSI_EVENTS_ROOM(count) (6 * ((size_t)(count) + 1042))
+#define ANSI_EVENTS_ROOM(count) (6 * (size_t)(count) + ANSI_EVENTS_LEAST_ROOM - 6)
 
 /* The kinds of events. */
 

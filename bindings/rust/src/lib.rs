@@ -45,11 +45,16 @@ pub mod io;
 #[cfg(feature = "screen")]
 pub mod screen;
 
+/// How many bytes the states of streams hold, as `include/` declares them.
+const PENDING: usize = 1042;
+const OTHERS_OF_SAFE: usize = 1056;
+const OTHERS_OF_HTML: usize = 3184;
+
 #[derive(Clone, Debug)]
 #[repr(C)]
 struct StripState {
     length: usize,
-    pending: [u8; 1042],
+    pending: [u8; PENDING],
 }
 
 #[derive(Clone, Debug)]
@@ -62,14 +67,14 @@ struct LineState {
 #[repr(C)]
 struct SafeState {
     length: usize,
-    others: [u8; 1056],
+    others: [u8; OTHERS_OF_SAFE],
 }
 
 #[derive(Clone, Debug)]
 #[repr(C)]
 struct HtmlState {
     length: usize,
-    others: [u8; 3184],
+    others: [u8; OTHERS_OF_HTML],
 }
 
 /// An event as the library writes it: `ansi_event` of `include/ansi_events.h`.
@@ -260,7 +265,7 @@ impl Stripper {
     pub fn new() -> Stripper {
         let stream = StripState {
             length: 0,
-            pending: [0; 1042],
+            pending: [0; PENDING],
         };
         Stripper {
             stream,
@@ -340,7 +345,7 @@ impl SafeStripper {
     pub fn new() -> SafeStripper {
         SafeStripper(SafeState {
             length: 0,
-            others: [0; 1056],
+            others: [0; OTHERS_OF_SAFE],
         })
     }
 
@@ -425,7 +430,7 @@ impl Converter {
     pub fn new(styling: Styling) -> Converter {
         let mut state = HtmlState {
             length: 0,
-            others: [0; 3184],
+            others: [0; OTHERS_OF_HTML],
         };
         // The reference is not kept.
         unsafe { ansi_html_init(&raw mut state, styling as u8) };
@@ -601,7 +606,7 @@ pub fn events<I: IntoIterator<Item = impl AsRef<[u8]>>>(pieces: I) -> Events<I::
         read: 0,
         state: StripState {
             length: 0,
-            pending: [0; 1042],
+            pending: [0; PENDING],
         },
         records: vec![Record::default(); EVENTS],
         room: vec![0; EVENTS_ROOM],

@@ -99,8 +99,8 @@ fn main(rt: HostRuntime) -> ExitCode {
     }
 }
 
-/// How the text of files is written: with what around it on a page, shown by a screen or not, with addresses as links or
-/// not.
+/// How the text of files is written: with what around it on a page, shown by a screen or not, with addresses as links
+/// or not.
 #[derive(Debug, Clone, Copy)]
 struct How<'a> {
     form: Form,

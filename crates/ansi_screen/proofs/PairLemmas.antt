@@ -20,7 +20,7 @@ right-not-left Whole is = cc is
 right-not-left Left is = cc is
 right-not-left Right is = refl
 
-left-not-right : (part : Part) → is_left part ≡ true → is_right part ≡ false
+pub left-not-right : (part : Part) → is_left part ≡ true → is_right part ≡ false
 left-not-right Empty is = cc is
 left-not-right Whole is = cc is
 left-not-right Left is = refl
@@ -82,11 +82,11 @@ right-set_same (y ∷ xs) zero x whole = whole
 right-set_same (y ∷ xs) (suc i) x whole = right-set_same xs i x whole
 
 -- a right half stands behind a left one
-behind-left_at : (x : Cell) (style : Style) (t : Bool) → is_left x.part ≡ t → left_style x ≡ Some style → is_left x.part ≡ true
+pub behind-left_at : (x : Cell) (style : Style) (t : Bool) → is_left x.part ≡ t → left_style x ≡ Some style → is_left x.part ≡ true
 behind-left_at x style true is some = is
 behind-left_at x style false is some = let none : left_style x ≡ None = rw is refl in cc
 
-some-right : (x : Cell) → is_right x.part ≡ true → right_style x ≡ Some x.style
+pub some-right : (x : Cell) → is_right x.part ≡ true → right_style x ≡ Some x.style
 some-right x is = rw is refl
 
 -- a pair that becomes two whole cells

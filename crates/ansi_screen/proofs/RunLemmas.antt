@@ -1,6 +1,6 @@
 -- Characters of one column each, one after another: all at once.
 use Rattle.std.proofs.Common.{◌≡◌, ℕ, zero, suc, ◌+◌, ◌-◌, ◌<◌, ◌≤◌, Bool, true, false, ◌&&◌, List, [], ◌∷◌, ◌++◌, length, get_or, take, drop, set, map, refl, ap, sym, ◌∙◌, arith}
-use Rattle.std.specs.Prelude.{nat_lt, replicate, if◌then◌else◌}
+use Rattle.std.specs.Prelude.{nat_lt, replicate, Option, None, if◌then◌else◌}
 use Rattle.std.proofs.Math.Seq.{drop-cons}
 use Rattle.std.proofs.lemmas.Bool.{lt-ltb, and_right}
 use Rattle.std.proofs.lemmas.List.{append_assoc, length-append, length-map, length-set, length-take-le, length-drop, drop-drop, drop_at, take_at, take-set-le, drop-set-lt, drop-set, set_at, take-append-drop, take_more, map-append, length-take, drop_more, get_or_at, get_or-replicate, length-replicate}
@@ -10,8 +10,10 @@ use Rattle.ansi_screen.specs.declared.cell.Cell.{Cell}
 use Rattle.ansi_screen.specs.declared.cell.Part.TheVariants.{Whole}
 use Rattle.ansi_screen.specs.Cells.{blank, printed_cell, emptied, is_right, cell_at, cut, change}
 use Rattle.ansi_screen.specs.Print.{glyph}
+use Rattle.ansi_screen.specs.Reachable.{left_style, ArePaired}
 use Rattle.ansi_screen.specs.Runs.{glyphs, with_glyphs}
 use Rattle.ansi_screen.proofs.CellLemmas.{cut-none, cut-first}
+use Rattle.ansi_screen.proofs.PairLemmas.{left-not-right, behind-left_at, some-right}
 
 -- whether a right half stands at a place
 abbrev pub right_at : ℕ → List Cell → Bool
@@ -257,6 +259,55 @@ put-run text place style link cells first second third new some inside e f g h =
     let there : place + (place + length text - place) ≡ place + length text = omega arith in
     ap (λ l. take place third ++ (new ++ l)) (drop-drop (place + length text - place) place third ∙ ap (λ n. drop n third) there)
     ∙ put-all text place style link cells first second third new some inside e f g h
+
+-- Of two halves that stand side by side, the first is no right one where the second is.
+right-behind : (place : ℕ) (before : Option Style) (cells : List Cell) → ArePaired before cells → right_at (suc place) cells ≡ true → right_at place cells ≡ false
+right-behind place before [] are half = cc half
+right-behind place before (a ∷ []) are half = cc half
+right-behind zero before (a ∷ b ∷ cells) are half =
+    left-not-right a.part (behind-left_at a b.style _ refl (sym are.1.0 ∙ some-right b half))
+right-behind (suc place) before (a ∷ b ∷ cells) are half = right-behind place (left_style a) (b ∷ cells) are.1 half
+
+-- So a cut behind the first cell leaves what stands before it as it is.
+front-cut-if : (t : Bool) (place : ℕ) (cells : List Cell) → ArePaired None cells → right_at (suc place) cells ≡ t
+    → take place (cut place (cut (suc place) cells)) ≡ take place (cut place cells)
+front-cut-if true place cells are is =
+    let other : right_at place cells ≡ false = right-behind place None cells are is in
+    ap (take place) (cut-off place (cut (suc place) cells) (other-cut place cells other))
+    ∙ (take-cut place place cells (omega arith) ∙ ap (take place) (sym (cut-off place cells other)))
+front-cut-if false place cells are is = ap (λ l. take place (cut place l)) (cut-off (suc place) cells is)
+
+-- So two cuts do, where halves stand in pairs.
+put-all-paired : (text : List ℕ) (place : ℕ) (style : Style) (link : ℕ) (cells first second new : List Cell)
+    → 0 < length text → place + length text ≤ length cells → ArePaired None cells
+    → first ≡ cut place cells → second ≡ cut (place + length text) first
+    → new ≡ glyphs text style link
+    → take place second ++ (new ++ drop (place + length text) second) ≡ with_glyphs place text style link cells
+put-all-paired [] place style link cells first second new some inside are e f h = absurd (omega (arith, some))
+put-all-paired (c ∷ text) place style link cells first second new some inside are e f h =
+    let end : ℕ = place + length text in
+    let last : place + length (c ∷ text) ≡ suc end = omega arith in
+    let second_is : second ≡ cut (suc end) (cut place cells) = f ∙ (ap (λ n. cut n first) last ∙ ap (cut (suc end)) e) in
+    let front : take place second ≡ take place (cut place (cut (suc place) cells)) =
+    ap (take place) second_is
+    ∙ (take-cut place end (cut place cells) (omega arith) ∙ sym (front-cut-if (right_at (suc place) cells) place cells are refl)) in
+    let behind : drop (suc end) second ≡ mended (drop (suc end) cells) =
+    ap (drop (suc end)) second_is
+    ∙ (drop-cut end (cut place cells) ∙ ap mended (drop-past (suc end) place cells (omega arith))) in
+    ap (λ l. l ++ (new ++ drop (place + length (c ∷ text)) second)) front
+    ∙ (ap (λ l. take place (cut place (cut (suc place) cells)) ++ (new ++ l)) (ap (λ n. drop n second) last ∙ (behind ∙ ap (λ n. mended (drop n cells)) (sym last)))
+    ∙ (ap (λ l. take place (cut place (cut (suc place) cells)) ++ (l ++ mended (drop (place + length (c ∷ text)) cells))) h
+    ∙ sym (puts-any c text place style link cells inside)))
+
+pub put-run-paired : (text : List ℕ) (place : ℕ) (style : Style) (link : ℕ) (cells first second new : List Cell)
+    → 0 < length text → place + length text ≤ length cells → ArePaired None cells
+    → first ≡ cut place cells → second ≡ cut (place + length text) first
+    → new ≡ glyphs text style link
+    → take place second ++ (new ++ drop (place + length text - place) (drop place second)) ≡ with_glyphs place text style link cells
+put-run-paired text place style link cells first second new some inside are e f h =
+    let there : place + (place + length text - place) ≡ place + length text = omega arith in
+    ap (λ l. take place second ++ (new ++ l)) (drop-drop (place + length text - place) place second ∙ ap (λ n. drop n second) there)
+    ∙ put-all-paired text place style link cells first second new some inside are e f h
 
 -- one cell more
 pub fill-more : (run : List ℕ) (i : ℕ) (style : Style) (link : ℕ) (x : Cell) (cells initial : List Cell) → i < length run

@@ -1,7 +1,8 @@
 //! Edits of cells in a row, or in several.
-ghost use Rattle.std.specs.Prelude.{true, ◌≡◌, ◌+◌, ◌<◌, ◌≤◌, ◌++◌, length, take, drop};
+ghost use Rattle.std.specs.Prelude.{true, ◌≡◌, ◌+◌, ◌<◌, ◌≤◌, ◌++◌, length, take, drop, None};
 ghost use Rattle.ansi_screen.specs.Cells.{is_right, cell_at, cut, marked_before, going_on, change, erased, moved_back, moved_on, deleted, inserted};
 ghost use Rattle.ansi_screen.specs.Print.{glyph};
+ghost use Rattle.ansi_screen.specs.Reachable.{ArePaired};
 ghost use Rattle.ansi_screen.specs.Runs.{glyphs, with_glyphs};
 
 use crate::cell::{Cell, Part};
@@ -182,13 +183,13 @@ fn put_wide(cells: &mut [Cell], place: usize, c: char, style: Style, link: u32)
 }
 
 /// Printed ASCII, a character in each cell from `place` on: as if each were put by itself. What that leaves of wide
-/// characters, three cuts leave too: at the two ends, and after the first cell, where a right half may follow another.
+/// characters, which stand in pairs of halves, two cuts at the ends leave too.
 pub(crate) fn put_run(cells: &mut [Cell], place: usize, run: &[u8], style: Style, link: u32)
     requires some { 0 < length run.now }
     requires within { place + length run.now ≤ length cells.old }
+    requires paired { ArePaired None cells.old }
     ensures { cells.new ≡ with_glyphs place run.now style link cells.old }
 {
-    cut(cells, place + 1);
     cut(cells, place);
     cut(cells, place + run.len());
     fill(&mut cells[place..place + run.len()], run, style, link);

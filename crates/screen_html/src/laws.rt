@@ -73,9 +73,9 @@ pub fn plain_text()
 {}
 
 /// Of what a screen showed as HTML in blocks of lines ([`BlockRows`](crate::BlockRows)) nothing but their tags tells it
-/// from the HTML that [`convert_shown`](crate::convert_shown) writes (`parts`). So a reader sees the same of it (`same`):
-/// each cell's characters with the declarations of its style or its classes, and its link (`read_back`), and the text
-/// that the screen showed (`text`).
+/// from the HTML that [`convert_shown`](crate::convert_shown) writes (`parts`). So a reader sees the same of it
+/// (`same`): each cell's characters with the declarations of its style or its classes, and its link (`read_back`), and
+/// the text that the screen showed (`text`).
 pub fn blocks()
     ensures parts { (styling : Styling) (screen : State) (calls : List Call)
         → AreBlocksOf (shown_html styling screen calls) (shown_blocked styling screen calls) }

@@ -17,8 +17,8 @@ pub fn rows_are_whole()
         → map (fitted columns) (all_left calls (new_state columns rows)) ≡ all_left calls (new_state columns rows) }
 {}
 
-/// What has changed is told: where a screen has forgotten what can have changed, and has then been fed a piece, each cell
-/// of a row outside of the columns that it tells is the one that it had when it forgot.
+/// What has changed is told: where a screen has forgotten what can have changed, and has then been fed a piece, each
+/// cell of a row outside of the columns that it tells is the one that it had when it forgot.
 pub fn changes_are_told()
     ensures { (columns rows : ℕ) (bytes piece : List ℕ) (old forgotten new : Terminal) (row left right : ℕ)
         → StandsAfter (new_state columns rows) bytes old → IsCopy old forgotten → Feeds piece forgotten new

@@ -11,6 +11,7 @@ from .library import FEW, PIECES, TOO_LITTLE, Idle, Shared, address_of, bytes_of
 from .text import State
 
 MOST = 16384  # bytes that one call is given at most
+PENDING = len(State().pending)  # bytes of a stream that are pending, at most
 EVENTS, ROOM = 4096, 65536  # records and bytes of room that one call writes at most
 # A record is three numbers: start and length of its bytes in the room; and its key, which is all else of it, in
 # bytes kind, byte, flag, how many intermediates, two of these, and padding, two that are 0.
@@ -173,7 +174,7 @@ class _Reader:
 
     def _make_room(self, most):
         """Makes room for the events of so many bytes, or for what one call writes at most."""
-        count, size, self._most = min(2 * most, EVENTS), min(6 * (most + 1042), ROOM), most
+        count, size, self._most = min(2 * most, EVENTS), min(6 * (most + PENDING), ROOM), most
         self._records, self._room = map(ctypes.create_string_buffer, (count * SIZE, size))
         self._view = memoryview(self._records).cast("B").cast("Q")
         self._records_at, self._room_at, first = map(ctypes.addressof, (self._records, self._room, self._numbers))

@@ -76,8 +76,7 @@ void ansi_safe_init(ansi_safe *state);
  *
  * Answers true where bytes were taken, or where there were none. Then all of their text is written but for
  * what waits for what comes next: a carriage return, <, <U or a joiner, and the mark that ends hidden text. The text is
- * UTF-8 by itself, and what follows
- * `written` bytes of room is as it was. At least one byte was taken, and in ANSI_SAFE_ROOM(count) bytes of room
+ * UTF-8 by itself, and what follows `written` bytes of room is as it was. At least one byte was taken, and in ANSI_SAFE_ROOM(count) bytes of room
  * all. Hand on what is written, and call again with the bytes from `taken` on.
  *
  * Answers false where `count` is not 0 and `size` is below ANSI_SAFE_LEAST_ROOM. Then nothing
@@ -86,7 +85,7 @@ void ansi_safe_init(ansi_safe *state);
 bool ansi_safe_feed(ansi_safe *state, const unsigned char *piece, size_t count,
                     unsigned char *room, size_t size, size_t *taken, size_t *written);
 
-/* Ends the stream: writes what still waits, U+FFFD where a character is begun, and <U+shown> behind hidden text.
+/* Ends the stream: writes what still waits, U+FFFD where a character is begun, and <U+shown> after hidden text.
  *
  * room, size      where it goes; at least ANSI_SAFE_END_ROOM bytes
  * written         becomes how many bytes that are

@@ -1,4 +1,5 @@
-/* A terminal's screen: what xterm shows after any bytes, as far as cells, styles, the cursor and modes go.
+/* A terminal's screen: what xterm shows after any bytes, as far as cells, styles, the cursor and modes go, but for what the README of
+ * crates/ansi_screen lists. A character that is broken is U+FFFD, and a byte that belongs to none leaves nothing.
  *
  * A stream comes in pieces of any size, cut anywhere: the screen after it is the same. No input is refused. Memory is
  * taken by ansi_screen_open, ansi_screen_open_with and ansi_screen_copy (malloc), and given back by ansi_screen_close (free);

@@ -2,7 +2,8 @@
  *
  * Usage: titles < RECORDING
  *
- * Ends with status 1 where reading or writing fails. A title has no control in it: the parser drops them. */
+ * Ends with status 1 where reading or writing fails. A title has no byte below 20: the parser drops these. It may have DEL, U+0080 to
+ * U+009F, which some terminals take for controls, and bytes that are no UTF-8. */
 #include "ansi_events.h"
 
 #include <stdio.h>
@@ -20,7 +21,7 @@ static const unsigned char *title_of(const ansi_event *event, size_t *length)
         return NULL;
     if (memcmp(parts, "0;", 2) != 0 && memcmp(parts, "2;", 2) != 0)
         return NULL;
-    *length = event->length - 2; /* what stands behind a further `;` belongs to it */
+    *length = event->length - 2; /* what stands after a further `;` belongs to it */
     return parts + 2;
 }
 

@@ -88,7 +88,7 @@ typedef struct ansi_event {
     unsigned char kind;
     unsigned char byte;
     unsigned char flag;
-    unsigned char intermediate_count; /* at most 2; what is behind them is 0 */
+    unsigned char intermediate_count; /* at most 2; what is after them is 0 */
     unsigned char intermediates[2];
     unsigned char padding[2]; /* each 0 */
 } ansi_event;

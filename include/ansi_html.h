@@ -7,11 +7,11 @@
  * stands in <span style="..">, and what has a link (OSC 8) to https://, http:// or mailto: in
  * <a rel="nofollow noreferrer" href=".." style="..">, which is opened where the link begins and closed where it
  * ends; with ANSI_HTML_CLASSES the attribute is class. A link that is shown was not cut. The HTML is at most 74
- * times as long as the stream, by classes 35 times, and 11 bytes. Before what is printed behind a carriage return stands <br>, unless it is a line
- * feed. No markup comes in from the stream.
+ * times as long as the stream, by classes 35 times, and 11 bytes. Before what is printed after a carriage return stands
+ * <br>, unless it is a line feed. No markup comes in from the stream.
  *
  * The HTML is a fragment for a <pre> of a page in UTF-8, right after a newline there. For classes the page
- * has the rules that `ansi2html --classes --stylesheet` writes.
+ * has the rules that `ansi2html --stylesheet` writes.
  *
  * A stream comes in pieces of any size, cut anywhere: its HTML, and what ends it, is the same. There is
  * nothing to allocate or to free, no input is refused, and no call fails but for a room that is too small.

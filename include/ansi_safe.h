@@ -50,8 +50,8 @@ extern "C" {
 #define ANSI_SAFE_END_ROOM 50
 
 /* The room in which any `count` bytes are always taken at once: of each byte two characters and a mark before each, of ten
- * bytes at most, and two characters that waited. (All of a stream is at most twenty times as long as its bytes, and
- * mostly as long as these.) */
+ * bytes at most, and two characters that waited. (The text of a whole stream is at most twenty times as long as its bytes,
+ * and ten bytes more; mostly it is as long as these.) */
 #define ANSI_SAFE_ROOM(count) (40 * (size_t)(count) + 40)
 
 /* Where a stream and its text stand between two pieces: 1,064 bytes, which belong to the caller.
@@ -76,9 +76,8 @@ void ansi_safe_init(ansi_safe *state);
  *
  * Answers true where bytes were taken, or where there were none. Then all of their text is written but for
  * what waits for what comes next: a carriage return, <, <U or a joiner, and the mark that ends hidden text. The text is
- * UTF-8 by itself, and what follows
- * `written` bytes of room is as it was. At least one byte was taken, and in ANSI_SAFE_ROOM(count) bytes of room
- * all. Hand on what is written, and call again with the bytes from `taken` on.
+ * UTF-8 by itself, and what follows `written` bytes of room is as it was. At least one byte was taken, and in
+ * ANSI_SAFE_ROOM(count) bytes of room all. Hand on what is written, and call again with the bytes from `taken` on.
  *
  * Answers false where `count` is not 0 and `size` is below ANSI_SAFE_LEAST_ROOM. Then nothing
  * is taken or written, `taken` and `written` become 0, and the state and the room are as
@@ -86,7 +85,7 @@ void ansi_safe_init(ansi_safe *state);
 bool ansi_safe_feed(ansi_safe *state, const unsigned char *piece, size_t count,
                     unsigned char *room, size_t size, size_t *taken, size_t *written);
 
-/* Ends the stream: writes what still waits, U+FFFD where a character is begun, and <U+shown> behind hidden text.
+/* Ends the stream: writes what still waits, U+FFFD where a character is begun, and <U+shown> after hidden text.
  *
  * room, size      where it goes; at least ANSI_SAFE_END_ROOM bytes
  * written         becomes how many bytes that are

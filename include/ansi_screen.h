@@ -1,4 +1,5 @@
-/* A terminal's screen: what xterm shows after any bytes, as far as cells, styles, the cursor and modes go.
+/* A terminal's screen: what xterm shows after any bytes, as far as cells, styles, the cursor and modes go, but for what the README of
+ * crates/ansi_screen lists. A character that is broken is U+FFFD, and a byte that belongs to none leaves nothing.
  *
  * A stream comes in pieces of any size, cut anywhere: the screen after it is the same. No input is refused. Memory is
  * taken by ansi_screen_open, ansi_screen_open_with and ansi_screen_copy (malloc), and given back by ansi_screen_close (free);
@@ -196,8 +197,8 @@ bool ansi_screen_text(ansi_screen *screen, unsigned char *room, size_t size, siz
  * anew: that of a row that left before it may be another link's by then. */
 bool ansi_screen_link(ansi_screen *screen, uint32_t number, unsigned char *room, size_t size, size_t *written);
 
-/* The three that follow write bytes to the front of `room`, and how many there are to `written`, as those of text do. They take
- * as much memory while they work (malloc), and give it back; where there is none, they answer false, and `written` is 0. */
+/* The three that follow write bytes to the front of `room`, and how many there are to `written`, as those of text do. While they
+ * work, they take as much memory as the bytes (malloc); where there is none, they answer false, and `written` is 0. */
 
 /* The bytes after which any terminal of its size shows the screen, whatever it showed before: all but links and which rows go
  * on. */
@@ -209,8 +210,9 @@ bool ansi_screen_update(ansi_screen *shown, ansi_screen *wanted, unsigned char *
 
 /* What the screen shows as HTML, which a page has after `<pre>` and a newline: each character in the style of its cell, and in
  * its link; a row that goes on and the next one are one line, and what was never printed at the end of a row and of the screen
- * is left out. As long as no row has left, that is what ansi2html(1) writes with --shown, but for the main screen, which this
- * leaves out where the alternate one shows. `styling` is 0 for light and dark pages, 1 for light ones, 2 for dark ones, and 3 for
+ * is left out. As long as no row has left, that is what ansi2html(1) writes with --fragment --shown of a stream in UTF-8 that has CR LF
+ * between its lines, and no BEL in a string APC, PM or SOS; but for the main screen, which this leaves out where the alternate one
+ * shows. `styling` is 0 for light and dark pages, 1 for light ones, 2 for dark ones, and 3 for
  * classes in place of styles, as in ansi_html.h; any other number is 0. */
 bool ansi_screen_html(ansi_screen *screen, unsigned char styling, unsigned char *room, size_t size, size_t *written);
 

@@ -33,7 +33,7 @@ SAID_IN = {
         "its 1 to {MAX_PARAMS} fields",
         "its value, low byte first, and 1 where the next field belongs to the same group (a : stood between them), or 0",
         "a value is {MAX_FIELD} at most",
-        "at most {MAX_INTERMEDIATES}; what is behind them is 0",
+        "at most {MAX_INTERMEDIATES}; what is after them is 0",
         "a control, byte: of c0 each but esc, and outside of sequences {EXECUTED}",
     ],
     "man/ansi_events.3": [

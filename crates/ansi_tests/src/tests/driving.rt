@@ -1,4 +1,5 @@
 //! What `strip` leaves of DEL and of U+0080 to U+009F, and what `strip_inert` does: rows worked by hand.
+use super::{assert_answer, assert_bytes};
 use ansi_strip::{strip, strip_inert};
 use anstyle_parse::canon::{Fault, FromRead, FromWrite};
 use std::process::Abort;
@@ -24,8 +25,8 @@ const ROWS: [(&[u8], &[u8], &[u8]); 6] = [
 /// A run that went well wrote this.
 fn assert_left(rt: &impl Abort, ran: (FromWrite<Vec<u8>>, Result<(), Fault>), wanted: &[u8]) {
     let (writer, answer) = ran;
-    assert_eq!(rt; answer, Ok(()));
-    assert_eq!(rt; writer.into_inner().as_slice(), wanted);
+    assert_answer(rt, answer, Ok(()));
+    assert_bytes(rt, writer.into_inner().as_slice(), wanted);
 }
 
 #[test]

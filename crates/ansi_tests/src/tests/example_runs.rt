@@ -1,4 +1,5 @@
 //! The examples once each: what the pages say that they write, and the counts that no clause gives.
+use super::{assert_answer, assert_bytes};
 use anstyle_parse::canon::{Fault, FromWrite, Output};
 use examples::{
     Quiet, calls_made, canonical, html, make_first_calls, plain, printed, stay_quiet,
@@ -32,7 +33,8 @@ fn a_quiet_performer_stays(rt: HostRuntime) {
 /// A run that went well wrote this.
 fn assert_written(rt: &impl Abort, ran: (Vec<u8>, Result<(), Fault>), wanted: &[u8]) {
     let (text, answer) = ran;
-    assert_eq!(rt; (text.as_slice(), answer), (wanted, Ok(())));
+    assert_bytes(rt, text.as_slice(), wanted);
+    assert_answer(rt, answer, Ok(()));
 }
 
 // What the crates' pages say of their examples.

@@ -81,18 +81,9 @@ fn assert_run(
 ) -> u64 {
     let (reader, writer, answered) = run_over(form, tape, paper);
     let (tape, paper) = (reader.into_inner(), writer.into_inner());
-    assert!(rt;
-        answered == answer,
-        "{form:?}, {answered:?} after {} bytes",
-        text.len()
-    );
-    assert!(rt;
-        paper.text.as_slice() == text,
-        "{form:?}, {} bytes",
-        text.len()
-    );
-    assert!(rt;
-        [tape.reads, paper.flushes] == calls,
+    assert_eq!(rt;
+        (answered, paper.text.as_slice(), [tape.reads, paper.flushes]),
+        (answer, text, calls),
         "{form:?}, {} bytes",
         text.len()
     );

@@ -1,4 +1,5 @@
 //! Text without the carriage returns before line feeds, in pieces.
+use super::assert_bytes;
 use std::process::Abort;
 use std::test::Fail;
 use stream_state::Fed;
@@ -26,7 +27,7 @@ fn byte_by_byte(rt: HostRuntime) -> Result<(), Fail> {
             text.extend_from_slice(&room[..written])?;
         }
     }
-    assert_eq!(rt; text.as_slice(), b"a\nb\rc\r\n\n\r\xC3\xA9\n\r".as_slice());
+    assert_bytes(&rt, text.as_slice(), b"a\nb\rc\r\n\n\r\xC3\xA9\n\r");
     Ok(())
 }
 
@@ -43,7 +44,7 @@ fn names_of_lines(rt: HostRuntime) {
             written: 4
         })
     );
-    assert_eq!(rt; room.as_slice(), b"\rabc".as_slice());
+    assert_bytes(&rt, room.as_slice(), b"\rabc");
     assert!(rt; state.end(&mut room) == Some(0));
     lines_joined();
     line_states();

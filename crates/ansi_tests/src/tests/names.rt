@@ -1,5 +1,7 @@
 //! Every public item of every library but the screen, by its name, and every implementation that a
 //! type of theirs has of a trait of std: what is gone is missed here.
+use super::assert_answer;
+use super::assert_bytes;
 use ansi_html::BlocksWriter;
 use ansi_html::Element;
 use ansi_html::HtmlWriter;
@@ -252,13 +254,9 @@ fn names_of_the_laws(rt: HostRuntime) {
     stream_state::laws::clones();
 }
 
-#[test]
-fn names_of_html_in_pieces(rt: HostRuntime) {
-    let mut state = HtmlState::new(Styling::Classes);
-    let held: ElementBytes = state.shown;
-    let style: StyleBytes = held.style;
-    let color: ColorBytes = style.foreground;
-    assert_eq!(rt; color.kind, 0);
+/// What is taken and written of a byte with a colour in a link; and ends in a room that is too little, and in one that
+/// is not.
+fn assert_fed(rt: &impl Abort, state: &mut HtmlState) {
     let mut room = [0; END_ROOM];
     // <a rel="nofollow noreferrer" href="http://a" class="ansi-link"><span class="ansi-f1">x, and </span></a>
     let fed = state.feed(b"\x1B]8;;http://a\x07\x1B[31mx", &mut room);
@@ -272,6 +270,16 @@ fn names_of_html_in_pieces(rt: HostRuntime) {
     let mut little = [0; END_ROOM - 1];
     assert!(rt; state.end(&mut little) == None);
     assert!(rt; state.end(&mut room) == Some(11));
+}
+
+#[test]
+fn names_of_html_in_pieces(rt: HostRuntime) {
+    let mut state = HtmlState::new(Styling::Classes);
+    let held: ElementBytes = state.shown;
+    let style: StyleBytes = held.style;
+    let color: ColorBytes = style.foreground;
+    assert_eq!(rt; color.kind, 0);
+    assert_fed(&rt, &mut state);
     let plain = Element {
         style: Style::default(),
         link: b"",
@@ -314,10 +322,11 @@ fn names_of_events(rt: HostRuntime) {
             used: 4
         })
     );
-    assert_eq!(rt; events[0].kind, event_pieces::CSI);
     assert_eq!(rt; events[0].padding, [0; 2]);
-    assert_eq!(rt; events[1].kind, event_pieces::TEXT);
-    assert_eq!(rt; events[2].kind, event_pieces::EXECUTE);
+    assert_eq!(rt;
+        [events[0].kind, events[1].kind, events[2].kind],
+        [event_pieces::CSI, event_pieces::TEXT, event_pieces::EXECUTE]
+    );
     let others = [
         event_pieces::HOOK,
         event_pieces::PUT,
@@ -330,17 +339,22 @@ fn names_of_events(rt: HostRuntime) {
     event_pieces::laws::clones();
 }
 
-#[test]
-fn names_of_readers_and_writers(rt: HostRuntime) {
-    is_plain(Fault::Read);
-    is_plain(Stop::AtEnd);
+/// A performer that writes calls, to the end of a reader.
+fn assert_driven(rt: &(impl Abort + AllocGlobal)) {
     let mut reader = FromRead::new(b"a".as_slice());
     is_source(&reader);
     let mut performer = CanonWriter::new(memory(rt.alloc()));
     writes_calls(&performer);
     assert!(rt; drive(&mut reader, &mut performer) == Stop::AtEnd);
     assert!(rt; performer.fault().is_none());
-    assert_well(&rt, performer.finish());
+    assert_well(rt, performer.finish());
+}
+
+#[test]
+fn names_of_readers_and_writers(rt: HostRuntime) {
+    is_plain(Fault::Read);
+    is_plain(Stop::AtEnd);
+    assert_driven(&rt);
     is_sink(&memory(rt.alloc()));
     is_sink(&Buffer::by_line(memory(rt.alloc())));
     let buffer = Buffer::new(memory(rt.alloc()));
@@ -351,136 +365,225 @@ fn names_of_readers_and_writers(rt: HostRuntime) {
 /// A run that went well; its writer is dropped.
 fn assert_well<W: Drop>(rt: &impl Abort, ran: (W, Result<(), Fault>)) {
     let (_writer, answer) = ran;
-    assert_eq!(rt; answer, Ok(()));
+    assert_answer(rt, answer, Ok(()));
 }
 
 fn reader() -> Reader {
     FromRead::new(b"\x1b[1m".as_slice())
 }
 
-#[test]
-fn names_of_runs(rt: HostRuntime) {
-    assert_well(
-        &rt,
-        write_calls::<CanonWriter<Memory>, Reader, Memory>(&mut reader(), memory(rt.alloc())),
+/// The calls of a reader, by a writer of this kind.
+fn assert_calls_written<P: CallWriter<Memory>>(rt: &(impl Abort + AllocGlobal)) {
+    let ran = write_calls::<P, Reader, Memory>(&mut reader(), memory(rt.alloc()));
+    assert_well(rt, ran);
+}
+
+fn assert_written_between(rt: &(impl Abort + AllocGlobal)) {
+    let ran = write_calls_between::<CanonWriter<Memory>, Reader, Memory>(
+        b"<",
+        &mut reader(),
+        memory(rt.alloc()),
+        b">",
     );
-    assert_well(
-        &rt,
-        write_calls_between::<CanonWriter<Memory>, Reader, Memory>(
-            b"<",
-            &mut reader(),
-            memory(rt.alloc()),
-            b">",
-        ),
+    assert_well(rt, ran);
+}
+
+fn assert_stripped(rt: &(impl Abort + AllocGlobal)) {
+    assert_well(rt, strip(&mut reader(), memory(rt.alloc())));
+    assert_well(rt, strip_inert(&mut reader(), memory(rt.alloc())));
+}
+
+fn assert_converted(rt: &(impl Abort + AllocGlobal)) {
+    let ran = convert(
+        Styling::Inline(Scheme::Both),
+        b"<",
+        &mut reader(),
+        memory(rt.alloc()),
+        b">",
     );
-    assert_well(&rt, strip(&mut reader(), memory(rt.alloc())));
-    assert_well(&rt, strip_inert(&mut reader(), memory(rt.alloc())));
-    assert_well(
-        &rt,
-        write_calls::<LineFeeds<Memory>, Reader, Memory>(&mut reader(), memory(rt.alloc())),
+    assert_well(rt, ran);
+}
+
+fn assert_lines_converted(rt: &(impl Abort + AllocGlobal)) {
+    let ran = convert_lines(
+        Styling::Inline(Scheme::Both),
+        b"<",
+        &mut reader(),
+        memory(rt.alloc()),
+        b">",
     );
-    assert_well(
-        &rt,
-        convert(
-            Styling::Inline(Scheme::Both),
-            b"<",
-            &mut reader(),
-            memory(rt.alloc()),
-            b">",
-        ),
-    );
-    assert_well(
-        &rt,
-        convert_lines(
-            Styling::Inline(Scheme::Both),
-            b"<",
-            &mut reader(),
-            memory(rt.alloc()),
-            b">",
-        ),
-    );
-    assert_well(&rt, plain(rt.alloc(), b"a"));
-    assert_well(
-        &rt,
-        checkpoint(&Parser::<Utf8Parser>::new(), memory(rt.alloc())),
-    );
+    assert_well(rt, ran);
+}
+
+fn assert_kinds_of_bytes(rt: &impl Abort) {
     assert!(rt; MAX_CHECKPOINT > 0 && is_layout(b'\t') && !is_layout(0x07));
     assert!(rt; is_driving('\u{9B}') && !is_driving('\u{A0}'));
     assert!(rt; is_clear(b"a\n") && !is_clear(b"a\x7F"));
     assert!(rt; is_clear_front(b"a\x7F--------------", 1));
+}
+
+fn assert_split(rt: &impl Abort) {
     let (inert, behind) = split_at_driving("a\u{9B}b");
-    assert_eq!(rt; inert.as_bytes(), b"a".as_slice());
-    assert_eq!(rt; behind.as_bytes(), b"b".as_slice());
+    assert_bytes(rt, inert.as_bytes(), b"a");
+    assert_bytes(rt, behind.as_bytes(), b"b");
+}
+
+#[test]
+fn names_of_runs(rt: HostRuntime) {
+    assert_calls_written::<CanonWriter<Memory>>(&rt);
+    assert_written_between(&rt);
+    assert_stripped(&rt);
+    assert_calls_written::<LineFeeds<Memory>>(&rt);
+    assert_converted(&rt);
+    assert_lines_converted(&rt);
+    assert_well(&rt, plain(rt.alloc(), b"a"));
+    let parser = Parser::<Utf8Parser>::new();
+    assert_well(&rt, checkpoint(&parser, memory(rt.alloc())));
+    assert_kinds_of_bytes(&rt);
+    assert_split(&rt);
+}
+
+/// An output over memory.
+fn output(alloc: Global) -> Output<Memory> {
+    Output::new(memory(alloc))
+}
+
+/// The texts of a reader, for this performer.
+fn assert_performs<P: PerformText>(rt: &impl Abort, performer: &mut P) {
+    assert_answer(rt, perform_texts_to_end(&mut reader(), performer), Ok(()));
+}
+
+/// The calls of a reader, by this writer.
+fn assert_writing<P: WritingPerformer<Memory> + Drop>(rt: &impl Abort, writer: P) {
+    is_writing(&writer);
+    assert_well(rt, write_calls_by(writer, &mut reader(), b">"));
+}
+
+/// The same, of one in front of which addresses become links.
+fn assert_resumable<P: Resumable<Memory> + Drop>(rt: &impl Abort, writer: P) {
+    is_resumable(&writer);
+    assert_writing(rt, writer);
+}
+
+fn assert_strippers(rt: &(impl Abort + AllocGlobal)) {
+    let mut stripper = Stripper::over(output(rt.alloc()));
+    writes_calls(&stripper);
+    assert_performs(rt, &mut stripper);
+    let mut inert = Inert::new(stripper);
+    writes_calls(inert.performer());
+    assert_performs(rt, &mut inert);
+}
+
+fn html_writer(alloc: Global, styling: Styling) -> HtmlWriter<Memory> {
+    HtmlWriter::new(styling, output(alloc))
+}
+
+fn linking(alloc: Global) -> Linking<HtmlWriter<Memory>> {
+    let writer = html_writer(alloc, Styling::Classes);
+    is_resumable(&writer);
+    Linking::new(writer)
+}
+
+fn lines_writer(alloc: Global) -> LinesWriter<Memory> {
+    LinesWriter::new(Styling::Classes, output(alloc))
+}
+
+fn blocks_writer(alloc: Global) -> BlocksWriter<Memory> {
+    BlocksWriter::new(Styling::Classes, true, output(alloc))
 }
 
 #[test]
 fn names_of_writers(rt: HostRuntime) {
-    let mut stripper = Stripper::over(Output::new(memory(rt.alloc())));
-    writes_calls(&stripper);
-    assert_eq!(rt; perform_texts_to_end(&mut reader(), &mut stripper), Ok(()));
-    let mut inert = Inert::new(stripper);
-    writes_calls(inert.performer());
-    assert_eq!(rt; perform_texts_to_end(&mut reader(), &mut inert), Ok(()));
-    let writer = HtmlWriter::new(
-        Styling::Inline(Scheme::Dark),
-        Output::new(memory(rt.alloc())),
-    );
-    is_writing(&writer);
-    assert_well(&rt, write_calls_by(writer, &mut reader(), b">"));
-    let lines = LinesWriter::new(Styling::Classes, Output::new(memory(rt.alloc())));
-    is_writing(&lines);
-    is_resumable(&lines);
-    assert_well(&rt, write_calls_by(lines, &mut reader(), b">"));
-    let blocks = BlocksWriter::new(Styling::Classes, true, Output::new(memory(rt.alloc())));
-    is_writing(&blocks);
-    is_resumable(&blocks);
-    assert_well(&rt, write_calls_by(blocks, &mut reader(), b">"));
-    let writer = HtmlWriter::new(Styling::Classes, Output::new(memory(rt.alloc())));
-    is_resumable(&writer);
-    let linking = Linking::new(writer);
-    is_writing(&linking);
-    assert_well(&rt, write_calls_by(linking, &mut reader(), b">"));
+    assert_strippers(&rt);
+    let writer = html_writer(rt.alloc(), Styling::Inline(Scheme::Dark));
+    assert_writing(&rt, writer);
+    assert_writing(&rt, linking(rt.alloc()));
+    assert_resumable(&rt, lines_writer(rt.alloc()));
+    assert_resumable(&rt, blocks_writer(rt.alloc()));
     let mut style = Style::default();
-    assert_eq!(rt; perform_to_end(&mut reader(), &mut style), Ok(()));
+    assert_answer(&rt, perform_to_end(&mut reader(), &mut style), Ok(()));
     assert!(rt; style != Style::default());
 }
 
-#[test]
-fn names_of_links(rt: HostRuntime) {
+/// A link is chosen of the command that asks for it.
+fn select_link(rt: &impl Abort, link: &mut Link) {
     let parts: [&[u8]; 3] = [b"8", b"", b"http://a"];
     assert!(rt; is_link_command(&parts));
-    let mut link = Link::none();
     link.select(&parts);
-    assert_eq!(rt; link.uri(), b"http://a".as_slice());
-    let mut writer = StyledWriter::new(Styling::Classes, Output::new(memory(rt.alloc())));
-    writer.select(Style::default(), &link);
+    assert_bytes(rt, link.uri(), b"http://a");
+}
+
+/// Text and a block are put.
+fn put_parts(writer: &mut StyledWriter<Memory>) {
     writer.put_char('a');
     writer.begin_block();
     writer.put_text(b"<b");
     writer.end_block();
+}
+
+#[test]
+fn names_of_links(rt: HostRuntime) {
+    let mut link = Link::none();
+    select_link(&rt, &mut link);
+    let mut writer = StyledWriter::new(Styling::Classes, output(rt.alloc()));
+    writer.select(Style::default(), &link);
+    put_parts(&mut writer);
     writer.pass_on();
     assert!(rt; writer.output().fault().is_none());
     assert_well(&rt, writer.into_output().finish());
 }
 
-#[test]
-fn names_of_what_is_put(rt: HostRuntime) {
-    let mut output = Output::new(memory(rt.alloc()));
-    put_text(&mut output, "<");
-    put_block_begin(&mut output);
-    put_block_end(&mut output);
-    assert_eq!(rt; LINES_A_BLOCK, 500);
-    put_stylesheet(&mut output, Scheme::Light);
-    assert_eq!(rt; verbatim_length(b"a\tb<"), 3);
+/// What HTML stands on is put, by every name.
+fn put_html(output: &mut Output<Memory>) {
+    put_text(output, "<");
+    put_block_begin(output);
+    put_block_end(output);
+    put_stylesheet(output, Scheme::Light);
+}
+
+/// The parts of a sequence are put, by every name.
+fn put_parts_of_sequences(output: &mut Output<Memory>) {
     output.put(b"a");
     output.put_byte(b'b');
     output.put_char('c');
     output.put_decimal(1);
     output.put_groups(&Params::default());
+}
+
+#[test]
+fn names_of_what_is_put(rt: HostRuntime) {
+    let mut output = output(rt.alloc());
+    put_html(&mut output);
+    assert_eq!(rt; LINES_A_BLOCK, 500);
+    assert_eq!(rt; verbatim_length(b"a\tb<"), 3);
+    put_parts_of_sequences(&mut output);
     assert!(rt; output.fault().is_none());
     Style::default().write_codes(&mut output);
     write_last_style(b"a", &mut output);
     assert_well(&rt, output.finish());
+}
+
+/// What a colour is computed with.
+fn assert_contrasts(rt: &impl Abort) {
+    assert!(rt; linear(255) == 1_000_000);
+    assert!(rt; BLACK.is_read_on_light() && WHITE.is_read_on_dark());
+    assert_eq!(rt; WHITE.nearest(), 231);
+}
+
+/// Text in pieces: a letter, and the end in too little room and in room enough.
+fn assert_letter_and_end(rt: &impl Abort) {
+    let mut state = StreamState::new();
+    let mut room = [0; LEAST_ROOM];
+    let fed = strip_pieces::feed(&mut state, b"a", &mut room);
+    assert!(rt;
+        fed == Some(Fed {
+            taken: 1,
+            written: 1
+        })
+    );
+    assert!(rt; !state.is_in_char());
+    assert!(rt; strip_pieces::end(&mut state, &mut room[..strip_pieces::END_ROOM - 1]) == None);
+    assert!(rt; strip_pieces::end(&mut state, &mut room) == Some(0));
 }
 
 #[test]
@@ -492,9 +595,7 @@ fn names_of_styles_and_pieces(rt: HostRuntime) {
         green: 2,
         blue: 3,
     });
-    assert!(rt; linear(255) == 1_000_000);
-    assert!(rt; BLACK.is_read_on_light() && WHITE.is_read_on_dark());
-    assert_eq!(rt; WHITE.nearest(), 231);
+    assert_contrasts(&rt);
     is_plain(Hue::Black);
     is_plain(Color::Default);
     is_plain(Color::Named(Hue::at(1)));
@@ -506,23 +607,12 @@ fn names_of_styles_and_pieces(rt: HostRuntime) {
     is_plain(style);
     style.select(&Params::default());
 
-    let mut state = StreamState::new();
-    let mut room = [0; LEAST_ROOM];
-    let fed = strip_pieces::feed(&mut state, b"a", &mut room);
-    assert!(rt;
-        fed == Some(Fed {
-            taken: 1,
-            written: 1
-        })
-    );
+    assert_letter_and_end(&rt);
     is_plain(Fed {
         taken: 1,
         written: 1,
     });
-    assert!(rt; !state.is_in_char());
-    assert!(rt; strip_pieces::end(&mut state, &mut room[..strip_pieces::END_ROOM - 1]) == None);
-    assert!(rt; strip_pieces::end(&mut state, &mut room) == Some(0));
-    let mut stripper = Stripper::over(Output::new(memory(rt.alloc())));
+    let mut stripper = Stripper::over(output(rt.alloc()));
     print_end(&mut stripper, true);
 }
 
@@ -534,10 +624,7 @@ fn names_of_test_streams(rt: HostRuntime) -> Result<(), Fail> {
     is_writer(&Paper::narrow(rt.alloc(), 1, Some(ErrorKind::Other)));
     is_writer(&Paper::failing_once(rt.alloc(), 1, None));
     is_plain(TROUBLES);
-    assert_eq!(rt;
-        repeated(rt.alloc(), &[(b"a", 2)])?.as_slice(),
-        b"aa".as_slice()
-    );
+    assert_bytes(&rt, repeated(rt.alloc(), &[(b"a", 2)])?.as_slice(), b"aa");
     Ok(())
 }
 

@@ -1,6 +1,7 @@
 //! Safe text in pieces, and every public item that it stands on by its name.
+use super::{assert_answer, assert_bytes};
 use anstyle_parse::Perform;
-use anstyle_parse::canon::{Output, Sink};
+use anstyle_parse::canon::{Fault, Output, Sink};
 use safe_pieces::laws::{clones, safe_joined, states};
 use safe_pieces::{END_ROOM, LEAST_ROOM, SafeState};
 use safe_text::{Held, MarkedStanding, MarkingWriter, SafeWriter, Standing};
@@ -8,10 +9,8 @@ use std::process::Abort;
 use std::test::Fail;
 use stream_state::{Fed, LentBytes, put_front};
 
-/// The bytes of a stream one by one, and then its end, in the least room.
-#[test]
-fn byte_by_byte(rt: HostRuntime) -> Result<(), Fail> {
-    let stream = "a\u{202E}<\x1B[1mU+\u{1F468}\u{200D}\u{1F469}\r\n\u{200D}\r".as_bytes();
+/// The bytes of a stream one by one, and then its end, in the least room: its text is this.
+fn assert_text(rt: &(impl Abort + AllocGlobal), stream: &[u8], wanted: &str) -> Result<(), Fail> {
     let mut state = SafeState::new();
     let mut text = Vec::new(rt.alloc());
     let mut room = [0; LEAST_ROOM];
@@ -30,77 +29,77 @@ fn byte_by_byte(rt: HostRuntime) -> Result<(), Fail> {
             text.extend_from_slice(&room[..written])?;
         }
     }
-    let wanted = "a<U+202E><U+003C>U+\u{1F468}\u{200D}\u{1F469}\n<U+200D><U+000D>";
-    assert_eq!(rt; text.as_slice(), wanted.as_bytes());
+    assert_bytes(rt, text.as_slice(), wanted.as_bytes());
     Ok(())
+}
+
+#[test]
+fn byte_by_byte(rt: HostRuntime) -> Result<(), Fail> {
+    let stream = "a\u{202E}<\x1B[1mU+\u{1F468}\u{200D}\u{1F469}\r\n\u{200D}\r".as_bytes();
+    let wanted = "a<U+202E><U+003C>U+\u{1F468}\u{200D}\u{1F469}\n<U+200D><U+000D>";
+    assert_text(&rt, stream, wanted)
 }
 
 /// A log in pieces of one byte: a byte of no character, a stamp that BEL ends, and half of a character at the end.
 #[test]
 fn as_a_log(rt: HostRuntime) -> Result<(), Fail> {
-    let mut state = SafeState::new();
-    let mut text = Vec::new(rt.alloc());
-    let mut room = [0; LEAST_ROOM];
-    for byte in b"M\xFCller\x1B_t=17\x07$\xC3\xFF<\xE2\x82" {
-        let fed = state.feed(&[*byte], &mut room);
-        let Some(Fed { taken: 1, written }) = fed else {
-            assert!(rt; false);
-            return Ok(());
-        };
-        if written <= room.len() {
-            text.extend_from_slice(&room[..written])?;
-        }
-    }
-    if let Some(written) = state.end(&mut room) {
-        if written <= room.len() {
-            text.extend_from_slice(&room[..written])?;
-        }
-    }
-    let wanted = "M\u{FFFD}ller$\u{FFFD}\u{FFFD}<\u{FFFD}";
-    assert_eq!(rt; text.as_slice(), wanted.as_bytes());
-    Ok(())
+    let stream = b"M\xFCller\x1B_t=17\x07$\xC3\xFF<\xE2\x82";
+    assert_text(&rt, stream, "M\u{FFFD}ller$\u{FFFD}\u{FFFD}<\u{FFFD}")
 }
 
 /// Hidden text is marked: its line ends, it is shown again, and the stream ends in it.
 #[test]
 fn hidden_text(rt: HostRuntime) -> Result<(), Fail> {
-    let mut state = SafeState::new();
-    let mut text = Vec::new(rt.alloc());
-    let mut room = [0; LEAST_ROOM];
-    for byte in b"a\x1B[8mb\r\nc\x1B[28md<\x1B[8mU\x1B[me\r\x1B[8m\xE2\x82" {
-        let fed = state.feed(&[*byte], &mut room);
-        let Some(Fed { taken: 1, written }) = fed else {
-            assert!(rt; false);
-            return Ok(());
-        };
-        if written <= room.len() {
-            text.extend_from_slice(&room[..written])?;
-        }
-    }
-    if let Some(written) = state.end(&mut room) {
-        if written <= room.len() {
-            text.extend_from_slice(&room[..written])?;
-        }
-    }
+    let stream = b"a\x1B[8mb\r\nc\x1B[28md<\x1B[8mU\x1B[me\r\x1B[8m\xE2\x82";
     let wanted =
         "a<U+hidden>b<U+shown>\n<U+hidden>c<U+shown>d<<U+hidden>U<U+shown>e<U+000D><U+hidden>\u{FFFD}<U+shown>";
-    assert_eq!(rt; text.as_slice(), wanted.as_bytes());
-    Ok(())
+    assert_text(&rt, stream, wanted)
 }
 
-#[test]
-fn names_of_pieces(rt: HostRuntime) {
+/// A state of safe text takes nothing in too little room.
+fn assert_room(rt: &impl Abort) {
     let mut state = SafeState::new();
     let mut room = [0; 64];
     assert!(rt; state.feed(b"a", &mut room[..LEAST_ROOM - 1]) == None);
     assert!(rt; state.end(&mut room[..END_ROOM - 1]) == None);
+}
+
+fn assert_front(rt: &impl Abort) {
+    let mut room = [0; 64];
     assert_eq!(rt; put_front(&mut room, b"ab"), 2);
     assert_eq!(rt; room[1], b'b');
+}
+
+/// Lent bytes take so many of these.
+fn assert_taken(rt: &impl Abort, held: &mut LentBytes<'_>, bytes: &[u8], taken: Option<usize>) {
+    assert_eq!(rt; held.write(bytes), taken);
+}
+
+/// Lent bytes take no more than they have room for.
+fn assert_lent(rt: &impl Abort) {
     let mut lent = [0; 8];
     let mut held = LentBytes::new(7, &mut lent);
-    assert_eq!(rt; held.write(b"12345678"), Some(7));
-    assert_eq!(rt; held.write(b"9"), None);
-    assert_eq!(rt; held.bytes(), b"1234567".as_slice());
+    assert_taken(rt, &mut held, b"12345678", Some(7));
+    assert_taken(rt, &mut held, b"9", None);
+    assert_bytes(rt, held.bytes(), b"1234567");
+}
+
+/// A run went well and wrote this.
+fn assert_held(rt: &impl Abort, held: &LentBytes<'_>, answer: Result<(), Fault>, wanted: &[u8]) {
+    assert_bytes(rt, held.bytes(), wanted);
+    assert_answer(rt, answer, Ok(()));
+}
+
+/// What was printed last is this.
+fn assert_before(rt: &impl Abort, standing: Standing, wanted: char) {
+    assert!(rt; standing.before == wanted);
+}
+
+#[test]
+fn names_of_pieces(rt: HostRuntime) {
+    assert_room(&rt);
+    assert_front(&rt);
+    assert_lent(&rt);
     let mut more = [0; 16];
     let standing = Standing {
         before: 'a',
@@ -108,12 +107,11 @@ fn names_of_pieces(rt: HostRuntime) {
     };
     let mut writer = SafeWriter::resume(standing, Output::new(LentBytes::new(16, &mut more)));
     writer.take('b');
-    assert!(rt; writer.standing().before == 'b');
+    assert_before(&rt, writer.standing(), 'b');
     writer.mark(true);
-    assert!(rt; writer.standing().before == '>');
+    assert_before(&rt, writer.standing(), '>');
     let (held, answer) = writer.suspend().finish();
-    assert_eq!(rt; held.bytes(), b"<b<U+hidden>".as_slice());
-    assert_eq!(rt; answer, Ok(()));
+    assert_held(&rt, &held, answer, b"<b<U+hidden>");
     states();
     safe_joined();
     clones();
@@ -136,6 +134,5 @@ fn names_of_marked_pieces(rt: HostRuntime) {
     let stands = writer.standing();
     assert!(rt; stands.text.before == 'b' && stands.is_hidden && stands.is_open);
     let (held, answer) = writer.suspend().finish();
-    assert_eq!(rt; held.bytes(), b"<U<U+hidden>b".as_slice());
-    assert_eq!(rt; answer, Ok(()));
+    assert_held(&rt, &held, answer, b"<U<U+hidden>b");
 }

@@ -1,8 +1,11 @@
 //! Rows that were worked by hand; and reads and writes that fail.
+use super::{assert_answer, assert_bytes};
+use anstyle_parse::PerformText;
 use anstyle_parse::canon::{CallWriter, Fault, FromRead, FromWrite, Output, WritingPerformer};
 use anstyle_parse::io::perform_texts_to_end;
 use safe_text::laws::{marks, of_the_class, read_back, safe_length, safe_stays, safe_utf8, whole};
 use safe_text::{MarkingWriter, SafeWriter, is_shown, write_safe};
+use std::alloc::Global;
 use std::process::Abort;
 use std::test::Fail;
 use test_streams::Tape;
@@ -45,27 +48,43 @@ const ROWS: [(&str, &str); 15] = [
     ),
 ];
 
+/// What was written to memory is this.
+fn assert_text(rt: &impl Abort, writer: FromWrite<Vec<u8>>, text: &[u8]) {
+    assert_bytes(rt, writer.into_inner().as_slice(), text);
+}
+
+/// Safe text of a tape is this, and the run answers so.
+fn assert_safe(
+    rt: &(impl Abort + AllocGlobal),
+    tape: Tape<'_>,
+    text: &[u8],
+    answer: Result<(), Fault>,
+) {
+    let mut reader = FromRead::new(tape);
+    let writer = FromWrite::new(Vec::new(rt.alloc()));
+    let (writer, answered) = write_safe(&mut reader, writer);
+    assert_text(rt, writer, text);
+    assert_answer(rt, answered, answer);
+}
+
+/// The rows, of which at most so many bytes come a read.
+fn assert_rows(rt: &(impl Abort + AllocGlobal), each: usize) {
+    for (given, text) in ROWS {
+        let mut tape = Tape::new(given.as_bytes());
+        tape.each = each;
+        assert_safe(rt, tape, text.as_bytes(), Ok(()));
+    }
+}
+
 #[test]
 fn texts(rt: HostRuntime) -> Result<(), Fail> {
-    for (given, text) in ROWS {
-        let mut reader = FromRead::new(Tape::new(given.as_bytes()));
-        let writer = FromWrite::new(Vec::new(rt.alloc()));
-        let (writer, answer) = write_safe(&mut reader, writer);
-        assert_eq!(rt; writer.into_inner().as_slice(), text.as_bytes());
-        assert_eq!(rt; answer, Ok(()));
-    }
+    assert_rows(&rt, usize::MAX);
     Ok(())
 }
 
 #[test]
 fn texts_that_come_byte_by_byte(rt: HostRuntime) -> Result<(), Fail> {
-    for (given, text) in ROWS {
-        let mut reader = FromRead::new(Tape::by_byte(given.as_bytes()));
-        let writer = FromWrite::new(Vec::new(rt.alloc()));
-        let (writer, answer) = write_safe(&mut reader, writer);
-        assert_eq!(rt; writer.into_inner().as_slice(), text.as_bytes());
-        assert_eq!(rt; answer, Ok(()));
-    }
+    assert_rows(&rt, 1);
     Ok(())
 }
 
@@ -73,28 +92,41 @@ fn texts_that_come_byte_by_byte(rt: HostRuntime) -> Result<(), Fail> {
 fn what_waits_is_written_where_a_read_fails(rt: HostRuntime) -> Result<(), Fail> {
     let mut tape = Tape::by_byte(b"a\rb");
     tape.fails_at = 3;
-    let mut reader = FromRead::new(tape);
-    let (writer, answer) = write_safe(&mut reader, FromWrite::new(Vec::new(rt.alloc())));
-    assert_eq!(rt; writer.into_inner().as_slice(), b"a<U+000D>".as_slice());
-    assert_eq!(rt; answer, Err(Fault::Read));
+    assert_safe(&rt, tape, b"a<U+000D>", Err(Fault::Read));
     Ok(())
+}
+
+/// An output over memory.
+fn output(alloc: Global) -> Output<FromWrite<Vec<u8>>> {
+    Output::new(FromWrite::new(Vec::new(alloc)))
+}
+
+/// The texts of these bytes, for this performer.
+fn assert_performs<P: PerformText>(rt: &impl Abort, bytes: &[u8], performer: &mut P) {
+    let mut reader = FromRead::new(Tape::new(bytes));
+    assert_answer(rt, perform_texts_to_end(&mut reader, performer), Ok(()));
+}
+
+/// The writer of safe text that marks no hidden text.
+fn assert_safe_writer(rt: &(impl Abort + AllocGlobal)) {
+    let mut writer = SafeWriter::over(output(rt.alloc()));
+    assert_performs(rt, b"a", &mut writer);
+}
+
+/// The one that marks it.
+fn assert_marking_writer(rt: &(impl Abort + AllocGlobal)) {
+    let mut writer = MarkingWriter::over(output(rt.alloc()));
+    assert_performs(rt, b"\x1B[8ma", &mut writer);
+    let (writer, answer) = writer.into_output().finish();
+    assert_text(rt, writer, b"<U+hidden>a<U+shown>");
+    assert_answer(rt, answer, Ok(()));
 }
 
 #[test]
 fn names(rt: HostRuntime) -> Result<(), Fail> {
     assert!(rt; is_shown('a') && is_shown('\t') && !is_shown('\u{202E}') && !is_shown('\r'));
-    let mut reader = FromRead::new(Tape::new(b"a"));
-    let mut writer = SafeWriter::over(Output::new(FromWrite::new(Vec::new(rt.alloc()))));
-    assert_eq!(rt; perform_texts_to_end(&mut reader, &mut writer), Ok(()));
-    let mut reader = FromRead::new(Tape::new(b"\x1B[8ma"));
-    let mut writer = MarkingWriter::over(Output::new(FromWrite::new(Vec::new(rt.alloc()))));
-    assert_eq!(rt; perform_texts_to_end(&mut reader, &mut writer), Ok(()));
-    let (writer, answer) = writer.into_output().finish();
-    assert_eq!(rt;
-        writer.into_inner().as_slice(),
-        b"<U+hidden>a<U+shown>".as_slice()
-    );
-    assert_eq!(rt; answer, Ok(()));
+    assert_safe_writer(&rt);
+    assert_marking_writer(&rt);
     whole();
     marks();
     of_the_class();

@@ -190,7 +190,7 @@ fn after_a_write_that_fails_nothing_is_read(rt: HostRuntime) -> Result<(), Fail>
 }
 
 /// Two writes were made, of which the second failed after an A.
-fn assert_stuck_behind(rt: &impl Abort, paper: Paper) {
+fn assert_stuck(rt: &impl Abort, paper: Paper) {
     assert_bytes(rt, paper.text.as_slice(), b"A");
     assert_count(rt, paper.writes, 2);
 }
@@ -210,7 +210,7 @@ fn after_what_cannot_be_passed_on_nothing_is_read(rt: HostRuntime) -> Result<(),
         let mut readers = [by_byte(b"ABC"), at_once(b"D")];
         let paper = Paper::narrow(rt.alloc(), 1, trouble);
         let paper = stuck_paper(&rt, readers.as_mut_slice(), paper);
-        assert_stuck_behind(&rt, paper);
+        assert_stuck(&rt, paper);
         let [first, second] = readers;
         assert_reads(&rt, first, 2);
         assert_reads(&rt, second, 0);

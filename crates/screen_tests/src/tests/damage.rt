@@ -1,7 +1,8 @@
 //! What a screen says of what has changed, and no more.
+use super::assert_same;
 use ansi_screen::Screen;
 use anstyle_parse::{Parser, Utf8Parser};
-use std::alloc::{AllocError, Global};
+use std::alloc::{AllocError, AllocGlobal, Global};
 use std::process::Abort;
 use std::test::Fail;
 
@@ -11,13 +12,42 @@ fn take(screen: &mut Screen, bytes: &[u8]) {
     parser.advance_all(screen, bytes);
 }
 
+/// A blank screen of 8 columns and 4 rows.
+fn blank(alloc: Global) -> Result<Screen, AllocError> {
+    Screen::new(alloc, 8, 4)
+}
+
+fn forget(screen: &mut Screen) {
+    screen.forget();
+}
+
 /// A screen of 8 columns and 4 rows after the first bytes, which were shown, and the others.
 fn changed(alloc: Global, shown: &[u8], bytes: &[u8]) -> Result<Screen, AllocError> {
-    let mut screen = Screen::new(alloc, 8, 4)?;
+    let mut screen = blank(alloc)?;
     take(&mut screen, shown);
-    screen.forget();
+    forget(&mut screen);
     take(&mut screen, bytes);
     Ok(screen)
+}
+
+/// The columns of a row of a screen of four rows.
+fn assert_columns(rt: &impl Abort, screen: &Screen, row: usize, wanted: (usize, usize)) {
+    assert!(rt; screen.rows() == 4 && row < 4);
+    let (left, right) = screen.changed(row);
+    let (first, past) = wanted;
+    assert_same(
+        rt,
+        &(left < right, left, right),
+        &(first < past, first, past),
+    );
+}
+
+fn assert_framed(rt: &impl Abort, screen: &Screen, wanted: bool) {
+    assert_same(rt, &screen.is_framed(), &wanted);
+}
+
+fn assert_rows(rt: &impl Abort, screen: &Screen, wanted: (usize, usize)) {
+    assert_same(rt, &screen.changed_rows(), &wanted);
 }
 
 /// The rows, the columns of each row, and whether the frame is among them.
@@ -28,14 +58,11 @@ fn assert_changed(
     columns: [(usize, usize); 4],
     is_framed: bool,
 ) {
-    assert!(rt; screen.rows() == 4);
-    assert_eq!(rt; screen.changed_rows(), rows);
+    assert_rows(rt, screen, rows);
     for row in 0..4 {
-        let (left, right) = screen.changed(row);
-        let (first, past) = columns[row];
-        assert_eq!(rt; (left < right, left, right), (first < past, first, past));
+        assert_columns(rt, screen, row, columns[row]);
     }
-    assert_eq!(rt; screen.is_framed(), is_framed);
+    assert_framed(rt, screen, is_framed);
 }
 
 const ALL: (usize, usize) = (0, 8);
@@ -45,46 +72,107 @@ const NONE: (usize, usize) = (1, 1);
 
 #[test]
 fn of_a_new_screen_all_has_changed(rt: HostRuntime) -> Result<(), Fail> {
-    let screen = Screen::new(rt.alloc(), 8, 4)?;
+    let screen = blank(rt.alloc())?;
     assert_changed(&rt, &screen, (0, 4), [ALL, ALL, ALL, ALL], true);
+    drop(screen);
     Ok(())
+}
+
+/// What a screen says that showed the first bytes and took the others.
+fn assert_says(
+    rt: &(impl Abort + AllocGlobal),
+    given: (&[u8], &[u8]),
+    rows: (usize, usize),
+    columns: [(usize, usize); 4],
+    is_framed: bool,
+) -> Result<(), AllocError> {
+    let screen = changed(rt.alloc(), given.0, given.1)?;
+    assert_changed(rt, &screen, rows, columns, is_framed);
+    drop(screen);
+    Ok(())
+}
+
+/// No row, and the frame or not.
+fn assert_no_rows(
+    rt: &(impl Abort + AllocGlobal),
+    shown: &[u8],
+    bytes: &[u8],
+    is_framed: bool,
+) -> Result<(), AllocError> {
+    assert_says(
+        rt,
+        (shown, bytes),
+        (0, 0),
+        [NONE, NONE, NONE, NONE],
+        is_framed,
+    )
+}
+
+/// All rows, and the frame or not.
+fn assert_all_rows(
+    rt: &(impl Abort + AllocGlobal),
+    shown: &[u8],
+    bytes: &[u8],
+    is_framed: bool,
+) -> Result<(), AllocError> {
+    assert_says(rt, (shown, bytes), (0, 4), [ALL, ALL, ALL, ALL], is_framed)
+}
+
+/// These rows and columns, and not the frame.
+fn assert_cells(
+    rt: &(impl Abort + AllocGlobal),
+    shown: &[u8],
+    bytes: &[u8],
+    rows: (usize, usize),
+    columns: [(usize, usize); 4],
+) -> Result<(), AllocError> {
+    assert_says(rt, (shown, bytes), rows, columns, false)
 }
 
 #[test]
 fn what_is_shown_has_not(rt: HostRuntime) -> Result<(), Fail> {
-    let screen = changed(rt.alloc(), b"a\r\nb\x1b7\x1b[S", b"")?;
-    assert_changed(&rt, &screen, (0, 0), [NONE, NONE, NONE, NONE], false);
-    let moved = changed(rt.alloc(), b"a\r\nb", b"\x1b[3;3H\x1b[1m\t\x1b[?25l\x1b8")?;
-    assert_changed(&rt, &moved, (0, 0), [NONE, NONE, NONE, NONE], false);
+    assert_no_rows(&rt, b"a\r\nb\x1b7\x1b[S", b"", false)?;
+    assert_no_rows(&rt, b"a\r\nb", b"\x1b[3;3H\x1b[1m\t\x1b[?25l\x1b8", false)?;
     Ok(())
 }
 
 #[test]
 fn what_is_written_has(rt: HostRuntime) -> Result<(), Fail> {
-    let one = changed(rt.alloc(), b"", b"\x1b[2;3Hx")?;
-    assert_changed(&rt, &one, (1, 2), [NONE, (1, 4), NONE, NONE], false);
-    let two = changed(rt.alloc(), b"", b"a\x1b[4;8Hb")?;
-    assert_changed(&rt, &two, (0, 4), [(0, 2), NONE, NONE, (6, 8)], false);
-    let erased = changed(rt.alloc(), b"a\r\nb", b"\r\x1b[K")?;
-    assert_changed(&rt, &erased, (1, 2), [NONE, ALL, NONE, NONE], false);
-    let below = changed(rt.alloc(), b"a\r\nb", b"\x1b[J")?;
-    assert_changed(&rt, &below, (1, 4), [NONE, (0, 8), ALL, ALL], false);
+    assert_cells(&rt, b"", b"\x1b[2;3Hx", (1, 2), [NONE, (1, 4), NONE, NONE])?;
+    assert_cells(
+        &rt,
+        b"",
+        b"a\x1b[4;8Hb",
+        (0, 4),
+        [(0, 2), NONE, NONE, (6, 8)],
+    )?;
+    assert_cells(&rt, b"a\r\nb", b"\r\x1b[K", (1, 2), [NONE, ALL, NONE, NONE])?;
+    assert_cells(&rt, b"a\r\nb", b"\x1b[J", (1, 4), [NONE, (0, 8), ALL, ALL])?;
     Ok(())
 }
 
 #[test]
 fn where_a_row_no_longer_goes_on(rt: HostRuntime) -> Result<(), Fail> {
-    let ended = changed(rt.alloc(), b"12345678abc", b"\r\x1b[K")?;
-    assert_changed(&rt, &ended, (0, 2), [(6, 8), ALL, NONE, NONE], false);
+    assert_cells(
+        &rt,
+        b"12345678abc",
+        b"\r\x1b[K",
+        (0, 2),
+        [(6, 8), ALL, NONE, NONE],
+    )?;
     Ok(())
 }
 
 #[test]
 fn rows_that_move(rt: HostRuntime) -> Result<(), Fail> {
-    let scrolled = changed(rt.alloc(), b"a", b"\x1b[4;1H\n")?;
-    assert_changed(&rt, &scrolled, (0, 4), [ALL, ALL, ALL, ALL], false);
-    let inserted = changed(rt.alloc(), b"a", b"\x1b[3;1H\x1b[L")?;
-    assert_changed(&rt, &inserted, (2, 4), [NONE, NONE, ALL, ALL], false);
+    assert_all_rows(&rt, b"a", b"\x1b[4;1H\n", false)?;
+    assert_cells(
+        &rt,
+        b"a",
+        b"\x1b[3;1H\x1b[L",
+        (2, 4),
+        [NONE, NONE, ALL, ALL],
+    )?;
     Ok(())
 }
 
@@ -97,12 +185,10 @@ fn the_frame(rt: HostRuntime) -> Result<(), Fail> {
         b"\x1b[3g",
         b"\x1b[!p",
     ] {
-        let framed = changed(rt.alloc(), b"a", bytes)?;
-        assert_changed(&rt, &framed, (0, 0), [NONE, NONE, NONE, NONE], true);
+        assert_no_rows(&rt, b"a", bytes, true)?;
     }
     for bytes in [b"\x1b[?1049h".as_slice(), b"\x1bc"] {
-        let other = changed(rt.alloc(), b"a", bytes)?;
-        assert_changed(&rt, &other, (0, 4), [ALL, ALL, ALL, ALL], true);
+        assert_all_rows(&rt, b"a", bytes, true)?;
     }
     Ok(())
 }

@@ -5,8 +5,9 @@ ghost use Rattle.ansi_screen.specs.After.{as_shown};
 ghost use Rattle.screen_draw.specs.Update.{update_calls};
 ghost use Rattle.std.specs.Prelude.{◌≡◌, ◌≤◌, IfOk};
 
-use ansi_screen::{Place, Screen, is_shown};
-use anstyle_parse::io::{FromRead, FromWrite, Output, Sink};
+use super::assert_same;
+use ansi_screen::{Cell, Place, Screen, is_shown};
+use anstyle_parse::io::{Fault, FromRead, FromWrite, Output, Sink};
 use anstyle_parse::{Parser, Utf8Parser};
 use screen_draw::laws::{
     followed, forgets, noted, redrawn, same_text, selected, unchanged, updated,
@@ -15,6 +16,11 @@ use screen_draw::{Form, draw, show_to_end, update, update_noted, update_to_end};
 use std::alloc::{AllocError, AllocGlobal, Global};
 use std::process::Abort;
 use std::test::Fail;
+
+/// A blank screen of 9 columns and 3 rows.
+fn blank(alloc: Global) -> Result<Screen, AllocError> {
+    Screen::new(alloc, 9, 3)
+}
 
 /// A screen of 9 columns and 3 rows after the bytes.
 fn shown(alloc: Global, bytes: &[u8]) -> Result<Screen, AllocError> {
@@ -36,40 +42,98 @@ fn place(row: usize, column: usize) -> Place {
 /// one stop, no autowrap, insert mode.
 const PARTS: &[u8] = b"x\x1b[?1049h\x1b[2;3r\x1b[2;4H\x1b7\x1b[?7l\x1b[4h\x1b[3g\x1bH\x1b[3;1Hy";
 
+fn assert_margins(rt: &impl Abort, screen: &Screen, wanted: (usize, usize)) {
+    assert_same(rt, &screen.margins(), &wanted);
+}
+
+fn assert_stops(rt: &impl Abort, screen: &Screen, wanted: &[bool]) {
+    assert_same(rt, &screen.stops(), &wanted);
+}
+
+fn assert_saved(rt: &impl Abort, screen: &Screen, wanted: Place) {
+    assert_same(rt, &screen.saved(), &wanted);
+}
+
+fn assert_hidden_saved(rt: &impl Abort, screen: &Screen, wanted: Place) {
+    assert_same(rt, &screen.hidden_saved(), &wanted);
+}
+
+fn assert_cursor(rt: &impl Abort, screen: &Screen, wanted: Place) {
+    assert_same(rt, &screen.cursor(), &wanted);
+}
+
+/// Whether a screen wraps, and whether it inserts.
+fn assert_modes(rt: &impl Abort, screen: &Screen, wanted: (bool, bool)) {
+    assert_same(rt, &(screen.wraps(), screen.inserts()), &wanted);
+}
+
+fn assert_alternate(rt: &impl Abort, screen: &Screen, wanted: bool) {
+    assert_same(rt, &screen.is_alternate(), &wanted);
+}
+
+/// The only stop that [`PARTS`] leaves.
+const STOPS: &[bool] = &[false, false, false, true, false, false, false, false, false];
+
 /// What [`PARTS`] leads to.
 fn assert_parts(rt: &impl Abort, screen: &Screen) {
-    assert_eq!(rt; screen.margins(), (1, 3));
-    let stops = [false, false, false, true, false, false, false, false, false];
-    assert_eq!(rt; screen.stops(), stops.as_slice());
-    assert_eq!(rt; screen.saved(), place(1, 3));
-    assert_eq!(rt; screen.hidden_saved(), place(0, 1));
-    assert!(rt; screen.is_alternate() && screen.inserts() && !screen.wraps());
+    assert_margins(rt, screen, (1, 3));
+    assert_stops(rt, screen, STOPS);
+    assert_saved(rt, screen, place(1, 3));
+    assert_hidden_saved(rt, screen, place(0, 1));
+    assert_alternate(rt, screen, true);
+    assert_modes(rt, screen, (false, true));
 }
 
 #[test]
 fn parts(rt: HostRuntime) -> Result<(), Fail> {
-    assert_parts(&rt, &shown(rt.alloc(), PARTS)?);
+    let screen = shown(rt.alloc(), PARTS)?;
+    assert_parts(&rt, &screen);
+    drop(screen);
     Ok(())
+}
+
+/// A row of nine cells begins with this character, which is no right half.
+fn assert_begins(rt: &impl Abort, cells: &[Cell], character: char) {
+    assert!(rt; cells.len() == 9);
+    assert_same(rt, &cells[0].character, &character);
+    assert!(rt; !cells[0].is_right());
+}
+
+/// The third row of a screen begins with y, and the first that is hidden with x.
+fn assert_rows_begin(rt: &impl Abort, screen: &Screen) {
+    assert!(rt; screen.rows() == 3 && screen.columns() == 9);
+    assert_begins(rt, screen.row(2), 'y');
+    assert_begins(rt, screen.hidden_row(0), 'x');
 }
 
 #[test]
 fn cells(rt: HostRuntime) -> Result<(), Fail> {
     let screen = shown(rt.alloc(), PARTS)?;
-    assert!(rt; screen.rows() == 3 && screen.columns() == 9);
-    let (cells, hidden) = (screen.row(2), screen.hidden_row(0));
-    assert!(rt; cells.len() == 9 && hidden.len() == 9);
-    assert_eq!(rt; (cells[0].character, hidden[0].character), ('y', 'x'));
-    assert!(rt; !cells[0].is_right());
+    assert_rows_begin(&rt, &screen);
+    drop(screen);
     Ok(())
+}
+
+fn assert_same_size(rt: &impl Abort, a: &Screen, b: &Screen) {
+    assert_same(rt, &(a.columns(), a.rows()), &(b.columns(), b.rows()));
+}
+
+fn assert_same_cells(rt: &impl Abort, a: &[Cell], b: &[Cell]) {
+    assert_same(rt, &a, &b);
+}
+
+/// Two screens have the same cells in a row, and in the hidden one of this number.
+fn assert_same_row(rt: &impl Abort, a: &Screen, b: &Screen, row: usize) {
+    assert!(rt; row < a.rows() && row < b.rows());
+    assert_same_cells(rt, a.row(row), b.row(row));
+    assert_same_cells(rt, a.hidden_row(row), b.hidden_row(row));
 }
 
 /// Two screens have the same cells in each row, and in each that is hidden.
 fn assert_same_rows(rt: &impl Abort, a: &Screen, b: &Screen) {
-    assert_eq!(rt; (a.columns(), a.rows()), (b.columns(), b.rows()));
+    assert_same_size(rt, a, b);
     for row in 0..a.rows() {
-        assert!(rt; row < b.rows());
-        assert_eq!(rt; a.row(row), b.row(row));
-        assert_eq!(rt; a.hidden_row(row), b.hidden_row(row));
+        assert_same_row(rt, a, b, row);
     }
 }
 
@@ -78,33 +142,97 @@ fn what_is_shown(rt: HostRuntime) {
     assert!(rt; is_shown('\u{ad}') && !is_shown('\u{85}'));
 }
 
+/// An output into memory.
+fn memory(alloc: Global) -> Output<FromWrite<Vec<u8>>> {
+    Output::new(FromWrite::new(Vec::new(alloc)))
+}
+
+fn finished(output: Output<FromWrite<Vec<u8>>>) -> (FromWrite<Vec<u8>>, Result<(), Fault>) {
+    output.finish()
+}
+
+fn assert_ok(rt: &impl Abort, answer: Result<(), Fault>) {
+    assert!(rt; answer.is_ok());
+}
+
 /// What was written, where no write failed.
 fn bytes_of(rt: &impl Abort, output: Output<FromWrite<Vec<u8>>>) -> Vec<u8> {
-    let (sink, answer) = output.finish();
-    assert!(rt; answer.is_ok());
+    let (sink, answer) = finished(output);
+    assert_ok(rt, answer);
     sink.into_inner()
 }
 
 /// A screen has the cells and stops of another, and what [`PARTS`] leads to besides.
 fn assert_has_parts(rt: &impl Abort, again: &Screen, screen: &Screen) {
     assert_same_rows(rt, again, screen);
-    assert_eq!(rt; again.stops(), screen.stops());
-    assert_eq!(rt; (again.cursor(), again.saved()), (place(2, 1), place(1, 3)));
-    assert_eq!(rt;
-        (again.margins(), again.wraps(), again.inserts()),
-        ((1, 3), false, true)
-    );
+    assert_stops(rt, again, screen.stops());
+    assert_cursor(rt, again, place(2, 1));
+    assert_saved(rt, again, place(1, 3));
+    assert_margins(rt, again, (1, 3));
+    assert_modes(rt, again, (false, true));
+}
+
+/// The bytes were written.
+fn assert_bytes(rt: &impl Abort, written: &[u8], wanted: &[u8]) {
+    assert_same(rt, &written, &wanted);
+}
+
+fn assert_ends(rt: &impl Abort, written: &[u8], end: &[u8]) {
+    assert!(rt; written.ends_with(end));
+}
+
+/// The bytes that draw a screen.
+fn drawing_of(rt: &(impl Abort + AllocGlobal), screen: &Screen) -> Vec<u8> {
+    let mut output = memory(rt.alloc());
+    draw(screen, &mut output);
+    bytes_of(rt, output)
+}
+
+/// The bytes lead to a screen with [`PARTS`], as it is.
+fn assert_redrawn(
+    rt: &(impl Abort + AllocGlobal),
+    written: &[u8],
+    screen: &Screen,
+) -> Result<(), AllocError> {
+    let again = shown(rt.alloc(), written)?;
+    assert_has_parts(rt, &again, screen);
+    drop(again);
+    Ok(())
+}
+
+/// A screen is drawn as it is.
+fn assert_drawn(rt: &(impl Abort + AllocGlobal), screen: &Screen) -> Result<(), AllocError> {
+    let written = drawing_of(rt, screen);
+    let answer = assert_redrawn(rt, written.as_slice(), screen);
+    drop(written);
+    answer
 }
 
 #[test]
 fn a_drawing(rt: HostRuntime) -> Result<(), Fail> {
     let screen = shown(rt.alloc(), PARTS)?;
-    let mut output = Output::new(FromWrite::new(Vec::new(rt.alloc())));
-    draw(&screen, &mut output);
-    let written = bytes_of(&rt, output);
-    let again = shown(rt.alloc(), written.as_slice())?;
-    assert_has_parts(&rt, &again, &screen);
-    Ok(())
+    let answer = assert_drawn(&rt, &screen);
+    drop(screen);
+    Ok(answer?)
+}
+
+/// The update between two screens, which have one size.
+fn update_between(rt: &(impl Abort + AllocGlobal), first: &Screen, second: &Screen) -> Vec<u8> {
+    let mut output = memory(rt.alloc());
+    put_update(rt, first, second, &mut output);
+    bytes_of(rt, output)
+}
+
+/// The update from a screen to the one after some bytes.
+fn update_from(
+    rt: &(impl Abort + AllocGlobal),
+    first: &Screen,
+    second: &[u8],
+) -> Result<Vec<u8>, AllocError> {
+    let second = shown(rt.alloc(), second)?;
+    let answer = update_between(rt, first, &second);
+    drop(second);
+    Ok(answer)
 }
 
 /// Writes the update between two screens, which have one size.
@@ -124,17 +252,34 @@ fn update_of(
     first: &[u8],
     second: &[u8],
 ) -> Result<Vec<u8>, AllocError> {
-    let (first, second) = (shown(rt.alloc(), first)?, shown(rt.alloc(), second)?);
-    let mut output = Output::new(FromWrite::new(Vec::new(rt.alloc())));
-    put_update(rt, &first, &second, &mut output);
-    Ok(bytes_of(rt, output))
+    let first = shown(rt.alloc(), first)?;
+    let answer = update_from(rt, &first, second);
+    drop(first);
+    answer
 }
 
 #[test]
 fn an_update_of_a_cell(rt: HostRuntime) -> Result<(), Fail> {
     let written = update_of(&rt, b"abc", b"abX")?;
-    assert_eq!(rt; written.as_slice(), b"\x1b[3GX".as_slice());
+    assert_bytes(&rt, written.as_slice(), b"\x1b[3GX");
+    drop(written);
     Ok(())
+}
+
+/// What is written of a stream by two screens that are the same.
+fn follow(
+    rt: &(impl Abort + AllocGlobal),
+    stream: &[u8],
+    first: &mut Screen,
+    last: &mut Screen,
+) -> Vec<u8>
+    requires { first.old ≡ last.old }
+{
+    let mut reader = FromRead::new(stream);
+    let mut output = Output::new(FromWrite::new(Vec::new(rt.alloc())));
+    let read = update_to_end(&mut reader, first, last, &mut output);
+    assert!(rt; read.is_ok());
+    bytes_of(rt, output)
 }
 
 /// What is written of a stream, a drawing of the first screen and updates, and the last screen.
@@ -144,34 +289,53 @@ fn updates_of(
 ) -> Result<(Vec<u8>, Screen), AllocError> {
     let mut first = Screen::new(rt.alloc(), 9, 3)?;
     let mut last = Screen::new(rt.alloc(), 9, 3)?;
-    let mut reader = FromRead::new(stream);
-    let mut output = Output::new(FromWrite::new(Vec::new(rt.alloc())));
-    let read = update_to_end(&mut reader, &mut first, &mut last, &mut output);
-    assert!(rt; read.is_ok());
-    Ok((bytes_of(rt, output), last))
+    let written = follow(rt, stream, &mut first, &mut last);
+    let answer = (written, last);
+    drop(first);
+    Ok(answer)
+}
+
+/// The bytes lead to a screen's cells and cursor.
+fn assert_leads_to(
+    rt: &(impl Abort + AllocGlobal),
+    written: &[u8],
+    last: &Screen,
+) -> Result<(), AllocError> {
+    let again = shown(rt.alloc(), written)?;
+    assert_same_rows(rt, &again, last);
+    assert_cursor(rt, &again, last.cursor());
+    drop(again);
+    Ok(())
 }
 
 /// The drawing of a blank screen ends with its modes, and one update comes after it.
 #[test]
 fn updates_of_a_stream(rt: HostRuntime) -> Result<(), Fail> {
     let (written, last) = updates_of(&rt, b"\x1b[2;2H\x1b[1mX")?;
-    assert!(rt;
-        written
-            .as_slice()
-            .ends_with(b"\x1b[?25h\x1b[2;2H\x1b[0;1mX")
-    );
-    let again = shown(rt.alloc(), written.as_slice())?;
-    assert_same_rows(&rt, &again, &last);
-    assert_eq!(rt; again.cursor(), last.cursor());
-    Ok(())
+    assert_ends(&rt, written.as_slice(), b"\x1b[?25h\x1b[2;2H\x1b[0;1mX");
+    let answer = assert_leads_to(&rt, written.as_slice(), &last);
+    drop(written);
+    drop(last);
+    Ok(answer?)
 }
 
 /// One read is one piece: what a later byte of it writes over is not drawn.
 #[test]
 fn an_update_for_a_read(rt: HostRuntime) -> Result<(), Fail> {
     let (written, _) = updates_of(&rt, b"X\rY")?;
-    assert!(rt; written.as_slice().ends_with(b"\x1b[?25hY"));
+    assert_ends(&rt, written.as_slice(), b"\x1b[?25hY");
     Ok(())
+}
+
+/// Writes what a blank screen shows at the end of a stream.
+fn show_stream(
+    stream: &[u8],
+    screen: &mut Screen,
+    form: Form,
+    output: &mut Output<FromWrite<Vec<u8>>>,
+) -> Result<(), Fault> {
+    let mut reader = FromRead::new(stream);
+    show_to_end(&mut reader, screen, form, output)
 }
 
 /// What a screen shows at the end of a stream.
@@ -180,12 +344,16 @@ fn shown_of(
     stream: &[u8],
     form: Form,
 ) -> Result<Vec<u8>, AllocError> {
-    let mut screen = Screen::new(rt.alloc(), 9, 3)?;
-    let mut reader = FromRead::new(stream);
-    let mut output = Output::new(FromWrite::new(Vec::new(rt.alloc())));
-    let read = show_to_end(&mut reader, &mut screen, form, &mut output);
-    assert!(rt; read.is_ok());
-    Ok(bytes_of(rt, output))
+    let mut screen = blank(rt.alloc())?;
+    let mut output = memory(rt.alloc());
+    assert_ok(rt, show_stream(stream, &mut screen, form, &mut output));
+    let answer = bytes_of(rt, output);
+    drop(screen);
+    Ok(answer)
+}
+
+fn assert_begins_with(rt: &impl Abort, written: &[u8], start: &[u8]) {
+    assert!(rt; written.starts_with(start));
 }
 
 /// Its rows as text; and a drawing, which begins with RIS and shows the same rows again.
@@ -193,11 +361,11 @@ fn shown_of(
 fn a_screen_at_the_end(rt: HostRuntime) -> Result<(), Fail> {
     let stream = b"ab\x08\x1b[1mX\r\nc".as_slice();
     let text = shown_of(&rt, stream, Form::Text)?;
-    assert_eq!(rt; text.as_slice(), b"aX\nc\n".as_slice());
+    assert_bytes(&rt, text.as_slice(), b"aX\nc\n");
     let drawn = shown_of(&rt, stream, Form::Drawing)?;
-    assert!(rt; drawn.as_slice().starts_with(b"\x1bc"));
+    assert_begins_with(&rt, drawn.as_slice(), b"\x1bc");
     let again = shown_of(&rt, drawn.as_slice(), Form::Text)?;
-    assert_eq!(rt; again.as_slice(), b"aX\nc\n".as_slice());
+    assert_bytes(&rt, again.as_slice(), b"aX\nc\n");
     Ok(())
 }
 
@@ -250,20 +418,41 @@ fn blank_screens(alloc: Global, columns: usize, rows: usize) -> Result<(Screen, 
     ))
 }
 
+/// A screen has one line of five characters, and what a reset leads to.
+fn assert_reset(rt: &impl Abort, screen: &Screen) {
+    assert_cursor(rt, screen, place(0, 5));
+    assert_margins(rt, screen, (0, 3));
+    assert_alternate(rt, screen, false);
+    assert_modes(rt, screen, (true, false));
+}
+
+/// Shows [`PARTS`] and a reset, and what each leads to.
+fn show_both(
+    rt: &impl Abort,
+    screen: &mut Screen,
+    wanted: &mut Screen,
+    output: &mut Output<FromWrite<Vec<u8>>>,
+)
+    requires { as_shown screen.old ≡ as_shown wanted.old }
+{
+    let mut parser = Parser::<Utf8Parser>::new();
+    show_piece(&mut parser, screen, wanted, PARTS, output);
+    assert_parts(rt, screen);
+    assert_has_parts(rt, screen, wanted);
+    show_piece(&mut parser, screen, wanted, b"\x1bcthree", output);
+    assert_same_rows(rt, screen, wanted);
+    assert_reset(rt, screen);
+}
+
 /// A screen becomes one with an alternate screen, and then one without, as the one that notes what it is fed.
 #[test]
 fn a_screen_that_catches_up(rt: HostRuntime) -> Result<(), Fail> {
     let (mut screen, mut wanted) = blank_screens(rt.alloc(), 9, 3)?;
-    let mut parser = Parser::<Utf8Parser>::new();
-    let mut output = Output::new(FromWrite::new(Vec::new(rt.alloc())));
-    show_piece(&mut parser, &mut screen, &mut wanted, PARTS, &mut output);
-    assert_parts(&rt, &screen);
-    assert_has_parts(&rt, &screen, &wanted);
-    let other = b"\x1bcthree".as_slice();
-    show_piece(&mut parser, &mut screen, &mut wanted, other, &mut output);
-    assert_same_rows(&rt, &screen, &wanted);
-    assert_eq!(rt; (screen.cursor(), screen.margins()), (place(0, 5), (0, 3)));
-    assert!(rt; !screen.is_alternate() && screen.wraps() && !screen.inserts());
+    let mut output = memory(rt.alloc());
+    show_both(&rt, &mut screen, &mut wanted, &mut output);
+    drop(output);
+    drop(wanted);
+    drop(screen);
     Ok(())
 }
 
@@ -275,13 +464,29 @@ fn copied(rt: &(impl Abort + AllocGlobal), screen: &Screen) -> Result<Screen, Al
     Ok(copy)
 }
 
+/// A copy has all that the screen has.
+fn assert_copied(rt: &(impl Abort + AllocGlobal), screen: &Screen) -> Result<(), AllocError> {
+    let copy = copied(rt, screen)?;
+    assert_parts(rt, &copy);
+    assert_has_parts(rt, &copy, screen);
+    drop(copy);
+    Ok(())
+}
+
 #[test]
 fn a_copy(rt: HostRuntime) -> Result<(), Fail> {
     let screen = shown(rt.alloc(), PARTS)?;
-    let copy = copied(&rt, &screen)?;
-    assert_parts(&rt, &copy);
-    assert_has_parts(&rt, &copy, &screen);
-    Ok(())
+    let answer = assert_copied(&rt, &screen);
+    drop(screen);
+    Ok(answer?)
+}
+
+/// The screen takes some bytes, and notes what others change.
+fn take_both(screen: &mut Screen, before: &[u8], bytes: &[u8]) {
+    let mut parser = Parser::<Utf8Parser>::new();
+    parser.advance_all(screen, before);
+    screen.forget();
+    parser.advance_all(screen, bytes);
 }
 
 /// What is noted of a screen after some bytes, and then of others: the columns of a row.
@@ -291,27 +496,36 @@ fn noted_of(
     bytes: &[u8],
     row: usize,
 ) -> Result<(usize, usize), AllocError> {
-    let mut screen = Screen::new(rt.alloc(), 9, 3)?;
-    let mut parser = Parser::<Utf8Parser>::new();
-    parser.advance_all(&mut screen, before);
-    screen.forget();
-    parser.advance_all(&mut screen, bytes);
+    let mut screen = blank(rt.alloc())?;
+    take_both(&mut screen, before, bytes);
+    let answer = columns_of(rt, &screen, row);
+    drop(screen);
+    Ok(answer)
+}
+
+/// The columns of a row that a screen says have changed.
+fn columns_of(rt: &impl Abort, screen: &Screen, row: usize) -> (usize, usize) {
     let (first, past) = screen.changed_rows();
     let inside = first <= row && row < past;
     assert!(rt; row < screen.rows());
     assert!(rt; inside || row < first || past <= row);
-    Ok(if inside { screen.changed(row) } else { (0, 0) })
+    if inside { screen.changed(row) } else { (0, 0) }
+}
+
+fn assert_noted(rt: &impl Abort, noted: (usize, usize), wanted: (usize, usize)) {
+    assert_same(rt, &noted, &wanted);
 }
 
 /// The columns that were written and one on each side; none where nothing was.
 #[test]
 fn what_is_noted(rt: HostRuntime) -> Result<(), Fail> {
-    assert_eq!(rt; noted_of(&rt, b"\x1b[2;4H", b"x", 1)?, (2, 5));
-    assert_eq!(rt; noted_of(&rt, b"\x1b[2;4H", b"x", 0)?, (0, 0));
-    assert_eq!(rt; noted_of(&rt, b"\x1b[2;4H", b"\x1b[2J", 2)?, (0, 9));
-    assert_eq!(rt;
+    assert_noted(&rt, noted_of(&rt, b"\x1b[2;4H", b"x", 1)?, (2, 5));
+    assert_noted(&rt, noted_of(&rt, b"\x1b[2;4H", b"x", 0)?, (0, 0));
+    assert_noted(&rt, noted_of(&rt, b"\x1b[2;4H", b"\x1b[2J", 2)?, (0, 9));
+    assert_noted(
+        &rt,
         noted_of(&rt, b"\x1b[2;4H", b"\x1b[m\x07\x1b[H", 1)?,
-        (0, 0)
+        (0, 0),
     );
     Ok(())
 }
@@ -328,7 +542,10 @@ fn updates_of_what_is_noted(rt: HostRuntime) -> Result<(), Fail> {
     show_piece(&mut parser, &mut first, &mut last, b"Y", &mut output);
     show_piece(&mut parser, &mut first, &mut last, b"\x07", &mut output);
     let written = bytes_of(&rt, output);
-    assert_eq!(rt; written.as_slice(), b"\x1b[2;2H\x1b[0;1mXY".as_slice());
+    assert_bytes(&rt, written.as_slice(), b"\x1b[2;2H\x1b[0;1mXY");
     assert_same_rows(&rt, &first, &last);
+    drop(written);
+    drop(last);
+    drop(first);
     Ok(())
 }

@@ -33,31 +33,79 @@ fn a_page(rt: HostRuntime) -> Result<(), Fail> {
 
 fn writes_rows<T: WriteRows<Memory> + Drop>(_: &T) {}
 
+/// A blank screen of three columns and one row.
+fn small(alloc: Global) -> Result<Screen, AllocError> {
+    Screen::new(alloc, 3, 1)
+}
+
+/// What is written into.
+fn memory(alloc: Global) -> Output<Memory> {
+    Output::new(FromWrite::new(Vec::new(alloc)))
+}
+
+/// The rows of a page by classes.
+fn rows(alloc: Global) -> Result<HtmlRows<Memory>, AllocError> {
+    let links = LinkMemory::new(alloc)?;
+    Ok(HtmlRows::new(Styling::Classes, links, memory(alloc)))
+}
+
+/// The same in blocks.
+fn rows_in_blocks(alloc: Global) -> Result<BlockRows<Memory>, AllocError> {
+    let links = LinkMemory::new(alloc)?;
+    Ok(BlockRows::new(Styling::Classes, links, memory(alloc)))
+}
+
+/// What the rows are that a screen shows of a stream, and then a dot.
+fn written<R: WriteRows<Memory>>(
+    performer: ShownWriter<R>,
+    stream: &[u8],
+) -> (Vec<u8>, Result<(), Fault>) {
+    let mut reader = FromRead::new(stream);
+    let (writer, answer) = write_calls_by(performer, &mut reader, b".");
+    (writer.into_inner(), answer)
+}
+
+/// A stream on a screen of three columns and one row, by classes.
+fn written_by_classes(
+    alloc: Global,
+    stream: &[u8],
+) -> Result<(Vec<u8>, Result<(), Fault>), AllocError> {
+    let screen = small(alloc)?;
+    let rows = rows(alloc)?;
+    writes_rows(&rows);
+    Ok(written(ShownWriter::new(screen, rows), stream))
+}
+
+/// The same in blocks.
+fn written_in_blocks(
+    alloc: Global,
+    stream: &[u8],
+) -> Result<(Vec<u8>, Result<(), Fault>), AllocError> {
+    let screen = small(alloc)?;
+    let rows = rows_in_blocks(alloc)?;
+    writes_rows(&rows);
+    Ok(written(ShownWriter::new(screen, rows), stream))
+}
+
 // A wide character that wraps, and a mark; no line feed between rows of a line.
 #[test]
 fn by_classes(rt: HostRuntime) -> Result<(), Fail> {
-    let output = Output::new(FromWrite::new(Vec::new(rt.alloc())));
-    let rows = HtmlRows::new(Styling::Classes, LinkMemory::new(rt.alloc())?, output);
-    writes_rows(&rows);
-    let performer = ShownWriter::new(Screen::new(rt.alloc(), 3, 1)?, rows);
-    let mut reader = FromRead::new("\x1b[3ma<\u{301}\u{6F22}\x1b[m!".as_bytes());
-    let (writer, answer) = write_calls_by(performer, &mut reader, b".");
+    let stream = "\x1b[3ma<\u{301}\u{6F22}\x1b[m!".as_bytes();
     let wanted = "<span class=\"ansi-italic\">a&lt;\u{301}\u{6F22}</span>!\n.";
-    assert_written(&rt, (writer.into_inner(), answer), wanted.as_bytes());
+    assert_written(
+        &rt,
+        written_by_classes(rt.alloc(), stream)?,
+        wanted.as_bytes(),
+    );
     Ok(())
 }
 
 // A line that wraps and is open at the end: the block ends after its line feed.
 #[test]
 fn in_blocks(rt: HostRuntime) -> Result<(), Fail> {
-    let output = Output::new(FromWrite::new(Vec::new(rt.alloc())));
-    let rows = BlockRows::new(Styling::Classes, LinkMemory::new(rt.alloc())?, output);
-    writes_rows(&rows);
-    let performer = ShownWriter::new(Screen::new(rt.alloc(), 3, 1)?, rows);
-    let mut reader = FromRead::new(b"a\n\x1b[3mbcdef".as_slice());
-    let (writer, answer) = write_calls_by(performer, &mut reader, b".");
+    let stream = b"a\n\x1b[3mbcdef".as_slice();
     let wanted = b"<span data-lines=\"500\">a\n<span class=\"ansi-italic\">bcdef</span>\n</span>.";
-    assert_written(&rt, (writer.into_inner(), answer), wanted);
+    assert_written(&rt, written_in_blocks(rt.alloc(), stream)?, wanted);
     Ok(())
 }
 

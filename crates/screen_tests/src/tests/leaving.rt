@@ -1,5 +1,5 @@
 //! Rows that leave a screen, and what it showed as text. Streams stand in tests/screen_twin.
-use super::assert_written;
+use super::{assert_same, assert_written};
 use ansi_screen::laws::scrolled_off;
 use ansi_screen::{
     Cell, LeftOut, Part, Screen, Scrolling, Size, TakeCommand, TakeRow, goes_on, put_cells, used,
@@ -49,6 +49,11 @@ impl TakeCommand for Counter {
     }
 }
 
+/// A blank screen of three columns and one row.
+fn blank(alloc: Global) -> Result<Screen, AllocError> {
+    Screen::new(alloc, 3, 1)
+}
+
 /// A screen of three columns and one row, whose rows are counted as they leave.
 fn counting(alloc: Global) -> Result<Scrolling<Counter>, AllocError> {
     let counter = Counter {
@@ -56,7 +61,22 @@ fn counting(alloc: Global) -> Result<Scrolling<Counter>, AllocError> {
         goes_on: false,
         link: 0,
     };
-    Ok(Scrolling::new(Screen::new(alloc, 3, 1)?, counter))
+    Ok(Scrolling::new(blank(alloc)?, counter))
+}
+
+/// The screen shows these pieces.
+fn show(scrolling: &mut Scrolling<Counter>, pieces: &[&[u8]]) {
+    scrolled_off(scrolling, pieces);
+}
+
+/// So many rows have left.
+fn assert_left(rt: &impl Abort, scrolling: &Scrolling<Counter>, count: usize) {
+    assert_same(rt, &scrolling.taker().count, &count);
+}
+
+/// So many rows of a screen are used.
+fn assert_used_rows(rt: &impl Abort, screen: &Screen, count: usize) {
+    assert_same(rt, &screen.used_rows(LeftOut::Unprinted), &count);
 }
 
 // What is left out at the end of a row is copied and compared as what it is.
@@ -67,70 +87,125 @@ fn what_is_left_out(rt: HostRuntime) -> Result<(), Fail> {
     Ok(())
 }
 
+/// The last row that left goes on.
+fn assert_goes_on(rt: &impl Abort, scrolling: &Scrolling<Counter>) {
+    assert!(rt; scrolling.taker().goes_on);
+}
+
+/// Three rows leave, and the last of them goes on.
+fn assert_rows_leave(rt: &impl Abort, scrolling: &mut Scrolling<Counter>) {
+    show(scrolling, &[b"ab\r\n\x1b[S", b"abc", b"d"]);
+    scrolling.pass_on();
+    assert_left(rt, scrolling, 3);
+    assert_goes_on(rt, scrolling);
+    assert_used_rows(rt, scrolling.screen(), 1);
+}
+
 // The row that a character wraps from goes on.
 #[test]
 fn rows_that_leave(rt: HostRuntime) -> Result<(), Fail> {
     let mut scrolling = counting(rt.alloc())?;
-    scrolled_off(&mut scrolling, &[b"ab\r\n\x1b[S", b"abc", b"d"]);
-    scrolling.pass_on();
-    assert_eq!(rt; scrolling.taker().count, 3);
-    assert!(rt; scrolling.taker().goes_on);
-    assert_eq!(rt; scrolling.screen().used_rows(LeftOut::Unprinted), 1);
+    assert_rows_leave(&rt, &mut scrolling);
+    drop(scrolling);
     Ok(())
+}
+
+/// Hands on the only row of a screen, and says what is left.
+fn handed_on(rt: &impl Abort, scrolling: Scrolling<Counter>) -> (Screen, Counter) {
+    let mut scrolling = scrolling;
+    assert_eq!(rt; scrolling.screen().rows(), 1);
+    scrolling.hand_on(1);
+    scrolling.into_parts()
+}
+
+/// A screen of three columns and one row is empty.
+fn assert_empty(rt: &impl Abort, screen: &Screen) {
+    assert!(rt; screen.columns() == 3 && screen.rows() == 1);
+    assert!(rt; matches!(screen.row(0)[1].part, Part::Empty));
 }
 
 #[test]
 fn rows_that_are_left(rt: HostRuntime) -> Result<(), Fail> {
-    let mut scrolling = counting(rt.alloc())?;
-    assert_eq!(rt; scrolling.screen().rows(), 1);
-    scrolling.hand_on(1);
-    let (screen, counter) = scrolling.into_parts();
+    let (screen, counter) = handed_on(&rt, counting(rt.alloc())?);
     assert!(rt; counter.count == 1 && !counter.goes_on);
-    assert!(rt; screen.columns() == 3 && screen.rows() == 1);
-    assert!(rt; matches!(screen.row(0)[1].part, Part::Empty));
-    assert_eq!(rt; screen.used_rows(LeftOut::Unprinted), 0);
+    assert_empty(&rt, &screen);
+    assert_used_rows(&rt, &screen, 0);
+    drop(screen);
     Ok(())
+}
+
+/// Rows are taken away, one by one.
+fn assert_taken_away(rt: &impl Abort, scrolling: &mut Scrolling<Counter>) {
+    show(scrolling, &[b"ab\x1b[2J", b"\x1b[2J\x1b[3J\x1b[J"]);
+    assert_left(rt, scrolling, 1);
+    show(scrolling, &[b"c\x1b[?1049hd\x1b[2J"]);
+    assert_left(rt, scrolling, 1);
+    show(scrolling, &[b"\x1bc\x1bc"]);
+    assert_left(rt, scrolling, 2);
 }
 
 // What ED 2 and RIS take away leaves first: of the alternate screen nothing, of the main one also where it is hidden.
 #[test]
 fn rows_that_are_taken_away(rt: HostRuntime) -> Result<(), Fail> {
     let mut scrolling = counting(rt.alloc())?;
-    scrolled_off(&mut scrolling, &[b"ab\x1b[2J", b"\x1b[2J\x1b[3J\x1b[J"]);
-    assert_eq!(rt; scrolling.taker().count, 1);
-    scrolled_off(&mut scrolling, &[b"c\x1b[?1049hd\x1b[2J"]);
-    assert_eq!(rt; scrolling.taker().count, 1);
-    scrolled_off(&mut scrolling, &[b"\x1bc\x1bc"]);
-    assert_eq!(rt; scrolling.taker().count, 2);
+    assert_taken_away(&rt, &mut scrolling);
+    drop(scrolling);
     Ok(())
+}
+
+/// The rows of the screen that shows are handed on, and then those of the hidden one.
+fn assert_both_screens(rt: &impl Abort, scrolling: &mut Scrolling<Counter>) {
+    show(scrolling, &[b"ab\x1b[?1049h"]);
+    scrolling.hand_on_printed();
+    assert_left(rt, scrolling, 0);
+    scrolling.hand_on_hidden();
+    assert_left(rt, scrolling, 1);
 }
 
 #[test]
 fn both_screens(rt: HostRuntime) -> Result<(), Fail> {
     let mut scrolling = counting(rt.alloc())?;
-    scrolled_off(&mut scrolling, &[b"ab\x1b[?1049h"]);
-    scrolling.hand_on_printed();
-    assert_eq!(rt; scrolling.taker().count, 0);
-    scrolling.hand_on_hidden();
-    assert_eq!(rt; scrolling.taker().count, 1);
+    assert_both_screens(&rt, &mut scrolling);
+    drop(scrolling);
     Ok(())
+}
+
+/// The screen writes by a link of this number.
+fn assert_link(rt: &impl Abort, scrolling: &Scrolling<Counter>, link: u32) {
+    assert_same(rt, &scrolling.screen().link(), &link);
+}
+
+/// The last command was taken with a link of this number.
+fn assert_taken_link(rt: &impl Abort, scrolling: &Scrolling<Counter>, link: u32) {
+    assert_same(rt, &scrolling.taker().link, &link);
+}
+
+/// A link is set, and told to the taker.
+fn assert_commands(rt: &impl Abort, scrolling: &mut Scrolling<Counter>) {
+    show(scrolling, &[b"\x1b]8;;a:b\x07"]);
+    assert_link(rt, scrolling, 1);
+    scrolling.tell(&[b"8"]);
+    assert_taken_link(rt, scrolling, 1);
 }
 
 #[test]
 fn commands_are_taken(rt: HostRuntime) -> Result<(), Fail> {
     let mut scrolling = counting(rt.alloc())?;
-    scrolled_off(&mut scrolling, &[b"\x1b]8;;a:b\x07"]);
-    assert_eq!(rt; scrolling.screen().link(), 1);
-    scrolling.tell(&[b"8"]);
-    assert_eq!(rt; scrolling.taker().link, 1);
+    assert_commands(&rt, &mut scrolling);
+    drop(scrolling);
     Ok(())
+}
+
+/// So much of a row is used.
+fn assert_used(rt: &impl Abort, cells: &[Cell], ends: LeftOut, count: usize) {
+    assert_same(rt, &used(cells, ends), &count);
 }
 
 #[test]
 fn blanks_are_not_used(rt: HostRuntime) {
     let blanks = [Cell::blank(Style::default())];
-    assert_eq!(rt; used(&blanks, LeftOut::Blanks), 0);
-    assert_eq!(rt; used(&blanks, LeftOut::Unprinted), 0);
+    assert_used(&rt, &blanks, LeftOut::Blanks, 0);
+    assert_used(&rt, &blanks, LeftOut::Unprinted, 0);
     assert!(rt; !goes_on(&blanks) && !blanks[0].is_right());
 }
 
@@ -159,9 +234,10 @@ fn laws(_rt: HostRuntime) {
 // By hand: what came before counts as written.
 #[test]
 fn a_writer_that_is_given(rt: HostRuntime) -> Result<(), Fail> {
+    let screen = Screen::new(rt.alloc(), 2, 1)?;
     let mut output = Output::new(FromWrite::new(Vec::new(rt.alloc())));
     put_cells(&mut output, &[Cell::blank(Style::default())]);
-    let performer = ShownWriter::new(Screen::new(rt.alloc(), 2, 1)?, TextRows::new(output));
+    let performer = ShownWriter::new(screen, TextRows::new(output));
     let mut reader = FromRead::new("\u{6F22}\u{5B57}".as_bytes());
     let (writer, answer) = write_calls_by(performer, &mut reader, b".");
     assert_written(
@@ -172,41 +248,59 @@ fn a_writer_that_is_given(rt: HostRuntime) -> Result<(), Fail> {
     Ok(())
 }
 
-#[test]
-fn sizes(rt: HostRuntime) -> Result<(), Fail> {
-    let size = Size {
-        columns: 120,
-        rows: 40,
-    };
-    assert_eq!(rt; Size::parse("120x40"), Some(size));
-    assert_eq!(rt; Size::parse("120"), None);
-    let usual = Size::of_a_terminal();
-    assert_eq!(rt; (usual.columns, usual.rows), (80, 24));
-    assert_eq!(rt; SHOWN, "--shown");
-    assert_eq!(rt; screen_size(None), Ok(None));
-    assert_eq!(rt; screen_size(Some("")), Ok(Some(ShownSize::Recorded)));
-    assert_eq!(rt;
-        screen_size(Some("=120x40")),
-        Ok(Some(ShownSize::Fixed(size)))
-    );
-    assert_eq!(rt; screen_size(Some("120x40")), Err(NoSize));
-    Ok(())
+/// A size has these columns and rows.
+fn assert_size(rt: &impl Abort, size: Size, wanted: (usize, usize)) {
+    assert_same(rt, &(size.columns, size.rows), &wanted);
 }
 
-// What script(1) of util-linux 2.38.1 writes on a terminal of 120x40.
+/// The text is read as this size.
+fn assert_parsed(rt: &impl Abort, text: &str, wanted: Option<Size>) {
+    assert_same(rt, &Size::parse(text), &wanted);
+}
+
+/// The word with what is asked for leads to this size.
+fn assert_screen_size(
+    rt: &impl Abort,
+    asked: Option<&str>,
+    wanted: Result<Option<ShownSize>, NoSize>,
+) {
+    assert_same(rt, &screen_size(asked), &wanted);
+}
+
+const SIZE: Size = Size {
+    columns: 120,
+    rows: 40,
+};
+
 #[test]
-fn recorded_sizes(rt: HostRuntime) -> Result<(), Fail> {
-    let line =
-        b"Script started on 2026-11-28 08:05:31+00:00 [TERM=\"xterm\" TTY=\"/dev/pts/0\" COLUMNS=\"120\" LINES=\"40\"]\n";
-    let recorded = ShownSize::Recorded;
-    let size = recorded.of(line);
-    assert_eq!(rt; (size.columns, size.rows), (120, 40));
-    assert!(rt; recorded.is_decided(line) && !recorded.is_decided(b"Script"));
-    let usual = recorded.of(b"a\n");
-    assert_eq!(rt; (usual.columns, usual.rows), (1000, 100));
-    assert_eq!(rt; ShownSize::Fixed(size).of(b"a\n"), size);
-    assert!(rt; ShownSize::Fixed(size).is_decided(b""));
-    Ok(())
+fn sizes(rt: HostRuntime) {
+    assert_parsed(&rt, "120x40", Some(SIZE));
+    assert_parsed(&rt, "120", None);
+    assert_size(&rt, Size::of_a_terminal(), (80, 24));
+    assert_eq!(rt; SHOWN, "--shown");
+    assert_screen_size(&rt, None, Ok(None));
+    assert_screen_size(&rt, Some(""), Ok(Some(ShownSize::Recorded)));
+    assert_screen_size(&rt, Some("=120x40"), Ok(Some(ShownSize::Fixed(SIZE))));
+    assert_screen_size(&rt, Some("120x40"), Err(NoSize));
+}
+
+/// What script(1) of util-linux 2.38.1 writes on a terminal of 120x40.
+const SCRIPT: &[u8] =
+    b"Script started on 2026-11-28 08:05:31+00:00 [TERM=\"xterm\" TTY=\"/dev/pts/0\" COLUMNS=\"120\" LINES=\"40\"]\n";
+
+/// Whether what was read decides the size.
+fn assert_decided(rt: &impl Abort, size: ShownSize, read: &[u8], wanted: bool) {
+    assert_same(rt, &size.is_decided(read), &wanted);
+}
+
+#[test]
+fn recorded_sizes(rt: HostRuntime) {
+    assert_size(&rt, ShownSize::Recorded.of(SCRIPT), (120, 40));
+    assert_decided(&rt, ShownSize::Recorded, SCRIPT, true);
+    assert_decided(&rt, ShownSize::Recorded, b"Script", false);
+    assert_size(&rt, ShownSize::Recorded.of(b"a\n"), (1000, 100));
+    assert_same(&rt, &ShownSize::Fixed(SIZE).of(b"a\n"), &SIZE);
+    assert_decided(&rt, ShownSize::Fixed(SIZE), b"", true);
 }
 
 /// How far the only row of a screen is written, and how much of it is used.
@@ -219,12 +313,22 @@ fn written(rt: &impl Abort, screen: &Screen) -> (usize, usize) {
     )
 }
 
+fn assert_row_written(rt: &impl Abort, screen: &Screen, wanted: (usize, usize)) {
+    assert_same(rt, &written(rt, screen), &wanted);
+}
+
+/// Nothing is written, and then a character.
+fn assert_written_rows(rt: &impl Abort, screen: &mut Screen) {
+    assert_row_written(rt, screen, (0, 0));
+    screen.print('a');
+    assert_row_written(rt, screen, (1, 1));
+}
+
 // A row is looked at as far as it was written.
 #[test]
 fn written_rows(rt: HostRuntime) -> Result<(), Fail> {
     let mut screen = Screen::new(rt.alloc(), 4, 1)?;
-    assert_eq!(rt; written(&rt, &screen), (0, 0));
-    screen.print('a');
-    assert_eq!(rt; written(&rt, &screen), (1, 1));
+    assert_written_rows(&rt, &mut screen);
+    drop(screen);
     Ok(())
 }

@@ -1,9 +1,11 @@
 //! Rows of what a screen showed, as safe text, that were worked by hand. (More are rows of tests/safe_rows.py.)
+use super::assert_written;
 use ansi_screen::Screen;
 use anstyle_parse::io::{FromRead, FromWrite, Output};
 use screen_safe::laws::{of_the_class, read_back, whole};
 use screen_safe::{SafeRows, write_safe_shown};
 use screen_text::ShownWriter;
+use std::alloc::{AllocError, AllocGlobal};
 use std::process::Abort;
 use std::test::Fail;
 use test_streams::Tape;
@@ -25,25 +27,41 @@ const ROWS: [(&str, &str); 7] = [
     ),
 ];
 
+/// What is read is shown as this text.
+fn assert_shown(
+    rt: &(impl Abort + AllocGlobal),
+    given: &str,
+    text: &str,
+) -> Result<(), AllocError> {
+    let screen = Screen::new(rt.alloc(), 9, 3)?;
+    let mut reader = FromRead::new(Tape::new(given.as_bytes()));
+    let writer = FromWrite::new(Vec::new(rt.alloc()));
+    let (writer, answer) = write_safe_shown(screen, &mut reader, writer);
+    assert_written(rt, (writer.into_inner(), answer), text.as_bytes());
+    Ok(())
+}
+
 #[test]
 fn texts(rt: HostRuntime) -> Result<(), Fail> {
     for (given, text) in ROWS {
-        let screen = Screen::new(rt.alloc(), 9, 3)?;
-        let mut reader = FromRead::new(Tape::new(given.as_bytes()));
-        let writer = FromWrite::new(Vec::new(rt.alloc()));
-        let (writer, answer) = write_safe_shown(screen, &mut reader, writer);
-        assert_eq!(rt; writer.into_inner().as_slice(), text.as_bytes());
-        assert_eq!(rt; answer, Ok(()));
+        assert_shown(&rt, given, text)?;
     }
     Ok(())
 }
 
 #[test]
 fn names(rt: HostRuntime) -> Result<(), Fail> {
+    let screen = Screen::new(rt.alloc(), 9, 3)?;
     let rows = SafeRows::new(Output::new(FromWrite::new(Vec::new(rt.alloc()))));
-    let _writer = ShownWriter::new(Screen::new(rt.alloc(), 9, 3)?, rows);
+    let writer = ShownWriter::new(screen, rows);
+    laws();
+    drop(writer);
+    Ok(())
+}
+
+// The names of the laws.
+fn laws() {
     whole();
     of_the_class();
     read_back();
-    Ok(())
 }

@@ -1,5 +1,6 @@
 //! What the text of a screen does not say: cells with their styles, the cursor. Rows of text stand in
 //! tests/screen_twin.
+use super::assert_same;
 use ansi_screen::laws::{
     clones, contents, determined, enclosed, equality, plain_text, reachable, reset, rewritten,
     rows_leave, show, unread,
@@ -9,7 +10,7 @@ use ansi_screen::{
 };
 use ansi_style::{Color, Hue, Style};
 use anstyle_parse::{Parser, Utf8Parser};
-use std::alloc::{AllocError, Global};
+use std::alloc::{AllocError, AllocGlobal, Global};
 use std::process::Abort;
 use std::test::Fail;
 
@@ -29,15 +30,46 @@ fn place(row: usize, column: usize) -> Place {
     }
 }
 
+fn assert_size(rt: &impl Abort, screen: &Screen, wanted: (usize, usize)) {
+    assert_same(rt, &(screen.columns(), screen.rows()), &wanted);
+}
+
+fn assert_cursor(rt: &impl Abort, screen: &Screen, wanted: Place) {
+    assert_same(rt, &screen.cursor(), &wanted);
+}
+
+fn assert_cursor_visible(rt: &impl Abort, screen: &Screen) {
+    assert!(rt; screen.is_cursor_visible());
+}
+
+fn small(alloc: Global) -> Result<Screen, AllocError> {
+    Screen::new(alloc, 2, 1)
+}
+
+fn large(alloc: Global) -> Result<Screen, AllocError> {
+    Screen::new(alloc, 1000, 2)
+}
+
+fn assert_small(rt: &impl Abort, screen: &Screen) {
+    assert_size(rt, screen, (2, 1));
+    assert_cursor(rt, screen, place(0, 0));
+    assert_cursor_visible(rt, screen);
+}
+
+/// A screen of a thousand columns.
+fn assert_large(rt: &(impl Abort + AllocGlobal)) -> Result<(), AllocError> {
+    let screen = large(rt.alloc())?;
+    assert_size(rt, &screen, (1000, 2));
+    drop(screen);
+    Ok(())
+}
+
 #[test]
 fn a_new_screen(rt: HostRuntime) -> Result<(), Fail> {
-    let screen = Screen::new(rt.alloc(), 2, 1)?;
-    assert_eq!(rt; screen.columns(), 2);
-    assert_eq!(rt; screen.rows(), 1);
-    assert_eq!(rt; screen.cursor(), place(0, 0));
-    assert!(rt; screen.is_cursor_visible());
-    let large = Screen::new(rt.alloc(), 1000, 2)?;
-    assert_eq!(rt; large.columns(), 1000);
+    assert_large(&rt)?;
+    let screen = small(rt.alloc())?;
+    assert_small(&rt, &screen);
+    drop(screen);
     Ok(())
 }
 
@@ -55,27 +87,44 @@ fn cell(character: char, style: Style, part: Part) -> Cell {
 
 /// A row has this cell in a column.
 fn assert_cell(rt: &impl Abort, row: &[Cell], column: usize, wanted: Cell) {
-    assert_eq!(rt; row.get(column), Some(&wanted));
+    assert_same(rt, &row.get(column), &Some(&wanted));
+}
+
+/// The first row of a screen has this cell in a column.
+fn assert_first_row(rt: &impl Abort, screen: &Screen, column: usize, wanted: Cell) {
+    assert!(rt; screen.rows() > 0);
+    assert_cell(rt, screen.row(0), column, wanted);
+}
+
+/// What is erased: the background alone.
+fn erased() -> Style {
+    Style {
+        background: Color::Named(Hue::Blue),
+        ..Style::default()
+    }
+}
+
+fn selected() -> Style {
+    Style {
+        foreground: Color::Named(Hue::Red),
+        bold: true,
+        ..erased()
+    }
+}
+
+/// Two cells with their styles, and one that is erased.
+fn assert_styles(rt: &impl Abort, screen: &Screen) {
+    assert_size(rt, screen, (8, 4));
+    assert_first_row(rt, screen, 0, cell('a', selected(), Part::Whole));
+    assert_first_row(rt, screen, 1, cell('b', Style::default(), Part::Whole));
+    assert_first_row(rt, screen, 7, cell(' ', erased(), Part::Empty));
 }
 
 #[test]
 fn styles(rt: HostRuntime) -> Result<(), Fail> {
     let screen = shown(rt.alloc(), b"\x1b[1;31;44ma\x1b[K\x1b[0mb")?;
-    assert!(rt; screen.rows() == 4 && screen.columns() == 8);
-    let row = screen.row(0);
-    // Erased: the background alone.
-    let erased = Style {
-        background: Color::Named(Hue::Blue),
-        ..Style::default()
-    };
-    let selected = Style {
-        foreground: Color::Named(Hue::Red),
-        bold: true,
-        ..erased
-    };
-    assert_cell(&rt, row, 0, cell('a', selected, Part::Whole));
-    assert_cell(&rt, row, 1, cell('b', Style::default(), Part::Whole));
-    assert_cell(&rt, row, 7, cell(' ', erased, Part::Empty));
+    assert_styles(&rt, &screen);
+    drop(screen);
     Ok(())
 }
 
@@ -95,38 +144,63 @@ fn laws(_rt: HostRuntime) {
     clones();
 }
 
-// The names of the screen, and its least and greatest sizes.
-#[test]
-fn a_screen_shows_a_stream(rt: HostRuntime) -> Result<(), Fail> {
-    let mut screen = Screen::new(rt.alloc(), MIN_COLUMNS, MIN_ROWS)?;
-    show(
-        &mut screen,
-        &[b"a", b"\x1b[1m\x1b(0x", "\u{301}".as_bytes()],
-    );
-    assert!(rt; screen.rows() == 1 && screen.columns() == 2);
-    let mut style = Style::default();
-    style.bold = true;
-    let wanted = Cell {
+fn least(alloc: Global) -> Result<Screen, AllocError> {
+    Screen::new(alloc, MIN_COLUMNS, MIN_ROWS)
+}
+
+/// The stream on the least screen.
+fn show_least(screen: &mut Screen) {
+    show(screen, &[b"a", b"\x1b[1m\x1b(0x", "\u{301}".as_bytes()]);
+}
+
+fn bold() -> Style {
+    Style {
+        bold: true,
+        ..Style::default()
+    }
+}
+
+/// The second cell after it: a line that is drawn, with a mark.
+fn marked() -> Cell {
+    Cell {
         character: '│',
         marks: Marks::One('\u{301}'),
-        style,
+        style: bold(),
         part: Part::Whole,
         link: 0,
         goes_on: false,
-    };
-    assert_cell(&rt, screen.row(0), 1, wanted);
-    let place = Place {
+    }
+}
+
+/// The cursor after it.
+fn after_both() -> Place {
+    Place {
         row: 0,
         column: 2,
-        style,
+        style: bold(),
         is_relative: false,
         charsets: Charsets {
             g0_draws: true,
             g1_draws: false,
             uses_g1: false,
         },
-    };
-    assert_eq!(rt; screen.cursor(), place);
+    }
+}
+
+/// What the stream leads to.
+fn assert_least(rt: &impl Abort, screen: &mut Screen) {
+    show_least(screen);
+    assert_size(rt, screen, (2, 1));
+    assert_first_row(rt, screen, 1, marked());
+    assert_cursor(rt, screen, after_both());
     assert_eq!(rt; (MAX_COLUMNS, MAX_ROWS), (1000, 1000));
+}
+
+// The names of the screen, and its least and greatest sizes.
+#[test]
+fn a_screen_shows_a_stream(rt: HostRuntime) -> Result<(), Fail> {
+    let mut screen = least(rt.alloc())?;
+    assert_least(&rt, &mut screen);
+    drop(screen);
     Ok(())
 }

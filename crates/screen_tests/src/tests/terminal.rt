@@ -1,14 +1,21 @@
 //! A screen that takes its stream in pieces.
+use super::assert_same;
 use screen_pieces::{CellBytes, ColorBytes, ModeBytes, RESERVED_MODES, StyleBytes, Terminal};
-use std::alloc::Global;
+use std::alloc::{AllocError, Global};
+use std::process::Abort;
 use std::test::Fail;
 
 /// A screen of four columns and three rows after these pieces.
-fn shown(alloc: Global, first: &[u8], second: &[u8]) -> Result<Terminal, std::alloc::AllocError> {
+fn shown(alloc: Global, first: &[u8], second: &[u8]) -> Result<Terminal, AllocError> {
     let mut terminal = Terminal::new(alloc, 4, 3)?;
     terminal.feed(first);
     terminal.feed(second);
     Ok(terminal)
+}
+
+/// The screen takes the bytes.
+fn take(terminal: &mut Terminal, bytes: &[u8]) {
+    terminal.feed(bytes);
 }
 
 /// The character, the part and the kind of the colour of a cell; 9 for none outside.
@@ -55,72 +62,156 @@ fn part_text(terminal: &Terminal, start: usize, end: usize) -> (Result<usize, us
     (answer, room)
 }
 
+fn assert_text(rt: &impl Abort, terminal: &Terminal, wanted: (Result<usize, usize>, [u8; 8])) {
+    assert_same(rt, &text(terminal), &wanted);
+}
+
+fn assert_text_in_seven(rt: &impl Abort, terminal: &Terminal, wanted: Result<usize, usize>) {
+    assert_same(rt, &text_in_seven(terminal), &wanted);
+}
+
+fn assert_row_text(
+    rt: &impl Abort,
+    terminal: &Terminal,
+    row: usize,
+    wanted: (Result<usize, usize>, [u8; 2]),
+) {
+    assert_same(rt, &row_text(terminal, row), &wanted);
+}
+
+fn assert_part_text(
+    rt: &impl Abort,
+    terminal: &Terminal,
+    part: (usize, usize),
+    wanted: (Result<usize, usize>, [u8; 5]),
+) {
+    assert_same(rt, &part_text(terminal, part.0, part.1), &wanted);
+}
+
+fn assert_cell(rt: &impl Abort, terminal: &Terminal, place: (usize, usize), wanted: (u32, u8, u8)) {
+    assert_same(rt, &cell(terminal, place.0, place.1), &wanted);
+}
+
+fn assert_changed(
+    rt: &impl Abort,
+    terminal: &Terminal,
+    row: usize,
+    wanted: Option<(usize, usize)>,
+) {
+    assert_same(rt, &terminal.changed(row), &wanted);
+}
+
+/// The text of a screen, and how much room it takes.
+fn assert_pieces(rt: &impl Abort, terminal: &Terminal) {
+    assert_text(rt, terminal, (Ok(8), *b"hi\n\xE4\xB8\xADx\n"));
+    assert_text_in_seven(rt, terminal, Err(8));
+}
+
 // A sequence and a character are cut.
 #[test]
 fn pieces(rt: HostRuntime) -> Result<(), Fail> {
     let terminal = shown(rt.alloc(), b"\x1b[3", b"1mhi\r\n\xE4\xB8\xADx")?;
-    assert_eq!(rt; text(&terminal), (Ok(8), *b"hi\n\xE4\xB8\xADx\n"));
-    assert_eq!(rt; text_in_seven(&terminal), Err(8));
+    assert_pieces(&rt, &terminal);
+    drop(terminal);
     Ok(())
+}
+
+/// The text of rows and of parts of one, inside and outside.
+fn assert_rows(rt: &impl Abort, terminal: &Terminal) {
+    assert_row_text(rt, terminal, 0, (Ok(2), *b"hi"));
+    assert_row_text(rt, terminal, 3, (Err(0), [0, 0]));
+    assert_part_text(rt, terminal, (0, 4), (Ok(5), *b"\xE4\xB8\xADx "));
+    assert_part_text(rt, terminal, (3, 5), (Err(0), [0; 5]));
 }
 
 #[test]
 fn rows(rt: HostRuntime) -> Result<(), Fail> {
     let terminal = shown(rt.alloc(), b"hi\r\n\xE4", b"\xB8\xADx")?;
-    assert_eq!(rt; row_text(&terminal, 0), (Ok(2), *b"hi"));
-    assert_eq!(rt; row_text(&terminal, 3), (Err(0), [0, 0]));
-    assert_eq!(rt; part_text(&terminal, 0, 4), (Ok(5), *b"\xE4\xB8\xADx "));
-    assert_eq!(rt; part_text(&terminal, 3, 5), (Err(0), [0; 5]));
+    assert_rows(&rt, &terminal);
+    drop(terminal);
     Ok(())
+}
+
+/// A screen of four columns and three rows whose cursor stands after three columns, in this colour.
+fn assert_sized(rt: &impl Abort, terminal: &Terminal, colour: [u8; 3]) {
+    assert_same(rt, &terminal.size(), &(4, 3));
+    assert_same(rt, &terminal.cursor(), &(0, 3));
+    assert_same(rt, &terminal.style().foreground.values, &colour);
+}
+
+/// The cells of a row, and outside; the size, the cursor and the style.
+fn assert_cells(rt: &impl Abort, terminal: &Terminal) {
+    assert_cell(rt, terminal, (0, 0), (0x68, 1, 2));
+    assert_cell(rt, terminal, (0, 1), (0x4E2D, 2, 2));
+    assert_cell(rt, terminal, (0, 2), (0x20, 3, 2));
+    assert_cell(rt, terminal, (0, 3), (0x20, 0, 0));
+    assert_cell(rt, terminal, (0, 4), (0, 9, 0));
+    assert_cell(rt, terminal, (3, 0), (0, 9, 0));
+    assert_sized(rt, terminal, [4, 0, 0]);
 }
 
 #[test]
 fn cells(rt: HostRuntime) -> Result<(), Fail> {
     let terminal = shown(rt.alloc(), b"\x1b[94", b"mh\xE4\xB8\xAD")?;
-    assert_eq!(rt; cell(&terminal, 0, 0), (0x68, 1, 2));
-    assert_eq!(rt; cell(&terminal, 0, 1), (0x4E2D, 2, 2));
-    assert_eq!(rt; cell(&terminal, 0, 2), (0x20, 3, 2));
-    assert_eq!(rt; cell(&terminal, 0, 3), (0x20, 0, 0));
-    assert_eq!(rt; cell(&terminal, 0, 4), (0, 9, 0));
-    assert_eq!(rt; cell(&terminal, 3, 0), (0, 9, 0));
-    assert_eq!(rt; terminal.size(), (4, 3));
-    assert_eq!(rt; terminal.cursor(), (0, 3));
-    assert_eq!(rt; terminal.style().foreground.values, [4, 0, 0]);
+    assert_cells(&rt, &terminal);
+    drop(terminal);
     Ok(())
+}
+
+fn forget(terminal: &mut Terminal) {
+    terminal.forget();
+}
+
+/// What has changed, before and after it is forgotten.
+fn assert_changes(rt: &impl Abort, terminal: &mut Terminal) {
+    assert_changed(rt, terminal, 2, Some((0, 4)));
+    forget(terminal);
+    take(terminal, b"\x1b[2;1Hx");
+    assert_changed(rt, terminal, 1, Some((0, 2)));
+    assert_changed(rt, terminal, 3, None);
+    assert_text(rt, terminal, (Ok(5), *b"ab\nx\n\0\0\0"));
 }
 
 // Of a new screen all can have changed; then what is written, and a column on each side.
 #[test]
 fn changes(rt: HostRuntime) -> Result<(), Fail> {
     let mut terminal = shown(rt.alloc(), b"a", b"b")?;
-    assert_eq!(rt; terminal.changed(2), Some((0, 4)));
-    terminal.forget();
-    terminal.feed(b"\x1b[2;1Hx");
-    assert_eq!(rt; terminal.changed(1), Some((0, 2)));
-    assert_eq!(rt; terminal.changed(3), None);
-    assert_eq!(rt; text(&terminal), (Ok(5), *b"ab\nx\n\0\0\0"));
+    assert_changes(&rt, &mut terminal);
+    drop(terminal);
     Ok(())
 }
 
-// What was begun before a reset is forgotten.
-#[test]
-fn resets(rt: HostRuntime) -> Result<(), Fail> {
-    let mut terminal = shown(rt.alloc(), b"\x1b[?25l\x1b[4hold", b"\x1b[3")?;
+/// Whether a screen shows its cursor, and whether it inserts; no other mode is set.
+fn assert_modes(rt: &impl Abort, terminal: &Terminal, wanted: (u8, u8)) {
     let ModeBytes {
         is_cursor_shown,
         inserts,
         reserved,
         ..
     } = terminal.modes();
-    assert_eq!(rt; (is_cursor_shown, inserts), (0, 1));
-    assert_eq!(rt; reserved, [0; RESERVED_MODES]);
+    assert_same(rt, &(is_cursor_shown, inserts), &wanted);
+    assert_same(rt, &reserved, &[0; RESERVED_MODES]);
+}
+
+fn reset(terminal: &mut Terminal) {
     terminal.reset();
-    terminal.feed(b"1m");
-    assert_eq!(rt; cell(&terminal, 0, 0), (0x31, 1, 0));
-    assert_eq!(rt; cell(&terminal, 0, 2), (0x20, 0, 0));
-    assert_eq!(rt;
-        (terminal.modes().is_cursor_shown, terminal.modes().inserts),
-        (1, 0)
-    );
+}
+
+/// What is shown before and after a reset.
+fn assert_resets(rt: &impl Abort, terminal: &mut Terminal) {
+    assert_modes(rt, terminal, (0, 1));
+    reset(terminal);
+    take(terminal, b"1m");
+    assert_cell(rt, terminal, (0, 0), (0x31, 1, 0));
+    assert_cell(rt, terminal, (0, 2), (0x20, 0, 0));
+    assert_modes(rt, terminal, (1, 0));
+}
+
+// What was begun before a reset is forgotten.
+#[test]
+fn resets(rt: HostRuntime) -> Result<(), Fail> {
+    let mut terminal = shown(rt.alloc(), b"\x1b[?25l\x1b[4hold", b"\x1b[3")?;
+    assert_resets(&rt, &mut terminal);
+    drop(terminal);
     Ok(())
 }

@@ -165,6 +165,10 @@ test:
 	@$(HAS_KIT)
 	$(PYTHON) tests/try_all.py $(foreach name,$(PROVED),--but $(name)) $(filter-out $(PROVED),$(TESTS))
 
+# (by itself `rt ci` expects of a large crate some three times the memory that it takes, and leaves processors idle: so it is told to
+# check as many crates at once as there are processors, where each has 4 GB)
+check: export RT_JOBS ?= $(shell \
+    awk -v processors="$$(nproc)" '/^MemAvailable:/ && $$2 >= processors * 4194304 { print processors }' /proc/meminfo)
 check:
 	@$(HAS_KIT)
 	$(PYTHON) tests/side_by_side.py 'rt ci' $(TESTS)

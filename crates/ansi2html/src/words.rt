@@ -81,7 +81,7 @@ usage: ansi2html [--page] [--title=TEXT] [--css=ADDRESS] [--lang=TAG] [--scroll]
 Writes the text of files as a web page, in its colours, or as a fragment, to be put into
 a <pre> of another page in UTF-8. Input is UTF-8. Each file is a stream of its own; in
 a page each of several stands below its name. With no FILE, or for -, standard input
-is read. Words behind -- name files, whatever they begin with. A value may also be the
+is read. Words after -- name files, whatever they begin with. A value may also be the
 next word, as in --title TEXT.
 
   --page                  write a whole page, light or dark as its reader has it:

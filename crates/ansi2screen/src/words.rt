@@ -30,7 +30,7 @@ pub const HELP: &str = "\
 usage: ansi2screen [--size=COLUMNSxROWS] [--draw | --updates] [-o FILE] [FILE]
 
 Writes what a terminal's screen shows at the end of a file, as text. Input is UTF-8.
-With no FILE, or for -, standard input is read. A word behind -- names a file,
+With no FILE, or for -, standard input is read. A word after -- names a file,
 whatever it begins with. The size may also be the next word, as in --size 80x24.
 
   --size=COLUMNSxROWS     the screen's size, from 2x1 to 1000x1000 (80x24)

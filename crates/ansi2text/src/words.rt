@@ -20,7 +20,7 @@ usage: ansi2text [--safe] [--lf] [--shown | --shown=COLUMNSxROWS] [-o FILE] [FIL
 
 Writes the text of files without the escapes of terminals: colours, cursor moves,
 titles and the like, so that it drives no terminal. Input is UTF-8. Each file is a
-stream of its own. With no FILE, or for -, standard input is read. Words behind --
+stream of its own. With no FILE, or for -, standard input is read. Words after --
 name files, whatever they begin with.
 
   --safe                  write text that hides nothing and keeps its order, to

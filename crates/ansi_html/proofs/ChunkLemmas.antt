@@ -1,15 +1,11 @@
 -- Sixteen bytes, tested at once.
-use lib.Count.{count_trailing_zeros}
-use Rattle.std.proofs.Common.{◌≡◌, ◌≢◌, ◌||◌, ◌&&◌, bit_and, bit_or, ℕ, ◌+◌, ◌-◌, ◌%◌, ◌^◌, Bool, true, false, cond, eqb, leb, ltb, List, [], ◌∷◌, ◌++◌, length, map, replicate, refl, sym, ap, ap₂, ◌∙◌, arith, w8, Fits}
+use Rattle.std.proofs.Common.{◌≡◌, ◌||◌, ◌&&◌, bit_and, bit_or, ℕ, ◌+◌, ◌-◌, ◌%◌, ◌^◌, Bool, true, false, cond, eqb, leb, ltb, List, [], ◌∷◌, ◌++◌, length, map, replicate, refl, ap, ap₂, ◌∙◌, arith, w8, Fits}
 use Rattle.std.specs.Prelude.{not}
-use Rattle.std.specs.List.{list_all, prefix_len}
+use Rattle.std.specs.List.{list_all}
 use Rattle.std.specs.Simd.Lanes.{zip2, mask_l, top, Each1}
-use Rattle.std.proofs.lemmas.Bool.{ne_eqb, cond-true, cond-false}
 use Rattle.std.proofs.lemmas.List.{length-map}
-use Rattle.std.proofs.lemmas.List.Folds.{prefix_len-append}
 use Rattle.std.proofs.lemmas.Simd.{zip2_splat, zip2_splat_left, splat_is_map, zip2_of_maps, mask_l-mod}
 use Rattle.anstyle_parse.specs.Stream.Items.{EachIs}
-use Rattle.anstyle_parse.proofs.Machine.Lanes.{before_lowest, lowest-lt}
 use Rattle.anstyle_parse.proofs.Machine.Table.{same_below}
 use Rattle.ansi_html.specs.Grammar.{is_special, is_text_byte, AreClear}
 use Rattle.ansi_html.specs.Verbatim.{is_verbatim}
@@ -130,31 +126,6 @@ module _ (bytes : List ℕ) (long : length bytes ≡ 16) where
 pub AreClear-each : (bytes : List ℕ) → EachIs (λ b. not (is_special b)) bytes → AreClear bytes
 AreClear-each [] are = tt
 AreClear-each (b ∷ bytes) are = (false-from_not (is_special b) are.0, AreClear-each bytes are.1)
-
--- how many bytes come first that pass a test: those behind count where all in front pass it
-pub prefix_len-passed : (test : ℕ → Bool) (front back : List ℕ) → EachIs test front → prefix_len test (front ++ back) ≡ length front + prefix_len test back
-prefix_len-passed test [] back are = omega arith
-prefix_len-passed test (b ∷ front) back are =
-    let counted = cond-true (test b) (1 + prefix_len test (front ++ back)) 0 are.0 in
-    omega (arith, counted, prefix_len-passed test front back are.1)
-
--- and else those before the first of a chunk's mask that does not
-not-not : (t : Bool) → not (not t) ≡ t
-not-not true = refl
-not-not false = refl
-
-prefix_len-not_not : (test : ℕ → Bool) (bytes : List ℕ) → prefix_len (λ b. not (not (test b))) bytes ≡ prefix_len test bytes
-prefix_len-not_not test [] = refl
-prefix_len-not_not test (b ∷ bytes) = ap₂ (λ t n. cond t (1 + n) 0) (not-not (test b)) (prefix_len-not_not test bytes)
-
-pub prefix_len-stopped : (test : ℕ → Bool) (chunk behind : List ℕ) (mask : ℕ) → length chunk ≡ 16 → mask ≡ mask_l (map (λ b. not (test b)) chunk) → mask ≢ 0
-    → prefix_len test (chunk ++ behind) ≡ count_trailing_zeros 64 mask
-prefix_len-stopped test chunk behind mask long is some =
-    let counted = before_lowest (λ b. not (test b)) chunk mask long is some ∙ prefix_len-not_not test chunk in
-    let short = lowest-lt (λ b. not (test b)) chunk mask long is some in
-    prefix_len-append test chunk behind
-    ∙ cond-false (eqb (prefix_len test chunk) (length chunk)) (length chunk + prefix_len test behind) (prefix_len test chunk) (ne_eqb _ _ (omega (arith, counted, short)))
-    ∙ sym counted
 
 -- where those in front pass a test, all do if those behind do
 pub all_behind : (test : ℕ → Bool) (front back : List ℕ) → EachIs test front → list_all test (front ++ back) ≡ list_all test back

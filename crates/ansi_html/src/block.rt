@@ -2,7 +2,7 @@
 ghost use Rattle.anstyle_parse.specs.Io.Output.{Adds};
 ghost use Rattle.ansi_html.specs.Blocks.{block_begin, block_end};
 
-use anstyle_parse::canon::{Output, Sink};
+use anstyle_parse::io::{Output, Sink};
 
 /// The lines that a block has.
 pub const LINES_A_BLOCK: u64 = 500;

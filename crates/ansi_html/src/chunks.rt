@@ -4,7 +4,6 @@ ghost use Rattle.std.specs.Simd.Lanes.{mask_l};
 ghost use Rattle.ansi_html.specs.Chunks.{PassAtEnd};
 ghost use Rattle.ansi_html.specs.Grammar.{is_special, AreClear};
 ghost use Rattle.ansi_html.specs.Links.{is_visible};
-ghost use Rattle.ansi_html.specs.Verbatim.{is_verbatim};
 
 use std::simd::prelude::*;
 
@@ -55,19 +54,4 @@ pub(crate) fn are_last_visible(bytes: &[u8]) -> bool
         Some(last) => invisibles(u8x16::from_array(*last)) == 0,
         None => false,
     }
-}
-
-/// A bit for each byte: whether it is no verbatim text. 0x20 is subtracted, and a byte below that wraps to 0xE0 or
-/// more: so one comparison finds what is outside of 0x20 to 0x7F. In the same way one finds what is neither 0x09 nor
-/// 0x0A. `"` and `&` differ in one bit, which is masked so that one comparison finds both; so do `<` and `>`.
-#[inline(always)]
-pub(crate) fn not_verbatim(bytes: u8x16) -> u64
-    ensures { result ≡ mask_l (map (λ b. not (is_verbatim b)) bytes) }
-{
-    let unprinted = (bytes - u8x16::splat(0x20)).simd_ge(u8x16::splat(0x60));
-    let no_layout = (bytes - u8x16::splat(b'\t')).simd_ge(u8x16::splat(2));
-    let special = (bytes & u8x16::splat(0xFB)).simd_eq(u8x16::splat(b'"'))
-        | (bytes.simd_eq(u8x16::splat(b'\''))
-            | (bytes & u8x16::splat(0xFD)).simd_eq(u8x16::splat(b'<')));
-    (unprinted & no_layout | special).to_bitmask()
 }

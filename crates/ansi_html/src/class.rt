@@ -8,7 +8,7 @@ use crate::contrast::Rgb;
 use crate::css::{behind_of, has_line, is_underlined, put_if, text_of};
 use ansi_style::laws::hue_as_number;
 use ansi_style::{Color, Style, Underline};
-use anstyle_parse::canon::{Output, Sink};
+use anstyle_parse::io::{Output, Sink};
 
 /// A class of the stylesheet. A number is that of one of the 256 colours; where there is none, the colour
 /// is the default.

@@ -2,16 +2,16 @@
 ghost use Rattle.std.specs.Prelude.{◌≡◌, ◌<◌, ◌++◌, ◌∷◌, ◌||◌, [], codes};
 ghost use Rattle.anstyle_parse.specs.Io.Output.{Adds};
 ghost use Rattle.ansi_html.specs.Palette.{hex};
-ghost use Rattle.ansi_html.specs.Css.{declared as declared_color, light_dark, themed, is_chosen, text_of, behind_of, light_text, dark_text, on_page, reversed_text, reversed_ground, color_on, text_on, text_if, is_underlined, lines_css, underline_css, others_css};
+ghost use Rattle.ansi_html.specs.Css.{declared as declared_color, light_dark, themed, is_chosen, text_of, behind_of, on_page, reversed_text, reversed_ground, color_on, text_on, text_if, is_underlined, lines_css, underline_css, others_css};
 ghost use Rattle.ansi_html.specs.Tags.{rare_css};
 ghost use Rattle.ansi_html.specs.Html.{is_plain};
 
 use crate::contrast::{BLACK, Rgb, WHITE};
 use crate::digits::digit;
-use crate::palette::{Shades, shades_of};
+use crate::palette::{dark_text, light_text, shades_of};
 use crate::scheme::Scheme;
 use ansi_style::{Color, Style, Underline};
-use anstyle_parse::canon::{Output, Sink};
+use anstyle_parse::io::{Output, Sink};
 
 /// Red, green and blue in hexadecimal, and the byte that ends them.
 fn put_hex<W: Sink>(output: &mut Output<W>, color: Rgb, end: u8)
@@ -97,28 +97,6 @@ pub(crate) fn behind_of(style: Style) -> Color
         style.foreground
     } else {
         style.background
-    }
-}
-
-/// The shade of a text that is read on light pages.
-pub(crate) fn light_text(dim: bool, shades: Shades) -> Rgb
-    ensures { result ≡ light_text dim shades }
-{
-    if dim {
-        shades.light.mixture(WHITE).light_shade()
-    } else {
-        shades.light.light_shade()
-    }
-}
-
-/// The shade of a text that is read on dark pages.
-pub(crate) fn dark_text(dim: bool, shades: Shades) -> Rgb
-    ensures { result ≡ dark_text dim shades }
-{
-    if dim {
-        shades.dark.mixture(BLACK).dark_shade()
-    } else {
-        shades.dark.dark_shade()
     }
 }
 

@@ -7,8 +7,7 @@ ghost use Rattle.ansi_html.specs.Css.{light_text, dark_text};
 ghost use Rattle.ansi_html.specs.Tags.{digits};
 
 use crate::contrast::Rgb;
-use crate::css::{dark_text, light_text};
-use crate::palette::shades_of;
+use crate::palette::{dark_text, light_text, shades_of};
 use ansi_style::{Color, Hue};
 
 /// The digits of a text's colour: on light pages, and on dark ones.

@@ -54,7 +54,7 @@ mod tag;
 mod uri;
 mod verbatim;
 
-use anstyle_parse::canon::{Fault, Output, Sink, Source, write_calls_by};
+use anstyle_parse::io::{Fault, Output, Sink, Source, write_calls_by};
 pub use block::{LINES_A_BLOCK, put_block_begin, put_block_end};
 pub use blocks::BlocksWriter;
 pub use lines::LinesWriter;

@@ -1,8 +1,9 @@
 //! The colours of a stream: named, of 256, or by red, green and blue.
 ghost use Rattle.std.specs.Prelude.{◌≡◌, ◌<◌};
+ghost use Rattle.ansi_html.specs.Css.{light_text, dark_text};
 ghost use Rattle.ansi_html.specs.Palette.{rgb_of, shaded, alike, named_shades, bright_shades, indexed, level, shades_of};
 
-use crate::contrast::Rgb;
+use crate::contrast::{BLACK, Rgb, WHITE};
 use ansi_style::{Color, Hue};
 
 /// A colour as it is shown.
@@ -127,5 +128,27 @@ pub(crate) fn shades_of(color: Color) -> Shades
         Color::Bright(hue) => bright_shades(hue),
         Color::Indexed(index) => indexed(index),
         Color::Direct(red, green, blue) => alike(Rgb { red, green, blue }),
+    }
+}
+
+/// The shade of a text that is read on light pages.
+pub(crate) fn light_text(dim: bool, shades: Shades) -> Rgb
+    ensures { result ≡ light_text dim shades }
+{
+    if dim {
+        shades.light.mixture(WHITE).light_shade()
+    } else {
+        shades.light.light_shade()
+    }
+}
+
+/// The shade of a text that is read on dark pages.
+pub(crate) fn dark_text(dim: bool, shades: Shades) -> Rgb
+    ensures { result ≡ dark_text dim shades }
+{
+    if dim {
+        shades.dark.mixture(BLACK).dark_shade()
+    } else {
+        shades.dark.dark_shade()
     }
 }

@@ -20,7 +20,7 @@ use crate::standing::{Element, Standing};
 use crate::tag::put_tag;
 use ansi_strip::is_layout;
 use ansi_style::Style;
-use anstyle_parse::canon::{Output, Sink, WritingPerformer};
+use anstyle_parse::io::{Output, Sink, WritingPerformer};
 use anstyle_parse::{Params, Perform, PerformText};
 use std::simd::prelude::*;
 

@@ -13,7 +13,7 @@ use crate::performer::{
 };
 use crate::scheme::Styling;
 use ansi_style::Style;
-use anstyle_parse::canon::{Output, Sink};
+use anstyle_parse::io::{Output, Sink};
 
 /// Writes texts that have styles and links, such as the cells of a screen, as HTML: text that is not plain stands
 /// in `<span style="…">…</span>`, one for each run of equal style and link, and text of a link in

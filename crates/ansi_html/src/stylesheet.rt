@@ -12,7 +12,7 @@ use crate::css::{
 use crate::palette::indexed;
 use crate::scheme::Scheme;
 use ansi_style::{Color, Underline};
-use anstyle_parse::canon::{Output, Sink};
+use anstyle_parse::io::{Output, Sink};
 
 /// How many colours have a number.
 const COLORS: u16 = 256;

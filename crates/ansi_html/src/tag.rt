@@ -12,7 +12,7 @@ use crate::digits::{digits, page_digits};
 use crate::palette::shades_of;
 use crate::scheme::Scheme;
 use ansi_style::{Color, Style};
-use anstyle_parse::canon::{Output, Sink};
+use anstyle_parse::io::{Output, Sink};
 
 /// What begins a tag, and a colour. It is out of line, so that the compiler does not make one write of unknown length
 /// of this and the next.

@@ -1,9 +1,8 @@
 -- Runs of printed ASCII in a text, and what they do to a row all at once.
 --
 -- Source: ECMA-48 has a graphic character stand where the cursor is, which then moves on by a column.
-use Rattle.std.specs.Prelude.{◌≡◌, ℕ, ◌+◌, ◌≤◌, Bool, true, false, List, [], ◌∷◌, ◌++◌, ⊤, map}
+use Rattle.std.specs.Prelude.{◌≡◌, ℕ, ◌+◌, ◌≤◌, Bool, false, List, [], ◌∷◌, map}
 use Rattle.anstyle_parse.specs.Stream.Bytes.{is_within}
-use Rattle.anstyle_parse.specs.Stream.Items.{EachIs}
 use Rattle.ansi_style.specs.declared.style.Style.{Style}
 use Rattle.ansi_screen.specs.declared.cell.Cell.{Cell}
 use Rattle.ansi_screen.specs.declared.cell.Part.TheVariants.{Whole}
@@ -14,19 +13,6 @@ use Rattle.ansi_screen.specs.Print.{glyph, draws, printed}
 -- ASCII that is printed
 abbrev pub is_printed_ascii : ℕ → Bool
 is_printed_ascii c = is_within 0x20 0x7E c
-
--- The bytes that are left follow such as all pass a test.
-abbrev pub FollowsPassed : (ℕ → Bool) → List ℕ → (left : List ℕ) → Type 0
-FollowsPassed test bytes left = (passed : List ℕ) × (bytes ≡ passed ++ left) × EachIs test passed
-
--- Nothing comes, or printed ASCII comes first.
-abbrev pub BeginsWithAscii : List ℕ → Type 0
-BeginsWithAscii [] = ⊤
-BeginsWithAscii (b ∷ bytes) = is_printed_ascii b ≡ true
-
--- The bytes that are left are an end of these, and begin with printed ASCII.
-abbrev pub EndsWithAscii : List ℕ → (left : List ℕ) → Type 0
-EndsWithAscii bytes left = (passed : List ℕ) × (bytes ≡ passed ++ left) × BeginsWithAscii left
 
 -- characters of one column each, put one after another, from a place on
 abbrev pub with_glyphs : ℕ → List ℕ → Style → ℕ → List Cell → List Cell

@@ -1,11 +1,17 @@
 -- No definition, but proofs: the language wants those of a trait's laws among the specs.
 -- Calls that a screen, alone or with what takes its rows, receives one after another are one list of calls.
-use Rattle.std.proofs.Common.{◌≡◌, List, [], ◌∷◌, ◌++◌, refl, sym, ap, ◌∙◌, subst, append_assoc, append-nil}
+use Rattle.std.proofs.Common.{◌≡◌, ℕ, ◌<◌, IsTrue, arith, List, [], ◌∷◌, ◌++◌, refl, sym, ap, ◌∙◌, subst, append_assoc, append-nil}
 use Rattle.anstyle_parse.specs.Stream.Call.{Call}
+use Rattle.anstyle_parse.proofs.Characters.Encoding.{within_parts}
 use Rattle.ansi_screen.specs.declared.cell.Cell.{Cell}
 use Rattle.ansi_screen.specs.declared.leaving.Scrolling.{Scrolling}
 use Rattle.ansi_screen.specs.After.{State, after, after_all}
+use Rattle.ansi_screen.specs.Runs.{is_printed_ascii}
 use Rattle.ansi_screen.specs.Leaving.{rows_left, all_left, TakesRows, screen_of, taker_of, Scrolls, ScrollsAll}
+
+-- printed ASCII is ASCII
+pub printed-low : (b : ℕ) → IsTrue (is_printed_ascii b) → b < 0x80
+printed-low b is = let range = within_parts 0x20 0x7E b is in omega (arith, range.1)
 
 pub after_all-append : (first second : List Call) (s : State) → after_all (first ++ second) s ≡ after_all second (after_all first s)
 after_all-append [] second s = refl

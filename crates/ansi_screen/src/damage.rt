@@ -3,7 +3,7 @@ ghost use Rattle.std.specs.Prelude.{◌≡◌, ◌++◌, ◌-◌, ◌+◌, ◌<�
 ghost use Rattle.ansi_screen.specs.Damage.{no_span, AreEmptyBeside};
 ghost use Rattle.ansi_screen.specs.Display.{most_columns};
 
-use crate::screen::MAX_COLUMNS;
+use crate::size::MAX_COLUMNS;
 use std::alloc::{AllocError, Global};
 use std::marker::Model;
 

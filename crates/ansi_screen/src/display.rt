@@ -15,7 +15,7 @@ use crate::cell::Cell;
 use crate::damage::Damage;
 use crate::grid::Grid;
 use crate::place::Place;
-use crate::screen::{MAX_COLUMNS, MAX_ROWS, MIN_COLUMNS, MIN_ROWS};
+use crate::size::{MAX_COLUMNS, MAX_ROWS, MIN_COLUMNS, MIN_ROWS};
 use crate::tabs::reset_stops;
 pub(crate) use performer::first_of;
 use std::alloc::{AllocError, Global};

@@ -10,7 +10,6 @@ ghost use Rattle.ansi_screen.specs.Runs.{with_glyphs};
 
 use crate::cell::Cell;
 use crate::runs;
-use crate::text::goes_on;
 use ansi_style::{Color, Style};
 use std::alloc::{AllocError, Global};
 use std::marker::Model;
@@ -268,7 +267,7 @@ impl Row {
         ensures whole { IsWhole (length self.old) self.new }
         ensures same { result ≡ false → self.new ≡ self.old }
     {
-        if goes_on(self.cells.as_slice()) != on {
+        if runs::goes_on(self.cells.as_slice()) != on {
             let end = self.cells.len();
             runs::set_goes_on(self.cells.as_mut_slice(), end, on);
             self.written = end;

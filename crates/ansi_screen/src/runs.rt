@@ -4,6 +4,7 @@ ghost use Rattle.ansi_screen.specs.Cells.{is_right, cell_at, cut, marked_before,
 ghost use Rattle.ansi_screen.specs.Print.{glyph};
 ghost use Rattle.ansi_screen.specs.Reachable.{ArePaired};
 ghost use Rattle.ansi_screen.specs.Runs.{glyphs, with_glyphs};
+ghost use Rattle.ansi_screen.specs.Text.{goes_on};
 
 use crate::cell::{Cell, Part};
 use ansi_style::Style;
@@ -134,6 +135,13 @@ pub(crate) fn mark_before(cells: &mut [Cell], place: usize, mark: char)
         last
     };
     cells[base] = cells[base].with_mark(mark);
+}
+
+/// Whether a row and the next are one line.
+pub fn goes_on(row: &[Cell]) -> bool
+    ensures { result ≡ goes_on row.now }
+{
+    !row.is_empty() && row[row.len() - 1].goes_on
 }
 
 /// Says whether the row that ends at `end` goes on in the next.

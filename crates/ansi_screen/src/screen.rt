@@ -5,20 +5,12 @@ ghost use Rattle.ansi_screen.specs.After.{repeatable, is_repeat};
 use crate::cell::Cell;
 use crate::display::{Display, first_of};
 use crate::place::Place;
+use crate::size::{MAX_COLUMNS, MAX_ROWS, MIN_COLUMNS, MIN_ROWS};
 use crate::texts::{PutRuns, print_by_runs};
 use crate::width::{columns, is_shown};
 use anstyle_parse::{Params, Perform, PerformText};
 use std::alloc::{AllocError, Global};
 use std::marker::Model;
-
-/// The least and the greatest sizes of a screen.
-pub const MIN_COLUMNS: usize = 2;
-
-pub const MAX_COLUMNS: usize = 1000;
-
-pub const MIN_ROWS: usize = 1;
-
-pub const MAX_ROWS: usize = 1000;
 
 /// A terminal's screen: cells in rows, the cursor, margins, tabs and modes, and the alternate
 /// screen.

@@ -2,7 +2,14 @@
 ghost use Rattle.std.specs.Prelude.{◌≡◌, ℕ, ◌^◌, ◌<◌, IfSome, MatchOption};
 ghost use Rattle.ansi_screen.specs.Size.{a_terminal, size_if_taken, IsNumber, IsSaid, IsTaken};
 
-use crate::screen::{MAX_COLUMNS, MAX_ROWS, MIN_COLUMNS, MIN_ROWS};
+/// The least and the greatest sizes of a screen.
+pub const MIN_COLUMNS: usize = 2;
+
+pub const MAX_COLUMNS: usize = 1000;
+
+pub const MIN_ROWS: usize = 1;
+
+pub const MAX_ROWS: usize = 1000;
 
 /// The size of a screen.
 #[derive(Clone, Copy, Debug, PartialEq, Eq)]

@@ -3,7 +3,7 @@ ghost use Rattle.std.specs.Prelude.{◌≡◌, ◌-◌, ◌≤◌, ◌<◌, [], 
 ghost use Rattle.std.specs.List.{flat_map};
 ghost use Rattle.anstyle_parse.specs.Io.Output.{Adds};
 ghost use Rattle.ansi_screen.specs.Grid.{IsBlankFrom};
-ghost use Rattle.ansi_screen.specs.Text.{is_blank, is_unprinted, left_out, used, goes_on, is_unmarked, cell_text, row_text, used_rows, rows_text, text_of, marks_text};
+ghost use Rattle.ansi_screen.specs.Text.{is_blank, is_unprinted, left_out, used, is_unmarked, cell_text, row_text, used_rows, rows_text, text_of, marks_text};
 
 use crate::cell::{Cell, Marks, Part};
 use crate::display::Display;
@@ -103,13 +103,6 @@ fn without_fours(cells: &[Cell], ends: LeftOut) -> usize
         end -= 4;
     }
     end
-}
-
-/// Whether a row and the next are one line.
-pub fn goes_on(row: &[Cell]) -> bool
-    ensures { result ≡ goes_on row.now }
-{
-    !row.is_empty() && row[row.len() - 1].goes_on
 }
 
 /// Writes marks.

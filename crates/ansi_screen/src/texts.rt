@@ -6,8 +6,9 @@ ghost use Rattle.anstyle_parse.specs.Stream.Texts.{text_calls};
 ghost use Rattle.ansi_screen.specs.Laws.{printing};
 ghost use Rattle.ansi_screen.specs.Runs.{is_printed_ascii};
 
-use crate::printed::{split_others, split_run};
+use crate::printed::PrintedAscii;
 use anstyle_parse::Perform;
+use lanes::{split_front, split_others};
 
 /// A performer that puts the front of a run into its cells at once.
 pub(crate) trait PutRuns: Perform {
@@ -38,12 +39,12 @@ pub(crate) fn print_by_runs<P: PutRuns>(performer: &mut P, text: &str)
 {
     let mut rest = text;
     'rest: while !rest.is_empty() {
-        let (run, behind) = split_run(rest);
+        let (run, behind) = split_front::<PrintedAscii>(rest);
         print_run(performer, run);
         if behind.is_empty() {
             break;
         }
-        let (others, further) = split_others(behind);
+        let (others, further) = split_others::<PrintedAscii>(behind);
         print_each(performer, others);
         rest = further;
     }

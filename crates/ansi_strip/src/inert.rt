@@ -4,7 +4,7 @@ ghost use Rattle.ansi_strip.specs.Inert.{is_inert};
 
 use crate::clear::{is_clear, is_clear_front};
 use crate::driving::{is_driving, split_at_driving};
-use anstyle_parse::canon::{CallWriter, Output, Sink, WritingPerformer};
+use anstyle_parse::io::{CallWriter, Output, Sink, WritingPerformer};
 use anstyle_parse::{Params, Perform, PerformText};
 use std::str;
 

@@ -21,7 +21,7 @@ mod line_feeds;
 mod performer;
 mod returns;
 
-use anstyle_parse::canon::{Fault, Sink, Source, write_calls};
+use anstyle_parse::io::{Fault, Sink, Source, write_calls};
 pub use anstyle_parse::is_layout;
 pub use clear::{is_clear, is_clear_front};
 pub use driving::{is_driving, split_at_driving};

@@ -6,7 +6,7 @@ ghost use Rattle.ansi_strip.specs.LineFeeds.{decided, waiting, is_of_line};
 ghost use Rattle.ansi_strip.specs.Strip.{stripped, stripped_call};
 
 use crate::returns::{RETURN, split_at_return};
-use anstyle_parse::canon::{CallWriter, Output, Sink, WritingPerformer};
+use anstyle_parse::io::{CallWriter, Output, Sink, WritingPerformer};
 use anstyle_parse::{Params, Perform, PerformText, is_layout};
 
 /// Writes what a [`Stripper`](crate::Stripper) writes, without each carriage return right before a line feed: the

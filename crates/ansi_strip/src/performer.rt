@@ -3,7 +3,7 @@ ghost use Rattle.std.specs.Prelude.{◌≡◌, [], ⊤, refl};
 ghost use Rattle.anstyle_parse.specs.Io.Output.{Adds};
 ghost use Rattle.ansi_strip.specs.Strip.{stripped_call, stripped};
 
-use anstyle_parse::canon::{CallWriter, Output, Sink, WritingPerformer};
+use anstyle_parse::io::{CallWriter, Output, Sink, WritingPerformer};
 use anstyle_parse::{Params, Perform, PerformText, is_layout};
 
 /// Writes each printed character in UTF-8, and the controls 09, 0A and 0D; nothing of any

@@ -8,7 +8,7 @@ ghost use Rattle.ansi_style.specs.Rendition.{selected};
 ghost use Rattle.ansi_style.specs.Codes.{one, code_if, color_codes, underline_codes, other_codes, codes_of, codes_text, selection, more_text};
 
 use crate::style::{Color, Hue, Style, Underline};
-use anstyle_parse::canon::{Output, Sink};
+use anstyle_parse::io::{Output, Sink};
 
 /// The codes from which those of the text's colours are counted, and of the background's.
 const FOREGROUND: u16 = 30;

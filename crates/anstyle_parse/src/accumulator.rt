@@ -2,23 +2,11 @@
 ghost use Rattle.std.specs.Prelude.{◌≡◌, ◌<◌, ℕ, List, [], Option, Some, IfSome, Bool, true, false, IsTrue, refl, ⊤};
 ghost use Rattle.std.proofs.Common.{ap};
 ghost use Rattle.std.proofs.lemmas.Bool.{false≢true};
-ghost use Rattle.anstyle_parse.specs.declared.accumulator.Taken.{Taken};
+ghost use Rattle.anstyle_parse.specs.declared.utf8.Taken.{Taken};
 ghost use Rattle.anstyle_parse.specs.Machine.Stands.{Decodes};
 ghost use Rattle.anstyle_parse.specs.Machine.Step.{IsWhole};
 
-use crate::utf8::{Front, whole};
-
-/// What an accumulator answers to a byte that it takes.
-#[derive(Debug, Clone, Copy, PartialEq, Eq)]
-pub enum Taken {
-    /// No character yet: more bytes have to come.
-    More,
-    /// A character, which this byte ends. The next byte is at the start of another.
-    Char(char),
-    /// What stands for a character that was begun, and that this byte breaks. The byte is no
-    /// part of it, and may itself begin another.
-    Broken(char),
-}
+use crate::utf8::{Front, Taken, whole};
 
 /// Puts together the characters that have more than one byte.
 ///

@@ -22,12 +22,13 @@ ghost use Rattle.anstyle_parse.specs.Machine.Step.{machine_calls};
 ghost use Rattle.anstyle_parse.specs.Views.Parser.{machine_of, AreBelow, IsAfter, IsAfterAscii};
 ghost use Rattle.anstyle_parse.specs.Machine.State.{state_number, action_number};
 
-use crate::accumulator::{AsciiParser, CharAccumulator, Taken, Utf8Parser};
+use crate::accumulator::{AsciiParser, CharAccumulator, Utf8Parser};
 use crate::canon::CanonWriter;
 use crate::io::{Fault, Sink, Stop};
 use crate::parser::Parser;
 use crate::perform::Perform;
 use crate::state::{Action, State};
+use crate::utf8::Taken;
 
 /// The headline: for a new parser of UTF-8 and every list of bytes, in whatever pieces it is
 /// handed on, the performer receives exactly the calls of the one division of the bytes into

@@ -36,8 +36,9 @@ mod perform;
 pub mod state;
 mod utf8;
 
-pub use accumulator::{AsciiParser, CharAccumulator, DefaultCharAccumulator, Taken, Utf8Parser};
+pub use accumulator::{AsciiParser, CharAccumulator, DefaultCharAccumulator, Utf8Parser};
 pub use layout::is_layout;
 pub use params::{Params, ParamsIter};
 pub use parser::Parser;
 pub use perform::{Perform, PerformText};
+pub use utf8::Taken;

@@ -9,7 +9,17 @@ ghost use Rattle.anstyle_parse.specs.Stream.Characters.{character_of, BeginWithW
 ghost use Rattle.anstyle_parse.specs.Machine.Decoder.{started, continued, decoded};
 ghost use Rattle.anstyle_parse.specs.Views.Front.{bytes_of, front_with, is_front_of, IsStep};
 
-use crate::accumulator::Taken;
+/// What an accumulator answers to a byte that it takes.
+#[derive(Debug, Clone, Copy, PartialEq, Eq)]
+pub enum Taken {
+    /// No character yet: more bytes have to come.
+    More,
+    /// A character, which this byte ends. The next byte is at the start of another.
+    Char(char),
+    /// What stands for a character that was begun, and that this byte breaks. The byte is no
+    /// part of it, and may itself begin another.
+    Broken(char),
+}
 
 /// The front of a character: those of its bytes that have come, none at the start of one.
 #[derive(Debug, Clone, Copy, PartialEq, Eq, Default)]

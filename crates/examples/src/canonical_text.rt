@@ -1,5 +1,6 @@
 //! The canonical text of a log in memory, as the page of `anstyle_parse::canon` shows it.
-use anstyle_parse::canon::{CanonWriter, Fault, FromRead, FromWrite, write_calls};
+use anstyle_parse::canon::CanonWriter;
+use anstyle_parse::io::{Fault, FromRead, FromWrite, write_calls};
 use std::alloc::Global;
 
 pub fn canonical(alloc: Global, log: &[u8]) -> (Vec<u8>, Result<(), Fault>) {

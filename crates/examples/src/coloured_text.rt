@@ -1,6 +1,6 @@
 //! A log in memory as HTML, as the page of the crate `ansi_html` shows it.
 use ansi_html::{Scheme, Styling, convert};
-use anstyle_parse::canon::{Fault, FromRead, FromWrite};
+use anstyle_parse::io::{Fault, FromRead, FromWrite};
 use std::alloc::Global;
 
 pub fn html(alloc: Global, log: &[u8]) -> (Vec<u8>, Result<(), Fault>) {

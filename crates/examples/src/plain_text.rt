@@ -1,6 +1,6 @@
 //! A stripper of a log in memory, as docs/USING.md shows it.
 use ansi_strip::strip;
-use anstyle_parse::canon::{Fault, FromRead, FromWrite};
+use anstyle_parse::io::{Fault, FromRead, FromWrite};
 use std::alloc::Global;
 
 pub fn plain(alloc: Global, log: &[u8]) -> (Vec<u8>, Result<(), Fault>) {

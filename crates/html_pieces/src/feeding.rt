@@ -5,7 +5,7 @@ ghost use Rattle.html_pieces.specs.Feed.{Takes, Feeds, Refuses, Ends, RefusesEnd
 
 use crate::state::HtmlState;
 use ansi_html::{HtmlWriter, verbatim_length};
-use anstyle_parse::canon::{Output, WritingPerformer};
+use anstyle_parse::io::{Output, WritingPerformer};
 use anstyle_parse::{Parser, Utf8Parser};
 use stream_state::{Fed, LentBytes, print_end, put_front};
 

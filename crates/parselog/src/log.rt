@@ -5,13 +5,13 @@ ghost use Rattle.anstyle_parse.specs.Stream.Call.{Call, print, execute, hook, pu
 ghost use Rattle.anstyle_parse.specs.declared.io.output.Output.{Output as AnOutput};
 ghost use Rattle.anstyle_parse.specs.Io.Output.{Adds, Finishes, writer_in, fault_in};
 
-use anstyle_parse::canon::{CallWriter, Fault, Output, Sink, WritingPerformer};
+use anstyle_parse::io::{CallWriter, Fault, Output, Sink, WritingPerformer};
 use anstyle_parse::{Params, Perform, PerformText};
 
 /// Writes a line for each call.
 ///
 /// Nothing is collected and no memory is taken: each part of a line goes to the writer as it is
-/// made, in several writes, which a [`Buffer`](anstyle_parse::canon::Buffer) before it makes few.
+/// made, in several writes, which a [`Buffer`](anstyle_parse::io::Buffer) before it makes few.
 /// A write that fails stops the log: nothing more is written, and the fault is kept.
 #[derive(Drop)]
 pub struct LogWriter<W> {

@@ -13,7 +13,7 @@ mod run;
 mod tests;
 mod words;
 
-use anstyle_parse::canon::{Buffer, Fault, FromRead, FromWrite};
+use anstyle_parse::io::{Buffer, Fault, FromRead, FromWrite};
 use run::{Mode, run};
 use std::fs;
 use std::io::{self, IsTerminal, Read, Write};

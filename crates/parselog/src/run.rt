@@ -4,7 +4,8 @@ ghost use Rattle.anstyle_parse.specs.Io.Run.{Runs};
 ghost use Rattle.parselog.specs.Run.{Normalises, text_of};
 
 use crate::log::LogWriter;
-use anstyle_parse::canon::{CanonWriter, Fault, Sink, Source, write_calls};
+use anstyle_parse::canon::CanonWriter;
+use anstyle_parse::io::{Fault, Sink, Source, write_calls};
 
 /// Which text is written of the calls.
 #[derive(Debug, Clone, Copy, PartialEq, Eq)]

@@ -2,13 +2,10 @@
 //! calls, lines and canonical texts say these rows no clause can, nor what std's readers and writers
 //! do where they fail. A row is data, and each test goes over tables of them.
 mod accumulators;
-mod characters;
 mod checkpoints;
-mod commands;
 mod faults;
 mod groups;
-mod long;
-mod sequences;
+mod rows;
 mod stopped;
 mod streams;
 mod words;
@@ -95,7 +92,7 @@ fn check_table(rt: &impl Abort, table: &[Texts]) {
 
 #[test]
 fn worked_rows(rt: HostRuntime) {
-    check_table(&rt, &sequences::ROWS);
-    check_table(&rt, &commands::ROWS);
-    check_table(&rt, &characters::ROWS);
+    check_table(&rt, &rows::SEQUENCES);
+    check_table(&rt, &rows::COMMANDS);
+    check_table(&rt, &rows::CHARACTERS);
 }

@@ -3,7 +3,7 @@ ghost use Rattle.std.specs.Prelude.{◌≡◌, map, string_bytes, option_copied}
 ghost use Rattle.parselog.specs.Words.{mode_of, mode_in, file_in, is_mode, is_file, asked_of, message_of, is_broken_pipe};
 
 use crate::run::Mode;
-use anstyle_parse::canon::Fault;
+use anstyle_parse::io::Fault;
 use std::io::ErrorKind;
 
 /// What is said for `--version`.

@@ -4,7 +4,7 @@ ghost use Rattle.safe_pieces.specs.Sizes.{most_safe, at_once, least_room};
 ghost use Rattle.safe_pieces.specs.Feed.{Takes, Feeds, Refuses, Ends, RefusesEnd};
 
 use crate::state::SafeState;
-use anstyle_parse::canon::{Output, WritingPerformer};
+use anstyle_parse::io::{Output, WritingPerformer};
 use anstyle_parse::{Parser, Utf8Parser};
 use safe_text::MarkingWriter;
 use stream_state::{Fed, LentBytes, print_end, put_front};

@@ -13,9 +13,9 @@ use Rattle.safe_text.specs.Classes.{is_among, is_shown, is_joiner}
 use Rattle.safe_text.specs.Safe.{next_of, is_line_end, is_safe, written, last_written}
 use Rattle.safe_text.specs.Decided.{waits, is_decided, decided_from, waiting, last_from}
 use Rattle.safe_text.specs.Plain.{is_plain}
-use Rattle.safe_text.specs.TakingProof.{safe-by, waits-parts, not-true}
+use Rattle.safe_text.specs.TakingProof.{plain-low, safe-by, waits-parts, not-true}
 use Rattle.safe_text.specs.Writer.{output_of, before_in, held_in, Takes}
-use Rattle.safe_text.proofs.PartLemmas.{plain-low, run-ascii}
+use Rattle.lanes.proofs.TextLemmas.{run-ascii}
 use Rattle.safe_text.proofs.WriterLemmas.{written-line_end, written-safe}
 
 -- so it is for each byte below 80
@@ -83,7 +83,7 @@ module _ {W : Type 0} (sink : SinkOf W) (old new : SafeWriter W) (text : List �
       let all = plain-all (before_in old) text are in
       record {
         added = subst (λ t. Adds sink t (output_of old) (output_of new))
-            (sym (ap (λ l. encode_utf8_all (decided_from (before_in old) l)) at ∙ (ap encode_utf8_all all.0 ∙ encodes-IsAscii text (run-ascii text are)))) added;
+            (sym (ap (λ l. encode_utf8_all (decided_from (before_in old) l)) at ∙ (ap encode_utf8_all all.0 ∙ encodes-IsAscii text (run-ascii is_plain plain-low text are)))) added;
         before = before ∙ sym (ap (last_from (before_in old)) at ∙ all.1);
         held = held ∙ (nothing ∙ sym (ap waiting at ∙ all.2));
       }

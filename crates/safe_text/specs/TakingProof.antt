@@ -1,22 +1,36 @@
 -- No definition, but proofs: the language wants those of a trait's laws among the specs.
 -- Characters that a writer of safe text takes one after another are one list of characters.
 use Rattle.std.specs.Str.{encode_utf8_all}
-use Rattle.std.proofs.Common.{◌≡◌, ℕ, Bool, true, false, List, [], ◌∷◌, ◌++◌, refl, sym, ap, ap₂, ◌∙◌, subst, append_assoc, append-nil}
+use Rattle.std.proofs.Common.{◌≡◌, ℕ, ◌<◌, ⊎_elim, arith, Bool, true, false, List, [], ◌∷◌, ◌++◌, refl, sym, ap, ap₂, ◌∙◌, subst, append_assoc, append-nil}
 use Rattle.std.specs.Prelude.{◌&&◌, ◌||◌, ◌==◌, not, if◌then◌else◌}
+use Rattle.std.proofs.lemmas.Bool.{or_cases}
 use Rattle.std.proofs.lemmas.Grind.{flat_map-append}
 use Rattle.std.proofs.lemmas.Str.{encodes-append}
 use Rattle.anstyle_parse.specs.declared.io.devices.Sink.{Ghosts as SinkOf}
+use Rattle.anstyle_parse.specs.Stream.Bytes.{is_within}
 use Rattle.anstyle_parse.specs.Stream.Call.{Call}
 use Rattle.anstyle_parse.specs.Io.Output.{Adds}
+use Rattle.anstyle_parse.proofs.Characters.Encoding.{within_parts}
 use Rattle.anstyle_parse.proofs.Written.Output.{Adds-nil, Adds-append}
 use Rattle.safe_text.specs.declared.held.Held.{Held}
 use Rattle.safe_text.specs.declared.held.Held.TheVariants.{Nothing, Return, Less, LessU, Space, NonJoiner, Joiner, TextSelector, EmojiSelector}
 use Rattle.safe_text.specs.declared.performer.SafeWriter.{SafeWriter}
 use Rattle.safe_text.specs.Classes.{is_shown, is_joiner, stays}
+use Rattle.safe_text.specs.Plain.{is_plain}
 use Rattle.safe_text.specs.Safe.{characters_of, characters, next_of, is_line_end, is_of_line_end, is_safe, written_as, written, last_as, last_written, safe_from}
 use Rattle.safe_text.specs.Decided.{waits, is_decided, decided_from, waiting, last_from, undecided_from}
 use Rattle.safe_text.specs.Held.{held_characters}
 use Rattle.safe_text.specs.Writer.{output_of, before_in, held_in, text_by, text_from, ending_from, Takes}
+
+-- plain text is ASCII
+pub plain-low : (b : ℕ) → is_plain b ≡ true → b < 0x80
+plain-low b is =
+    ⊎_elim
+    (λ either.
+    ⊎_elim (λ h. let range = within_parts 0x09 0x0A b h in omega (arith, range.1)) (λ h. let range = within_parts 0x20 0x3B b h in omega (arith, range.1))
+    (or_cases (is_within 0x09 0x0A b) (is_within 0x20 0x3B b) either))
+    (λ h. let range = within_parts 0x3D 0x7E b h in omega (arith, range.1))
+    (or_cases (is_within 0x09 0x0A b || is_within 0x20 0x3B b) (is_within 0x3D 0x7E b) is)
 
 pub not-true : (t : Bool) → not t ≡ true → t ≡ false
 not-true true is = sym is

@@ -19,7 +19,7 @@ mod marking;
 mod performer;
 mod plain;
 
-use anstyle_parse::canon::{Fault, Sink, Source, write_calls};
+use anstyle_parse::io::{Fault, Sink, Source, write_calls};
 pub use classes::is_shown;
 pub use held::Held;
 pub use marking::{MarkedStanding, MarkingWriter};

@@ -6,7 +6,7 @@ ghost use Rattle.safe_text.specs.Marks.{mark_between, hidden_after, decided_mark
 
 use crate::performer::{SafeWriter, Standing};
 use ansi_style::Style;
-use anstyle_parse::canon::{CallWriter, Output, Sink, WritingPerformer};
+use anstyle_parse::io::{CallWriter, Output, Sink, WritingPerformer};
 use anstyle_parse::{Params, Perform, PerformText};
 
 /// Where the safe text of a stream stands in which hidden text is marked.

@@ -10,9 +10,10 @@ ghost use Rattle.safe_text.specs.Plain.{is_plain};
 
 use crate::classes::{is_shown, stays};
 use crate::held::Held;
-use crate::plain::{split_others, split_plain};
-use anstyle_parse::canon::{CallWriter, Output, Sink, WritingPerformer};
+use crate::plain::Plain;
+use anstyle_parse::io::{CallWriter, Output, Sink, WritingPerformer};
 use anstyle_parse::{Params, Perform, PerformText};
+use lanes::{split_front, split_others};
 
 /// In place of a character, where there is none.
 const NONE: char = '\0';
@@ -319,12 +320,12 @@ impl<W: Sink> SafeWriter<W> {
     {
         let mut rest = text;
         'rest: while !rest.is_empty() {
-            let (plain, behind) = split_plain(rest);
+            let (plain, behind) = split_front::<Plain>(rest);
             self.take_plain(plain);
             if behind.is_empty() {
                 break;
             }
-            let (others, further) = split_others(behind);
+            let (others, further) = split_others::<Plain>(behind);
             self.take_each(others);
             rest = further;
         }

@@ -17,6 +17,9 @@ const SHIFT_IN: u8 = 0x0F;
 /// The mode of DECOM.
 const ORIGIN: u16 = 6;
 
+/// The mode of the alternate screen.
+pub(crate) const ALTERNATE: u16 = 1049;
+
 /// ESC and a final byte.
 pub(crate) fn put_escape<W: Sink>(output: &mut Output<W>, final_byte: u8)
     requires from { 0x30 ≤ final_byte }

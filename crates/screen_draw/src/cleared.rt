@@ -4,9 +4,8 @@ ghost use Rattle.ansi_screen.specs.Display.{most_columns};
 ghost use Rattle.screen_draw.specs.Drawing.{Draws};
 ghost use Rattle.screen_draw.specs.Update.{reset_stop_calls, reset_stops_calls, leave_calls, reset_modes, cleared_calls};
 
-use crate::calls::{put_escape, put_number, put_plain, put_private_mode};
+use crate::calls::{ALTERNATE, put_escape, put_number, put_plain, put_private_mode};
 use crate::rest::{STOPS_EACH, put_clear_stop, put_set_stop};
-use crate::whole::ALTERNATE;
 use ansi_screen::Screen;
 use anstyle_parse::io::{Output, Sink};
 

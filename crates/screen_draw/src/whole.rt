@@ -7,7 +7,7 @@ ghost use Rattle.std.specs.Prelude.{◌≡◌};
 
 use crate::alike::{is_steady, looks_same};
 use crate::buffer::Buffer;
-use crate::calls::{put_escape, put_private_mode};
+use crate::calls::{ALTERNATE, put_escape, put_private_mode};
 use crate::changed::Compared;
 use crate::changes::put_changes;
 use crate::cleared::put_cleared;
@@ -15,9 +15,6 @@ use crate::places::put_screen;
 use crate::rest::put_rest;
 use ansi_screen::Screen;
 use anstyle_parse::io::{Output, Sink};
-
-/// The mode of the alternate screen.
-pub(crate) const ALTERNATE: u16 = 1049;
 
 /// Draws what the alternate screen covers.
 fn put_covered<W: Sink>(output: &mut Output<W>, screen: &Screen)

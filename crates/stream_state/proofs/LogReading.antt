@@ -2,8 +2,8 @@
 use Rattle.std.proofs.Common.{◌≡◌, ℕ, ◌<◌, arith, Bool, true, false, refl, List, [], ◌∷◌, ◌++◌, ⊎_elim, ap, sym, ◌∙◌, subst, append-nil}
 use Rattle.std.specs.Prelude.{◌&&◌, if◌then◌else◌, nat_lt, ⊤}
 use Rattle.std.proofs.lemmas.Bool.{false≢true, and_parts, or_cases, agree_below_at, cond-true, cond-false, lt-ltb, false_from_ne_true}
-use Rattle.anstyle_parse.specs.declared.accumulator.Taken.{Taken}
-use Rattle.anstyle_parse.specs.declared.accumulator.Taken.TheVariants.{More, Char, Broken}
+use Rattle.anstyle_parse.specs.declared.utf8.Taken.{Taken}
+use Rattle.anstyle_parse.specs.declared.utf8.Taken.TheVariants.{More, Char, Broken}
 use Rattle.anstyle_parse.specs.declared.state.definitions.State.{State}
 use Rattle.anstyle_parse.specs.declared.state.definitions.State.TheVariants.{Ground, SosPmApcString, Utf8}
 use Rattle.anstyle_parse.specs.Stream.Bytes.{is_within}

@@ -1,7 +1,7 @@
 //! What a performer writes of a piece, before it goes to the caller's room.
 ghost use Rattle.std.specs.Prelude.{◌≡◌, ◌<◌, ◌≤◌, ◌+◌, ◌++◌, ◌∷◌, [], false, Some, IfSome, IfNone, OnSome, IsTrue, length, take, drop, min};
 
-use anstyle_parse::canon::Sink;
+use anstyle_parse::io::Sink;
 
 /// Takes bytes up to a limit into memory that is lent to it, and then fails.
 #[derive(Drop)]

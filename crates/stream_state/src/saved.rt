@@ -2,7 +2,8 @@
 ghost use Rattle.std.specs.Prelude.{◌≡◌, ◌≤◌, false, true, [], Some, length};
 ghost use Rattle.anstyle_parse.specs.Laws.Checkpoint.{max_checkpoint};
 
-use anstyle_parse::canon::{MAX_CHECKPOINT, Sink};
+use anstyle_parse::canon::MAX_CHECKPOINT;
+use anstyle_parse::io::Sink;
 
 /// Takes as many bytes as a checkpoint may have into room that is lent to it, and then fails.
 #[derive(Drop)]

@@ -189,7 +189,13 @@ fn flushes(rt: HostRuntime) {
     }
 }
 
-/// A line and a letter in one read, before a writer with room for the line.
+/// A line and a letter in one read, before a writer that fails after this text.
+fn assert_fails(rt: &(impl Abort + AllocGlobal), form: Form, paper: Paper, text: &[u8]) {
+    let (tape, answer) = (Tape::new(b"a\nb"), Err(Fault::Write));
+    assert_run(rt, form, tape, paper, answer, text, [1, 0]);
+}
+
+/// The same, before a writer with room for the line, which fails for good or once.
 fn assert_line(
     rt: &(impl Abort + AllocGlobal),
     form: Form,
@@ -197,26 +203,10 @@ fn assert_line(
     trouble: Option<ErrorKind>,
 ) {
     let paper = Paper::narrow(rt.alloc(), text.len(), trouble);
-    assert_run(
-        rt,
-        form,
-        Tape::new(b"a\nb"),
-        paper,
-        Err(Fault::Write),
-        text,
-        [1, 0],
-    );
+    assert_fails(rt, form, paper, text);
     let fails_at = (text.len() as u64).saturating_add(1);
     let paper = Paper::failing_once(rt.alloc(), fails_at, trouble);
-    assert_run(
-        rt,
-        form,
-        Tape::new(b"a\nb"),
-        paper,
-        Err(Fault::Write),
-        text,
-        [1, 0],
-    );
+    assert_fails(rt, form, paper, text);
 }
 
 /// A letter before a read that fails.
@@ -269,21 +259,10 @@ fn errors(rt: HostRuntime) {
 fn errors_of_writes(rt: HostRuntime) {
     for trouble in TROUBLES {
         let kind = Some(trouble.unwrap_or(ErrorKind::WriteZero));
-        let paper = Paper::narrow(rt.alloc(), 1, trouble);
-        assert_errors(
-            &rt,
-            Tape::by_byte(Form::Stripped.input()),
-            paper,
-            None,
-            kind,
-        );
+        let tape = Tape::by_byte(Form::Stripped.input());
+        assert_errors(&rt, tape, Paper::narrow(rt.alloc(), 1, trouble), None, kind);
+        let tape = Tape::by_byte(Form::Stripped.input());
         let paper = Paper::failing_once(rt.alloc(), 2, trouble);
-        assert_errors(
-            &rt,
-            Tape::by_byte(Form::Stripped.input()),
-            paper,
-            None,
-            kind,
-        );
+        assert_errors(&rt, tape, paper, None, kind);
     }
 }

@@ -1,5 +1,6 @@
 //! Text without the carriage returns before line feeds, in pieces.
 use super::assert_bytes;
+use super::in_pieces::assert_text;
 use std::process::Abort;
 use std::test::Fail;
 use stream_state::Fed;
@@ -10,25 +11,10 @@ use strip_pieces::{LEAST_LINE_ROOM, LINE_END_ROOM, LineState};
 #[test]
 fn byte_by_byte(rt: HostRuntime) -> Result<(), Fail> {
     let mut state = LineState::new();
-    let mut text = Vec::new(rt.alloc());
     let mut room = [0; LEAST_LINE_ROOM];
-    for byte in b"a\r\nb\rc\r\r\n\n\r\xC3\xA9\r\n\r" {
-        let fed = state.feed(&[*byte], &mut room);
-        let Some(Fed { taken: 1, written }) = fed else {
-            assert!(rt; false);
-            return Ok(());
-        };
-        if written <= room.len() {
-            text.extend_from_slice(&room[..written])?;
-        }
-    }
-    if let Some(written) = state.end(&mut room) {
-        if written <= room.len() {
-            text.extend_from_slice(&room[..written])?;
-        }
-    }
-    assert_bytes(&rt, text.as_slice(), b"a\nb\rc\r\n\n\r\xC3\xA9\n\r");
-    Ok(())
+    let stream = b"a\r\nb\rc\r\r\n\n\r\xC3\xA9\r\n\r";
+    let wanted = b"a\nb\rc\r\n\n\r\xC3\xA9\n\r";
+    Ok(assert_text(&rt, &mut state, &mut room, stream, wanted)?)
 }
 
 #[test]

@@ -394,24 +394,10 @@ fn assert_stripped(rt: &(impl Abort + AllocGlobal)) {
 }
 
 fn assert_converted(rt: &(impl Abort + AllocGlobal)) {
-    let ran = convert(
-        Styling::Inline(Scheme::Both),
-        b"<",
-        &mut reader(),
-        memory(rt.alloc()),
-        b">",
-    );
+    let styling = Styling::Inline(Scheme::Both);
+    let ran = convert(styling, b"<", &mut reader(), memory(rt.alloc()), b">");
     assert_well(rt, ran);
-}
-
-fn assert_lines_converted(rt: &(impl Abort + AllocGlobal)) {
-    let ran = convert_lines(
-        Styling::Inline(Scheme::Both),
-        b"<",
-        &mut reader(),
-        memory(rt.alloc()),
-        b">",
-    );
+    let ran = convert_lines(styling, b"<", &mut reader(), memory(rt.alloc()), b">");
     assert_well(rt, ran);
 }
 
@@ -435,7 +421,6 @@ fn names_of_runs(rt: HostRuntime) {
     assert_stripped(&rt);
     assert_calls_written::<LineFeeds<Memory>>(&rt);
     assert_converted(&rt);
-    assert_lines_converted(&rt);
     assert_well(&rt, plain(rt.alloc(), b"a"));
     let parser = Parser::<Utf8Parser>::new();
     assert_well(&rt, checkpoint(&parser, memory(rt.alloc())));

@@ -1,4 +1,5 @@
 //! Safe text in pieces, and every public item that it stands on by its name.
+use super::in_pieces::assert_text;
 use super::{assert_answer, assert_bytes};
 use anstyle_parse::Perform;
 use anstyle_parse::canon::{Fault, Output, Sink};
@@ -7,44 +8,27 @@ use safe_pieces::{END_ROOM, LEAST_ROOM, SafeState};
 use safe_text::{Held, MarkedStanding, MarkingWriter, SafeWriter, Standing};
 use std::process::Abort;
 use std::test::Fail;
-use stream_state::{Fed, LentBytes, put_front};
+use stream_state::{LentBytes, put_front};
 
 /// The bytes of a stream one by one, and then its end, in the least room: its text is this.
-fn assert_text(rt: &(impl Abort + AllocGlobal), stream: &[u8], wanted: &str) -> Result<(), Fail> {
+fn assert_safe(rt: &(impl Abort + AllocGlobal), stream: &[u8], wanted: &str) -> Result<(), Fail> {
     let mut state = SafeState::new();
-    let mut text = Vec::new(rt.alloc());
     let mut room = [0; LEAST_ROOM];
-    for byte in stream {
-        let fed = state.feed(&[*byte], &mut room);
-        let Some(Fed { taken: 1, written }) = fed else {
-            assert!(rt; false);
-            return Ok(());
-        };
-        if written <= room.len() {
-            text.extend_from_slice(&room[..written])?;
-        }
-    }
-    if let Some(written) = state.end(&mut room) {
-        if written <= room.len() {
-            text.extend_from_slice(&room[..written])?;
-        }
-    }
-    assert_bytes(rt, text.as_slice(), wanted.as_bytes());
-    Ok(())
+    Ok(assert_text(rt, &mut state, &mut room, stream, wanted.as_bytes())?)
 }
 
 #[test]
 fn byte_by_byte(rt: HostRuntime) -> Result<(), Fail> {
     let stream = "a\u{202E}<\x1B[1mU+\u{1F468}\u{200D}\u{1F469}\r\n\u{200D}\r".as_bytes();
     let wanted = "a<U+202E><U+003C>U+\u{1F468}\u{200D}\u{1F469}\n<U+200D><U+000D>";
-    assert_text(&rt, stream, wanted)
+    assert_safe(&rt, stream, wanted)
 }
 
 /// A log in pieces of one byte: a byte of no character, a stamp that BEL ends, and half of a character at the end.
 #[test]
 fn as_a_log(rt: HostRuntime) -> Result<(), Fail> {
     let stream = b"M\xFCller\x1B_t=17\x07$\xC3\xFF<\xE2\x82";
-    assert_text(&rt, stream, "M\u{FFFD}ller$\u{FFFD}\u{FFFD}<\u{FFFD}")
+    assert_safe(&rt, stream, "M\u{FFFD}ller$\u{FFFD}\u{FFFD}<\u{FFFD}")
 }
 
 /// Hidden text is marked: its line ends, it is shown again, and the stream ends in it.
@@ -53,7 +37,7 @@ fn hidden_text(rt: HostRuntime) -> Result<(), Fail> {
     let stream = b"a\x1B[8mb\r\nc\x1B[28md<\x1B[8mU\x1B[me\r\x1B[8m\xE2\x82";
     let wanted =
         "a<U+hidden>b<U+shown>\n<U+hidden>c<U+shown>d<<U+hidden>U<U+shown>e<U+000D><U+hidden>\u{FFFD}<U+shown>";
-    assert_text(&rt, stream, wanted)
+    assert_safe(&rt, stream, wanted)
 }
 
 /// A state of safe text takes nothing in too little room.

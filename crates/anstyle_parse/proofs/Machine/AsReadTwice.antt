@@ -2,8 +2,8 @@
 use Rattle.std.proofs.Common.{◌≡◌, ℕ, ◌≤◌, ◌⊎◌, arith, true, eqb, refl, List, [], ◌∷◌, ◌++◌, ⊎_elim, inl, inr, ap, sym, ◌∙◌, subst}
 use Rattle.std.specs.Prelude.{◌&&◌}
 use Rattle.std.proofs.lemmas.Bool.{cases_Bool, cond-false, false_from_ne_true, and_parts}
-use Rattle.anstyle_parse.specs.declared.accumulator.Taken.{Taken}
-use Rattle.anstyle_parse.specs.declared.accumulator.Taken.TheVariants.{Broken}
+use Rattle.anstyle_parse.specs.declared.utf8.Taken.{Taken}
+use Rattle.anstyle_parse.specs.declared.utf8.Taken.TheVariants.{Broken}
 use Rattle.anstyle_parse.specs.declared.state.definitions.State.{State}
 use Rattle.anstyle_parse.specs.declared.state.definitions.State.TheVariants.{Ground, Utf8}
 use Rattle.anstyle_parse.specs.Stream.Bytes.{is_within, bell, string_terminator}

@@ -1,8 +1,8 @@
 -- How many calls one byte makes: at most two.
 use Rattle.std.proofs.Common.{◌≡◌, ℕ, ◌≤◌, Bool, true, false, ◌&&◌, cond, length, refl, ◌∙◌, IsTrue, ◌⊎◌, inl, inr, ⊎_elim, append-nil, arith, lit≤}
 use Rattle.std.proofs.lemmas.Bool.{and_parts, false≢true, cond_both}
-use Rattle.anstyle_parse.specs.declared.accumulator.Taken.{Taken}
-use Rattle.anstyle_parse.specs.declared.accumulator.Taken.TheVariants.{More, Char, Broken}
+use Rattle.anstyle_parse.specs.declared.utf8.Taken.{Taken}
+use Rattle.anstyle_parse.specs.declared.utf8.Taken.TheVariants.{More, Char, Broken}
 use Rattle.anstyle_parse.specs.declared.state.definitions.State.{State}
 use Rattle.anstyle_parse.specs.declared.state.definitions.State.TheVariants.{DcsPassthrough, Ground, OscString, Utf8}
 use Rattle.anstyle_parse.specs.Stream.Bytes.{is_cancel}

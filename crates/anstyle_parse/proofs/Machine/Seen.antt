@@ -2,8 +2,8 @@
 use Rattle.std.proofs.Common.{◌≡◌, ℕ, ◌<◌, Bool, true, false, List, [], ◌∷◌, ◌++◌, length, refl, sym, ap, ◌∙◌, cond, Option}
 use Rattle.std.specs.Prelude.{⊤, ◌==◌}
 use Rattle.std.specs.List.{AllByRecursion}
-use Rattle.anstyle_parse.specs.declared.accumulator.Taken.{Taken}
-use Rattle.anstyle_parse.specs.declared.accumulator.Taken.TheVariants.{Broken}
+use Rattle.anstyle_parse.specs.declared.utf8.Taken.{Taken}
+use Rattle.anstyle_parse.specs.declared.utf8.Taken.TheVariants.{Broken}
 use Rattle.anstyle_parse.specs.declared.state.definitions.State.{State}
 use Rattle.anstyle_parse.specs.declared.state.definitions.State.TheVariants.{Anywhere, DcsPassthrough, Escape, Ground, Utf8}
 use Rattle.anstyle_parse.specs.declared.state.definitions.Action.{Action}

@@ -7,8 +7,8 @@
 -- It is a text of bytes: U+FFFD stands there as its three bytes, and such a BEL as the byte 9C, with which the
 -- parser ends the string. All other bytes are as they were.
 use Rattle.std.specs.Prelude.{ℕ, Bool, true, false, ◌||◌, ◌&&◌, ◌==◌, List, [], ◌∷◌, ◌++◌, if◌then◌else◌}
-use Rattle.anstyle_parse.specs.declared.accumulator.Taken.{Taken}
-use Rattle.anstyle_parse.specs.declared.accumulator.Taken.TheVariants.{Broken}
+use Rattle.anstyle_parse.specs.declared.utf8.Taken.{Taken}
+use Rattle.anstyle_parse.specs.declared.utf8.Taken.TheVariants.{Broken}
 use Rattle.anstyle_parse.specs.declared.state.definitions.State.{State}
 use Rattle.anstyle_parse.specs.declared.state.definitions.State.TheVariants.{Ground, SosPmApcString, Utf8}
 use Rattle.anstyle_parse.specs.Stream.Bytes.{is_within, bell, string_terminator}

@@ -1,7 +1,7 @@
 -- What the decoder of UTF-8 does with one byte, by the front of a character that it holds.
 use Rattle.std.specs.Prelude.{ℕ, List, [], ◌∷◌, ◌++◌, nat_lt, if◌then◌else◌, Option, None, Some}
-use Rattle.anstyle_parse.specs.declared.accumulator.Taken.{Taken}
-use Rattle.anstyle_parse.specs.declared.accumulator.Taken.TheVariants.{More, Char, Broken}
+use Rattle.anstyle_parse.specs.declared.utf8.Taken.{Taken}
+use Rattle.anstyle_parse.specs.declared.utf8.Taken.TheVariants.{More, Char, Broken}
 use Rattle.anstyle_parse.specs.Stream.Characters.{is_well_formed, is_proper_front, is_lead, character_of, replacement}
 
 -- At the start of a character: ASCII is answered at once, a lead byte begins a front, any

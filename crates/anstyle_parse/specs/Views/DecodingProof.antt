@@ -5,7 +5,7 @@ use Rattle.std.proofs.Common.{◌≡◌, ◌<◌, ℕ, true, List, [], ◌∷◌
 use Rattle.std.specs.Prelude.{◌&&◌, nat_lt, nat_le, ⊤}
 use Rattle.std.specs.List.{list_any, list_all}
 use Rattle.std.proofs.lemmas.Bool.{and_parts, or_cases, cond_both, ltb-true, leb-true}
-use Rattle.anstyle_parse.specs.declared.accumulator.Taken.{Taken}
+use Rattle.anstyle_parse.specs.declared.utf8.Taken.{Taken}
 use Rattle.anstyle_parse.specs.declared.accumulator.Utf8Parser.{Utf8Parser}
 use Rattle.anstyle_parse.specs.Stream.Characters.{rows, begins, is_well_formed, is_proper_front, is_lead}
 use Rattle.anstyle_parse.specs.Machine.Decoder.{started, continued, decoded}

@@ -1,7 +1,7 @@
 -- The front of a character, as the decoder keeps it, and its bytes.
 use Rattle.std.specs.Prelude.{◌≡◌, ℕ, Bool, ◌&&◌, ◌==◌, List, [], ◌∷◌, length}
 use Rattle.std.specs.List.{list_any}
-use Rattle.anstyle_parse.specs.declared.accumulator.Taken.{Taken}
+use Rattle.anstyle_parse.specs.declared.utf8.Taken.{Taken}
 use Rattle.anstyle_parse.specs.declared.utf8.Front.{Front}
 use Rattle.anstyle_parse.specs.declared.utf8.Front.TheVariants.{Empty, One, Two, Three}
 use Rattle.anstyle_parse.specs.Stream.Characters.{rows, begins}

@@ -13,12 +13,12 @@ use super::Parser;
 use super::header::is_final_byte;
 use super::passing::after_sequence;
 use super::runs::Run;
-use crate::accumulator::{Taken, Utf8Parser};
+use crate::accumulator::Utf8Parser;
 use crate::chunks::CHUNK;
 use crate::controls::{BELL, CANCEL, ESCAPE, SPACE, STRING_TERMINATOR};
 use crate::perform::{Perform, PerformText};
 use crate::state::{Action, State};
-use crate::utf8::Front;
+use crate::utf8::{Front, Taken};
 
 /// U+FFFD, in UTF-8.
 const REPLACEMENT: [u8; 3] = [0xEF, 0xBF, 0xBD];

@@ -8,10 +8,11 @@ ghost use Rattle.anstyle_parse.specs.Machine.Step.{exit_action as exit_of, entry
 
 use super::Parser;
 use super::command::{MAX_OSC_PARTS, set_parts};
-use crate::accumulator::{CharAccumulator, Taken};
+use crate::accumulator::CharAccumulator;
 use crate::controls::{BELL, CANCEL, SUBSTITUTE};
 use crate::perform::Perform;
 use crate::state::{Action, State, state_change};
+use crate::utf8::Taken;
 
 /// One byte, inside a character or outside.
 impl<C: CharAccumulator> Parser<C> {

@@ -8,31 +8,31 @@ use std::io::ErrorKind;
 use std::process::Abort;
 use test_streams::{Paper, TROUBLES};
 
+// A write failed where so much was written, which is the front of the text, and nothing was flushed.
+fn assert_front(
+    rt: &impl Abort,
+    ended: (Result<(), Fault>, u64),
+    written: &[u8],
+    text: &[u8],
+    room: usize,
+) {
+    assert_eq!(rt; ended, (Err(Fault::Write), 0), "room {room}");
+    assert_eq!(rt; Some(written), text.get(..room));
+}
+
 // Where a writer has no more room, what went there is the front of the text, and nothing is flushed:
 // so it is with a writer of std that has an error of either kind then, or takes 0.
 fn assert_cut_off(rt: &(impl Abort + AllocGlobal), history: &[u8], text: &[u8], room: usize) {
     let parser = parser_after(history);
     let (sink, answer) = checkpoint(&parser, Failing::new(room, 7, false));
-    assert!(rt;
-        answer == Err(Fault::Write) && sink.flushes == 0,
-        "{history:?}, room {room}"
-    );
-    assert!(rt;
-        Some(sink.taken.as_slice()) == text.get(..room),
-        "{history:?}, room {room}"
-    );
+    let ended = (answer, sink.flushes as u64);
+    assert_front(rt, ended, sink.taken.as_slice(), text, room);
     for trouble in TROUBLES {
         let paper = Paper::narrow(rt.alloc(), room, trouble);
         let (writer, answer) = checkpoint(&parser, FromWrite::new(paper));
         let paper = writer.into_inner();
-        assert!(rt;
-            answer == Err(Fault::Write) && paper.flushes == 0,
-            "{history:?}, room {room}, {trouble:?}"
-        );
-        assert!(rt;
-            Some(paper.text.as_slice()) == text.get(..room),
-            "{history:?}, room {room}, {trouble:?}"
-        );
+        let ended = (answer, paper.flushes);
+        assert_front(rt, ended, paper.text.as_slice(), text, room);
     }
 }
 

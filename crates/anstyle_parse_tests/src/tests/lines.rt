@@ -7,16 +7,18 @@ use anstyle_parse::{Params, Parser, Perform, PerformText, Utf8Parser};
 use arrayvec::ArrayString;
 use std::fmt::Write;
 
-/// A line for each call.
+/// A line for each call, and the parameters of the last control sequence.
 #[derive(Default, Drop)]
 pub struct Lines {
     pub text: ArrayString<512>,
+    pub params: Params,
 }
 
 impl Lines {
     pub fn new() -> Lines {
         Lines {
             text: ArrayString::new(),
+            params: Params::default(),
         }
     }
 
@@ -74,6 +76,9 @@ impl Perform for Lines {
     fn csi_dispatch(&mut self, params: &Params, intermediates: &[u8], ignore: bool, action: u8) {
         let _ = write!(self.text, "csi_dispatch");
         self.add_header(params, intermediates, ignore, action);
+        if let Ok(params) = params.clone() {
+            self.params = params;
+        }
     }
 
     fn esc_dispatch(&mut self, intermediates: &[u8], ignore: bool, byte: u8) {
@@ -100,7 +105,7 @@ pub fn lines_of_texts(first: &[u8], second: &[u8]) -> ArrayString<512> {
     let mut lines = Lines::new();
     parser.advance_texts(&mut lines, first);
     parser.advance_texts(&mut lines, second);
-    let Lines { text } = lines;
+    let Lines { text, .. } = lines;
     text
 }
 
@@ -111,7 +116,7 @@ pub fn lines_of_log(first: &[u8], second: &[u8]) -> ArrayString<512> {
     parser.advance_log(&mut lines, first);
     parser.advance_log(&mut lines, second);
     parser.end_log(&mut lines);
-    let Lines { text } = lines;
+    let Lines { text, .. } = lines;
     text
 }
 
@@ -129,6 +134,6 @@ pub fn parser_after(bytes: &[u8]) -> Parser
 pub fn lines_of(parser: &mut Parser, bytes: &[u8]) -> ArrayString<512> {
     let mut lines = Lines::new();
     parser.advance_all(&mut lines, bytes);
-    let Lines { text } = lines;
+    let Lines { text, .. } = lines;
     text
 }

@@ -1,25 +1,27 @@
 //! Parsers over accumulators that no clause of streams covers, and what `==` and a clone of a
 //! parser are, seen from outside.
-ghost use Rattle.std.specs.Prelude.{[], Some, false, refl, ⊤};
+ghost use Rattle.std.specs.Prelude.{[], Some, false, refl, ⊤, if◌then◌else◌};
 ghost use Rattle.std.proofs.lemmas.Bool.{false≢true};
-ghost use Rattle.anstyle_parse.specs.declared.accumulator.Taken.{Taken};
+ghost use Rattle.anstyle_parse.specs.declared.utf8.Taken.{Taken};
 
 use super::lines::{Lines, lines_of, lines_of_log, lines_of_texts, parser_after};
 use anstyle_parse::{AsciiParser, CharAccumulator, Parser, Taken};
+use std::alloc::AllocError;
+use std::process::Abort;
 use std::test::Fail;
 
-/// Answers `x` to every byte.
+/// Answers `x` to every byte: as a character, or as what stands for one that the byte breaks.
 #[derive(Default, Drop)]
-struct AlwaysX;
+struct AlwaysX<const BREAKS: bool>;
 
-impl CharAccumulator for AlwaysX {
+impl<const BREAKS: bool> CharAccumulator for AlwaysX<BREAKS> {
     ghost front = { λ _. [] };
 
     ghost takes = { λ _ _. ⊤ };
 
     ghost adds = { λ value _. (value, Some 0x78) };
 
-    ghost taken = { λ value _. (value, Taken.Char 0x78) };
+    ghost taken = { λ value _. (value, if BREAKS then Taken.Broken 0x78 else Taken.Char 0x78) };
 
     ghost decodes = { false };
 
@@ -32,35 +34,11 @@ impl CharAccumulator for AlwaysX {
     }
 
     fn take(&mut self, _byte: u8) -> Taken {
-        Taken::Char('x')
-    }
-}
-
-/// Answers to every byte that it breaks a character, for which `x` stands.
-#[derive(Default, Drop)]
-struct AlwaysBroken;
-
-impl CharAccumulator for AlwaysBroken {
-    ghost front = { λ _. [] };
-
-    ghost takes = { λ _ _. ⊤ };
-
-    ghost adds = { λ value _. (value, Some 0x78) };
-
-    ghost taken = { λ value _. (value, Taken.Broken 0x78) };
-
-    ghost decodes = { false };
-
-    ghost default_holds_none = { λ _ _. refl };
-
-    ghost follows = { λ h. absurd (false≢true h) };
-
-    fn add(&mut self, _byte: u8) -> Option<char> {
-        Some('x')
-    }
-
-    fn take(&mut self, _byte: u8) -> Taken {
-        Taken::Broken('x')
+        if BREAKS {
+            Taken::Broken('x')
+        } else {
+            Taken::Char('x')
+        }
     }
 }
 
@@ -68,7 +46,7 @@ impl CharAccumulator for AlwaysBroken {
 #[test]
 fn accumulator_that_answers_at_once(rt: HostRuntime) {
     for second in [0x41, 0x1B] {
-        let mut parser = Parser::<AlwaysX>::default();
+        let mut parser = Parser::<AlwaysX<false>>::default();
         let mut lines = Lines::new();
         parser.advance(&mut lines, 0xC2);
         assert!(rt; parser.is_in_char() && lines.text.as_str() == "print U+0078\n");
@@ -87,7 +65,7 @@ fn accumulator_that_always_breaks(rt: HostRuntime) {
         (0x41, "print U+0078\nprint U+0078\nprint U+0041\n"),
         (0xC2, "print U+0078\nprint U+0078\nprint U+0078\n"),
     ] {
-        let mut parser = Parser::<AlwaysBroken>::default();
+        let mut parser = Parser::<AlwaysX<true>>::default();
         let mut lines = Lines::new();
         parser.advance(&mut lines, 0xC2);
         assert!(rt; parser.is_in_char() && lines.text.as_str() == "print U+0078\n");
@@ -161,22 +139,26 @@ fn unequal_parsers_with_equal_calls(rt: HostRuntime) {
     }
 }
 
+// A parser and its clone make the same calls of what comes next.
+fn assert_clone(
+    rt: &impl Abort,
+    history: &[u8],
+    then: &[u8],
+    want: &str,
+) -> Result<(), AllocError> {
+    let mut parser = parser_after(history);
+    let mut clone = parser.clone()?;
+    assert!(rt; clone == parser);
+    assert!(rt; lines_of(&mut clone, then).as_str() == want);
+    assert!(rt; lines_of(&mut parser, then).as_str() == want);
+    Ok(())
+}
+
 // A clone goes on as the parser that it is of.
 #[test]
 fn clones(rt: HostRuntime) -> Result<(), Fail> {
-    let mut parser = parser_after(b"\x1B]0;x\xC3");
-    let mut clone = parser.clone()?;
-    assert!(rt; clone == parser);
-    let want = "osc_dispatch true 30 78C3\n";
-    assert!(rt; lines_of(&mut clone, b"\x07").as_str() == want);
-    assert!(rt; lines_of(&mut parser, b"\x07").as_str() == want);
-
-    let mut parser = parser_after(b"\xE2\x82");
-    let mut clone = parser.clone()?;
-    assert!(rt; clone == parser);
-    let want = "print U+20AC\n";
-    assert!(rt; lines_of(&mut clone, b"\xAC").as_str() == want);
-    assert!(rt; lines_of(&mut parser, b"\xAC").as_str() == want);
+    assert_clone(&rt, b"\x1B]0;x\xC3", b"\x07", "osc_dispatch true 30 78C3\n")?;
+    assert_clone(&rt, b"\xE2\x82", b"\xAC", "print U+20AC\n")?;
     Ok(())
 }
 

@@ -1,26 +1,26 @@
 //! Parsers over other accumulators, by `advance` with a log: no clause of streams speaks of those
 //! that decode no UTF-8 over all bytes.
-ghost use Rattle.std.specs.Prelude.{[], Some, false, refl, ⊤};
+ghost use Rattle.std.specs.Prelude.{[], Some, false, refl, ⊤, if◌then◌else◌};
 ghost use Rattle.std.proofs.lemmas.Bool.{false≢true};
-ghost use Rattle.anstyle_parse.specs.declared.accumulator.Taken.{Taken};
+ghost use Rattle.anstyle_parse.specs.declared.utf8.Taken.{Taken};
 
 use super::streams::{Paper, Pattern};
 use crate::log::LogWriter;
 use anstyle_parse::canon::FromWrite;
 use anstyle_parse::{AsciiParser, CharAccumulator, Parser, Taken, Utf8Parser};
 
-/// Answers `x` to every byte.
+/// Answers `x` to every byte: as a character, or as what stands for one that the byte breaks.
 #[derive(Default, Drop)]
-struct AlwaysX;
+struct AlwaysX<const BREAKS: bool>;
 
-impl CharAccumulator for AlwaysX {
+impl<const BREAKS: bool> CharAccumulator for AlwaysX<BREAKS> {
     ghost front = { λ _. [] };
 
     ghost takes = { λ _ _. ⊤ };
 
     ghost adds = { λ value _. (value, Some 0x78) };
 
-    ghost taken = { λ value _. (value, Taken.Char 0x78) };
+    ghost taken = { λ value _. (value, if BREAKS then Taken.Broken 0x78 else Taken.Char 0x78) };
 
     ghost decodes = { false };
 
@@ -33,35 +33,11 @@ impl CharAccumulator for AlwaysX {
     }
 
     fn take(&mut self, _byte: u8) -> Taken {
-        Taken::Char('x')
-    }
-}
-
-/// Answers to every byte that it breaks a character, for which `x` stands.
-#[derive(Default, Drop)]
-struct AlwaysBroken;
-
-impl CharAccumulator for AlwaysBroken {
-    ghost front = { λ _. [] };
-
-    ghost takes = { λ _ _. ⊤ };
-
-    ghost adds = { λ value _. (value, Some 0x78) };
-
-    ghost taken = { λ value _. (value, Taken.Broken 0x78) };
-
-    ghost decodes = { false };
-
-    ghost default_holds_none = { λ _ _. refl };
-
-    ghost follows = { λ h. absurd (false≢true h) };
-
-    fn add(&mut self, _byte: u8) -> Option<char> {
-        Some('x')
-    }
-
-    fn take(&mut self, _byte: u8) -> Taken {
-        Taken::Broken('x')
+        if BREAKS {
+            Taken::Broken('x')
+        } else {
+            Taken::Char('x')
+        }
     }
 }
 
@@ -76,16 +52,21 @@ fn is_whole(log: LogWriter<FromWrite<Paper<'_>>>) -> bool {
     answer == Ok(()) && writer.into_inner().lacks(0)
 }
 
-/// Whether the parser is in a character after C2, this byte and 41 in turn.
-fn always_x(second: u8, lines: &str, within: [bool; 3]) -> bool {
+/// Whether the parser is in a character after each of these bytes, and makes these lines of them.
+fn always<const BREAKS: bool>(bytes: &[u8], lines: &str, within: &[bool]) -> bool {
     let mut log = log_of(lines);
-    let mut parser = Parser::<AlwaysX>::default();
-    parser.advance(&mut log, 0xC2);
-    let first = parser.is_in_char();
-    parser.advance(&mut log, second);
-    let then = parser.is_in_char();
-    parser.advance(&mut log, 0x41);
-    within == [first, then, parser.is_in_char()] && is_whole(log)
+    let mut parser = Parser::<AlwaysX<BREAKS>>::default();
+    let mut holds = true;
+    for (byte, is_within) in bytes.iter().zip(within) {
+        parser.advance(&mut log, *byte);
+        holds = holds && parser.is_in_char() == *is_within;
+    }
+    holds && is_whole(log)
+}
+
+/// After C2, this byte and 41.
+fn always_x(second: u8, lines: &str, within: [bool; 3]) -> bool {
+    always::<false>(&[0xC2, second, 0x41], lines, &within)
 }
 
 /// It answers at once, and yet the next byte is within the character.
@@ -96,14 +77,9 @@ fn accumulator_that_answers_at_once(rt: HostRuntime) {
     assert!(rt; always_x(0x1B, lines, [true, false, false]));
 }
 
-/// Whether the parser is in a character after C2 and this byte in turn.
+/// After C2 and this byte.
 fn always_broken(second: u8, lines: &str, within: [bool; 2]) -> bool {
-    let mut log = log_of(lines);
-    let mut parser = Parser::<AlwaysBroken>::default();
-    parser.advance(&mut log, 0xC2);
-    let first = parser.is_in_char();
-    parser.advance(&mut log, second);
-    within == [first, parser.is_in_char()] && is_whole(log)
+    always::<true>(&[0xC2, second], lines, &within)
 }
 
 /// On a first byte such an answer is that of a character; after it the byte is handled again.

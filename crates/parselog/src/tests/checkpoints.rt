@@ -8,6 +8,7 @@ use crate::log::LogWriter;
 use anstyle_parse::canon::{FromWrite, MAX_CHECKPOINT, checkpoint};
 use anstyle_parse::{Parser, Utf8Parser};
 use std::alloc::Global;
+use std::process::Abort;
 
 /// A new parser that took these bytes, whatever it called.
 fn parser_after(bytes: &[u8]) -> Parser
@@ -34,18 +35,18 @@ fn resumed(alloc: Global, history: &[u8], then: &[u8], lines: &str) -> Option<us
     }
 }
 
+/// It makes these lines of further bytes.
+fn assert_resumed(rt: &(impl Abort + AllocGlobal), history: &[u8], then: &[u8], lines: &str) {
+    let length = resumed(rt.alloc(), history, then, lines);
+    check(rt, length.is_some(), lines, history.len());
+}
+
 #[test]
 fn resumed_parsers(rt: HostRuntime) {
-    let rows: [(&[u8], &[u8], &str); 4] = [
-        (b"\xE2\x82", b"\xAC", "print U+20AC\n"),
-        (b"\x1B !\"", b"0", "esc_dispatch 2021 true 30\n"),
-        (b"\x1B]a;b", b"\x07", "osc_dispatch true 61 62\n"),
-        (b"\x1BP1qA", b"B\x9C", "put 42\nunhook\n"),
-    ];
-    for (history, then, lines) in rows {
-        let length = resumed(rt.alloc(), history, then, lines);
-        check(&rt, length.is_some(), lines, history.len());
-    }
+    assert_resumed(&rt, b"\xE2\x82", b"\xAC", "print U+20AC\n");
+    assert_resumed(&rt, b"\x1B !\"", b"0", "esc_dispatch 2021 true 30\n");
+    assert_resumed(&rt, b"\x1B]a;b", b"\x07", "osc_dispatch true 61 62\n");
+    assert_resumed(&rt, b"\x1BP1qA", b"B\x9C", "put 42\nunhook\n");
 }
 
 /// The longest checkpoint: sixteen closed parts and as much text as is kept.

@@ -2,6 +2,7 @@
 use super::streams::{Paper, Pattern};
 use super::{TITLE, TITLE_CANON, TITLE_LINES, check};
 use crate::log::LogWriter;
+use crate::run::Mode;
 use anstyle_parse::canon::{CanonWriter, Fault, FromWrite};
 use anstyle_parse::{Params, Parser, Perform, Utf8Parser};
 use std::io::ErrorKind;
@@ -17,81 +18,87 @@ fn make_all_calls<P: Perform>(performer: &mut P) {
     performer.esc_dispatch(b"(", false, b'B');
 }
 
-/// Whether a log whose writer fails has that fault, and all calls leave it so; and how `finish`
-/// answers, which does not flush. So many bytes of the text are not written.
-fn log_stops(paper: Paper<'_>, lacking: usize) -> bool {
-    let mut log = LogWriter::new(FromWrite::new(paper));
-    let first = log.fault();
-    Parser::<Utf8Parser>::new().advance_all(&mut log, TITLE);
-    let then = log.fault();
-    make_all_calls(&mut log);
-    let last = log.fault();
-    let (writer, answer) = log.finish();
-    has_stopped(writer.into_inner(), lacking, [first, then, last], answer)
+type Writer = FromWrite<Paper<'static>>;
+
+/// A performer that keeps the fault of its writer.
+trait Stopping: Perform {
+    fn kept_fault(&self) -> Option<Fault>;
+
+    /// The writer, and what `finish` answers.
+    fn end(self) -> (Writer, Result<(), Fault>);
 }
 
-/// The same of a canonical text.
-fn canon_stops(paper: Paper<'_>, lacking: usize) -> bool {
-    let mut canon = CanonWriter::new(FromWrite::new(paper));
-    let first = canon.fault();
-    Parser::<Utf8Parser>::new().advance_all(&mut canon, TITLE);
-    let then = canon.fault();
-    make_all_calls(&mut canon);
-    let last = canon.fault();
-    let (writer, answer) = canon.finish();
-    has_stopped(writer.into_inner(), lacking, [first, then, last], answer)
+impl Stopping for LogWriter<Writer> {
+    fn kept_fault(&self) -> Option<Fault> {
+        self.fault()
+    }
+
+    fn end(self) -> (Writer, Result<(), Fault>) {
+        self.finish()
+    }
 }
 
-fn has_stopped(
-    paper: Paper<'_>,
-    lacking: usize,
-    faults: [Option<Fault>; 3],
-    answer: Result<(), Fault>,
-) -> bool {
-    faults == [None, Some(Fault::Write), Some(Fault::Write)]
+impl Stopping for CanonWriter<Writer> {
+    fn kept_fault(&self) -> Option<Fault> {
+        self.fault()
+    }
+
+    fn end(self) -> (Writer, Result<(), Fault>) {
+        self.finish()
+    }
+}
+
+/// Whether a performer whose writer fails has that fault, and all calls leave it so; and how `finish` answers, which
+/// does not flush. So many bytes of the text are not written.
+fn stops<P: Stopping>(mut performer: P, lacking: usize) -> bool {
+    let first = performer.kept_fault();
+    Parser::<Utf8Parser>::new().advance_all(&mut performer, TITLE);
+    let then = performer.kept_fault();
+    make_all_calls(&mut performer);
+    let last = performer.kept_fault();
+    let (writer, answer) = performer.end();
+    let paper = writer.into_inner();
+    [first, then, last] == [None, Some(Fault::Write), Some(Fault::Write)]
         && answer == Err(Fault::Write)
         && paper.lacks(lacking)
         && paper.flushes == 0
 }
 
-/// The writer has an error of either kind, or takes 0; or it has one error, and would go on.
-fn any_log_stops(room: usize) -> bool {
-    let text = TITLE_LINES;
-    let lacking = text.len().saturating_sub(room);
-    let other = Some(ErrorKind::Other);
-    let interrupted = Some(ErrorKind::Interrupted);
-    log_stops(Paper::narrow(text, room, other), lacking)
-        && log_stops(Paper::narrow(text, room, interrupted), lacking)
-        && log_stops(Paper::narrow(text, room, None), lacking)
-        && log_stops(Paper::failing_once(text, room), lacking)
+/// Whether a log, or a canonical text, stops in such a writer.
+fn stops_in(mode: Mode, paper: Paper<'static>, lacking: usize) -> bool {
+    let writer = FromWrite::new(paper);
+    match mode {
+        Mode::Log => stops(LogWriter::new(writer), lacking),
+        Mode::Canon => stops(CanonWriter::new(writer), lacking),
+    }
 }
 
-/// The same of a canonical text.
-fn any_canon_stops(room: usize) -> bool {
-    let text = TITLE_CANON;
+/// Whether it stops in any writer that takes so many bytes of its text: the writer has an error of either kind then,
+/// or takes 0; or it has one error, and would go on.
+fn any_stops(mode: Mode, text: &'static [u8], room: usize) -> bool {
     let lacking = text.len().saturating_sub(room);
     let other = Some(ErrorKind::Other);
     let interrupted = Some(ErrorKind::Interrupted);
-    canon_stops(Paper::narrow(text, room, other), lacking)
-        && canon_stops(Paper::narrow(text, room, interrupted), lacking)
-        && canon_stops(Paper::narrow(text, room, None), lacking)
-        && canon_stops(Paper::failing_once(text, room), lacking)
+    stops_in(mode, Paper::narrow(text, room, other), lacking)
+        && stops_in(mode, Paper::narrow(text, room, interrupted), lacking)
+        && stops_in(mode, Paper::narrow(text, room, None), lacking)
+        && stops_in(mode, Paper::failing_once(text, room), lacking)
 }
 
 /// At each place, and in a writer that takes ten bytes, as many a write as it is given.
 #[test]
 fn stopped_logs(rt: HostRuntime) {
     for room in 0..TITLE_LINES.len() {
-        check(&rt, any_log_stops(room), "room", room);
+        check(&rt, any_stops(Mode::Log, TITLE_LINES, room), "room", room);
     }
     let mut paper = Paper::new(Pattern::of(TITLE_LINES));
     paper.room = 10;
-    check(&rt, log_stops(paper, 39), "at once, room", 10);
+    check(&rt, stops_in(Mode::Log, paper, 39), "at once, room", 10);
 }
 
 #[test]
 fn stopped_canonical_texts(rt: HostRuntime) {
     for room in 0..TITLE_CANON.len() {
-        check(&rt, any_canon_stops(room), "room", room);
+        check(&rt, any_stops(Mode::Canon, TITLE_CANON, room), "room", room);
     }
 }

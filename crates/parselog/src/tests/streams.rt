@@ -1,5 +1,7 @@
 //! Readers and writers in memory: they give and take little, count what they are asked, and fail
 //! where they are told to.
+ghost use Rattle.std.specs.Prelude.{◌≡◌, IfOk};
+
 use std::io::{self, Error, ErrorKind, Read, Write};
 
 /// Some bytes, others that come so often, and the last bytes: a text that need not be stored.
@@ -102,30 +104,30 @@ impl Read for Tape<'_> {
 /// `flush_error`, or goes well where that is `None`. `writes` and `flushes` count the calls.
 #[derive(Clone, Copy)]
 pub struct Paper<'a> {
-    text: Pattern<'a>,
-    differs: bool,
-    each: usize,
     pub room: usize,
-    trouble: Option<ErrorKind>,
-    fails_at: u64,
     pub flush_error: Option<ErrorKind>,
     pub writes: u64,
     pub flushes: u64,
+    text: Pattern<'a>,
+    differs: bool,
+    each: usize,
+    trouble: Option<ErrorKind>,
+    fails_at: u64,
 }
 
 impl<'a> Paper<'a> {
     /// Takes all of the text, and nothing fails.
     pub fn new(text: Pattern<'a>) -> Paper<'a> {
         Paper {
-            text,
-            differs: false,
-            each: usize::MAX,
             room: usize::MAX,
-            trouble: Some(ErrorKind::Other),
-            fails_at: u64::MAX,
             flush_error: None,
             writes: 0,
             flushes: 0,
+            text,
+            differs: false,
+            each: usize::MAX,
+            trouble: Some(ErrorKind::Other),
+            fails_at: u64::MAX,
         }
     }
 
@@ -151,6 +153,16 @@ impl<'a> Paper<'a> {
     }
 }
 
+/// An error of this kind, and where there is none this value.
+fn error_or<T: Copy>(kind: Option<ErrorKind>, value: T) -> io::Result<T>
+    ensures { IfOk result (λ answer. answer ≡ value) }
+{
+    match kind {
+        Some(kind) => Err(Error::from(kind)),
+        None => Ok(value),
+    }
+}
+
 impl Write for Paper<'_> {
     fn write(&mut self, buf: &[u8]) -> io::Result<usize> {
         self.writes = self.writes.saturating_add(1);
@@ -162,10 +174,7 @@ impl Write for Paper<'_> {
         let taken = self.text.take(most);
         let count = taken.len().min(most);
         if count == 0 {
-            return match self.trouble {
-                Some(kind) => Err(Error::from(kind)),
-                None => Ok(0),
-            };
+            return error_or(self.trouble, 0);
         }
         self.differs = self.differs || taken != &buf[..count];
         self.room -= count;
@@ -174,10 +183,7 @@ impl Write for Paper<'_> {
 
     fn flush(&mut self) -> io::Result<()> {
         self.flushes = self.flushes.saturating_add(1);
-        match self.flush_error {
-            Some(kind) => Err(Error::from(kind)),
-            None => Ok(()),
-        }
+        error_or(self.flush_error, ())
     }
 }
 

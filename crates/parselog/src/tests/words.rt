@@ -49,11 +49,12 @@ fn requests(rt: HostRuntime) {
 
 #[test]
 fn messages(rt: HostRuntime) {
-    for (fault, line) in [
+    let rows = [
         (Fault::Read, "parselog: read failed"),
         (Fault::Write, "parselog: write failed"),
         (Fault::Flush, "parselog: flush failed"),
-    ] {
+    ];
+    for (fault, line) in rows {
         check(&rt, message(fault) == line, line, 1);
     }
 }

@@ -1,16 +1,9 @@
 //! What a screen says of what has changed, and no more.
-use super::assert_same;
+use super::{after, assert_same, take};
 use ansi_screen::Screen;
-use anstyle_parse::{Parser, Utf8Parser};
 use std::alloc::{AllocError, AllocGlobal, Global};
 use std::process::Abort;
 use std::test::Fail;
-
-/// The screen takes the bytes.
-fn take(screen: &mut Screen, bytes: &[u8]) {
-    let mut parser = Parser::<Utf8Parser>::new();
-    parser.advance_all(screen, bytes);
-}
 
 /// A blank screen of 8 columns and 4 rows.
 fn blank(alloc: Global) -> Result<Screen, AllocError> {
@@ -23,8 +16,7 @@ fn forget(screen: &mut Screen) {
 
 /// A screen of 8 columns and 4 rows after the first bytes, which were shown, and the others.
 fn changed(alloc: Global, shown: &[u8], bytes: &[u8]) -> Result<Screen, AllocError> {
-    let mut screen = blank(alloc)?;
-    take(&mut screen, shown);
+    let mut screen = after(blank(alloc)?, shown);
     forget(&mut screen);
     take(&mut screen, bytes);
     Ok(screen)
@@ -50,14 +42,11 @@ fn assert_rows(rt: &impl Abort, screen: &Screen, wanted: (usize, usize)) {
     assert_same(rt, &screen.changed_rows(), &wanted);
 }
 
-/// The rows, the columns of each row, and whether the frame is among them.
-fn assert_changed(
-    rt: &impl Abort,
-    screen: &Screen,
-    rows: (usize, usize),
-    columns: [(usize, usize); 4],
-    is_framed: bool,
-) {
+/// The rows, and the columns of each row.
+type Changes = ((usize, usize), [(usize, usize); 4]);
+
+/// These rows and columns, and whether the frame is among them.
+fn assert_changed(rt: &impl Abort, screen: &Screen, (rows, columns): Changes, is_framed: bool) {
     assert_rows(rt, screen, rows);
     for row in 0..4 {
         assert_columns(rt, screen, row, columns[row]);
@@ -70,10 +59,14 @@ const ALL: (usize, usize) = (0, 8);
 /// No column, as an empty row is told.
 const NONE: (usize, usize) = (1, 1);
 
+const ALL_ROWS: Changes = ((0, 4), [ALL, ALL, ALL, ALL]);
+
+const NO_ROWS: Changes = ((0, 0), [NONE, NONE, NONE, NONE]);
+
 #[test]
 fn of_a_new_screen_all_has_changed(rt: HostRuntime) -> Result<(), Fail> {
     let screen = blank(rt.alloc())?;
-    assert_changed(&rt, &screen, (0, 4), [ALL, ALL, ALL, ALL], true);
+    assert_changed(&rt, &screen, ALL_ROWS, true);
     drop(screen);
     Ok(())
 }
@@ -81,41 +74,15 @@ fn of_a_new_screen_all_has_changed(rt: HostRuntime) -> Result<(), Fail> {
 /// What a screen says that showed the first bytes and took the others.
 fn assert_says(
     rt: &(impl Abort + AllocGlobal),
-    given: (&[u8], &[u8]),
-    rows: (usize, usize),
-    columns: [(usize, usize); 4],
+    shown: &[u8],
+    bytes: &[u8],
+    changes: Changes,
     is_framed: bool,
 ) -> Result<(), AllocError> {
-    let screen = changed(rt.alloc(), given.0, given.1)?;
-    assert_changed(rt, &screen, rows, columns, is_framed);
+    let screen = changed(rt.alloc(), shown, bytes)?;
+    assert_changed(rt, &screen, changes, is_framed);
     drop(screen);
     Ok(())
-}
-
-/// No row, and the frame or not.
-fn assert_no_rows(
-    rt: &(impl Abort + AllocGlobal),
-    shown: &[u8],
-    bytes: &[u8],
-    is_framed: bool,
-) -> Result<(), AllocError> {
-    assert_says(
-        rt,
-        (shown, bytes),
-        (0, 0),
-        [NONE, NONE, NONE, NONE],
-        is_framed,
-    )
-}
-
-/// All rows, and the frame or not.
-fn assert_all_rows(
-    rt: &(impl Abort + AllocGlobal),
-    shown: &[u8],
-    bytes: &[u8],
-    is_framed: bool,
-) -> Result<(), AllocError> {
-    assert_says(rt, (shown, bytes), (0, 4), [ALL, ALL, ALL, ALL], is_framed)
 }
 
 /// These rows and columns, and not the frame.
@@ -126,13 +93,18 @@ fn assert_cells(
     rows: (usize, usize),
     columns: [(usize, usize); 4],
 ) -> Result<(), AllocError> {
-    assert_says(rt, (shown, bytes), rows, columns, false)
+    assert_says(rt, shown, bytes, (rows, columns), false)
 }
 
 #[test]
 fn what_is_shown_has_not(rt: HostRuntime) -> Result<(), Fail> {
-    assert_no_rows(&rt, b"a\r\nb\x1b7\x1b[S", b"", false)?;
-    assert_no_rows(&rt, b"a\r\nb", b"\x1b[3;3H\x1b[1m\t\x1b[?25l\x1b8", false)?;
+    let rows: [(&[u8], &[u8]); 2] = [
+        (b"a\r\nb\x1b7\x1b[S", b""),
+        (b"a\r\nb", b"\x1b[3;3H\x1b[1m\t\x1b[?25l\x1b8"),
+    ];
+    for (shown, bytes) in rows {
+        assert_says(&rt, shown, bytes, NO_ROWS, false)?;
+    }
     Ok(())
 }
 
@@ -165,7 +137,7 @@ fn where_a_row_no_longer_goes_on(rt: HostRuntime) -> Result<(), Fail> {
 
 #[test]
 fn rows_that_move(rt: HostRuntime) -> Result<(), Fail> {
-    assert_all_rows(&rt, b"a", b"\x1b[4;1H\n", false)?;
+    assert_says(&rt, b"a", b"\x1b[4;1H\n", ALL_ROWS, false)?;
     assert_cells(
         &rt,
         b"a",
@@ -185,10 +157,10 @@ fn the_frame(rt: HostRuntime) -> Result<(), Fail> {
         b"\x1b[3g",
         b"\x1b[!p",
     ] {
-        assert_no_rows(&rt, b"a", bytes, true)?;
+        assert_says(&rt, b"a", bytes, NO_ROWS, true)?;
     }
     for bytes in [b"\x1b[?1049h".as_slice(), b"\x1bc"] {
-        assert_all_rows(&rt, b"a", bytes, true)?;
+        assert_says(&rt, b"a", bytes, ALL_ROWS, true)?;
     }
     Ok(())
 }

@@ -5,7 +5,7 @@ ghost use Rattle.ansi_screen.specs.After.{as_shown};
 ghost use Rattle.screen_draw.specs.Update.{update_calls};
 ghost use Rattle.std.specs.Prelude.{◌≡◌, ◌≤◌, IfOk};
 
-use super::assert_same;
+use super::{Memory, after, assert_cursor, assert_same, assert_size, memory, place, take};
 use ansi_screen::{Cell, Place, Screen, is_shown};
 use anstyle_parse::io::{Fault, FromRead, FromWrite, Output, Sink};
 use anstyle_parse::{Parser, Utf8Parser};
@@ -22,20 +22,14 @@ fn blank(alloc: Global) -> Result<Screen, AllocError> {
     Screen::new(alloc, 9, 3)
 }
 
-/// A screen of 9 columns and 3 rows after the bytes.
+/// Such a screen after the bytes.
 fn shown(alloc: Global, bytes: &[u8]) -> Result<Screen, AllocError> {
-    let mut screen = Screen::new(alloc, 9, 3)?;
-    let mut parser = Parser::<Utf8Parser>::new();
-    parser.advance_all(&mut screen, bytes);
-    Ok(screen)
+    Ok(after(blank(alloc)?, bytes))
 }
 
-fn place(row: usize, column: usize) -> Place {
-    Place {
-        row,
-        column,
-        ..Place::home()
-    }
+/// Two such screens after these bytes.
+fn both(alloc: Global, first: &[u8], second: &[u8]) -> Result<(Screen, Screen), AllocError> {
+    Ok((shown(alloc, first)?, shown(alloc, second)?))
 }
 
 /// What leads to other than new parts: x on the main screen, an alternate one with margins, a saved place,
@@ -56,10 +50,6 @@ fn assert_saved(rt: &impl Abort, screen: &Screen, wanted: Place) {
 
 fn assert_hidden_saved(rt: &impl Abort, screen: &Screen, wanted: Place) {
     assert_same(rt, &screen.hidden_saved(), &wanted);
-}
-
-fn assert_cursor(rt: &impl Abort, screen: &Screen, wanted: Place) {
-    assert_same(rt, &screen.cursor(), &wanted);
 }
 
 /// Whether a screen wraps, and whether it inserts.
@@ -100,22 +90,17 @@ fn assert_begins(rt: &impl Abort, cells: &[Cell], character: char) {
 }
 
 /// The third row of a screen begins with y, and the first that is hidden with x.
-fn assert_rows_begin(rt: &impl Abort, screen: &Screen) {
+fn assert_rows_begin(rt: &impl Abort, screen: Screen) {
     assert!(rt; screen.rows() == 3 && screen.columns() == 9);
     assert_begins(rt, screen.row(2), 'y');
     assert_begins(rt, screen.hidden_row(0), 'x');
+    drop(screen);
 }
 
 #[test]
 fn cells(rt: HostRuntime) -> Result<(), Fail> {
-    let screen = shown(rt.alloc(), PARTS)?;
-    assert_rows_begin(&rt, &screen);
-    drop(screen);
+    assert_rows_begin(&rt, shown(rt.alloc(), PARTS)?);
     Ok(())
-}
-
-fn assert_same_size(rt: &impl Abort, a: &Screen, b: &Screen) {
-    assert_same(rt, &(a.columns(), a.rows()), &(b.columns(), b.rows()));
 }
 
 fn assert_same_cells(rt: &impl Abort, a: &[Cell], b: &[Cell]) {
@@ -131,7 +116,7 @@ fn assert_same_row(rt: &impl Abort, a: &Screen, b: &Screen, row: usize) {
 
 /// Two screens have the same cells in each row, and in each that is hidden.
 fn assert_same_rows(rt: &impl Abort, a: &Screen, b: &Screen) {
-    assert_same_size(rt, a, b);
+    assert_size(rt, a, (b.columns(), b.rows()));
     for row in 0..a.rows() {
         assert_same_row(rt, a, b, row);
     }
@@ -142,12 +127,7 @@ fn what_is_shown(rt: HostRuntime) {
     assert!(rt; is_shown('\u{ad}') && !is_shown('\u{85}'));
 }
 
-/// An output into memory.
-fn memory(alloc: Global) -> Output<FromWrite<Vec<u8>>> {
-    Output::new(FromWrite::new(Vec::new(alloc)))
-}
-
-fn finished(output: Output<FromWrite<Vec<u8>>>) -> (FromWrite<Vec<u8>>, Result<(), Fault>) {
+fn finished(output: Output<Memory>) -> (Memory, Result<(), Fault>) {
     output.finish()
 }
 
@@ -156,7 +136,7 @@ fn assert_ok(rt: &impl Abort, answer: Result<(), Fault>) {
 }
 
 /// What was written, where no write failed.
-fn bytes_of(rt: &impl Abort, output: Output<FromWrite<Vec<u8>>>) -> Vec<u8> {
+fn bytes_of(rt: &impl Abort, output: Output<Memory>) -> Vec<u8> {
     let (sink, answer) = finished(output);
     assert_ok(rt, answer);
     sink.into_inner()
@@ -188,79 +168,47 @@ fn drawing_of(rt: &(impl Abort + AllocGlobal), screen: &Screen) -> Vec<u8> {
     bytes_of(rt, output)
 }
 
-/// The bytes lead to a screen with [`PARTS`], as it is.
-fn assert_redrawn(
-    rt: &(impl Abort + AllocGlobal),
-    written: &[u8],
-    screen: &Screen,
-) -> Result<(), AllocError> {
-    let again = shown(rt.alloc(), written)?;
-    assert_has_parts(rt, &again, screen);
-    drop(again);
-    Ok(())
+/// A screen is drawn on another one.
+fn draw_on(rt: &(impl Abort + AllocGlobal), screen: &Screen, again: &mut Screen) {
+    let written = drawing_of(rt, screen);
+    take(again, written.as_slice());
+    drop(written);
 }
 
-/// A screen is drawn as it is.
-fn assert_drawn(rt: &(impl Abort + AllocGlobal), screen: &Screen) -> Result<(), AllocError> {
-    let written = drawing_of(rt, screen);
-    let answer = assert_redrawn(rt, written.as_slice(), screen);
-    drop(written);
-    answer
+/// A screen has what one with [`PARTS`] has.
+fn assert_again(rt: &impl Abort, again: Screen, screen: Screen) {
+    assert_has_parts(rt, &again, &screen);
+    drop(again);
+    drop(screen);
 }
 
 #[test]
 fn a_drawing(rt: HostRuntime) -> Result<(), Fail> {
-    let screen = shown(rt.alloc(), PARTS)?;
-    let answer = assert_drawn(&rt, &screen);
-    drop(screen);
-    Ok(answer?)
-}
-
-/// The update between two screens, which have one size.
-fn update_between(rt: &(impl Abort + AllocGlobal), first: &Screen, second: &Screen) -> Vec<u8> {
-    let mut output = memory(rt.alloc());
-    put_update(rt, first, second, &mut output);
-    bytes_of(rt, output)
-}
-
-/// The update from a screen to the one after some bytes.
-fn update_from(
-    rt: &(impl Abort + AllocGlobal),
-    first: &Screen,
-    second: &[u8],
-) -> Result<Vec<u8>, AllocError> {
-    let second = shown(rt.alloc(), second)?;
-    let answer = update_between(rt, first, &second);
-    drop(second);
-    Ok(answer)
+    let (screen, mut again) = both(rt.alloc(), PARTS, b"")?;
+    draw_on(&rt, &screen, &mut again);
+    assert_again(&rt, again, screen);
+    Ok(())
 }
 
 /// Writes the update between two screens, which have one size.
-fn put_update(
-    rt: &impl Abort,
-    first: &Screen,
-    second: &Screen,
-    output: &mut Output<FromWrite<Vec<u8>>>,
-) {
+fn put_update(rt: &impl Abort, first: &Screen, second: &Screen, output: &mut Output<Memory>) {
     assert!(rt; first.columns() == second.columns() && first.rows() == second.rows());
     update(first, second, output);
 }
 
-/// The update from the screen after some bytes to the one after others.
-fn update_of(
-    rt: &(impl Abort + AllocGlobal),
-    first: &[u8],
-    second: &[u8],
-) -> Result<Vec<u8>, AllocError> {
-    let first = shown(rt.alloc(), first)?;
-    let answer = update_from(rt, &first, second);
+/// The update between two screens, which have one size.
+fn update_between(rt: &(impl Abort + AllocGlobal), first: Screen, second: Screen) -> Vec<u8> {
+    let mut output = memory(rt.alloc());
+    put_update(rt, &first, &second, &mut output);
+    drop(second);
     drop(first);
-    answer
+    bytes_of(rt, output)
 }
 
 #[test]
 fn an_update_of_a_cell(rt: HostRuntime) -> Result<(), Fail> {
-    let written = update_of(&rt, b"abc", b"abX")?;
+    let (first, second) = both(rt.alloc(), b"abc", b"abX")?;
+    let written = update_between(&rt, first, second);
     assert_bytes(&rt, written.as_slice(), b"\x1b[3GX");
     drop(written);
     Ok(())
@@ -332,7 +280,7 @@ fn show_stream(
     stream: &[u8],
     screen: &mut Screen,
     form: Form,
-    output: &mut Output<FromWrite<Vec<u8>>>,
+    output: &mut Output<Memory>,
 ) -> Result<(), Fault> {
     let mut reader = FromRead::new(stream);
     show_to_end(&mut reader, screen, form, output)
@@ -427,12 +375,7 @@ fn assert_reset(rt: &impl Abort, screen: &Screen) {
 }
 
 /// Shows [`PARTS`] and a reset, and what each leads to.
-fn show_both(
-    rt: &impl Abort,
-    screen: &mut Screen,
-    wanted: &mut Screen,
-    output: &mut Output<FromWrite<Vec<u8>>>,
-)
+fn show_both(rt: &impl Abort, screen: &mut Screen, wanted: &mut Screen, output: &mut Output<Memory>)
     requires { as_shown screen.old ≡ as_shown wanted.old }
 {
     let mut parser = Parser::<Utf8Parser>::new();
@@ -456,37 +399,26 @@ fn a_screen_that_catches_up(rt: HostRuntime) -> Result<(), Fail> {
     Ok(())
 }
 
-/// A screen with all of another one of its size.
-fn copied(rt: &(impl Abort + AllocGlobal), screen: &Screen) -> Result<Screen, AllocError> {
-    let mut copy = Screen::new(rt.alloc(), 9, 3)?;
+/// A screen takes all that another one of its size has.
+fn copy_to(rt: &impl Abort, screen: &Screen, copy: &mut Screen) {
     assert!(rt; copy.columns() == screen.columns() && copy.rows() == screen.rows());
     copy.copy_from(screen);
-    Ok(copy)
-}
-
-/// A copy has all that the screen has.
-fn assert_copied(rt: &(impl Abort + AllocGlobal), screen: &Screen) -> Result<(), AllocError> {
-    let copy = copied(rt, screen)?;
-    assert_parts(rt, &copy);
-    assert_has_parts(rt, &copy, screen);
-    drop(copy);
-    Ok(())
 }
 
 #[test]
 fn a_copy(rt: HostRuntime) -> Result<(), Fail> {
-    let screen = shown(rt.alloc(), PARTS)?;
-    let answer = assert_copied(&rt, &screen);
-    drop(screen);
-    Ok(answer?)
+    let (screen, mut copy) = both(rt.alloc(), PARTS, b"")?;
+    copy_to(&rt, &screen, &mut copy);
+    assert_parts(&rt, &copy);
+    assert_again(&rt, copy, screen);
+    Ok(())
 }
 
 /// The screen takes some bytes, and notes what others change.
 fn take_both(screen: &mut Screen, before: &[u8], bytes: &[u8]) {
-    let mut parser = Parser::<Utf8Parser>::new();
-    parser.advance_all(screen, before);
+    take(screen, before);
     screen.forget();
-    parser.advance_all(screen, bytes);
+    take(screen, bytes);
 }
 
 /// What is noted of a screen after some bytes, and then of others: the columns of a row.

@@ -1,30 +1,18 @@
 //! Rows that left a screen.
-use super::assert_same;
+use super::{Put, assert_counts, assert_same, fed, feed, reset};
 use screen_pieces::laws::{changes_are_told, copies_stand, rows_are_whole};
 use screen_pieces::{CellBytes, History, Terminal};
 use std::alloc::{AllocError, Global};
 use std::process::Abort;
 use std::test::Fail;
 
-/// A blank screen of four columns and two rows that keeps three of the rows that leave it.
-fn blank_screen(alloc: Global) -> Result<Terminal, AllocError> {
-    Terminal::with_history(alloc, 4, 2, 3)
-}
-
-/// The screen takes the bytes.
-fn take(terminal: &mut Terminal, bytes: &[u8]) {
-    terminal.feed(bytes);
-}
-
-/// Such a screen after this stream.
+/// A screen of four columns and two rows, which keeps three of the rows that leave it, after this stream.
 fn shown(alloc: Global, stream: &[u8]) -> Result<Terminal, AllocError> {
-    let mut terminal = blank_screen(alloc)?;
-    take(&mut terminal, stream);
-    Ok(terminal)
+    Ok(fed(Terminal::with_history(alloc, 4, 2, 3)?, stream))
 }
 
 /// The text of a row that is kept, in four bytes of room.
-fn kept(terminal: &Terminal, number: usize) -> (Result<usize, usize>, [u8; 4]) {
+fn kept(terminal: &Terminal, number: usize) -> Put<4> {
     let mut room = [0; 4];
     let answer = terminal.history_text(number, &mut room);
     (answer, room)
@@ -42,39 +30,28 @@ fn assert_first(rt: &impl Abort, history: &History, number: usize, wanted: (char
     assert_same(rt, &first(history, number), &wanted);
 }
 
-fn assert_kept(
-    rt: &impl Abort,
-    terminal: &Terminal,
-    number: usize,
-    wanted: (Result<usize, usize>, [u8; 4]),
-) {
+fn assert_kept(rt: &impl Abort, terminal: &Terminal, number: usize, wanted: Put<4>) {
     assert_same(rt, &kept(terminal, number), &wanted);
 }
 
 /// How many rows are kept, and how many have left.
-fn assert_counts(rt: &impl Abort, terminal: &Terminal, wanted: (usize, usize)) {
-    assert_same(rt, &terminal.history_counts(), &wanted);
-}
-
-/// The same, of the rows themselves.
 fn assert_counted(rt: &impl Abort, history: &History, wanted: (usize, usize)) {
     assert_same(rt, &history.counts(), &wanted);
 }
 
 /// One row is kept, of four cells.
-fn assert_one_row(rt: &impl Abort, terminal: &Terminal) {
+fn assert_one_row(rt: &impl Abort, terminal: Terminal) {
     laws();
     assert_first(rt, terminal.history(), 0, ('a', 4));
     assert_first(rt, terminal.history(), 1, (' ', 0));
     assert_counted(rt, terminal.history(), (1, 1));
+    drop(terminal);
 }
 
 // Rows are whole.
 #[test]
 fn cells_of_rows(rt: HostRuntime) -> Result<(), Fail> {
-    let terminal = shown(rt.alloc(), b"a\r\nb\r\nc")?;
-    assert_one_row(&rt, &terminal);
-    drop(terminal);
+    assert_one_row(&rt, shown(rt.alloc(), b"a\r\nb\r\nc")?);
     Ok(())
 }
 
@@ -94,19 +71,18 @@ fn blank() -> CellBytes {
 }
 
 /// The last three rows of four are kept.
-fn assert_last_rows(rt: &impl Abort, terminal: &Terminal) {
-    assert_counts(rt, terminal, (3, 4));
-    assert_kept(rt, terminal, 0, (Ok(2), *b"bb\0\0"));
-    assert_kept(rt, terminal, 1, (Ok(3), *b"ccc\0"));
-    assert_kept(rt, terminal, 2, (Ok(4), *b" ddd"));
-    assert_kept(rt, terminal, 3, (Err(0), [0; 4]));
+fn assert_last_rows(rt: &impl Abort, terminal: Terminal) {
+    assert_counts(rt, &terminal, (3, 4));
+    assert_kept(rt, &terminal, 0, (Ok(2), *b"bb\0\0"));
+    assert_kept(rt, &terminal, 1, (Ok(3), *b"ccc\0"));
+    assert_kept(rt, &terminal, 2, (Ok(4), *b" ddd"));
+    assert_kept(rt, &terminal, 3, (Err(0), [0; 4]));
+    drop(terminal);
 }
 
 #[test]
 fn last_rows(rt: HostRuntime) -> Result<(), Fail> {
-    let terminal = shown(rt.alloc(), FOUR_ROWS)?;
-    assert_last_rows(&rt, &terminal);
-    drop(terminal);
+    assert_last_rows(&rt, shown(rt.alloc(), FOUR_ROWS)?);
     Ok(())
 }
 
@@ -128,17 +104,16 @@ fn assert_goes_on(rt: &impl Abort, room: &[CellBytes; 5]) {
 }
 
 /// The cells of the third row that is kept.
-fn assert_last_row(rt: &impl Abort, terminal: &Terminal) {
+fn assert_last_row(rt: &impl Abort, terminal: Terminal) {
     let mut room = [blank(); 5];
-    assert_put(rt, terminal, 2, &mut room, true);
+    assert_put(rt, &terminal, 2, &mut room, true);
     assert_goes_on(rt, &room);
+    drop(terminal);
 }
 
 #[test]
 fn cells_of_the_last_row(rt: HostRuntime) -> Result<(), Fail> {
-    let terminal = shown(rt.alloc(), FOUR_ROWS)?;
-    assert_last_row(&rt, &terminal);
-    drop(terminal);
+    assert_last_row(&rt, shown(rt.alloc(), FOUR_ROWS)?);
     Ok(())
 }
 
@@ -154,64 +129,48 @@ fn assert_no_row(rt: &impl Abort, terminal: &Terminal) {
     assert_put(rt, terminal, 3, &mut room, false);
 }
 
-/// Nothing is put into a room.
-fn assert_no_cells(rt: &impl Abort, terminal: &Terminal) {
-    assert_no_room(rt, terminal);
-    assert_no_row(rt, terminal);
-}
-
 // For a row of four cells there is too little room, and a fourth row is not kept.
 #[test]
 fn no_cells(rt: HostRuntime) -> Result<(), Fail> {
     let terminal = shown(rt.alloc(), FOUR_ROWS)?;
-    assert_no_cells(&rt, &terminal);
+    assert_no_room(&rt, &terminal);
+    assert_no_row(&rt, &terminal);
     drop(terminal);
     Ok(())
 }
 
-fn reset(terminal: &mut Terminal) {
-    terminal.reset();
-}
-
 /// Two rows are kept; after a reset none, and then the last of seven.
-fn assert_few_rows(rt: &impl Abort, terminal: &mut Terminal) {
-    assert_counts(rt, terminal, (2, 2));
-    assert_kept(rt, terminal, 1, (Ok(1), *b"b\0\0\0"));
-    reset(terminal);
-    assert_counts(rt, terminal, (0, 0));
-    take(terminal, b"\n\n\n\n\n\n\n\x1b[2;2Hx\x1b[S");
-    assert_counts(rt, terminal, (3, 7));
-    assert_kept(rt, terminal, 2, (Ok(0), [0; 4]));
-    take(terminal, b"\x1b[S");
-    assert_kept(rt, terminal, 2, (Ok(2), *b" x\0\0"));
+fn assert_few_rows(rt: &impl Abort, mut terminal: Terminal) {
+    assert_counts(rt, &terminal, (2, 2));
+    assert_kept(rt, &terminal, 1, (Ok(1), *b"b\0\0\0"));
+    reset(&mut terminal);
+    assert_counts(rt, &terminal, (0, 0));
+    feed(&mut terminal, b"\n\n\n\n\n\n\n\x1b[2;2Hx\x1b[S");
+    assert_counts(rt, &terminal, (3, 7));
+    assert_kept(rt, &terminal, 2, (Ok(0), [0; 4]));
+    feed(&mut terminal, b"\x1b[S");
+    assert_kept(rt, &terminal, 2, (Ok(2), *b" x\0\0"));
+    drop(terminal);
 }
 
 // Fewer have left than there is room for; a reset forgets them.
 #[test]
 fn few_rows(rt: HostRuntime) -> Result<(), Fail> {
-    let mut terminal = shown(rt.alloc(), b"a\r\nb\r\nc\r\nd")?;
-    assert_few_rows(&rt, &mut terminal);
-    drop(terminal);
+    assert_few_rows(&rt, shown(rt.alloc(), b"a\r\nb\r\nc\r\nd")?);
     Ok(())
 }
 
-/// A blank screen of that size that keeps none.
-fn without_history(alloc: Global) -> Result<Terminal, AllocError> {
-    Terminal::new(alloc, 4, 2)
-}
-
 /// Rows are counted, and none is kept.
-fn assert_no_rows(rt: &impl Abort, terminal: &mut Terminal) {
-    take(terminal, b"a\nb\nc\n\x1b[?1049hd\n\n\n\n");
-    assert_counts(rt, terminal, (0, 2));
-    assert_kept(rt, terminal, 0, (Err(0), [0; 4]));
+fn assert_no_rows(rt: &impl Abort, mut terminal: Terminal) {
+    feed(&mut terminal, b"a\nb\nc\n\x1b[?1049hd\n\n\n\n");
+    assert_counts(rt, &terminal, (0, 2));
+    assert_kept(rt, &terminal, 0, (Err(0), [0; 4]));
+    drop(terminal);
 }
 
 // Where none was asked for, rows are counted.
 #[test]
 fn no_rows(rt: HostRuntime) -> Result<(), Fail> {
-    let mut terminal = without_history(rt.alloc())?;
-    assert_no_rows(&rt, &mut terminal);
-    drop(terminal);
+    assert_no_rows(&rt, Terminal::new(rt.alloc(), 4, 2)?);
     Ok(())
 }

@@ -1,15 +1,13 @@
 //! What a screen showed, as HTML. Streams stand in tests/screen_twin.
-use super::assert_written;
+use super::{Memory, Ran, assert_written, memory};
 use ansi_html::{Scheme, Styling};
 use ansi_screen::Screen;
-use anstyle_parse::io::{Fault, FromRead, FromWrite, Output, write_calls_by};
+use anstyle_parse::io::{Fault, FromRead, FromWrite, write_calls_by};
 use screen_html::laws::{blocks, last_links, plain_text};
 use screen_html::{BlockRows, HtmlRows, LinkMemory, convert_shown};
 use screen_text::{ShownWriter, WriteRows};
 use std::alloc::{AllocError, Global};
 use std::test::Fail;
-
-type Memory = FromWrite<Vec<u8>>;
 
 /// A log in memory, as the page of the crate `screen_html` shows it.
 fn shown(alloc: Global, log: &[u8]) -> Result<(Vec<u8>, Result<(), Fault>), AllocError> {
@@ -31,60 +29,30 @@ fn a_page(rt: HostRuntime) -> Result<(), Fail> {
     Ok(())
 }
 
-fn writes_rows<T: WriteRows<Memory> + Drop>(_: &T) {}
-
-/// A blank screen of three columns and one row.
-fn small(alloc: Global) -> Result<Screen, AllocError> {
-    Screen::new(alloc, 3, 1)
-}
-
-/// What is written into.
-fn memory(alloc: Global) -> Output<Memory> {
-    Output::new(FromWrite::new(Vec::new(alloc)))
-}
-
-/// The rows of a page by classes.
-fn rows(alloc: Global) -> Result<HtmlRows<Memory>, AllocError> {
-    let links = LinkMemory::new(alloc)?;
-    Ok(HtmlRows::new(Styling::Classes, links, memory(alloc)))
-}
-
-/// The same in blocks.
-fn rows_in_blocks(alloc: Global) -> Result<BlockRows<Memory>, AllocError> {
-    let links = LinkMemory::new(alloc)?;
-    Ok(BlockRows::new(Styling::Classes, links, memory(alloc)))
+/// A blank screen of three columns and one row, and no links.
+fn small(alloc: Global) -> Result<(Screen, LinkMemory), AllocError> {
+    Ok((Screen::new(alloc, 3, 1)?, LinkMemory::new(alloc)?))
 }
 
 /// What the rows are that a screen shows of a stream, and then a dot.
-fn written<R: WriteRows<Memory>>(
-    performer: ShownWriter<R>,
-    stream: &[u8],
-) -> (Vec<u8>, Result<(), Fault>) {
+fn written<R: WriteRows<Memory> + Drop>(screen: Screen, rows: R, stream: &[u8]) -> Ran {
     let mut reader = FromRead::new(stream);
-    let (writer, answer) = write_calls_by(performer, &mut reader, b".");
+    let (writer, answer) = write_calls_by(ShownWriter::new(screen, rows), &mut reader, b".");
     (writer.into_inner(), answer)
 }
 
-/// A stream on a screen of three columns and one row, by classes.
-fn written_by_classes(
-    alloc: Global,
-    stream: &[u8],
-) -> Result<(Vec<u8>, Result<(), Fault>), AllocError> {
-    let screen = small(alloc)?;
-    let rows = rows(alloc)?;
-    writes_rows(&rows);
-    Ok(written(ShownWriter::new(screen, rows), stream))
+/// A stream on the small screen, by classes.
+fn written_by_classes(alloc: Global, stream: &[u8]) -> Result<Ran, AllocError> {
+    let (screen, links) = small(alloc)?;
+    let rows = HtmlRows::new(Styling::Classes, links, memory(alloc));
+    Ok(written(screen, rows, stream))
 }
 
 /// The same in blocks.
-fn written_in_blocks(
-    alloc: Global,
-    stream: &[u8],
-) -> Result<(Vec<u8>, Result<(), Fault>), AllocError> {
-    let screen = small(alloc)?;
-    let rows = rows_in_blocks(alloc)?;
-    writes_rows(&rows);
-    Ok(written(ShownWriter::new(screen, rows), stream))
+fn written_in_blocks(alloc: Global, stream: &[u8]) -> Result<Ran, AllocError> {
+    let (screen, links) = small(alloc)?;
+    let rows = BlockRows::new(Styling::Classes, links, memory(alloc));
+    Ok(written(screen, rows, stream))
 }
 
 // A wide character that wraps, and a mark; no line feed between rows of a line.

@@ -69,6 +69,13 @@ fn show(scrolling: &mut Scrolling<Counter>, pieces: &[&[u8]]) {
     scrolled_off(scrolling, pieces);
 }
 
+/// Such a screen after these pieces.
+fn shown(alloc: Global, pieces: &[&[u8]]) -> Result<Scrolling<Counter>, AllocError> {
+    let mut scrolling = counting(alloc)?;
+    show(&mut scrolling, pieces);
+    Ok(scrolling)
+}
+
 /// So many rows have left.
 fn assert_left(rt: &impl Abort, scrolling: &Scrolling<Counter>, count: usize) {
     assert_same(rt, &scrolling.taker().count, &count);
@@ -93,20 +100,19 @@ fn assert_goes_on(rt: &impl Abort, scrolling: &Scrolling<Counter>) {
 }
 
 /// Three rows leave, and the last of them goes on.
-fn assert_rows_leave(rt: &impl Abort, scrolling: &mut Scrolling<Counter>) {
-    show(scrolling, &[b"ab\r\n\x1b[S", b"abc", b"d"]);
+fn assert_rows_leave(rt: &impl Abort, mut scrolling: Scrolling<Counter>) {
     scrolling.pass_on();
-    assert_left(rt, scrolling, 3);
-    assert_goes_on(rt, scrolling);
+    assert_left(rt, &scrolling, 3);
+    assert_goes_on(rt, &scrolling);
     assert_used_rows(rt, scrolling.screen(), 1);
+    drop(scrolling);
 }
 
 // The row that a character wraps from goes on.
 #[test]
 fn rows_that_leave(rt: HostRuntime) -> Result<(), Fail> {
-    let mut scrolling = counting(rt.alloc())?;
-    assert_rows_leave(&rt, &mut scrolling);
-    drop(scrolling);
+    let pieces: &[&[u8]] = &[b"ab\r\n\x1b[S", b"abc", b"d"];
+    assert_rows_leave(&rt, shown(rt.alloc(), pieces)?);
     Ok(())
 }
 
@@ -135,64 +141,49 @@ fn rows_that_are_left(rt: HostRuntime) -> Result<(), Fail> {
 }
 
 /// Rows are taken away, one by one.
-fn assert_taken_away(rt: &impl Abort, scrolling: &mut Scrolling<Counter>) {
-    show(scrolling, &[b"ab\x1b[2J", b"\x1b[2J\x1b[3J\x1b[J"]);
-    assert_left(rt, scrolling, 1);
-    show(scrolling, &[b"c\x1b[?1049hd\x1b[2J"]);
-    assert_left(rt, scrolling, 1);
-    show(scrolling, &[b"\x1bc\x1bc"]);
-    assert_left(rt, scrolling, 2);
+fn assert_taken_away(rt: &impl Abort, mut scrolling: Scrolling<Counter>) {
+    assert_left(rt, &scrolling, 1);
+    show(&mut scrolling, &[b"c\x1b[?1049hd\x1b[2J"]);
+    assert_left(rt, &scrolling, 1);
+    show(&mut scrolling, &[b"\x1bc\x1bc"]);
+    assert_left(rt, &scrolling, 2);
+    drop(scrolling);
 }
 
 // What ED 2 and RIS take away leaves first: of the alternate screen nothing, of the main one also where it is hidden.
 #[test]
 fn rows_that_are_taken_away(rt: HostRuntime) -> Result<(), Fail> {
-    let mut scrolling = counting(rt.alloc())?;
-    assert_taken_away(&rt, &mut scrolling);
-    drop(scrolling);
+    let pieces: &[&[u8]] = &[b"ab\x1b[2J", b"\x1b[2J\x1b[3J\x1b[J"];
+    assert_taken_away(&rt, shown(rt.alloc(), pieces)?);
     Ok(())
 }
 
 /// The rows of the screen that shows are handed on, and then those of the hidden one.
-fn assert_both_screens(rt: &impl Abort, scrolling: &mut Scrolling<Counter>) {
-    show(scrolling, &[b"ab\x1b[?1049h"]);
+fn assert_both_screens(rt: &impl Abort, mut scrolling: Scrolling<Counter>) {
     scrolling.hand_on_printed();
-    assert_left(rt, scrolling, 0);
+    assert_left(rt, &scrolling, 0);
     scrolling.hand_on_hidden();
-    assert_left(rt, scrolling, 1);
+    assert_left(rt, &scrolling, 1);
+    drop(scrolling);
 }
 
 #[test]
 fn both_screens(rt: HostRuntime) -> Result<(), Fail> {
-    let mut scrolling = counting(rt.alloc())?;
-    assert_both_screens(&rt, &mut scrolling);
-    drop(scrolling);
+    assert_both_screens(&rt, shown(rt.alloc(), &[b"ab\x1b[?1049h"])?);
     Ok(())
 }
 
-/// The screen writes by a link of this number.
-fn assert_link(rt: &impl Abort, scrolling: &Scrolling<Counter>, link: u32) {
-    assert_same(rt, &scrolling.screen().link(), &link);
-}
-
-/// The last command was taken with a link of this number.
-fn assert_taken_link(rt: &impl Abort, scrolling: &Scrolling<Counter>, link: u32) {
-    assert_same(rt, &scrolling.taker().link, &link);
-}
-
 /// A link is set, and told to the taker.
-fn assert_commands(rt: &impl Abort, scrolling: &mut Scrolling<Counter>) {
-    show(scrolling, &[b"\x1b]8;;a:b\x07"]);
-    assert_link(rt, scrolling, 1);
+fn assert_commands(rt: &impl Abort, mut scrolling: Scrolling<Counter>) {
+    assert_same(rt, &scrolling.screen().link(), &1);
     scrolling.tell(&[b"8"]);
-    assert_taken_link(rt, scrolling, 1);
+    assert_same(rt, &scrolling.taker().link, &1);
+    drop(scrolling);
 }
 
 #[test]
 fn commands_are_taken(rt: HostRuntime) -> Result<(), Fail> {
-    let mut scrolling = counting(rt.alloc())?;
-    assert_commands(&rt, &mut scrolling);
-    drop(scrolling);
+    assert_commands(&rt, shown(rt.alloc(), &[b"\x1b]8;;a:b\x07"])?);
     Ok(())
 }
 
@@ -318,17 +309,16 @@ fn assert_row_written(rt: &impl Abort, screen: &Screen, wanted: (usize, usize)) 
 }
 
 /// Nothing is written, and then a character.
-fn assert_written_rows(rt: &impl Abort, screen: &mut Screen) {
-    assert_row_written(rt, screen, (0, 0));
+fn assert_written_rows(rt: &impl Abort, mut screen: Screen) {
+    assert_row_written(rt, &screen, (0, 0));
     screen.print('a');
-    assert_row_written(rt, screen, (1, 1));
+    assert_row_written(rt, &screen, (1, 1));
+    drop(screen);
 }
 
 // A row is looked at as far as it was written.
 #[test]
 fn written_rows(rt: HostRuntime) -> Result<(), Fail> {
-    let mut screen = Screen::new(rt.alloc(), 4, 1)?;
-    assert_written_rows(&rt, &mut screen);
-    drop(screen);
+    assert_written_rows(&rt, Screen::new(rt.alloc(), 4, 1)?);
     Ok(())
 }

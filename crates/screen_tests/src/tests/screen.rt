@@ -1,6 +1,6 @@
 //! What the text of a screen does not say: cells with their styles, the cursor. Rows of text stand in
 //! tests/screen_twin.
-use super::assert_same;
+use super::{assert_cursor, assert_same, assert_size, place};
 use ansi_screen::laws::{
     clones, contents, determined, enclosed, equality, plain_text, reachable, reset, rewritten,
     rows_leave, show, unread,
@@ -10,32 +10,16 @@ use ansi_screen::{
 };
 use ansi_style::{Color, Hue, Style};
 use anstyle_parse::{Parser, Utf8Parser};
-use std::alloc::{AllocError, AllocGlobal, Global};
+use std::alloc::{AllocError, Global};
 use std::process::Abort;
 use std::test::Fail;
 
-/// A screen of 8 columns and 4 rows after the bytes.
+/// A screen of 8 columns and 4 rows after the bytes, as the README of `ansi_screen` shows it.
 fn shown(alloc: Global, bytes: &[u8]) -> Result<Screen, AllocError> {
     let mut screen = Screen::new(alloc, 8, 4)?;
     let mut parser = Parser::<Utf8Parser>::new();
     parser.advance_all(&mut screen, bytes);
     Ok(screen)
-}
-
-fn place(row: usize, column: usize) -> Place {
-    Place {
-        row,
-        column,
-        ..Place::home()
-    }
-}
-
-fn assert_size(rt: &impl Abort, screen: &Screen, wanted: (usize, usize)) {
-    assert_same(rt, &(screen.columns(), screen.rows()), &wanted);
-}
-
-fn assert_cursor(rt: &impl Abort, screen: &Screen, wanted: Place) {
-    assert_same(rt, &screen.cursor(), &wanted);
 }
 
 fn assert_cursor_visible(rt: &impl Abort, screen: &Screen) {
@@ -50,26 +34,23 @@ fn large(alloc: Global) -> Result<Screen, AllocError> {
     Screen::new(alloc, 1000, 2)
 }
 
-fn assert_small(rt: &impl Abort, screen: &Screen) {
-    assert_size(rt, screen, (2, 1));
-    assert_cursor(rt, screen, place(0, 0));
-    assert_cursor_visible(rt, screen);
+fn assert_small(rt: &impl Abort, screen: Screen) {
+    assert_size(rt, &screen, (2, 1));
+    assert_cursor(rt, &screen, place(0, 0));
+    assert_cursor_visible(rt, &screen);
+    drop(screen);
 }
 
 /// A screen of a thousand columns.
-fn assert_large(rt: &(impl Abort + AllocGlobal)) -> Result<(), AllocError> {
-    let screen = large(rt.alloc())?;
+fn assert_large(rt: &impl Abort, screen: Screen) {
     assert_size(rt, &screen, (1000, 2));
     drop(screen);
-    Ok(())
 }
 
 #[test]
 fn a_new_screen(rt: HostRuntime) -> Result<(), Fail> {
-    assert_large(&rt)?;
-    let screen = small(rt.alloc())?;
-    assert_small(&rt, &screen);
-    drop(screen);
+    assert_large(&rt, large(rt.alloc())?);
+    assert_small(&rt, small(rt.alloc())?);
     Ok(())
 }
 
@@ -113,18 +94,17 @@ fn selected() -> Style {
 }
 
 /// Two cells with their styles, and one that is erased.
-fn assert_styles(rt: &impl Abort, screen: &Screen) {
-    assert_size(rt, screen, (8, 4));
-    assert_first_row(rt, screen, 0, cell('a', selected(), Part::Whole));
-    assert_first_row(rt, screen, 1, cell('b', Style::default(), Part::Whole));
-    assert_first_row(rt, screen, 7, cell(' ', erased(), Part::Empty));
+fn assert_styles(rt: &impl Abort, screen: Screen) {
+    assert_size(rt, &screen, (8, 4));
+    assert_first_row(rt, &screen, 0, cell('a', selected(), Part::Whole));
+    assert_first_row(rt, &screen, 1, cell('b', Style::default(), Part::Whole));
+    assert_first_row(rt, &screen, 7, cell(' ', erased(), Part::Empty));
+    drop(screen);
 }
 
 #[test]
 fn styles(rt: HostRuntime) -> Result<(), Fail> {
-    let screen = shown(rt.alloc(), b"\x1b[1;31;44ma\x1b[K\x1b[0mb")?;
-    assert_styles(&rt, &screen);
-    drop(screen);
+    assert_styles(&rt, shown(rt.alloc(), b"\x1b[1;31;44ma\x1b[K\x1b[0mb")?);
     Ok(())
 }
 
@@ -188,19 +168,18 @@ fn after_both() -> Place {
 }
 
 /// What the stream leads to.
-fn assert_least(rt: &impl Abort, screen: &mut Screen) {
-    show_least(screen);
-    assert_size(rt, screen, (2, 1));
-    assert_first_row(rt, screen, 1, marked());
-    assert_cursor(rt, screen, after_both());
+fn assert_least(rt: &impl Abort, mut screen: Screen) {
+    show_least(&mut screen);
+    assert_size(rt, &screen, (2, 1));
+    assert_first_row(rt, &screen, 1, marked());
+    assert_cursor(rt, &screen, after_both());
     assert_eq!(rt; (MAX_COLUMNS, MAX_ROWS), (1000, 1000));
+    drop(screen);
 }
 
 // The names of the screen, and its least and greatest sizes.
 #[test]
 fn a_screen_shows_a_stream(rt: HostRuntime) -> Result<(), Fail> {
-    let mut screen = least(rt.alloc())?;
-    assert_least(&rt, &mut screen);
-    drop(screen);
+    assert_least(&rt, least(rt.alloc())?);
     Ok(())
 }

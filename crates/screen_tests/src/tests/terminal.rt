@@ -1,21 +1,16 @@
 //! A screen that takes its stream in pieces.
-use super::assert_same;
+use super::{Put, assert_same, assert_text, feed, reset};
 use screen_pieces::{CellBytes, ColorBytes, ModeBytes, RESERVED_MODES, StyleBytes, Terminal};
 use std::alloc::{AllocError, Global};
 use std::process::Abort;
 use std::test::Fail;
 
-/// A screen of four columns and three rows after these pieces.
+/// A screen of four columns and three rows after these pieces, as the README of `screen_pieces` shows it.
 fn shown(alloc: Global, first: &[u8], second: &[u8]) -> Result<Terminal, AllocError> {
     let mut terminal = Terminal::new(alloc, 4, 3)?;
     terminal.feed(first);
     terminal.feed(second);
     Ok(terminal)
-}
-
-/// The screen takes the bytes.
-fn take(terminal: &mut Terminal, bytes: &[u8]) {
-    terminal.feed(bytes);
 }
 
 /// The character, the part and the kind of the colour of a cell; 9 for none outside.
@@ -36,55 +31,35 @@ fn cell(terminal: &Terminal, row: usize, column: usize) -> (u32, u8, u8) {
     }
 }
 
-/// The text of the screen, in eight bytes of room and in seven.
-fn text(terminal: &Terminal) -> (Result<usize, usize>, [u8; 8]) {
-    let mut room = [0; 8];
-    let answer = terminal.text(&mut room);
-    (answer, room)
-}
-
+/// How much room the text of a screen takes, which has seven bytes.
 fn text_in_seven(terminal: &Terminal) -> Result<usize, usize> {
     let mut room = [0; 7];
     terminal.text(&mut room)
 }
 
 /// The text of a row, in two bytes of room.
-fn row_text(terminal: &Terminal, row: usize) -> (Result<usize, usize>, [u8; 2]) {
+fn row_text(terminal: &Terminal, row: usize) -> Put<2> {
     let mut room = [0; 2];
     let answer = terminal.row_text(row, &mut room);
     (answer, room)
 }
 
 /// The text of a part of the second row, in five bytes of room.
-fn part_text(terminal: &Terminal, start: usize, end: usize) -> (Result<usize, usize>, [u8; 5]) {
+fn part_text(terminal: &Terminal, start: usize, end: usize) -> Put<5> {
     let mut room = [0; 5];
     let answer = terminal.part_text(1, start, end, &mut room);
     (answer, room)
-}
-
-fn assert_text(rt: &impl Abort, terminal: &Terminal, wanted: (Result<usize, usize>, [u8; 8])) {
-    assert_same(rt, &text(terminal), &wanted);
 }
 
 fn assert_text_in_seven(rt: &impl Abort, terminal: &Terminal, wanted: Result<usize, usize>) {
     assert_same(rt, &text_in_seven(terminal), &wanted);
 }
 
-fn assert_row_text(
-    rt: &impl Abort,
-    terminal: &Terminal,
-    row: usize,
-    wanted: (Result<usize, usize>, [u8; 2]),
-) {
+fn assert_row_text(rt: &impl Abort, terminal: &Terminal, row: usize, wanted: Put<2>) {
     assert_same(rt, &row_text(terminal, row), &wanted);
 }
 
-fn assert_part_text(
-    rt: &impl Abort,
-    terminal: &Terminal,
-    part: (usize, usize),
-    wanted: (Result<usize, usize>, [u8; 5]),
-) {
+fn assert_part_text(rt: &impl Abort, terminal: &Terminal, part: (usize, usize), wanted: Put<5>) {
     assert_same(rt, &part_text(terminal, part.0, part.1), &wanted);
 }
 
@@ -102,33 +77,31 @@ fn assert_changed(
 }
 
 /// The text of a screen, and how much room it takes.
-fn assert_pieces(rt: &impl Abort, terminal: &Terminal) {
-    assert_text(rt, terminal, (Ok(8), *b"hi\n\xE4\xB8\xADx\n"));
-    assert_text_in_seven(rt, terminal, Err(8));
+fn assert_pieces(rt: &impl Abort, terminal: Terminal) {
+    assert_text(rt, &terminal, (Ok(8), *b"hi\n\xE4\xB8\xADx\n"));
+    assert_text_in_seven(rt, &terminal, Err(8));
+    drop(terminal);
 }
 
 // A sequence and a character are cut.
 #[test]
 fn pieces(rt: HostRuntime) -> Result<(), Fail> {
-    let terminal = shown(rt.alloc(), b"\x1b[3", b"1mhi\r\n\xE4\xB8\xADx")?;
-    assert_pieces(&rt, &terminal);
-    drop(terminal);
+    assert_pieces(&rt, shown(rt.alloc(), b"\x1b[3", b"1mhi\r\n\xE4\xB8\xADx")?);
     Ok(())
 }
 
 /// The text of rows and of parts of one, inside and outside.
-fn assert_rows(rt: &impl Abort, terminal: &Terminal) {
-    assert_row_text(rt, terminal, 0, (Ok(2), *b"hi"));
-    assert_row_text(rt, terminal, 3, (Err(0), [0, 0]));
-    assert_part_text(rt, terminal, (0, 4), (Ok(5), *b"\xE4\xB8\xADx "));
-    assert_part_text(rt, terminal, (3, 5), (Err(0), [0; 5]));
+fn assert_rows(rt: &impl Abort, terminal: Terminal) {
+    assert_row_text(rt, &terminal, 0, (Ok(2), *b"hi"));
+    assert_row_text(rt, &terminal, 3, (Err(0), [0, 0]));
+    assert_part_text(rt, &terminal, (0, 4), (Ok(5), *b"\xE4\xB8\xADx "));
+    assert_part_text(rt, &terminal, (3, 5), (Err(0), [0; 5]));
+    drop(terminal);
 }
 
 #[test]
 fn rows(rt: HostRuntime) -> Result<(), Fail> {
-    let terminal = shown(rt.alloc(), b"hi\r\n\xE4", b"\xB8\xADx")?;
-    assert_rows(&rt, &terminal);
-    drop(terminal);
+    assert_rows(&rt, shown(rt.alloc(), b"hi\r\n\xE4", b"\xB8\xADx")?);
     Ok(())
 }
 
@@ -140,21 +113,20 @@ fn assert_sized(rt: &impl Abort, terminal: &Terminal, colour: [u8; 3]) {
 }
 
 /// The cells of a row, and outside; the size, the cursor and the style.
-fn assert_cells(rt: &impl Abort, terminal: &Terminal) {
-    assert_cell(rt, terminal, (0, 0), (0x68, 1, 2));
-    assert_cell(rt, terminal, (0, 1), (0x4E2D, 2, 2));
-    assert_cell(rt, terminal, (0, 2), (0x20, 3, 2));
-    assert_cell(rt, terminal, (0, 3), (0x20, 0, 0));
-    assert_cell(rt, terminal, (0, 4), (0, 9, 0));
-    assert_cell(rt, terminal, (3, 0), (0, 9, 0));
-    assert_sized(rt, terminal, [4, 0, 0]);
+fn assert_cells(rt: &impl Abort, terminal: Terminal) {
+    assert_cell(rt, &terminal, (0, 0), (0x68, 1, 2));
+    assert_cell(rt, &terminal, (0, 1), (0x4E2D, 2, 2));
+    assert_cell(rt, &terminal, (0, 2), (0x20, 3, 2));
+    assert_cell(rt, &terminal, (0, 3), (0x20, 0, 0));
+    assert_cell(rt, &terminal, (0, 4), (0, 9, 0));
+    assert_cell(rt, &terminal, (3, 0), (0, 9, 0));
+    assert_sized(rt, &terminal, [4, 0, 0]);
+    drop(terminal);
 }
 
 #[test]
 fn cells(rt: HostRuntime) -> Result<(), Fail> {
-    let terminal = shown(rt.alloc(), b"\x1b[94", b"mh\xE4\xB8\xAD")?;
-    assert_cells(&rt, &terminal);
-    drop(terminal);
+    assert_cells(&rt, shown(rt.alloc(), b"\x1b[94", b"mh\xE4\xB8\xAD")?);
     Ok(())
 }
 
@@ -163,21 +135,20 @@ fn forget(terminal: &mut Terminal) {
 }
 
 /// What has changed, before and after it is forgotten.
-fn assert_changes(rt: &impl Abort, terminal: &mut Terminal) {
-    assert_changed(rt, terminal, 2, Some((0, 4)));
-    forget(terminal);
-    take(terminal, b"\x1b[2;1Hx");
-    assert_changed(rt, terminal, 1, Some((0, 2)));
-    assert_changed(rt, terminal, 3, None);
-    assert_text(rt, terminal, (Ok(5), *b"ab\nx\n\0\0\0"));
+fn assert_changes(rt: &impl Abort, mut terminal: Terminal) {
+    assert_changed(rt, &terminal, 2, Some((0, 4)));
+    forget(&mut terminal);
+    feed(&mut terminal, b"\x1b[2;1Hx");
+    assert_changed(rt, &terminal, 1, Some((0, 2)));
+    assert_changed(rt, &terminal, 3, None);
+    assert_text(rt, &terminal, (Ok(5), *b"ab\nx\n\0\0\0"));
+    drop(terminal);
 }
 
 // Of a new screen all can have changed; then what is written, and a column on each side.
 #[test]
 fn changes(rt: HostRuntime) -> Result<(), Fail> {
-    let mut terminal = shown(rt.alloc(), b"a", b"b")?;
-    assert_changes(&rt, &mut terminal);
-    drop(terminal);
+    assert_changes(&rt, shown(rt.alloc(), b"a", b"b")?);
     Ok(())
 }
 
@@ -193,25 +164,20 @@ fn assert_modes(rt: &impl Abort, terminal: &Terminal, wanted: (u8, u8)) {
     assert_same(rt, &reserved, &[0; RESERVED_MODES]);
 }
 
-fn reset(terminal: &mut Terminal) {
-    terminal.reset();
-}
-
 /// What is shown before and after a reset.
-fn assert_resets(rt: &impl Abort, terminal: &mut Terminal) {
-    assert_modes(rt, terminal, (0, 1));
-    reset(terminal);
-    take(terminal, b"1m");
-    assert_cell(rt, terminal, (0, 0), (0x31, 1, 0));
-    assert_cell(rt, terminal, (0, 2), (0x20, 0, 0));
-    assert_modes(rt, terminal, (1, 0));
+fn assert_resets(rt: &impl Abort, mut terminal: Terminal) {
+    assert_modes(rt, &terminal, (0, 1));
+    reset(&mut terminal);
+    feed(&mut terminal, b"1m");
+    assert_cell(rt, &terminal, (0, 0), (0x31, 1, 0));
+    assert_cell(rt, &terminal, (0, 2), (0x20, 0, 0));
+    assert_modes(rt, &terminal, (1, 0));
+    drop(terminal);
 }
 
 // What was begun before a reset is forgotten.
 #[test]
 fn resets(rt: HostRuntime) -> Result<(), Fail> {
-    let mut terminal = shown(rt.alloc(), b"\x1b[?25l\x1b[4hold", b"\x1b[3")?;
-    assert_resets(&rt, &mut terminal);
-    drop(terminal);
+    assert_resets(&rt, shown(rt.alloc(), b"\x1b[?25l\x1b[4hold", b"\x1b[3")?);
     Ok(())
 }

@@ -3,7 +3,10 @@ use Rattle.std.proofs.Common.{◌≡◌, ◌++◌, [], map, length, eqb-true, re
 use Rattle.std.proofs.lemmas.List.{nil_from_length}
 use Rattle.std.proofs.lemmas.Str.{chars-nil, IsUtf8-nil, IsUtf8-append}
 use Rattle.anstyle_parse.specs.Stream.Call.{print}
-use Rattle.ansi_screen.proofs.PartLemmas.{run-utf8, text-parted, text-ended, text-more, text-run}
+use Rattle.lanes.proofs.TextLemmas.{run-utf8, text-parted, text-ended}
+use Rattle.ansi_screen.specs.Runs.{is_printed_ascii}
+use Rattle.ansi_screen.specs.TextsProof.{printed-low}
+use Rattle.ansi_screen.proofs.PartLemmas.{text-more, text-run}
 use Rattle.ansi_screen.proofs.texts.print_by_runs.Goals as goal
 
 pub rest-init : goal.rest-init
@@ -20,15 +23,15 @@ rest-init g c =
 pub rest-preserved : goal.rest-preserved
 rest-preserved g c =
     let before = c.rest.invariant in
-    let run = c.split_run.result.0.now in
+    let run = c.split_front.result.0.now in
     let others = c.split_others.result.0.now in
-    let ascii = c.split_run.ensures.ascii in
+    let ascii = c.split_front.ensures.each in
     record {
       passed = before.passed ++ (run ++ others);
-      utf8 = IsUtf8-append before.passed (run ++ others) before.utf8 (IsUtf8-append run others (run-utf8 run ascii) c.split_others.ensures.front);
+      utf8 = IsUtf8-append before.passed (run ++ others) before.utf8 (IsUtf8-append run others (run-utf8 is_printed_ascii printed-low run ascii) c.split_others.ensures.front);
       rest_utf8 = c.split_others.ensures.back;
-      joined = text-parted c.args.text.now before.passed c.rest.rest.now run c.split_run.result.1.now others c.split_others.result.1.now
-          before.joined c.split_run.ensures.joined c.split_others.ensures.joined;
+      joined = text-parted c.args.text.now before.passed c.rest.rest.now run c.split_front.result.1.now others c.split_others.result.1.now
+          before.joined c.split_front.ensures.joined c.split_others.ensures.joined;
       printed = text-more g.P.PutRuns.receives g.met.P.PutRuns.receives_more before.passed run others c.args.performer.now c.rest.performer
           c.print_run.new.performer c.print_each.new.performer before.utf8 ascii before.printed c.print_run.ensures c.print_each.ensures;
     }
@@ -36,9 +39,9 @@ rest-preserved g c =
 pub returns-then-is_empty : goal.returns-then-is_empty
 returns-then-is_empty g c =
     let before = c.rest.invariant in
-    let run = c.split_run.result.0.now in
-    let behind = c.split_run.result.1.now in
+    let run = c.split_front.result.0.now in
+    let behind = c.split_front.result.1.now in
     let none : behind ≡ [] = nil_from_length behind (eqb-true (length behind) 0 (sym c.is_empty-in-rest.ensures ∙ c.if-is_empty.true)) in
     text-run g.P.PutRuns.receives g.met.P.PutRuns.receives_more c.args.text.now before.passed run c.args.performer.now c.rest.performer
-    c.print_run.new.performer (text-ended c.args.text.now before.passed c.rest.rest.now run behind before.joined c.split_run.ensures.joined none)
-    before.utf8 c.split_run.ensures.ascii before.printed c.print_run.ensures
+    c.print_run.new.performer (text-ended c.args.text.now before.passed c.rest.rest.now run behind before.joined c.split_front.ensures.joined none)
+    before.utf8 c.split_front.ensures.each before.printed c.print_run.ensures

@@ -1,6 +1,0 @@
-use Rattle.std.proofs.Common.{arith}
-use Rattle.anstyle_parse.proofs.Machine.Lanes.{mask-outside}
-use Rattle.ansi_screen.proofs.printed.unprinted.Goals as goal
-
-pub returns : goal.returns
-returns c = mask-outside 0x5F (omega arith) c.args.bytes c.fits-bytes.0 c.fits-bytes.1

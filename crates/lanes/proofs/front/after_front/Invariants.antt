@@ -1,0 +1,10 @@
+-- What comes after those at the front of what is left comes after those at the front of all.
+use Rattle.std.proofs.Common.{◌≡◌, length, drop}
+use Rattle.std.specs.List.{prefix_len}
+use Rattle.lanes.proofs.front.after_front.Given as goal
+
+abbrev pub invariant-chunks : goal.invariant-chunks
+invariant-chunks g l = drop (prefix_len g.K.Kind.holds l.rest) l.rest ≡ drop (prefix_len g.K.Kind.holds l.bytes) l.bytes
+
+abbrev pub decreases-chunks : goal.decreases-chunks
+decreases-chunks g l = length l.rest

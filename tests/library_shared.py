@@ -19,7 +19,6 @@ WARNINGS = ["-Wall", "-Wextra", "-Werror", INCLUDE]
 STRICT = ["-O", "-D", "warnings", "--edition", "2021"]
 SANITIZERS = ["-g", "-fsanitize=address,undefined", "-fno-sanitize-recover=all"]
 PATIENCE = 60  # seconds that a program has
-BUILDING = 7200  # and what proves and builds
 SIZES = [1, 2, 3, 7, 64, 1000, 4095, 4096]  # of the pieces
 
 
@@ -70,7 +69,7 @@ def failure(done):
 
 def archive_built():
     """The archive, as `rt lib` builds it."""
-    yield "rt lib builds the archive", failure(run(["rt", "lib"], cwd="%s/crates/ansi" % ROOT, patience=BUILDING))
+    yield "rt lib builds the archive", failure(run(["rt", "lib"], cwd="%s/crates/ansi" % ROOT, patience=needs.BUILDING))
 
 
 def counted(document, cases):

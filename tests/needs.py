@@ -1,6 +1,9 @@
-"""What scripts of this folder do where a program that they need is not there."""
+"""What scripts of this folder need: the time that builds take, and what is done where a program is not there."""
 
 import os
+
+# seconds that a build has: `rt lib` may prove a library from nothing, and the scripts wait for one another
+BUILDING = 7200
 
 
 def left_out(name, why="it is not there"):

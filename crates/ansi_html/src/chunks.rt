@@ -1,4 +1,4 @@
-//! Sixteen bytes, tested by one comparison.
+//! Tests of sixteen bytes at once, by SIMD.
 ghost use Rattle.std.specs.Prelude.{◌≡◌, ◌≤◌, map, not, IsTrue, length, take};
 ghost use Rattle.std.specs.Simd.Lanes.{mask_l};
 ghost use Rattle.ansi_html.specs.Chunks.{PassAtEnd};

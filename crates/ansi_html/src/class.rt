@@ -26,11 +26,11 @@ pub(crate) enum Class {
         dim: bool,
         number: Option<u8>,
     },
-    /// The colour of one that is chosen, on a ground that is.
+    /// The colour of a text, where both it and its ground are chosen.
     OnGround {
         number: u8,
     },
-    /// The colour of one that is not, on a ground that is.
+    /// The colour of a text for which none is chosen, on a chosen ground, which has this number.
     Ink {
         dim: bool,
         number: u8,

@@ -142,7 +142,7 @@ fn color_on(text: Color, behind: Rgb) -> Rgb
     }
 }
 
-/// The same, or where it is dim as much of it as is read.
+/// The same; of a dim text its mixture with the ground, where that can be read there.
 #[inline(always)]
 pub(crate) fn text_on(dim: bool, text: Color, behind: Rgb) -> Rgb
     ensures { result ≡ text_on dim text behind }

@@ -14,7 +14,7 @@ use anstyle_parse::{Params, Perform, PerformText};
 /// Writes text, or numbered lines.
 #[derive(Drop)]
 pub(crate) struct Inside<W> {
-    /// Of text the writer within it is used alone.
+    /// Where `has_numbers` is false, only its writer `html` writes.
     lines: LinesWriter<W>,
     has_numbers: bool,
 }

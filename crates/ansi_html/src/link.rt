@@ -15,15 +15,15 @@ const MAX_PARTS: usize = 16;
 
 const MAX_BYTES: usize = 1024;
 
-/// The link of the last text, and the one for what comes. None is empty. Two places hold them in turn, so that neither
-/// is copied where the one becomes the other.
+/// The link of the last text, and the one for what comes; an empty URI stands for no link. Two places hold them in
+/// turn, so that neither is copied where the one becomes the other.
 #[derive(Drop)]
 pub(crate) struct Links {
     first: Uri,
     second: Uri,
     /// The link of the last text is the second.
     shows_second: bool,
-    /// A command has selected a link since, which is the other one.
+    /// The link for what comes is in the other place; else it is that of the last text.
     has_next: bool,
 }
 

@@ -42,7 +42,8 @@ impl Span {
     }
 }
 
-/// Of each row the columns that were written, and whether the frame can have changed.
+/// Damage: the columns of each row that were written, and whether the frame can have changed: what is saved, margins,
+/// tabs, and the alternate screen with what it covers.
 #[derive(Drop)]
 pub(crate) struct Damage {
     spans: Vec<Span>,
@@ -94,7 +95,7 @@ impl Damage {
         })
     }
 
-    /// Nothing any more. It takes time of the rows of which something was noted, and of those between them.
+    /// Forgets all damage. This takes time for each row of which something was noted, and for the rows between them.
     pub(crate) fn forget(&mut self)
         ensures { self.new ≡ record { spans = replicate (length self.old.spans) no_span; is_framed = false } }
     {

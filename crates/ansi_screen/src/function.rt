@@ -61,7 +61,7 @@ pub(crate) enum Move {
     BackTab,
 }
 
-/// What leaves a pending wrap as it is.
+/// Other functions. Edits and moves first end a pending wrap; these do not.
 #[derive(Clone, Copy)]
 pub(crate) enum Setting {
     /// SGR

@@ -1,4 +1,4 @@
-//! A screen of which no row is lost: what scrolls off at its top is handed on.
+//! Scrollback: a screen that hands on the rows that leave it, before they are gone; which ones, [`Scrolling`] says.
 ghost use Rattle.std.specs.Prelude.{◌≡◌, ◌≤◌, ℕ, List, ◌∷◌, length, map};
 ghost use Rattle.ansi_screen.specs.declared.cell.Cell.{Cell as ACell};
 ghost use Rattle.ansi_screen.specs.Grid.{IsBlankFrom};

@@ -30,5 +30,5 @@ pub use place::{Charsets, Place};
 pub use runs::goes_on;
 pub use screen::Screen;
 pub use size::{MAX_COLUMNS, MAX_ROWS, MIN_COLUMNS, MIN_ROWS, Size};
-pub use text::{LeftOut, put_cells, used, used_of_written};
+pub use text::{LeftOut, is_ascii_alone, put_cells, used, used_of_written};
 pub use width::is_shown;

@@ -20,7 +20,7 @@ pub struct Place {
     pub column: usize,
     /// The style of what comes next.
     pub style: Style,
-    /// The origin mode: lines are counted from the upper margin.
+    /// Origin mode (DECOM): sequences count lines from the upper margin. `row` counts from the screen's first row.
     pub is_relative: bool,
     pub charsets: Charsets,
 }

@@ -217,7 +217,7 @@ impl Screen {
         self.display.begin_escape(intermediates, final_byte)
     }
 
-    /// The main and the alternate screen change places.
+    /// The cells of the main and of the alternate screen change places; all else stays.
     pub(crate) fn swap_screens(&mut self)
         ensures { self.new ≡ record self.old { display = swapped self.old.display } }
     {

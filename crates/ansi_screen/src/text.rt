@@ -167,7 +167,7 @@ fn copy_unmarked(cells: &[Cell], block: &mut [u8; BLOCK]) -> (usize, usize)
 /// Whether a cell's text is its character alone, in one byte.
 #[inline(always)]
 #[tactic(auto, unfolding(crate::specs::Text::cell_text))]
-fn is_ascii_alone(cell: &Cell) -> bool
+pub fn is_ascii_alone(cell: &Cell) -> bool
     ensures text { IsTrue result → cell_text cell.now ≡ cell.now.character ∷ [] }
     ensures low { IsTrue result → cell.now.character < 0x80 }
 {

@@ -39,12 +39,12 @@ pub(crate) fn print_by_runs<P: PutRuns>(performer: &mut P, text: &str)
 {
     let mut rest = text;
     'rest: while !rest.is_empty() {
-        let (run, behind) = split_front::<PrintedAscii>(rest);
+        let (run, after) = split_front::<PrintedAscii>(rest);
         print_run(performer, run);
-        if behind.is_empty() {
+        if after.is_empty() {
             break;
         }
-        let (others, further) = split_others::<PrintedAscii>(behind);
+        let (others, further) = split_others::<PrintedAscii>(after);
         print_each(performer, others);
         rest = further;
     }

@@ -13,7 +13,7 @@ mod text;
 
 ghost use Rattle.std.specs.Prelude.{◌≡◌, ◌≤◌, None, Some, IfSome};
 ghost use Rattle.std.specs.Bool.{OnTrue, OnFalse};
-ghost use Rattle.screen_pieces.specs.Styles.{style_of};
+ghost use Rattle.ansi_style.specs.Bytes.{style_of};
 ghost use Rattle.screen_pieces.specs.Terminal.{IsNew, Feeds, Begins, HasCell, HasRow, HasModes, display_of};
 ghost use Rattle.ansi_screen_c.specs.Calls.{Opens, Both, Holds};
 

@@ -1,7 +1,8 @@
 -- `==` of styles is equality.
-use Rattle.std.proofs.Common.{◌≡◌, ◌↔◌, Bool, true, false, ◌&&◌, eqb, refl, ap, subst, IsTrue, rules}
+use Rattle.std.proofs.Common.{◌≡◌, ◌↔◌, Bool, true, false, ◌&&◌, eqb, refl, ap, ◌∙◌, subst, IsTrue, rules}
 use Rattle.std.specs.Bool.{beq}
 use Rattle.std.proofs.lemmas.Bool.{and_parts, eqb-true}
+use Rattle.std.proofs.Math.Bool.{and_assoc}
 use denote.Enum.Bare.{sameb, same_true}
 use Rattle.ansi_style.specs.declared.style.Style.{Style}
 use Rattle.ansi_style.specs.declared.style.Color.{Color}
@@ -92,3 +93,13 @@ are_equal-same a b h = style_same a b h
 pub are_equal-refl : (a : Style) → are_equal a a ≡ true
 unfolding are_equal
 are_equal-refl a = laws-law.refl a
+
+-- eight of them in the order in which they are joined one by one
+pub and-of_eight : (a b c d e f g h : Bool)
+    → (a && b && c && d && e && f && g && h) ≡ (a && (b && (c && (d && (e && (f && (g && h)))))))
+and-of_eight a b c d e f g h =
+    and_assoc (a && b && c && d && e && f) g h
+    ∙ (and_assoc (a && b && c && d && e) f (g && h)
+    ∙ (and_assoc (a && b && c && d) e (f && (g && h))
+    ∙ (and_assoc (a && b && c) d (e && (f && (g && h)))
+    ∙ (and_assoc (a && b) c (d && (e && (f && (g && h)))) ∙ and_assoc a b (c && (d && (e && (f && (g && h)))))))))

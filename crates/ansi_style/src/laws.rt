@@ -1,6 +1,6 @@
 //! Laws of styles.
 //!
-//! Each speaks of definitions alone, and is the contract of a function that does nothing.
+//! Each is the contract of a function that does nothing, but for [`hue_as_number`], which gives a number.
 ghost use Rattle.std.specs.Prelude.{◌≡◌, ℕ, List, [], ◌∷◌, ◌++◌, ◌↔◌, IsTrue};
 ghost use Rattle.ansi_style.specs.Style.{plain, hue_number};
 ghost use Rattle.ansi_style.specs.Rendition.{is_color_code, selected, AreWhole};

@@ -12,6 +12,7 @@
 //! ```
 #![tactic(auto)]
 
+pub mod bytes;
 mod codes;
 pub mod laws;
 mod select;

@@ -15,8 +15,8 @@ use Rattle.std.specs.Prelude.{IsTrue}
 use Rattle.std.specs.Io.KnownBytes.{IsAtEnd}
 use Rattle.anstyle_parse.specs.declared.io.devices.Source.{Ghosts as SourceOf}
 use Rattle.anstyle_parse.specs.Stream.Call.{Call}
-use Rattle.each_source.specs.declared.reading.Reached.{Reached}
-use Rattle.each_source.specs.declared.reading.Reached.TheVariants.{Middle, End, Failure}
+use Rattle.each_source.specs.declared.one_source.Reached.{Reached}
+use Rattle.each_source.specs.declared.one_source.Reached.TheVariants.{Middle, End, Failure}
 use Rattle.each_source.specs.Each.{BeginsWith, HasEnded}
 use Rattle.each_source.specs.Ended.{IsUpTo, is_over}
 

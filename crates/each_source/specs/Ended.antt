@@ -13,11 +13,11 @@ use Rattle.anstyle_parse.specs.Stream.Calls.{AreCalls}
 use Rattle.anstyle_parse.specs.Stream.Texts.{HasReceivedTexts}
 use Rattle.anstyle_parse.specs.Views.Accumulator.{front_of}
 use Rattle.anstyle_parse.specs.Views.Parser.{IsAfter}
-use Rattle.each_source.specs.declared.reading.Ended.{Ended}
-use Rattle.each_source.specs.declared.reading.Reached.{Reached}
-use Rattle.each_source.specs.declared.reading.Reached.TheVariants.{Middle, End, Failure}
+use Rattle.each_source.specs.declared.one_source.Ended.{Ended}
+use Rattle.each_source.specs.declared.one_source.Reached.{Reached}
+use Rattle.each_source.specs.declared.one_source.Reached.TheVariants.{Middle, End, Failure}
 use Rattle.each_source.specs.Each.{HasEnded, text_read}
-use Rattle.each_source.specs.declared.reading.Ended.TheVariants.{Stuck}
+use Rattle.each_source.specs.declared.one_source.Ended.TheVariants.{Stuck}
 
 -- whether what the writer holds back can't be passed on
 abbrev pub is_stuck : Ended → Bool

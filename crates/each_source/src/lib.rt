@@ -2,7 +2,7 @@
 //! written of all is the join of what is written of each.
 #![tactic(auto)]
 
-mod reading;
+mod one_source;
 
 ghost use Rattle.std.specs.Prelude.{◌≡◌, ◌≤◌, ◌++◌, ℕ, Bool, List, None, OnOk, IfOk, IfErr, IsTrue, length};
 ghost use Rattle.std.specs.Io.KnownBytes.{Consumes};
@@ -10,8 +10,8 @@ ghost use Rattle.anstyle_parse.specs.Io.Output.{fault_in, Adds};
 ghost use Rattle.each_source.specs.Each.{Given, BeginsWith, WritesOne, AddsEach, WritesEach, stopped_by};
 
 use anstyle_parse::io::{Fault, FromRead, Output, Sink, Source, WritingPerformer};
-pub use reading::MOST_FRONT;
-use reading::{Ended, PIECE, read_front, read_to};
+pub use one_source::MOST_FRONT;
+use one_source::{Ended, PIECE, read_front, read_to};
 use std::io::Read;
 
 /// Why not all was written.

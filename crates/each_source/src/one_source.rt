@@ -40,9 +40,9 @@ impl Ended {
 pub(crate) enum Reached {
     /// More may come.
     Middle,
-    /// It is at its end,
+    /// The source is at its end.
     End,
-    /// or a read has failed.
+    /// A read has failed.
     Failure,
 }
 

@@ -11,9 +11,9 @@ use Rattle.ansi_html.specs.Html.{Element, element, Standing, at_start, standing_
 use Rattle.ansi_html.specs.Writer.{kept}
 use Rattle.html_pieces.specs.declared.state.ElementBytes.{ElementBytes}
 use Rattle.html_pieces.specs.declared.state.HtmlState.{HtmlState}
-use Rattle.html_pieces.specs.declared.style.ColorBytes.{ColorBytes}
-use Rattle.html_pieces.specs.declared.style.StyleBytes.{StyleBytes}
-use Rattle.html_pieces.specs.Styles.{is_set, style_of}
+use Rattle.ansi_style.specs.declared.bytes.ColorBytes.{ColorBytes}
+use Rattle.ansi_style.specs.declared.bytes.StyleBytes.{StyleBytes}
+use Rattle.ansi_style.specs.Bytes.{is_set, style_of}
 
 -- any other number is for both
 abbrev pub styling_numbered : ℕ → Styling

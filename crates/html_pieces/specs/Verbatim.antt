@@ -3,7 +3,7 @@ use Rattle.std.specs.Prelude.{◌≡◌, false, []}
 use Rattle.stream_state.specs.State.{pending_of}
 use Rattle.html_pieces.specs.declared.state.HtmlState.{HtmlState}
 use Rattle.html_pieces.specs.State.{held_element}
-use Rattle.html_pieces.specs.Styles.{is_set}
+use Rattle.ansi_style.specs.Bytes.{is_set}
 
 -- In the midst of text: no sequence and no character is begun, what is selected is what the last text stands in,
 -- and that was not 0D.

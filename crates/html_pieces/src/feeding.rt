@@ -170,7 +170,8 @@ impl HtmlState {
         }
     }
 
-    /// Takes bytes of the piece, as many at once as surely or probably find room by what those before led to.
+    /// Takes bytes of the piece in several tries, each of as many as probably find room by what those before led to. It
+    /// ends with a try that finds none, or where `next_try` plans none.
     fn take_through_tries(&mut self, lent: &mut [u8], piece: &[u8], room: &mut [u8]) -> Fed
         ensures within { result.taken ≤ length piece.now }
         ensures few { result.written ≤ length lent.old }

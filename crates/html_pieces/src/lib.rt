@@ -17,8 +17,7 @@
 mod feeding;
 pub mod laws;
 mod state;
-mod style;
 
+pub use ansi_style::bytes::{ColorBytes, StyleBytes};
 pub use feeding::{END_ROOM, LEAST_ROOM};
 pub use state::{ElementBytes, HtmlState};
-pub use style::{ColorBytes, StyleBytes};

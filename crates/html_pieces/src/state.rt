@@ -7,9 +7,9 @@ ghost use Rattle.ansi_html.specs.Writer.{element_in, standing_in, kept};
 ghost use Rattle.html_pieces.specs.Verbatim.{IsInText};
 ghost use Rattle.html_pieces.specs.State.{held_element, held_standing, styling_in, styling_numbered, StandsFor};
 
-use crate::style::{StyleBytes, flag};
 use ansi_html::{Element, Scheme, Standing, Styling};
 use ansi_style::Style;
+use ansi_style::bytes::{StyleBytes, flag};
 use stream_state::StreamState;
 
 /// The bytes of a link at most.

@@ -58,13 +58,13 @@ module _ (test : ℕ → Bool) (low : (b : ℕ) → IsTrue (test b) → b < 0x80
         subst (IsCharBoundary text) all (IsCharBoundary-end text))
         (cases_lt n (length others)))
 
--- a text in parts: of the kind, and what stands between
-pub text-parted : (text passed rest run behind others further : List ℕ) → text ≡ passed ++ rest → rest ≡ run ++ behind → behind ≡ others ++ further
+-- of a text that is taken in parts: a run of the kind and what stands to the next one more, and a run at its end
+pub two-parts-taken : (text passed rest run after others further : List ℕ) → text ≡ passed ++ rest → rest ≡ run ++ after → after ≡ others ++ further
     → text ≡ (passed ++ (run ++ others)) ++ further
-text-parted text passed rest run behind others further a b d =
+two-parts-taken text passed rest run after others further a b d =
     a
     ∙ (ap (λ l. passed ++ l) (b ∙ (ap (λ l. run ++ l) d ∙ sym (append_assoc run others further)))
     ∙ sym (append_assoc passed (run ++ others) further))
 
-pub text-ended : (text passed rest run behind : List ℕ) → text ≡ passed ++ rest → rest ≡ run ++ behind → behind ≡ [] → text ≡ passed ++ run
-text-ended text passed rest run behind a b d = a ∙ ap (λ l. passed ++ l) (b ∙ (ap (λ l. run ++ l) d ∙ append-nil run))
+pub last-part-taken : (text passed rest run after : List ℕ) → text ≡ passed ++ rest → rest ≡ run ++ after → after ≡ [] → text ≡ passed ++ run
+last-part-taken text passed rest run after a b d = a ∙ ap (λ l. passed ++ l) (b ∙ (ap (λ l. run ++ l) d ∙ append-nil run))

@@ -13,8 +13,8 @@ use Rattle.anstyle_parse.proofs.Division.Only.{AreCalls-only}
 use Rattle.anstyle_parse.proofs.Agreement.Whole.{AreCalls-machine}
 use Rattle.anstyle_parse.specs.declared.io.Fault.{Fault}
 use Rattle.anstyle_parse.specs.Io.Output.{writer_in, fault_in, Finishes}
-use Rattle.stream_state.specs.contracts.lent.LentBytesSink.TheImpl.{ghosts}
-use Rattle.stream_state.specs.declared.lent.LentBytes.{LentBytes}
+use Rattle.stream_state.specs.contracts.bounded_sink.LentBytesSink.TheImpl.{ghosts}
+use Rattle.stream_state.specs.declared.bounded_sink.LentBytes.{LentBytes}
 use Rattle.stream_state.specs.Lent.{limit_of, held_in as bytes_in}
 use Rattle.stream_state.specs.Log.{StandsForLog, EndsLog}
 use Rattle.stream_state.specs.State.{pending_of}

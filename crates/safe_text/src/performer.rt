@@ -295,11 +295,11 @@ impl<W: Sink> SafeWriter<W> {
     {
         let mut rest = text;
         'waiting: while !self.held.is_nothing() {
-            let Some((first, behind)) = rest.split_first() else {
+            let Some((first, after)) = rest.split_first() else {
                 return;
             };
             self.take(char::from(*first));
-            rest = behind;
+            rest = after;
         }
         self.put_plain(rest);
     }
@@ -320,12 +320,12 @@ impl<W: Sink> SafeWriter<W> {
     {
         let mut rest = text;
         'rest: while !rest.is_empty() {
-            let (plain, behind) = split_front::<Plain>(rest);
+            let (plain, after) = split_front::<Plain>(rest);
             self.take_plain(plain);
-            if behind.is_empty() {
+            if after.is_empty() {
                 break;
             }
-            let (others, further) = split_others::<Plain>(behind);
+            let (others, further) = split_others::<Plain>(after);
             self.take_each(others);
             rest = further;
         }

@@ -224,13 +224,3 @@ module _ (width row : ℕ) (xs ys first second : List Cell)
       ap₂ (all_two are_alike) (sym (take-append-drop past xs)) (sym (take-append-drop past ys))
       ∙ (all_two-append are_alike (take past xs) (take past ys) (drop past xs) (drop past ys) long
       ∙ ap (λ t. t && all_two are_alike (drop past xs) (drop past ys)) front)
-
--- eight of them in the order in which they are joined one by one
-pub and-of_eight : (a b c d e f g h : Bool)
-    → (a && b && c && d && e && f && g && h) ≡ (a && (b && (c && (d && (e && (f && (g && h)))))))
-and-of_eight a b c d e f g h =
-    and_assoc (a && b && c && d && e && f) g h
-    ∙ (and_assoc (a && b && c && d && e) f (g && h)
-    ∙ (and_assoc (a && b && c && d) e (f && (g && h))
-    ∙ (and_assoc (a && b && c) d (e && (f && (g && h)))
-    ∙ (and_assoc (a && b) c (d && (e && (f && (g && h)))) ∙ and_assoc a b (c && (d && (e && (f && (g && h)))))))))

@@ -7,7 +7,7 @@ ghost use Rattle.screen_draw.specs.Buffers.{cells_of};
 ghost use Rattle.screen_draw.specs.Changed.{AreCompared};
 
 use crate::buffer::Buffer;
-use crate::cells::{is_erased, is_same};
+use crate::cells::is_erased;
 use crate::changed::Compared;
 use ansi_screen::{Cell, Charsets, Marks, Part, Place, Screen};
 
@@ -40,7 +40,7 @@ pub(crate) fn are_alike(a: &Cell, b: &Cell) -> bool
     a.character == b.character
         && are_same_parts(a.part, b.part)
         && are_same_marks(&a.marks, &b.marks)
-        && is_same(&a.style, &b.style)
+        && a.style.is_same(&b.style)
 }
 
 /// Whether all cells are alike, each to the one of its place.
@@ -117,7 +117,7 @@ fn are_same_places(a: Place, b: Place) -> bool
 {
     a.row == b.row
         && a.column == b.column
-        && is_same(&a.style, &b.style)
+        && a.style.is_same(&b.style)
         && a.is_relative == b.is_relative
         && are_same_sets(a.charsets, b.charsets)
 }
@@ -152,7 +152,7 @@ fn has_same_modes(a: &Screen, b: &Screen) -> bool
         && a.is_cursor_visible() == b.is_cursor_visible()
 }
 
-/// Whether all is the same of two screens of one size.
+/// Whether two screens of one size are the same in all that is drawn; links, for one, are not.
 #[tactic(auto, unfolding(crate::specs::Alike::looks_same))]
 pub(crate) fn looks_same(a: &Screen, b: &Screen) -> bool
     requires columns { a.now.display.width ≡ b.now.display.width }

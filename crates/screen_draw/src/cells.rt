@@ -1,8 +1,6 @@
 //! The cells of a screen.
-ghost use Rattle.std.specs.Prelude.{◌≡◌, ◌<◌, ◌≤◌, ◌*◌, ◌/◌, ◌+◌, ◌∷◌, ◌++◌, [], length, ◌&&◌};
-ghost use Rattle.std.specs.Bool.{beq};
+ghost use Rattle.std.specs.Prelude.{◌≡◌, ◌<◌, ◌≤◌, ◌*◌, ◌/◌, ◌+◌, ◌∷◌, ◌++◌, [], length};
 ghost use Rattle.anstyle_parse.specs.Stream.Call.{print};
-ghost use Rattle.ansi_style.specs.Style.{are_equal};
 ghost use Rattle.ansi_screen.specs.Display.{most_columns, most_rows};
 ghost use Rattle.screen_draw.specs.Buffers.{cells_of};
 ghost use Rattle.screen_draw.specs.Draw.{drawn_character, marks_calls, character_calls, is_erased, is_fresh, first_pen, pen_behind, pen_after, style_calls, there_calls, shown_calls, place_cell_calls, cell_calls, cells_calls};
@@ -17,7 +15,7 @@ use anstyle_parse::io::{Output, Sink};
 /// What was drawn so far leaves this to the next cell.
 #[derive(Clone, Copy)]
 pub(crate) struct Pen {
-    /// The cursor stands where the next cell is drawn.
+    /// The cursor stands where the next cell is drawn, if that is in the same row.
     pub(crate) is_there: bool,
     /// The style that is selected.
     pub(crate) style: Style,
@@ -35,36 +33,6 @@ impl Pen {
     }
 }
 
-/// Whether the attributes are the same. They stand side by side, and are compared at once.
-#[inline(always)]
-fn has_same_flags(a: &Style, b: &Style) -> bool
-    ensures { result ≡ (beq a.now.bold b.now.bold && (beq a.now.dim b.now.dim
-        && (beq a.now.italic b.now.italic && (beq a.now.blink b.now.blink
-        && (beq a.now.reverse b.now.reverse && (beq a.now.hidden b.now.hidden
-        && (beq a.now.struck_out b.now.struck_out && beq a.now.overlined b.now.overlined))))))) }
-{
-    (a.bold == b.bold)
-        & (a.dim == b.dim)
-        & (a.italic == b.italic)
-        & (a.blink == b.blink)
-        & (a.reverse == b.reverse)
-        & (a.hidden == b.hidden)
-        & (a.struck_out == b.struck_out)
-        & (a.overlined == b.overlined)
-}
-
-/// Whether the styles are the same.
-#[inline(always)]
-#[tactic(auto, unfolding(ansi_style::specs::Style::are_equal))]
-pub(crate) fn is_same(a: &Style, b: &Style) -> bool
-    ensures { result ≡ are_equal a.now b.now }
-{
-    a.foreground == b.foreground
-        && a.background == b.background
-        && a.underline == b.underline
-        && has_same_flags(a, b)
-}
-
 /// Whether the cell is as erasing leaves it.
 #[tactic(auto, unfolding(crate::specs::Draw::is_erased))]
 pub(crate) fn is_erased(cell: Cell) -> bool
@@ -72,7 +40,7 @@ pub(crate) fn is_erased(cell: Cell) -> bool
 {
     matches!(cell.part, Part::Empty)
         && matches!(cell.marks, Marks::Unmarked)
-        && is_same(&cell.style, &Cell::blank(cell.style).style)
+        && cell.style.is_same(&Cell::blank(cell.style).style)
 }
 
 /// Whether the cell is as on a new screen.
@@ -80,7 +48,7 @@ pub(crate) fn is_erased(cell: Cell) -> bool
 fn is_fresh(cell: &Cell) -> bool
     ensures { result ≡ is_fresh cell.now }
 {
-    is_erased(*cell) && is_same(&cell.style, &Style::default())
+    is_erased(*cell) && cell.style.is_same(&Style::default())
 }
 
 /// The character; a space for one that shows nothing.
@@ -124,12 +92,12 @@ pub(crate) fn put_marked<W: Sink>(output: &mut Output<W>, cell: Cell)
 pub(crate) fn put_style_change<W: Sink>(output: &mut Output<W>, selected: Style, wanted: Style)
     ensures { Draws W.Sink (style_calls selected wanted) output.old output.new }
 {
-    if !is_same(&selected, &wanted) {
+    if !selected.is_same(&wanted) {
         put_style(output, wanted);
     }
 }
 
-/// Goes to the place, where the cursor stands elsewhere.
+/// Goes to the place, where it begins a row or the cursor stands elsewhere.
 fn put_there<W: Sink>(output: &mut Output<W>, width: usize, place: usize, pen: Pen)
     requires some { 0 < width }
     requires columns { width ≤ most_columns }

@@ -13,9 +13,9 @@ ghost use Rattle.screen_draw.specs.Update.{move_calls, erased_run, erased_column
 
 use crate::alike::{alike_front, are_alike, has_same_margins, lacks_print};
 use crate::calls::{put_number, put_position, put_private_mode, put_style};
-use crate::cells::{is_erased, is_same, put_marked, put_style_change};
+use crate::cells::{is_erased, put_marked, put_style_change};
 use crate::changed::Compared;
-use crate::places::put_wrap;
+use crate::cursors::put_wrap;
 use crate::rest::{last_of_row, put_margins_of};
 use ansi_screen::{Cell, Part, Place, Screen};
 use ansi_style::Style;
@@ -50,7 +50,7 @@ fn erased_run(style: Style, cells: &[Cell]) -> usize
     ensures within { result ≤ length cells.now }
 {
     for (count, cell) in cells.iter().enumerate() {
-        if !is_erased(*cell) || !is_same(&cell.style, &style) {
+        if !is_erased(*cell) || !cell.style.is_same(&style) {
             return count;
         }
     }

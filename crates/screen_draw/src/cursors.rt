@@ -31,7 +31,8 @@ fn rows_above(place: Place, top: usize) -> usize
     if place.is_relative { top } else { 0 }
 }
 
-/// Goes to a place, whose row is counted from `top` in origin mode; `last` is printed from the column on.
+/// Goes to the row of a place and to `column`; in origin mode the sequence counts the row from `top`. Prints `last`
+/// there, if there is one. Selects the place's origin mode, character sets and style.
 pub(crate) fn put_place<W: Sink>(
     output: &mut Output<W>,
     top: usize,

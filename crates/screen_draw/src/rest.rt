@@ -7,7 +7,7 @@ ghost use Rattle.screen_draw.specs.Drawing.{Draws};
 use crate::calls::{
     put_escape, put_number, put_numbers, put_plain, put_private_mode, set_or_reset,
 };
-use crate::places::put_place;
+use crate::cursors::put_place;
 use ansi_screen::{Cell, Screen};
 use anstyle_parse::io::{Output, Sink};
 

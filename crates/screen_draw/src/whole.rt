@@ -11,7 +11,7 @@ use crate::calls::{ALTERNATE, put_escape, put_private_mode};
 use crate::changed::Compared;
 use crate::changes::put_changes;
 use crate::cleared::put_cleared;
-use crate::places::put_screen;
+use crate::cursors::put_screen;
 use crate::rest::put_rest;
 use ansi_screen::Screen;
 use anstyle_parse::io::{Output, Sink};

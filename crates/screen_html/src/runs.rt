@@ -1,31 +1,28 @@
 //! Runs of cells of one style and one link whose text has one byte each.
 ghost use Rattle.std.specs.Prelude.{◌≡◌, ◌≤◌, ◌<◌, ◌∷◌, [], length, take, IsTrue};
 ghost use Rattle.ansi_html.specs.Styled.{styled, WritesStyled};
-ghost use Rattle.ansi_screen.specs.Text.{cell_text};
 ghost use Rattle.screen_html.specs.Links.{link_at};
 ghost use Rattle.screen_html.specs.Shown.{IsRun};
 
-use crate::alike::is_alike;
 use crate::table::LinkTable;
 use ansi_html::StyledWriter;
-use ansi_screen::{Cell, Marks};
+use ansi_screen::{Cell, is_ascii_alone};
 use anstyle_parse::io::Sink;
 
 /// How many cells are written at once, at most.
 pub(crate) const BLOCK: usize = 128;
 
-/// Whether a cell's text is its character alone, in one byte.
+/// Whether a cell has the link and the style of another one.
 #[inline(always)]
-#[tactic(auto, unfolding(ansi_screen::specs::Text::cell_text))]
-fn is_ascii_alone(cell: &Cell) -> bool
-    ensures text { IsTrue result → cell_text cell.now ≡ cell.now.character ∷ [] }
-    ensures low { IsTrue result → cell.now.character < 0x80 }
+fn is_alike(cell: &Cell, other: &Cell) -> bool
+    ensures link { IsTrue result → cell.now.link ≡ other.now.link }
+    ensures style { IsTrue result → cell.now.style ≡ other.now.style }
 {
-    cell.character.is_ascii() && !cell.is_right() && matches!(cell.marks, Marks::Unmarked)
+    cell.link == other.link && cell.style.is_same(&other.style)
 }
 
-/// Copies the text of the cells at the front that have one byte each, and the style and the link of `first`, into the
-/// block, as far as it has room. It answers how many there are.
+/// Copies into the block the text of the cells at the front, as far as each has one byte and the style and the link of
+/// `first`, and the block has room. It answers how many cells these are.
 #[inline]
 pub(crate) fn copy_run(first: &Cell, cells: &[Cell], block: &mut [u8; BLOCK]) -> usize
     ensures run { IsRun first.now (take result cells.now) (take result block.new) }

@@ -7,7 +7,7 @@ use Rattle.ansi_screen.specs.declared.cell.Part.TheVariants.{Empty, Whole, Left,
 use Rattle.ansi_screen.specs.declared.cell.Marks.{Marks}
 use Rattle.ansi_screen.specs.declared.cell.Marks.TheVariants.{Unmarked, One, Two}
 use Rattle.screen_pieces.specs.declared.cell.CellBytes.{CellBytes}
-use Rattle.screen_pieces.specs.Styles.{style_of, is_set, kind_of}
+use Rattle.ansi_style.specs.Bytes.{style_of, is_set, kind_of}
 
 abbrev pub part_of : ℕ → Part
 part_of number = if number == 1 then Whole else if number == 2 then Left else if number == 3 then Right else Empty

@@ -1,4 +1,3 @@
-pub mod Styles
 pub mod Cells
 pub mod Text
 pub mod Drawing

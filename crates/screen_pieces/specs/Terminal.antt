@@ -19,7 +19,7 @@ use Rattle.screen_pieces.specs.declared.modes.ModeBytes.{ModeBytes}
 use Rattle.screen_pieces.specs.declared.terminal.Terminal.{Terminal}
 use Rattle.screen_pieces.specs.Cells.{cell_in}
 use Rattle.screen_pieces.specs.History.{Kept, kept_row, KeepsLeft, SameRoom}
-use Rattle.screen_pieces.specs.Styles.{is_set}
+use Rattle.ansi_style.specs.Bytes.{is_set}
 
 abbrev pub screen_of : Terminal → State
 screen_of terminal = scrolling_screen terminal.watched.scrolling

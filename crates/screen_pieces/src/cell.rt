@@ -4,10 +4,10 @@ ghost use Rattle.std.specs.List.{All};
 ghost use Rattle.std.specs.Bool.{OnTrue, OnFalse};
 ghost use Rattle.ansi_screen.specs.declared.cell.Marks.TheVariants.{Unmarked};
 ghost use Rattle.screen_pieces.specs.Cells.{cell_in, part_of, marks_of, IsPlain};
-ghost use Rattle.screen_pieces.specs.Styles.{color_of, kind_of};
+ghost use Rattle.ansi_style.specs.Bytes.{color_of, kind_of};
 
-use crate::style::{ColorBytes, StyleBytes, flag, kind_number};
 use ansi_screen::{Cell, Marks, Part};
+use ansi_style::bytes::{ColorBytes, StyleBytes, flag, kind_number};
 
 /// How many cells are looked at together.
 const FEW: usize = 10;

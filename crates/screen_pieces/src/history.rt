@@ -65,7 +65,8 @@ fn copied(alloc: Global, rows: &[KeptRow], columns: usize) -> Result<Vec<KeptRow
     Ok(copies)
 }
 
-/// The last rows that left a screen, of as many as were asked for. Memory is taken by [`History::new`] alone.
+/// The last rows that left a screen, at most as many as were asked for. Memory is taken by [`History::new`] and
+/// [`History::copy`] alone.
 #[derive(Drop)]
 pub struct History {
     /// A ring: before `next` stands the row that left last.
@@ -182,7 +183,7 @@ impl History {
     }
 }
 
-/// A row that leaves is kept. What it holds back are all of these: handing them on, which none takes, it forgets them.
+/// It keeps each row that leaves. All that it keeps counts as held back, and nothing takes it: `pass_on` forgets it.
 impl TakeRow for History {
     ghost use Rattle.std.specs.Prelude.{[]};
     ghost use Rattle.screen_pieces.specs.History.{kept_of, kept_after};

@@ -12,13 +12,12 @@ mod modes;
 mod page;
 mod reading;
 mod same;
-mod style;
 mod terminal;
 mod text;
 mod watched;
 
+pub use ansi_style::bytes::{ColorBytes, StyleBytes};
 pub use cell::CellBytes;
 pub use history::History;
 pub use modes::{ModeBytes, RESERVED_MODES};
-pub use style::{ColorBytes, StyleBytes};
 pub use terminal::Terminal;

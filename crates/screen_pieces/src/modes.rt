@@ -1,8 +1,8 @@
 //! Modes in plain bytes.
 ghost use Rattle.screen_pieces.specs.Terminal.{HasModes};
 
-use crate::style::flag;
 use ansi_screen::Screen;
+use ansi_style::bytes::flag;
 
 /// How many bytes of modes are kept for later: they are 0.
 pub const RESERVED_MODES: usize = 11;

@@ -2,16 +2,16 @@
 ghost use Rattle.std.specs.Prelude.{◌≡◌, ◌≤◌, ◌⊎◌, length, IfOk, IfErr, IfSome, IfNone};
 ghost use Rattle.std.specs.Bool.{OnTrue, OnFalse};
 ghost use Rattle.ansi_screen.specs.Text.{row_text, text_of};
-ghost use Rattle.screen_pieces.specs.Styles.{style_of};
+ghost use Rattle.ansi_style.specs.Bytes.{style_of};
 ghost use Rattle.screen_pieces.specs.Text.{HasText, LacksRoom, text_of_row, text_of_part};
 ghost use Rattle.screen_pieces.specs.History.{text_of_kept};
 
 use crate::cell::{CellBytes, put_cell, put_cells, put_plain};
 use crate::modes::ModeBytes;
-use crate::style::StyleBytes;
 use crate::terminal::Terminal;
 use crate::text::TextWriter;
 use ansi_screen::Cell;
+use ansi_style::bytes::StyleBytes;
 
 /// Writes the text of cells without the blanks at their end.
 fn put_text(cells: &[Cell], room: &mut [u8]) -> Result<usize, usize>

@@ -10,8 +10,8 @@ use Rattle.anstyle_parse.specs.declared.io.Fault.{Fault}
 use Rattle.anstyle_parse.specs.declared.io.Fault.TheVariants.{Write}
 use Rattle.anstyle_parse.specs.declared.io.output.Output.{Output}
 use Rattle.anstyle_parse.specs.Io.Output.{writer_in, fault_in, Adds, AddsAll, AddsPrefix, Flushes, Finishes}
-use Rattle.stream_state.specs.declared.lent.LentBytes.{LentBytes}
-use Rattle.stream_state.specs.contracts.lent.LentBytesSink.TheImpl.{ghosts}
+use Rattle.stream_state.specs.declared.bounded_sink.LentBytes.{LentBytes}
+use Rattle.stream_state.specs.contracts.bounded_sink.LentBytesSink.TheImpl.{ghosts}
 use Rattle.stream_state.specs.Lent.{limit_of, held_in, contents_of}
 
 -- by the test whether there is a fault

@@ -1,6 +1,6 @@
 -- What is held in lent memory.
 use Rattle.std.specs.Prelude.{◌≤◌, ℕ, Bool, List, ◌∷◌, length, take}
-use Rattle.stream_state.specs.declared.lent.LentBytes.{LentBytes}
+use Rattle.stream_state.specs.declared.bounded_sink.LentBytes.{LentBytes}
 
 -- the bytes that it takes at most, and those that it holds
 abbrev pub limit_of : LentBytes → ℕ

@@ -5,14 +5,14 @@
 //! [`put_over`] write into memory that is lent to such a call.
 #![tactic(auto)]
 
+mod bounded_sink;
 mod fed;
 mod front;
 pub mod laws;
-mod lent;
 mod saved;
 mod state;
 
+pub use bounded_sink::{LentBytes, put_front};
 pub use fed::Fed;
 pub use front::put_over;
-pub use lent::{LentBytes, put_front};
 pub use state::{StreamState, print_end};

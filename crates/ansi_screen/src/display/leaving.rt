@@ -18,7 +18,7 @@ const MOST_COLUMNS: usize = 2;
 const ALL: u16 = 2;
 
 impl Display {
-    /// The main and the alternate screen change places.
+    /// The cells of the main and of the alternate screen change places; all else stays.
     pub(crate) fn swap_screens(&mut self)
         ensures { self.new ≡ swapped self.old }
     {

@@ -1,4 +1,4 @@
-//! What decides what a call does, as it stands.
+//! Reads the rest of a display: the hidden screen, saved cursors, margins, tabs and modes.
 ghost use Rattle.std.specs.Prelude.{◌≡◌, ◌<◌, ◌*◌, ◌-◌, length, take, drop};
 ghost use Rattle.ansi_screen.specs.Display.{IsSized};
 

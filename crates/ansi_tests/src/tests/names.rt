@@ -38,6 +38,8 @@ use ansi_style::Color;
 use ansi_style::Hue;
 use ansi_style::Style;
 use ansi_style::Underline;
+use ansi_style::bytes::flag;
+use ansi_style::bytes::kind_number;
 use anstyle_parse::AsciiParser;
 use anstyle_parse::CharAccumulator;
 use anstyle_parse::DefaultCharAccumulator;
@@ -615,6 +617,22 @@ fn names_of_test_streams(rt: HostRuntime) -> Result<(), Fail> {
 
 fn memory(alloc: Global) -> Memory {
     FromWrite::new(Vec::new(alloc))
+}
+
+// By ansi_color of include/ansi_screen.h: one of the 256 is of kind 3.
+#[test]
+fn names_of_bytes(rt: HostRuntime) {
+    assert_eq!(rt; kind_number(&Color::Indexed(7)), 3);
+    let bytes = StyleBytes::of(Style {
+        bold: true,
+        foreground: Color::Bright(Hue::Red),
+        ..Style::default()
+    });
+    assert_eq!(rt; bytes.foreground.kind, 2);
+    assert_eq!(rt; bytes.foreground.values[0], 1);
+    assert_eq!(rt; bytes.bold, 1);
+    assert_eq!(rt; flag(true), 1);
+    assert_eq!(rt; flag(false), 0);
 }
 
 /// What the programs share, which no test runs here: it writes to the standard streams.

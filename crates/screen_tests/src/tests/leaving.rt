@@ -2,8 +2,8 @@
 use super::{assert_same, assert_written};
 use ansi_screen::laws::scrolled_off;
 use ansi_screen::{
-    Cell, LeftOut, Part, Screen, Scrolling, Size, TakeCommand, TakeRow, goes_on, put_cells, used,
-    used_of_written,
+    Cell, LeftOut, Part, Screen, Scrolling, Size, TakeCommand, TakeRow, goes_on, is_ascii_alone,
+    put_cells, used, used_of_written,
 };
 use ansi_style::Style;
 use anstyle_parse::Perform;
@@ -227,7 +227,9 @@ fn laws(_rt: HostRuntime) {
 fn a_writer_that_is_given(rt: HostRuntime) -> Result<(), Fail> {
     let screen = Screen::new(rt.alloc(), 2, 1)?;
     let mut output = Output::new(FromWrite::new(Vec::new(rt.alloc())));
-    put_cells(&mut output, &[Cell::blank(Style::default())]);
+    let blank = Cell::blank(Style::default());
+    assert!(rt; is_ascii_alone(&blank));
+    put_cells(&mut output, &[blank]);
     let performer = ShownWriter::new(screen, TextRows::new(output));
     let mut reader = FromRead::new("\u{6F22}\u{5B57}".as_bytes());
     let (writer, answer) = write_calls_by(performer, &mut reader, b".");

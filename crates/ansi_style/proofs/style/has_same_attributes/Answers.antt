@@ -1,7 +1,7 @@
 -- Joined in another order.
 use Rattle.std.specs.Bool.{beq}
-use Rattle.screen_draw.proofs.AlikeLemmas.{and-of_eight}
-use Rattle.screen_draw.proofs.cells.has_same_flags.Goals as goal
+use Rattle.ansi_style.proofs.EqualityLemmas.{and-of_eight}
+use Rattle.ansi_style.proofs.style.has_same_attributes.Goals as goal
 
 pub returns : goal.returns
 returns c =

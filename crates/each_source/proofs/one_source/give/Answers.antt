@@ -3,7 +3,7 @@ use Rattle.std.proofs.Common.{◌≡◌, true, false, is_some, sym, ap, ◌∙�
 use Rattle.anstyle_parse.specs.Io.Output.{fault_in}
 use Rattle.anstyle_parse.proofs.Written.Output.{None-from_is_some}
 use Rattle.each_source.proofs.ReadLemmas.{passed-on}
-use Rattle.each_source.proofs.reading.give.Goals as goal
+use Rattle.each_source.proofs.one_source.give.Goals as goal
 
 pub returns-then-is_some : goal.returns-then-is_some
 returns-then-is_some g c = record {

@@ -3,7 +3,7 @@ use Rattle.std.proofs.Common.{sym, subst, arith}
 use Rattle.std.specs.Io.KnownBytes.{Consumes}
 use Rattle.std.proofs.KnownBytes.{Consumes-trans}
 use Rattle.each_source.proofs.ReadLemmas.{length-put, front-more}
-use Rattle.each_source.proofs.reading.read_front.Goals as goal
+use Rattle.each_source.proofs.one_source.read_front.Goals as goal
 
 pub count-preserved : goal.count-preserved
 count-preserved g c =

@@ -1,7 +1,7 @@
 -- So many bytes of the front are read.
 use Rattle.std.proofs.Common.{◌≡◌, ◌≤◌, ◌-◌, length, take}
 use Rattle.std.specs.Io.KnownBytes.{Consumes}
-use Rattle.each_source.proofs.reading.read_front.Given as goal
+use Rattle.each_source.proofs.one_source.read_front.Given as goal
 
 abbrev pub invariant-count : goal.invariant-count
 invariant-count g l = record {

@@ -6,9 +6,9 @@ use Rattle.anstyle_parse.specs.Machine.AsRead.{as_read, as_read_whole}
 use Rattle.anstyle_parse.specs.Stream.Calls.{AreCalls}
 use Rattle.anstyle_parse.specs.Views.Accumulator.{front_of}
 use Rattle.anstyle_parse.specs.Views.Parser.{IsAfter}
-use Rattle.each_source.specs.declared.reading.Reached.TheVariants.{End, Failure}
+use Rattle.each_source.specs.declared.one_source.Reached.TheVariants.{End, Failure}
 use Rattle.each_source.proofs.ReadLemmas.{stands-new, received-none, not-over, over-at}
-use Rattle.each_source.proofs.reading.read_to.Goals as goal
+use Rattle.each_source.proofs.one_source.read_to.Goals as goal
 
 pub returns-in-Some : goal.returns-in-Some
 returns-in-Some g c =

@@ -7,7 +7,7 @@ use Rattle.anstyle_parse.specs.Stream.Call.{Call}
 use Rattle.anstyle_parse.specs.Stream.Calls.{AreCalls}
 use Rattle.anstyle_parse.specs.Views.Parser.{IsAfter}
 use Rattle.anstyle_parse.specs.Io.Output.{fault_in}
-use Rattle.each_source.proofs.reading.read_to.Given as goal
+use Rattle.each_source.proofs.one_source.read_to.Given as goal
 
 abbrev pub invariant-loop-turn : goal.invariant-loop-turn
 invariant-loop-turn g l = record {

@@ -9,8 +9,8 @@ use Rattle.anstyle_parse.specs.Machine.Stands.{StandsAfter}
 use Rattle.ansi_html.specs.Html.{Element, element, at_start, standing_at_end, no_element}
 use Rattle.ansi_html.specs.Writer.{kept}
 use Rattle.html_pieces.specs.declared.state.ElementBytes.{ElementBytes}
-use Rattle.html_pieces.specs.declared.style.StyleBytes.{StyleBytes}
-use Rattle.html_pieces.specs.Styles.{is_set, style_of}
+use Rattle.ansi_style.specs.declared.bytes.StyleBytes.{StyleBytes}
+use Rattle.ansi_style.specs.Bytes.{is_set, style_of}
 use Rattle.html_pieces.specs.State.{held_element, zero_style, styling_numbered}
 use Rattle.html_pieces.proofs.StateLemmas.{kept-start}
 use Rattle.html_pieces.proofs.laws.states.Goals as goal

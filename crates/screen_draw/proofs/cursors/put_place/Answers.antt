@@ -4,7 +4,7 @@ use Rattle.std.specs.Prelude.{if◌then◌else◌}
 use Rattle.screen_draw.specs.Draw.{private_mode, position, wrap_calls, charsets_calls, select}
 use Rattle.screen_draw.specs.Drawing.{Draws}
 use Rattle.screen_draw.proofs.DrawLemmas.{draws-append}
-use Rattle.screen_draw.proofs.places.put_place.Goals as goal
+use Rattle.screen_draw.proofs.cursors.put_place.Goals as goal
 
 pub returns : goal.returns
 returns g c =

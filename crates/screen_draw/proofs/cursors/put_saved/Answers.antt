@@ -4,7 +4,7 @@ use Rattle.std.specs.Prelude.{min, ◌==◌}
 use Rattle.screen_draw.specs.Draw.{escape, plain_calls, place_calls, space_if}
 use Rattle.screen_draw.specs.Drawing.{Draws}
 use Rattle.screen_draw.proofs.DrawLemmas.{draws-append}
-use Rattle.screen_draw.proofs.places.put_saved.Goals as goal
+use Rattle.screen_draw.proofs.cursors.put_saved.Goals as goal
 
 pub returns : goal.returns
 returns g c =

@@ -6,7 +6,7 @@ use Rattle.screen_draw.specs.Draw.{sequence, plain_calls, saved_calls, cells_cal
 use Rattle.screen_draw.specs.Drawing.{Draws}
 use Rattle.screen_draw.proofs.BufferLemmas.{saved-row}
 use Rattle.screen_draw.proofs.DrawLemmas.{draws-append}
-use Rattle.screen_draw.proofs.places.put_screen.Goals as goal
+use Rattle.screen_draw.proofs.cursors.put_screen.Goals as goal
 
 pub put_saved-requires-clause-row : goal.put_saved-requires-clause-row
 put_saved-requires-clause-row g c =

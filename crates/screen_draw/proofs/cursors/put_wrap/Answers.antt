@@ -2,7 +2,7 @@
 use Rattle.std.proofs.Common.{[], ◌∷◌}
 use Rattle.screen_draw.specs.Draw.{select, character_calls}
 use Rattle.screen_draw.proofs.DrawLemmas.{draws-append}
-use Rattle.screen_draw.proofs.places.put_wrap.Goals as goal
+use Rattle.screen_draw.proofs.cursors.put_wrap.Goals as goal
 
 pub returns-in-Some : goal.returns-in-Some
 returns-in-Some g c =

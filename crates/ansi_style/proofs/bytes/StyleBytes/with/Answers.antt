@@ -1,6 +1,6 @@
 -- Each field is what its bytes say.
 use Rattle.std.proofs.Common.{refl}
-use Rattle.screen_pieces.proofs.style.StyleBytes.with.Goals as goal
+use Rattle.ansi_style.proofs.bytes.StyleBytes.with.Goals as goal
 
 pub returns : goal.returns
 returns c =

@@ -10,7 +10,7 @@ use Rattle.html_pieces.specs.State.{styling_in, standing_of}
 use Rattle.html_pieces.proofs.LighterLemmas.{length-end_calls}
 use Rattle.html_pieces.proofs.StateLemmas.{AreSound-kept}
 use Rattle.stream_state.specs.Log.{end_calls}
-use Rattle.stream_state.specs.contracts.lent.LentBytesSink.TheImpl.{ghosts}
+use Rattle.stream_state.specs.contracts.bounded_sink.LentBytesSink.TheImpl.{ghosts}
 use Rattle.stream_state.proofs.LentLemmas.{held-all, no_fault-within, put-front, put-behind}
 use Rattle.html_pieces.proofs.state.HtmlState.end.Goals as goal
 

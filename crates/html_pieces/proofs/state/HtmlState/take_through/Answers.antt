@@ -17,7 +17,7 @@ use Rattle.ansi_html.specs.Html.{Standing, html_from, standing_at_end}
 use Rattle.ansi_html.specs.Writer.{output_of, styling_of, standing_of as writer_standing, kept}
 use Rattle.ansi_html.proofs.SoundLemmas.{AreSound}
 use Rattle.ansi_html.proofs.PieceLemmas.{length-html_continued, AreSound-at_end}
-use Rattle.stream_state.specs.contracts.lent.LentBytesSink.TheImpl.{ghosts}
+use Rattle.stream_state.specs.contracts.bounded_sink.LentBytesSink.TheImpl.{ghosts}
 use Rattle.html_pieces.specs.State.{styling_in, standing_of}
 use Rattle.html_pieces.proofs.LighterLemmas.{html-lighter}
 use Rattle.html_pieces.proofs.StateLemmas.{AreSound-kept, kept-sound}

@@ -3,7 +3,7 @@ use Rattle.std.proofs.Common.{◌≡◌, ◌≤◌, Bool, true, false, List, ℕ
 use Rattle.std.specs.Str.{encode_utf8_all}
 use Rattle.anstyle_parse.specs.Io.Output.{writer_in, fault_in}
 use Rattle.stream_state.specs.Log.{end_calls}
-use Rattle.stream_state.specs.contracts.lent.LentBytesSink.TheImpl.{ghosts}
+use Rattle.stream_state.specs.contracts.bounded_sink.LentBytesSink.TheImpl.{ghosts}
 use Rattle.stream_state.proofs.LentLemmas.{held-all, no_fault-within, put-front, put-behind}
 use Rattle.safe_text.specs.Safe.{safe_from}
 use Rattle.safe_text.specs.Marks.{Hiding, marked_from, hiding_from, closing, decided_marked}

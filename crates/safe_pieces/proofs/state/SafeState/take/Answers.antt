@@ -8,7 +8,7 @@ use Rattle.anstyle_parse.specs.Machine.Step.{machine_calls}
 use Rattle.anstyle_parse.specs.Views.Parser.{machine_of}
 use Rattle.anstyle_parse.proofs.Streams.{bytes_below}
 use Rattle.anstyle_parse.specs.Io.Output.{writer_in, fault_in, Finishes}
-use Rattle.stream_state.specs.contracts.lent.LentBytesSink.TheImpl.{ghosts}
+use Rattle.stream_state.specs.contracts.bounded_sink.LentBytesSink.TheImpl.{ghosts}
 use Rattle.stream_state.specs.declared.state.StreamState.{StreamState}
 use Rattle.stream_state.specs.Log.{StandsForLog, ContinuesLog}
 use Rattle.stream_state.specs.State.{pending_of}

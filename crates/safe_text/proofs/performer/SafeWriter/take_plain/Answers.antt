@@ -13,10 +13,10 @@ pub waiting-preserved : goal.waiting-preserved
 waiting-preserved g c =
     let (passed, joined, plain, taken) = c.waiting.invariant in
     let first = c.in-Some.first.now in
-    let behind = c.in-Some.behind.now in
+    let after = c.in-Some.after.now in
     let is = c.in-Some.ensures.cases.0 in (
       passed ++ first ∷ [],
-      joined ∙ (ap (λ l. passed ++ l) is ∙ sym (append_assoc passed (first ∷ []) behind)),
+      joined ∙ (ap (λ l. passed ++ l) is ∙ sym (append_assoc passed (first ∷ []) after)),
       (subst (λ (l : List ℕ). EachIs is_plain l) is plain).1,
       Takes-append g.W.Sink c.args.self.now c.waiting.self c.take.new.self passed (first ∷ []) taken
           (subst (λ n. Takes g.W.Sink c.waiting.self (n ∷ []) c.take.new.self) c.from.ensures c.take.ensures),

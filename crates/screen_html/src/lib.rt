@@ -31,6 +31,7 @@ ghost use Rattle.ansi_screen.specs.After.{new_state};
 ghost use Rattle.screen_text.specs.Shown.{shown_text};
 ghost use Rattle.screen_html.specs.Shown.{shown_styled, left_html, ending_html, shown_html};
 
+mod alike;
 mod blocks;
 pub mod laws;
 mod page;

@@ -4,6 +4,7 @@ ghost use Rattle.ansi_html.specs.Styled.{styled, WritesStyled};
 ghost use Rattle.screen_html.specs.Links.{link_at};
 ghost use Rattle.screen_html.specs.Shown.{IsRun};
 
+use crate::alike::is_alike;
 use crate::table::LinkTable;
 use ansi_html::StyledWriter;
 use ansi_screen::{Cell, is_ascii_alone};
@@ -11,15 +12,6 @@ use anstyle_parse::io::Sink;
 
 /// How many cells are written at once, at most.
 pub(crate) const BLOCK: usize = 128;
-
-/// Whether a cell has the link and the style of another one.
-#[inline(always)]
-fn is_alike(cell: &Cell, other: &Cell) -> bool
-    ensures link { IsTrue result → cell.now.link ≡ other.now.link }
-    ensures style { IsTrue result → cell.now.style ≡ other.now.style }
-{
-    cell.link == other.link && cell.style.is_same(&other.style)
-}
 
 /// Copies into the block the text of the cells at the front, as far as each has one byte and the style and the link of
 /// `first`, and the block has room. It answers how many cells these are.

@@ -9,13 +9,15 @@ import re
 # the text stays (13.1.2.5). `viewport` keeps a phone from drawing it at a desk's width,
 # `color-scheme` has it light or dark as its reader has all else (CSS Color Adjustment, 2.1), and
 # `pre-wrap` and `anywhere` wrap long lines (CSS Text (level 3), 3 and 5.5).
-PAGE_HEAD = b"""\
+HEAD_BEGIN = b"""\
 <!DOCTYPE html>
 <html lang="en">
 <head>
 <meta charset="utf-8">
 <meta name="viewport" content="width=device-width">
 <title>Terminal output</title>
+"""
+PAGE_HEAD = HEAD_BEGIN + b"""\
 <style>
 :root { color-scheme: light dark; }
 pre { white-space: pre-wrap; overflow-wrap: anywhere; }
@@ -36,13 +38,7 @@ TITLED_HEAD = PAGE_HEAD.replace(b"Terminal output", b"a&lt;b&gt;&amp;&quot;&#39;
 
 # A page whose rules are in a stylesheet elsewhere.
 ADDRESS = "a.css?b=\"><'&c"
-LINKED_HEAD = b"""\
-<!DOCTYPE html>
-<html lang="en">
-<head>
-<meta charset="utf-8">
-<meta name="viewport" content="width=device-width">
-<title>Terminal output</title>
+LINKED_HEAD = HEAD_BEGIN + b"""\
 <meta name="color-scheme" content="light dark">
 <link rel="stylesheet" href="a.css?b=&quot;&gt;&lt;&#39;&amp;c">
 </head>

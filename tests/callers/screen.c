@@ -74,32 +74,51 @@ static void feed_text(ansi_screen *screen, const char *text)
     expect(feed(screen, (const unsigned char *)text, strlen(text)), "bytes are taken");
 }
 
-/* All text is this, also by one byte at a time, and in a room of just so many bytes; one less is refused. */
-static void shows(ansi_screen *screen, const char *wanted, const char *what)
+/* What a screen is asked for: all of its text, that of a row or of one that left, the URI of a link, its HTML in a styling. */
+enum asked { TEXT, ROW, KEPT, LINK, HTML };
+
+static bool answers(enum asked what, ansi_screen *screen, size_t number, unsigned char *room, size_t size, size_t *written)
+{
+    switch (what) {
+    case TEXT: return text_of(screen, room, size, written);
+    case ROW: return row_text(screen, number, room, size, written);
+    case KEPT: return kept_text(screen, number, room, size, written);
+    case LINK: return link_of(screen, (uint32_t)number, room, size, written);
+    case HTML: return html_of(screen, (unsigned char)number, room, size, written);
+    }
+    return false;
+}
+
+/* The answer is this text: in a room of this size, and in one of just so many bytes, and past it each is as it was. One byte less is
+ * told, with what it takes, and so is no room at all. */
+static void answer_is(enum asked asked, ansi_screen *screen, size_t number, size_t size, const char *wanted, const char *what)
 {
     unsigned char room[ROOM];
-    size_t length = strlen(wanted), written = 7;
+    size_t length = strlen(wanted), written;
+    int turn;
 
-    memset(room, GUARD, sizeof room);
-    expect(text_of(screen, room, length, &written) && written == length && !memcmp(room, wanted, length), what);
-    expect(are(room + length, sizeof room - length, GUARD), "past the text the room is as it was");
-    if (length) {
-        expect(!text_of(screen, room, length - 1, &written) && written == length, "a byte less is told, with what it takes");
-        expect(room[length] == GUARD, "and nothing stands past the room");
-        expect(!text_of(screen, room, 0, &written) && written == length, "no room at all too");
+    for (turn = 0; turn < 2; turn++) {
+        memset(room, GUARD, sizeof room);
+        written = 7;
+        expect(answers(asked, screen, number, room, turn ? length : size, &written) && written == length, what);
+        expect(!memcmp(room, wanted, length), what);
+        expect(are(room + length, sizeof room - length, GUARD), "past what is written the room is as it was");
     }
+    if (length) {
+        expect(!answers(asked, screen, number, room, length - 1, &written) && written == length, "a byte less is told, with what it takes");
+        expect(room[length] == GUARD, "and nothing stands past the room");
+        expect(!answers(asked, screen, number, room, 0, &written) && written == length, "no room at all too");
+    }
+}
+
+static void shows(ansi_screen *screen, const char *wanted, const char *what)
+{
+    answer_is(TEXT, screen, 0, ROOM, wanted, what);
 }
 
 static void row_is(ansi_screen *screen, size_t row, const char *wanted, const char *what)
 {
-    unsigned char room[ROOM];
-    size_t length = strlen(wanted), written = 7;
-
-    memset(room, GUARD, sizeof room);
-    expect(row_text(screen, row, room, length, &written) && written == length && !memcmp(room, wanted, length), what);
-    expect(are(room + length, sizeof room - length, GUARD), "past the row's text the room is as it was");
-    if (length)
-        expect(!row_text(screen, row, room, length - 1, &written) && written == length, "a byte less is told of a row too");
+    answer_is(ROW, screen, row, ROOM, wanted, what);
 }
 
 static void part_is(ansi_screen *screen, size_t row, size_t start, size_t end, const char *wanted)
@@ -484,14 +503,7 @@ static bool counts_are(ansi_screen *screen, size_t kept, size_t left)
 
 static void kept_is(ansi_screen *screen, size_t number, const char *wanted)
 {
-    unsigned char room[ROOM];
-    size_t length = strlen(wanted), written = 7;
-
-    memset(room, GUARD, sizeof room);
-    expect(kept_text(screen, number, room, length, &written) && written == length && !memcmp(room, wanted, length), wanted);
-    expect(are(room + length, sizeof room - length, GUARD), "past the text of a row that left the room is as it was");
-    if (length)
-        expect(!kept_text(screen, number, room, length - 1, &written) && written == length, "a byte less is told of it too");
+    answer_is(KEPT, screen, number, ROOM, wanted, wanted);
 }
 
 static ansi_screen opened_with(size_t columns, size_t rows, size_t history)
@@ -560,16 +572,10 @@ static void rows_that_left(void)
     close_screen(&it);
 }
 
+/* (the room that the header tells is enough for any link) */
 static void link_is(ansi_screen *screen, uint32_t number, const char *wanted)
 {
-    unsigned char room[ANSI_SCREEN_LINK_ROOM];
-    size_t length = strlen(wanted), written = 7;
-
-    memset(room, GUARD, sizeof room);
-    expect(link_of(screen, number, room, length, &written) && written == length && !memcmp(room, wanted, length), wanted);
-    expect(are(room + length, sizeof room - length, GUARD), "past a URI the room is as it was");
-    if (length)
-        expect(!link_of(screen, number, room, length - 1, &written) && written == length, "a byte less is told of it");
+    answer_is(LINK, screen, number, ANSI_SCREEN_LINK_ROOM, wanted, wanted);
 }
 
 /* Links by the numbers that cells have: the last 1,024, and those alone that are shown. The parser stores 1,023 bytes of a command
@@ -627,15 +633,7 @@ static void links(void)
 
 static void html_is(ansi_screen *screen, unsigned char styling, const char *wanted)
 {
-    unsigned char room[ROOM];
-    size_t length = strlen(wanted), written = 7;
-
-    memset(room, GUARD, sizeof room);
-    expect(html_of(screen, styling, room, sizeof room, &written) && written == length && !memcmp(room, wanted, length), wanted);
-    expect(are(room + length, sizeof room - length, GUARD), "past the HTML the room is as it was");
-    expect(html_of(screen, styling, room, length, &written) && written == length, "it fits where it just fits");
-    if (length)
-        expect(!html_of(screen, styling, room, length - 1, &written) && written == length, "a byte less is told of HTML");
+    answer_is(HTML, screen, styling, ROOM, wanted, wanted);
 }
 
 /* What shows as HTML: the lines, each in its styles and links. */

@@ -112,24 +112,27 @@ static void little_room_is_refused(void)
     expect(goes_on("x", ANSI_SAFE_LEAST_ROOM) && taken == 1 && is_written("<U+000D>x"), "the least room suffices");
 }
 
-/* One byte that breaks a character off, behind a carriage return: as much as a byte is thought to lead to, or nearly so. */
+/* One byte that breaks a character off, behind a carriage return, or the end: as much as a byte is thought to lead to, or nearly so.
+ * What begins the character, what is written of it, the byte, or none at the end, and what that leads to. */
 static void one_byte_leads_to_much(void)
 {
-    init(&it.state);
-    expect(goes_on("\r\xF0\x9F\x91", SIZE) && is_written(""), "a character is begun");
-    expect(goes_on("\a", ANSI_SAFE_LEAST_ROOM) && is_written("<U+000D>\xEF\xBF\xBD<U+0007>"), "nineteen bytes of one");
-    init(&it.state);
-    expect(goes_on("<\xC3", SIZE) && is_written(""), "a character is begun behind a less sign");
-    expect(goes_on("\xFC", ANSI_SAFE_LEAST_ROOM) && is_written("<\xEF\xBF\xBD\xEF\xBF\xBD"), "it is broken by a byte of none");
-    init(&it.state);
-    expect(goes_on("\033_t\a\r\xE2\x82", SIZE) && is_written(""), "BEL ends a string");
-    expect(ends(ANSI_SAFE_END_ROOM) && is_written("<U+000D>\xEF\xBF\xBD"), "a character is broken off at the end");
-    init(&it.state);
-    expect(goes_on("<U\xF3\xA0\x81", SIZE) && is_written(""), "a tag is begun");
-    expect(goes_on("\x81", ANSI_SAFE_LEAST_ROOM) && is_written("<U<U+E0041>"), "and written");
-    init(&it.state);
-    expect(goes_on("a\r\033[8m\xE2\x82", SIZE) && is_written("a"), "a character is begun that is hidden");
-    expect(ends(ANSI_SAFE_END_ROOM) && is_written("<U+000D><U+hidden>\xEF\xBF\xBD<U+shown>"), "thirty bytes at the end");
+    static const char *const rows[][5] = {
+        {"nineteen bytes of one", "\r\xF0\x9F\x91", "", "\a", "<U+000D>\xEF\xBF\xBD<U+0007>"},
+        {"a byte of none behind a less sign", "<\xC3", "", "\xFC", "<\xEF\xBF\xBD\xEF\xBF\xBD"},
+        {"BEL ends a string", "\033_t\a\r\xE2\x82", "", "", "<U+000D>\xEF\xBF\xBD"},
+        {"a tag is written", "<U\xF3\xA0\x81", "", "\x81", "<U<U+E0041>"},
+        {"thirty bytes at the end", "a\r\033[8m\xE2\x82", "a", "", "<U+000D><U+hidden>\xEF\xBF\xBD<U+shown>"},
+    };
+    size_t at;
+
+    for (at = 0; at < sizeof rows / sizeof *rows; at++) {
+        const char *name = rows[at][0], *byte = rows[at][3];
+
+        init(&it.state);
+        expect(goes_on(rows[at][1], SIZE) && is_written(rows[at][2]), name);
+        expect(*byte ? goes_on(byte, ANSI_SAFE_LEAST_ROOM) : ends(ANSI_SAFE_END_ROOM), name);
+        expect(is_written(rows[at][4]), name);
+    }
 }
 
 /* In room for what they may lead to all bytes are taken at once, and at least one in the least room. */

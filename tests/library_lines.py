@@ -17,9 +17,7 @@ DOTS = [b"one...", b"three..."]
 
 def lines_text(stream):
     """What ansi2text --lf writes."""
-    done = run(["%s/crates/ansi2text/out/ansi2text" % ROOT, "--lf"], stream)
-    done.check_returncode()
-    return done.stdout
+    return output_of("ansi2text", stream, "--lf")
 
 
 def in_pieces(ansi, cut):
@@ -29,7 +27,7 @@ def in_pieces(ansi, cut):
 def line_cases(ansi):
     yield from worked_cases(ansi)
     yield from cut_cases(ansi)
-    yield from beside_cases(ansi)
+    yield from stream_cases(ansi)
     yield from kind_cases(ansi)
 
 
@@ -63,17 +61,11 @@ def cut_cases(ansi):
     yield "lf: a stream beside ansi2text --lf, at each cut", wrong
 
 
-def beside_cases(ansi):
+def stream_cases(ansi):
     pick = random.Random(29)
     generated = b"".join(pick.choice(PARTS) for _ in range(20_000))
-    for kind, stream in [*streams(), ("generated", generated), ("long lines", 3 * (70_000 * b"x" + b"\r\n") + b"\r")]:
-        wanted = lines_text(stream)
-        yield "lf: %s at once" % kind, first_difference(ansi.strip(stream, lf=True), wanted)
-        for size in SIZES:
-            yield "lf: %s in pieces of %d" % (kind, size), first_difference(in_pieces(ansi, pieces(stream, size)), wanted)
-        cut = [it for it in pieces(stream, 4096) for it in pieces(it, pick.randint(1, 4096))]
-        parts = [it.decode(errors="replace").encode() for it in ansi.text_of(cut, lf=True)]
-        yield "lf: %s in random pieces, each part is UTF-8" % kind, first_difference(b"".join(parts), wanted)
+    kinds = [*streams(), ("generated", generated), ("long lines", 3 * (70_000 * b"x" + b"\r\n") + b"\r")]
+    yield from beside_cases(ansi, "lf", kinds, SIZES, pick, lines_text)
 
 
 def kind_cases(ansi):

@@ -45,14 +45,7 @@ def stream_cases(ansi):
     """Streams in pieces of each size, and cut at random, beside ansi2text --safe; each part is UTF-8 by itself."""
     pick = random.Random(11)
     generated = b"".join(pick.choice(PARTS) for _ in range(20_000))
-    for kind, stream in [*streams(), ("generated", generated)]:
-        wanted = safe_of(stream)
-        yield "safe: %s at once" % kind, first_difference(ansi.strip(stream, safe=True), wanted)
-        for size in SIZES:
-            yield "safe: %s in pieces of %d" % (kind, size), first_difference(in_pieces(ansi, stream, size), wanted)
-        cut = [it for it in pieces(stream, 4096) for it in pieces(it, pick.randint(1, 4096))]
-        parts = [it.decode(errors="replace").encode() for it in ansi.text_of(cut, safe=True)]
-        yield "safe: %s in random pieces, each part is UTF-8" % kind, first_difference(b"".join(parts), wanted)
+    yield from beside_cases(ansi, "safe", [*streams(), ("generated", generated)], SIZES, pick, safe_of)
     for length in range(1, 6):  # (short streams of such parts are all kinds of cuts)
         wrong = None
         for _ in range(400):

@@ -132,11 +132,16 @@ def streams():
     yield "characters that are broken, the longest text", b"\xf0" * 4096 + b"a" + b"\xf0\x9f\x98" * 2000
 
 
+def output_of(program, stream, *words):
+    """What a program writes of a stream, with these words."""
+    done = run(["%s/crates/%s/out/%s" % (ROOT, program, program), *words], stream)
+    done.check_returncode()
+    return done.stdout
+
+
 def stripped_of(stream):
     """The stripped text of a stream, by the calls that parselog writes: with DEL and U+0080 to U+009F."""
-    done = run(["%s/crates/parselog/out/parselog" % ROOT], stream)
-    done.check_returncode()
-    return pages.text_of(done.stdout)
+    return pages.text_of(output_of("parselog", stream))
 
 
 def text_of(stream):
@@ -146,17 +151,13 @@ def text_of(stream):
 
 def safe_of(stream):
     """What ansi2text --safe writes."""
-    done = run(["%s/crates/ansi2text/out/ansi2text" % ROOT, "--safe"], stream)
-    done.check_returncode()
-    return done.stdout
+    return output_of("ansi2text", stream, "--safe")
 
 
 def html_of(stream, styling="both"):
     """What ansi2html writes in a styling."""
     words = ["--fragment"] if styling == "both" else ["--fragment", "--" + styling]
-    done = run(["%s/crates/ansi2html/out/ansi2html" % ROOT, *words], stream)
-    done.check_returncode()
-    return done.stdout
+    return output_of("ansi2html", stream, *words)
 
 
 def printed_of(stream):
@@ -173,6 +174,21 @@ def first_difference(found, wanted):
         return None
     at = next((at for at, (a, b) in enumerate(zip(found, wanted)) if a != b), min(len(found), len(wanted)))
     return "%d bytes, and not %d; byte %d is the first that differs" % (len(found), len(wanted), at)
+
+
+def beside_cases(ansi, name, kinds, sizes, pick, wanted_of):
+    """Streams, each with its kind, beside what a program writes of them, where an option of `strip` and `text_of` is taken: at once, in
+    pieces of each size, and cut at random, where each part of the text is UTF-8 by itself."""
+    option = {name: True}
+    for kind, stream in kinds:
+        wanted = wanted_of(stream)
+        yield "%s: %s at once" % (name, kind), first_difference(ansi.strip(stream, **option), wanted)
+        for size in sizes:
+            found = b"".join(ansi.text_of(pieces(stream, size), **option))
+            yield "%s: %s in pieces of %d" % (name, kind, size), first_difference(found, wanted)
+        cut = [it for it in pieces(stream, 4096) for it in pieces(it, pick.randint(1, 4096))]
+        parts = [it.decode(errors="replace").encode() for it in ansi.text_of(cut, **option)]
+        yield "%s: %s in random pieces, each part is UTF-8" % (name, kind), first_difference(b"".join(parts), wanted)
 
 
 def option_cases(ansi, name, given, cut, wanted):

@@ -21,6 +21,21 @@ fn nowhere(_: &[u8]) -> Result<(), Infallible> {
     Ok(())
 }
 
+/// In pieces of each size a stream becomes the same text, at the end of which a stream begins. (Both strippers have these calls, and no
+/// trait has.)
+macro_rules! assert_however_it_is_cut {
+    ($stripper:expr, $stream:expr, $wanted:expr) => {
+        for size in 1..=$stream.len() {
+            let mut text = Vec::new();
+            for piece in $stream.chunks(size) {
+                $stripper.strip(piece, into(&mut text)).unwrap();
+            }
+            $stripper.end(into(&mut text)).unwrap();
+            assert_eq!(text, $wanted.as_bytes(), "in pieces of {size}");
+        }
+    };
+}
+
 fn csi(parameters: &[&[u16]], action: u8) -> Event {
     Event::Csi(Sequence {
         parameters: parameters.iter().map(|group| group.to_vec()).collect(),
@@ -84,14 +99,7 @@ fn lines_however_they_are_cut() {
     assert_eq!(strip_lf("a\r\n\r"), "a\n\r");
     assert_eq!(strip("a\r\n"), "a\r\n");
     let mut stripper = Stripper::lf();
-    for size in 1..=stream.len() {
-        let mut text = Vec::new();
-        for piece in stream.chunks(size) {
-            stripper.strip(piece, into(&mut text)).unwrap();
-        }
-        stripper.end(into(&mut text)).unwrap();
-        assert_eq!(text, wanted.as_bytes(), "in pieces of {size}");
-    }
+    assert_however_it_is_cut!(stripper, stream, wanted);
     let mut text = Vec::new();
     stripper.strip(b"a\r", into(&mut text)).unwrap();
     assert_eq!(text, b"a");
@@ -113,14 +121,7 @@ fn safe_text_however_it_is_cut() {
         "\u{1f468}\u{200d}\u{1f469}<U+200D>a<U+003C>U+<U\n<U<U+000D><U+hidden>b<U+shown>c<U+hidden>d<U+shown>",
     );
     let mut stripper = SafeStripper::default();
-    for size in 1..=stream.len() {
-        let mut text = Vec::new();
-        for piece in stream.as_bytes().chunks(size) {
-            stripper.strip(piece, into(&mut text)).unwrap();
-        }
-        stripper.end(into(&mut text)).unwrap();
-        assert_eq!(text, wanted.as_bytes(), "in pieces of {size}");
-    }
+    assert_however_it_is_cut!(stripper, stream.as_bytes(), wanted);
     let mut text = Vec::new();
     stripper.strip(b"a<", into(&mut text)).unwrap();
     assert_eq!(text, b"a");

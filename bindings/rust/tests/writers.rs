@@ -23,12 +23,17 @@ impl Write for Full {
     }
 }
 
+/// Writes the pieces, of which each is taken whole.
+fn write_each(writer: &mut impl Write, pieces: &[&[u8]]) {
+    for piece in pieces {
+        assert_eq!(writer.write(piece).unwrap(), piece.len());
+    }
+}
+
 #[test]
 fn text_goes_on() {
     let mut writer = StripWriter::new(Vec::new());
-    for piece in [&b"\x1b[3"[..], b"1mre", b"d\xe2\x82", b"\xac"] {
-        assert_eq!(writer.write(piece).unwrap(), piece.len());
-    }
+    write_each(&mut writer, &[b"\x1b[3", b"1mre", b"d\xe2\x82", b"\xac"]);
     writer.flush().unwrap();
     assert_eq!(writer.get_ref(), "red\u{20ac}".as_bytes());
     writer.get_mut().clear();
@@ -38,9 +43,7 @@ fn text_goes_on() {
     writer.write_all(b"a\xe2\x82").unwrap();
     assert_eq!(writer.finish().unwrap(), "a\u{fffd}".as_bytes());
     let mut writer = StripWriter::lf(Vec::new());
-    for piece in [&b"a\r"[..], b"\nb\r", b"c\r"] {
-        assert_eq!(writer.write(piece).unwrap(), piece.len());
-    }
+    write_each(&mut writer, &[b"a\r", b"\nb\r", b"c\r"]);
     assert_eq!(writer.get_ref(), b"a\nb\rc");
     assert_eq!(writer.finish().unwrap(), b"a\nb\rc\r");
 }
@@ -56,9 +59,7 @@ fn html_goes_on_and_is_closed() {
 #[test]
 fn safe_text_goes_on_and_ends() {
     let mut writer = SafeWriter::new(Vec::new());
-    for piece in [&b"a\x07<"[..], b"U+", b"\xe2\x80", b"\xae\r"] {
-        assert_eq!(writer.write(piece).unwrap(), piece.len());
-    }
+    write_each(&mut writer, &[b"a\x07<", b"U+", b"\xe2\x80", b"\xae\r"]);
     writer.flush().unwrap();
     assert_eq!(writer.get_ref(), b"a<U+0007><U+003C>U+<U+202E>");
     writer.get_mut().clear();

@@ -1,3 +1,4 @@
+pub mod PackedLemmas
 pub mod CellLemmas
 pub mod RunLemmas
 pub mod PrintedLemmas

@@ -1,3 +1,7 @@
+pub mod Cell
+pub mod Packed
+pub mod PackedProof
+pub mod CellFields
 pub mod Cells
 pub mod Display
 pub mod Damage

@@ -1,4 +1,3 @@
-pub mod AlikeLemmas
 pub mod RowLemmas
 pub mod ShownLemmas
 pub mod HandedLemmas

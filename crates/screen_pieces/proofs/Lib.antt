@@ -1,3 +1,4 @@
+pub mod StyleLemmas
 pub mod FeedLemmas
 pub mod CopyLemmas
 pub mod SendLemmas

@@ -56,14 +56,7 @@ fn a_new_screen(rt: HostRuntime) -> Result<(), Fail> {
 
 /// One column of one character, with no marks.
 fn cell(character: char, style: Style, part: Part) -> Cell {
-    Cell {
-        character,
-        marks: Marks::Unmarked,
-        style,
-        part,
-        link: 0,
-        goes_on: false,
-    }
+    Cell::printed(character, style, 0, part)
 }
 
 /// A row has this cell in a column.
@@ -142,14 +135,7 @@ fn bold() -> Style {
 
 /// The second cell after it: a line that is drawn, with a mark.
 fn marked() -> Cell {
-    Cell {
-        character: '│',
-        marks: Marks::One('\u{301}'),
-        style: bold(),
-        part: Part::Whole,
-        link: 0,
-        goes_on: false,
-    }
+    cell('│', bold(), Part::Whole).with_mark('\u{301}')
 }
 
 /// The cursor after it.

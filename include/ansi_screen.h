@@ -120,7 +120,7 @@ typedef struct ansi_modes {
 
 /* What a screen keeps beside what it shows, in 64 bytes: zero bytes are nothing (`= {0}` in C, `= {}` in C++). */
 typedef struct ansi_screen_options {
-    size_t history;     /* so many of the last rows that leave it, of about 24 bytes a cell */
+    size_t history;     /* so many of the last rows that leave it, of about 40 bytes a cell */
     size_t reserved[7]; /* 0 */
 } ansi_screen_options;
 

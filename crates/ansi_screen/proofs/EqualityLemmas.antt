@@ -1,19 +1,9 @@
 -- `==` of cells and of places is equality.
-use Rattle.std.proofs.Common.{◌≡◌, ◌↔◌, Bool, true, false, eqb, refl, ap, subst, IsTrue, rules}
+use Rattle.std.proofs.Common.{◌≡◌, ◌↔◌, Bool, true, false, eqb, refl, subst, IsTrue, rules}
 use Rattle.std.specs.Bool.{beq}
-use Rattle.std.proofs.lemmas.Bool.{and_parts, and_from, eqb-true}
+use Rattle.std.proofs.lemmas.Bool.{and_parts, eqb-true}
 use denote.Enum.Bare.{sameb, same_true}
-use Rattle.std.specs.Prelude.{ℕ, nat_eq, Option, None, Some}
-use Rattle.std.specs.Option.{option_eq}
 use Rattle.ansi_style.proofs.EqualityLemmas.{equality as equal_styles}
-use Rattle.ansi_style.specs.declared.style.Style.{Style}
-use Rattle.ansi_style.specs.declared.style.Color.{Color}
-use Rattle.ansi_style.specs.declared.style.Underline.{Underline}
-use Rattle.ansi_style.specs.Style.{plain}
-use Rattle.ansi_style.specs.contracts.style.ColorPartialEq.TheImpl.{ghosts as color_ghosts}
-use Rattle.ansi_style.specs.contracts.style.StylePartialEq.TheImpl.{ghosts as style_ghosts}
-use Rattle.ansi_screen.specs.Cell.{Attributes, attributes_of, attributes_number, Shape, shape, shape_number, first_mark, second_mark}
-use Rattle.ansi_screen.proofs.PackedLemmas.{attributes-by_number, shape-by_number}
 use Rattle.ansi_screen.specs.declared.cell.Cell.{Cell}
 use Rattle.ansi_screen.specs.declared.cell.Marks.{Marks}
 use Rattle.ansi_screen.specs.declared.cell.Marks.TheVariants.{Unmarked, One, Two}
@@ -45,50 +35,6 @@ marks_same (Two a b) (Two c d) h =
     cc
 marks_same x y h = cc
 
--- marks are equal if the first and the second are
-mark_same : (x y : Option ℕ) → option_eq nat_eq x y ≡ true → x ≡ y
-mark_same None None h = refl
-mark_same (Some x) (Some y) h = ap Some (eqb-true x y h)
-mark_same x y h = cc
-
-marks_by_two : (x y : Marks) → first_mark x ≡ first_mark y → second_mark x ≡ second_mark y → x ≡ y
-marks_by_two Unmarked Unmarked first second = refl
-marks_by_two (One a) (One b) first second = cc
-marks_by_two (Two a b) (Two c d) first second = cc
-marks_by_two x y first second = cc
-
--- a style of one colour
-abbrev colored : Color → Style
-colored color = record plain { foreground = color }
-
-color_same : (x y : Color) → color_ghosts.eq x y ≡ true → x ≡ y
-color_same x y h =
-    let same : IsTrue (style_ghosts.eq (colored x) (colored y)) = and_from _ _ h refl in
-    ap (λ (s : Style). s.foreground) ((equal_styles (colored x) (colored y)).0 same)
-
--- a style by its colours, its underline and its attributes
-abbrev styled : Color → Color → Underline → Attributes → Style
-styled foreground background underline attributes = record {
-  foreground = foreground;
-  background = background;
-  underline = underline;
-  bold = attributes.bold;
-  dim = attributes.dim;
-  italic = attributes.italic;
-  blink = attributes.blink;
-  reverse = attributes.reverse;
-  hidden = attributes.hidden;
-  struck_out = attributes.struck_out;
-  overlined = attributes.overlined;
-}
-
-style_by_parts : (a b : Style) → a.foreground ≡ b.foreground → a.background ≡ b.background
-    → a.underline ≡ b.underline → attributes_of a ≡ attributes_of b → a ≡ b
-style_by_parts a b foreground background underline attributes =
-    let same : styled a.foreground a.background a.underline (attributes_of a)
-    ≡ styled b.foreground b.background b.underline (attributes_of b) = cc in
-    same
-
 -- a cell by its fields
 abbrev made_of : Cell → Cell
 made_of cell = record {
@@ -106,9 +52,6 @@ cell_of_fields a b character link marks style part goes_on =
     let same : made_of a ≡ made_of b = cc in
     same
 
-abbrev shape_in_cell : Cell → Shape
-shape_in_cell cell = shape cell.style.underline cell.part cell.goes_on
-
 cell_same : (a b : Cell) → cell_ghosts.eq a b ≡ true → a ≡ b
 cell_same a b same =
     let h0 = and_parts _ _ same in
@@ -116,18 +59,9 @@ cell_same a b same =
     let h2 = and_parts _ _ h1.1 in
     let h3 = and_parts _ _ h2.1 in
     let h4 = and_parts _ _ h3.1 in
-    let h5 = and_parts _ _ h4.1 in
-    let h6 = and_parts _ _ h5.1 in
-    let attributes = attributes-by_number (attributes_of a.style) (attributes_of b.style)
-    (eqb-true (attributes_number (attributes_of a.style)) (attributes_number (attributes_of b.style)) h4.0) in
-    let shapes = shape-by_number (shape_in_cell a) (shape_in_cell b)
-    (eqb-true (shape_number (shape_in_cell a)) (shape_number (shape_in_cell b)) h5.0) in
-    let style = style_by_parts a.style b.style (color_same a.style.foreground b.style.foreground h2.0)
-    (color_same a.style.background b.style.background h3.0) (ap (λ (s : Shape). s.underline) shapes) attributes in
-    let marks = marks_by_two a.marks b.marks (mark_same (first_mark a.marks) (first_mark b.marks) h6.0)
-    (mark_same (second_mark a.marks) (second_mark b.marks) h6.1) in
-    cell_of_fields a b (eqb-true a.character b.character h0.0) (eqb-true a.link b.link h1.0) marks style
-    (ap (λ (s : Shape). s.part) shapes) (ap (λ (s : Shape). s.goes_on) shapes)
+    cell_of_fields a b (eqb-true a.character b.character h0.0) (eqb-true a.link b.link h1.0)
+    (marks_same a.marks b.marks h2.0) ((equal_styles a.style b.style).0 h3.0) (part_same a.part b.part h4.0)
+    (flag_same a.goes_on b.goes_on h4.1)
 
 pub equal_cells : (a b : Cell) → (IsTrue (cell_ghosts.eq a b) ↔ (a ≡ b))
 equal_cells a b = (cell_same a b, λ e. subst (λ x. IsTrue (cell_ghosts.eq a x)) e (cell_laws.refl a))

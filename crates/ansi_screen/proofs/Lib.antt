@@ -1,4 +1,3 @@
-pub mod PackedLemmas
 pub mod CellLemmas
 pub mod RunLemmas
 pub mod PrintedLemmas

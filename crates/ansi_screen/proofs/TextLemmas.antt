@@ -5,7 +5,7 @@ use Rattle.std.specs.List.{flat_map}
 use Rattle.std.proofs.lemmas.Bool.{ne_eqb}
 use Rattle.std.proofs.lemmas.Grind.{flat_map-append}
 use Rattle.std.proofs.Math.Seq.{take-append-add}
-use Rattle.std.proofs.lemmas.List.{get_or_default, take_more, length-take-le, length-append, length-drop, nil_from_length, flat_map_more, append_assoc, append-nil}
+use Rattle.std.proofs.lemmas.List.{take_more, length-take-le, length-append, length-drop, nil_from_length, flat_map_more, append_assoc, append-nil}
 use borrow.Rule.Slice.PartMut.{put_mid}
 use Rattle.anstyle_parse.specs.declared.io.devices.Sink.{Ghosts as SinkOf}
 use Rattle.anstyle_parse.specs.declared.io.output.Output.{Output}
@@ -21,11 +21,6 @@ use Rattle.ansi_screen.specs.Cells.{blank, is_right}
 use Rattle.ansi_screen.specs.Grid.{IsBlankFrom}
 use Rattle.ansi_screen.specs.Display.{Display, row_cells}
 use Rattle.ansi_screen.specs.Text.{is_blank, is_unprinted, left_out, used, marks_text, is_unmarked, cell_text, row_text, rows_text}
-
--- a test of a cell that was read, whatever is read past the end
-pub at-place : (test : Cell → Bool) (cells : List Cell) (i : ℕ) (cell d : Cell) → i < length cells → cell ≡ get_or cells i cell
-    → test cell ≡ true → test (get_or cells i d) ≡ true
-at-place test cells i cell d inside is so = ap test (sym (is ∙ get_or_default cells i cell d inside)) ∙ so
 
 -- one cell more, which is left out at the end, or is not
 module _ (is_left_out : Cell → Bool) where

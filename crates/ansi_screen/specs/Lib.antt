@@ -1,7 +1,3 @@
-pub mod Cell
-pub mod Packed
-pub mod PackedProof
-pub mod CellFields
 pub mod Cells
 pub mod Display
 pub mod Damage

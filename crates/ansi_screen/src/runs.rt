@@ -141,7 +141,7 @@ pub(crate) fn mark_before(cells: &mut [Cell], place: usize, mark: char)
 pub fn goes_on(row: &[Cell]) -> bool
     ensures { result ≡ goes_on row.now }
 {
-    !row.is_empty() && row[row.len() - 1].goes_on()
+    !row.is_empty() && row[row.len() - 1].goes_on
 }
 
 /// Says whether the row that ends at `end` goes on in the next.
@@ -152,7 +152,7 @@ pub(crate) fn set_goes_on(cells: &mut [Cell], end: usize, on: bool)
     ensures set { cells.new ≡ going_on on end cells.old }
     ensures length { length cells.new ≡ length cells.old }
 {
-    cells[end - 1] = cells[end - 1].going_on(on);
+    cells[end - 1].goes_on = on;
 }
 
 /// A character of so many columns, in a link or in none.
@@ -239,7 +239,6 @@ fn fill_by_copies(cells: &mut [Cell], run: &[u8], style: Style, link: u32)
 {
     clear(cells, Cell::printed(' ', style, link, Part::Whole));
     for (i, byte) in run.iter().enumerate() {
-        let cell = &mut cells[i];
-        cell.set_character(char::from(*byte));
+        cells[i].character = char::from(*byte);
     }
 }

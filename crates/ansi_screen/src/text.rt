@@ -21,7 +21,7 @@ const LONGEST: usize = 4;
 fn is_blank(cell: Cell) -> bool
     ensures { result ≡ is_blank cell }
 {
-    cell.character() == ' ' && !cell.is_right() && cell.is_unmarked()
+    cell.character == ' ' && !cell.is_right() && matches!(cell.marks, Marks::Unmarked)
 }
 
 /// Whether nothing was printed there, or what was is erased.
@@ -29,7 +29,7 @@ fn is_blank(cell: Cell) -> bool
 fn is_unprinted(cell: Cell) -> bool
     ensures { result ≡ is_unprinted cell }
 {
-    matches!(cell.part(), Part::Empty) && cell.is_unmarked()
+    matches!(cell.part, Part::Empty) && matches!(cell.marks, Marks::Unmarked)
 }
 
 /// What is left out at the end of a row.
@@ -125,8 +125,8 @@ fn put_cell<W: Sink>(output: &mut Output<W>, cell: Cell)
     ensures { Adds W.Sink (cell_text cell) output.old output.new }
 {
     if !cell.is_right() {
-        output.put_char(cell.character());
-        put_marks(output, cell.marks());
+        output.put_char(cell.character);
+        put_marks(output, cell.marks);
     }
 }
 
@@ -171,7 +171,7 @@ pub fn is_ascii_alone(cell: &Cell) -> bool
     ensures text { IsTrue result → cell_text cell.now ≡ cell.now.character ∷ [] }
     ensures low { IsTrue result → cell.now.character < 0x80 }
 {
-    cell.character().is_ascii() && !cell.is_right() && cell.is_unmarked()
+    cell.character.is_ascii() && !cell.is_right() && matches!(cell.marks, Marks::Unmarked)
 }
 
 /// Copies the text of the cells at the front that have one byte each into the block, as far as it has room, and answers
@@ -188,7 +188,7 @@ fn copy_ascii(cells: &[Cell], block: &mut [u8; BLOCK]) -> usize
         if !is_ascii_alone(cell) {
             return i;
         }
-        block[i] = cell.character() as u8;
+        block[i] = cell.character as u8;
     }
     count
 }
@@ -204,12 +204,20 @@ fn copy_others(cells: &[Cell], block: &mut [u8; BLOCK]) -> (usize, usize)
     let mut filled = 0;
     for i in 0..count {
         let cell = &cells[i];
-        if !cell.is_unmarked() || is_ascii_alone(cell) {
+        if !is_unmarked(cell) || is_ascii_alone(cell) {
             return (i, filled);
         }
         filled += copy_unmarked_cell(cell, &mut block[filled..]);
     }
     (count, filled)
+}
+
+/// Whether a cell has no marks.
+#[inline(always)]
+fn is_unmarked(cell: &Cell) -> bool
+    ensures { result ≡ is_unmarked cell.now.marks }
+{
+    matches!(cell.marks, Marks::Unmarked)
 }
 
 /// Copies a cell's character to the front of these bytes, unless it is a right half, and answers how many bytes it has.
@@ -223,7 +231,7 @@ fn copy_unmarked_cell(cell: &Cell, bytes: &mut [u8]) -> usize
     if cell.is_right() {
         return 0;
     }
-    copy_character(cell.character(), bytes)
+    copy_character(cell.character, bytes)
 }
 
 /// Copies a character to the front of these bytes, in UTF-8, and answers how many bytes it has.

@@ -37,10 +37,10 @@ fn are_same_parts(a: Part, b: Part) -> bool
 pub(crate) fn are_alike(a: &Cell, b: &Cell) -> bool
     ensures { result ≡ are_alike a.now b.now }
 {
-    a.character() == b.character()
-        && are_same_parts(a.part(), b.part())
-        && are_same_marks(&a.marks(), &b.marks())
-        && a.is_styled_as(b)
+    a.character == b.character
+        && are_same_parts(a.part, b.part)
+        && are_same_marks(&a.marks, &b.marks)
+        && a.style.is_same(&b.style)
 }
 
 /// Whether all cells are alike, each to the one of its place.

@@ -38,9 +38,9 @@ impl Pen {
 pub(crate) fn is_erased(cell: Cell) -> bool
     ensures { result ≡ is_erased cell }
 {
-    matches!(cell.part(), Part::Empty)
-        && cell.is_unmarked()
-        && cell.is_styled_as(&Cell::blank(cell.style()))
+    matches!(cell.part, Part::Empty)
+        && matches!(cell.marks, Marks::Unmarked)
+        && cell.style.is_same(&Cell::blank(cell.style).style)
 }
 
 /// Whether the cell is as on a new screen.
@@ -48,7 +48,7 @@ pub(crate) fn is_erased(cell: Cell) -> bool
 fn is_fresh(cell: &Cell) -> bool
     ensures { result ≡ is_fresh cell.now }
 {
-    is_erased(*cell) && cell.is_styled_as(&Cell::blank(Style::default()))
+    is_erased(*cell) && cell.style.is_same(&Style::default())
 }
 
 /// The character; a space for one that shows nothing.
@@ -84,8 +84,8 @@ fn put_marks<W: Sink>(output: &mut Output<W>, marks: Marks)
 pub(crate) fn put_marked<W: Sink>(output: &mut Output<W>, cell: Cell)
     ensures { Draws W.Sink (character_calls cell) output.old output.new }
 {
-    put_character(output, cell.character());
-    put_marks(output, cell.marks());
+    put_character(output, cell.character);
+    put_marks(output, cell.marks);
 }
 
 /// Selects the style, where it is another.
@@ -128,7 +128,7 @@ fn put_drawn<W: Sink>(output: &mut Output<W>, width: usize, place: usize, pen: P
     ensures { Draws W.Sink (place_cell_calls width place pen cell) output.old output.new }
 {
     put_there(output, width, place, pen);
-    put_style_change(output, pen.style, cell.style());
+    put_style_change(output, pen.style, cell.style);
     put_shown(output, cell);
 }
 
@@ -158,7 +158,7 @@ fn put_cell<W: Sink>(
         put_drawn(output, width, place, pen, *cell);
         Pen {
             is_there: !is_erased(*cell),
-            style: cell.style(),
+            style: cell.style,
         }
     }
 }

@@ -50,7 +50,7 @@ fn erased_run(style: Style, cells: &[Cell]) -> usize
     ensures within { result ≤ length cells.now }
 {
     for (count, cell) in cells.iter().enumerate() {
-        if !is_erased(*cell) || !cell.style().is_same(&style) {
+        if !is_erased(*cell) || !cell.style.is_same(&style) {
             return count;
         }
     }
@@ -101,12 +101,12 @@ fn put_painted<W: Sink>(
     ensures few { result.0 ≤ 2 }
 {
     if is_erased(cell) {
-        let run = erased_run(cell.style(), cells);
+        let run = erased_run(cell.style, cells);
         put_number(output, erased_columns(run, olds) as u16, b'X');
         (0, run)
     } else {
         put_marked(output, cell);
-        (half_columns(cell.part()), 0)
+        (half_columns(cell.part), 0)
     }
 }
 
@@ -176,7 +176,7 @@ fn put_change<W: Sink>(
 {
     let new = *cell_in(news, column);
     put_move(output, brush.place, row, column);
-    put_style_change(output, brush.place.style, new.style());
+    put_style_change(output, brush.place.style, new.style);
     let (columns, erased) = put_painted(
         output,
         new,
@@ -187,7 +187,7 @@ fn put_change<W: Sink>(
         place: Place {
             row,
             column: column + columns,
-            style: new.style(),
+            style: new.style,
             ..brush.place
         },
         erased,

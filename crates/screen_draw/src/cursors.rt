@@ -19,7 +19,7 @@ pub(crate) fn put_wrap<W: Sink>(output: &mut Output<W>, last: Option<Cell>)
     ensures { Draws W.Sink (wrap_calls last) output.old output.new }
 {
     if let Some(cell) = last {
-        put_style(output, cell.style());
+        put_style(output, cell.style);
         put_marked(output, cell);
     }
 }

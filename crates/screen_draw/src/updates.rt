@@ -19,9 +19,9 @@ const PIECE: usize = 65_536;
 /// sequences 4.4.
 const CELLS_A_BYTE: usize = 8;
 
-/// Of so many cells two screens take 1 MB, which a processor holds near. Where there are more, a cell, then of 40 bytes,
-/// took 3.3 ns at 300x100, and 8 at 1000x1000, which is counted as a byte.
-const NEAR_CELLS: usize = 21_000;
+/// Of so many cells two screens take 1 MB, which a processor holds near. Where there are more, a cell took 3.3 ns at
+/// 300x100, and 8 at 1000x1000, which is counted as a byte.
+const NEAR_CELLS: usize = 13_000;
 
 /// How many cells are copied in the time in which a parser is copied.
 const PARSER_CELLS: usize = 64;

@@ -1,3 +1,4 @@
+pub mod AlikeLemmas
 pub mod RowLemmas
 pub mod ShownLemmas
 pub mod HandedLemmas

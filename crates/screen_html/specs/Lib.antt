@@ -1,3 +1,4 @@
+pub mod Attributes
 pub mod Blocks
 pub mod Links
 pub mod Page

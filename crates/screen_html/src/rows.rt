@@ -38,9 +38,9 @@ fn put_cell<W: Sink>(writer: &mut StyledWriter<W>, links: &LinkTable, cell: Cell
     ensures { WritesStyled W.Sink writer.old (cell_styled links.now cell ∷ []) writer.new }
 {
     if !cell.is_right() {
-        writer.select(cell.style(), links.link(cell.link()));
-        writer.put_char(cell.character());
-        put_marks(writer, cell.marks());
+        writer.select(cell.style, links.link(cell.link));
+        writer.put_char(cell.character);
+        put_marks(writer, cell.marks);
     }
 }
 

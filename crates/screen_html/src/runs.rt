@@ -27,7 +27,7 @@ pub(crate) fn copy_run(first: &Cell, cells: &[Cell], block: &mut [u8; BLOCK]) ->
         if !(is_ascii_alone(cell) && is_alike(cell, first)) {
             return i;
         }
-        block[i] = cell.character() as u8;
+        block[i] = cell.character as u8;
     }
     count
 }
@@ -43,6 +43,6 @@ pub(crate) fn put_run<W: Sink>(
     ensures { WritesStyled W.Sink writer.old
         (styled cell.now.style (link_at cell.now.link links.now) text.now ∷ []) writer.new }
 {
-    writer.select(cell.style(), links.link(cell.link()));
+    writer.select(cell.style, links.link(cell.link));
     writer.put_text(text);
 }

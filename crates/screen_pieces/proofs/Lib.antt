@@ -1,4 +1,3 @@
-pub mod StyleLemmas
 pub mod FeedLemmas
 pub mod CopyLemmas
 pub mod SendLemmas

@@ -2,11 +2,15 @@
 use Rattle.std.specs.Prelude.{◌≡◌, ◌≤◌, ℕ, ◌==◌, if◌then◌else◌}
 use Rattle.ansi_style.specs.declared.style.Color.TheVariants.{Default}
 use Rattle.ansi_screen.specs.declared.cell.Cell.{Cell}
-use Rattle.ansi_screen.specs.Cell.{part_at}
+use Rattle.ansi_screen.specs.declared.cell.Part.{Part}
+use Rattle.ansi_screen.specs.declared.cell.Part.TheVariants.{Empty, Whole, Left, Right}
 use Rattle.ansi_screen.specs.declared.cell.Marks.{Marks}
 use Rattle.ansi_screen.specs.declared.cell.Marks.TheVariants.{Unmarked, One, Two}
 use Rattle.screen_pieces.specs.declared.cell.CellBytes.{CellBytes}
 use Rattle.ansi_style.specs.Bytes.{style_of, is_set, kind_of}
+
+abbrev pub part_of : ℕ → Part
+part_of number = if number == 1 then Whole else if number == 2 then Left else if number == 3 then Right else Empty
 
 abbrev pub marks_of : (count first second : ℕ) → Marks
 marks_of count first second = if count == 1 then One first else if count == 2 then Two first second else Unmarked
@@ -23,6 +27,6 @@ cell_in bytes = record {
   link = bytes.link;
   marks = marks_of bytes.mark_count bytes.first_mark bytes.second_mark;
   style = style_of bytes.style;
-  part = part_at bytes.part;
+  part = part_of bytes.part;
   goes_on = is_set bytes.goes_on;
 }

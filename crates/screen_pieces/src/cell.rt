@@ -3,10 +3,10 @@ ghost use Rattle.std.specs.Prelude.{◌≡◌, ◌≤◌, length, take, drop, ma
 ghost use Rattle.std.specs.List.{All};
 ghost use Rattle.std.specs.Bool.{OnTrue, OnFalse};
 ghost use Rattle.ansi_screen.specs.declared.cell.Marks.TheVariants.{Unmarked};
-ghost use Rattle.screen_pieces.specs.Cells.{cell_in, marks_of, IsPlain};
-ghost use Rattle.ansi_style.specs.Bytes.{color_of, kind_of, style_of};
+ghost use Rattle.screen_pieces.specs.Cells.{cell_in, part_of, marks_of, IsPlain};
+ghost use Rattle.ansi_style.specs.Bytes.{color_of, kind_of};
 
-use ansi_screen::{Cell, Marks};
+use ansi_screen::{Cell, Marks, Part};
 use ansi_style::bytes::{ColorBytes, StyleBytes, flag, kind_number};
 
 /// How many cells are looked at together.
@@ -35,6 +35,18 @@ pub struct CellBytes {
     pub goes_on: u8,
 }
 
+/// The number of a part.
+fn part_number(part: Part) -> u8
+    ensures { part_of result ≡ part }
+{
+    match part {
+        Part::Empty => 0,
+        Part::Whole => 1,
+        Part::Left => 2,
+        Part::Right => 3,
+    }
+}
+
 /// How many marks there are, and which.
 fn mark_numbers(marks: Marks) -> (u8, u32, u32)
     ensures { marks_of result.0 result.1 result.2 ≡ marks }
@@ -51,26 +63,30 @@ impl CellBytes {
     pub fn of(cell: Cell) -> CellBytes
         ensures { cell_in result ≡ cell }
     {
-        let (mark_count, first_mark, second_mark) = mark_numbers(cell.marks());
+        let (mark_count, first_mark, second_mark) = mark_numbers(cell.marks);
         CellBytes {
-            character: u32::from(cell.character()),
+            character: u32::from(cell.character),
             first_mark,
             second_mark,
-            link: cell.link(),
-            style: StyleBytes::of(cell.style()),
+            link: cell.link,
+            style: StyleBytes::of(cell.style),
             mark_count,
-            part: cell.part_number(),
-            goes_on: u8::from(cell.goes_on()),
+            part: part_number(cell.part),
+            goes_on: u8::from(cell.goes_on),
         }
     }
 }
 
-/// 0 where there are no marks, and 1 where there are some.
+/// How many marks there are.
 #[inline(always)]
-fn are_some(cell: &Cell) -> u8
-    ensures { result ≡ 0 → cell.now.marks ≡ Unmarked }
+fn mark_count(marks: &Marks) -> u8
+    ensures { result ≡ 0 → marks.now ≡ Unmarked }
 {
-    flag(!cell.is_unmarked())
+    match *marks {
+        Marks::Unmarked => 0,
+        Marks::One(_) => 1,
+        Marks::Two(_, _) => 2,
+    }
 }
 
 /// 0 where a cell has no marks and the terminal's own background, as most have: bits, so that those of many cells are
@@ -79,39 +95,7 @@ fn are_some(cell: &Cell) -> u8
 fn beside(cell: &Cell) -> u8
     ensures { result ≡ 0 → IsPlain (kind_of cell.now.style.foreground) cell.now }
 {
-    kind_number(&cell.background()) | are_some(cell)
-}
-
-/// The bytes of a cell's style, of whose colours these are the bytes: its attributes, as the cell tells them, are bytes too.
-#[inline(always)]
-fn style_bytes(cell: &Cell, foreground: ColorBytes, background: ColorBytes) -> StyleBytes
-    requires foreground { color_of foreground ≡ cell.now.style.foreground }
-    requires background { color_of background ≡ cell.now.style.background }
-    ensures { style_of result ≡ cell.now.style }
-{
-    let [
-        bold,
-        dim,
-        italic,
-        blink,
-        reverse,
-        hidden,
-        struck_out,
-        overlined,
-    ] = cell.attributes();
-    StyleBytes {
-        foreground,
-        background,
-        underline: cell.underline_number(),
-        bold,
-        dim,
-        italic,
-        blink,
-        reverse,
-        hidden,
-        struck_out,
-        overlined,
-    }
+    kind_number(&cell.style.background) | mark_count(&cell.marks)
 }
 
 /// The bytes of such a cell, of whose foreground these are the bytes.
@@ -122,14 +106,14 @@ fn with_foreground(cell: &Cell, foreground: ColorBytes) -> CellBytes
     ensures { cell_in result ≡ cell.now }
 {
     CellBytes {
-        character: u32::from(cell.character()),
+        character: u32::from(cell.character),
         first_mark: 0,
         second_mark: 0,
-        link: cell.link(),
-        style: style_bytes(cell, foreground, ColorBytes::own()),
+        link: cell.link,
+        style: StyleBytes::with(&cell.style, foreground, ColorBytes::own()),
         mark_count: 0,
-        part: cell.part_number(),
-        goes_on: flag(cell.goes_on()),
+        part: part_number(cell.part),
+        goes_on: flag(cell.goes_on),
     }
 }
 
@@ -140,8 +124,7 @@ pub(crate) fn put_plain(cell: &Cell, room: &mut CellBytes) -> bool
     ensures written { OnTrue result (cell_in room.new ≡ cell.now) }
     ensures refused { OnFalse result (room.new ≡ room.old) }
 {
-    let color = cell.foreground();
-    let kind = kind_number(&color);
+    let kind = kind_number(&cell.style.foreground);
     if beside(cell) != 0 {
         return false;
     }
@@ -150,7 +133,7 @@ pub(crate) fn put_plain(cell: &Cell, room: &mut CellBytes) -> bool
     } else if kind > NUMBERED {
         return false;
     } else {
-        ColorBytes::by_number(&color)
+        ColorBytes::by_number(&cell.style.foreground)
     };
     *room = with_foreground(cell, foreground);
     true
@@ -162,16 +145,19 @@ pub(crate) fn put_plain(cell: &Cell, room: &mut CellBytes) -> bool
 fn put_any(cell: &Cell, room: &mut CellBytes)
     ensures { cell_in room.new ≡ cell.now }
 {
-    let (mark_count, first_mark, second_mark) = mark_numbers(cell.marks());
+    let (mark_count, first_mark, second_mark) = mark_numbers(cell.marks);
     room.first_mark = first_mark;
     room.second_mark = second_mark;
     room.mark_count = mark_count;
-    let foreground = ColorBytes::of(cell.foreground());
-    room.style = style_bytes(cell, foreground, ColorBytes::of(cell.background()));
-    room.character = u32::from(cell.character());
-    room.link = cell.link();
-    room.part = cell.part_number();
-    room.goes_on = flag(cell.goes_on());
+    room.style = StyleBytes::with(
+        &cell.style,
+        ColorBytes::of(cell.style.foreground),
+        ColorBytes::of(cell.style.background),
+    );
+    room.character = u32::from(cell.character);
+    room.link = cell.link;
+    room.part = part_number(cell.part);
+    room.goes_on = flag(cell.goes_on);
 }
 
 /// Writes the bytes of a cell.
@@ -194,7 +180,7 @@ fn kinds(cells: &[Cell]) -> (u8, u8)
     let mut most = 0;
     for cell in cells {
         others = others | beside(cell);
-        most = most | kind_number(&cell.foreground());
+        most = most | kind_number(&cell.style.foreground);
     }
     (others, most)
 }
@@ -222,7 +208,7 @@ fn put_numbered(cells: &[Cell], room: &mut [CellBytes])
     ensures rest { drop (length cells.now) room.new ≡ drop (length cells.now) room.old }
 {
     for (place, cell) in cells.iter().enumerate() {
-        room[place] = with_foreground(cell, ColorBytes::by_number(&cell.foreground()));
+        room[place] = with_foreground(cell, ColorBytes::by_number(&cell.style.foreground));
     }
 }
 

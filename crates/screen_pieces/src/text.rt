@@ -114,8 +114,8 @@ impl<'a> TextWriter<'a> {
         ensures { Puts (cell_text cell.now) self.old self.new }
     {
         if !cell.is_right() {
-            self.put_char(cell.character());
-            self.put_marks(cell.marks());
+            self.put_char(cell.character);
+            self.put_marks(cell.marks);
         }
     }
 

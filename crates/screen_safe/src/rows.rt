@@ -29,8 +29,8 @@ fn take_cell<W: Sink>(writer: &mut SafeWriter<W>, cell: Cell)
     ensures { Takes W.Sink writer.old (cell_characters cell) writer.new }
 {
     if !cell.is_right() {
-        writer.take(cell.character());
-        take_marks(writer, cell.marks());
+        writer.take(cell.character);
+        take_marks(writer, cell.marks);
     }
 }
 
@@ -51,9 +51,8 @@ fn take_cells<W: Sink>(writer: &mut SafeWriter<W>, cells: &[Cell])
     let mut is_hidden = false;
     let mut rest = cells;
     'rest: while let Some((first, further)) = rest.split_first() {
-        let hides = first.style().hidden;
-        take_mark(writer, is_hidden, hides);
-        is_hidden = hides;
+        take_mark(writer, is_hidden, first.style.hidden);
+        is_hidden = first.style.hidden;
         take_cell(writer, *first);
         rest = further;
     }

@@ -1,5 +1,4 @@
 //! Rows that were worked by hand, by the library that they are of, and the names of the screen.
-mod cells;
 mod damage;
 mod draw;
 mod history;

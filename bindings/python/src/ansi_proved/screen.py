@@ -249,7 +249,7 @@ class Screen:
     It takes what a terminal takes: CR LF between lines. A byte that belongs to no character leaves nothing. A with block closes it,
     as `close` does, and so does its end.
 
-    history: how many of the last rows that leave it are kept. Each takes some 24 bytes a column, from the beginning on.
+    history: how many of the last rows that leave it are kept. Each takes some 40 bytes a column, from the beginning on.
 
     Threads may share it: one call is made at a time, and others wait. So another thread sees all of a piece that is fed or nothing
     of it, and what a call gives is of one moment: `text()`, `display`, `cells`, a slice of `history`. Between two calls the

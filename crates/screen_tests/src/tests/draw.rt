@@ -85,7 +85,7 @@ fn parts(rt: HostRuntime) -> Result<(), Fail> {
 /// A row of nine cells begins with this character, which is no right half.
 fn assert_begins(rt: &impl Abort, cells: &[Cell], character: char) {
     assert!(rt; cells.len() == 9);
-    assert_same(rt, &cells[0].character(), &character);
+    assert_same(rt, &cells[0].character, &character);
     assert!(rt; !cells[0].is_right());
 }
 

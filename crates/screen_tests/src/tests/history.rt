@@ -21,7 +21,7 @@ fn kept(terminal: &Terminal, number: usize) -> Put<4> {
 /// The character of a row's first cell that is kept, and how many cells it has.
 fn first(history: &History, number: usize) -> (char, usize) {
     match history.row(number) {
-        Some([cell, rest @ ..]) => (cell.character(), rest.len() + 1),
+        Some([cell, rest @ ..]) => (cell.character, rest.len() + 1),
         _ => (' ', 0),
     }
 }

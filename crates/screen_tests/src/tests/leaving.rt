@@ -33,7 +33,7 @@ impl TakeRow for Counter {
 
     fn take_row(&mut self, row: &[Cell], _written: usize) {
         self.count = self.count.saturating_add(1);
-        self.goes_on = row.last().is_some_and(|cell| cell.goes_on());
+        self.goes_on = row.last().is_some_and(|cell| cell.goes_on);
     }
 
     fn pass_on(&mut self) {}
@@ -127,7 +127,7 @@ fn handed_on(rt: &impl Abort, scrolling: Scrolling<Counter>) -> (Screen, Counter
 /// A screen of three columns and one row is empty.
 fn assert_empty(rt: &impl Abort, screen: &Screen) {
     assert!(rt; screen.columns() == 3 && screen.rows() == 1);
-    assert!(rt; matches!(screen.row(0)[1].part(), Part::Empty));
+    assert!(rt; matches!(screen.row(0)[1].part, Part::Empty));
 }
 
 #[test]

@@ -56,7 +56,14 @@ fn a_new_screen(rt: HostRuntime) -> Result<(), Fail> {
 
 /// One column of one character, with no marks.
 fn cell(character: char, style: Style, part: Part) -> Cell {
-    Cell::printed(character, style, 0, part)
+    Cell {
+        character,
+        marks: Marks::Unmarked,
+        style,
+        part,
+        link: 0,
+        goes_on: false,
+    }
 }
 
 /// A row has this cell in a column.
@@ -135,7 +142,14 @@ fn bold() -> Style {
 
 /// The second cell after it: a line that is drawn, with a mark.
 fn marked() -> Cell {
-    cell('│', bold(), Part::Whole).with_mark('\u{301}')
+    Cell {
+        character: '│',
+        marks: Marks::One('\u{301}'),
+        style: bold(),
+        part: Part::Whole,
+        link: 0,
+        goes_on: false,
+    }
 }
 
 /// The cursor after it.

@@ -1,9 +1,7 @@
 -- One character more.
-use Rattle.std.proofs.Common.{set, ap, ◌∙◌}
 use Rattle.ansi_screen.proofs.RunLemmas.{fill-on}
 use Rattle.ansi_screen.proofs.runs.fill_by_copies.Goals as goal
 
 pub loop-i-preserved : goal.loop-i-preserved
 loop-i-preserved c =
-    ap (set c.loop-i.cells c.loop-i.i) c.set_character.ensures
-    ∙ fill-on c.args.run.now c.loop-i.i c.args.style c.args.link c.from.result c.index-cells-i.result c.loop-i.cells c.loop-i-test.true c.from.ensures c.loop-i.invariant
+    fill-on c.args.run.now c.loop-i.i c.args.style c.args.link c.from.result _ c.loop-i.cells c.loop-i-test.true c.from.ensures c.loop-i.invariant

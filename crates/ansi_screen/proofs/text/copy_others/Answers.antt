@@ -1,14 +1,12 @@
 -- One cell more.
-use Rattle.std.proofs.Common.{◌≡◌, ◌+◌, ◌-◌, ◌*◌, ◌≤◌, length, ap, ◌∙◌, arith}
+use Rattle.std.proofs.Common.{◌≡◌, ◌+◌, ◌-◌, ◌*◌, ◌≤◌, length, ◌∙◌, arith}
 use Rattle.std.proofs.lemmas.List.{length-drop}
-use Rattle.ansi_screen.specs.Text.{cell_text}
 use Rattle.ansi_screen.proofs.TextLemmas.{text-more, length-filled, filled-more}
 use Rattle.ansi_screen.proofs.text.copy_others.Goals as goal
 
 pub loop-i-preserved : goal.loop-i-preserved
 loop-i-preserved c =
     let (few, so_far, long) = c.loop-i.invariant in
-    let cell = c.index-cells-i in
     let filled = c.loop-i.filled in
     let block = c.loop-i.block in
     let n = c.copy_unmarked_cell-filled.result in
@@ -18,6 +16,6 @@ loop-i-preserved c =
     let more : filled + n ≤ 4 * (c.loop-i.i + 1) = omega (arith, few, c.copy_unmarked_cell-filled.ensures.few) in (
       more,
       filled-more 128 filled block bytes long inside n
-          ∙ text-more c.args.cells.now c.loop-i.i cell.result _ _ (omega (arith, c.loop-i-test.true, c.min-count.ensures)) so_far (c.copy_unmarked_cell-filled.ensures.text ∙ ap cell_text cell.is),
+          ∙ text-more c.args.cells.now c.loop-i.i _ _ _ (omega (arith, c.loop-i-test.true, c.min-count.ensures)) so_far c.copy_unmarked_cell-filled.ensures.text,
       length-filled 128 filled block bytes long inside rest,
     )

@@ -1,6 +1,5 @@
 -- A right half has no text; any other cell has its character.
-use Rattle.std.proofs.Common.{ap, sym, ◌∙◌}
-use Rattle.std.specs.Prelude.{encode_utf8}
+use Rattle.std.proofs.Common.{sym, ◌∙◌}
 use Rattle.ansi_screen.proofs.TextLemmas.{unmarked-right, unmarked-other}
 use Rattle.ansi_screen.proofs.text.copy_unmarked_cell.Goals as goal
 
@@ -9,4 +8,4 @@ returns-then-is_right-clause-text c = sym (unmarked-right c.args.cell.now (sym c
 
 pub returns-clause-text : goal.returns-clause-text
 returns-clause-text c =
-    c.copy_character.ensures.text ∙ (ap encode_utf8 c.character.ensures ∙ sym (unmarked-other c.args.cell.now (sym c.is_right.ensures ∙ c.if-is_right.false) c.requires.unmarked))
+    c.copy_character.ensures.text ∙ sym (unmarked-other c.args.cell.now (sym c.is_right.ensures ∙ c.if-is_right.false) c.requires.unmarked)

@@ -9,5 +9,4 @@ pub returns-then-not-is_right : goal.returns-then-not-is_right
 unfolding cell_text
 returns-then-not-is_right g c =
     let whole = sym c.is_right.ensures ∙ c.if-not-is_right.true in
-    rw (whole, sym c.character.ensures, sym c.marks.ensures)
-    (Adds-append g.W.Sink (encode_utf8 c.character.result) (marks_text c.marks.result) _ _ _ c.put_char.ensures c.put_marks.ensures)
+    rw whole (Adds-append g.W.Sink (encode_utf8 c.args.cell.character) (marks_text c.args.cell.marks) _ _ _ c.put_char.ensures c.put_marks.ensures)

@@ -1,5 +1,5 @@
 -- Two more.
-use Rattle.std.proofs.Common.{ap₂, sym, ◌∙◌, refl, arith}
+use Rattle.std.proofs.Common.{sym, ◌∙◌, refl, arith}
 use Rattle.ansi_style.specs.Style.{plain}
 use Rattle.ansi_screen.specs.Cells.{blank}
 use Rattle.screen_draw.specs.Alike.{are_alike}
@@ -11,8 +11,8 @@ returns-then-a-b c = sym (all_two-long are_alike (blank plain) (blank plain) c.a
 
 pub returns-then-not-are_alike : goal.returns-then-not-are_alike
 returns-then-not-are_alike c =
-    sym (all_two-fails are_alike c.index-a-place.result c.index-b-place.result c.loop-place.place c.args.a.now c.args.b.now (omega arith) (omega arith) (sym (ap₂ are_alike c.index-a-place.is c.index-b-place.is) ∙ (sym c.are_alike.ensures ∙ c.if-not-are_alike.true)))
+    sym (all_two-fails are_alike _ _ c.loop-place.place c.args.a.now c.args.b.now (omega arith) (omega arith) (sym c.are_alike.ensures ∙ c.if-not-are_alike.true))
 
 pub loop-place-preserved : goal.loop-place-preserved
 loop-place-preserved c =
-    all_two-more are_alike c.index-a-place.result c.index-b-place.result c.loop-place.place c.args.a.now c.args.b.now (omega arith) (omega arith) c.loop-place.invariant (sym (ap₂ are_alike c.index-a-place.is c.index-b-place.is) ∙ (sym c.are_alike.ensures ∙ c.if-not-are_alike.false))
+    all_two-more are_alike _ _ c.loop-place.place c.args.a.now c.args.b.now (omega arith) (omega arith) c.loop-place.invariant (sym c.are_alike.ensures ∙ c.if-not-are_alike.false)

@@ -1,15 +1,12 @@
 -- Where it stands, its style, and then what is shown.
-use Rattle.std.proofs.Common.{◌++◌, subst}
+use Rattle.std.proofs.Common.{◌++◌}
 use Rattle.screen_draw.specs.Draw.{there_calls, style_calls, shown_calls}
-use Rattle.screen_draw.specs.Drawing.{Draws}
 use Rattle.screen_draw.proofs.DrawLemmas.{draws-append}
 use Rattle.screen_draw.proofs.cells.put_drawn.Goals as goal
 
 pub returns : goal.returns
 returns g c =
-    let styled =
-    subst (λ s. Draws g.W.Sink (style_calls c.args.pen.style s) c.put_there.new.output c.put_style_change.new.output) c.style.ensures c.put_style_change.ensures in
     draws-append g.W.Sink (there_calls c.args.width c.args.place c.args.pen)
     (style_calls c.args.pen.style c.args.cell.style ++ shown_calls c.args.cell) _ _ _ c.put_there.ensures
     (draws-append g.W.Sink (style_calls c.args.pen.style c.args.cell.style) (shown_calls c.args.cell) _ _ _
-    styled c.put_shown.ensures)
+    c.put_style_change.ensures c.put_shown.ensures)

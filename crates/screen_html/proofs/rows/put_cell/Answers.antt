@@ -1,5 +1,5 @@
 -- Its style and its link are selected, and its character and marks are written.
-use Rattle.std.proofs.Common.{sym, ap, ap₂, ◌∙◌, subst}
+use Rattle.std.proofs.Common.{sym, ap, ◌∙◌, subst}
 use Rattle.std.specs.Prelude.{encode_utf8}
 use Rattle.std.proofs.lemmas.Grind.{flat_map-append}
 use Rattle.anstyle_parse.specs.Io.Output.{Adds}
@@ -8,7 +8,6 @@ use Rattle.ansi_html.specs.Html.{element, change, escaped, escaped_text}
 use Rattle.ansi_html.specs.Styled.{output_of, styling_of, shown_in}
 use Rattle.ansi_html.proofs.StyledWriterLemmas.{WritesStyled-text, WritesStyled-empty}
 use Rattle.ansi_screen.specs.Text.{marks_text}
-use Rattle.screen_html.specs.Links.{link_at}
 use Rattle.screen_html.specs.Shown.{cell_styled}
 use Rattle.screen_html.proofs.RowLemmas.{cell_text-right, cell_text-other, cell_text-some}
 use Rattle.screen_html.proofs.rows.put_cell.Goals as goal
@@ -21,19 +20,15 @@ returns-then-not-is_right g c =
     let character = encode_utf8 cell.character in
     let marks = marks_text cell.marks in
     let selected = output_of c.select.new.self in
-    let put = output_of c.put_char.new.self in
     let new = output_of c.put_marks.new.writer in
-    let link = c.link-then-not-is_right.ensures ∙ ap (λ n. link_at n c.args.links.now) c.link.ensures in
-    let same = ap₂ element c.style.ensures link in
-    let of_character = subst (λ n. Adds g.W.Sink (escaped_text (encode_utf8 n)) selected put) c.character.ensures c.put_char.ensures.added in
-    let of_marks = subst (λ m. Adds g.W.Sink (escaped_text (marks_text m)) put new) c.marks.ensures c.put_marks.ensures.added in
     WritesStyled-text g.W.Sink c.args.writer.now c.select.new.self c.put_marks.new.writer (cell_styled c.args.links.now cell) (cell_text-some cell other)
-    c.select.ensures.styling (c.select.ensures.shown ∙ same)
-    (subst (λ e. Adds g.W.Sink (change (styling_of old) (shown_in old) e) (output_of old) selected) same c.select.ensures.added)
+    c.select.ensures.styling (c.select.ensures.shown ∙ ap (element cell.style) c.link.ensures)
+    (subst (λ link. Adds g.W.Sink (change (styling_of old) (shown_in old) (element cell.style link)) (output_of old) selected) c.link.ensures c.select.ensures.added)
     (c.put_marks.ensures.styling ∙ c.put_char.ensures.styling) (c.put_marks.ensures.shown ∙ c.put_char.ensures.shown)
     (subst (λ t. Adds g.W.Sink (escaped_text t) selected new) (sym (cell_text-other cell other))
     (subst (λ t. Adds g.W.Sink t selected new) (sym (flat_map-append escaped character marks))
-    (Adds-append g.W.Sink (escaped_text character) (escaped_text marks) selected put new of_character of_marks)))
+    (Adds-append g.W.Sink (escaped_text character) (escaped_text marks) selected (output_of c.put_char.new.self) new
+    c.put_char.ensures.added c.put_marks.ensures.added)))
 
 pub returns-else-not-is_right : goal.returns-else-not-is_right
 returns-else-not-is_right g c =

@@ -1,5 +1,5 @@
 -- The style and the link of the cell are selected, and the text is written.
-use Rattle.std.proofs.Common.{ap, ap₂, ◌∙◌, subst}
+use Rattle.std.proofs.Common.{ap, ◌∙◌, subst}
 use Rattle.anstyle_parse.specs.Io.Output.{Adds}
 use Rattle.ansi_html.specs.Html.{element, change}
 use Rattle.ansi_html.specs.Styled.{styled, output_of, styling_of, shown_in}
@@ -12,9 +12,7 @@ returns g c =
     let cell = c.args.cell.now in
     let old = c.args.writer.now in
     let selected = c.select.new.self in
-    let link = c.link-2.ensures ∙ ap (λ n. link_at n c.args.links.now) c.link.ensures in
-    let same = ap₂ element c.style.ensures link in
     WritesStyled-text g.W.Sink old selected c.put_text.new.self (styled cell.style (link_at cell.link c.args.links.now) c.args.text.now) c.requires.some
-    c.select.ensures.styling (c.select.ensures.shown ∙ same)
-    (subst (λ e. Adds g.W.Sink (change (styling_of old) (shown_in old) e) (output_of old) (output_of selected)) same c.select.ensures.added)
+    c.select.ensures.styling (c.select.ensures.shown ∙ ap (element cell.style) c.link.ensures)
+    (subst (λ link. Adds g.W.Sink (change (styling_of old) (shown_in old) (element cell.style link)) (output_of old) (output_of selected)) c.link.ensures c.select.ensures.added)
     c.put_text.ensures.styling c.put_text.ensures.shown c.put_text.ensures.added

@@ -1,11 +1,10 @@
 -- One cell more is plain, and at the end all of them are.
-use Rattle.std.proofs.Common.{◌≡◌, ◌≤◌, List, take, ap, sym, subst, arith}
+use Rattle.std.proofs.Common.{◌≡◌, ◌≤◌, List, take, sym, subst, arith}
 use Rattle.std.proofs.lemmas.List.{take_all, take_more}
 use Rattle.std.proofs.lemmas.List.Elements.{All-nil, All-push}
 use Rattle.std.proofs.lemmas.Nat.{le_or_l, le_or_r}
 use Rattle.std.specs.Int.Bits.{bit_or}
 use Rattle.std.specs.List.{All}
-use Rattle.ansi_style.specs.Bytes.{kind_of}
 use Rattle.ansi_screen.specs.declared.cell.Cell.{Cell}
 use Rattle.screen_pieces.specs.Cells.{IsPlain}
 use Rattle.screen_pieces.proofs.PlainLemmas.{plain-more, all-plain-more}
@@ -21,12 +20,9 @@ loop-cell-preserved c = λ none.
     let before : others ≡ 0 = omega (arith, none, le_or_l others c.beside-others.result) in
     let now : c.beside-others.result ≡ 0 = omega (arith, none, le_or_r others c.beside-others.result) in
     let least : most ≤ bit_or most kind = le_or_l most kind in
-    let cell = c.cell-item in
-    let plain : IsPlain (bit_or most kind) cell.result =
-    plain-more _ (bit_or most kind) _ (omega (arith, le_or_r most kind, c.kind_number-most.ensures.kind, ap kind_of c.foreground.ensures)) (c.beside-others.ensures now) in
-    subst (λ (cells : List Cell). All (IsPlain (bit_or most kind)) cells) (sym (take_more cells i cell.result c.loop-cell-test.true))
+    subst (λ (cells : List Cell). All (IsPlain (bit_or most kind)) cells) (sym (take_more cells i _ c.loop-cell-test.true))
     (All-push (IsPlain (bit_or most kind)) (take i cells) _ (all-plain-more most (bit_or most kind) (take i cells) least (c.loop-cell.invariant before))
-    (subst (IsPlain (bit_or most kind)) cell.is plain))
+    (plain-more _ (bit_or most kind) _ (omega (arith, le_or_r most kind, c.kind_number-most.ensures.kind)) (c.beside-others.ensures now)))
 
 pub returns : goal.returns
 returns c = λ none.

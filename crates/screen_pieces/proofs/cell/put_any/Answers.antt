@@ -4,14 +4,4 @@ use Rattle.screen_pieces.proofs.cell.put_any.Goals as goal
 
 pub returns : goal.returns
 returns c =
-    rw (
-      c.from-room.ensures,
-      c.mark_numbers-mark_count.ensures,
-      c.style_bytes-room.ensures,
-      c.part_number-room.ensures,
-      c.flag-room.ensures,
-      c.character.ensures,
-      c.link-room.ensures,
-      c.marks.ensures,
-      c.goes_on.ensures,
-    ) refl
+    rw (c.from-room.ensures, c.mark_numbers-mark_count.ensures, c.with-room.ensures, c.part_number-room.ensures, c.flag-room.ensures) refl

@@ -9,14 +9,14 @@ loop-place-init c = record { written = refl; rest = refl }
 
 pub loop-place-preserved : goal.loop-place-preserved
 loop-place-preserved c =
-    let cell = c.index-cells-place in let i = c.loop-place.place in let before = c.loop-place.invariant in
+    let i = c.loop-place.place in let before = c.loop-place.invariant in
     let within : i < length c.loop-place.room = omega (arith, c.loop-place.auto.room, c.requires, c.loop-place-test.true) in
     record {
       written = ap (map cell_in) (take_more_set c.loop-place.room i c.with_foreground.result within)
           ∙ map-append cell_in (take i c.loop-place.room) (c.with_foreground.result ∷ [])
           ∙ ap (λ xs. xs ++ cell_in c.with_foreground.result ∷ []) before.written
-          ∙ ap (λ x. take i c.args.cells.now ++ x ∷ []) (c.with_foreground.ensures ∙ cell.is)
-          ∙ sym (take_more c.args.cells.now i cell.result c.loop-place-test.true);
+          ∙ ap (λ x. take i c.args.cells.now ++ x ∷ []) c.with_foreground.ensures
+          ∙ sym (take_more c.args.cells.now i _ c.loop-place-test.true);
       rest = drop-set-lt (length c.args.cells.now) c.loop-place.room i c.with_foreground.result c.loop-place-test.true ∙ before.rest;
     }
 

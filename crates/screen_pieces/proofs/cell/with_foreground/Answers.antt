@@ -9,12 +9,4 @@ marked cell marks = record cell { marks = marks }
 
 pub returns : goal.returns
 returns c =
-    rw (
-      c.from.ensures,
-      c.style_bytes.ensures,
-      c.part_number.ensures,
-      c.flag.ensures,
-      c.character.ensures,
-      c.link.ensures,
-      c.goes_on.ensures,
-    ) (ap (marked c.args.cell.now) (sym c.requires.plain.marks))
+    rw (c.from.ensures, c.with.ensures, c.part_number.ensures, c.flag.ensures) (ap (marked c.args.cell.now) (sym c.requires.plain.marks))

@@ -11,9 +11,7 @@ returns-then-not-is_right g c =
     let cell = c.args.cell in
     let other = sym c.is_right.ensures ∙ c.if-not-is_right.true in
     subst (λ (cs : List ℕ). Takes g.W.Sink c.args.writer.now cs c.take_marks.new.writer) (sym (characters-other cell other))
-    (rw (sym c.character.ensures, sym c.marks.ensures)
-    (Takes-append g.W.Sink c.args.writer.now c.take.new.self c.take_marks.new.writer (c.character.result ∷ []) (marks_of c.marks.result)
-    c.take.ensures c.take_marks.ensures))
+    (Takes-append g.W.Sink c.args.writer.now c.take.new.self c.take_marks.new.writer (cell.character ∷ []) (marks_of cell.marks) c.take.ensures c.take_marks.ensures)
 
 pub returns-else-not-is_right : goal.returns-else-not-is_right
 returns-else-not-is_right g c =

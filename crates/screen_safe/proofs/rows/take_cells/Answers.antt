@@ -1,5 +1,5 @@
 -- One cell more, with a mark before it; and a mark at the end.
-use Rattle.std.proofs.Common.{◌≡◌, ◌++◌, sym, subst}
+use Rattle.std.proofs.Common.{◌++◌, sym, subst}
 use Rattle.std.proofs.lemmas.List.{nil_from_length}
 use Rattle.safe_text.specs.Marks.{mark_between}
 use Rattle.safe_text.specs.Writer.{Takes}
@@ -15,15 +15,13 @@ rest-preserved g c = λ end taken.
     let first = c.in-Some.first.now in
     let further = c.in-Some.further.now in
     let is = c.in-Some.ensures.cases.0 in
-    let hidden = c.style-hides.result.hidden in
-    let same : hidden ≡ first.style.hidden = cc (c.style-hides.ensures) in
+    let hidden = first.style.hidden in
     let mark = mark_between c.rest.is_hidden hidden in
     let behind = cells_marked hidden further in
     c.rest.invariant end
     (subst (λ cells. Takes g.W.Sink c.rest.writer (cells_marked c.rest.is_hidden cells) end) (sym is)
-    (subst (λ h. Takes g.W.Sink c.rest.writer (mark_between c.rest.is_hidden h ++ (cell_characters first ++ cells_marked h further)) end) same
     (Takes-append g.W.Sink c.rest.writer c.take_mark.new.writer end mark (cell_characters first ++ behind) c.take_mark.ensures
-    (Takes-append g.W.Sink c.take_mark.new.writer c.take_cell.new.writer end (cell_characters first) behind c.take_cell.ensures taken))))
+    (Takes-append g.W.Sink c.take_mark.new.writer c.take_cell.new.writer end (cell_characters first) behind c.take_cell.ensures taken)))
 
 pub returns : goal.returns
 returns g c =

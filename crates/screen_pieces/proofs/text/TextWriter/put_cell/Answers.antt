@@ -9,8 +9,7 @@ pub returns-then-not-is_right : goal.returns-then-not-is_right
 unfolding cell_text
 returns-then-not-is_right c =
     let whole = sym c.is_right.ensures ∙ c.if-not-is_right.true in
-    rw (whole, sym c.character.ensures, sym c.marks.ensures)
-    (Puts-append (encode_utf8 c.character.result) (marks_text c.marks.result) c.args.self.now c.put_char.new.self c.put_marks.new.self
+    rw whole (Puts-append (encode_utf8 c.args.cell.now.character) (marks_text c.args.cell.now.marks) c.args.self.now c.put_char.new.self c.put_marks.new.self
     c.put_char.ensures c.put_marks.ensures)
 
 pub returns-else-not-is_right : goal.returns-else-not-is_right

@@ -1,3 +1,4 @@
+pub mod TurnLemmas
 pub mod CellLemmas
 pub mod RunLemmas
 pub mod PrintedLemmas

@@ -140,7 +140,7 @@ def recorder():
     spec = importlib.util.spec_from_file_location("record_programs", os.path.join(ROOT, "bench", "record.py"))
     module = importlib.util.module_from_spec(spec)
     spec.loader.exec_module(module)
-    return module.record
+    return module.recorded
 
 
 def main():
@@ -162,7 +162,8 @@ def main():
         place = "127.0.0.1:%d" % server.server_port
         with tempfile.TemporaryDirectory() as into:
             command = command.replace("tcp:AT", "tcp://" + place).replace("AT", "http://" + place).replace("INTO", into)
-            written = recorder()(["sh", "-c", command], [], seconds, COLUMNS, ROWS)
+            pieces = recorder()(["sh", "-c", command], [], seconds, COLUMNS, ROWS)
+        written = b"".join(piece for _, piece in pieces)
         with open(os.path.join(folder, name), "wb") as file:
             file.write(written)
         print("%-9s %7d bytes" % (name, len(written)), flush=True)

@@ -163,7 +163,7 @@ def kept_cases(ansi):
 
 def busy_cases(ansi):
     """A long call, within which another thread goes on."""
-    piece = b"text \x1b[1;31m and more\r\n" * 400_000
+    piece = b"text \x1b[1;31m and more\r\n" * 1_000_000
     screen = ansi.Screen(80, 24)
     counted, took = ticks_during(lambda: screen.feed(piece))
     is_so = took > 30 and counted > took / 20

@@ -8,6 +8,7 @@ pub mod Parser
 pub mod Front
 pub mod Accumulator
 pub mod DecodingProof
+pub mod Stage
 pub mod Runs
 pub mod Texts
 pub mod Passing

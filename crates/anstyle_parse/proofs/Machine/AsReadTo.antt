@@ -1,5 +1,5 @@
 -- What the parser's functions lead to, as it is read.
-use Rattle.std.proofs.Common.{◌≡◌, ℕ, ◌<◌, ◌≤◌, ◌+◌, ◌-◌, ◌⊎◌, arith, Bool, IsTrue, refl, List, [], ◌∷◌, ◌++◌, length, take, length-append, ⊎_elim, inl, ap, sym, ◌∙◌, subst, append_assoc, append-nil}
+use Rattle.std.proofs.Common.{◌≡◌, ℕ, ◌<◌, ◌≤◌, ◌+◌, ◌-◌, ◌⊎◌, arith, Bool, IsTrue, refl, List, [], ◌∷◌, ◌++◌, length, take, length-append, ⊎_elim, ap, sym, ◌∙◌, subst, append_assoc, append-nil}
 use Rattle.std.specs.Prelude.{encode_utf8}
 use Rattle.std.proofs.Math.Seq.{take-append_seam}
 use Rattle.std.specs.Str.{encode_utf8_all}
@@ -10,7 +10,7 @@ use Rattle.anstyle_parse.specs.declared.parser.Parser.{Parser}
 use Rattle.anstyle_parse.specs.declared.parser.runs.Run.{Run}
 use Rattle.anstyle_parse.specs.declared.parser.runs.Run.TheVariants.{Printed, OfHookedString, OfIgnoredString, OfIgnoredHeader}
 use Rattle.anstyle_parse.specs.declared.state.definitions.State.{State}
-use Rattle.anstyle_parse.specs.declared.state.definitions.State.TheVariants.{CsiEntry, CsiParam, Ground, OscString, SosPmApcString, Utf8}
+use Rattle.anstyle_parse.specs.declared.state.definitions.State.TheVariants.{CsiEntry, CsiParam, Ground, OscString, Utf8}
 use Rattle.anstyle_parse.specs.declared.utf8.Front.TheVariants.{Empty}
 use Rattle.anstyle_parse.specs.Stream.Bytes.{is_within, is_parameter, is_final}
 use Rattle.anstyle_parse.specs.Stream.Call.{Call, Goes, csi_dispatch}
@@ -27,6 +27,7 @@ use Rattle.anstyle_parse.specs.Views.AsRead.{read_by, read_one, LeadsAsReadTo, P
 use Rattle.anstyle_parse.specs.Views.Passing.{BeginWithSequence}
 use Rattle.anstyle_parse.specs.Views.Runs.{LeadsQuietlyTo, AreMade, KeepsTo, is_of_command, is_of_run, run_calls}
 use Rattle.anstyle_parse.specs.Views.Texts.{is_text_character, TakesText}
+use Rattle.anstyle_parse.specs.Views.Stage.{stage}
 use Rattle.anstyle_parse.proofs.Agreement.Whole.{machine_after-append, machine_calls-append}
 use Rattle.anstyle_parse.proofs.Bytes.Passing.{EachIs-append, EachIs-weaker}
 use Rattle.anstyle_parse.proofs.Characters.Encoding.{within, within_parts, encode_one, encode-stands, character_range}
@@ -36,7 +37,7 @@ use Rattle.anstyle_parse.proofs.Characters.Whole.{IsWhole-begins}
 use Rattle.anstyle_parse.proofs.Machine.AsRead.{AreReadAsTheyAre, as_they_are-none, as_they_are-byte, as_they_are-more, as_they_are-append, as_they_are-each, as_they_are-plain, read_for-in, read_for-low, read_for-lead, read_for-no_string, read_from-counted}
 use Rattle.anstyle_parse.proofs.Machine.Counted.{same_machine}
 use Rattle.anstyle_parse.proofs.Machine.Passing.{passed-sequence}
-use Rattle.anstyle_parse.proofs.Machine.Runs.{KeepsTo-string, calls-introduced, begun, reading, step-run, step-stored, state-storing}
+use Rattle.anstyle_parse.proofs.Machine.Runs.{calls-introduced, begun, reading, step-run, step-stored, state-storing}
 use Rattle.anstyle_parse.proofs.Machine.Steps.{step-at}
 use Rattle.anstyle_parse.proofs.Machine.Texts.{Prints, characters-taken, decoder-Empty, layout_calls-characters, receives-Goes}
 
@@ -190,11 +191,11 @@ module _ {P : Type 0} (means : P → Call → P → Type 0) (receives : P → Li
     (none : (p : P) → receives p [] p)
     (one : (old : P) (call : Call) (new : P) → means old call new → receives old (call ∷ []) new)
     (more : (old middle new : P) (calls further : List Call) → receives old calls middle → receives middle further new → receives old (calls ++ further) new) where
-  pub LeadsAsReadTo-none : (parser : Parser Utf8Parser) (performer : P) (bytes : List ℕ) → LeadsAsReadTo receives parser performer bytes parser performer bytes
+  pub LeadsAsReadTo-none : (parser : Parser Utf8Parser) (performer : P) (bytes : List ℕ) → LeadsAsReadTo receives (stage parser performer bytes) (stage parser performer bytes)
   LeadsAsReadTo-none parser performer bytes = record { same = refl; made = []; joined = refl; received = none performer }
 
   pub LeadsAsReadTo-trans : {p q r : Parser Utf8Parser} {a b c : P} {xs ys zs : List ℕ}
-      → LeadsAsReadTo receives p a xs q b ys → LeadsAsReadTo receives q b ys r c zs → LeadsAsReadTo receives p a xs r c zs
+      → LeadsAsReadTo receives (stage p a xs) (stage q b ys) → LeadsAsReadTo receives (stage q b ys) (stage r c zs) → LeadsAsReadTo receives (stage p a xs) (stage r c zs)
   LeadsAsReadTo-trans {a = a} {b = b} {c = c} first second = record {
     same = second.same ∙ first.same;
     made = first.made ++ second.made;
@@ -203,16 +204,16 @@ module _ {P : Type 0} (means : P → Call → P → Type 0) (receives : P → Li
   }
 
   pub LeadsAsReadTo-first : {p q r : Parser Utf8Parser} {a b c : P} {xs ys zs left : List ℕ} → ys ≡ left
-      → LeadsAsReadTo receives p a xs q b ys → LeadsAsReadTo receives q b left r c zs → LeadsAsReadTo receives p a xs r c zs
+      → LeadsAsReadTo receives (stage p a xs) (stage q b ys) → LeadsAsReadTo receives (stage q b left) (stage r c zs) → LeadsAsReadTo receives (stage p a xs) (stage r c zs)
   LeadsAsReadTo-first {p = p} {q = q} {a = a} {b = b} {xs = xs} same first second =
-      let S : List ℕ → Type 0 = λ l. LeadsAsReadTo receives p a xs q b l in
+      let S : List ℕ → Type 0 = λ l. LeadsAsReadTo receives (stage p a xs) (stage q b l) in
       LeadsAsReadTo-trans (subst S same first) second
 
   module _ (p q : Parser Utf8Parser) (a b : P) (xs left : List ℕ) where
     -- what is read of the front, and then what is read of what is left
     LeadsAsReadTo-read : (read : List ℕ) → read_by p xs ≡ read ++ read_from parser_after (machine_after parser_after read (machine_of p)) left
         → counted (machine_of q) ≡ counted (machine_after parser_after read (machine_of p))
-        → receives a (machine_calls parser_after read (machine_of p)) b → LeadsAsReadTo receives p a xs q b left
+        → receives a (machine_calls parser_after read (machine_of p)) b → LeadsAsReadTo receives (stage p a xs) (stage q b left)
     LeadsAsReadTo-read read joined same received =
         let m = machine_of p in
         let reached = machine_after parser_after read m in
@@ -231,7 +232,7 @@ module _ {P : Type 0} (means : P → Call → P → Type 0) (receives : P → Li
     -- bytes that are read as they are
     pub LeadsAsReadTo-passed : (passed : List ℕ) → xs ≡ passed ++ left → AreReadAsTheyAre parser_after (machine_of p) passed
         → counted (machine_of q) ≡ counted (machine_after parser_after passed (machine_of p))
-        → receives a (machine_calls parser_after passed (machine_of p)) b → LeadsAsReadTo receives p a xs q b left
+        → receives a (machine_calls parser_after passed (machine_of p)) b → LeadsAsReadTo receives (stage p a xs) (stage q b left)
     unfolding AreReadAsTheyAre
     LeadsAsReadTo-passed passed joined as_they_are same received =
         LeadsAsReadTo-read passed (ap (read_by p) joined ∙ as_they_are left) same received
@@ -240,7 +241,7 @@ module _ {P : Type 0} (means : P → Call → P → Type 0) (receives : P → Li
   pub LeadsAsReadTo-one : (p q : Parser Utf8Parser) (a b : P) (byte : ℕ) (left : List ℕ)
       → machine_of q ≡ machine_after parser_after (read_one p byte) (machine_of p)
       → Goes means a (machine_calls parser_after (read_one p byte) (machine_of p)) b
-      → LeadsAsReadTo receives p a (byte ∷ left) q b left
+      → LeadsAsReadTo receives (stage p a (byte ∷ left)) (stage q b left)
   LeadsAsReadTo-one p q a b byte left reached goes =
       LeadsAsReadTo-read p q a b (byte ∷ left) left (read_one p byte) refl (ap counted reached)
       (receives-Goes means receives none one more (machine_calls parser_after (read_one p byte) (machine_of p)) a b goes)
@@ -248,20 +249,20 @@ module _ {P : Type 0} (means : P → Call → P → Type 0) (receives : P → Li
   -- one that is read as it is
   pub LeadsAsReadTo-byte : (p q : Parser Utf8Parser) (a b : P) (byte : ℕ) (left : List ℕ) → read_one p byte ≡ byte ∷ []
       → machine_of q ≡ step parser_after byte (machine_of p) → Goes means a (step_calls parser_after byte (machine_of p)) b
-      → LeadsAsReadTo receives p a (byte ∷ left) q b left
+      → LeadsAsReadTo receives (stage p a (byte ∷ left)) (stage q b left)
   LeadsAsReadTo-byte p q a b byte left is stepped goes =
       LeadsAsReadTo-passed p q a b (byte ∷ left) left (byte ∷ []) refl (as_they_are-byte parser_after (machine_of p) byte is) (ap counted stepped)
       (subst (λ calls. receives a calls b) (sym (append-nil (step_calls parser_after byte (machine_of p))))
       (receives-Goes means receives none one more (step_calls parser_after byte (machine_of p)) a b goes))
 
   -- a text
-  pub LeadsAsReadTo-text : (p : Parser Utf8Parser) (a b : P) (xs left : List ℕ) → TakesText receives p a xs b left → LeadsAsReadTo receives p a xs p b left
+  pub LeadsAsReadTo-text : (p : Parser Utf8Parser) (a b : P) (xs left : List ℕ) → TakesText receives p a xs b left → LeadsAsReadTo receives (stage p a xs) (stage p b left)
   unfolding Prints
   LeadsAsReadTo-text p a b xs left taken =
       ⊎_elim
       (λ nothing.
-      let Q : P → Type 0 = λ x. LeadsAsReadTo receives p a xs p x left in
-      let R : List ℕ → Type 0 = λ l. LeadsAsReadTo receives p a xs p a l in
+      let Q : P → Type 0 = λ x. LeadsAsReadTo receives (stage p a xs) (stage p x left) in
+      let R : List ℕ → Type 0 = λ l. LeadsAsReadTo receives (stage p a xs) (stage p a l) in
       subst Q (sym nothing.0) (subst R (sym nothing.1) (LeadsAsReadTo-none p a xs)))
       (λ (text, stands, received).
       let m = machine_of p in
@@ -281,7 +282,7 @@ module _ {P : Type 0} (means : P → Call → P → Type 0) (receives : P → Li
   -- a control sequence that leaves the performer as it is
   pub LeadsAsReadTo-sequence : (p : Parser Utf8Parser) (a : P) (xs left : List ℕ) → p.state ≡ Ground → BeginWithSequence xs left
       → ((groups : List (List ℕ)) (collected : List ℕ) (ignore : Bool) (final : ℕ) → receives a (csi_dispatch groups collected ignore final ∷ []) a)
-      → LeadsAsReadTo receives p a xs p a left
+      → LeadsAsReadTo receives (stage p a xs) (stage p a left)
   LeadsAsReadTo-sequence p a xs left ground begun passes =
       let m = machine_of p in
       let passed : List ℕ = 0x1B ∷ 0x5B ∷ begun.fields ++ begun.final ∷ [] in
@@ -304,7 +305,7 @@ module _ {P : Type 0} (means : P → Call → P → Type 0) (receives : P → Li
 
   -- bytes of fields
   pub LeadsAsReadTo-fields : {takes : Utf8Parser → ℕ → Type 0} (p q : Parser Utf8Parser) (a : P) (xs left : List ℕ)
-      → LeadsQuietlyTo takes parser_after is_parameter p xs q left → LeadsAsReadTo receives p a xs q a left
+      → LeadsQuietlyTo takes parser_after is_parameter p xs q left → LeadsAsReadTo receives (stage p a xs) (stage q a left)
   LeadsAsReadTo-fields p q a xs left quiet =
       LeadsAsReadTo-passed p q a a xs left quiet.passed quiet.joined
       (as_they_are-plain parser_after is_parameter
@@ -314,7 +315,7 @@ module _ {P : Type 0} (means : P → Call → P → Type 0) (receives : P → Li
 
   -- text of a command
   pub LeadsAsReadTo-command : {takes : Utf8Parser → ℕ → Type 0} (p q : Parser Utf8Parser) (a : P) (xs left : List ℕ) → p.state ≡ OscString
-      → LeadsQuietlyTo takes parser_after is_of_command p xs q left → LeadsAsReadTo receives p a xs q a left
+      → LeadsQuietlyTo takes parser_after is_of_command p xs q left → LeadsAsReadTo receives (stage p a xs) (stage q a left)
   LeadsAsReadTo-command p q a xs left command quiet =
       LeadsAsReadTo-passed p q a a xs left quiet.passed quiet.joined
       (as_they_are-each parser_after (λ m. m.state ≡ OscString) is_of_command command-read (machine_of p) quiet.passed command quiet.each)
@@ -323,9 +324,9 @@ module _ {P : Type 0} (means : P → Call → P → Type 0) (receives : P → Li
   -- bytes of a run
   pub LeadsAsReadTo-run : (p : Parser Utf8Parser) (run : Run) → KeepsTo run p.state → (a b : P) (bytes left : List ℕ)
       → EachIs (λ c. is_of_run run c) bytes → AreMade means (λ c. run_calls run c) a bytes b
-      → LeadsAsReadTo receives p a (bytes ++ left) p b left
+      → LeadsAsReadTo receives (stage p a (bytes ++ left)) (stage p b left)
   LeadsAsReadTo-run p run keeps a b [] left each made =
-      let S : P → Type 0 = λ x. LeadsAsReadTo receives p a left p x left in
+      let S : P → Type 0 = λ x. LeadsAsReadTo receives (stage p a left) (stage p x left) in
       subst S (sym made) (LeadsAsReadTo-none p a left)
   LeadsAsReadTo-run p run keeps a b (c ∷ bytes) left each made =
       let stepped = step-run parser_after (machine_of p) c run keeps each.0 in
@@ -337,7 +338,7 @@ module _ {P : Type 0} (means : P → Call → P → Type 0) (receives : P → Li
   -- ESC and [, which make no call
   pub LeadsAsReadTo-introduced : (p q : Parser Utf8Parser) (a : P) (first next : ℕ) (behind left : List ℕ) → behind ≡ next ∷ left → p.state ≡ Ground
       → first ≡ 0x1B → next ≡ 0x5B → machine_of q ≡ step parser_after 0x5B (step parser_after 0x1B (machine_of p))
-      → LeadsAsReadTo receives p a (first ∷ behind) q a left
+      → LeadsAsReadTo receives (stage p a (first ∷ behind)) (stage q a left)
   LeadsAsReadTo-introduced p q a first next behind left same ground escape bracket reached =
       let m = machine_of p in
       let passed : List ℕ = 0x1B ∷ 0x5B ∷ [] in

@@ -18,6 +18,7 @@ use Rattle.anstyle_parse.specs.Views.Accumulator.{parser_after}
 use Rattle.anstyle_parse.specs.Views.Parser.{machine_of, AreBelow, IsAfter}
 use Rattle.anstyle_parse.specs.Views.Texts.{LeadsByTextTo}
 use Rattle.anstyle_parse.specs.Views.Passing.{PassFields, BeginWithSequence, LeadsInEffectTo}
+use Rattle.anstyle_parse.specs.Views.Stage.{stage}
 use Rattle.anstyle_parse.proofs.Agreement.Whole.{StandsAfter-machine, Continues-machine}
 use Rattle.anstyle_parse.proofs.Bytes.Passing.{EachIs-append}
 use Rattle.anstyle_parse.proofs.Machine.Actions.{new_in}
@@ -190,13 +191,13 @@ module _ {C : Type 0} (front : C → List ℕ) (takes : C → ℕ → Type 0) (a
 
 module _ {P : Type 0} (receives : P → List Call → P → Type 0) where
   -- what leads by texts does so in effect
-  pub LeadsInEffectTo-text : {p q : Parser Utf8Parser} {a b : P} {xs ys : List ℕ} → LeadsByTextTo receives p a xs q b ys → LeadsInEffectTo receives p a xs q b ys
+  pub LeadsInEffectTo-text : {p q : Parser Utf8Parser} {a b : P} {xs ys : List ℕ} → LeadsByTextTo receives (stage p a xs) (stage q b ys) → LeadsInEffectTo receives (stage p a xs) (stage q b ys)
   LeadsInEffectTo-text led = record { same = ap counted led.machine; made = led.made; joined = led.joined; received = led.received }
 
   -- and so does what comes after it
   pub LeadsInEffectTo-trans : ((old middle new : P) (calls more : List Call) → receives old calls middle → receives middle more new → receives old (calls ++ more) new)
       → {p q r : Parser Utf8Parser} {a b c : P} {xs ys zs : List ℕ}
-      → LeadsInEffectTo receives p a xs q b ys → LeadsInEffectTo receives q b ys r c zs → LeadsInEffectTo receives p a xs r c zs
+      → LeadsInEffectTo receives (stage p a xs) (stage q b ys) → LeadsInEffectTo receives (stage q b ys) (stage r c zs) → LeadsInEffectTo receives (stage p a xs) (stage r c zs)
   LeadsInEffectTo-trans join {a = a} {b = b} {c = c} first second = record {
     same = second.same ∙ first.same;
     made = first.made ++ second.made;
@@ -207,7 +208,7 @@ module _ {P : Type 0} (receives : P → List Call → P → Type 0) where
   -- a control sequence that leaves the performer as it is
   pub LeadsInEffectTo-sequence : (p : Parser Utf8Parser) (a : P) (xs left : List ℕ) → p.state ≡ Ground → BeginWithSequence xs left
       → ((groups : List (List ℕ)) (collected : List ℕ) (ignore : Bool) (final : ℕ) → receives a (csi_dispatch groups collected ignore final ∷ []) a)
-      → LeadsInEffectTo receives p a xs p a left
+      → LeadsInEffectTo receives (stage p a xs) (stage p a left)
   LeadsInEffectTo-sequence p a xs left ground begun passes =
       let (groups, collected, ignore, final, same, calls) = passed-sequence parser_after (machine_of p) xs left ground begun in
       record {

@@ -22,6 +22,7 @@ use Rattle.anstyle_parse.specs.Machine.Step.{Machine, AccumulatorStep, Completes
 use Rattle.anstyle_parse.specs.Views.Parser.{machine_of, CanTakeAll}
 use Rattle.anstyle_parse.specs.Stream.Items.{EachIs}
 use Rattle.anstyle_parse.specs.Views.Runs.{LeadsTo, Takes, LeadsQuietlyTo, KeepsTo, begins_nothing, is_of_command, is_of_run, run_action, run_calls, AreMade}
+use Rattle.anstyle_parse.specs.Views.Stage.{stage}
 use Rattle.anstyle_parse.proofs.Agreement.Whole.{machine_after-append, machine_calls-append}
 use Rattle.anstyle_parse.proofs.Bytes.Passing.{EachIs-append}
 use Rattle.anstyle_parse.proofs.Machine.Steps.{Goes-append, after_change-moves, step-at, step_calls-at, step-outside, step_calls_from-outside}
@@ -359,12 +360,12 @@ module _ {A : Type 0} (adds : AccumulatorStep A) (m : Machine A) where
       )
 
 module _ {C P : Type 0} (takes : C → ℕ → Type 0) (adds : AccumulatorStep C) (means : P → Call → P → Type 0) where
-  pub LeadsTo-same : (parser : Parser C) (performer : P) (bytes : List ℕ) → CanTakeAll takes parser bytes → LeadsTo takes adds means parser performer bytes parser performer bytes
+  pub LeadsTo-same : (parser : Parser C) (performer : P) (bytes : List ℕ) → CanTakeAll takes parser bytes → LeadsTo takes adds means (stage parser performer bytes) (stage parser performer bytes)
   LeadsTo-same parser performer bytes can = record { can = can; machine = refl; made = []; joined = refl; performed = refl }
 
   -- a run after a run
   pub LeadsTo-trans : {p q r : Parser C} {a b c : P} {xs ys zs : List ℕ}
-      → LeadsTo takes adds means p a xs q b ys → LeadsTo takes adds means q b ys r c zs → LeadsTo takes adds means p a xs r c zs
+      → LeadsTo takes adds means (stage p a xs) (stage q b ys) → LeadsTo takes adds means (stage q b ys) (stage r c zs) → LeadsTo takes adds means (stage p a xs) (stage r c zs)
   LeadsTo-trans {a = a} {b = b} {c = c} first second = record {
     can = second.can;
     machine = second.machine ∙ first.machine;
@@ -375,16 +376,16 @@ module _ {C P : Type 0} (takes : C → ℕ → Type 0) (adds : AccumulatorStep C
 
   -- a run of what is left, written out in another way
   pub LeadsTo-first : {p q r : Parser C} {a b c : P} {xs ys zs left : List ℕ} → ys ≡ left
-      → LeadsTo takes adds means p a xs q b ys → (CanTakeAll takes q left → LeadsTo takes adds means q b left r c zs) → LeadsTo takes adds means p a xs r c zs
+      → LeadsTo takes adds means (stage p a xs) (stage q b ys) → (CanTakeAll takes q left → LeadsTo takes adds means (stage q b left) (stage r c zs)) → LeadsTo takes adds means (stage p a xs) (stage r c zs)
   LeadsTo-first {p = p} {q = q} {a = a} {b = b} {xs = xs} same first second =
-      let S : List ℕ → Type 0 = λ l. LeadsTo takes adds means p a xs q b l in
+      let S : List ℕ → Type 0 = λ l. LeadsTo takes adds means (stage p a xs) (stage q b l) in
       let begun = subst S same first in
       LeadsTo-trans begun (second begun.can)
 
   -- one byte, as the machine takes it
   pub LeadsTo-byte : (old new : Parser C) (before after : P) (b : ℕ) (left : List ℕ) → CanTakeAll takes old (b ∷ left)
       → machine_of new ≡ step adds b (machine_of old) → Goes means before (step_calls adds b (machine_of old)) after
-      → LeadsTo takes adds means old before (b ∷ left) new after left
+      → LeadsTo takes adds means (stage old before (b ∷ left)) (stage new after left)
   LeadsTo-byte old new before after b left can stepped goes = record {
     can = CanTakeAll-rest takes adds old new b left stepped can;
     machine = ap (λ m. machine_after adds left m) stepped;
@@ -397,7 +398,7 @@ module _ {C P : Type 0} (takes : C → ℕ → Type 0) (adds : AccumulatorStep C
   pub LeadsTo-bytes : (p q r : Parser C) (x y z : P) (a b : ℕ) (behind left : List ℕ) → CanTakeAll takes p (a ∷ behind) → behind ≡ b ∷ left
       → machine_of q ≡ step adds a (machine_of p) → Goes means x (step_calls adds a (machine_of p)) y
       → machine_of r ≡ step adds b (machine_of q) → Goes means y (step_calls adds b (machine_of q)) z
-      → LeadsTo takes adds means p x (a ∷ behind) r z left
+      → LeadsTo takes adds means (stage p x (a ∷ behind)) (stage r z left)
   LeadsTo-bytes p q r x y z a b behind left can same first_step first_calls second_step second_calls =
       LeadsTo-first same (LeadsTo-byte p q x y a behind can first_step first_calls)
       (λ further. LeadsTo-byte q r y z b left further second_step second_calls)
@@ -405,7 +406,7 @@ module _ {C P : Type 0} (takes : C → ℕ → Type 0) (adds : AccumulatorStep C
   -- ESC and [, which make no call
   pub LeadsTo-introduced : (old new : Parser C) (performer : P) (a b : ℕ) (behind left : List ℕ) → CanTakeAll takes old (a ∷ behind) → behind ≡ b ∷ left
       → old.state ≡ Ground → a ≡ 0x1B → b ≡ 0x5B → machine_of new ≡ step adds 0x5B (step adds 0x1B (machine_of old))
-      → LeadsTo takes adds means old performer (a ∷ behind) new performer left
+      → LeadsTo takes adds means (stage old performer (a ∷ behind)) (stage new performer left)
   LeadsTo-introduced old new performer a b behind left can same ground escape bracket is =
       let m = machine_of old in
       let calls = calls-introduced adds m ground in
@@ -423,23 +424,23 @@ module _ {C P : Type 0} (takes : C → ℕ → Type 0) (adds : AccumulatorStep C
 
   pub Takes-byte : (old new : Parser C) (before after : P) (b : ℕ) (left : List ℕ) → CanTakeAll takes old (b ∷ left)
       → machine_of new ≡ step adds b (machine_of old) → Goes means before (step_calls adds b (machine_of old)) after
-      → Takes takes adds means old before b left new after left
+      → Takes takes adds means (stage old before (b ∷ left)) (stage new after left)
   Takes-byte old new before after b left can stepped goes =
-      record { leads = LeadsTo-byte old new before after b left can stepped goes; within = omega arith }
+      record { leads = LeadsTo-byte old new before after b left can stepped goes; some = omega arith }
 
   -- bytes of which each leaves the machine as it is
   module _ (parser : Parser C) (test : ℕ → Bool) (calls_of : ℕ → List Call)
       (each : (b : ℕ) → IsTrue (test b) → (step adds b (machine_of parser) ≡ machine_of parser) × (step_calls adds b (machine_of parser) ≡ calls_of b)) where
     pub LeadsTo-kept : (before after : P) (b : ℕ) (left : List ℕ) → CanTakeAll takes parser (b ∷ left)
-        → IsTrue (test b) → Goes means before (calls_of b) after → LeadsTo takes adds means parser before (b ∷ left) parser after left
+        → IsTrue (test b) → Goes means before (calls_of b) after → LeadsTo takes adds means (stage parser before (b ∷ left)) (stage parser after left)
     LeadsTo-kept before after b left can passing goes =
         let S : List Call → Type 0 = λ calls. Goes means before calls after in
         LeadsTo-byte parser parser before after b left can (sym (each b passing).0) (subst S (sym (each b passing).1) goes)
 
     pub LeadsTo-all_kept : (before after : P) (bytes left : List ℕ) → CanTakeAll takes parser (bytes ++ left)
-        → EachIs test bytes → AreMade means calls_of before bytes after → LeadsTo takes adds means parser before (bytes ++ left) parser after left
+        → EachIs test bytes → AreMade means calls_of before bytes after → LeadsTo takes adds means (stage parser before (bytes ++ left)) (stage parser after left)
     LeadsTo-all_kept before after [] left can passing goes =
-        let S : P → Type 0 = λ p. LeadsTo takes adds means parser before left parser p left in
+        let S : P → Type 0 = λ p. LeadsTo takes adds means (stage parser before left) (stage parser p left) in
         subst S (sym goes) (LeadsTo-same parser before left can)
     LeadsTo-all_kept before after (b ∷ bytes) left can passing goes =
         let first = LeadsTo-kept before goes.0 b (bytes ++ left) can passing.0 goes.1 in
@@ -448,19 +449,19 @@ module _ {C P : Type 0} (takes : C → ℕ → Type 0) (adds : AccumulatorStep C
   -- a run of a kind, one byte and a chunk
   module _ (run : Run) (parser : Parser C) (keeps : KeepsTo run parser.state) (before after : P) where
     pub LeadsTo-run : (b : ℕ) (left : List ℕ) → CanTakeAll takes parser (b ∷ left)
-        → IsTrue (is_of_run run b) → Goes means before (run_calls run b) after → LeadsTo takes adds means parser before (b ∷ left) parser after left
+        → IsTrue (is_of_run run b) → Goes means before (run_calls run b) after → LeadsTo takes adds means (stage parser before (b ∷ left)) (stage parser after left)
     LeadsTo-run = LeadsTo-kept parser (λ b. is_of_run run b) (λ b. run_calls run b) (λ b. step-run adds (machine_of parser) b run keeps) before after
 
     pub LeadsTo-chunk : (bytes left : List ℕ) → CanTakeAll takes parser (bytes ++ left)
         → EachIs (λ b. is_of_run run b) bytes → AreMade means (λ b. run_calls run b) before bytes after
-        → LeadsTo takes adds means parser before (bytes ++ left) parser after left
+        → LeadsTo takes adds means (stage parser before (bytes ++ left)) (stage parser after left)
     LeadsTo-chunk = LeadsTo-all_kept parser (λ b. is_of_run run b) (λ b. run_calls run b) (λ b. step-run adds (machine_of parser) b run keeps) before after
 
     -- the front of a chunk
     pub LeadsTo-front : {p : Parser C} {first : P} {xs : List ℕ} (count : ℕ) (rest chunk few others : List ℕ)
         → chunk ≡ take 16 rest → count ≤ length chunk → EachIs (λ b. is_of_run run b) (take count chunk)
         → few ≡ take count rest → others ≡ drop count rest → AreMade means (λ b. run_calls run b) before few after
-        → LeadsTo takes adds means p first xs parser before rest → LeadsTo takes adds means p first xs parser after others
+        → LeadsTo takes adds means (stage p first xs) (stage parser before rest) → LeadsTo takes adds means (stage p first xs) (stage parser after others)
     LeadsTo-front count rest chunk few others front within each taken behind made begun =
         let same : few ≡ take count chunk = taken ∙ front_of_chunk 16 count rest chunk front within in
         LeadsTo-first (chunk_and_rest count rest few others taken behind) begun
@@ -469,7 +470,7 @@ module _ {C P : Type 0} (takes : C → ℕ → Type 0) (adds : AccumulatorStep C
   -- a whole character
   pub LeadsTo-whole : (parser : Parser C) (before after : P) (first : ℕ) (behind : List ℕ) (c : ℕ) (left : List ℕ) → CanTakeAll takes parser (first ∷ behind)
       → parser.state ≡ Ground → IsWhole adds parser.accumulator first behind c left → means before (print c) after
-      → LeadsTo takes adds means parser before (first ∷ behind) parser after left
+      → LeadsTo takes adds means (stage parser before (first ∷ behind)) (stage parser after left)
   unfolding is_lead is_within
   LeadsTo-whole parser before after first behind c left can ground whole goes =
       let taken = whole-taken adds (machine_of parser) first behind c left ground whole in
@@ -484,7 +485,7 @@ module _ {C P : Type 0} (takes : C → ℕ → Type 0) (adds : AccumulatorStep C
 
   -- bytes that make no call
   pub LeadsTo-quiet : {test : ℕ → Bool} (old new : Parser C) (performer : P) (bytes left : List ℕ) → LeadsQuietlyTo takes adds test old bytes new left
-      → LeadsTo takes adds means old performer bytes new performer left
+      → LeadsTo takes adds means (stage old performer bytes) (stage new performer left)
   LeadsTo-quiet old new performer bytes left quiet =
       let m = machine_of old in
       record {

@@ -26,6 +26,7 @@ use Rattle.anstyle_parse.specs.Views.Accumulator.{front_of, parser_after}
 use Rattle.anstyle_parse.specs.Views.Parser.{machine_of}
 use Rattle.anstyle_parse.specs.Views.Runs.{LeadsTo}
 use Rattle.anstyle_parse.specs.Views.Texts.{is_text_character, is_text_byte, BeginWithText, IsTextAt, LeadsByTextTo}
+use Rattle.anstyle_parse.specs.Views.Stage.{stage}
 use Rattle.anstyle_parse.proofs.Bytes.Passing.{EachIs-append}
 use Rattle.anstyle_parse.proofs.Characters.Encoding.{within, within_parts, encode_one, encode-stands, character_range}
 use Rattle.anstyle_parse.proofs.Characters.Layout.{layout-low}
@@ -239,11 +240,11 @@ module _ {P : Type 0} (means : P → Call → P → Type 0) (receives : P → Li
   receives-Goes [] old new same = subst (λ p. receives old [] p) (sym same) (none old)
   receives-Goes (call ∷ calls) old new (middle, first, others) = more old middle new (call ∷ []) calls (one old call middle first) (receives-Goes calls middle new others)
 
-  pub LeadsByTextTo-none : (parser : Parser Utf8Parser) (performer : P) (bytes : List ℕ) → LeadsByTextTo receives parser performer bytes parser performer bytes
+  pub LeadsByTextTo-none : (parser : Parser Utf8Parser) (performer : P) (bytes : List ℕ) → LeadsByTextTo receives (stage parser performer bytes) (stage parser performer bytes)
   LeadsByTextTo-none parser performer bytes = record { machine = refl; made = []; joined = refl; received = none performer }
 
   pub LeadsByTextTo-trans : {p q r : Parser Utf8Parser} {a b c : P} {xs ys zs : List ℕ}
-      → LeadsByTextTo receives p a xs q b ys → LeadsByTextTo receives q b ys r c zs → LeadsByTextTo receives p a xs r c zs
+      → LeadsByTextTo receives (stage p a xs) (stage q b ys) → LeadsByTextTo receives (stage q b ys) (stage r c zs) → LeadsByTextTo receives (stage p a xs) (stage r c zs)
   LeadsByTextTo-trans {a = a} {b = b} {c = c} first second = record {
     machine = second.machine ∙ first.machine;
     made = first.made ++ second.made;
@@ -253,14 +254,14 @@ module _ {P : Type 0} (means : P → Call → P → Type 0) (receives : P → Li
 
   -- a run
   pub LeadsByTextTo-run : {takes : Utf8Parser → ℕ → Type 0} {p q r : Parser Utf8Parser} {a b c : P} {xs ys zs left : List ℕ} → ys ≡ left
-      → LeadsByTextTo receives p a xs q b ys → LeadsTo takes parser_after means q b left r c zs → LeadsByTextTo receives p a xs r c zs
+      → LeadsByTextTo receives (stage p a xs) (stage q b ys) → LeadsTo takes parser_after means (stage q b left) (stage r c zs) → LeadsByTextTo receives (stage p a xs) (stage r c zs)
   LeadsByTextTo-run {p = p} {q = q} {a = a} {b = b} {c = c} {xs = xs} same first run =
-      let S : List ℕ → Type 0 = λ l. LeadsByTextTo receives p a xs q b l in
+      let S : List ℕ → Type 0 = λ l. LeadsByTextTo receives (stage p a xs) (stage q b l) in
       LeadsByTextTo-trans (subst S same first) (record { machine = run.machine; made = run.made; joined = run.joined; received = receives-Goes run.made b c run.performed })
 
   -- a text
   pub LeadsByTextTo-text : (p : Parser Utf8Parser) (a b : P) (xs text left : List ℕ) → IsTextAt p xs text left → receives a (layout_calls text) b
-      → LeadsByTextTo receives p a xs p b left
+      → LeadsByTextTo receives (stage p a xs) (stage p b left)
   unfolding Prints
   LeadsByTextTo-text p a b xs text left stands received =
       let empty = decoder-Empty p.accumulator.decoder stands.at.1 in
@@ -276,9 +277,9 @@ module _ {P : Type 0} (means : P → Call → P → Type 0) (receives : P → Li
       }
 
   -- all bytes
-  pub LeadsByTextTo-all : (p q : Parser Utf8Parser) (a b : P) (xs ys : List ℕ) → ys ≡ [] → LeadsByTextTo receives p a xs q b ys
+  pub LeadsByTextTo-all : (p q : Parser Utf8Parser) (a b : P) (xs ys : List ℕ) → ys ≡ [] → LeadsByTextTo receives (stage p a xs) (stage q b ys)
       → (machine_of q ≡ machine_after parser_after xs (machine_of p)) × receives a (machine_calls parser_after xs (machine_of p)) b
   LeadsByTextTo-all p q a b xs ys end led =
-      let S : List ℕ → Type 0 = λ l. LeadsByTextTo receives p a xs q b l in
+      let S : List ℕ → Type 0 = λ l. LeadsByTextTo receives (stage p a xs) (stage q b l) in
       let done = subst S end led in
       (done.machine, subst (λ calls. receives a calls b) (sym (done.joined ∙ append-nil done.made)) done.received)

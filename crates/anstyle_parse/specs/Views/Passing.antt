@@ -1,7 +1,6 @@
 -- What passing over a control sequence leads to.
 use Rattle.std.specs.Prelude.{◌≡◌, ℕ, List, ◌∷◌, ◌++◌, IsTrue}
 use Rattle.anstyle_parse.specs.declared.accumulator.Utf8Parser.{Utf8Parser}
-use Rattle.anstyle_parse.specs.declared.parser.Parser.{Parser}
 use Rattle.anstyle_parse.specs.Stream.Bytes.{is_parameter, is_final, escape_byte}
 use Rattle.anstyle_parse.specs.Stream.Call.{Call}
 use Rattle.anstyle_parse.specs.Stream.Items.{EachIs}
@@ -9,6 +8,7 @@ use Rattle.anstyle_parse.specs.Machine.Step.{machine_after, machine_calls}
 use Rattle.anstyle_parse.specs.Machine.Stands.{counted}
 use Rattle.anstyle_parse.specs.Views.Accumulator.{parser_after}
 use Rattle.anstyle_parse.specs.Views.Parser.{machine_of}
+use Rattle.anstyle_parse.specs.Views.Stage.{Stage}
 
 -- the bytes begin with digits and separators of fields, and these are left
 pub record PassFields (bytes left : List ℕ) : Type 0 where
@@ -27,10 +27,10 @@ pub record BeginWithSequence (bytes left : List ℕ) : Type 0 where
 -- In what counts, going on from here with what is left is going from the start with all bytes, and what calls
 -- are made on the way the performer has received.
 pub record LeadsInEffectTo {P : Type 0} (receives : P → List Call → P → Type 0)
-    (old : Parser Utf8Parser) (before : P) (bytes : List ℕ) (new : Parser Utf8Parser) (after : P)
-    (left : List ℕ) : Type 0 where
-  pub same : counted (machine_after parser_after left (machine_of new)) ≡ counted (machine_after parser_after bytes (machine_of old))
+    (old new : Stage Utf8Parser P) : Type 0 where
+  pub same : counted (machine_after parser_after new.left (machine_of new.parser))
+      ≡ counted (machine_after parser_after old.left (machine_of old.parser))
   pub made : List Call
-  pub joined : machine_calls parser_after bytes (machine_of old)
-      ≡ made ++ machine_calls parser_after left (machine_of new)
-  pub received : receives before made after
+  pub joined : machine_calls parser_after old.left (machine_of old.parser)
+      ≡ made ++ machine_calls parser_after new.left (machine_of new.parser)
+  pub received : receives old.performer made new.performer

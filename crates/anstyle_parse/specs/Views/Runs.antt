@@ -1,5 +1,5 @@
 -- What a run of bytes that are taken at once leads to, and which bytes are runs.
-use Rattle.std.specs.Prelude.{◌≡◌, ◌≢◌, ◌≤◌, ◌||◌, ℕ, Bool, List, [], ◌∷◌, ◌++◌, length, IsTrue}
+use Rattle.std.specs.Prelude.{◌≡◌, ◌≢◌, ◌<◌, ◌||◌, ℕ, Bool, List, [], ◌∷◌, ◌++◌, length, IsTrue}
 use Rattle.anstyle_parse.specs.declared.state.definitions.State.{State}
 use Rattle.anstyle_parse.specs.declared.state.definitions.State.TheVariants.{Anywhere, Utf8}
 use Rattle.anstyle_parse.specs.declared.state.definitions.Action.{Action}
@@ -13,25 +13,26 @@ use Rattle.anstyle_parse.specs.Stream.Items.{EachIs}
 use Rattle.anstyle_parse.specs.Machine.Table.{◌by◌, change_at}
 use Rattle.anstyle_parse.specs.Machine.Step.{AccumulatorStep, machine_after, machine_calls}
 use Rattle.anstyle_parse.specs.Views.Parser.{machine_of, CanTakeAll}
+use Rattle.anstyle_parse.specs.Views.Stage.{Stage}
 
 -- Going on from here with what is left is going from the start with all bytes: the machine
 -- ends as the same one, and the performer has received what calls are made on the way.
 pub record LeadsTo {C P : Type 0} (takes : C → ℕ → Type 0) (adds : AccumulatorStep C) (means : P → Call → P → Type 0)
-    (old : Parser C) (before : P) (bytes : List ℕ) (new : Parser C) (after : P) (left : List ℕ) : Type 0 where
+    (old new : Stage C P) : Type 0 where
   -- what is left can be taken
-  pub can : CanTakeAll takes new left
-  pub machine : machine_after adds left (machine_of new) ≡ machine_after adds bytes (machine_of old)
+  pub can : CanTakeAll takes new.parser new.left
+  pub machine : machine_after adds new.left (machine_of new.parser) ≡ machine_after adds old.left (machine_of old.parser)
   -- the calls that are made on the way
   pub made : List Call
-  pub joined : machine_calls adds bytes (machine_of old) ≡ made ++ machine_calls adds left (machine_of new)
-  pub performed : Goes means before made after
+  pub joined : machine_calls adds old.left (machine_of old.parser)
+      ≡ made ++ machine_calls adds new.left (machine_of new.parser)
+  pub performed : Goes means old.performer made new.performer
 
--- the same from a first byte on, which is not left
+-- the same, and not all bytes are left
 pub record Takes {C P : Type 0} (takes : C → ℕ → Type 0) (adds : AccumulatorStep C) (means : P → Call → P → Type 0)
-    (old : Parser C) (before : P) (first : ℕ) (behind : List ℕ) (new : Parser C) (after : P)
-    (left : List ℕ) : Type 0 where
-  pub leads : LeadsTo takes adds means old before (first ∷ behind) new after left
-  pub within : length left ≤ length behind
+    (old new : Stage C P) : Type 0 where
+  pub leads : LeadsTo takes adds means old new
+  pub some : length new.left < length old.left
 
 -- Bytes at the front that all pass a test are taken, with no call, and these are left.
 pub record LeadsQuietlyTo {C : Type 0} (takes : C → ℕ → Type 0) (adds : AccumulatorStep C) (test : ℕ → Bool)

@@ -12,6 +12,7 @@ use Rattle.anstyle_parse.specs.Laws.Lawful.{is_character}
 use Rattle.anstyle_parse.specs.Machine.Step.{machine_after, machine_calls}
 use Rattle.anstyle_parse.specs.Views.Accumulator.{front_of, parser_after}
 use Rattle.anstyle_parse.specs.Views.Parser.{machine_of}
+use Rattle.anstyle_parse.specs.Views.Stage.{Stage}
 
 -- a character of a text that is handed on: one that can be printed, or a layout control
 unfoldable pub is_text_character : ℕ → Bool
@@ -41,7 +42,8 @@ pub record IsTextAt (parser : Parser Utf8Parser) (bytes text left : List ℕ) : 
 
 -- The performer has received the calls of such a text at the front, and what comes after it is left; or nothing is
 -- done.
-abbrev pub TakesText : {P : Type 0} → (P → List Call → P → Type 0) → Parser Utf8Parser → P → List ℕ → P → List ℕ → Type 0
+abbrev pub TakesText : {P : Type 0} → (P → List Call → P → Type 0) → Parser Utf8Parser
+    → P → List ℕ → P → List ℕ → Type 0
 TakesText receives parser before bytes after left =
     ((after ≡ before) × (left ≡ bytes))
     ⊎ ((text : List ℕ) × IsTextAt parser bytes text left × receives before (layout_calls text) after)
@@ -49,13 +51,13 @@ TakesText receives parser before bytes after left =
 -- Going on from here with what is left is going from the start with all bytes, and what calls
 -- are made on the way the performer has received.
 pub record LeadsByTextTo {P : Type 0} (receives : P → List Call → P → Type 0)
-    (old : Parser Utf8Parser) (before : P) (bytes : List ℕ) (new : Parser Utf8Parser) (after : P)
-    (left : List ℕ) : Type 0 where
-  pub machine : machine_after parser_after left (machine_of new) ≡ machine_after parser_after bytes (machine_of old)
+    (old new : Stage Utf8Parser P) : Type 0 where
+  pub machine : machine_after parser_after new.left (machine_of new.parser)
+      ≡ machine_after parser_after old.left (machine_of old.parser)
   pub made : List Call
-  pub joined : machine_calls parser_after bytes (machine_of old)
-      ≡ made ++ machine_calls parser_after left (machine_of new)
-  pub received : receives before made after
+  pub joined : machine_calls parser_after old.left (machine_of old.parser)
+      ≡ made ++ machine_calls parser_after new.left (machine_of new.parser)
+  pub received : receives old.performer made new.performer
 
 -- a layout control comes first, or nothing comes
 abbrev pub AreAtLayout : List ℕ → Type 0

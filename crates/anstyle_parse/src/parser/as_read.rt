@@ -8,6 +8,7 @@ ghost use Rattle.anstyle_parse.specs.Views.Accumulator.{front_of, parser_after};
 ghost use Rattle.anstyle_parse.specs.Views.AsRead.{read_by, read_one, LeadsAsReadTo, PassBytes};
 ghost use Rattle.anstyle_parse.specs.Views.Front.{bytes_of};
 ghost use Rattle.anstyle_parse.specs.Views.Runs.{KeepsTo, is_of_run};
+ghost use Rattle.anstyle_parse.specs.Views.Stage.{stage};
 
 use super::Parser;
 use super::header::is_final_byte;
@@ -118,7 +119,7 @@ impl Parser<Utf8Parser> {
 
     /// Bytes, as they are read, as the machine takes them one after another, in what counts.
     fn take_log<P: PerformText>(&mut self, performer: &mut P, bytes: &[u8])
-        ensures { LeadsAsReadTo P.receives self.old performer.old bytes.now self.new performer.new [] }
+        ensures { LeadsAsReadTo P.receives (stage self.old performer.old bytes.now) (stage self.new performer.new []) }
     {
         let mut rest = bytes;
         'rest: while let Some((first, behind)) = rest.split_first() {
@@ -145,8 +146,8 @@ impl Parser<Utf8Parser> {
         bytes: &'a [u8],
     ) -> &'a [u8]
         requires { self.old.state ≡ State.Ground }
-        ensures leads { LeadsAsReadTo P.receives self.old performer.old bytes.now
-            self.new performer.new result.now }
+        ensures leads { LeadsAsReadTo P.receives (stage self.old performer.old bytes.now)
+            (stage self.new performer.new result.now) }
         ensures onward { length result.now ≤ length bytes.now - 1 }
     {
         let further = self.take_text(performer, bytes);
@@ -166,8 +167,8 @@ impl Parser<Utf8Parser> {
         bytes: &'a [u8],
     ) -> &'a [u8]
         requires { self.old.state ≡ State.Ground }
-        ensures leads { LeadsAsReadTo P.receives self.old performer.old bytes.now
-            self.new performer.new result.now }
+        ensures leads { LeadsAsReadTo P.receives (stage self.old performer.old bytes.now)
+            (stage self.new performer.new result.now) }
         ensures onward { length result.now ≤ length bytes.now - 1 }
     {
         let Some((first, behind)) = bytes.split_first() else {
@@ -194,8 +195,8 @@ impl Parser<Utf8Parser> {
     ) -> &'a [u8]
         requires ground { self.old.state ≡ State.Ground }
         requires escape { first ≡ 0x1B }
-        ensures leads { LeadsAsReadTo P.receives self.old performer.old (first ∷ behind.now)
-            self.new performer.new result.now }
+        ensures leads { LeadsAsReadTo P.receives (stage self.old performer.old (first ∷ behind.now))
+            (stage self.new performer.new result.now) }
         ensures within { length result.now ≤ length behind.now }
     {
         match behind.split_first() {
@@ -215,8 +216,8 @@ impl Parser<Utf8Parser> {
         bytes: &'a [u8],
     ) -> &'a [u8]
         requires { (self.old.state ≡ State.CsiEntry) ⊎ (self.old.state ≡ State.CsiParam) }
-        ensures leads { LeadsAsReadTo P.receives self.old performer.old bytes.now
-            self.new performer.new result.now }
+        ensures leads { LeadsAsReadTo P.receives (stage self.old performer.old bytes.now)
+            (stage self.new performer.new result.now) }
         ensures onward { length result.now ≤ length bytes.now - 1 }
     {
         let rest = self.take_fields(bytes);
@@ -241,8 +242,8 @@ impl Parser<Utf8Parser> {
         behind: &'a [u8],
     ) -> &'a [u8]
         requires { (self.old.state ≡ State.CsiEntry) ⊎ (self.old.state ≡ State.CsiParam) }
-        ensures leads { LeadsAsReadTo P.receives self.old performer.old (first ∷ behind.now)
-            self.new performer.new result.now }
+        ensures leads { LeadsAsReadTo P.receives (stage self.old performer.old (first ∷ behind.now))
+            (stage self.new performer.new result.now) }
         ensures behind { result.now ≡ behind.now }
     {
         if first < ESCAPE {
@@ -262,8 +263,8 @@ impl Parser<Utf8Parser> {
         behind: &'a [u8],
     ) -> &'a [u8]
         requires { KeepsTo run self.old.state }
-        ensures leads { LeadsAsReadTo P.receives self.old performer.old (first ∷ behind.now)
-            self.new performer.new result.now }
+        ensures leads { LeadsAsReadTo P.receives (stage self.old performer.old (first ∷ behind.now))
+            (stage self.new performer.new result.now) }
         ensures within { length result.now ≤ length behind.now }
     {
         if !run.has(first) {
@@ -284,8 +285,8 @@ impl Parser<Utf8Parser> {
         first: u8,
         behind: &'a [u8],
     ) -> &'a [u8]
-        ensures leads { LeadsAsReadTo P.receives self.old performer.old (first ∷ behind.now)
-            self.new performer.new result.now }
+        ensures leads { LeadsAsReadTo P.receives (stage self.old performer.old (first ∷ behind.now))
+            (stage self.new performer.new result.now) }
         ensures behind { result.now ≡ behind.now }
     {
         self.step_as_read(performer, first);

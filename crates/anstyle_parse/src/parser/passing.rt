@@ -2,6 +2,7 @@
 ghost use Rattle.std.specs.Prelude.{◌≡◌, ◌≤◌, ◌<◌, ◌-◌, ◌++◌, [], ℕ, List, IfSome, length};
 ghost use Rattle.anstyle_parse.specs.Views.Accumulator.{front_of, parser_after};
 ghost use Rattle.anstyle_parse.specs.Views.Passing.{PassFields, BeginWithSequence, LeadsInEffectTo};
+ghost use Rattle.anstyle_parse.specs.Views.Stage.{stage};
 
 use super::Parser;
 use super::header::is_final_byte;
@@ -81,7 +82,7 @@ impl Parser<Utf8Parser> {
 
     /// Bytes, as the machine takes them one after another, in what counts.
     fn take_heeded<P: PerformText>(&mut self, performer: &mut P, bytes: &[u8])
-        ensures { LeadsInEffectTo P.receives self.old performer.old bytes.now self.new performer.new [] }
+        ensures { LeadsInEffectTo P.receives (stage self.old performer.old bytes.now) (stage self.new performer.new []) }
     {
         let mut rest = bytes;
         'rest: while !rest.is_empty() {
@@ -96,8 +97,8 @@ impl Parser<Utf8Parser> {
     #[inline(always)]
     fn take_or_pass<'a, P: PerformText>(&mut self, performer: &mut P, bytes: &'a [u8]) -> &'a [u8]
         requires { self.old.state ≡ State.Ground }
-        ensures leads { LeadsInEffectTo P.receives self.old performer.old bytes.now
-            self.new performer.new result.now }
+        ensures leads { LeadsInEffectTo P.receives (stage self.old performer.old bytes.now)
+            (stage self.new performer.new result.now) }
         ensures onward { length result.now ≤ length bytes.now - 1 }
     {
         let further = self.take_text(performer, bytes);

@@ -10,6 +10,7 @@ ghost use Rattle.anstyle_parse.specs.Stream.Bytes.{is_within, is_parameter};
 ghost use Rattle.anstyle_parse.specs.Stream.Call.{Goes};
 ghost use Rattle.anstyle_parse.specs.Machine.Table.{◌by◌, change_at};
 ghost use Rattle.anstyle_parse.specs.Views.Runs.{Takes, LeadsTo, LeadsQuietlyTo, KeepsTo, begins_nothing, is_of_command, is_of_run, run_calls, AreMade};
+ghost use Rattle.anstyle_parse.specs.Views.Stage.{stage};
 
 use super::Parser;
 use super::command::is_plain_byte;
@@ -127,8 +128,8 @@ impl<C: CharAccumulator> Parser<C> {
         bytes: &'a [u8],
     ) -> &'a [u8]
         requires { CanTakeAll C.takes self.old bytes.now }
-        ensures leads { LeadsTo C.takes C.taken P.means self.old performer.old bytes.now
-            self.new performer.new result.now }
+        ensures leads { LeadsTo C.takes C.taken P.means (stage self.old performer.old bytes.now)
+            (stage self.new performer.new result.now) }
         ensures onward { length result.now ≤ length bytes.now - 1 }
     {
         let Some((first, behind)) = bytes.split_first() else {
@@ -159,8 +160,8 @@ impl<C: CharAccumulator> Parser<C> {
         behind: &'a [u8],
     ) -> &'a [u8]
         requires { CanTakeAll C.takes self.old (first ∷ behind.now) }
-        ensures { Takes C.takes C.taken P.means self.old performer.old first behind.now
-            self.new performer.new result.now }
+        ensures { Takes C.takes C.taken P.means (stage self.old performer.old (first ∷ behind.now))
+            (stage self.new performer.new result.now) }
     {
         self.step(performer, first);
         behind
@@ -182,8 +183,8 @@ impl<C: CharAccumulator> Parser<C> {
     ) -> &'a [u8]
         requires keeps { KeepsTo run self.old.state }
         requires can { CanTakeAll C.takes self.old (first ∷ behind.now) }
-        ensures { Takes C.takes C.taken P.means self.old performer.old first behind.now
-            self.new performer.new result.now }
+        ensures { Takes C.takes C.taken P.means (stage self.old performer.old (first ∷ behind.now))
+            (stage self.new performer.new result.now) }
     {
         if !run.has(first) {
             return self.take_by_table(performer, first, behind);
@@ -203,8 +204,8 @@ impl<C: CharAccumulator> Parser<C> {
         requires keeps { KeepsTo run self.now.state }
         requires first { IsTrue (is_of_run run first) }
         requires can { CanTakeAll C.takes self.now (first ∷ behind.now) }
-        ensures { Takes C.takes C.taken P.means self.now performer.old first behind.now
-            self.now performer.new result.now }
+        ensures { Takes C.takes C.taken P.means (stage self.now performer.old (first ∷ behind.now))
+            (stage self.now performer.new result.now) }
     {
         run.call(performer, first);
         self.take_chunks(performer, run, behind)
@@ -215,8 +216,8 @@ impl<C: CharAccumulator> Parser<C> {
     fn take_chunks<'a, P: Perform>(&self, performer: &mut P, run: Run, bytes: &'a [u8]) -> &'a [u8]
         requires keeps { KeepsTo run self.now.state }
         requires can { CanTakeAll C.takes self.now bytes.now }
-        ensures leads { LeadsTo C.takes C.taken P.means self.now performer.old bytes.now
-            self.now performer.new result.now }
+        ensures leads { LeadsTo C.takes C.taken P.means (stage self.now performer.old bytes.now)
+            (stage self.now performer.new result.now) }
         ensures within { length result.now ≤ length bytes.now }
     {
         let mut rest = bytes;
@@ -238,8 +239,8 @@ impl<C: CharAccumulator> Parser<C> {
     fn take_others<'a, P: Perform>(&self, performer: &mut P, run: Run, bytes: &'a [u8]) -> &'a [u8]
         requires keeps { KeepsTo run self.now.state }
         requires can { CanTakeAll C.takes self.now bytes.now }
-        ensures leads { LeadsTo C.takes C.taken P.means self.now performer.old bytes.now
-            self.now performer.new result.now }
+        ensures leads { LeadsTo C.takes C.taken P.means (stage self.now performer.old bytes.now)
+            (stage self.now performer.new result.now) }
         ensures within { length result.now ≤ length bytes.now }
     {
         let mut rest = bytes;
@@ -277,8 +278,8 @@ impl<C: CharAccumulator> Parser<C> {
     ) -> &'a [u8]
         requires ground { self.old.state ≡ State.Ground }
         requires can { CanTakeAll C.takes self.old bytes.now }
-        ensures leads { LeadsTo C.takes C.taken P.means self.old performer.old bytes.now
-            self.new performer.new result.now }
+        ensures leads { LeadsTo C.takes C.taken P.means (stage self.old performer.old bytes.now)
+            (stage self.new performer.new result.now) }
         ensures onward { length result.now ≤ length bytes.now - 1 }
     {
         let Some((first, behind)) = bytes.split_first() else {
@@ -301,8 +302,8 @@ impl<C: CharAccumulator> Parser<C> {
     ) -> &'a [u8]
         requires ground { self.old.state ≡ State.Ground }
         requires can { CanTakeAll C.takes self.old bytes.now }
-        ensures leads { LeadsTo C.takes C.taken P.means self.old performer.old bytes.now
-            self.new performer.new result.now }
+        ensures leads { LeadsTo C.takes C.taken P.means (stage self.old performer.old bytes.now)
+            (stage self.new performer.new result.now) }
         ensures onward { length result.now ≤ length bytes.now - 1 }
     {
         let Some((first, behind)) = bytes.split_first() else {
@@ -354,8 +355,8 @@ impl<C: CharAccumulator> Parser<C> {
     fn take_characters<'a, P: Perform>(&self, performer: &mut P, bytes: &'a [u8]) -> &'a [u8]
         requires ground { self.now.state ≡ State.Ground }
         requires can { CanTakeAll C.takes self.now bytes.now }
-        ensures leads { LeadsTo C.takes C.taken P.means self.now performer.old bytes.now
-            self.now performer.new result.now }
+        ensures leads { LeadsTo C.takes C.taken P.means (stage self.now performer.old bytes.now)
+            (stage self.now performer.new result.now) }
         ensures within { length result.now ≤ length bytes.now }
     {
         let mut rest = bytes;
@@ -381,8 +382,8 @@ impl<C: CharAccumulator> Parser<C> {
         requires ground { self.old.state ≡ State.Ground }
         requires escape { first ≡ 0x1B }
         requires can { CanTakeAll C.takes self.old (first ∷ behind.now) }
-        ensures { Takes C.takes C.taken P.means self.old performer.old first behind.now
-            self.new performer.new result.now }
+        ensures { Takes C.takes C.taken P.means (stage self.old performer.old (first ∷ behind.now))
+            (stage self.new performer.new result.now) }
     {
         match behind.split_first() {
             Some((next, rest)) if *next == b'[' => {
@@ -414,8 +415,8 @@ impl<C: CharAccumulator> Parser<C> {
         requires ground { self.old.state ≡ State.Ground }
         requires escape { first ≡ 0x1B }
         requires can { CanTakeAll C.takes self.old (first ∷ behind.now) }
-        ensures { Takes C.takes C.taken P.means self.old performer.old first behind.now
-            self.new performer.new result.now }
+        ensures { Takes C.takes C.taken P.means (stage self.old performer.old (first ∷ behind.now))
+            (stage self.new performer.new result.now) }
     {
         self.step_by_answer(performer, State::Escape, Action::Nop, first);
         if let Some((next, rest)) = behind.split_first() {
@@ -443,8 +444,8 @@ impl<C: CharAccumulator> Parser<C> {
     ) -> &'a [u8]
         requires escape { self.old.state ≡ State.Escape }
         requires can { CanTakeAll C.takes self.old (first ∷ behind.now) }
-        ensures { Takes C.takes C.taken P.means self.old performer.old first behind.now
-            self.new performer.new result.now }
+        ensures { Takes C.takes C.taken P.means (stage self.old performer.old (first ∷ behind.now))
+            (stage self.new performer.new result.now) }
     {
         if first == b'\\' {
             self.step_by_answer(performer, State::Ground, Action::EscDispatch, first);
@@ -463,8 +464,8 @@ impl<C: CharAccumulator> Parser<C> {
     ) -> &'a [u8]
         requires escape { self.old.state ≡ State.Escape }
         requires can { CanTakeAll C.takes self.old (first ∷ behind.now) }
-        ensures { Takes C.takes C.taken P.means self.old performer.old first behind.now
-            self.new performer.new result.now }
+        ensures { Takes C.takes C.taken P.means (stage self.old performer.old (first ∷ behind.now))
+            (stage self.new performer.new result.now) }
     {
         if first == b'P' {
             self.step_by_answer(performer, State::DcsEntry, Action::Nop, first);
@@ -487,8 +488,8 @@ impl<C: CharAccumulator> Parser<C> {
     ) -> &'a [u8]
         requires header { (self.old.state ≡ State.CsiEntry) ⊎ (self.old.state ≡ State.CsiParam) }
         requires can { CanTakeAll C.takes self.old bytes.now }
-        ensures leads { LeadsTo C.takes C.taken P.means self.old performer.old bytes.now
-            self.new performer.new result.now }
+        ensures leads { LeadsTo C.takes C.taken P.means (stage self.old performer.old bytes.now)
+            (stage self.new performer.new result.now) }
         ensures onward { length result.now ≤ length bytes.now - 1 }
     {
         let rest = self.take_fields(bytes);
@@ -509,8 +510,8 @@ impl<C: CharAccumulator> Parser<C> {
     fn take_on_in_header<'a, P: Perform>(&mut self, performer: &mut P, bytes: &'a [u8]) -> &'a [u8]
         requires header { (self.old.state ≡ State.CsiEntry) ⊎ (self.old.state ≡ State.CsiParam) }
         requires can { CanTakeAll C.takes self.old bytes.now }
-        ensures leads { LeadsTo C.takes C.taken P.means self.old performer.old bytes.now
-            self.new performer.new result.now }
+        ensures leads { LeadsTo C.takes C.taken P.means (stage self.old performer.old bytes.now)
+            (stage self.new performer.new result.now) }
         ensures onward { length result.now ≤ length bytes.now - 1 }
     {
         self.take_in_header(performer, bytes)
@@ -526,8 +527,8 @@ impl<C: CharAccumulator> Parser<C> {
     ) -> &'a [u8]
         requires header { (self.old.state ≡ State.CsiEntry) ⊎ (self.old.state ≡ State.CsiParam) }
         requires can { CanTakeAll C.takes self.old (first ∷ behind.now) }
-        ensures { Takes C.takes C.taken P.means self.old performer.old first behind.now
-            self.new performer.new result.now }
+        ensures { Takes C.takes C.taken P.means (stage self.old performer.old (first ∷ behind.now))
+            (stage self.new performer.new result.now) }
     {
         match self.state {
             State::CsiEntry if is_marker(first) => {
@@ -548,8 +549,8 @@ impl<C: CharAccumulator> Parser<C> {
     ) -> &'a [u8]
         requires header { (self.old.state ≡ State.CsiEntry) ⊎ (self.old.state ≡ State.CsiParam) }
         requires can { CanTakeAll C.takes self.old (first ∷ behind.now) }
-        ensures { Takes C.takes C.taken P.means self.old performer.old first behind.now
-            self.new performer.new result.now }
+        ensures { Takes C.takes C.taken P.means (stage self.old performer.old (first ∷ behind.now))
+            (stage self.new performer.new result.now) }
     {
         if first < ESCAPE {
             self.execute_in_header(performer, first);
@@ -590,8 +591,8 @@ impl<C: CharAccumulator> Parser<C> {
     fn take_command<'a, P: Perform>(&mut self, performer: &mut P, bytes: &'a [u8]) -> &'a [u8]
         requires command { self.old.state ≡ State.OscString }
         requires can { CanTakeAll C.takes self.old bytes.now }
-        ensures leads { LeadsTo C.takes C.taken P.means self.old performer.old bytes.now
-            self.new performer.new result.now }
+        ensures leads { LeadsTo C.takes C.taken P.means (stage self.old performer.old bytes.now)
+            (stage self.new performer.new result.now) }
         ensures within { length result.now ≤ length bytes.now }
     {
         match bytes.split_first() {
@@ -610,8 +611,8 @@ impl<C: CharAccumulator> Parser<C> {
     ) -> &'a [u8]
         requires command { self.old.state ≡ State.OscString }
         requires can { CanTakeAll C.takes self.old (first ∷ behind.now) }
-        ensures { Takes C.takes C.taken P.means self.old performer.old first behind.now
-            self.new performer.new result.now }
+        ensures { Takes C.takes C.taken P.means (stage self.old performer.old (first ∷ behind.now))
+            (stage self.new performer.new result.now) }
     {
         if first < SPACE {
             return self.take_control_in_command(performer, first, behind);
@@ -633,8 +634,8 @@ impl<C: CharAccumulator> Parser<C> {
     ) -> &'a [u8]
         requires command { self.old.state ≡ State.OscString }
         requires can { CanTakeAll C.takes self.old (first ∷ behind.now) }
-        ensures { Takes C.takes C.taken P.means self.old performer.old first behind.now
-            self.new performer.new result.now }
+        ensures { Takes C.takes C.taken P.means (stage self.old performer.old (first ∷ behind.now))
+            (stage self.new performer.new result.now) }
     {
         if first == ESCAPE {
             self.end_command(performer, State::Escape, first);
@@ -652,8 +653,8 @@ impl<C: CharAccumulator> Parser<C> {
     fn take_string_end<'a, P: Perform>(&mut self, performer: &mut P, bytes: &'a [u8]) -> &'a [u8]
         requires escape { self.old.state ≡ State.Escape }
         requires can { CanTakeAll C.takes self.old bytes.now }
-        ensures leads { LeadsTo C.takes C.taken P.means self.old performer.old bytes.now
-            self.new performer.new result.now }
+        ensures leads { LeadsTo C.takes C.taken P.means (stage self.old performer.old bytes.now)
+            (stage self.new performer.new result.now) }
         ensures within { length result.now ≤ length bytes.now }
     {
         match bytes.split_first() {
@@ -730,8 +731,8 @@ impl<C: CharAccumulator> Parser<C> {
     ) -> &'a [u8]
         requires entry { self.old.state ≡ State.DcsEntry }
         requires can { CanTakeAll C.takes self.old (first ∷ behind.now) }
-        ensures { Takes C.takes C.taken P.means self.old performer.old first behind.now
-            self.new performer.new result.now }
+        ensures { Takes C.takes C.taken P.means (stage self.old performer.old (first ∷ behind.now))
+            (stage self.new performer.new result.now) }
     {
         if is_final_byte(first) {
             self.step_by_answer(performer, State::DcsPassthrough, Action::Nop, first);
@@ -750,8 +751,8 @@ impl<C: CharAccumulator> Parser<C> {
     ) -> &'a [u8]
         requires hooked { self.old.state ≡ State.DcsPassthrough }
         requires can { CanTakeAll C.takes self.old (first ∷ behind.now) }
-        ensures { Takes C.takes C.taken P.means self.old performer.old first behind.now
-            self.new performer.new result.now }
+        ensures { Takes C.takes C.taken P.means (stage self.old performer.old (first ∷ behind.now))
+            (stage self.new performer.new result.now) }
     {
         if !Run::OfHookedString.has(first) {
             return self.take_after_puts(performer, first, behind);
@@ -773,8 +774,8 @@ impl<C: CharAccumulator> Parser<C> {
     ) -> &'a [u8]
         requires hooked { self.old.state ≡ State.DcsPassthrough }
         requires can { CanTakeAll C.takes self.old (first ∷ behind.now) }
-        ensures { Takes C.takes C.taken P.means self.old performer.old first behind.now
-            self.new performer.new result.now }
+        ensures { Takes C.takes C.taken P.means (stage self.old performer.old (first ∷ behind.now))
+            (stage self.new performer.new result.now) }
     {
         if first == ESCAPE {
             self.end_hooked_string(performer, first);

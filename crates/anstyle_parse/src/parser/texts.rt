@@ -3,6 +3,7 @@ ghost use Rattle.std.specs.Prelude.{◌≡◌, ◌≤◌, ◌<◌, ◌++◌, ◌
 ghost use Rattle.anstyle_parse.specs.Stream.Items.{EachIs};
 ghost use Rattle.anstyle_parse.specs.Views.Accumulator.{front_of, parser_after};
 ghost use Rattle.anstyle_parse.specs.Views.Texts.{is_text_byte, BeginWithText, IsTextAt, TakesText, LeadsByTextTo};
+ghost use Rattle.anstyle_parse.specs.Views.Stage.{stage};
 
 use super::Parser;
 use crate::accumulator::Utf8Parser;
@@ -201,8 +202,8 @@ impl Parser<Utf8Parser> {
         bytes: &'a [u8],
     ) -> &'a [u8]
         requires { self.now.state ≡ State.Ground }
-        ensures leads { LeadsByTextTo P.receives self.now performer.old bytes.now
-            self.now performer.new result.now }
+        ensures leads { LeadsByTextTo P.receives (stage self.now performer.old bytes.now)
+            (stage self.now performer.new result.now) }
         ensures taken { TakesText P.receives self.now performer.old bytes.now performer.new result.now }
         ensures within { length result.now ≤ length bytes.now }
     {

@@ -1,4 +1,4 @@
-use Rattle.std.proofs.Common.{ap, ◌∙◌}
+use Rattle.std.proofs.Common.{arith, ap, ◌∙◌}
 use Rattle.anstyle_parse.specs.declared.state.definitions.State.TheVariants.{Escape}
 use Rattle.anstyle_parse.specs.declared.state.definitions.Action.TheVariants.{Nop}
 use Rattle.anstyle_parse.specs.Machine.Step.{Machine}
@@ -26,5 +26,5 @@ returns-then-first-eq-ESCAPE g c =
     c.args.first c.args.behind.now c.requires.can c.end_hooked_string.ensures.machine c.end_hooked_string.ensures.calls in
     record {
       leads = LeadsTo-trans n.takes n.taken means ended c.take_string_end.ensures.leads;
-      within = c.take_string_end.ensures.within;
+      some = omega (arith, c.take_string_end.ensures.within);
     }

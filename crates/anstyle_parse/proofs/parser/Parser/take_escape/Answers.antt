@@ -26,5 +26,5 @@ returns-in-Some g c =
     c.requires.ground c.requires.escape c.if-next-eq91.true c.begin_control_sequence.ensures in
     record {
       leads = LeadsTo-trans n.takes n.taken means begun c.take_in_header.ensures.leads;
-      within = omega (arith, c.in-Some.ensures.cases.1, c.take_in_header.ensures.onward);
+      some = omega (arith, c.in-Some.ensures.cases.1, c.take_in_header.ensures.onward);
     }

@@ -10,5 +10,5 @@ returns-in-Some g c =
     (c.args.first ∷ c.args.behind.now) c.store_text-rest.result.now c.store_text-rest.ensures.leads in
     record {
       leads = LeadsTo-first n.takes n.taken means c.in-Some.ensures.cases.0 stored (λ can. c.take_control_in_command-in-Some.ensures.leads);
-      within = omega (arith, c.in-Some.ensures.cases.1, c.store_text-rest.ensures.within, c.take_control_in_command-in-Some.ensures.within);
+      some = omega (arith, c.in-Some.ensures.cases.1, c.store_text-rest.ensures.within, c.take_control_in_command-in-Some.ensures.some);
     }

@@ -19,5 +19,5 @@ returns-in-Some g c =
     let means = g.P.Perform.means in
     record {
       leads = LeadsTo-first n.takes n.taken means c.in-Some.ensures.cases.0 c.take_whole_run-rest.ensures.leads (λ can. c.take_after_puts-in-Some.ensures.leads);
-      within = omega (arith, c.in-Some.ensures.cases.1, c.take_whole_run-rest.ensures.within, c.take_after_puts-in-Some.ensures.within);
+      some = omega (arith, c.in-Some.ensures.cases.1, c.take_whole_run-rest.ensures.some, c.take_after_puts-in-Some.ensures.some);
     }

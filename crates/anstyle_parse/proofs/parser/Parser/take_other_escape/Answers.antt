@@ -53,7 +53,7 @@ returns-then-next-eq93 g c =
     c.step_by_answer.ensures.machine c.step_by_answer.ensures.calls c.step_by_answer-then-next-eq93.ensures.machine c.step_by_answer-then-next-eq93.ensures.calls in
     record {
       leads = LeadsTo-trans n.takes n.taken means begun c.take_command.ensures.leads;
-      within = omega (arith, c.in-Some.ensures.cases.1, c.take_command.ensures.within);
+      some = omega (arith, c.in-Some.ensures.cases.1, c.take_command.ensures.within);
     }
 
 pub take_begun-requires-clause-escape : goal.take_begun-requires-clause-escape
@@ -77,7 +77,7 @@ returns-in-Some g c =
     c.args.first c.args.behind.now c.requires.can c.step_by_answer.ensures.machine c.step_by_answer.ensures.calls in
     record {
       leads = LeadsTo-first n.takes n.taken means c.in-Some.ensures.cases.0 escaped (λ can. c.take_begun.ensures.leads);
-      within = omega (arith, c.in-Some.ensures.cases.1, c.take_begun.ensures.within);
+      some = omega (arith, c.in-Some.ensures.cases.1, c.take_begun.ensures.some);
     }
 
 pub returns : goal.returns

@@ -1,3 +1,4 @@
+use Rattle.std.proofs.Common.{arith}
 use Rattle.anstyle_parse.proofs.Machine.Runs.{LeadsTo-run, LeadsTo-trans}
 use Rattle.anstyle_parse.proofs.parser.Parser.take_whole_run.Goals as goal
 
@@ -9,5 +10,5 @@ returns g c =
     c.args.first c.args.behind.now c.requires.can c.requires.first c.call.ensures in
     record {
       leads = LeadsTo-trans n.takes n.taken means begun c.take_chunks.ensures.leads;
-      within = c.take_chunks.ensures.within;
+      some = omega (arith, c.take_chunks.ensures.within);
     }

@@ -1,4 +1,4 @@
-use Rattle.std.proofs.Common.{inl, sym, ◌∙◌, ◌∷◌}
+use Rattle.std.proofs.Common.{inl, ◌∷◌}
 use Rattle.anstyle_parse.proofs.Machine.AsReadTo.{LeadsAsReadTo-command, LeadsAsReadTo-first, LeadsAsReadTo-trans}
 use Rattle.anstyle_parse.proofs.Machine.Runs.{KeepsTo-hooked, KeepsTo-string}
 use Rattle.anstyle_parse.proofs.parser.as_read.Parser+Utf8Parser.take_log.Goals as goal

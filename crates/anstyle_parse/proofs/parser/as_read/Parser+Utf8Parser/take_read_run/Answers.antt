@@ -2,6 +2,7 @@ use Rattle.std.proofs.Common.{◌≡◌, ◌∷◌, ◌++◌, Bool, List, ℕ, a
 use Rattle.anstyle_parse.specs.Stream.Items.{EachIs}
 use Rattle.anstyle_parse.specs.Views.AsRead.{LeadsAsReadTo}
 use Rattle.anstyle_parse.specs.Views.Runs.{is_of_run}
+use Rattle.anstyle_parse.specs.Views.Stage.{stage}
 use Rattle.anstyle_parse.proofs.Machine.AsReadTo.{passed-front, LeadsAsReadTo-run}
 use Rattle.anstyle_parse.proofs.parser.as_read.Parser+Utf8Parser.take_read_run.Goals as goal
 
@@ -15,7 +16,7 @@ returns-clause-leads g c =
     let passes = c.after_run-rest.ensures in
     let same : few ≡ passes.passed = passed-front test c.args.behind.now left few passes c.split_at.ensures.front in
     let whole : c.args.behind.now ≡ few ++ left = passes.joined ∙ ap (λ l. l ++ left) (sym same) in
-    let Leads : List ℕ → Type 0 = λ bytes. LeadsAsReadTo n.receives c.args.self.now c.args.performer.now bytes c.args.self.now c.call_few.new.performer left in
+    let Leads : List ℕ → Type 0 = λ bytes. LeadsAsReadTo n.receives (stage c.args.self.now c.args.performer.now bytes) (stage c.args.self.now c.call_few.new.performer left) in
     subst Leads (ap (λ l. c.args.first ∷ l) (sym whole))
     (LeadsAsReadTo-run g.P.Perform.means n.receives m.receives_none m.receives_one m.receives_more c.args.self.now c.args.run c.requires c.args.performer.now c.call_few.new.performer
     (c.args.first ∷ few) left (sym c.has.ensures ∙ c.if-not-has.false, subst (EachIs test) (sym same) passes.each)

@@ -34,7 +34,8 @@ prefix_nil (x ∷ xs) ys e = cc
 module _ {W : Type 0} (sink : SinkOf W) where
   Adds-nil_at : (fault : Option Fault) (a : Output W) → fault_in a ≡ fault → AddsAt fault sink [] a a
   Adds-nil_at (Some fault) a kept = refl
-  Adds-nil_at None a kept = inl (record { written = Appends-nil (sink.contents (writer_in a)); no_fault = kept; not_failed = refl })
+  Adds-nil_at None a kept =
+      inl (record { written = Appends-nil (sink.contents (writer_in a)); no_fault = kept; not_failed = refl })
 
   -- where a fault is kept, nothing changes
   pub Adds-stopped : (fault : Fault) (t : List ℕ) (a b : Output W) → fault_in a ≡ Some fault → Adds sink t a b → b ≡ a
@@ -45,7 +46,8 @@ module _ {W : Type 0} (sink : SinkOf W) where
   Adds-nil a = Adds-nil_at (fault_in a) a refl
 
   -- all of a text, and then what becomes of a further one
-  AddsAll-append : (t u : List ℕ) (a b c : Output W) → AddsAll sink t a b → AddsAt None sink u b c → AddsAt None sink (t ++ u) a c
+  AddsAll-append : (t u : List ℕ) (a b c : Output W)
+      → AddsAll sink t a b → AddsAt None sink u b c → AddsAt None sink (t ++ u) a c
   AddsAll-append t u a b c first (inl second) = inl (record {
     written = Appends-trans _ _ _ _ _ first.written second.written;
     no_fault = second.no_fault;
@@ -69,45 +71,56 @@ module _ {W : Type 0} (sink : SinkOf W) where
     rest = first.rest ++ u;
     joined = ap (λ l. l ++ u) first.joined ∙ append_assoc first.prefix first.rest u;
     proper = λ none. first.proper (prefix_nil first.rest u none);
-    written = subst (λ (o : Output W). Appends (sink.contents (writer_in a)) (sink.contents (writer_in o)) first.prefix) (sym same) first.written;
+    written =
+        subst (λ (o : Output W). Appends (sink.contents (writer_in a)) (sink.contents (writer_in o)) first.prefix)
+        (sym same) first.written;
     fault = ap fault_in same ∙ first.fault;
     failed = ap (λ o. sink.has_failed (writer_in o)) same ∙ first.failed;
     was_a_write = subst (λ (o : Output W). sink.failed_as (writer_in o) Write) (sym same) first.was_a_write;
   })
 
-  Adds-append_at : (fault : Option Fault) (t u : List ℕ) (a b c : Output W) → fault_in a ≡ fault → AddsAt fault sink t a b → Adds sink u b c
-      → AddsAt fault sink (t ++ u) a c
-  Adds-append_at (Some fault) t u a b c kept same second =
-      Adds-stopped fault u b c (ap fault_in same ∙ kept) second ∙ same
-  Adds-append_at None t u a b c kept (inl first) second = AddsAll-append t u a b c first (subst (λ f. AddsAt f sink u b c) first.no_fault second)
-  Adds-append_at None t u a b c kept (inr first) second = AddsPrefix-append t u a b c first (Adds-stopped _ u b c first.fault second)
+  -- the same by the fault that was kept before both
+  module _ (t u : List ℕ) (a b c : Output W) (second : Adds sink u b c) where
+    Adds-append_at : (fault : Option Fault) → fault_in a ≡ fault → AddsAt fault sink t a b
+        → AddsAt fault sink (t ++ u) a c
+    Adds-append_at (Some fault) kept same = Adds-stopped fault u b c (ap fault_in same ∙ kept) second ∙ same
+    Adds-append_at None kept (inl first) =
+        AddsAll-append t u a b c first (subst (λ f. AddsAt f sink u b c) first.no_fault second)
+    Adds-append_at None kept (inr first) =
+        AddsPrefix-append t u a b c first (Adds-stopped _ u b c first.fault second)
 
   -- a text and then a further one are both, joined
   pub Adds-append : (t u : List ℕ) (a b c : Output W) → Adds sink t a b → Adds sink u b c → Adds sink (t ++ u) a c
-  Adds-append t u a b c first second = Adds-append_at (fault_in a) t u a b c refl first second
+  Adds-append t u a b c first second = Adds-append_at t u a b c second (fault_in a) refl first
 
   -- What a list of calls adds: a performer, seen as its output, that adds the text of each
   -- call adds the texts of all, joined.
   pub Adds-calls : {P : Type 0} (output_of : P → Output W) (text : Call → List ℕ) (calls : List Call) (a b : P)
       → Goes (λ old call new. Adds sink (text call) (output_of old) (output_of new)) a calls b
       → Adds sink (flat_map text calls) (output_of a) (output_of b)
-  Adds-calls output_of text [] a b same = subst (λ o. Adds sink [] (output_of a) (output_of o)) (sym same) (Adds-nil (output_of a))
+  Adds-calls output_of text [] a b same =
+      subst (λ o. Adds sink [] (output_of a) (output_of o)) (sym same) (Adds-nil (output_of a))
   Adds-calls output_of text (call ∷ calls) a b (mid, first, others) =
-      Adds-append (text call) (flat_map text calls) (output_of a) (output_of mid) (output_of b) first (Adds-calls output_of text calls mid b others)
+      Adds-append (text call) (flat_map text calls) (output_of a) (output_of mid) (output_of b)
+      first (Adds-calls output_of text calls mid b others)
 
   -- the laws of a performer that adds the text of each call
   module _ {P : Type 0} (output_of : P → Output W) (text : Call → List ℕ) where
     pub AddsTexts-none : (performer : P) → AddsTexts sink output_of text performer [] performer
     AddsTexts-none performer = Adds-nil (output_of performer)
 
-    pub AddsTexts-one : (old : P) (call : Call) (new : P) → Adds sink (text call) (output_of old) (output_of new) → AddsTexts sink output_of text old (call ∷ []) new
-    AddsTexts-one old call new added = subst (λ t. Adds sink t (output_of old) (output_of new)) (sym (append-nil (text call))) added
+    pub AddsTexts-one : (old : P) (call : Call) (new : P) → Adds sink (text call) (output_of old) (output_of new)
+        → AddsTexts sink output_of text old (call ∷ []) new
+    AddsTexts-one old call new added =
+        subst (λ t. Adds sink t (output_of old) (output_of new)) (sym (append-nil (text call))) added
 
-    pub AddsTexts-more : (old middle new : P) (calls more : List Call) → AddsTexts sink output_of text old calls middle → AddsTexts sink output_of text middle more new
+    pub AddsTexts-more : (old middle new : P) (calls more : List Call)
+        → AddsTexts sink output_of text old calls middle → AddsTexts sink output_of text middle more new
         → AddsTexts sink output_of text old (calls ++ more) new
     AddsTexts-more old middle new calls more first second =
         subst (λ t. Adds sink t (output_of old) (output_of new)) (sym (flat_map-append text calls more))
-        (Adds-append (flat_map text calls) (flat_map text more) (output_of old) (output_of middle) (output_of new) first second)
+        (Adds-append (flat_map text calls) (flat_map text more)
+        (output_of old) (output_of middle) (output_of new) first second)
 
 -- the texts of calls, joined, are their canonical text
 texts-call_text : (calls : List Call) → flat_map call_text calls ≡ canon calls

@@ -37,7 +37,8 @@ pub record PerformsToEnd {R P T : Type 0} (source : SourceOf R) (means : P → C
   pub read : List ℕ
   pub consumed : Consumes (source.remaining reader) (source.remaining reader_after) read
   pub received : HasReceived means performer read performer_after
-  pub ends : EndsAs answer (IsTrue source.zero_is_end → IsAtEnd (source.remaining reader_after)) (source.has_failed reader) (source.has_failed reader_after) (length read)
+  pub ends : EndsAs answer (IsTrue source.zero_is_end → IsAtEnd (source.remaining reader_after))
+      (source.has_failed reader) (source.has_failed reader_after) (length read)
 
 -- The same by what lists of calls do to the performer.
 pub record PerformsTextsToEnd {R P T : Type 0} (source : SourceOf R) (receives : P → List Call → P → Type 0)
@@ -45,7 +46,8 @@ pub record PerformsTextsToEnd {R P T : Type 0} (source : SourceOf R) (receives :
   pub read : List ℕ
   pub consumed : Consumes (source.remaining reader) (source.remaining reader_after) read
   pub received : HasReceivedTexts receives performer read performer_after
-  pub ends : EndsAs answer (IsTrue source.zero_is_end → IsAtEnd (source.remaining reader_after)) (source.has_failed reader) (source.has_failed reader_after) (length read)
+  pub ends : EndsAs answer (IsTrue source.zero_is_end → IsAtEnd (source.remaining reader_after))
+      (source.has_failed reader) (source.has_failed reader_after) (length read)
 
 -- A new parser was given what the reader gave, and its performer received the calls.
 pub record Drives {R W P : Type 0} (source : SourceOf R) (receives : P → List Call → P → Type 0)

@@ -44,7 +44,8 @@ length-started-lt b =
 pub length-continued-lt : (bytes : List ℕ) → length (continued bytes).0 < 4
 length-continued-lt bytes =
     cond_both {A = List ℕ × Taken} (is_well_formed bytes) _ _ IsShort (λ _. omega arith)
-    (λ _. cond_both {A = List ℕ × Taken} (is_proper_front bytes) _ _ IsShort (length-proper_front-lt bytes) (λ _. omega arith))
+    (λ _. cond_both {A = List ℕ × Taken} (is_proper_front bytes) _ _ IsShort
+    (length-proper_front-lt bytes) (λ _. omega arith))
 
 pub length-decoded-lt : (front : List ℕ) (b : ℕ) → length (decoded front b).0 < 4
 length-decoded-lt [] b = length-started-lt b
@@ -58,12 +59,15 @@ bytes_of-front_with (a ∷ b ∷ c ∷ []) short = refl
 bytes_of-front_with (a ∷ b ∷ c ∷ d ∷ bytes) short = absurd (omega arith)
 
 -- what a Utf8Parser holds after a byte is what the decoder holds
-pub front_of-parser_after : (parser : Utf8Parser) (b : ℕ) → front_of (parser_after parser b).0 ≡ (decoded (front_of parser) b).0
-front_of-parser_after parser b = bytes_of-front_with (decoded (front_of parser) b).0 (length-decoded-lt (front_of parser) b)
+pub front_of-parser_after : (parser : Utf8Parser) (b : ℕ)
+    → front_of (parser_after parser b).0 ≡ (decoded (front_of parser) b).0
+front_of-parser_after parser b =
+    bytes_of-front_with (decoded (front_of parser) b).0 (length-decoded-lt (front_of parser) b)
 
 pub Decodes-parser_after : Decodes Utf8Parser front_of (λ _ _. ⊤) parser_added parser_after
 Decodes-parser_after = record {
   takes_bytes = λ parser b small. tt;
-  steps = λ parser b small. ap (λ front. (front, (decoded (front_of parser) b).1)) (sym (front_of-parser_after parser b));
+  steps = λ parser b small.
+      ap (λ front. (front, (decoded (front_of parser) b).1)) (sym (front_of-parser_after parser b));
   characters = λ parser b small. (front_of-parser_after parser b, refl);
 }

@@ -21,7 +21,8 @@ pub record LeadsTo {C P : Type 0} (takes : C → ℕ → Type 0) (adds : Accumul
     (old new : Stage C P) : Type 0 where
   -- what is left can be taken
   pub can : CanTakeAll takes new.parser new.left
-  pub machine : machine_after adds new.left (machine_of new.parser) ≡ machine_after adds old.left (machine_of old.parser)
+  pub machine : machine_after adds new.left (machine_of new.parser)
+      ≡ machine_after adds old.left (machine_of old.parser)
   -- the calls that are made on the way
   pub made : List Call
   pub joined : machine_calls adds old.left (machine_of old.parser)

@@ -13,7 +13,7 @@ use Rattle.anstyle_parse.specs.declared.state.definitions.State.{State}
 use Rattle.anstyle_parse.specs.declared.state.definitions.State.TheVariants.{CsiEntry, CsiParam, Ground, OscString, Utf8}
 use Rattle.anstyle_parse.specs.declared.utf8.Front.TheVariants.{Empty}
 use Rattle.anstyle_parse.specs.Stream.Bytes.{is_within, is_parameter, is_final}
-use Rattle.anstyle_parse.specs.Stream.Call.{Call, Goes, csi_dispatch}
+use Rattle.anstyle_parse.specs.Stream.Call.{Call, Goes}
 use Rattle.anstyle_parse.specs.Stream.Characters.{is_well_formed, character_of}
 use Rattle.anstyle_parse.specs.Stream.Items.{EachIs}
 use Rattle.anstyle_parse.specs.Stream.Texts.{is_layout, layout_calls}
@@ -24,7 +24,7 @@ use Rattle.anstyle_parse.specs.Machine.Stands.{counted}
 use Rattle.anstyle_parse.specs.Views.Accumulator.{parser_after}
 use Rattle.anstyle_parse.specs.Views.Parser.{machine_of}
 use Rattle.anstyle_parse.specs.Views.AsRead.{read_by, read_one, LeadsAsReadTo, PassBytes}
-use Rattle.anstyle_parse.specs.Views.Passing.{BeginWithSequence}
+use Rattle.anstyle_parse.specs.Views.Passing.{BeginWithSequence, PassesOver}
 use Rattle.anstyle_parse.specs.Views.Runs.{LeadsQuietlyTo, AreMade, KeepsTo, is_of_command, is_of_run, run_calls}
 use Rattle.anstyle_parse.specs.Views.Texts.{is_text_character, TakesText}
 use Rattle.anstyle_parse.specs.Views.Stage.{stage}
@@ -281,7 +281,7 @@ module _ {P : Type 0} (means : P → Call → P → Type 0) (receives : P → Li
 
   -- a control sequence that leaves the performer as it is
   pub LeadsAsReadTo-sequence : (p : Parser Utf8Parser) (a : P) (xs left : List ℕ) → p.state ≡ Ground → BeginWithSequence xs left
-      → ((groups : List (List ℕ)) (collected : List ℕ) (ignore : Bool) (final : ℕ) → receives a (csi_dispatch groups collected ignore final ∷ []) a)
+      → PassesOver receives a
       → LeadsAsReadTo receives (stage p a xs) (stage p a left)
   LeadsAsReadTo-sequence p a xs left ground begun passes =
       let m = machine_of p in

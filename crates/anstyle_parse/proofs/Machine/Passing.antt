@@ -17,7 +17,7 @@ use Rattle.anstyle_parse.specs.Machine.Stands.{counted, counted_in, seen, Decode
 use Rattle.anstyle_parse.specs.Views.Accumulator.{parser_after}
 use Rattle.anstyle_parse.specs.Views.Parser.{machine_of, AreBelow, IsAfter}
 use Rattle.anstyle_parse.specs.Views.Texts.{LeadsByTextTo}
-use Rattle.anstyle_parse.specs.Views.Passing.{PassFields, BeginWithSequence, LeadsInEffectTo}
+use Rattle.anstyle_parse.specs.Views.Passing.{PassFields, BeginWithSequence, LeadsInEffectTo, PassesOver}
 use Rattle.anstyle_parse.specs.Views.Stage.{stage}
 use Rattle.anstyle_parse.proofs.Agreement.Whole.{StandsAfter-machine, Continues-machine}
 use Rattle.anstyle_parse.proofs.Bytes.Passing.{EachIs-append}
@@ -207,7 +207,7 @@ module _ {P : Type 0} (receives : P → List Call → P → Type 0) where
 
   -- a control sequence that leaves the performer as it is
   pub LeadsInEffectTo-sequence : (p : Parser Utf8Parser) (a : P) (xs left : List ℕ) → p.state ≡ Ground → BeginWithSequence xs left
-      → ((groups : List (List ℕ)) (collected : List ℕ) (ignore : Bool) (final : ℕ) → receives a (csi_dispatch groups collected ignore final ∷ []) a)
+      → PassesOver receives a
       → LeadsInEffectTo receives (stage p a xs) (stage p a left)
   LeadsInEffectTo-sequence p a xs left ground begun passes =
       let (groups, collected, ignore, final, same, calls) = passed-sequence parser_after (machine_of p) xs left ground begun in

@@ -1,8 +1,8 @@
 -- What passing over a control sequence leads to.
-use Rattle.std.specs.Prelude.{◌≡◌, ℕ, List, ◌∷◌, ◌++◌, IsTrue}
+use Rattle.std.specs.Prelude.{◌≡◌, ℕ, Bool, List, [], ◌∷◌, ◌++◌, IsTrue}
 use Rattle.anstyle_parse.specs.declared.accumulator.Utf8Parser.{Utf8Parser}
 use Rattle.anstyle_parse.specs.Stream.Bytes.{is_parameter, is_final, escape_byte}
-use Rattle.anstyle_parse.specs.Stream.Call.{Call}
+use Rattle.anstyle_parse.specs.Stream.Call.{Call, csi_dispatch}
 use Rattle.anstyle_parse.specs.Stream.Items.{EachIs}
 use Rattle.anstyle_parse.specs.Machine.Step.{machine_after, machine_calls}
 use Rattle.anstyle_parse.specs.Machine.Stands.{counted}
@@ -23,6 +23,11 @@ pub record BeginWithSequence (bytes left : List ℕ) : Type 0 where
   pub final : ℕ
   pub ends : IsTrue (is_final final)
   pub joined : bytes ≡ escape_byte ∷ 0x5B ∷ fields ++ final ∷ left
+
+-- whatever a control sequence says, the performer is left as it is
+abbrev pub PassesOver : {P : Type 0} → (P → List Call → P → Type 0) → P → Type 0
+PassesOver receives performer = (groups : List (List ℕ)) (collected : List ℕ) (ignore : Bool) (final : ℕ)
+    → receives performer (csi_dispatch groups collected ignore final ∷ []) performer
 
 -- In what counts, going on from here with what is left is going from the start with all bytes, and what calls
 -- are made on the way the performer has received.

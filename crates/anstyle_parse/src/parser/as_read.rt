@@ -12,7 +12,7 @@ ghost use Rattle.anstyle_parse.specs.Views.Stage.{stage};
 
 use super::Parser;
 use super::header::is_final_byte;
-use super::passing::after_sequence;
+use super::passing::after_passed;
 use super::runs::Run;
 use crate::accumulator::Utf8Parser;
 use crate::chunks::CHUNK;
@@ -151,12 +151,10 @@ impl Parser<Utf8Parser> {
         ensures onward { length result.now ≤ length bytes.now - 1 }
     {
         let further = self.take_text(performer, bytes);
-        if performer.passes_over_control_sequences() {
-            if let Some(behind) = after_sequence(further) {
-                return behind;
-            }
+        match after_passed(performer, further) {
+            Some(behind) => behind,
+            None => self.take_read_unprinted(performer, further),
         }
-        self.take_read_unprinted(performer, further)
     }
 
     /// A control, or a sequence that begins, or a byte of a character that is not whole.

@@ -1,7 +1,7 @@
 //! Control sequences that a performer passes over: only where they end is looked for.
 ghost use Rattle.std.specs.Prelude.{◌≡◌, ◌≤◌, ◌<◌, ◌-◌, ◌++◌, [], ℕ, List, IfSome, length};
 ghost use Rattle.anstyle_parse.specs.Views.Accumulator.{front_of, parser_after};
-ghost use Rattle.anstyle_parse.specs.Views.Passing.{PassFields, BeginWithSequence, LeadsInEffectTo};
+ghost use Rattle.anstyle_parse.specs.Views.Passing.{PassFields, BeginWithSequence, PassesOver, LeadsInEffectTo};
 ghost use Rattle.anstyle_parse.specs.Views.Stage.{stage};
 
 use super::Parser;
@@ -49,6 +49,19 @@ pub(super) fn after_sequence(bytes: &[u8]) -> Option<&[u8]>
         return None;
     }
     Some(behind)
+}
+
+/// The same of one that the performer passes over.
+#[inline(always)]
+pub(super) fn after_passed<'a, P: PerformText>(performer: &P, bytes: &'a [u8]) -> Option<&'a [u8]>
+    ensures passes { IfSome result (λ left. PassesOver P.receives performer.now) }
+    ensures sequence { IfSome result (λ left. BeginWithSequence bytes.now left.now) }
+    ensures within { IfSome result (λ left. length left.now < length bytes.now) }
+{
+    if !performer.passes_over_control_sequences() {
+        return None;
+    }
+    after_sequence(bytes)
 }
 
 /// Streams of UTF-8, for a performer that may pass over control sequences.
@@ -102,11 +115,9 @@ impl Parser<Utf8Parser> {
         ensures onward { length result.now ≤ length bytes.now - 1 }
     {
         let further = self.take_text(performer, bytes);
-        if performer.passes_over_control_sequences() {
-            if let Some(behind) = after_sequence(further) {
-                return behind;
-            }
+        match after_passed(performer, further) {
+            Some(behind) => behind,
+            None => self.take_unprinted(performer, further),
         }
-        self.take_unprinted(performer, further)
     }
 }

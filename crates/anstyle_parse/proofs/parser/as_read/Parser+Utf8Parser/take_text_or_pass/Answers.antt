@@ -1,4 +1,3 @@
-use Rattle.std.proofs.Common.{refl}
 use Rattle.anstyle_parse.proofs.Machine.AsReadTo.{LeadsAsReadTo-sequence, LeadsAsReadTo-text, LeadsAsReadTo-trans}
 use Rattle.anstyle_parse.proofs.parser.as_read.Parser+Utf8Parser.take_text_or_pass.Goals as goal
 
@@ -11,10 +10,10 @@ returns-in-Some-clause-leads g c =
     LeadsAsReadTo-trans g.P.Perform.means n.receives m.receives_none m.receives_one m.receives_more
     (LeadsAsReadTo-text g.P.Perform.means n.receives m.receives_none m.receives_one m.receives_more c.args.self.now c.args.performer.now performer c.args.bytes.now further c.take_text-further.ensures.taken)
     (LeadsAsReadTo-sequence g.P.Perform.means n.receives m.receives_none m.receives_one m.receives_more c.args.self.now performer further c.in-Some.behind.now
-    c.requires c.in-Some.ensures.sequence (c.if-passes_over_control_sequences.ensures refl))
+    c.requires c.in-Some.ensures.sequence c.in-Some.ensures.passes)
 
-pub returns-clause-leads : goal.returns-clause-leads
-returns-clause-leads g c =
+pub returns-in-None-clause-leads : goal.returns-in-None-clause-leads
+returns-in-None-clause-leads g c =
     let n = g.P.PerformText in
     let m = g.met.P.PerformText in
     LeadsAsReadTo-trans g.P.Perform.means n.receives m.receives_none m.receives_one m.receives_more

@@ -11,13 +11,13 @@ returns-in-Some-clause-leads g c =
     LeadsInEffectTo-trans n.receives m.receives_more
     (LeadsInEffectTo-text n.receives c.take_text-further.ensures.leads)
     (LeadsInEffectTo-sequence n.receives c.args.self.now c.take_text-further.new.performer further c.in-Some.behind.now
-    c.requires c.in-Some.ensures.sequence (c.if-passes_over_control_sequences.ensures refl))
+    c.requires c.in-Some.ensures.sequence c.in-Some.ensures.passes)
 
 pub take_unprinted-requires-clause-can : goal.take_unprinted-requires-clause-can
 take_unprinted-requires-clause-can g c = inl (λ _ _ _. tt)
 
-pub returns-clause-leads : goal.returns-clause-leads
-returns-clause-leads g c =
+pub returns-in-None-clause-leads : goal.returns-in-None-clause-leads
+returns-in-None-clause-leads g c =
     let n = g.P.PerformText in
     let m = g.met.P.PerformText in
     LeadsInEffectTo-text n.receives

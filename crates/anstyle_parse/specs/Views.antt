@@ -8,6 +8,7 @@ pub mod Parser
 pub mod Front
 pub mod Accumulator
 pub mod DecodingProof
+pub mod Steps
 pub mod Stage
 pub mod Runs
 pub mod Texts

@@ -23,6 +23,7 @@ use Rattle.anstyle_parse.specs.Views.Parser.{machine_of, CanTakeAll}
 use Rattle.anstyle_parse.specs.Stream.Items.{EachIs}
 use Rattle.anstyle_parse.specs.Views.Runs.{LeadsTo, Takes, LeadsQuietlyTo, KeepsTo, begins_nothing, is_of_command, is_of_run, run_action, run_calls, AreMade}
 use Rattle.anstyle_parse.specs.Views.Stage.{stage}
+use Rattle.anstyle_parse.specs.Views.Steps.{Steps}
 use Rattle.anstyle_parse.proofs.Agreement.Whole.{machine_after-append, machine_calls-append}
 use Rattle.anstyle_parse.proofs.Bytes.Passing.{EachIs-append}
 use Rattle.anstyle_parse.proofs.Machine.Steps.{Goes-append, after_change-moves, step-at, step_calls-at, step-outside, step_calls_from-outside}
@@ -101,6 +102,16 @@ module _ {A : Type 0} (adds : AccumulatorStep A) (m : Machine A) (b : ℕ) where
   step-run OfHookedString keeps within = step-by (Anywhere by run_action OfHookedString) keeps.0 (keeps.1 b within)
   step-run OfIgnoredString keeps within = step-by (Anywhere by run_action OfIgnoredString) keeps.0 (keeps.1 b within)
   step-run OfIgnoredHeader keeps within = step-by (Anywhere by run_action OfIgnoredHeader) keeps.0 (keeps.1 b within)
+
+-- a change of state that the table answers to a byte
+pub Steps-by : {C P : Type 0} (adds : AccumulatorStep C) (means : P → Call → P → Type 0) (old new : Parser C) (before after : P) (b : ℕ) (answer : Change)
+    → (old.state ≡ Utf8 → ⊥) → change_at old.state b ≡ answer
+    → machine_of new ≡ after_change adds answer.state answer.action b (machine_of old)
+    → Goes means before (change_calls adds answer.state answer.action b (machine_of old)) after → Steps adds means b old before new after
+Steps-by adds means old new before after b answer outside known changed goes =
+    let stepped = step-by adds (machine_of old) b answer outside known in
+    let Q : List Call → Type 0 = λ calls. Goes means before calls after in
+    record { machine = changed ∙ sym stepped.0; calls = subst Q (sym stepped.1) goes }
 
 -- the answers of Ground to ESC, of Escape to [, and of a header to its final byte
 pub change_at-escape : (state : State) (b : ℕ) → state ≡ Ground → b ≡ 0x1B → change_at state b ≡ (Escape by Nop)
@@ -384,24 +395,21 @@ module _ {C P : Type 0} (takes : C → ℕ → Type 0) (adds : AccumulatorStep C
 
   -- one byte, as the machine takes it
   pub LeadsTo-byte : (old new : Parser C) (before after : P) (b : ℕ) (left : List ℕ) → CanTakeAll takes old (b ∷ left)
-      → machine_of new ≡ step adds b (machine_of old) → Goes means before (step_calls adds b (machine_of old)) after
-      → LeadsTo takes adds means (stage old before (b ∷ left)) (stage new after left)
-  LeadsTo-byte old new before after b left can stepped goes = record {
-    can = CanTakeAll-rest takes adds old new b left stepped can;
-    machine = ap (λ m. machine_after adds left m) stepped;
+      → Steps adds means b old before new after → LeadsTo takes adds means (stage old before (b ∷ left)) (stage new after left)
+  LeadsTo-byte old new before after b left can steps = record {
+    can = CanTakeAll-rest takes adds old new b left steps.machine can;
+    machine = ap (λ m. machine_after adds left m) steps.machine;
     made = step_calls adds b (machine_of old);
-    joined = ap (λ m. step_calls adds b (machine_of old) ++ machine_calls adds left m) (sym stepped);
-    performed = goes;
+    joined = ap (λ m. step_calls adds b (machine_of old) ++ machine_calls adds left m) (sym steps.machine);
+    performed = steps.calls;
   }
 
   -- a byte after a byte
   pub LeadsTo-bytes : (p q r : Parser C) (x y z : P) (a b : ℕ) (behind left : List ℕ) → CanTakeAll takes p (a ∷ behind) → behind ≡ b ∷ left
-      → machine_of q ≡ step adds a (machine_of p) → Goes means x (step_calls adds a (machine_of p)) y
-      → machine_of r ≡ step adds b (machine_of q) → Goes means y (step_calls adds b (machine_of q)) z
+      → Steps adds means a p x q y → Steps adds means b q y r z
       → LeadsTo takes adds means (stage p x (a ∷ behind)) (stage r z left)
-  LeadsTo-bytes p q r x y z a b behind left can same first_step first_calls second_step second_calls =
-      LeadsTo-first same (LeadsTo-byte p q x y a behind can first_step first_calls)
-      (λ further. LeadsTo-byte q r y z b left further second_step second_calls)
+  LeadsTo-bytes p q r x y z a b behind left can same first second =
+      LeadsTo-first same (LeadsTo-byte p q x y a behind can first) (λ further. LeadsTo-byte q r y z b left further second)
 
   -- ESC and [, which make no call
   pub LeadsTo-introduced : (old new : Parser C) (performer : P) (a b : ℕ) (behind left : List ℕ) → CanTakeAll takes old (a ∷ behind) → behind ≡ b ∷ left
@@ -419,14 +427,16 @@ module _ {C P : Type 0} (takes : C → ℕ → Type 0) (adds : AccumulatorStep C
       is ∙ (ap (λ n. step adds n (step adds 0x1B m)) (sym bracket) ∙ ap (λ x. step adds b x) (sym first)) in
       let S : List Call → Type 0 = λ made. Goes means performer made performer in
       LeadsTo-bytes old between new performer performer performer a b behind left can same
-      first_at (subst S (sym (ap (λ n. step_calls adds n m) escape ∙ calls.0)) refl)
-      second (subst S (sym (ap (λ n. step_calls adds n (machine_of between)) bracket ∙ (ap (λ x. step_calls adds 0x5B x) first ∙ calls.1))) refl)
+      (record { machine = first_at; calls = subst S (sym (ap (λ n. step_calls adds n m) escape ∙ calls.0)) refl })
+      (record {
+        machine = second;
+        calls = subst S (sym (ap (λ n. step_calls adds n (machine_of between)) bracket ∙ (ap (λ x. step_calls adds 0x5B x) first ∙ calls.1))) refl;
+      })
 
   pub Takes-byte : (old new : Parser C) (before after : P) (b : ℕ) (left : List ℕ) → CanTakeAll takes old (b ∷ left)
-      → machine_of new ≡ step adds b (machine_of old) → Goes means before (step_calls adds b (machine_of old)) after
-      → Takes takes adds means (stage old before (b ∷ left)) (stage new after left)
-  Takes-byte old new before after b left can stepped goes =
-      record { leads = LeadsTo-byte old new before after b left can stepped goes; some = omega arith }
+      → Steps adds means b old before new after → Takes takes adds means (stage old before (b ∷ left)) (stage new after left)
+  Takes-byte old new before after b left can steps =
+      record { leads = LeadsTo-byte old new before after b left can steps; some = omega arith }
 
   -- bytes of which each leaves the machine as it is
   module _ (parser : Parser C) (test : ℕ → Bool) (calls_of : ℕ → List Call)
@@ -435,7 +445,8 @@ module _ {C P : Type 0} (takes : C → ℕ → Type 0) (adds : AccumulatorStep C
         → IsTrue (test b) → Goes means before (calls_of b) after → LeadsTo takes adds means (stage parser before (b ∷ left)) (stage parser after left)
     LeadsTo-kept before after b left can passing goes =
         let S : List Call → Type 0 = λ calls. Goes means before calls after in
-        LeadsTo-byte parser parser before after b left can (sym (each b passing).0) (subst S (sym (each b passing).1) goes)
+        LeadsTo-byte parser parser before after b left can
+        (record { machine = sym (each b passing).0; calls = subst S (sym (each b passing).1) goes })
 
     pub LeadsTo-all_kept : (before after : P) (bytes left : List ℕ) → CanTakeAll takes parser (bytes ++ left)
         → EachIs test bytes → AreMade means calls_of before bytes after → LeadsTo takes adds means (stage parser before (bytes ++ left)) (stage parser after left)

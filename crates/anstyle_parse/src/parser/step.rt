@@ -20,14 +20,14 @@ impl<C: CharAccumulator> Parser<C> {
     ghost use Rattle.anstyle_parse.specs.Stream.Call.{print};
     ghost use Rattle.anstyle_parse.specs.Views.Parser.{machine_of, CanTake, ReachesAccumulator};
     ghost use Rattle.anstyle_parse.specs.Machine.Table.{◌by◌, change_at};
-    ghost use Rattle.anstyle_parse.specs.Machine.Step.{after_continuation, print_answer, IsBroken, step_from, step_calls_from, step, step_calls};
+    ghost use Rattle.anstyle_parse.specs.Views.Steps.{Steps};
+    ghost use Rattle.anstyle_parse.specs.Machine.Step.{after_continuation, print_answer, IsBroken, step_from, step_calls_from};
 
     /// One byte, as the machine takes it.
     #[inline(always)]
     pub(super) fn step<P: Perform>(&mut self, performer: &mut P, byte: u8)
         requires { CanTake C.takes C.taken self.old byte }
-        ensures machine { machine_of self.new ≡ step C.taken byte (machine_of self.old) }
-        ensures calls { Goes P.means performer.old (step_calls C.taken byte (machine_of self.old)) performer.new }
+        ensures { Steps C.taken P.means byte self.old performer.old self.new performer.new }
     {
         let state = match self.state {
             State::Utf8 => {
@@ -108,8 +108,7 @@ impl<C: CharAccumulator> Parser<C> {
         requires known { change_at self.old.state byte ≡ (state by action) }
         requires outside { self.old.state ≢ State.Utf8 }
         requires begins_none { action ≢ Action.BeginUtf8 }
-        ensures machine { machine_of self.new ≡ step C.taken byte (machine_of self.old) }
-        ensures calls { Goes P.means performer.old (step_calls C.taken byte (machine_of self.old)) performer.new }
+        ensures { Steps C.taken P.means byte self.old performer.old self.new performer.new }
     {
         self.change_state(performer, Action::Nop, state, action, byte);
     }
@@ -119,8 +118,7 @@ impl<C: CharAccumulator> Parser<C> {
     pub(super) fn execute_in_header<P: Perform>(&mut self, performer: &mut P, control: u8)
         requires header { (self.old.state ≡ State.CsiEntry) ⊎ (self.old.state ≡ State.CsiParam) }
         requires control { control < 0x1B }
-        ensures machine { machine_of self.new ≡ step C.taken control (machine_of self.old) }
-        ensures calls { Goes P.means performer.old (step_calls C.taken control (machine_of self.old)) performer.new }
+        ensures { Steps C.taken P.means control self.old performer.old self.new performer.new }
     {
         let state = state_after(control);
         self.step_by_answer(performer, state, Action::Execute, control);
@@ -131,8 +129,7 @@ impl<C: CharAccumulator> Parser<C> {
     pub(super) fn end_command<P: Perform>(&mut self, performer: &mut P, state: State, byte: u8)
         requires command { self.old.state ≡ State.OscString }
         requires known { change_at self.old.state byte ≡ (state by Action.Nop) }
-        ensures machine { machine_of self.new ≡ step C.taken byte (machine_of self.old) }
-        ensures calls { Goes P.means performer.old (step_calls C.taken byte (machine_of self.old)) performer.new }
+        ensures { Steps C.taken P.means byte self.old performer.old self.new performer.new }
     {
         self.change_state(performer, Action::OscEnd, state, Action::Nop, byte);
     }
@@ -142,8 +139,7 @@ impl<C: CharAccumulator> Parser<C> {
     pub(super) fn end_hooked_string<P: Perform>(&mut self, performer: &mut P, byte: u8)
         requires hooked { self.old.state ≡ State.DcsPassthrough }
         requires escape { byte ≡ 0x1B }
-        ensures machine { machine_of self.new ≡ step C.taken byte (machine_of self.old) }
-        ensures calls { Goes P.means performer.old (step_calls C.taken byte (machine_of self.old)) performer.new }
+        ensures { Steps C.taken P.means byte self.old performer.old self.new performer.new }
     {
         self.change_state(performer, Action::Unhook, State::Escape, Action::Nop, byte);
     }
@@ -174,7 +170,8 @@ fn breaks_off(byte: u8) -> bool
 /// A change of state, and its actions.
 impl<C: CharAccumulator> Parser<C> {
     ghost use Rattle.anstyle_parse.specs.Views.Parser.{machine_of};
-    ghost use Rattle.anstyle_parse.specs.Machine.Step.{after_change, change_calls, after_action, action_calls};
+    ghost use Rattle.anstyle_parse.specs.Views.Steps.{Acts};
+    ghost use Rattle.anstyle_parse.specs.Machine.Step.{after_change, change_calls};
 
     /// A change of state: `exit`, the exit action of the old state, the action, the entry action
     /// of the new one. Anywhere keeps the state, with no exit and no entry.
@@ -208,9 +205,7 @@ impl<C: CharAccumulator> Parser<C> {
     #[inline(always)]
     fn perform_action<P: Perform>(&mut self, performer: &mut P, action: Action, byte: u8)
         requires { action ≡ Action.BeginUtf8 → C.takes self.old.accumulator byte }
-        ensures machine { machine_of self.new ≡ after_action C.taken action byte (machine_of self.old) }
-        ensures calls { Goes P.means performer.old
-            (action_calls C.taken action byte (machine_of self.old)) performer.new }
+        ensures { Acts C.taken P.means action byte self.old performer.old self.new performer.new }
     {
         match action {
             Action::Print => performer.print(char::from(byte)),
@@ -236,9 +231,7 @@ impl<C: CharAccumulator> Parser<C> {
     /// The header of a device control string is closed, and dispatched.
     #[inline(always)]
     fn hook<P: Perform>(&mut self, performer: &mut P, byte: u8)
-        ensures machine { machine_of self.new ≡ after_action C.taken Action.Hook byte (machine_of self.old) }
-        ensures calls { Goes P.means performer.old
-            (action_calls C.taken Action.Hook byte (machine_of self.old)) performer.new }
+        ensures { Acts C.taken P.means Action.Hook byte self.old performer.old self.new performer.new }
     {
         self.header.end_fields();
         let header = &self.header;
@@ -253,9 +246,7 @@ impl<C: CharAccumulator> Parser<C> {
     /// The header of a control sequence is closed, and dispatched.
     #[inline(always)]
     fn csi_dispatch<P: Perform>(&mut self, performer: &mut P, byte: u8)
-        ensures machine { machine_of self.new ≡ after_action C.taken Action.CsiDispatch byte (machine_of self.old) }
-        ensures calls { Goes P.means performer.old
-            (action_calls C.taken Action.CsiDispatch byte (machine_of self.old)) performer.new }
+        ensures { Acts C.taken P.means Action.CsiDispatch byte self.old performer.old self.new performer.new }
     {
         self.header.end_fields();
         let header = &self.header;
@@ -265,9 +256,7 @@ impl<C: CharAccumulator> Parser<C> {
 
     /// The command's last part is closed, and all of them are dispatched.
     fn osc_end<P: Perform>(&mut self, performer: &mut P, byte: u8)
-        ensures machine { machine_of self.new ≡ after_action C.taken Action.OscEnd byte (machine_of self.old) }
-        ensures calls { Goes P.means performer.old
-            (action_calls C.taken Action.OscEnd byte (machine_of self.old)) performer.new }
+        ensures { Acts C.taken P.means Action.OscEnd byte self.old performer.old self.new performer.new }
     {
         self.command.close_part();
         let (text, lengths) = self.command.text();
@@ -278,9 +267,7 @@ impl<C: CharAccumulator> Parser<C> {
     #[inline]
     fn accumulate<P: Perform>(&mut self, performer: &mut P, byte: u8)
         requires { C.takes self.old.accumulator byte }
-        ensures machine { machine_of self.new ≡ after_action C.taken Action.BeginUtf8 byte (machine_of self.old) }
-        ensures calls { Goes P.means performer.old
-            (action_calls C.taken Action.BeginUtf8 byte (machine_of self.old)) performer.new }
+        ensures { Acts C.taken P.means Action.BeginUtf8 byte self.old performer.old self.new performer.new }
     {
         match self.accumulator.take(byte) {
             Taken::More => {}

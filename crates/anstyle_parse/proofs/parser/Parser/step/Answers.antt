@@ -20,27 +20,8 @@ returns-then-not-continue_character g c =
       calls = subst Q (sym (step_calls-whole add c.args.byte m c.in-Utf8.is whole)) c.continue_character.ensures.calls;
     }
 
-pub returns-clause-machine : goal.returns-clause-machine
-returns-clause-machine g c =
-    let add = g.C.CharAccumulator.taken in
-    let b = c.args.byte in
-    let m = machine_of c.args.self.now in
-    elim c.match-self.branch [
-      | in-Utf8+else-not-continue_character w ↦
-          c.step_by_table.ensures.machine
-          ∙ ap (λ s. step_from add s b (machine_of c.match-self.self)) w.state-is
-          ∙ ap (λ p. step_from add Ground b (machine_of p)) w.self-is
-          ∙ ap (λ n. step_from add Ground b n) w.continue_character.ensures.machine
-          ∙ sym (step-broken add b m w.in-Utf8.is (w.continue_character.ensures.breaks.0 w.if-not-continue_character.false))
-      | in_default w ↦
-          c.step_by_table.ensures.machine
-          ∙ ap (λ s. step_from add s b (machine_of c.match-self.self)) w.state-is
-          ∙ ap (λ p. step_from add c.args.self.now.state b (machine_of p)) w.self-is
-          ∙ sym (step-at add c.args.self.now.state b m refl)
-    ]
-
-pub returns-clause-calls : goal.returns-clause-calls
-returns-clause-calls g c =
+pub returns : goal.returns
+returns g c =
     let add = g.C.CharAccumulator.taken in
     let means = g.P.Perform.means in
     let b = c.args.byte in
@@ -50,23 +31,37 @@ returns-clause-calls g c =
     let R : List Call → Type 0 = λ calls. Goes means c.args.performer.now calls last in
     elim c.match-self.branch [
       | in-Utf8+else-not-continue_character w ↦
+          let broken = w.continue_character.ensures.breaks.0 w.if-not-continue_character.false in
           let mid = w.continue_character.new.performer in
           let S : g.row.P.Denot → Type 0 = λ p. Goes means p (step_calls_from add Ground b (after_continuation add b m)) last in
-          subst R (sym (step_calls-broken add b m w.in-Utf8.is (w.continue_character.ensures.breaks.0 w.if-not-continue_character.false)))
-          (Goes-append means c.args.performer.now mid last (print_answer (add m.accumulator b).1) (step_calls_from add Ground b (after_continuation add b m))
-          w.continue_character.ensures.calls
-          (subst S w.performer-is
-          (subst Q
-          (ap (λ s. step_calls_from add s b (machine_of c.match-self.self)) w.state-is
-          ∙ ap (λ p. step_calls_from add Ground b (machine_of p)) w.self-is
-          ∙ ap (λ n. step_calls_from add Ground b n) w.continue_character.ensures.machine)
-          c.step_by_table.ensures.calls)))
+          record {
+            machine = c.step_by_table.ensures.machine
+                ∙ ap (λ s. step_from add s b (machine_of c.match-self.self)) w.state-is
+                ∙ ap (λ p. step_from add Ground b (machine_of p)) w.self-is
+                ∙ ap (λ n. step_from add Ground b n) w.continue_character.ensures.machine
+                ∙ sym (step-broken add b m w.in-Utf8.is broken);
+            calls = subst R (sym (step_calls-broken add b m w.in-Utf8.is broken))
+                (Goes-append means c.args.performer.now mid last (print_answer (add m.accumulator b).1) (step_calls_from add Ground b (after_continuation add b m))
+                w.continue_character.ensures.calls
+                (subst S w.performer-is
+                (subst Q
+                (ap (λ s. step_calls_from add s b (machine_of c.match-self.self)) w.state-is
+                ∙ ap (λ p. step_calls_from add Ground b (machine_of p)) w.self-is
+                ∙ ap (λ n. step_calls_from add Ground b n) w.continue_character.ensures.machine)
+                c.step_by_table.ensures.calls)));
+          }
       | in_default w ↦
           let S : g.row.P.Denot → Type 0 = λ p. Goes means p (step_calls_from add c.args.self.now.state b m) last in
-          subst R (sym (step_calls-at add c.args.self.now.state b m refl))
-          (subst S w.performer-is
-          (subst Q
-          (ap (λ s. step_calls_from add s b (machine_of c.match-self.self)) w.state-is
-          ∙ ap (λ p. step_calls_from add c.args.self.now.state b (machine_of p)) w.self-is)
-          c.step_by_table.ensures.calls))
+          record {
+            machine = c.step_by_table.ensures.machine
+                ∙ ap (λ s. step_from add s b (machine_of c.match-self.self)) w.state-is
+                ∙ ap (λ p. step_from add c.args.self.now.state b (machine_of p)) w.self-is
+                ∙ sym (step-at add c.args.self.now.state b m refl);
+            calls = subst R (sym (step_calls-at add c.args.self.now.state b m refl))
+                (subst S w.performer-is
+                (subst Q
+                (ap (λ s. step_calls_from add s b (machine_of c.match-self.self)) w.state-is
+                ∙ ap (λ p. step_calls_from add c.args.self.now.state b (machine_of p)) w.self-is)
+                c.step_by_table.ensures.calls));
+          }
     ]

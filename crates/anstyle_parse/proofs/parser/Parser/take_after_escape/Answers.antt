@@ -7,4 +7,4 @@ step_by_answer-requires-clause-known g c = change_at-string_end c.args.self.now.
 pub returns-then-first-eq92 : goal.returns-then-first-eq92
 returns-then-first-eq92 g c =
     Takes-byte g.C.CharAccumulator.takes g.C.CharAccumulator.taken g.P.Perform.means c.args.self.now c.step_by_answer.new.self c.args.performer.now c.step_by_answer.new.performer
-    c.args.first c.args.behind.now c.requires.can c.step_by_answer.ensures.machine c.step_by_answer.ensures.calls
+    c.args.first c.args.behind.now c.requires.can c.step_by_answer.ensures

@@ -16,14 +16,14 @@ take_string_end-requires-clause-escape g c =
 pub take_string_end-requires-clause-can : goal.take_string_end-requires-clause-can
 take_string_end-requires-clause-can g c =
     (LeadsTo-byte g.C.CharAccumulator.takes g.C.CharAccumulator.taken g.P.Perform.means c.args.self.now c.end_hooked_string.new.self c.args.performer.now c.end_hooked_string.new.performer
-    c.args.first c.args.behind.now c.requires.can c.end_hooked_string.ensures.machine c.end_hooked_string.ensures.calls).can
+    c.args.first c.args.behind.now c.requires.can c.end_hooked_string.ensures).can
 
 pub returns-then-first-eq-ESCAPE : goal.returns-then-first-eq-ESCAPE
 returns-then-first-eq-ESCAPE g c =
     let n = g.C.CharAccumulator in
     let means = g.P.Perform.means in
     let ended = LeadsTo-byte n.takes n.taken means c.args.self.now c.end_hooked_string.new.self c.args.performer.now c.end_hooked_string.new.performer
-    c.args.first c.args.behind.now c.requires.can c.end_hooked_string.ensures.machine c.end_hooked_string.ensures.calls in
+    c.args.first c.args.behind.now c.requires.can c.end_hooked_string.ensures in
     record {
       leads = LeadsTo-trans n.takes n.taken means ended c.take_string_end.ensures.leads;
       some = omega (arith, c.take_string_end.ensures.within);

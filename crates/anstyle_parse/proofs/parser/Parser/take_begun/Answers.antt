@@ -7,4 +7,4 @@ step_by_answer-requires-clause-known g c = change_at-device c.args.self.now.stat
 pub returns-then-first-eq80 : goal.returns-then-first-eq80
 returns-then-first-eq80 g c =
     Takes-byte g.C.CharAccumulator.takes g.C.CharAccumulator.taken g.P.Perform.means c.args.self.now c.step_by_answer.new.self c.args.performer.now c.step_by_answer.new.performer
-    c.args.first c.args.behind.now c.requires.can c.step_by_answer.ensures.machine c.step_by_answer.ensures.calls
+    c.args.first c.args.behind.now c.requires.can c.step_by_answer.ensures

@@ -10,4 +10,4 @@ step-requires g c =
 pub returns : goal.returns
 returns g c =
     Takes-byte g.C.CharAccumulator.takes g.C.CharAccumulator.taken g.P.Perform.means c.args.self.now c.step.new.self c.args.performer.now c.step.new.performer
-    c.args.first c.args.behind.now c.requires c.step.ensures.machine c.step.ensures.calls
+    c.args.first c.args.behind.now c.requires c.step.ensures

@@ -9,4 +9,4 @@ step_by_answer-requires-clause-known g c =
 pub returns-then-is_final_byte : goal.returns-then-is_final_byte
 returns-then-is_final_byte g c =
     Takes-byte g.C.CharAccumulator.takes g.C.CharAccumulator.taken g.P.Perform.means c.args.self.now c.step_by_answer.new.self c.args.performer.now c.step_by_answer.new.performer
-    c.args.first c.args.behind.now c.requires.can c.step_by_answer.ensures.machine c.step_by_answer.ensures.calls
+    c.args.first c.args.behind.now c.requires.can c.step_by_answer.ensures

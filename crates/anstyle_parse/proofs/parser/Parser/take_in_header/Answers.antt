@@ -13,7 +13,7 @@ returns-then-is_final_byte-clause-leads g c =
     let fields = LeadsTo-quiet n.takes n.taken means c.args.self.now c.take_fields-rest.new.self c.args.performer.now c.args.bytes.now c.take_fields-rest.result.now c.take_fields-rest.ensures.leads in
     LeadsTo-first n.takes n.taken means c.in-Some.ensures.cases.0 fields
     (λ can. LeadsTo-byte n.takes n.taken means c.take_fields-rest.new.self c.step_by_answer.new.self c.args.performer.now c.step_by_answer.new.performer
-    c.in-Some.last.now c.in-Some.behind.now can c.step_by_answer.ensures.machine c.step_by_answer.ensures.calls)
+    c.in-Some.last.now c.in-Some.behind.now can c.step_by_answer.ensures)
 
 pub returns-else-is_final_byte-clause-leads : goal.returns-else-is_final_byte-clause-leads
 returns-else-is_final_byte-clause-leads g c =

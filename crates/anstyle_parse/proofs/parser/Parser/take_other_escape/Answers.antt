@@ -40,7 +40,7 @@ take_command-requires-clause-can g c =
     let begun = LeadsTo-bytes n.takes n.taken means c.args.self.now c.step_by_answer.new.self c.step_by_answer-then-next-eq93.new.self
     c.args.performer.now c.step_by_answer.new.performer c.step_by_answer-then-next-eq93.new.performer
     c.args.first c.in-Some.next.now c.args.behind.now c.in-Some.rest.now c.requires.can c.in-Some.ensures.cases.0
-    c.step_by_answer.ensures.machine c.step_by_answer.ensures.calls c.step_by_answer-then-next-eq93.ensures.machine c.step_by_answer-then-next-eq93.ensures.calls in
+    c.step_by_answer.ensures c.step_by_answer-then-next-eq93.ensures in
     begun.can
 
 pub returns-then-next-eq93 : goal.returns-then-next-eq93
@@ -50,7 +50,7 @@ returns-then-next-eq93 g c =
     let begun = LeadsTo-bytes n.takes n.taken means c.args.self.now c.step_by_answer.new.self c.step_by_answer-then-next-eq93.new.self
     c.args.performer.now c.step_by_answer.new.performer c.step_by_answer-then-next-eq93.new.performer
     c.args.first c.in-Some.next.now c.args.behind.now c.in-Some.rest.now c.requires.can c.in-Some.ensures.cases.0
-    c.step_by_answer.ensures.machine c.step_by_answer.ensures.calls c.step_by_answer-then-next-eq93.ensures.machine c.step_by_answer-then-next-eq93.ensures.calls in
+    c.step_by_answer.ensures c.step_by_answer-then-next-eq93.ensures in
     record {
       leads = LeadsTo-trans n.takes n.taken means begun c.take_command.ensures.leads;
       some = omega (arith, c.in-Some.ensures.cases.1, c.take_command.ensures.within);
@@ -66,7 +66,7 @@ take_begun-requires-clause-can g c =
     let n = g.C.CharAccumulator in
     let means = g.P.Perform.means in
     let escaped = LeadsTo-byte n.takes n.taken means c.args.self.now c.step_by_answer.new.self c.args.performer.now c.step_by_answer.new.performer
-    c.args.first c.args.behind.now c.requires.can c.step_by_answer.ensures.machine c.step_by_answer.ensures.calls in
+    c.args.first c.args.behind.now c.requires.can c.step_by_answer.ensures in
     subst (λ (l : List ℕ). CanTakeAll n.takes c.step_by_answer.new.self l) c.in-Some.ensures.cases.0 escaped.can
 
 pub returns-in-Some : goal.returns-in-Some
@@ -74,7 +74,7 @@ returns-in-Some g c =
     let n = g.C.CharAccumulator in
     let means = g.P.Perform.means in
     let escaped = LeadsTo-byte n.takes n.taken means c.args.self.now c.step_by_answer.new.self c.args.performer.now c.step_by_answer.new.performer
-    c.args.first c.args.behind.now c.requires.can c.step_by_answer.ensures.machine c.step_by_answer.ensures.calls in
+    c.args.first c.args.behind.now c.requires.can c.step_by_answer.ensures in
     record {
       leads = LeadsTo-first n.takes n.taken means c.in-Some.ensures.cases.0 escaped (λ can. c.take_begun.ensures.leads);
       some = omega (arith, c.in-Some.ensures.cases.1, c.take_begun.ensures.some);
@@ -83,4 +83,4 @@ returns-in-Some g c =
 pub returns : goal.returns
 returns g c =
     Takes-byte g.C.CharAccumulator.takes g.C.CharAccumulator.taken g.P.Perform.means c.args.self.now c.step_by_answer.new.self c.args.performer.now c.step_by_answer.new.performer
-    c.args.first c.args.behind.now c.requires.can c.step_by_answer.ensures.machine c.step_by_answer.ensures.calls
+    c.args.first c.args.behind.now c.requires.can c.step_by_answer.ensures

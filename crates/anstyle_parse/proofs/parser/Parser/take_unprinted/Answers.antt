@@ -12,7 +12,7 @@ returns-then-first-lt-CANCEL-clause-leads g c =
     let means = g.P.Perform.means in
     LeadsTo-first n.takes n.taken means c.in-Some.ensures.cases.0 (LeadsTo-same n.takes n.taken means c.args.self.now c.args.performer.now c.args.bytes.now c.requires.can)
     (λ can. LeadsTo-byte n.takes n.taken means c.args.self.now c.step_by_answer.new.self c.args.performer.now c.step_by_answer.new.performer
-    c.in-Some.first.now c.in-Some.behind.now can c.step_by_answer.ensures.machine c.step_by_answer.ensures.calls)
+    c.in-Some.first.now c.in-Some.behind.now can c.step_by_answer.ensures)
 
 pub take_by_table-requires : goal.take_by_table-requires
 take_by_table-requires g c =

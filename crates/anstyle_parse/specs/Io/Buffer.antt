@@ -1,8 +1,9 @@
 -- What a buffer holds back, and what of it counts as taken.
-use Rattle.std.specs.Prelude.{◌≡◌, ◌+◌, ◌-◌, ◌≤◌, Bool, ℕ, List, ◌∷◌, ◌++◌, length, slice_get, take, Option, Some, IsTrue}
-use Rattle.std.specs.Io.KnownBytes.{append_known, Appends}
+use Rattle.std.specs.Prelude.{◌≡◌, ◌+◌, ◌-◌, ◌≤◌, Bool, ℕ, List, ◌∷◌, ◌++◌, length, slice_get, take, Option, Some, IfSome, IfNone, OnSome, IsTrue}
+use Rattle.std.specs.Io.KnownBytes.{append_known, Appends, Keeps}
 use Rattle.anstyle_parse.specs.declared.io.Fault.{Fault}
 use Rattle.anstyle_parse.specs.declared.io.Fault.TheVariants.{Write, Flush}
+use Rattle.anstyle_parse.specs.declared.io.devices.Sink.{Ghosts as SinkOf}
 use Rattle.anstyle_parse.specs.declared.io.held.Held.{Held}
 use Rattle.anstyle_parse.specs.declared.io.buffer.Buffer.{Buffer}
 
@@ -47,6 +48,20 @@ fault_behind fault held = fault
 -- The last call of the writer behind it that failed was what `fault_behind` makes of the fault.
 abbrev pub FailedBehind : {W : Type 0} → (failed_as : W → Fault → Type 0) → Buffer W → Fault → Type 0
 FailedBehind failed_as buffer fault = failed_as (writer_behind buffer) (fault_behind fault (held_back buffer))
+
+-- What a write of these bytes came to. With a count, as many from their front were taken, and no writer failed; else
+-- nothing passed, and the writer behind it failed, by a write.
+pub record TakesFrom {W : Type 0} (sink : SinkOf W) (bytes : List ℕ) (old new : Buffer W) (answer : Option ℕ) : Type 0 where
+  pub passed : IfSome answer (λ count.
+      Appends (buffer_contents sink.contents old) (buffer_contents sink.contents new) (take count bytes))
+  pub not_failed : OnSome answer (sink.has_failed (writer_behind new) ≡ sink.has_failed (writer_behind old))
+  pub nothing_passed : IfNone answer (Keeps (buffer_contents sink.contents old) (buffer_contents sink.contents new))
+  pub failed : IfNone answer (IsTrue (sink.has_failed (writer_behind new)))
+  pub was_a_write : IfNone answer (sink.failed_as (writer_behind new) Write)
+  -- the buffer itself tells of a failure by its answer
+  pub not_told : OnSome answer (buffer_failed new ≡ buffer_failed old)
+  pub told : IfNone answer (IsTrue (buffer_failed new))
+  pub same_mode : is_by_line new ≡ is_by_line old
 
 -- the last of the bytes is the end of a line, 0A
 abbrev pub EndsLine : List ℕ → Type 0

@@ -130,7 +130,7 @@ fn write_out<W: Sink>(writer: &mut W, bytes: &[u8]) -> usize
 
 impl<W: Sink> Sink for Buffer<W> {
     ghost use Rattle.std.specs.Prelude.{Some, IfSome, IfNone, OnSome};
-    ghost use Rattle.anstyle_parse.specs.Io.Buffer.{writer_behind, held_back, is_by_line, buffer_contents, buffer_failed, FailedBehind, HandsOn, EndsLine, CanWait, HoldsBack};
+    ghost use Rattle.anstyle_parse.specs.Io.Buffer.{writer_behind, held_back, is_by_line, buffer_contents, buffer_failed, FailedBehind, HandsOn, TakesFrom, EndsLine, CanWait, HoldsBack};
 
     ghost contents = { buffer_contents W.contents };
 
@@ -147,21 +147,11 @@ impl<W: Sink> Sink for Buffer<W> {
     fn write(&mut self, bytes: &[u8]) -> Option<usize>
         ensures within { IfSome result (λ count. count ≤ length bytes.now) }
         ensures some { IfSome result (λ count. 0 < length bytes.now → 0 < count) }
-        ensures passed { IfSome result (λ count. Appends (buffer_contents W.contents self.old)
-            (buffer_contents W.contents self.new) (take count bytes.now)) }
+        ensures taken { TakesFrom W.Sink bytes.now self.old self.new result }
         ensures held { CanWait self.old bytes.now → HoldsBack bytes.now self.old self.new
             × (result ≡ Some (length bytes.now)) }
         ensures lines_at_once { OnSome result (IsTrue (is_by_line self.old) → EndsLine bytes.now
             → held_back self.new ≡ []) }
-        ensures not_failed { OnSome result (W.has_failed (writer_behind self.new)
-            ≡ W.has_failed (writer_behind self.old)) }
-        ensures nothing_passed { IfNone result (Keeps (buffer_contents W.contents self.old)
-            (buffer_contents W.contents self.new)) }
-        ensures failed { IfNone result (IsTrue (W.has_failed (writer_behind self.new))) }
-        ensures was_a_write { IfNone result (W.failed_as (writer_behind self.new) AWrite) }
-        ensures not_told { OnSome result (buffer_failed self.new ≡ buffer_failed self.old) }
-        ensures told { IfNone result (IsTrue (buffer_failed self.new)) }
-        ensures same_mode { is_by_line self.new ≡ is_by_line self.old }
     {
         let ends_line = self.by_line && bytes.last() == Some(&b'\n');
         if !ends_line && self.held.hold(bytes) {
@@ -176,21 +166,11 @@ impl<W: Sink> Sink for Buffer<W> {
         requires within_chunk { count ≤ 16 }
         ensures within { IfSome result (λ taken. taken ≤ count) }
         ensures some { IfSome result (λ taken. 0 < count → 0 < taken) }
-        ensures passed { IfSome result (λ taken. Appends (buffer_contents W.contents self.old)
-            (buffer_contents W.contents self.new) (take taken (take count chunk.now))) }
+        ensures taken { TakesFrom W.Sink (take count chunk.now) self.old self.new result }
         ensures held { CanWait self.old (take count chunk.now)
             → HoldsBack (take count chunk.now) self.old self.new × (result ≡ Some count) }
         ensures lines_at_once { OnSome result (IsTrue (is_by_line self.old) → EndsLine (take count chunk.now)
             → held_back self.new ≡ []) }
-        ensures not_failed { OnSome result (W.has_failed (writer_behind self.new)
-            ≡ W.has_failed (writer_behind self.old)) }
-        ensures nothing_passed { IfNone result (Keeps (buffer_contents W.contents self.old)
-            (buffer_contents W.contents self.new)) }
-        ensures failed { IfNone result (IsTrue (W.has_failed (writer_behind self.new))) }
-        ensures was_a_write { IfNone result (W.failed_as (writer_behind self.new) AWrite) }
-        ensures not_told { OnSome result (buffer_failed self.new ≡ buffer_failed self.old) }
-        ensures told { IfNone result (IsTrue (buffer_failed self.new)) }
-        ensures same_mode { is_by_line self.new ≡ is_by_line self.old }
     {
         let ends_line = self.by_line && chunk[..count].last() == Some(&b'\n');
         if !ends_line && self.held.hold_front(chunk, count) {
@@ -249,8 +229,8 @@ impl<W: Sink> Sink for Buffer<W> {
 }
 
 impl<W: Sink> Buffer<W> {
-    ghost use Rattle.std.specs.Prelude.{IfSome, IfNone, OnSome};
-    ghost use Rattle.anstyle_parse.specs.Io.Buffer.{writer_behind, held_back, is_by_line, buffer_contents, buffer_failed};
+    ghost use Rattle.std.specs.Prelude.{IfSome, OnSome};
+    ghost use Rattle.anstyle_parse.specs.Io.Buffer.{held_back, is_by_line, TakesFrom};
 
     /// Takes bytes that can't just be held back too. By line, what is held back is handed on and
     /// the bytes are written after it. Else, where there is no room what is held back is handed on
@@ -259,19 +239,9 @@ impl<W: Sink> Buffer<W> {
     fn write_through(&mut self, bytes: &[u8]) -> Option<usize>
         ensures within { IfSome result (λ count. count ≤ length bytes.now) }
         ensures some { IfSome result (λ count. 0 < length bytes.now → 0 < count) }
-        ensures passed { IfSome result (λ count. Appends (buffer_contents W.contents self.old)
-            (buffer_contents W.contents self.new) (take count bytes.now)) }
-        ensures not_failed { OnSome result (W.has_failed (writer_behind self.new)
-            ≡ W.has_failed (writer_behind self.old)) }
-        ensures nothing_passed { IfNone result (Keeps (buffer_contents W.contents self.old)
-            (buffer_contents W.contents self.new)) }
-        ensures failed { IfNone result (IsTrue (W.has_failed (writer_behind self.new))) }
-        ensures was_a_write { IfNone result (W.failed_as (writer_behind self.new) AWrite) }
+        ensures taken { TakesFrom W.Sink bytes.now self.old self.new result }
         ensures lines_at_once { OnSome result (IsTrue (is_by_line self.old)
             → held_back self.new ≡ []) }
-        ensures not_told { OnSome result (buffer_failed self.new ≡ buffer_failed self.old) }
-        ensures told { IfNone result (IsTrue (buffer_failed self.new)) }
-        ensures same_mode { is_by_line self.new ≡ is_by_line self.old }
     {
         if self.is_stuck() {
             self.owed = false;

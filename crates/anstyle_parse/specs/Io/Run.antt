@@ -8,8 +8,8 @@ use Rattle.anstyle_parse.specs.declared.io.devices.Source.{Ghosts as SourceOf}
 use Rattle.anstyle_parse.specs.declared.io.engine.Stop.{Stop}
 use Rattle.anstyle_parse.specs.declared.io.output.Output.{Output}
 use Rattle.anstyle_parse.specs.declared.io.engine.Stop.TheVariants.{AtEnd, AtFault, AtRead}
-use Rattle.anstyle_parse.specs.Stream.Call.{Call}
-use Rattle.anstyle_parse.specs.Stream.Calls.{AreCalls, HasReceived}
+use Rattle.anstyle_parse.specs.Stream.Call.{Call, Goes}
+use Rattle.anstyle_parse.specs.Stream.Calls.{AreCalls}
 use Rattle.anstyle_parse.specs.Stream.Texts.{HasReceivedTexts}
 use Rattle.anstyle_parse.specs.Io.Output.{AppendsPrefix, fault_in}
 
@@ -31,16 +31,8 @@ EndsAs (Ok done) at_end failed failed_after count = at_end × (failed_after ≡ 
 EndsAs (Err Read) at_end failed failed_after count = IsTrue failed_after ⊎ (most_reads ≤ count)
 EndsAs (Err _) at_end failed failed_after count = ⊥
 
--- A new parser was given what the reader gave, and its performer has received exactly the calls.
-pub record PerformsToEnd {R P T : Type 0} (source : SourceOf R) (means : P → Call → P → Type 0)
-    (reader reader_after : R) (performer performer_after : P) (answer : Result T Fault) : Type 0 where
-  pub read : List ℕ
-  pub consumed : Consumes (source.remaining reader) (source.remaining reader_after) read
-  pub received : HasReceived means performer read performer_after
-  pub ends : EndsAs answer (IsTrue source.zero_is_end → IsAtEnd (source.remaining reader_after))
-      (source.has_failed reader) (source.has_failed reader_after) (length read)
-
--- The same by what lists of calls do to the performer.
+-- A new parser was given what the reader gave, and its performer has received exactly the calls, by what lists of calls
+-- do to it.
 pub record PerformsTextsToEnd {R P T : Type 0} (source : SourceOf R) (receives : P → List Call → P → Type 0)
     (reader reader_after : R) (performer performer_after : P) (answer : Result T Fault) : Type 0 where
   pub read : List ℕ
@@ -48,6 +40,12 @@ pub record PerformsTextsToEnd {R P T : Type 0} (source : SourceOf R) (receives :
   pub received : HasReceivedTexts receives performer read performer_after
   pub ends : EndsAs answer (IsTrue source.zero_is_end → IsAtEnd (source.remaining reader_after))
       (source.has_failed reader) (source.has_failed reader_after) (length read)
+
+-- The same by what each call does to the performer.
+abbrev pub PerformsToEnd : {R P T : Type 0} → SourceOf R → (means : P → Call → P → Type 0)
+    → (reader reader_after : R) → (performer performer_after : P) → Result T Fault → Type 0
+PerformsToEnd source means reader reader_after performer performer_after answer =
+    PerformsTextsToEnd source (Goes means) reader reader_after performer performer_after answer
 
 -- A new parser was given what the reader gave, and its performer received the calls.
 pub record Drives {R W P : Type 0} (source : SourceOf R) (receives : P → List Call → P → Type 0)

@@ -53,13 +53,9 @@ impl<W: Sink> Buffer<W> {
         ensures by_line { is_by_line result ≡ true }
         ensures not_failed { buffer_failed result ≡ false }
     {
-        Buffer {
-            writer,
-            held: Held::new(),
-            by_line: true,
-            failed: false,
-            owed: false,
-        }
+        let mut buffer = Buffer::new(writer);
+        buffer.by_line = true;
+        buffer
     }
 
     /// What a fault that came of this buffer was at the writer behind it.

@@ -51,7 +51,8 @@ FailedBehind failed_as buffer fault = failed_as (writer_behind buffer) (fault_be
 
 -- What a write of these bytes came to. With a count, as many from their front were taken, and no writer failed; else
 -- nothing passed, and the writer behind it failed, by a write.
-pub record TakesFrom {W : Type 0} (sink : SinkOf W) (bytes : List ℕ) (old new : Buffer W) (answer : Option ℕ) : Type 0 where
+pub record TakesFrom {W : Type 0} (sink : SinkOf W) (bytes : List ℕ) (old new : Buffer W)
+    (answer : Option ℕ) : Type 0 where
   pub passed : IfSome answer (λ count.
       Appends (buffer_contents sink.contents old) (buffer_contents sink.contents new) (take count bytes))
   pub not_failed : OnSome answer (sink.has_failed (writer_behind new) ≡ sink.has_failed (writer_behind old))

@@ -6,12 +6,13 @@ use Rattle.anstyle_parse.specs.declared.parser.Parser.{Parser}
 use Rattle.anstyle_parse.specs.declared.state.definitions.State.TheVariants.{Ground}
 use Rattle.anstyle_parse.specs.Stream.Bytes.{is_within}
 use Rattle.anstyle_parse.specs.Stream.Call.{Call}
+use Rattle.anstyle_parse.specs.Stream.Calls.{Continues}
 use Rattle.anstyle_parse.specs.Stream.Items.{EachIs}
-use Rattle.anstyle_parse.specs.Stream.Texts.{is_layout, layout_calls}
+use Rattle.anstyle_parse.specs.Stream.Texts.{is_layout, layout_calls, HasReceivedTexts}
 use Rattle.anstyle_parse.specs.Laws.Lawful.{is_character}
 use Rattle.anstyle_parse.specs.Machine.Step.{machine_after, machine_calls}
 use Rattle.anstyle_parse.specs.Views.Accumulator.{front_of, parser_after}
-use Rattle.anstyle_parse.specs.Views.Parser.{machine_of}
+use Rattle.anstyle_parse.specs.Views.Parser.{machine_of, calls_made, IsAfter}
 use Rattle.anstyle_parse.specs.Views.Stage.{Stage}
 
 -- a character of a text that is handed on: one that can be printed, or a layout control
@@ -58,6 +59,22 @@ pub record LeadsByTextTo {P : Type 0} (receives : P → List Call → P → Type
   pub joined : machine_calls parser_after old.left (machine_of old.parser)
       ≡ made ++ machine_calls parser_after new.left (machine_of new.parser)
   pub received : receives old.performer made new.performer
+
+-- Where the parser stood after the bytes before, it stands after these too.
+abbrev pub StandsOn : Parser Utf8Parser → List ℕ → Parser Utf8Parser → Type 0
+StandsOn old bytes new = (before : List ℕ) → IsAfter front_of old before → IsAfter front_of new (before ++ bytes)
+
+-- A performer that has received exactly the calls of the bytes before has received exactly those of all.
+abbrev pub ReceivesOn : {P : Type 0} → (P → List Call → P → Type 0) → Parser Utf8Parser → P → List ℕ → P → Type 0
+ReceivesOn {P} receives parser performer bytes performer_after =
+    (first : P) (before : List ℕ) → IsAfter front_of parser before
+    → HasReceivedTexts receives first before performer
+    → HasReceivedTexts receives first (before ++ bytes) performer_after
+
+-- The calls that the parser makes of these bytes continue those of the bytes before.
+abbrev pub CallsGoOn : Parser Utf8Parser → List ℕ → Type 0
+CallsGoOn parser bytes = (before : List ℕ) → IsAfter front_of parser before
+    → Continues before bytes (calls_made parser_after parser bytes)
 
 -- a layout control comes first, or nothing comes
 abbrev pub AreAtLayout : List ℕ → Type 0

@@ -66,9 +66,8 @@ pub(super) fn after_passed<'a, P: PerformText>(performer: &P, bytes: &'a [u8]) -
 
 /// Streams of UTF-8, for a performer that may pass over control sequences.
 impl Parser<Utf8Parser> {
-    ghost use Rattle.anstyle_parse.specs.Stream.Calls.{Continues};
-    ghost use Rattle.anstyle_parse.specs.Stream.Texts.{HasReceivedTexts};
-    ghost use Rattle.anstyle_parse.specs.Views.Parser.{calls_made, IsAfter};
+    ghost use Rattle.anstyle_parse.specs.Views.Parser.{calls_made};
+    ghost use Rattle.anstyle_parse.specs.Views.Texts.{StandsOn, ReceivesOn, CallsGoOn};
 
     /// Takes bytes, as [`advance_texts`](Parser::advance_texts) does, but of control sequences that leave the performer
     /// as it is ([`PerformText::passes_over_control_sequences`]) it may look for the end alone. Then `csi_dispatch` is
@@ -79,15 +78,11 @@ impl Parser<Utf8Parser> {
     pub fn advance_heeded<P: PerformText>(&mut self, performer: &mut P, bytes: &[u8])
         // The headline: the parser stands after all bytes, and a performer that has received
         // exactly the calls of the bytes before has received exactly those of all.
-        ensures stands { (before : List ℕ) → IsAfter front_of self.old before
-            → IsAfter front_of self.new (before ++ bytes.now) }
-        ensures received { (first : P) (before : List ℕ) → IsAfter front_of self.old before
-            → HasReceivedTexts P.receives first before performer.old
-            → HasReceivedTexts P.receives first (before ++ bytes.now) performer.new }
+        ensures stands { StandsOn self.old bytes.now self.new }
+        ensures received { ReceivesOn P.receives self.old performer.old bytes.now performer.new }
 
         // These calls continue those of the bytes before.
-        ensures stream { (before : List ℕ) → IsAfter front_of self.old before
-            → Continues before bytes.now (calls_made parser_after self.old bytes.now) }
+        ensures stream { CallsGoOn self.old bytes.now }
         ensures calls { P.receives performer.old (calls_made parser_after self.old bytes.now) performer.new }
     {
         self.take_heeded(performer, bytes);
@@ -95,7 +90,8 @@ impl Parser<Utf8Parser> {
 
     /// Bytes, as the machine takes them one after another, in what counts.
     fn take_heeded<P: PerformText>(&mut self, performer: &mut P, bytes: &[u8])
-        ensures { LeadsInEffectTo P.receives (stage self.old performer.old bytes.now) (stage self.new performer.new []) }
+        ensures { LeadsInEffectTo P.receives (stage self.old performer.old bytes.now)
+            (stage self.new performer.new []) }
     {
         let mut rest = bytes;
         'rest: while !rest.is_empty() {

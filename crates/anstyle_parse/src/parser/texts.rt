@@ -141,9 +141,8 @@ fn split_text(bytes: &[u8]) -> Option<(&str, &[u8])>
 
 /// Streams of UTF-8.
 impl Parser<Utf8Parser> {
-    ghost use Rattle.anstyle_parse.specs.Stream.Calls.{Continues};
-    ghost use Rattle.anstyle_parse.specs.Stream.Texts.{HasReceivedTexts};
-    ghost use Rattle.anstyle_parse.specs.Views.Parser.{machine_of, calls_made, IsAfter};
+    ghost use Rattle.anstyle_parse.specs.Views.Parser.{machine_of, calls_made};
+    ghost use Rattle.anstyle_parse.specs.Views.Texts.{StandsOn, ReceivesOn, CallsGoOn};
     ghost use Rattle.anstyle_parse.specs.Machine.Step.{machine_after, IsWithinLimits};
 
     /// Takes bytes, as [`advance_all`](Parser::advance_all) does, but hands characters that are
@@ -157,15 +156,11 @@ impl Parser<Utf8Parser> {
     pub fn advance_texts<P: PerformText>(&mut self, performer: &mut P, bytes: &[u8])
         // The headline: the parser stands after all bytes, and a performer that has received
         // exactly the calls of the bytes before has received exactly those of all.
-        ensures stands { (before : List ℕ) → IsAfter front_of self.old before
-            → IsAfter front_of self.new (before ++ bytes.now) }
-        ensures received { (first : P) (before : List ℕ) → IsAfter front_of self.old before
-            → HasReceivedTexts P.receives first before performer.old
-            → HasReceivedTexts P.receives first (before ++ bytes.now) performer.new }
+        ensures stands { StandsOn self.old bytes.now self.new }
+        ensures received { ReceivesOn P.receives self.old performer.old bytes.now performer.new }
 
         // The calls made here continue those of the bytes before.
-        ensures stream { (before : List ℕ) → IsAfter front_of self.old before
-            → Continues before bytes.now (calls_made parser_after self.old bytes.now) }
+        ensures stream { CallsGoOn self.old bytes.now }
 
         // The bytes do what the machine does with each in turn, and what is kept stays within
         // the limits.

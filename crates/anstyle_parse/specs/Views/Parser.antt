@@ -2,7 +2,7 @@
 use Rattle.std.specs.Prelude.{◌≡◌, ◌≢◌, ◌<◌, ◌⊎◌, ℕ, List, ⊤, IsTrue}
 use Rattle.std.specs.List.{AllByRecursion}
 use Rattle.anstyle_parse.specs.declared.state.definitions.State.{State}
-use Rattle.anstyle_parse.specs.declared.state.definitions.State.TheVariants.{DcsIgnore, DcsPassthrough, Ground, OscString, SosPmApcString, Utf8}
+use Rattle.anstyle_parse.specs.declared.state.definitions.State.TheVariants.{CsiEntry, CsiParam, DcsIgnore, DcsPassthrough, Ground, OscString, SosPmApcString, Utf8}
 use Rattle.anstyle_parse.specs.declared.parser.Parser.{Parser}
 use Rattle.anstyle_parse.specs.Stream.Characters.{is_lead}
 use Rattle.anstyle_parse.specs.Stream.Call.{Call}
@@ -57,6 +57,10 @@ HasOpenString parser = (parser.state ≡ OscString) ⊎ (parser.state ≡ DcsPas
 -- a string is open, also one that is ignored: OSC, a device control string after its header, or SOS, PM or APC
 abbrev pub IsInString : {C : Type 0} → Parser C → Type 0
 IsInString parser = HasOpenString parser ⊎ ((parser.state ≡ DcsIgnore) ⊎ (parser.state ≡ SosPmApcString))
+
+-- in the header of a control sequence, where fields may come
+abbrev pub IsAtFields : {C : Type 0} → Parser C → Type 0
+IsAtFields parser = (parser.state ≡ CsiEntry) ⊎ (parser.state ≡ CsiParam)
 
 -- nothing is open, or a character alone
 abbrev pub IsOutOfSequences : {C : Type 0} → Parser C → Type 0

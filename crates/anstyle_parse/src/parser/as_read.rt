@@ -1,6 +1,6 @@
 //! Streams that are taken as a reader of logs reads them: a byte that belongs to no character is U+FFFD, and BEL ends
 //! the strings that terminals ignore.
-ghost use Rattle.std.specs.Prelude.{◌≡◌, ◌≤◌, ◌-◌, ◌∷◌, ◌++◌, ◌⊎◌, [], ℕ, List, length};
+ghost use Rattle.std.specs.Prelude.{◌≡◌, ◌≤◌, ◌-◌, ◌∷◌, ◌++◌, [], ℕ, List, length};
 ghost use Rattle.anstyle_parse.specs.Stream.Call.{Goes};
 ghost use Rattle.anstyle_parse.specs.Machine.AsRead.{is_stray, is_break, is_at_ground, is_in_ignored_string};
 ghost use Rattle.anstyle_parse.specs.Machine.Decoder.{decoded};
@@ -81,7 +81,7 @@ impl Parser<Utf8Parser> {
     ghost use Rattle.anstyle_parse.specs.Machine.AsRead.{as_read, as_read_whole};
     ghost use Rattle.anstyle_parse.specs.Machine.Step.{machine_after};
     ghost use Rattle.anstyle_parse.specs.Stream.Texts.{HasReceivedTexts};
-    ghost use Rattle.anstyle_parse.specs.Views.Parser.{machine_of, calls_made, IsAfter};
+    ghost use Rattle.anstyle_parse.specs.Views.Parser.{machine_of, calls_made, IsAfter, IsAtFields};
 
     /// Takes bytes, as [`advance_heeded`](Parser::advance_heeded) does, but as a reader of logs reads them: a byte
     /// A0..FF that belongs to no character is U+FFFD, and BEL ends a string APC, PM or SOS.
@@ -213,7 +213,7 @@ impl Parser<Utf8Parser> {
         performer: &mut P,
         bytes: &'a [u8],
     ) -> &'a [u8]
-        requires { (self.old.state ≡ State.CsiEntry) ⊎ (self.old.state ≡ State.CsiParam) }
+        requires { IsAtFields self.old }
         ensures leads { LeadsAsReadTo P.receives (stage self.old performer.old bytes.now)
             (stage self.new performer.new result.now) }
         ensures onward { length result.now ≤ length bytes.now - 1 }
@@ -239,7 +239,7 @@ impl Parser<Utf8Parser> {
         first: u8,
         behind: &'a [u8],
     ) -> &'a [u8]
-        requires { (self.old.state ≡ State.CsiEntry) ⊎ (self.old.state ≡ State.CsiParam) }
+        requires { IsAtFields self.old }
         ensures leads { LeadsAsReadTo P.receives (stage self.old performer.old (first ∷ behind.now))
             (stage self.new performer.new result.now) }
         ensures behind { result.now ≡ behind.now }

@@ -3,7 +3,7 @@
 //! Each function takes what goes together at the front of the bytes and answers the rest. Its
 //! clause says that going on from where it leaves with the rest is taking all bytes one after
 //! another. A byte that is in no run goes through the table.
-ghost use Rattle.std.specs.Prelude.{◌≡◌, ◌≢◌, ◌≤◌, ◌+◌, ◌-◌, ◌∷◌, ◌⊎◌, ℕ, IsTrue, length};
+ghost use Rattle.std.specs.Prelude.{◌≡◌, ◌≢◌, ◌≤◌, ◌+◌, ◌-◌, ◌∷◌, ℕ, IsTrue, length};
 ghost use Rattle.std.specs.Prelude.{map, not};
 ghost use Rattle.std.specs.Simd.Lanes.{mask_l};
 ghost use Rattle.anstyle_parse.specs.Stream.Bytes.{is_within, is_parameter};
@@ -477,7 +477,7 @@ impl<C: CharAccumulator> Parser<C> {
 
 /// The header of a control sequence.
 impl<C: CharAccumulator> Parser<C> {
-    ghost use Rattle.anstyle_parse.specs.Views.Parser.{CanTakeAll};
+    ghost use Rattle.anstyle_parse.specs.Views.Parser.{CanTakeAll, IsAtFields};
 
     /// Fields and the end of the sequence, as far as they stand here; or another byte.
     #[inline(always)]
@@ -486,7 +486,7 @@ impl<C: CharAccumulator> Parser<C> {
         performer: &mut P,
         bytes: &'a [u8],
     ) -> &'a [u8]
-        requires header { (self.old.state ≡ State.CsiEntry) ⊎ (self.old.state ≡ State.CsiParam) }
+        requires header { IsAtFields self.old }
         requires can { CanTakeAll C.takes self.old bytes.now }
         ensures leads { LeadsTo C.takes C.taken P.means (stage self.old performer.old bytes.now)
             (stage self.new performer.new result.now) }
@@ -508,7 +508,7 @@ impl<C: CharAccumulator> Parser<C> {
     /// The same of a header that was begun before. It is out of line, so that the loop stays small.
     #[inline(never)]
     fn take_on_in_header<'a, P: Perform>(&mut self, performer: &mut P, bytes: &'a [u8]) -> &'a [u8]
-        requires header { (self.old.state ≡ State.CsiEntry) ⊎ (self.old.state ≡ State.CsiParam) }
+        requires header { IsAtFields self.old }
         requires can { CanTakeAll C.takes self.old bytes.now }
         ensures leads { LeadsTo C.takes C.taken P.means (stage self.old performer.old bytes.now)
             (stage self.new performer.new result.now) }
@@ -525,7 +525,7 @@ impl<C: CharAccumulator> Parser<C> {
         first: u8,
         behind: &'a [u8],
     ) -> &'a [u8]
-        requires header { (self.old.state ≡ State.CsiEntry) ⊎ (self.old.state ≡ State.CsiParam) }
+        requires header { IsAtFields self.old }
         requires can { CanTakeAll C.takes self.old (first ∷ behind.now) }
         ensures { Takes C.takes C.taken P.means (stage self.old performer.old (first ∷ behind.now))
             (stage self.new performer.new result.now) }
@@ -547,7 +547,7 @@ impl<C: CharAccumulator> Parser<C> {
         first: u8,
         behind: &'a [u8],
     ) -> &'a [u8]
-        requires header { (self.old.state ≡ State.CsiEntry) ⊎ (self.old.state ≡ State.CsiParam) }
+        requires header { IsAtFields self.old }
         requires can { CanTakeAll C.takes self.old (first ∷ behind.now) }
         ensures { Takes C.takes C.taken P.means (stage self.old performer.old (first ∷ behind.now))
             (stage self.new performer.new result.now) }
@@ -562,10 +562,10 @@ impl<C: CharAccumulator> Parser<C> {
     /// The bytes of fields. Often there are none.
     #[inline(always)]
     pub(super) fn take_fields<'a>(&mut self, bytes: &'a [u8]) -> &'a [u8]
-        requires header { (self.old.state ≡ State.CsiEntry) ⊎ (self.old.state ≡ State.CsiParam) }
+        requires header { IsAtFields self.old }
         requires can { CanTakeAll C.takes self.old bytes.now }
         ensures leads { LeadsQuietlyTo C.takes C.taken is_parameter self.old bytes.now self.new result.now }
-        ensures header { (self.new.state ≡ State.CsiEntry) ⊎ (self.new.state ≡ State.CsiParam) }
+        ensures header { IsAtFields self.new }
         ensures within { length result.now ≤ length bytes.now }
     {
         let Some((first, _)) = bytes.split_first() else {

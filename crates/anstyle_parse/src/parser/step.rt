@@ -1,5 +1,5 @@
 //! One byte: where the table leads, and the actions on the way.
-ghost use Rattle.std.specs.Prelude.{true, false, ◌≡◌, ◌≢◌, ◌≤◌, ◌<◌, ◌⊎◌, ◌∷◌, [], length};
+ghost use Rattle.std.specs.Prelude.{true, false, ◌≡◌, ◌≢◌, ◌≤◌, ◌<◌, ◌∷◌, [], length};
 ghost use Rattle.anstyle_parse.specs.Stream.Arguments.{max_osc_parts};
 ghost use Rattle.anstyle_parse.specs.Stream.Bytes.{is_cancel};
 ghost use Rattle.anstyle_parse.specs.Stream.Call.{Goes, osc_dispatch};
@@ -18,7 +18,7 @@ use crate::utf8::Taken;
 impl<C: CharAccumulator> Parser<C> {
     ghost use Rattle.std.specs.Prelude.{IsTrue, ◌↔◌};
     ghost use Rattle.anstyle_parse.specs.Stream.Call.{print};
-    ghost use Rattle.anstyle_parse.specs.Views.Parser.{machine_of, CanTake, ReachesAccumulator};
+    ghost use Rattle.anstyle_parse.specs.Views.Parser.{machine_of, CanTake, IsAtFields, ReachesAccumulator};
     ghost use Rattle.anstyle_parse.specs.Machine.Table.{◌by◌, change_at};
     ghost use Rattle.anstyle_parse.specs.Views.Steps.{Steps};
     ghost use Rattle.anstyle_parse.specs.Machine.Step.{after_continuation, print_answer, IsBroken, step_from, step_calls_from};
@@ -116,7 +116,7 @@ impl<C: CharAccumulator> Parser<C> {
     /// A control that is executed in the header of a control sequence, where CAN and SUB break off the sequence.
     #[inline(always)]
     pub(super) fn execute_in_header<P: Perform>(&mut self, performer: &mut P, control: u8)
-        requires header { (self.old.state ≡ State.CsiEntry) ⊎ (self.old.state ≡ State.CsiParam) }
+        requires header { IsAtFields self.old }
         requires control { control < 0x1B }
         ensures { Steps C.taken P.means control self.old performer.old self.new performer.new }
     {

@@ -1,5 +1,5 @@
 -- Runs one after another, and the runs of each kind of bytes.
-use Rattle.std.proofs.Common.{◌≡◌, ℕ, ◌+◌, ◌<◌, ◌≤◌, ◌⊎◌, arith, Bool, IsTrue, cond, eqb, refl, List, length, [], ◌∷◌, ◌++◌, ⊎_elim, inl, map, take, drop, ap, sym, ◌∙◌, subst, append_assoc}
+use Rattle.std.proofs.Common.{◌≡◌, ℕ, ◌+◌, ◌<◌, ◌≤◌, ◌⊎◌, arith, Bool, IsTrue, cond, eqb, refl, List, length, length-append, [], ◌∷◌, ◌++◌, ⊎_elim, inl, map, take, drop, ap, sym, ◌∙◌, subst, append_assoc}
 use Rattle.std.specs.Prelude.{true, false, nat_le, not, ◌&&◌, ◌||◌}
 use Rattle.std.specs.List.{range_with_len}
 use Rattle.std.proofs.lemmas.List.{length-take-le, take-append-le, take-append-drop}
@@ -372,7 +372,7 @@ module _ {A : Type 0} (adds : AccumulatorStep A) (m : Machine A) where
 
 module _ {C P : Type 0} (takes : C → ℕ → Type 0) (adds : AccumulatorStep C) (means : P → Call → P → Type 0) where
   pub LeadsTo-same : (parser : Parser C) (performer : P) (bytes : List ℕ) → CanTakeAll takes parser bytes → LeadsTo takes adds means (stage parser performer bytes) (stage parser performer bytes)
-  LeadsTo-same parser performer bytes can = record { can = can; machine = refl; made = []; joined = refl; performed = refl }
+  LeadsTo-same parser performer bytes can = record { can = can; machine = refl; made = []; joined = refl; performed = refl; within = omega arith }
 
   -- a run after a run
   pub LeadsTo-trans : {p q r : Parser C} {a b c : P} {xs ys zs : List ℕ}
@@ -383,6 +383,7 @@ module _ {C P : Type 0} (takes : C → ℕ → Type 0) (adds : AccumulatorStep C
     made = first.made ++ second.made;
     joined = first.joined ∙ ap (λ calls. first.made ++ calls) second.joined ∙ sym (append_assoc first.made second.made _);
     performed = Goes-append means a b c first.made second.made first.performed second.performed;
+    within = omega (arith, first.within, second.within);
   }
 
   -- a run of what is left, written out in another way
@@ -402,6 +403,7 @@ module _ {C P : Type 0} (takes : C → ℕ → Type 0) (adds : AccumulatorStep C
     made = step_calls adds b (machine_of old);
     joined = ap (λ m. step_calls adds b (machine_of old) ++ machine_calls adds left m) (sym steps.machine);
     performed = steps.calls;
+    within = omega arith;
   }
 
   -- a byte after a byte
@@ -492,6 +494,7 @@ module _ {C P : Type 0} (takes : C → ℕ → Type 0) (adds : AccumulatorStep C
         made = print c ∷ [];
         joined = taken.1;
         performed = (after, goes, refl);
+        within = omega (arith, length-Completes adds parser.accumulator (adds parser.accumulator first).0 behind c left whole.2);
       }
 
   -- bytes that make no call
@@ -508,6 +511,7 @@ module _ {C P : Type 0} (takes : C → ℕ → Type 0) (adds : AccumulatorStep C
             ∙ ap (λ calls. calls ++ machine_calls adds left (machine_after adds quiet.passed m)) quiet.none
             ∙ ap (machine_calls adds left) (sym quiet.machine);
         performed = refl;
+        within = omega (arith, ap length quiet.joined, length-append quiet.passed left);
       }
 
 module _ {C : Type 0} (takes : C → ℕ → Type 0) (adds : AccumulatorStep C) (test : ℕ → Bool) where

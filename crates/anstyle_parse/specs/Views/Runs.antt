@@ -1,5 +1,5 @@
 -- What a run of bytes that are taken at once leads to, and which bytes are runs.
-use Rattle.std.specs.Prelude.{◌≡◌, ◌≢◌, ◌<◌, ◌||◌, ℕ, Bool, List, [], ◌∷◌, ◌++◌, length, IsTrue}
+use Rattle.std.specs.Prelude.{◌≡◌, ◌≢◌, ◌≤◌, ◌<◌, ◌||◌, ℕ, Bool, List, [], ◌∷◌, ◌++◌, length, IsTrue}
 use Rattle.anstyle_parse.specs.declared.state.definitions.State.{State}
 use Rattle.anstyle_parse.specs.declared.state.definitions.State.TheVariants.{Anywhere, Utf8}
 use Rattle.anstyle_parse.specs.declared.state.definitions.Action.{Action}
@@ -28,6 +28,7 @@ pub record LeadsTo {C P : Type 0} (takes : C → ℕ → Type 0) (adds : Accumul
   pub joined : machine_calls adds old.left (machine_of old.parser)
       ≡ made ++ machine_calls adds new.left (machine_of new.parser)
   pub performed : Goes means old.performer made new.performer
+  pub within : length new.left ≤ length old.left
 
 -- the same, and not all bytes are left
 pub record Takes {C P : Type 0} (takes : C → ℕ → Type 0) (adds : AccumulatorStep C) (means : P → Call → P → Type 0)

@@ -216,9 +216,8 @@ impl<C: CharAccumulator> Parser<C> {
     fn take_chunks<'a, P: Perform>(&self, performer: &mut P, run: Run, bytes: &'a [u8]) -> &'a [u8]
         requires keeps { KeepsTo run self.now.state }
         requires can { CanTakeAll C.takes self.now bytes.now }
-        ensures leads { LeadsTo C.takes C.taken P.means (stage self.now performer.old bytes.now)
+        ensures { LeadsTo C.takes C.taken P.means (stage self.now performer.old bytes.now)
             (stage self.now performer.new result.now) }
-        ensures within { length result.now ≤ length bytes.now }
     {
         let mut rest = bytes;
         'chunks: while let Some((chunk, behind)) = rest.split_first_chunk::<CHUNK>() {
@@ -239,9 +238,8 @@ impl<C: CharAccumulator> Parser<C> {
     fn take_others<'a, P: Perform>(&self, performer: &mut P, run: Run, bytes: &'a [u8]) -> &'a [u8]
         requires keeps { KeepsTo run self.now.state }
         requires can { CanTakeAll C.takes self.now bytes.now }
-        ensures leads { LeadsTo C.takes C.taken P.means (stage self.now performer.old bytes.now)
+        ensures { LeadsTo C.takes C.taken P.means (stage self.now performer.old bytes.now)
             (stage self.now performer.new result.now) }
-        ensures within { length result.now ≤ length bytes.now }
     {
         let mut rest = bytes;
         'bytes: while let Some((first, behind)) = rest.split_first() {
@@ -355,9 +353,8 @@ impl<C: CharAccumulator> Parser<C> {
     fn take_characters<'a, P: Perform>(&self, performer: &mut P, bytes: &'a [u8]) -> &'a [u8]
         requires ground { self.now.state ≡ State.Ground }
         requires can { CanTakeAll C.takes self.now bytes.now }
-        ensures leads { LeadsTo C.takes C.taken P.means (stage self.now performer.old bytes.now)
+        ensures { LeadsTo C.takes C.taken P.means (stage self.now performer.old bytes.now)
             (stage self.now performer.new result.now) }
-        ensures within { length result.now ≤ length bytes.now }
     {
         let mut rest = bytes;
         'characters: while let Some((first, behind)) = rest.split_first() {
@@ -591,9 +588,8 @@ impl<C: CharAccumulator> Parser<C> {
     fn take_command<'a, P: Perform>(&mut self, performer: &mut P, bytes: &'a [u8]) -> &'a [u8]
         requires command { self.old.state ≡ State.OscString }
         requires can { CanTakeAll C.takes self.old bytes.now }
-        ensures leads { LeadsTo C.takes C.taken P.means (stage self.old performer.old bytes.now)
+        ensures { LeadsTo C.takes C.taken P.means (stage self.old performer.old bytes.now)
             (stage self.new performer.new result.now) }
-        ensures within { length result.now ≤ length bytes.now }
     {
         match bytes.split_first() {
             Some((first, behind)) => self.take_in_command(performer, *first, behind),
@@ -653,9 +649,8 @@ impl<C: CharAccumulator> Parser<C> {
     fn take_string_end<'a, P: Perform>(&mut self, performer: &mut P, bytes: &'a [u8]) -> &'a [u8]
         requires escape { self.old.state ≡ State.Escape }
         requires can { CanTakeAll C.takes self.old bytes.now }
-        ensures leads { LeadsTo C.takes C.taken P.means (stage self.old performer.old bytes.now)
+        ensures { LeadsTo C.takes C.taken P.means (stage self.old performer.old bytes.now)
             (stage self.new performer.new result.now) }
-        ensures within { length result.now ≤ length bytes.now }
     {
         match bytes.split_first() {
             Some((next, behind)) if *next == b'\\' => {

@@ -25,6 +25,6 @@ returns-then-first-eq-ESCAPE g c =
     let ended = LeadsTo-byte n.takes n.taken means c.args.self.now c.end_hooked_string.new.self c.args.performer.now c.end_hooked_string.new.performer
     c.args.first c.args.behind.now c.requires.can c.end_hooked_string.ensures in
     record {
-      leads = LeadsTo-trans n.takes n.taken means ended c.take_string_end.ensures.leads;
+      leads = LeadsTo-trans n.takes n.taken means ended c.take_string_end.ensures;
       some = omega (arith, c.take_string_end.ensures.within);
     }

@@ -12,12 +12,7 @@ characters-smaller g c =
 pub characters-preserved : goal.characters-preserved
 characters-preserved g c =
     let n = g.C.CharAccumulator in
-    let value = c.args.self.now.accumulator in
-    let shorter = length-Completes n.taken value (n.taken value c.in-Some.first.now).0 c.in-Some.behind.now c.in-Some-whole.c c.in-Some-whole.further.now c.in-Some-whole.ensures.2 in
-    record {
-      leads =
-          LeadsTo-first n.takes n.taken g.P.Perform.means c.in-Some.ensures.cases.0 c.characters.invariant.leads
-          (λ can. LeadsTo-whole n.takes n.taken g.P.Perform.means c.args.self.now c.characters.performer c.print.new.self c.in-Some.first.now c.in-Some.behind.now c.in-Some-whole.c c.in-Some-whole.further.now
-          can c.requires.ground c.in-Some-whole.ensures c.print.ensures);
-      within = omega (arith, shorter, ap length c.in-Some.ensures.cases.0, c.characters.invariant.within);
-    }
+    LeadsTo-first n.takes n.taken g.P.Perform.means c.in-Some.ensures.cases.0 c.characters.invariant
+    (λ can. LeadsTo-whole n.takes n.taken g.P.Perform.means c.args.self.now c.characters.performer c.print.new.self
+    c.in-Some.first.now c.in-Some.behind.now c.in-Some-whole.c c.in-Some-whole.further.now
+    can c.requires.ground c.in-Some-whole.ensures c.print.ensures)

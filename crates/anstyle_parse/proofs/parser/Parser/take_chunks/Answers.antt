@@ -16,14 +16,10 @@ returns-then-others-ne0 g c =
     let chunk = c.in-Some.chunk.now in
     let long = length-first_chunk 16 rest chunk c.in-Some.behind.now c.in-Some.ensures.cases.0 c.in-Some.ensures.cases.2 in
     let within = lowest_within (λ b. is_of_run c.args.run b) chunk c.others-others.result long c.others-others.ensures c.if-others-ne0.true in
-    record {
-      leads =
-          LeadsTo-front n.takes n.taken g.P.Perform.means c.args.run c.args.self.now c.requires.keeps c.chunks.performer c.call_few.new.performer
-          _ rest chunk c.split_at.result.0.now c.split_at.result.1.now c.in-Some.ensures.cases.0 (omega (arith, within))
-          (each_to_lowest (λ b. is_of_run c.args.run b) chunk c.others-others.result long c.others-others.ensures c.if-others-ne0.true)
-          c.split_at.ensures.front c.split_at.ensures.back c.call_few.ensures c.chunks.invariant.leads;
-      within = omega (arith, c.split_at.ensures.back_len, c.chunks.invariant.within);
-    }
+    LeadsTo-front n.takes n.taken g.P.Perform.means c.args.run c.args.self.now c.requires.keeps c.chunks.performer c.call_few.new.performer
+    _ rest chunk c.split_at.result.0.now c.split_at.result.1.now c.in-Some.ensures.cases.0 (omega (arith, within))
+    (each_to_lowest (λ b. is_of_run c.args.run b) chunk c.others-others.result long c.others-others.ensures c.if-others-ne0.true)
+    c.split_at.ensures.front c.split_at.ensures.back c.call_few.ensures c.chunks.invariant
 
 pub chunks-preserved : goal.chunks-preserved
 chunks-preserved g c =
@@ -35,16 +31,9 @@ chunks-preserved g c =
     let long = length-first_chunk 16 rest chunk behind c.in-Some.ensures.cases.0 c.in-Some.ensures.cases.2 in
     let whole = chunk_and_rest 16 rest chunk behind c.in-Some.ensures.cases.0 c.in-Some.ensures.cases.1 in
     let each = each_passes (λ b. is_of_run c.args.run b) chunk c.others-others.result long c.others-others.ensures c.if-others-ne0.false in
-    record {
-      leads =
-          LeadsTo-first n.takes n.taken means whole c.chunks.invariant.leads
-          (λ can. LeadsTo-chunk n.takes n.taken means c.args.run c.args.self.now c.requires.keeps c.chunks.performer c.call_all.new.performer
-          chunk behind can each c.call_all.ensures);
-      within = omega (arith, c.in-Some.ensures.cases.2, c.chunks.invariant.within);
-    }
+    LeadsTo-first n.takes n.taken means whole c.chunks.invariant
+    (λ can. LeadsTo-chunk n.takes n.taken means c.args.run c.args.self.now c.requires.keeps c.chunks.performer c.call_all.new.performer
+    chunk behind can each c.call_all.ensures)
 
 pub returns : goal.returns
-returns g c = record {
-  leads = LeadsTo-trans g.C.CharAccumulator.takes g.C.CharAccumulator.taken g.P.Perform.means c.chunks.invariant.leads c.take_others.ensures.leads;
-  within = omega (arith, c.chunks.invariant.within, c.take_others.ensures.within);
-}
+returns g c = LeadsTo-trans g.C.CharAccumulator.takes g.C.CharAccumulator.taken g.P.Perform.means c.chunks.invariant c.take_others.ensures

@@ -31,7 +31,7 @@ returns-then-first-eq-ESCAPE g c =
     let ended = LeadsTo-byte n.takes n.taken means c.args.self.now c.end_command.new.self c.args.performer.now c.end_command.new.performer
     c.args.first c.args.behind.now c.requires.can c.end_command.ensures in
     record {
-      leads = LeadsTo-trans n.takes n.taken means ended c.take_string_end.ensures.leads;
+      leads = LeadsTo-trans n.takes n.taken means ended c.take_string_end.ensures;
       some = omega (arith, c.take_string_end.ensures.within);
     }
 

@@ -12,3 +12,12 @@ returns-in-Some g c =
       leads = LeadsTo-first n.takes n.taken means c.in-Some.ensures.cases.0 stored (λ can. c.take_control_in_command-in-Some.ensures.leads);
       some = omega (arith, c.in-Some.ensures.cases.1, c.store_text-rest.ensures.within, c.take_control_in_command-in-Some.ensures.some);
     }
+
+pub returns-in-None : goal.returns-in-None
+returns-in-None g c =
+    let n = g.C.CharAccumulator in
+    record {
+      leads = LeadsTo-quiet n.takes n.taken g.P.Perform.means c.args.self.now c.store_text-rest.new.self c.args.performer.now
+          (c.args.first ∷ c.args.behind.now) c.store_text-rest.result.now c.store_text-rest.ensures.leads;
+      some = omega (arith, c.store_text-rest.ensures.within);
+    }

@@ -1,13 +1,11 @@
-use Rattle.std.proofs.Common.{◌≤◌, length}
+use Rattle.std.proofs.Common.{length}
 use Rattle.anstyle_parse.specs.Views.Runs.{LeadsTo}
 use Rattle.anstyle_parse.specs.Views.Stage.{stage}
 use Rattle.anstyle_parse.proofs.parser.Parser.take_others.Given as goal
 
 abbrev pub invariant-bytes : goal.invariant-bytes
-invariant-bytes g l = record {
-  leads : LeadsTo g.C.CharAccumulator.takes g.C.CharAccumulator.taken g.P.Perform.means (stage l.self l.fn.performer l.bytes) (stage l.self l.performer l.rest);
-  within : length l.rest ≤ length l.bytes;
-}
+invariant-bytes g l =
+    LeadsTo g.C.CharAccumulator.takes g.C.CharAccumulator.taken g.P.Perform.means (stage l.self l.fn.performer l.bytes) (stage l.self l.performer l.rest)
 
 abbrev pub decreases-bytes : goal.decreases-bytes
 decreases-bytes g l = length l.rest

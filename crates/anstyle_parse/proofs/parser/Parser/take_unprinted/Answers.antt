@@ -17,11 +17,11 @@ returns-then-first-lt-CANCEL-clause-leads g c =
 pub take_by_table-requires : goal.take_by_table-requires
 take_by_table-requires g c =
     let Q : List ℕ → Type 0 = λ left. CanTakeAll g.C.CharAccumulator.takes c.args.self.now left in
-    subst Q c.in-Some-split_first.ensures.cases.0 c.take_characters-rest.ensures.leads.can
+    subst Q c.in-Some-split_first.ensures.cases.0 c.take_characters-rest.ensures.can
 
 pub returns-clause-leads : goal.returns-clause-leads
 returns-clause-leads g c =
-    LeadsTo-first g.C.CharAccumulator.takes g.C.CharAccumulator.taken g.P.Perform.means c.in-Some-split_first.ensures.cases.0 c.take_characters-rest.ensures.leads
+    LeadsTo-first g.C.CharAccumulator.takes g.C.CharAccumulator.taken g.P.Perform.means c.in-Some-split_first.ensures.cases.0 c.take_characters-rest.ensures
     (λ can. c.take_by_table.ensures.leads)
 
 pub take_nothing-requires-clause-nothing : goal.take_nothing-requires-clause-nothing

@@ -9,6 +9,6 @@ returns g c =
     let begun = LeadsTo-run n.takes n.taken means c.args.run c.args.self.now c.requires.keeps c.args.performer.now c.call.new.performer
     c.args.first c.args.behind.now c.requires.can c.requires.first c.call.ensures in
     record {
-      leads = LeadsTo-trans n.takes n.taken means begun c.take_chunks.ensures.leads;
+      leads = LeadsTo-trans n.takes n.taken means begun c.take_chunks.ensures;
       some = omega (arith, c.take_chunks.ensures.within);
     }

@@ -91,7 +91,9 @@ impl<P: Resumable<W>, W: Sink> WritingPerformer<W> for Linking<P> {
 
     ghost adds = { λ old calls new taken. P.adds (performer_in old) _ (performer_in new) taken.received };
 
-    ghost ends = { λ old calls new taken _.
-        ends-taken P.receives P.text_from P.text_after P.ending_from P.resumes P.ends_later
-        (λ performer more. P.resumes performer [] performer (P.receives_none performer) more) old calls new taken };
+    ghost ends = { λ old calls new taken _. ends-taken P.receives (record {
+        written = P.text_from; after = P.text_after; ending = P.ending_from;
+        resumes = P.resumes; ends_later = P.ends_later;
+        after_none = λ performer more. P.resumes performer [] performer (P.receives_none performer) more;
+    }) old calls new taken };
 }

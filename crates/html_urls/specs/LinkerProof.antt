@@ -4,6 +4,7 @@ use Rattle.std.proofs.Common.{◌≡◌, ℕ, List, [], ◌∷◌, ◌++◌, ref
 use Rattle.anstyle_parse.specs.Stream.Call.{Call}
 use Rattle.html_urls.specs.declared.linking.Linking.{Linking}
 use Rattle.html_urls.specs.Linked.{Standing, handed, standing_after, handed_from, standing_at_end, left_from}
+use Rattle.html_urls.specs.Resumed.{Resumes}
 use Rattle.html_urls.specs.Linker.{performer_in, standing_of, TakesCall, Takes, ending_from}
 
 -- what is handed on by two lists of calls, one after another, and where they lead
@@ -44,27 +45,18 @@ module _ {P : Type 0} (receives : P → List Call → P → Type 0) where
             (subst (λ (it : Standing). receives (performer_in middle) (handed_from it more) (performer_in new)) first.standing second.received));
       }
 
--- What a performer writes: by calls, by more calls after some, and at the end; and that it goes on where it stands.
-pub record Writing {P : Type 0} (receives : P → List Call → P → Type 0) : Type 0 where
-  pub written : P → List Call → List ℕ
-  pub after : P → (calls more : List Call) → List ℕ
-  pub ending : P → List Call → List ℕ
-  pub resumes : (old : P) (calls : List Call) (new : P) → receives old calls new
-      → (more : List Call) → written new more ≡ after old calls more
-  pub ends_later : (old : P) (calls : List Call) (new : P) → receives old calls new
-      → (more : List Call) → ending new more ≡ ending old (calls ++ more)
-  pub after_none : (performer : P) (more : List Call) → written performer more ≡ after performer [] more
-
 -- What is then still to be written is what was.
-pub ends-taken : {P : Type 0} (receives : P → List Call → P → Type 0) (writing : Writing receives)
-    (old : Linking P) (calls : List Call) (new : Linking P) → Takes receives old calls new
-    → ending_from writing.after writing.ending new [] ≡ ending_from writing.after writing.ending old calls
-ends-taken receives writing old calls new taken =
+pub ends-taken : {P : Type 0} {receives : P → List Call → P → Type 0} {written : P → List Call → List ℕ}
+    {after : P → (calls more : List Call) → List ℕ} {ending : P → List Call → List ℕ}
+    → Resumes receives written after ending → ((performer : P) → receives performer [] performer)
+    → (old : Linking P) (calls : List Call) (new : Linking P) → Takes receives old calls new
+    → ending_from after ending new [] ≡ ending_from after ending old calls
+ends-taken {after} {ending} goes_on none old calls new taken =
     let at = standing_of old in
     let made = handed_from at calls in
     let left = left_from at calls in
     let here = performer_in new in
-    ap (λ it. writing.after here [] (left_from it []) ++ writing.ending here (left_from it [])) taken.standing
+    ap (λ it. after here [] (left_from it []) ++ ending here (left_from it [])) taken.standing
     ∙ ap₂ (λ text end. text ++ end)
-    (sym (writing.after_none here left) ∙ writing.resumes (performer_in old) made here taken.received left)
-    (writing.ends_later (performer_in old) made here taken.received left)
+    (sym (goes_on.same_text here [] here (none here) left) ∙ goes_on.same_text (performer_in old) made here taken.received left)
+    (goes_on.same_ending (performer_in old) made here taken.received left)

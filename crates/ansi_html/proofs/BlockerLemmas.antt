@@ -5,16 +5,16 @@ use Rattle.std.specs.Str.{IsUtf8, chars, encode_utf8_all}
 use Rattle.std.proofs.lemmas.Bool.{ne_eqb}
 use Rattle.std.proofs.lemmas.Str.{encodes-chars}
 use Rattle.anstyle_parse.specs.declared.io.devices.Sink.{Ghosts as SinkOf}
-use Rattle.anstyle_parse.specs.Stream.Call.{Call, print, execute}
+use Rattle.anstyle_parse.specs.Stream.Call.{Call, print, execute, hook, put, unhook, esc_dispatch}
 use Rattle.anstyle_parse.specs.Stream.Texts.{text_calls}
 use Rattle.anstyle_parse.specs.Io.Output.{Adds}
-use Rattle.anstyle_parse.proofs.Written.Output.{Adds-append}
+use Rattle.anstyle_parse.proofs.Written.Output.{Adds-append, Adds-nil}
 use Rattle.anstyle_parse.proofs.Characters.Scalars.{length-encode-some}
 use Rattle.ansi_strip.specs.Strip.{stripped_call}
 use Rattle.ansi_html.specs.declared.scheme.Styling.{Styling}
 use Rattle.ansi_html.specs.declared.inside.Inside.{Inside}
 use Rattle.ansi_html.specs.declared.blocks.BlocksWriter.{BlocksWriter}
-use Rattle.ansi_html.specs.Html.{element_end, after_text, is_executed}
+use Rattle.ansi_html.specs.Html.{element_end, after_text, is_executed, text_html}
 use Rattle.ansi_html.specs.Lines.{Lined, lined, ended}
 use Rattle.ansi_html.specs.Blocks.{lines_a_block, block_begin, block_end, inside_call, inside_after, Blocked, blocked, left_with_text, block_opening, block_closing, blocked_call, block_ended, blocked_after, blocked_from, blocked_at_end}
 use Rattle.ansi_html.specs.Inside as inside
@@ -52,6 +52,78 @@ module _ (numbered : Bool) (styling : Styling) (it : Blocked) (call : Call) (oth
 
     pub blocked_after-none : blocked_after numbered call it ≡ blocked (inside_after numbered call it.inside) it.left
     blocked_after-none = ap₂ (λ feed bytes. after_by feed (after_text it.left (left_with_text it) bytes)) other none
+
+-- a call that writes nothing and selects nothing
+pub record IsIdle (call : Call) : Type 0 where
+  pub no_text : stripped_call call ≡ []
+  pub no_feed : is_executed 0x0A call ≡ false
+  pub nothing : (numbered : Bool) (styling : Styling) (it : Lined) → inside_call numbered styling it call ≡ []
+  pub stays : (numbered : Bool) (it : Lined) → inside_after numbered call it ≡ it
+
+pub TakesCall-idle : {W : Type 0} (sink : SinkOf W) (performer : BlocksWriter W) (call : Call) → IsIdle call
+    → TakesCall sink performer call performer
+TakesCall-idle sink performer call idle =
+    let numbered = numbered_of performer in
+    let styling = styling_of performer in
+    let it = blocked_of performer in
+    let out = output_of performer in
+    record {
+      numbered = refl;
+      styling = refl;
+      standing = sym (blocked_after-none numbered styling it call idle.no_feed idle.no_text
+          ∙ ap (λ inside. blocked inside it.left) (idle.stays numbered it.inside));
+      added = subst (λ t. Adds sink t out out)
+          (sym (blocked_call-none numbered styling it call idle.no_feed idle.no_text ∙ idle.nothing numbered styling it.inside))
+          (Adds-nil sink out);
+    }
+
+pub idle-hook : (groups : List (List ℕ)) (collected : List ℕ) (ignore : Bool) (final : ℕ) → IsIdle (hook groups collected ignore final)
+unfolding text_html
+idle-hook groups collected ignore final = record { no_text = refl; no_feed = refl; nothing = nothing; stays = stays }
+  where
+    nothing : (numbered : Bool) (styling : Styling) (it : Lined) → inside_call numbered styling it (hook groups collected ignore final) ≡ []
+    nothing true styling it = refl
+    nothing false styling it = refl
+
+    stays : (numbered : Bool) (it : Lined) → inside_after numbered (hook groups collected ignore final) it ≡ it
+    stays true it = refl
+    stays false it = refl
+
+pub idle-put : (byte : ℕ) → IsIdle (put byte)
+unfolding text_html
+idle-put byte = record { no_text = refl; no_feed = refl; nothing = nothing; stays = stays }
+  where
+    nothing : (numbered : Bool) (styling : Styling) (it : Lined) → inside_call numbered styling it (put byte) ≡ []
+    nothing true styling it = refl
+    nothing false styling it = refl
+
+    stays : (numbered : Bool) (it : Lined) → inside_after numbered (put byte) it ≡ it
+    stays true it = refl
+    stays false it = refl
+
+pub idle-unhook : IsIdle unhook
+unfolding text_html
+idle-unhook = record { no_text = refl; no_feed = refl; nothing = nothing; stays = stays }
+  where
+    nothing : (numbered : Bool) (styling : Styling) (it : Lined) → inside_call numbered styling it unhook ≡ []
+    nothing true styling it = refl
+    nothing false styling it = refl
+
+    stays : (numbered : Bool) (it : Lined) → inside_after numbered unhook it ≡ it
+    stays true it = refl
+    stays false it = refl
+
+pub idle-esc_dispatch : (collected : List ℕ) (ignore : Bool) (final : ℕ) → IsIdle (esc_dispatch collected ignore final)
+unfolding text_html
+idle-esc_dispatch collected ignore final = record { no_text = refl; no_feed = refl; nothing = nothing; stays = stays }
+  where
+    nothing : (numbered : Bool) (styling : Styling) (it : Lined) → inside_call numbered styling it (esc_dispatch collected ignore final) ≡ []
+    nothing true styling it = refl
+    nothing false styling it = refl
+
+    stays : (numbered : Bool) (it : Lined) → inside_after numbered (esc_dispatch collected ignore final) it ≡ it
+    stays true it = refl
+    stays false it = refl
 
 -- printed characters, in a block that is open, and in any
 module _ (numbered : Bool) (styling : Styling) where

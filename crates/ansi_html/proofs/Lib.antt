@@ -40,3 +40,4 @@ pub mod InsideLemmas
 pub mod BlockLemmas
 pub mod BlockerLemmas
 pub mod PartLemmas
+pub mod UnderlineLemmas

@@ -73,16 +73,19 @@ darkened share color = rgb (part share color.red) (part share color.green) (part
 
 abbrev pub lightened : (share : ℕ) → Rgb → Rgb
 lightened share color =
-    rgb (255 - part share (255 - color.red)) (255 - part share (255 - color.green)) (255 - part share (255 - color.blue))
+    rgb (255 - part share (255 - color.red)) (255 - part share (255 - color.green))
+    (255 - part share (255 - color.blue))
 
 -- The shade of most sixteenths, from this many down, that is read on the page.
 unfoldable pub light_from : (share : ℕ) → Rgb → Rgb
 light_from zero color = black
-light_from (suc n) color = if is_read_on_light (darkened (suc n) color) then darkened (suc n) color else light_from n color
+light_from (suc n) color =
+    if is_read_on_light (darkened (suc n) color) then darkened (suc n) color else light_from n color
 
 unfoldable pub dark_from : (share : ℕ) → Rgb → Rgb
 dark_from zero color = white
-dark_from (suc n) color = if is_read_on_dark (lightened (suc n) color) then lightened (suc n) color else dark_from n color
+dark_from (suc n) color =
+    if is_read_on_dark (lightened (suc n) color) then lightened (suc n) color else dark_from n color
 
 -- The shades of a colour for light pages and for dark ones: the colour itself where it is read.
 abbrev pub light_shade : Rgb → Rgb

@@ -55,14 +55,16 @@ pub data AreReadable (scheme : Scheme) : List ℕ → Type 0 where
   on_page : (light dark : Rgb) → IsReadOnLight light → IsReadOnDark dark
       → AreReadable scheme (themed scheme (codes "color:") light dark)
   on_reversed : (light dark : Rgb) → IsReadOnLight light → IsReadOnDark dark
-      → AreReadable scheme (themed scheme (codes "color:") dark light ++ themed scheme (codes "background-color:") black white)
+      → AreReadable scheme
+      (themed scheme (codes "color:") dark light ++ themed scheme (codes "background-color:") black white)
   on_color : (text behind : Rgb) → IsTrue (are_readable text behind)
       → AreReadable scheme (declared (codes "color:") text ++ declared (codes "background-color:") behind)
 
 -- the same, or the two colours that a stream has selected
 pub data AreColors (scheme : Scheme) : List ℕ → Type 0 where
   readable : (colors : List ℕ) → AreReadable scheme colors → AreColors scheme colors
-  chosen : (text behind : Rgb) → AreColors scheme (declared (codes "color:") text ++ declared (codes "background-color:") behind)
+  chosen : (text behind : Rgb)
+      → AreColors scheme (declared (codes "color:") text ++ declared (codes "background-color:") behind)
 
 -- lines, by their names
 pub data AreLines : List ℕ → Type 0 where
@@ -117,7 +119,8 @@ pub data IsStyled (styling : Styling) : List ℕ → Type 0 where
 -- these, and links of these
 pub data IsFragment (styling : Styling) : List ℕ → Type 0 where
   end : IsFragment styling []
-  styled : (styled rest : List ℕ) → IsStyled styling styled → IsFragment styling rest → IsFragment styling (styled ++ rest)
+  styled : (styled rest : List ℕ) → IsStyled styling styled → IsFragment styling rest
+      → IsFragment styling (styled ++ rest)
   link : (href linked rest : List ℕ) → IsHref href → IsStyled styling linked → IsFragment styling rest
       → IsFragment styling (codes "<a rel=\"nofollow noreferrer\" href=\"" ++ (href ++ (codes "\""
       ++ (attribute_text styling (link_value styling) ++ (linked ++ (codes "</a>" ++ rest))))))

@@ -44,7 +44,8 @@ pub record TakesCall {W : Type 0} (sink : SinkOf W) (old : Inside W) (call : Cal
   pub numbered : numbered_of new ≡ numbered_of old
   pub styling : styling_of new ≡ styling_of old
   pub standing : lined_of new ≡ inside_after (numbered_of old) call (lined_of old)
-  pub added : Adds sink (inside_call (numbered_of old) (styling_of old) (lined_of old) call) (output_of old) (output_of new)
+  pub added : Adds sink (inside_call (numbered_of old) (styling_of old) (lined_of old) call)
+      (output_of old) (output_of new)
 
 -- The calls, one after another.
 pub record TakesCalls {W : Type 0} (sink : SinkOf W)
@@ -52,4 +53,5 @@ pub record TakesCalls {W : Type 0} (sink : SinkOf W)
   pub numbered : numbered_of new ≡ numbered_of old
   pub styling : styling_of new ≡ styling_of old
   pub standing : lined_of new ≡ inside_at_end (numbered_of old) (lined_of old) calls
-  pub added : Adds sink (inside_from (numbered_of old) (styling_of old) (lined_of old) calls) (output_of old) (output_of new)
+  pub added : Adds sink (inside_from (numbered_of old) (styling_of old) (lined_of old) calls)
+      (output_of old) (output_of new)

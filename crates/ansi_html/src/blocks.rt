@@ -90,17 +90,11 @@ impl<W: Sink> Perform for BlocksWriter<W> {
         }
     }
 
-    fn hook(&mut self, params: &Params, intermediates: &[u8], ignore: bool, action: u8) {
-        self.inside.hook(params, intermediates, ignore, action);
-    }
+    fn hook(&mut self, _: &Params, _: &[u8], _: bool, _: u8) {}
 
-    fn put(&mut self, byte: u8) {
-        self.inside.put(byte);
-    }
+    fn put(&mut self, _: u8) {}
 
-    fn unhook(&mut self) {
-        self.inside.unhook();
-    }
+    fn unhook(&mut self) {}
 
     fn osc_dispatch(&mut self, params: &[&[u8]], bell_terminated: bool) {
         self.inside.osc_dispatch(params, bell_terminated);
@@ -111,9 +105,7 @@ impl<W: Sink> Perform for BlocksWriter<W> {
             .csi_dispatch(params, intermediates, ignore, action);
     }
 
-    fn esc_dispatch(&mut self, intermediates: &[u8], ignore: bool, byte: u8) {
-        self.inside.esc_dispatch(intermediates, ignore, byte);
-    }
+    fn esc_dispatch(&mut self, _: &[u8], _: bool, _: u8) {}
 }
 
 /// What stands between line feeds, tabs and carriage returns is written at once.

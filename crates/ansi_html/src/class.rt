@@ -2,10 +2,10 @@
 ghost use Rattle.std.specs.Prelude.{◌≡◌, ◌++◌, ◌∷◌, Some, codes, option_to_list};
 ghost use Rattle.std.specs.List.{flat_map};
 ghost use Rattle.anstyle_parse.specs.Io.Output.{Adds};
-ghost use Rattle.ansi_html.specs.Classes.{number_of, text_class, ground_class, class_if, lines_class, underline_class, colored_word, letters, underline_word, class_word, class_name, class_names, classes_of};
+ghost use Rattle.ansi_html.specs.Classes.{number_of, text_class, ground_class, class_if, lines_class, underline_class, colored_word, letters, class_word, class_name, class_names, classes_of};
 
 use crate::contrast::Rgb;
-use crate::css::{behind_of, has_line, is_underlined, put_if, text_of};
+use crate::css::{colors_of, has_line, is_underlined, put_if, underline_word};
 use ansi_style::laws::hue_as_number;
 use ansi_style::{Color, Style, Underline};
 use anstyle_parse::io::{Output, Sink};
@@ -73,7 +73,8 @@ fn text_class(style: Style) -> Option<Class>
     ensures { result ≡ text_class style }
 {
     let dim = style.dim;
-    match (number_of(text_of(style)), number_of(behind_of(style))) {
+    let (text, behind) = colors_of(style);
+    match (number_of(text), number_of(behind)) {
         (Some(number), Some(_)) => Some(Class::OnGround { number }),
         (None, Some(number)) => Some(Class::Ink { dim, number }),
         (number, None) => {
@@ -90,7 +91,8 @@ fn text_class(style: Style) -> Option<Class>
 fn ground_class(style: Style) -> Option<Class>
     ensures { result ≡ ground_class style }
 {
-    match number_of(behind_of(style)) {
+    let (_, behind) = colors_of(style);
+    match number_of(behind) {
         Some(number) => Some(Class::Ground { number }),
         None => class_if(style.reverse, Class::Reversed),
     }
@@ -157,19 +159,6 @@ fn put_letters<W: Sink>(
     put_if(output, overlined, b"o");
     put_if(output, struck_out, b"s");
     put_if(output, blink, b"k");
-}
-
-/// How an underline is drawn, in a word.
-fn underline_word(underline: Underline) -> &'static [u8]
-    ensures { result.now ≡ underline_word underline }
-{
-    match underline {
-        Underline::Off | Underline::Single => b"",
-        Underline::Double => b"double",
-        Underline::Curly => b"wavy",
-        Underline::Dotted => b"dotted",
-        Underline::Dashed => b"dashed",
-    }
 }
 
 /// What the name of a class has after its prefix.

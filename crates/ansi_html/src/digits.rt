@@ -1,7 +1,6 @@
 //! The digits of colours.
-ghost use Rattle.std.specs.Prelude.{◌≡◌, ◌<◌, false};
+ghost use Rattle.std.specs.Prelude.{◌≡◌, ◌<◌, [], slice_index_or};
 ghost use Rattle.ansi_html.specs.Palette.{hex_digit, shades_of};
-ghost use Rattle.ansi_style.specs.declared.style.Color.TheVariants.{Named, Bright};
 ghost use Rattle.ansi_style.specs.Style.{hue_number};
 ghost use Rattle.ansi_html.specs.Css.{light_text, dark_text};
 ghost use Rattle.ansi_html.specs.Tags.{digits};
@@ -22,7 +21,7 @@ const DIGITS: [u8; 16] = *b"0123456789abcdef";
 
 /// The last hexadecimal digit of a number, in lower case.
 #[inline(always)]
-pub(crate) fn digit(number: u8) -> u8
+fn digit(number: u8) -> u8
     ensures { result ≡ hex_digit number }
 {
     DIGITS[(number % 16) as usize]
@@ -50,8 +49,8 @@ pub(crate) fn page_digits(dim: bool, text: Color) -> PageDigits
     ensures dark { result.dark ≡ digits (dark_text dim (shades_of text)) }
 {
     match text {
-        Color::Named(hue) if !dim => named_digits(hue),
-        Color::Bright(hue) if !dim => bright_digits(hue),
+        Color::Named(hue) if !dim => digits_at(&NAMED, hue),
+        Color::Bright(hue) if !dim => digits_at(&BRIGHT, hue),
         _ => shade_digits(dim, text),
     }
 }
@@ -65,23 +64,13 @@ fn number(hue: Hue) -> usize
     hue as usize
 }
 
-/// Those of one of the eight, which is read on both pages as it is.
+/// Those of a hue in a table of the eight, which are read on both pages as they are.
 #[inline(always)]
-fn named_digits(hue: Hue) -> PageDigits
-    ensures light { result.light ≡ digits (light_text false (shades_of (Named hue))) }
-    ensures dark { result.dark ≡ digits (dark_text false (shades_of (Named hue))) }
+fn digits_at(table: &[[[u8; 6]; 2]; 8], hue: Hue) -> PageDigits
+    ensures light { result.light ≡ slice_index_or (slice_index_or table.now (hue_number hue) []) 0 [] }
+    ensures dark { result.dark ≡ slice_index_or (slice_index_or table.now (hue_number hue) []) 1 [] }
 {
-    let [light, dark] = NAMED[number(hue)];
-    PageDigits { light, dark }
-}
-
-/// The same in bright.
-#[inline(always)]
-fn bright_digits(hue: Hue) -> PageDigits
-    ensures light { result.light ≡ digits (light_text false (shades_of (Bright hue))) }
-    ensures dark { result.dark ≡ digits (dark_text false (shades_of (Bright hue))) }
-{
-    let [light, dark] = BRIGHT[number(hue)];
+    let [light, dark] = table[number(hue)];
     PageDigits { light, dark }
 }
 

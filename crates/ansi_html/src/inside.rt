@@ -1,6 +1,7 @@
 //! What writes the text, or the numbered lines, that stand in blocks.
-ghost use Rattle.std.specs.Prelude.{◌≡◌, ◌++◌, [], false};
+ghost use Rattle.std.specs.Prelude.{◌≡◌, ◌++◌, [], false, map};
 ghost use Rattle.anstyle_parse.specs.Io.Output.{Adds};
+ghost use Rattle.anstyle_parse.specs.Stream.Call.{print, execute, osc_dispatch, csi_dispatch};
 ghost use Rattle.anstyle_parse.specs.Stream.Texts.{text_calls};
 ghost use Rattle.ansi_html.specs.Html.{element_end};
 ghost use Rattle.ansi_html.specs.Lines.{lined, ended};
@@ -20,7 +21,8 @@ pub(crate) struct Inside<W> {
 }
 
 impl<W: Sink> Inside<W> {
-    ghost use Rattle.ansi_html.specs.Inside.{output_of, styling_of, numbered_of, lined_of, IsNew, TakesCalls};
+    ghost use Rattle.ansi_html.specs.Inside.{output_of, styling_of, numbered_of, lined_of, IsNew, TakesCall, TakesCalls};
+    ghost use Rattle.anstyle_parse.specs.Views.Params.{groups_shown};
 
     /// One that writes to this output, says styles in this way, and has received no call.
     pub(crate) fn new(styling: Styling, has_numbers: bool, output: Output<W>) -> Inside<W>
@@ -80,24 +82,10 @@ impl<W: Sink> Inside<W> {
         }
     }
 
-    /// Writes what ends the elements that are open.
-    pub(crate) fn into_output(self) -> Output<W>
-        ensures { Adds W.Sink (inside_end (numbered_of self) (lined_of self)) (output_of self) result }
+    /// Writes a character.
+    pub(crate) fn print(&mut self, c: char)
+        ensures { TakesCall W.Sink self.old (print c) self.new }
     {
-        if self.has_numbers {
-            self.lines.into_output()
-        } else {
-            self.lines.html.into_output()
-        }
-    }
-}
-
-impl<W: Sink> Perform for Inside<W> {
-    ghost use Rattle.ansi_html.specs.Inside.{TakesCall};
-
-    ghost means = { TakesCall W.Sink };
-
-    fn print(&mut self, c: char) {
         if self.has_numbers {
             self.lines.print(c);
         } else {
@@ -105,7 +93,10 @@ impl<W: Sink> Perform for Inside<W> {
         }
     }
 
-    fn execute(&mut self, byte: u8) {
+    /// Writes a control, if it is text.
+    pub(crate) fn execute(&mut self, byte: u8)
+        ensures { TakesCall W.Sink self.old (execute byte) self.new }
+    {
         if self.has_numbers {
             self.lines.execute(byte);
         } else {
@@ -113,31 +104,11 @@ impl<W: Sink> Perform for Inside<W> {
         }
     }
 
-    fn hook(&mut self, params: &Params, intermediates: &[u8], ignore: bool, action: u8) {
-        if self.has_numbers {
-            self.lines.hook(params, intermediates, ignore, action);
-        } else {
-            self.lines.html.hook(params, intermediates, ignore, action);
-        }
-    }
-
-    fn put(&mut self, byte: u8) {
-        if self.has_numbers {
-            self.lines.put(byte);
-        } else {
-            self.lines.html.put(byte);
-        }
-    }
-
-    fn unhook(&mut self) {
-        if self.has_numbers {
-            self.lines.unhook();
-        } else {
-            self.lines.html.unhook();
-        }
-    }
-
-    fn osc_dispatch(&mut self, params: &[&[u8]], bell_terminated: bool) {
+    /// Selects a link, if the command says one.
+    pub(crate) fn osc_dispatch(&mut self, params: &[&[u8]], bell_terminated: bool)
+        ensures { TakesCall W.Sink self.old
+            (osc_dispatch (map (λ part. part.now) params.now) bell_terminated) self.new }
+    {
         if self.has_numbers {
             self.lines.osc_dispatch(params, bell_terminated);
         } else {
@@ -145,7 +116,17 @@ impl<W: Sink> Perform for Inside<W> {
         }
     }
 
-    fn csi_dispatch(&mut self, params: &Params, intermediates: &[u8], ignore: bool, action: u8) {
+    /// Selects a style, if the sequence says one.
+    pub(crate) fn csi_dispatch(
+        &mut self,
+        params: &Params,
+        intermediates: &[u8],
+        ignore: bool,
+        action: u8,
+    )
+        ensures { TakesCall W.Sink self.old
+            (csi_dispatch (groups_shown params.now) intermediates.now ignore action) self.new }
+    {
         if self.has_numbers {
             self.lines
                 .csi_dispatch(params, intermediates, ignore, action);
@@ -156,11 +137,14 @@ impl<W: Sink> Perform for Inside<W> {
         }
     }
 
-    fn esc_dispatch(&mut self, intermediates: &[u8], ignore: bool, byte: u8) {
+    /// Writes what ends the elements that are open.
+    pub(crate) fn into_output(self) -> Output<W>
+        ensures { Adds W.Sink (inside_end (numbered_of self) (lined_of self)) (output_of self) result }
+    {
         if self.has_numbers {
-            self.lines.esc_dispatch(intermediates, ignore, byte);
+            self.lines.into_output()
         } else {
-            self.lines.html.esc_dispatch(intermediates, ignore, byte);
+            self.lines.html.into_output()
         }
     }
 }

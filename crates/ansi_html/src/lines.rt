@@ -87,9 +87,9 @@ impl<W: Sink> Perform for LinesWriter<W> {
         }
     }
 
-    fn hook(&mut self, _params: &Params, _intermediates: &[u8], _ignore: bool, _action: u8) {}
+    fn hook(&mut self, _: &Params, _: &[u8], _: bool, _: u8) {}
 
-    fn put(&mut self, _byte: u8) {}
+    fn put(&mut self, _: u8) {}
 
     fn unhook(&mut self) {}
 
@@ -102,7 +102,7 @@ impl<W: Sink> Perform for LinesWriter<W> {
             .csi_dispatch(params, intermediates, ignore, action);
     }
 
-    fn esc_dispatch(&mut self, _intermediates: &[u8], _ignore: bool, _byte: u8) {}
+    fn esc_dispatch(&mut self, _: &[u8], _: bool, _: u8) {}
 }
 
 /// What stands between line feeds, tabs and carriage returns is written at once.

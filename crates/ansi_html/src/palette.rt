@@ -1,5 +1,6 @@
 //! The colours of a stream: named, of 256, or by red, green and blue.
-ghost use Rattle.std.specs.Prelude.{◌≡◌, ◌<◌};
+ghost use Rattle.std.specs.Prelude.{◌≡◌, ◌<◌, if◌then◌else◌};
+ghost use Rattle.ansi_html.specs.Contrast.{mixture};
 ghost use Rattle.ansi_html.specs.Css.{light_text, dark_text};
 ghost use Rattle.ansi_html.specs.Palette.{rgb_of, shaded, alike, named_shades, bright_shades, indexed, level, shades_of};
 
@@ -131,24 +132,23 @@ pub(crate) fn shades_of(color: Color) -> Shades
     }
 }
 
+/// A colour on this ground: itself, or dim.
+fn dim_if(dim: bool, color: Rgb, behind: Rgb) -> Rgb
+    ensures { result ≡ (if dim then mixture color behind else color) }
+{
+    if dim { color.mixture(behind) } else { color }
+}
+
 /// The shade of a text that is read on light pages.
 pub(crate) fn light_text(dim: bool, shades: Shades) -> Rgb
     ensures { result ≡ light_text dim shades }
 {
-    if dim {
-        shades.light.mixture(WHITE).light_shade()
-    } else {
-        shades.light.light_shade()
-    }
+    dim_if(dim, shades.light, WHITE).light_shade()
 }
 
 /// The shade of a text that is read on dark pages.
 pub(crate) fn dark_text(dim: bool, shades: Shades) -> Rgb
     ensures { result ≡ dark_text dim shades }
 {
-    if dim {
-        shades.dark.mixture(BLACK).dark_shade()
-    } else {
-        shades.dark.dark_shade()
-    }
+    dim_if(dim, shades.dark, BLACK).dark_shade()
 }

@@ -593,9 +593,9 @@ impl<W: Sink> Perform for HtmlWriter<W> {
         }
     }
 
-    fn hook(&mut self, _params: &Params, _intermediates: &[u8], _ignore: bool, _action: u8) {}
+    fn hook(&mut self, _: &Params, _: &[u8], _: bool, _: u8) {}
 
-    fn put(&mut self, _byte: u8) {}
+    fn put(&mut self, _: u8) {}
 
     fn unhook(&mut self) {}
 
@@ -612,7 +612,7 @@ impl<W: Sink> Perform for HtmlWriter<W> {
         style.csi_dispatch(params, intermediates, ignore, action);
     }
 
-    fn esc_dispatch(&mut self, _intermediates: &[u8], _ignore: bool, _byte: u8) {}
+    fn esc_dispatch(&mut self, _: &[u8], _: bool, _: u8) {}
 }
 
 /// A text is of one style, and its bytes are written at once but for those with a meaning in HTML;

@@ -6,8 +6,8 @@ ghost use Rattle.ansi_html.specs.Stylesheet.{color_of, ink_declared, declaration
 
 use crate::class::{Class, put_name};
 use crate::css::{
-    put_declared, put_lines, put_on_page, put_reversed_ground, put_reversed_text, text_on,
-    underline_css,
+    put_declared, put_drawn, put_lines, put_on_page, put_reversed_ground, put_reversed_text,
+    text_on,
 };
 use crate::palette::indexed;
 use crate::scheme::Scheme;
@@ -62,7 +62,7 @@ fn put_declarations<W: Sink>(output: &mut Output<W>, scheme: Scheme, class: Clas
             struck_out,
             blink,
         } => put_lines(output, underlined, overlined, struck_out, blink),
-        Class::Drawn(underline) => output.put(underline_css(underline)),
+        Class::Drawn(underline) => put_drawn(output, underline),
         Class::Hidden => output.put(b"visibility:hidden;"),
     }
 }

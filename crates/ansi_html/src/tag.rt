@@ -7,7 +7,7 @@ ghost use Rattle.ansi_html.specs.declared.contrast.Rgb.{Rgb as AnRgb};
 ghost use Rattle.ansi_html.specs.declared.scheme.Scheme.TheVariants.{Both as OnBoth};
 
 use crate::contrast::Rgb;
-use crate::css::{behind_of, is_chosen, put_others, put_reversed_ground, text_of, text_on};
+use crate::css::{colors_of, is_chosen, put_others, put_reversed_ground, text_on};
 use crate::digits::{digits, page_digits};
 use crate::palette::shades_of;
 use crate::scheme::Scheme;
@@ -99,8 +99,7 @@ fn put_on_chosen<W: Sink>(output: &mut Output<W>, dim: bool, text: Color, behind
 fn put_colors<W: Sink>(output: &mut Output<W>, scheme: Scheme, style: &Style)
     ensures { Adds W.Sink (codes "<span style=\"" ++ colors_css scheme style.now) output.old output.new }
 {
-    let text = text_of(*style);
-    let behind = behind_of(*style);
+    let (text, behind) = colors_of(*style);
     if is_chosen(behind) {
         put_on_chosen(output, style.dim, text, shades_of(behind).fixed);
     } else if style.reverse {

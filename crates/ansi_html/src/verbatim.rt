@@ -21,8 +21,8 @@ impl Kind for Verbatim {
     }
 
     // 0x20 is subtracted, and a byte below that wraps to 0xE0 or more: so one comparison finds what is outside of 0x20
-    // to 0x7F. In the same way one finds what is neither 0x09 nor 0x0A. `"` and `&` differ in one bit, which is masked so
-    // that one comparison finds both; so do `<` and `>`.
+    // to 0x7F. In the same way one finds what is neither 0x09 nor 0x0A. `"` and `&` differ in one bit, which is masked
+    // so that one comparison finds both; so do `<` and `>`.
     #[inline(always)]
     fn others(bytes: u8x16) -> u64 {
         let unprinted = (bytes - u8x16::splat(0x20)).simd_ge(u8x16::splat(0x60));

@@ -1,7 +1,7 @@
 -- What the code that walks over the groups alone speaks of: what it expects at each, and what a
 -- group does by that. No public clause cites it; that the walk makes the style of
 -- specs/Rendition is the contract of Style.select.
-use Rattle.std.specs.Prelude.{ℕ, ◌==◌, List, [], ◌∷◌, map, if◌then◌else◌, Option, None, Some}
+use Rattle.std.specs.Prelude.{◌≡◌, ◌≤◌, ℕ, ◌==◌, List, [], ◌∷◌, length, map, if◌then◌else◌, Option, None, Some}
 use Rattle.ansi_style.specs.declared.style.Style.{Style}
 use Rattle.ansi_style.specs.declared.style.Color.{Color}
 use Rattle.ansi_style.specs.declared.select.Target.{Target}
@@ -57,8 +57,15 @@ expected_after expected group = Code
 -- the groups, one after another, from what is expected at the first
 abbrev pub selected_from : Expected → List (List ℕ) → Style → Style
 selected_from expected [] style = style
-selected_from expected (group ∷ groups) style = selected_from (expected_after expected group) groups (with_expected expected group style)
+selected_from expected (group ∷ groups) style =
+    selected_from (expected_after expected group) groups (with_expected expected group style)
 
 -- fields that are each a group of its own
 abbrev pub alone : List ℕ → List (List ℕ)
 alone fields = map (λ field. field ∷ []) fields
+
+-- Fields at the front are taken, of which this is expected first: what is left makes of the style then what all make of
+-- the one before. No more are left.
+abbrev pub TakesFront : Expected → (fields left : List ℕ) → (old new : Style) → Type 0
+TakesFront expected fields left old new =
+    (selected_from Code (alone left) new ≡ selected_from expected (alone fields) old) × (length left ≤ length fields)

@@ -2,7 +2,7 @@
 ghost use Rattle.std.specs.Prelude.{◌≡◌, ◌≤◌, ◌<◌, ◌++◌, ◌∷◌, [], length};
 ghost use Rattle.ansi_style.specs.Style.{hue_at};
 ghost use Rattle.ansi_style.specs.Rendition.{with_code, with_underline, color_in, indexed, mixed, selected, is_selection, style_after};
-ghost use Rattle.ansi_style.specs.Walk.{alone, target_of, with_target_color, with_target, with_expected, expected_for, expected_for_kind, expected_after, selected_from};
+ghost use Rattle.ansi_style.specs.Walk.{alone, target_of, with_target_color, with_target, with_expected, expected_for, expected_for_kind, expected_after, selected_from, TakesFront};
 ghost use Rattle.ansi_style.specs.declared.select.Expected.TheVariants.{Code, Kind, Index, RedValue};
 ghost use Rattle.anstyle_parse.specs.Views.Params.{groups_shown};
 
@@ -124,9 +124,7 @@ impl Style {
     /// Selects the colour that its code is followed by, and answers what comes after it.
     #[inline(always)]
     fn take_color<'a>(&mut self, target: Target, fields: &'a [u16]) -> &'a [u16]
-        ensures style { selected_from Code (alone result.now) self.new
-            ≡ selected_from (Kind target) (alone fields.now) self.old }
-        ensures onward { length result.now ≤ length fields.now }
+        ensures { TakesFront (Kind target) fields.now result.now self.old self.new }
     {
         match fields {
             [] => fields,
@@ -139,9 +137,7 @@ impl Style {
     /// The same where its number follows, unless the sequence ends.
     #[inline(always)]
     fn take_index<'a>(&mut self, target: Target, fields: &'a [u16]) -> &'a [u16]
-        ensures style { selected_from Code (alone result.now) self.new
-            ≡ selected_from (Index target) (alone fields.now) self.old }
-        ensures onward { length result.now ≤ length fields.now }
+        ensures { TakesFront (Index target) fields.now result.now self.old self.new }
     {
         match fields {
             [] => fields,
@@ -155,9 +151,7 @@ impl Style {
     /// The same where red, green and blue follow, unless the sequence ends.
     #[inline(always)]
     fn take_values<'a>(&mut self, target: Target, fields: &'a [u16]) -> &'a [u16]
-        ensures style { selected_from Code (alone result.now) self.new
-            ≡ selected_from (RedValue target) (alone fields.now) self.old }
-        ensures onward { length result.now ≤ length fields.now }
+        ensures { TakesFront (RedValue target) fields.now result.now self.old self.new }
     {
         match fields {
             [red, green, blue, others @ ..] => {
@@ -363,17 +357,17 @@ impl Expected {
 impl Perform for Style {
     ghost means = { λ old call new. new ≡ style_after call old };
 
-    fn print(&mut self, _c: char) {}
+    fn print(&mut self, _: char) {}
 
-    fn execute(&mut self, _byte: u8) {}
+    fn execute(&mut self, _: u8) {}
 
-    fn hook(&mut self, _params: &Params, _intermediates: &[u8], _ignore: bool, _action: u8) {}
+    fn hook(&mut self, _: &Params, _: &[u8], _: bool, _: u8) {}
 
-    fn put(&mut self, _byte: u8) {}
+    fn put(&mut self, _: u8) {}
 
     fn unhook(&mut self) {}
 
-    fn osc_dispatch(&mut self, _params: &[&[u8]], _bell_terminated: bool) {}
+    fn osc_dispatch(&mut self, _: &[&[u8]], _: bool) {}
 
     #[tactic(auto, unfolding(crate::specs::Rendition::is_selection))]
     fn csi_dispatch(&mut self, params: &Params, intermediates: &[u8], ignore: bool, action: u8) {
@@ -382,5 +376,5 @@ impl Perform for Style {
         }
     }
 
-    fn esc_dispatch(&mut self, _intermediates: &[u8], _ignore: bool, _byte: u8) {}
+    fn esc_dispatch(&mut self, _: &[u8], _: bool, _: u8) {}
 }

@@ -98,7 +98,8 @@ options_left Value before = before ∷ []
 options_left _ before = []
 
 -- The options of a line from a place on, with the word before it, and its files.
-abbrev pub options_from : (options : List (List ℕ)) → Place → (before : List ℕ) → (words : List (List ℕ)) → List (List ℕ)
+abbrev pub options_from : (options : List (List ℕ)) → Place → (before : List ℕ) → (words : List (List ℕ))
+    → List (List ℕ)
 options_from options place before [] = options_left place before
 options_from options place before (word ∷ words) =
     options_of options place before word ++ options_from options (place_after options place word) word words

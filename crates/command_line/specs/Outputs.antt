@@ -23,7 +23,8 @@ fault_status false fault error = status_after fault error
 
 -- Where the output failed or is stuck, or there was no memory, the status says so, and so it does where an input
 -- failed. Else it is 0, unless the new file could not take its place.
-abbrev pub EndsAs : {T : Type 0} → (named replacing has_failed : Bool) → (held : List ℕ) → Option Error → Result T Stopped
+abbrev pub EndsAs : {T : Type 0} → (named replacing has_failed : Bool) → (held : List ℕ) → Option Error
+    → Result T Stopped
     → (status : ℕ) → Type 0
 EndsAs named replacing has_failed held error (Err NoMemory) status = status ≡ 1
 EndsAs named replacing has_failed held error (Err Stuck) status = status ≡ fault_status named Write error

@@ -67,7 +67,8 @@ pub record Feeds (old new : StreamState) (piece : List ℕ) (events events_after
   pub none_used : fed.taken ≡ 0 → fed.used ≡ 0
 
 -- there are fewer records, or less room, than one byte may need
-pub record Refuses (old new : StreamState) (piece : List ℕ) (events events_after : List Event) (room room_after : List ℕ)
+pub record Refuses (old new : StreamState) (piece : List ℕ) (events events_after : List Event)
+    (room room_after : List ℕ)
     : Type 0 where
   pub some_bytes : 0 < length piece
   pub little : least_events ≤ length events → length room < least_room

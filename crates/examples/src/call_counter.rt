@@ -24,19 +24,19 @@ impl Perform for CallCounter {
     // Each call makes the count the lesser of the greatest u64 and one more.
     ghost means = { λ old _ new. new.count ≡ one_more old.count };
 
-    fn print(&mut self, _c: char) {
+    fn print(&mut self, _: char) {
         self.add();
     }
 
-    fn execute(&mut self, _byte: u8) {
+    fn execute(&mut self, _: u8) {
         self.add();
     }
 
-    fn hook(&mut self, _params: &Params, _intermediates: &[u8], _ignore: bool, _action: u8) {
+    fn hook(&mut self, _: &Params, _: &[u8], _: bool, _: u8) {
         self.add();
     }
 
-    fn put(&mut self, _byte: u8) {
+    fn put(&mut self, _: u8) {
         self.add();
     }
 
@@ -44,21 +44,15 @@ impl Perform for CallCounter {
         self.add();
     }
 
-    fn osc_dispatch(&mut self, _params: &[&[u8]], _bell_terminated: bool) {
+    fn osc_dispatch(&mut self, _: &[&[u8]], _: bool) {
         self.add();
     }
 
-    fn csi_dispatch(
-        &mut self,
-        _params: &Params,
-        _intermediates: &[u8],
-        _ignore: bool,
-        _action: u8,
-    ) {
+    fn csi_dispatch(&mut self, _: &Params, _: &[u8], _: bool, _: u8) {
         self.add();
     }
 
-    fn esc_dispatch(&mut self, _intermediates: &[u8], _ignore: bool, _byte: u8) {
+    fn esc_dispatch(&mut self, _: &[u8], _: bool, _: u8) {
         self.add();
     }
 }

@@ -12,29 +12,23 @@ impl Perform for Counter {
     // What each call does to it: the count never falls.
     ghost means = { λ old _ new. old.count ≤ new.count };
 
-    fn print(&mut self, _c: char) {
+    fn print(&mut self, _: char) {
         self.count = self.count.saturating_add(1);
     }
 
-    fn execute(&mut self, _byte: u8) {}
+    fn execute(&mut self, _: u8) {}
 
-    fn hook(&mut self, _params: &Params, _intermediates: &[u8], _ignore: bool, _action: u8) {}
+    fn hook(&mut self, _: &Params, _: &[u8], _: bool, _: u8) {}
 
-    fn put(&mut self, _byte: u8) {}
+    fn put(&mut self, _: u8) {}
 
     fn unhook(&mut self) {}
 
-    fn osc_dispatch(&mut self, _params: &[&[u8]], _bell_terminated: bool) {}
+    fn osc_dispatch(&mut self, _: &[&[u8]], _: bool) {}
 
-    fn csi_dispatch(
-        &mut self,
-        _params: &Params,
-        _intermediates: &[u8],
-        _ignore: bool,
-        _action: u8,
-    ) {}
+    fn csi_dispatch(&mut self, _: &Params, _: &[u8], _: bool, _: u8) {}
 
-    fn esc_dispatch(&mut self, _intermediates: &[u8], _ignore: bool, _byte: u8) {}
+    fn esc_dispatch(&mut self, _: &[u8], _: bool, _: u8) {}
 }
 
 pub fn printed(bytes: &[u8]) -> u64 {

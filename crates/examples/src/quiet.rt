@@ -13,27 +13,21 @@ impl Perform for Quiet {
     // No call changes it.
     ghost means = { λ old _ new. new ≡ old };
 
-    fn print(&mut self, _c: char) {}
+    fn print(&mut self, _: char) {}
 
-    fn execute(&mut self, _byte: u8) {}
+    fn execute(&mut self, _: u8) {}
 
-    fn hook(&mut self, _params: &Params, _intermediates: &[u8], _ignore: bool, _action: u8) {}
+    fn hook(&mut self, _: &Params, _: &[u8], _: bool, _: u8) {}
 
-    fn put(&mut self, _byte: u8) {}
+    fn put(&mut self, _: u8) {}
 
     fn unhook(&mut self) {}
 
-    fn osc_dispatch(&mut self, _params: &[&[u8]], _bell_terminated: bool) {}
+    fn osc_dispatch(&mut self, _: &[&[u8]], _: bool) {}
 
-    fn csi_dispatch(
-        &mut self,
-        _params: &Params,
-        _intermediates: &[u8],
-        _ignore: bool,
-        _action: u8,
-    ) {}
+    fn csi_dispatch(&mut self, _: &Params, _: &[u8], _: bool, _: u8) {}
 
-    fn esc_dispatch(&mut self, _intermediates: &[u8], _ignore: bool, _byte: u8) {}
+    fn esc_dispatch(&mut self, _: &[u8], _: bool, _: u8) {}
 }
 
 /// Hands the bytes to a new parser: whatever its calls are, the performer stays as it was.

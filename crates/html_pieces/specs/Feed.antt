@@ -14,7 +14,8 @@ use Rattle.html_pieces.specs.State.{styling_in, standing_of, StandsFor}
 -- the calls of these.
 abbrev pub IsHtmlOf : Styling → (before bytes html : List ℕ) → Type 0
 IsHtmlOf styling before bytes html = (calls : List Call) × ContinuesLog before bytes calls
-    × ((own : List Call) → AreCalls (as_read before) own → html ≡ html_from styling (standing_at_end at_start own) calls)
+    × ((own : List Call) → AreCalls (as_read before) own
+    → html ≡ html_from styling (standing_at_end at_start own) calls)
 
 -- It is what ends the HTML of the bytes: U+FFFD where a character is begun, and what closes the element that is open.
 abbrev pub IsEndOf : Styling → (bytes html : List ℕ) → Type 0
@@ -54,7 +55,8 @@ pub record Feeds (old new : HtmlState) (piece room room_after : List ℕ) (taken
   -- of some bytes at least one was taken
   pub some_taken : 0 < length piece → 0 < taken
   -- all are taken where there is room for what they may lead to, also in one call
-  pub taken_at_once : most_html (length piece) ≤ length room → most_html (length piece) ≤ capacity → taken ≡ length piece
+  pub taken_at_once : most_html (length piece) ≤ length room → most_html (length piece) ≤ capacity
+      → taken ≡ length piece
   -- one call takes no more than that, and writes no more
   pub few_taken : taken ≤ most_taken
   pub few_written : written ≤ capacity
@@ -77,7 +79,8 @@ pub record Ends (old new : HtmlState) (room room_after : List ℕ) (written : �
   pub calls : List Call
   pub adds : (before : List ℕ) → StandsForLog old.stream before → EndsLog before calls
   pub closes : take written room_after
-      ≡ html_from (styling_in old) (standing_of old) calls ++ element_end (standing_at_end (standing_of old) calls).shown
+      ≡ html_from (styling_in old) (standing_of old) calls
+      ++ element_end (standing_at_end (standing_of old) calls).shown
   pub untouched : drop written room_after ≡ drop written room
   -- whatever bytes the state stood for, it is what ends their HTML
   pub html : (before : List ℕ) → StandsFor old before → IsEndOf (styling_in old) before (take written room_after)

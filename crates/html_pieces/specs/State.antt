@@ -45,7 +45,8 @@ standing_of state = kept (held_standing state)
 -- read of them.
 pub record StandsFor (state : HtmlState) (before : List ℕ) : Type 0 where
   pub stream : StandsForLog state.stream before
-  pub standing : (calls : List Call) → AreCalls (as_read before) calls → standing_of state ≡ standing_at_end at_start calls
+  pub standing : (calls : List Call) → AreCalls (as_read before) calls
+      → standing_of state ≡ standing_at_end at_start calls
 
 -- the style whose bytes are zero
 abbrev pub zero_color : ColorBytes

@@ -38,5 +38,6 @@ blocked_urls_text numbered styling calls = blocks.blocked_text numbered styling 
 
 abbrev pub blocked_urls_ending : (numbered : Bool) → Styling → List Call → List ℕ
 blocked_urls_ending numbered styling calls =
-    blocks.blocked_from numbered styling (blocks.blocked_at_end numbered blocks.blocked_at_start (handed_on calls)) (left calls)
+    blocks.blocked_from numbered styling (blocks.blocked_at_end numbered blocks.blocked_at_start (handed_on calls))
+    (left calls)
     ++ blocks.blocked_ending numbered (linked calls)

@@ -18,10 +18,13 @@ pub record Releases {P : Type 0} (receives : P → List Call → P → Type 0) (
   pub received : receives (performer_in old) (released (standing_of old).held) (performer_in new)
 
 -- where nothing was held, a character is what is held, if an address begins with it, and else it is handed on
-pub record Begins {P : Type 0} (receives : P → List Call → P → Type 0) (old : Linking P) (c : ℕ) (new : Linking P) : Type 0 where
+pub record Begins {P : Type 0} (receives : P → List Call → P → Type 0) (old : Linking P) (c : ℕ)
+    (new : Linking P) : Type 0 where
   pub standing : standing_of new
-      ≡ standing (if begins (standing_of old) c then c ∷ [] else (standing_of old).held) (standing_of old).is_within (standing_of old).is_linked
-  pub received : receives (performer_in old) (if begins (standing_of old) c then [] else print c ∷ []) (performer_in new)
+      ≡ standing (if begins (standing_of old) c then c ∷ [] else (standing_of old).held)
+      (standing_of old).is_within (standing_of old).is_linked
+  pub received : receives (performer_in old) (if begins (standing_of old) c then [] else print c ∷ [])
+      (performer_in new)
 
 -- By a call it goes on, and hands on what that leads to.
 pub record TakesCall {P : Type 0} (receives : P → List Call → P → Type 0)

@@ -4,6 +4,7 @@ use Rattle.std.proofs.Common.{◌≡◌, ℕ, List, [], ◌∷◌, ◌++◌, ref
 use Rattle.anstyle_parse.specs.Stream.Call.{Call}
 use Rattle.html_urls.specs.declared.linking.Linking.{Linking}
 use Rattle.html_urls.specs.Linked.{Standing, handed, standing_after, handed_from, standing_at_end, left_from}
+use Rattle.html_urls.specs.Resumed.{Resumes}
 use Rattle.html_urls.specs.Linker.{performer_in, standing_of, TakesCall, Takes, ending_from}
 
 -- what is handed on by two lists of calls, one after another, and where they lead
@@ -45,19 +46,17 @@ module _ {P : Type 0} (receives : P → List Call → P → Type 0) where
       }
 
 -- What is then still to be written is what was.
-pub ends-taken : {P : Type 0} (receives : P → List Call → P → Type 0) (written : P → List Call → List ℕ)
-    (written_after : P → (calls more : List Call) → List ℕ) (ending : P → List Call → List ℕ)
-    → ((old : P) (calls : List Call) (new : P) → receives old calls new → (more : List Call) → written new more ≡ written_after old calls more)
-    → ((old : P) (calls : List Call) (new : P) → receives old calls new → (more : List Call) → ending new more ≡ ending old (calls ++ more))
-    → ((performer : P) (more : List Call) → written performer more ≡ written_after performer [] more)
+pub ends-taken : {P : Type 0} {receives : P → List Call → P → Type 0} {written : P → List Call → List ℕ}
+    {after : P → (calls more : List Call) → List ℕ} {ending : P → List Call → List ℕ}
+    → Resumes receives written after ending → ((performer : P) → receives performer [] performer)
     → (old : Linking P) (calls : List Call) (new : Linking P) → Takes receives old calls new
-    → ending_from written_after ending new [] ≡ ending_from written_after ending old calls
-ends-taken receives written written_after ending resumes ends none old calls new taken =
+    → ending_from after ending new [] ≡ ending_from after ending old calls
+ends-taken {after} {ending} goes_on none old calls new taken =
     let at = standing_of old in
     let made = handed_from at calls in
     let left = left_from at calls in
     let here = performer_in new in
-    ap (λ it. written_after here [] (left_from it []) ++ ending here (left_from it [])) taken.standing
+    ap (λ it. after here [] (left_from it []) ++ ending here (left_from it [])) taken.standing
     ∙ ap₂ (λ text end. text ++ end)
-    (sym (none here left) ∙ resumes (performer_in old) made here taken.received left)
-    (ends (performer_in old) made here taken.received left)
+    (sym (goes_on.same_text here [] here (none here) left) ∙ goes_on.same_text (performer_in old) made here taken.received left)
+    (goes_on.same_ending (performer_in old) made here taken.received left)

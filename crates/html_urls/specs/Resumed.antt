@@ -1,5 +1,5 @@
 -- What writers of HTML write by more calls, after some.
-use Rattle.std.specs.Prelude.{ℕ, List}
+use Rattle.std.specs.Prelude.{◌≡◌, ℕ, List, ◌++◌}
 use Rattle.anstyle_parse.specs.Stream.Call.{Call}
 use Rattle.ansi_html.specs.declared.performer.HtmlWriter.{HtmlWriter}
 use Rattle.ansi_html.specs.declared.lines.LinesWriter.{LinesWriter}
@@ -10,6 +10,17 @@ use Rattle.ansi_html.specs.Liner as liner
 use Rattle.ansi_html.specs.declared.blocks.BlocksWriter.{BlocksWriter}
 use Rattle.ansi_html.specs.Blocks.{blocked_from, blocked_at_end}
 use Rattle.ansi_html.specs.Blocker as blocker
+
+-- A performer goes on: what it writes of more calls, after some, is what it writes of them as it then stands, with the
+-- ending of all calls; and the one after the other is what it writes of all calls.
+pub record Resumes {P : Type 0} (receives : P → List Call → P → Type 0) (written : P → List Call → List ℕ)
+    (after : P → (calls more : List Call) → List ℕ) (ending : P → List Call → List ℕ) : Type 0 where
+  pub same_text : (old : P) (calls : List Call) (new : P) → receives old calls new
+      → (more : List Call) → written new more ≡ after old calls more
+  pub same_ending : (old : P) (calls : List Call) (new : P) → receives old calls new
+      → (more : List Call) → ending new more ≡ ending old (calls ++ more)
+  pub joined : (performer : P) (calls more : List Call)
+      → written performer calls ++ after performer calls more ≡ written performer (calls ++ more)
 
 abbrev pub html_after : {W : Type 0} → HtmlWriter W → (calls more : List Call) → List ℕ
 html_after performer calls more =

@@ -15,24 +15,24 @@ use Rattle.ansi_html.specs.Blocker as blocker
 use Rattle.ansi_html.specs.AddingProof.{html_from-append, standing_at_end-append}
 use Rattle.ansi_html.specs.LiningProof.{lined_from-append, lined_at_end-append}
 use Rattle.ansi_html.specs.BlockingProof.{blocked_from-append, blocked_at_end-append}
-use Rattle.html_urls.specs.Resumed.{html_after, lined_after, blocked_after}
+use Rattle.html_urls.specs.Resumed.{Resumes, html_after, lined_after, blocked_after}
 
 module _ {W : Type 0} (sink : SinkOf W) where
-  pub html-resumes : (old : HtmlWriter W) (calls : List Call) (new : HtmlWriter W) → writer.TakesAll sink old calls new
+  html-resumes : (old : HtmlWriter W) (calls : List Call) (new : HtmlWriter W) → writer.TakesAll sink old calls new
       → (more : List Call) → writer.text_from new more ≡ html_after old calls more
   html-resumes old calls new taken more = ap₂ (λ styling at. html_from styling at more) taken.styling taken.standing
 
-  pub html-ends : (old : HtmlWriter W) (calls : List Call) (new : HtmlWriter W) → writer.TakesAll sink old calls new
+  html-ends : (old : HtmlWriter W) (calls : List Call) (new : HtmlWriter W) → writer.TakesAll sink old calls new
       → (more : List Call) → writer.ending_from new more ≡ writer.ending_from old (calls ++ more)
   html-ends old calls new taken more =
       ap (λ at. element_end (standing_at_end at more).shown) taken.standing
       ∙ ap (λ at. element_end at.shown) (sym (standing_at_end-append calls more (writer.standing_of old)))
 
-  pub lined-resumes : (old : LinesWriter W) (calls : List Call) (new : LinesWriter W) → liner.TakesCalls sink old calls new
+  lined-resumes : (old : LinesWriter W) (calls : List Call) (new : LinesWriter W) → liner.TakesCalls sink old calls new
       → (more : List Call) → liner.text_from new more ≡ lined_after old calls more
   lined-resumes old calls new taken more = ap₂ (λ styling at. lined_from styling at more) taken.styling taken.standing
 
-  pub lined-ends : (old : LinesWriter W) (calls : List Call) (new : LinesWriter W) → liner.TakesCalls sink old calls new
+  lined-ends : (old : LinesWriter W) (calls : List Call) (new : LinesWriter W) → liner.TakesCalls sink old calls new
       → (more : List Call) → liner.ending_from new more ≡ liner.ending_from old (calls ++ more)
   lined-ends old calls new taken more =
       ap (λ it. lined_end (lined_at_end it more)) taken.standing
@@ -40,25 +40,47 @@ module _ {W : Type 0} (sink : SinkOf W) where
 
 module _ {W : Type 0} (sink : SinkOf W) (old : BlocksWriter W) (calls : List Call) (new : BlocksWriter W) (taken : blocker.TakesCalls sink old calls new)
     (more : List Call) where
-  pub blocked-resumes : blocker.text_from new more ≡ blocked_after old calls more
+  blocked-resumes : blocker.text_from new more ≡ blocked_after old calls more
   blocked-resumes =
       ap (λ (n : Bool). blocked_from n (blocker.styling_of new) (blocker.blocked_of new) more) taken.numbered
       ∙ ap₂ (λ styling (it : Blocked). blocked_from (blocker.numbered_of old) styling it more) taken.styling taken.standing
 
-  pub blocked-ends : blocker.ending_from new more ≡ blocker.ending_from old (calls ++ more)
+  blocked-ends : blocker.ending_from new more ≡ blocker.ending_from old (calls ++ more)
   blocked-ends =
       ap₂ (λ (n : Bool) (it : Blocked). blocked_end n (blocked_at_end n it more)) taken.numbered taken.standing
       ∙ ap (blocked_end (blocker.numbered_of old)) (sym (blocked_at_end-append (blocker.numbered_of old) calls more (blocker.blocked_of old)))
 
-pub html-joined : {W : Type 0} (performer : HtmlWriter W) (calls more : List Call)
+html-joined : {W : Type 0} (performer : HtmlWriter W) (calls more : List Call)
     → writer.text_from performer calls ++ html_after performer calls more ≡ writer.text_from performer (calls ++ more)
 html-joined performer calls more = sym (html_from-append (writer.styling_of performer) calls more (writer.standing_of performer))
 
-pub lined-joined : {W : Type 0} (performer : LinesWriter W) (calls more : List Call)
+lined-joined : {W : Type 0} (performer : LinesWriter W) (calls more : List Call)
     → liner.text_from performer calls ++ lined_after performer calls more ≡ liner.text_from performer (calls ++ more)
 lined-joined performer calls more = sym (lined_from-append (liner.styling_of performer) calls more (liner.lined_of performer))
 
-pub blocked-joined : {W : Type 0} (performer : BlocksWriter W) (calls more : List Call)
+blocked-joined : {W : Type 0} (performer : BlocksWriter W) (calls more : List Call)
     → blocker.text_from performer calls ++ blocked_after performer calls more ≡ blocker.text_from performer (calls ++ more)
 blocked-joined performer calls more =
     sym (blocked_from-append (blocker.numbered_of performer) (blocker.styling_of performer) calls more (blocker.blocked_of performer))
+
+module _ {W : Type 0} (sink : SinkOf W) where
+  pub html-goes_on : Resumes (writer.TakesAll sink) writer.text_from html_after writer.ending_from
+  html-goes_on = record {
+    same_text = html-resumes sink;
+    same_ending = html-ends sink;
+    joined = html-joined;
+  }
+
+  pub lined-goes_on : Resumes (liner.TakesCalls sink) liner.text_from lined_after liner.ending_from
+  lined-goes_on = record {
+    same_text = lined-resumes sink;
+    same_ending = lined-ends sink;
+    joined = lined-joined;
+  }
+
+  pub blocked-goes_on : Resumes (blocker.TakesCalls sink) blocker.text_from blocked_after blocker.ending_from
+  blocked-goes_on = record {
+    same_text = blocked-resumes sink;
+    same_ending = blocked-ends sink;
+    joined = blocked-joined;
+  }

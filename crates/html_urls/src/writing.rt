@@ -1,6 +1,7 @@
 //! A performer that writes goes on writing where its calls have links.
-ghost use Rattle.std.specs.Prelude.{◌≡◌, ◌++◌, [], ℕ, List};
+ghost use Rattle.std.specs.Prelude.{ℕ, List};
 ghost use Rattle.anstyle_parse.specs.Stream.Call.{Call};
+ghost use Rattle.html_urls.specs.Resumed.{Resumes};
 
 use crate::linking::Linking;
 use ansi_html::{BlocksWriter, HtmlWriter, LinesWriter};
@@ -11,57 +12,36 @@ pub trait Resumable<W: Sink>: WritingPerformer<W> {
     // What it writes by more calls, after some.
     ghost text_after: { Self → (calls more : List Call) → List ℕ };
 
-    // As it then stands it writes that,
-    ghost resumes: { (old : Self) (calls : List Call) (new : Self) → Self.receives old calls new
-        → (more : List Call) → Self.text_from new more ≡ text_after old calls more };
-
-    // with the ending of all calls;
-    ghost ends_later: { (old : Self) (calls : List Call) (new : Self) → Self.receives old calls new
-        → (more : List Call) → Self.ending_from new more ≡ Self.ending_from old (calls ++ more) };
-
-    // and the one after the other is what it writes by all calls.
-    ghost joined: { (performer : Self) (calls more : List Call)
-        → Self.text_from performer calls ++ text_after performer calls more
-        ≡ Self.text_from performer (calls ++ more) };
+    // As it then stands it writes that, with the ending of all calls; and the one after the other is what it writes by
+    // all calls.
+    ghost goes_on: { Resumes Self.receives Self.text_from text_after Self.ending_from };
 }
 
 impl<W: Sink> Resumable<W> for HtmlWriter<W> {
     ghost use Rattle.html_urls.specs.Resumed.{html_after};
-    ghost use Rattle.html_urls.specs.ResumedProof.{html-resumes, html-ends, html-joined};
+    ghost use Rattle.html_urls.specs.ResumedProof.{html-goes_on};
 
     ghost text_after = { html_after };
 
-    ghost resumes = { html-resumes W.Sink };
-
-    ghost ends_later = { html-ends W.Sink };
-
-    ghost joined = { html-joined };
+    ghost goes_on = { html-goes_on W.Sink };
 }
 
 impl<W: Sink> Resumable<W> for LinesWriter<W> {
     ghost use Rattle.html_urls.specs.Resumed.{lined_after};
-    ghost use Rattle.html_urls.specs.ResumedProof.{lined-resumes, lined-ends, lined-joined};
+    ghost use Rattle.html_urls.specs.ResumedProof.{lined-goes_on};
 
     ghost text_after = { lined_after };
 
-    ghost resumes = { lined-resumes W.Sink };
-
-    ghost ends_later = { lined-ends W.Sink };
-
-    ghost joined = { lined-joined };
+    ghost goes_on = { lined-goes_on W.Sink };
 }
 
 impl<W: Sink> Resumable<W> for BlocksWriter<W> {
     ghost use Rattle.html_urls.specs.Resumed.{blocked_after};
-    ghost use Rattle.html_urls.specs.ResumedProof.{blocked-resumes, blocked-ends, blocked-joined};
+    ghost use Rattle.html_urls.specs.ResumedProof.{blocked-goes_on};
 
     ghost text_after = { blocked_after };
 
-    ghost resumes = { blocked-resumes W.Sink };
-
-    ghost ends_later = { blocked-ends W.Sink };
-
-    ghost joined = { blocked-joined };
+    ghost goes_on = { blocked-goes_on W.Sink };
 }
 
 /// What is held at the end is written.
@@ -91,7 +71,5 @@ impl<P: Resumable<W>, W: Sink> WritingPerformer<W> for Linking<P> {
 
     ghost adds = { λ old calls new taken. P.adds (performer_in old) _ (performer_in new) taken.received };
 
-    ghost ends = { λ old calls new taken _.
-        ends-taken P.receives P.text_from P.text_after P.ending_from P.resumes P.ends_later
-        (λ performer more. P.resumes performer [] performer (P.receives_none performer) more) old calls new taken };
+    ghost ends = { λ old calls new taken _. ends-taken P.goes_on P.receives_none old calls new taken };
 }

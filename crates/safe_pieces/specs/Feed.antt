@@ -16,7 +16,8 @@ use Rattle.safe_pieces.specs.State.{before_in, held_in, hiding_in, StandsFor}
 
 -- The text, with its marks, is what is decided of all bytes, beyond what was decided of those before.
 abbrev pub IsSafeOf : (before bytes text : List ℕ) → Type 0
-IsSafeOf before bytes text = (own all : List Call) → AreCalls (as_read before) own → AreCalls (as_read (before ++ bytes)) all
+IsSafeOf before bytes text = (own all : List Call) → AreCalls (as_read before) own
+    → AreCalls (as_read (before ++ bytes)) all
     → decided_marked all ≡ decided_marked own ++ text
 
 -- It is the rest of the safe text, where the bytes end: what still waits, U+FFFD where a character is begun, and the
@@ -37,7 +38,8 @@ pub record Takes (old new : SafeState) (piece room room_after : List ℕ) (writt
   pub few_calls : length calls ≤ 2 * length piece
   pub same_length : length room_after ≡ length room
   pub written_fits : written ≤ length room
-  pub text : take written room_after ≡ encode_utf8_all (decided_from (before_in old) (held_in old ++ marked_from (hiding_in old) calls))
+  pub text : take written room_after
+      ≡ encode_utf8_all (decided_from (before_in old) (held_in old ++ marked_from (hiding_in old) calls))
   -- past it the room is as it was
   pub untouched : drop written room_after ≡ drop written room
 
@@ -77,7 +79,9 @@ pub record Ends (old new : SafeState) (room room_after : List ℕ) (written : �
   -- whatever the state held
   pub calls : List Call
   pub adds : (before : List ℕ) → StandsForLog old.stream before → EndsLog before calls
-  pub ending : take written room_after ≡ encode_utf8_all (safe_from (before_in old) (held_in old ++ (marked_from (hiding_in old) calls ++ closing (hiding_from (hiding_in old) calls))))
+  pub ending : take written room_after
+      ≡ encode_utf8_all (safe_from (before_in old)
+      (held_in old ++ (marked_from (hiding_in old) calls ++ closing (hiding_from (hiding_in old) calls))))
   pub untouched : drop written room_after ≡ drop written room
   -- whatever bytes the state stood for, it is the rest of their safe text
   pub text : (before : List ℕ) → StandsFor old before → IsEndOf before (take written room_after)

@@ -43,9 +43,12 @@ hiding_in state = record { is_hidden = state.is_hidden == 1; is_open = state.is_
 -- ends, stands where it does after the calls of what is read of them.
 pub record StandsFor (state : SafeState) (before : List ℕ) : Type 0 where
   pub stream : StandsForLog state.stream before
-  pub last : (calls : List Call) → AreCalls (as_read before) calls → before_in state ≡ last_from 0 (marked_from nothing_hidden calls)
-  pub held : (calls : List Call) → AreCalls (as_read before) calls → held_in state ≡ waiting (marked_from nothing_hidden calls)
-  pub hiding : (calls : List Call) → AreCalls (as_read before) calls → hiding_in state ≡ hiding_from nothing_hidden calls
+  pub last : (calls : List Call) → AreCalls (as_read before) calls
+      → before_in state ≡ last_from 0 (marked_from nothing_hidden calls)
+  pub held : (calls : List Call) → AreCalls (as_read before) calls
+      → held_in state ≡ waiting (marked_from nothing_hidden calls)
+  pub hiding : (calls : List Call) → AreCalls (as_read before) calls
+      → hiding_in state ≡ hiding_from nothing_hidden calls
 
 -- the numbers of a state are zero (the bytes after a length of 0 may be any)
 pub record IsZero (state : SafeState) : Type 0 where

@@ -44,7 +44,8 @@ non_joiner_stays before next =
 unfoldable pub joiner_stays : (before next : ℕ) → Bool
 joiner_stays before next =
     is_among before virama
-    || (is_among before pictographic || is_within 0x1F3FB 0x1F3FF before || before == 0xFE0F) && is_among next pictographic
+    || (is_among before pictographic || is_within 0x1F3FB 0x1F3FF before || before == 0xFE0F)
+    && is_among next pictographic
 
 -- a variation selector, after an emoji, or between a digit, # or * and U+20E3, the keycap around it
 unfoldable pub selector_stays : (before next : ℕ) → Bool
@@ -56,7 +57,8 @@ selector_stays before next =
 unfoldable pub stays : (before c next : ℕ) → Bool
 stays before c next =
     if c == 0x200B then space_stays before next else if c == 0x200C then non_joiner_stays before next
-    else if c == 0x200D then joiner_stays before next else if c == 0xFE0E || c == 0xFE0F then selector_stays before next else false
+    else if c == 0x200D then joiner_stays before next
+    else if c == 0xFE0E || c == 0xFE0F then selector_stays before next else false
 
 -- The class of the characters of safe text.
 abbrev pub is_of_safe_text : ℕ → Bool

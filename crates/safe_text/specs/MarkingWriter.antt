@@ -46,6 +46,7 @@ ending_from performer calls =
     (waiting (all_from performer calls) ++ closing (hiding_from (hiding_in performer) calls)))
 
 -- The calls come: their characters are taken, with the marks between them.
-pub record TakesMarked {W : Type 0} (sink : SinkOf W) (old : MarkingWriter W) (calls : List Call) (new : MarkingWriter W) : Type 0 where
+pub record TakesMarked {W : Type 0} (sink : SinkOf W) (old : MarkingWriter W) (calls : List Call)
+    (new : MarkingWriter W) : Type 0 where
   pub taken : Takes sink (writer_in old) (marked_from (hiding_in old) calls) (writer_in new)
   pub hiding : hiding_in new ≡ hiding_from (hiding_in old) calls

@@ -43,7 +43,9 @@ pub record Takes {W : Type 0} (sink : SinkOf W) (old : SafeWriter W) (cs : List 
   pub held : held_in new ≡ waiting (held_in old ++ cs)
 
 -- What waits is written, as these characters come after it.
-pub record Releases {W : Type 0} (sink : SinkOf W) (old : SafeWriter W) (after : List ℕ) (new : SafeWriter W) : Type 0 where
-  pub added : Adds sink (encode_utf8_all (written_before (before_in old) (held_in old) after)) (output_of old) (output_of new)
+pub record Releases {W : Type 0} (sink : SinkOf W) (old : SafeWriter W) (after : List ℕ)
+    (new : SafeWriter W) : Type 0 where
+  pub added : Adds sink (encode_utf8_all (written_before (before_in old) (held_in old) after))
+      (output_of old) (output_of new)
   pub before : before_in new ≡ last_before (before_in old) (held_in old) after
   pub held : held_in new ≡ []

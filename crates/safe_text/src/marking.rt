@@ -157,13 +157,13 @@ impl<W: Sink> Perform for MarkingWriter<W> {
         self.take_executed(byte);
     }
 
-    fn hook(&mut self, _params: &Params, _intermediates: &[u8], _ignore: bool, _action: u8) {}
+    fn hook(&mut self, _: &Params, _: &[u8], _: bool, _: u8) {}
 
-    fn put(&mut self, _byte: u8) {}
+    fn put(&mut self, _: u8) {}
 
     fn unhook(&mut self) {}
 
-    fn osc_dispatch(&mut self, _params: &[&[u8]], _bell_terminated: bool) {}
+    fn osc_dispatch(&mut self, _: &[&[u8]], _: bool) {}
 
     /// Of Select Graphic Rendition it keeps whether text is hidden.
     fn csi_dispatch(&mut self, params: &Params, intermediates: &[u8], ignore: bool, action: u8) {
@@ -173,7 +173,7 @@ impl<W: Sink> Perform for MarkingWriter<W> {
         self.is_hidden = style.hidden;
     }
 
-    fn esc_dispatch(&mut self, _intermediates: &[u8], _ignore: bool, _byte: u8) {}
+    fn esc_dispatch(&mut self, _: &[u8], _: bool, _: u8) {}
 }
 
 /// The characters of a text are taken in order: where none is hidden, at once.

@@ -92,7 +92,8 @@ pub record IsTaken (old new : Parser Utf8Parser) (piece : List ℕ)
   pub taken_fits : taken ≤ length piece
   pub stands : (before : List ℕ) → IsAfter front_of old (as_read before)
       → IsAfter front_of new (as_read (before ++ take taken piece))
-  pub continues : (before : List ℕ) → IsAfter front_of old (as_read before) → ContinuesLog before (take taken piece) calls
+  pub continues : (before : List ℕ) → IsAfter front_of old (as_read before)
+      → ContinuesLog before (take taken piece) calls
   pub puts : Puts (inert_text calls) room room_after
   pub fits : room.written + length (inert_text calls) ≤ length room.into.now
   pub bounded : length (inert_text calls) ≤ most_text taken

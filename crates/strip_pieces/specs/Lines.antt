@@ -32,7 +32,8 @@ pub record Feeds (old new : LineState) (text room room_after : List ℕ) (taken 
   -- whatever text the state stood for, it stands for these bytes too,
   pub stands : (before : List ℕ) → StandsForText old before → StandsForText new (before ++ take taken text)
   -- and what is written is what is then left, all of it
-  pub lines : (before : List ℕ) → StandsForText old before → AreLinesOf before (take taken text) (take written room_after)
+  pub lines : (before : List ℕ) → StandsForText old before
+      → AreLinesOf before (take taken text) (take written room_after)
   -- past it the room is as it was
   pub untouched : drop written room_after ≡ drop written room
   -- of some bytes at least one was taken, and all where there is room for them

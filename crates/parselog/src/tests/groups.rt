@@ -18,23 +18,23 @@ struct Recorder {
 impl Perform for Recorder {
     ghost means = { λ _ _ _. ⊤ };
 
-    fn print(&mut self, _c: char) {}
+    fn print(&mut self, _: char) {}
 
-    fn execute(&mut self, _byte: u8) {}
+    fn execute(&mut self, _: u8) {}
 
-    fn hook(&mut self, _params: &Params, _intermediates: &[u8], _ignore: bool, _action: u8) {}
+    fn hook(&mut self, _: &Params, _: &[u8], _: bool, _: u8) {}
 
-    fn put(&mut self, _byte: u8) {}
+    fn put(&mut self, _: u8) {}
 
     fn unhook(&mut self) {}
 
-    fn osc_dispatch(&mut self, _params: &[&[u8]], _bell_terminated: bool) {}
+    fn osc_dispatch(&mut self, _: &[&[u8]], _: bool) {}
 
     fn csi_dispatch(&mut self, params: &Params, _intermediates: &[u8], _ignore: bool, _action: u8) {
         let _ = write!(self.text, "csi_dispatch {params:?} ");
     }
 
-    fn esc_dispatch(&mut self, _intermediates: &[u8], _ignore: bool, _byte: u8) {}
+    fn esc_dispatch(&mut self, _: &[u8], _: bool, _: u8) {}
 }
 
 /// What the recording performer has written of the bytes.

@@ -260,8 +260,8 @@ pub static CHARACTERS: [Texts; 25] = [
 /// The first bytes, others that come so often, and the last bytes.
 type Text = (&'static [u8], &'static [u8], usize, &'static [u8]);
 
-/// Sequences at the limits of fields, stored bytes and parts, and hostile ones of 100,000 bytes, that hardly end: bytes,
-/// their lines, and their canonical text.
+/// Sequences at the limits of fields, stored bytes and parts, and hostile ones of 100,000 bytes, that hardly end:
+/// bytes, their lines, and their canonical text.
 static LONG: [(Text, Text, Text); 12] = [
     (
         (b"\x1B[", b";", 31, b"m"),

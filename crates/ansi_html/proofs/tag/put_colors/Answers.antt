@@ -10,10 +10,10 @@ use Rattle.ansi_html.proofs.tag.put_colors.Goals as goal
 pub returns-then-is_chosen : goal.returns-then-is_chosen
 returns-then-is_chosen g c =
     let style = c.args.style.now in
-    let is = ap is_chosen (sym c.behind_of-behind.ensures) ∙ sym c.is_chosen.ensures ∙ c.if-is_chosen.true in
-    let fixed = ap (λ (s : Shades). s.fixed) (c.shades_of.ensures ∙ ap shades_of c.behind_of-behind.ensures) in
+    let is = ap is_chosen (sym c.colors_of-text.ensures.behind) ∙ sym c.is_chosen.ensures ∙ c.if-is_chosen.true in
+    let fixed = ap (λ (s : Shades). s.fixed) (c.shades_of.ensures ∙ ap shades_of c.colors_of-text.ensures.behind) in
     let same =
-    ap (λ (t : Color). on_chosen style.dim t c.shades_of.result.fixed) c.text_of-text.ensures
+    ap (λ (t : Color). on_chosen style.dim t c.shades_of.result.fixed) c.colors_of-text.ensures.text
     ∙ ap (on_chosen style.dim (text_of style)) fixed
     ∙ sym (colors_css-chosen c.args.scheme style is) in
     subst (λ (text : List ℕ). Adds g.W.Sink (codes "<span style=\"" ++ text) c.args.output.now c.put_on_chosen.new.output) same c.put_on_chosen.ensures
@@ -21,8 +21,8 @@ returns-then-is_chosen g c =
 pub returns-else-is_chosen-style : goal.returns-else-is_chosen-style
 returns-else-is_chosen-style g c =
     let style = c.args.style.now in
-    let plain = ap is_chosen (sym c.behind_of-behind.ensures) ∙ sym c.is_chosen.ensures ∙ c.if-is_chosen.false in
-    let none = ap (λ (t : Color). is_chosen t || style.dim) (sym c.text_of-text.ensures)
+    let plain = ap is_chosen (sym c.colors_of-text.ensures.behind) ∙ sym c.is_chosen.ensures ∙ c.if-is_chosen.false in
+    let none = ap (λ (t : Color). is_chosen t || style.dim) (sym c.colors_of-text.ensures.text)
     ∙ ap (λ (b : Bool). b || style.dim) (sym c.is_chosen-else-style.ensures) ∙ c.if-is_chosen-style.false in
     subst (λ (text : List ℕ). Adds g.W.Sink (codes "<span style=\"" ++ text) c.args.output.now c.put.new.self)
     (sym (colors_css-none c.args.scheme style plain c.if-style.false none)) c.put.ensures

@@ -7,6 +7,6 @@ use Rattle.ansi_style.proofs.style.Style.take_code.Goals as goal
 pub returns-in-Some-clause-style : goal.returns-in-Some-clause-style
 returns-in-Some-clause-style c =
     let begins : target_of c.args.code ≡ Some c.in-Some.target = sym c.color_target.ensures ∙ c.in-Some.is in
-    c.take_color.ensures.style
+    c.take_color.ensures.0
     ∙ sym (ap₂ (λ expected style. selected_from expected (alone c.args.behind.now) style)
     (ap expected_for begins) (with_code-color c.args.code c.in-Some.target c.args.self.now begins))

@@ -1,3 +1,4 @@
+pub mod TurnLemmas
 pub mod CellLemmas
 pub mod RunLemmas
 pub mod PrintedLemmas
@@ -14,11 +15,9 @@ pub mod TableLemmas
 pub mod TextLemmas
 pub mod CallLemmas
 pub mod RepeatLemmas
-pub mod StayLemmas
-pub mod PictureLemmas
-pub mod LeavingTable
-pub mod LeftLemmas
 pub mod LeavingLemmas
+pub mod PictureLemmas
+pub mod LeftLemmas
 pub mod LawLemmas
 pub mod ScrollLemmas
 pub mod PlainLemmas
@@ -33,6 +32,4 @@ pub mod FollowingLemmas
 pub mod ColorLemmas
 pub mod ContentLemmas
 pub mod ContentCalls
-pub mod HistoryLemmas
-pub mod HandedLemmas
 mod EqualityLemmas

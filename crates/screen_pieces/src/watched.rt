@@ -1,12 +1,13 @@
-//! A screen with the links that began on it.
-use ansi_screen::Screen;
+//! A screen with what left it and the links that began on it.
+use crate::history::History;
+use ansi_screen::Scrolling;
 use anstyle_parse::{Params, Perform, PerformText};
 use screen_html::LinkTable;
 
-/// A screen, which keeps the rows that leave it, and the links of its cells by their numbers.
+/// A screen that keeps the rows that leave it, and the links of its cells by their numbers.
 #[derive(Drop)]
 pub(crate) struct Watched {
-    pub(crate) screen: Screen,
+    pub(crate) scrolling: Scrolling<History>,
     pub(crate) links: LinkTable,
 }
 
@@ -18,38 +19,38 @@ impl Perform for Watched {
     ghost means = { Watches };
 
     fn print(&mut self, c: char) {
-        self.screen.print(c);
+        self.scrolling.print(c);
     }
 
     fn execute(&mut self, byte: u8) {
-        self.screen.execute(byte);
+        self.scrolling.execute(byte);
     }
 
     fn hook(&mut self, params: &Params, intermediates: &[u8], ignore: bool, action: u8) {
-        self.screen.hook(params, intermediates, ignore, action);
+        self.scrolling.hook(params, intermediates, ignore, action);
     }
 
     fn put(&mut self, byte: u8) {
-        self.screen.put(byte);
+        self.scrolling.put(byte);
     }
 
     fn unhook(&mut self) {
-        self.screen.unhook();
+        self.scrolling.unhook();
     }
 
     fn osc_dispatch(&mut self, params: &[&[u8]], bell_terminated: bool) {
-        self.screen.osc_dispatch(params, bell_terminated);
-        let link = self.screen.link();
+        self.scrolling.osc_dispatch(params, bell_terminated);
+        let link = self.scrolling.screen().link();
         self.links.take_command(link, params);
     }
 
     fn csi_dispatch(&mut self, params: &Params, intermediates: &[u8], ignore: bool, action: u8) {
-        self.screen
+        self.scrolling
             .csi_dispatch(params, intermediates, ignore, action);
     }
 
     fn esc_dispatch(&mut self, intermediates: &[u8], ignore: bool, byte: u8) {
-        self.screen.esc_dispatch(intermediates, ignore, byte);
+        self.scrolling.esc_dispatch(intermediates, ignore, byte);
     }
 }
 
@@ -59,7 +60,7 @@ impl PerformText for Watched {
     ghost use Rattle.screen_pieces.specs.WatchedProof.{receives-none, receives-one, receives-more};
 
     fn print_text(&mut self, text: &str) {
-        self.screen.print_text(text);
+        self.scrolling.print_text(text);
     }
 
     ghost receives = { WatchesAll };

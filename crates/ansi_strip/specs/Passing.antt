@@ -18,6 +18,5 @@ abbrev pub HandsOn : {P : Type 0} → (means : P → Call → P → Type 0) → 
 HandsOn means old call new = HandsOnWhere (is_inert call) means (performer_in old) call (performer_in new)
 
 -- of a list of calls it receives those that are inert
-abbrev pub ReceivesInert : {P : Type 0} → (receives : P → List Call → P → Type 0) → Inert P → List Call → Inert P
-    → Type 0
+abbrev pub ReceivesInert : {P : Type 0} → (receives : P → List Call → P → Type 0) → Inert P → List Call → Inert P → Type 0
 ReceivesInert receives old calls new = receives (performer_in old) (filter is_inert calls) (performer_in new)

@@ -1,5 +1,5 @@
 //! Where a text has characters that terminals take for controls.
-ghost use Rattle.std.specs.Prelude.{◌≡◌, ◌<◌, ◌≤◌, ◌++◌, length, not, filter, map, IsUtf8};
+ghost use Rattle.std.specs.Prelude.{◌≡◌, ◌<◌, ◌++◌, length, not, filter, map, IsUtf8};
 ghost use Rattle.std.specs.Str.{chars};
 ghost use Rattle.std.specs.Simd.Lanes.{mask_l};
 ghost use Rattle.anstyle_parse.specs.Stream.Items.{EachIs};
@@ -7,11 +7,13 @@ ghost use Rattle.ansi_strip.specs.Driving.{is_clear, may_begin_driving, driving_
 ghost use Rattle.ansi_strip.specs.EightBit.{is_eight_bit};
 ghost use Rattle.ansi_strip.specs.Inert.{is_driving};
 
-use lanes::{Kind, after_front};
 use std::simd::prelude::*;
 
 /// How many bytes are tested at once in a long text.
 const BLOCK: usize = 64;
+
+/// How many bytes are tested at once in a shorter text, or in what is left of a long one.
+const CHUNK: usize = 16;
 
 /// The character of one byte that drives a terminal.
 const DEL: u8 = 0x7F;
@@ -40,30 +42,18 @@ fn may_begin_driving(byte: u8) -> bool
 
 /// A bit for each of many bytes: whether such a character may begin with it.
 #[inline(always)]
-fn beginnings<const N: usize>(bytes: Simd<u8, N>) -> u64
-    requires { N ≤ 64 }
-    ensures { result ≡ mask_l (map may_begin_driving bytes.entry) }
+fn beginnings_64(bytes: u8x64) -> u64
+    ensures { result ≡ mask_l (map may_begin_driving bytes) }
 {
-    (bytes.simd_eq(Simd::splat(DEL)) | bytes.simd_eq(Simd::splat(LEAD))).to_bitmask()
+    (bytes.simd_eq(u8x64::splat(DEL)) | bytes.simd_eq(u8x64::splat(LEAD))).to_bitmask()
 }
 
-/// The bytes with which none may begin.
-struct Clear;
-
-impl Kind for Clear {
-    ghost use Rattle.ansi_strip.specs.Driving.{is_clear};
-
-    ghost holds = { is_clear };
-
-    #[inline(always)]
-    fn holds(byte: u8) -> bool {
-        !may_begin_driving(byte)
-    }
-
-    #[inline(always)]
-    fn others(bytes: u8x16) -> u64 {
-        beginnings(bytes)
-    }
+/// The same of fewer.
+#[inline(always)]
+fn beginnings_16(bytes: u8x16) -> u64
+    ensures { result ≡ mask_l (map may_begin_driving bytes) }
+{
+    (bytes.simd_eq(u8x16::splat(DEL)) | bytes.simd_eq(u8x16::splat(LEAD))).to_bitmask()
 }
 
 /// What comes after the long blocks at the front in which no such character may begin.
@@ -73,7 +63,37 @@ fn after_blocks(bytes: &[u8]) -> &[u8]
 {
     let mut rest = bytes;
     'many: while let Some((block, behind)) = rest.split_first_chunk::<BLOCK>() {
-        if beginnings(u8x64::from_array(*block)) != 0 {
+        if beginnings_64(u8x64::from_array(*block)) != 0 {
+            break;
+        }
+        rest = behind;
+    }
+    rest
+}
+
+/// What comes after the chunks at the front in which none may begin.
+#[inline(always)]
+fn after_chunks(bytes: &[u8]) -> &[u8]
+    ensures { PassTo is_clear bytes.now result.now }
+{
+    let mut rest = bytes;
+    'chunks: while let Some((chunk, behind)) = rest.split_first_chunk::<CHUNK>() {
+        if beginnings_16(u8x16::from_array(*chunk)) != 0 {
+            break;
+        }
+        rest = behind;
+    }
+    rest
+}
+
+/// What comes after the bytes at the front with which none may begin.
+#[inline(always)]
+fn after_bytes(bytes: &[u8]) -> &[u8]
+    ensures { PassTo is_clear bytes.now result.now }
+{
+    let mut rest = bytes;
+    'bytes: while let Some((first, behind)) = rest.split_first() {
+        if may_begin_driving(*first) {
             break;
         }
         rest = behind;
@@ -86,8 +106,9 @@ fn after_blocks(bytes: &[u8]) -> &[u8]
 fn from_beginning(bytes: &[u8]) -> &[u8]
     ensures { PassTo is_clear bytes.now result.now }
 {
-    let few = after_blocks(bytes);
-    after_front::<Clear>(few)
+    let rest = after_blocks(bytes);
+    let few = after_chunks(rest);
+    after_bytes(few)
 }
 
 /// Whether the two bytes are one of U+0080 to U+009F.

@@ -93,17 +93,23 @@ impl<W: Sink> Perform for LineFeeds<W> {
         }
     }
 
-    fn hook(&mut self, _: &Params, _: &[u8], _: bool, _: u8) {}
+    fn hook(&mut self, _params: &Params, _intermediates: &[u8], _ignore: bool, _action: u8) {}
 
-    fn put(&mut self, _: u8) {}
+    fn put(&mut self, _byte: u8) {}
 
     fn unhook(&mut self) {}
 
-    fn osc_dispatch(&mut self, _: &[&[u8]], _: bool) {}
+    fn osc_dispatch(&mut self, _params: &[&[u8]], _bell_terminated: bool) {}
 
-    fn csi_dispatch(&mut self, _: &Params, _: &[u8], _: bool, _: u8) {}
+    fn csi_dispatch(
+        &mut self,
+        _params: &Params,
+        _intermediates: &[u8],
+        _ignore: bool,
+        _action: u8,
+    ) {}
 
-    fn esc_dispatch(&mut self, _: &[u8], _: bool, _: u8) {}
+    fn esc_dispatch(&mut self, _intermediates: &[u8], _ignore: bool, _byte: u8) {}
 }
 
 /// A text is taken as it is, and so is layout.

@@ -14,4 +14,4 @@ many-preserved c =
     let behind = c.in-Some.behind.now in
     PassTo_more is_clear c.args.bytes.now rest block behind c.many.invariant
     (chunk_and_behind 64 rest block behind c.in-Some.ensures.cases.0 c.in-Some.ensures.cases.1)
-    (clear-unset block (sym c.beginnings.ensures ∙ c.if-beginnings-ne0.false))
+    (clear-unset block (sym c.beginnings_64.ensures ∙ c.if-beginnings_64-ne0.false))

@@ -10,7 +10,7 @@ ghost use Rattle.screen_html.specs.Shown.{left_html, ending_html};
 ghost use Rattle.screen_text.specs.Recording.{is_decided, screen_for, CanBeShown};
 
 use ansi_html::{BlocksWriter, HtmlWriter, LinesWriter, Styling};
-use ansi_screen::Screen;
+use ansi_screen::Scrollable;
 use anstyle_parse::io::{Output, Sink};
 use each_source::Begin;
 use html_urls::Linking;
@@ -247,7 +247,7 @@ impl Showing {
     }
 
     /// A blank screen for a stream that begins with these bytes, and memory for links.
-    fn parts(&self, front: &[u8]) -> Result<(Screen, LinkMemory), AllocError>
+    fn parts(&self, front: &[u8]) -> Result<(Scrollable, LinkMemory), AllocError>
         ensures { IfOk result (λ parts. (given : Given) → BeginsWith (is_decided (size_of self.now)) front.now given
             → parts.0 ≡ screen_for (size_of self.now) given.read) }
     {

@@ -1,18 +1,19 @@
--- One row: from where on it is blank, once it was edited.
-use Rattle.std.proofs.Common.{◌≡◌, ℕ, ◌+◌, ◌-◌, ◌*◌, ◌<◌, ◌≤◌, Bool, true, false, ◌&&◌, List, [], ◌∷◌, ◌++◌, length, get_or, take, drop, set, refl, ap, sym, ◌∙◌, subst, inl, inr, arith}
+-- One row: beside which columns it is blank, once it was edited.
+use Rattle.std.proofs.Common.{◌≡◌, ℕ, ◌+◌, ◌-◌, ◌*◌, ◌<◌, ◌≤◌, Bool, true, false, ◌&&◌, ◌⊎◌, zero, suc, List, [], ◌∷◌, ◌++◌, length, get_or, take, drop, set, refl, ap, sym, ◌∙◌, subst, inl, inr, arith}
 use Rattle.std.specs.Prelude.{min, max, replicate, nat_lt, if◌then◌else◌}
-use Rattle.std.proofs.lemmas.Bool.{and_parts, cases_lt, false≢true}
-use Rattle.std.proofs.lemmas.List.{places, ext_get_or, get_or_past, get_or-set_other, get_or-replicate, set-get_or, length-replicate, take_at, take_all, drop_all, append-nil}
+use Rattle.std.proofs.lemmas.Bool.{cases_lt, false≢true}
+use Rattle.std.proofs.lemmas.List.{places, ext_get_or, get_or_past, get_or-replicate, set-get_or, length-replicate, take_at, take_all, drop_all, append-nil}
 use mathlib.Core.Bool.{beq, not}
 use Rattle.ansi_style.specs.declared.style.Style.{Style}
 use Rattle.ansi_style.specs.Style.{plain}
 use Rattle.ansi_screen.specs.declared.cell.Cell.{Cell}
-use Rattle.ansi_screen.specs.Cells.{blank, emptied, is_right, cell_at, cut, within, change, erased, deleted, inserted, with_mark, marked_before, going_on}
-use Rattle.ansi_screen.specs.Grid.{IsBlankFrom}
+use Rattle.ansi_screen.specs.declared.row.Written.{Written}
+use Rattle.ansi_screen.specs.Cells.{blank, emptied, is_right, cell_at, cut, within, change, erased, moved_back, moved_on, deleted, inserted, with_mark, marked_before, going_on}
+use Rattle.ansi_screen.specs.Grid.{IsBeside, IsBlankBeside}
 use Rattle.ansi_screen.specs.Print.{glyph}
 use Rattle.ansi_screen.specs.Reachable.{is_left, IsWhole}
 use Rattle.ansi_screen.specs.Runs.{with_glyphs}
-use Rattle.ansi_screen.proofs.PairLemmas.{length-run, length-within, length-cut, paired-replicate, right-replicate, whole-erased}
+use Rattle.ansi_screen.proofs.PairLemmas.{length-run, length-back, length-on, length-within, length-cut, paired-replicate, right-replicate, whole-erased}
 use Rattle.ansi_screen.proofs.WholeLemmas.{length-glyph, length-put, length-deleted, length-inserted, length-marked, length-going_on, whole-glyph, whole-deleted, whole-inserted, whole-marked, whole-going_on}
 
 -- a cell of a list of which a part is another
@@ -27,61 +28,94 @@ cell-within : (a e k : ℕ) (run xs : List Cell) (d : Cell) → length run ≡ e
     → get_or (take a xs ++ (run ++ drop (e - a) (drop a xs))) k d ≡ get_or run (k - a) d
 cell-within a e k run xs d long from below inside = grind (arith, places)
 
--- from the end on, and from later on
-pub blank-past : (n : ℕ) (xs : List Cell) → length xs ≤ n → IsBlankFrom n xs
-blank-past n xs past k from = get_or_past xs k (blank plain) (omega (arith, past, from))
+-- a place is among others or beside them
+among : (a e k : ℕ) → ((a ≤ k) × (k < e)) ⊎ IsBeside a e k
+among a e k = elim (cases_lt k a) [
+  | inl before ↦ inr (inl before)
+  | inr from ↦ elim (cases_lt k e) [
+    | inl to ↦ inl (from, to)
+    | inr behind ↦ inr (inr behind)
+  ]
+]
 
-pub blank-later : (w v : ℕ) (xs : List Cell) → w ≤ v → IsBlankFrom w xs → IsBlankFrom v xs
-blank-later w v xs later is k from = is k (omega (arith, later, from))
+cell-beside : (a e k : ℕ) (run xs : List Cell) → length run ≡ e - a → a ≤ e → e ≤ length xs → IsBeside a e k
+    → cell_at k (take a xs ++ (run ++ drop (e - a) (drop a xs))) ≡ cell_at k xs
+cell-beside a e k run xs long order inside beside = elim beside [
+  | inl before ↦ cell-before a e k run xs (blank plain) before (omega (arith, order, inside))
+  | inr behind ↦ cell-behind a e k run xs (blank plain) long order behind inside
+]
 
-pub blank-new : (n : ℕ) → IsBlankFrom 0 (replicate n (blank plain))
-blank-new n k from = elim (cases_lt k n) [
+-- `v` has the columns of `w` and those from `a` up to `e`.
+record Wider (a e : ℕ) (w v : Written) : Type 0 where
+  pub first : v.first ≤ w.first
+  pub start : v.first ≤ a
+  pub past : w.past ≤ v.past
+  pub end : e ≤ v.past
+
+abbrev pub joined : ℕ → ℕ → Written → Written
+joined a e w = record { first = min w.first a; past = max w.past e }
+
+joined-wider : (a e : ℕ) (w v : Written) → v ≡ joined a e w → Wider a e w v
+joined-wider a e w v is =
+    let first : v.first ≡ min w.first a = ap (λ (x : Written). x.first) is in
+    let past : v.past ≡ max w.past e = ap (λ (x : Written). x.past) is in
+    record {
+      first = omega (arith, first);
+      start = omega (arith, first);
+      past = omega (arith, past);
+      end = omega (arith, past);
+    }
+
+beside-both : (a e k : ℕ) (w v : Written) → Wider a e w v → IsBeside v.first v.past k → IsBeside w.first w.past k × IsBeside a e k
+beside-both a e k w v wide beside = elim beside [
+  | inl before ↦ (inl (omega (arith, before, wide.first)), inl (omega (arith, before, wide.start)))
+  | inr behind ↦ (inr (omega (arith, behind, wide.past)), inr (omega (arith, behind, wide.end)))
+]
+
+pub blank-new : (f n : ℕ) → IsBlankBeside f 0 (replicate n (blank plain))
+blank-new f n k beside = elim (cases_lt k n) [
   | inl less ↦ get_or-replicate n k (blank plain) (blank plain) less
   | inr past ↦ get_or_past (replicate n (blank plain)) k (blank plain) (omega (arith, length-replicate n (blank plain), past))
 ]
 
--- a cut
-right-below : (w p : ℕ) (xs : List Cell) → IsBlankFrom w xs → is_right (cell_at p xs).part ≡ true → p < w
-right-below w p xs is half = elim (cases_lt p w) [
-  | inl less ↦ less
-  | inr past ↦ absurd (false≢true (sym (ap (λ (x : Cell). is_right x.part) (is p past)) ∙ half))
-]
+-- A blank stays one where another cell is set, or this one as a blank.
+blank-set : (xs : List Cell) (at k : ℕ) (y : Cell) → cell_at k xs ≡ blank plain → (k ≡ at → y ≡ blank plain) → cell_at k (set xs at y) ≡ blank plain
+blank-set [] at k y is same = is
+blank-set (x ∷ xs) zero zero y is same = same refl
+blank-set (x ∷ xs) zero (suc k) y is same = is
+blank-set (x ∷ xs) (suc at) zero y is same = is
+blank-set (x ∷ xs) (suc at) (suc k) y is same = blank-set xs at k y is (λ e. same (ap suc e))
 
-cut-blank : (w p : ℕ) (xs : List Cell) (t : Bool) → (nat_lt 0 p && is_right (cell_at p xs).part) ≡ t → IsBlankFrom w xs → IsBlankFrom w (cut p xs)
+-- So it does where a wide character is cut: what is left of a blank is a blank.
+cut-blank : (p k : ℕ) (xs : List Cell) (t : Bool) → (nat_lt 0 p && is_right (cell_at p xs).part) ≡ t → cell_at k xs ≡ blank plain → cell_at k (cut p xs) ≡ blank plain
 unfolding cut
-cut-blank w p xs false test is = rw test is
-cut-blank w p xs true test is =
-    let parts : (nat_lt 0 p ≡ true) × (is_right (cell_at p xs).part ≡ true) = and_parts _ _ test in
-    let below : p < w = right-below w p xs is parts.1 in
-    let left : Cell = emptied (cell_at (p - 1) xs) in
-    let right : Cell = emptied (cell_at p xs) in
-    rw test (λ k from.
-    let other : k ≡ p → ⊥ = λ e. absurd (omega (arith, e, below, from)) in
-    let others : k ≡ p - 1 → ⊥ = λ e. absurd (omega (arith, e, below, from)) in
-    get_or-set_other (set xs (p - 1) left) p k right (blank plain) other
-    ∙ (get_or-set_other xs (p - 1) k left (blank plain) others ∙ is k from))
+cut-blank p k xs false test is = rw test is
+cut-blank p k xs true test is =
+    let half : (at : ℕ) → k ≡ at → emptied (cell_at at xs) ≡ blank plain = λ at e. ap emptied (subst (λ n. cell_at n xs ≡ blank plain) e is) in
+    rw test (blank-set (set xs (p - 1) (emptied (cell_at (p - 1) xs))) p k (emptied (cell_at p xs)) (blank-set xs (p - 1) k (emptied (cell_at (p - 1) xs)) is (half (p - 1))) (half p))
 
-pub blank-cut : (w p : ℕ) (xs : List Cell) → IsBlankFrom w xs → IsBlankFrom w (cut p xs)
-blank-cut w p xs is = cut-blank w p xs _ refl is
+pub blank-cut : (f w p : ℕ) (xs : List Cell) → IsBlankBeside f w xs → IsBlankBeside f w (cut p xs)
+blank-cut f w p xs is k beside = cut-blank p k xs _ refl (is k beside)
 
 -- a part that is another
-pub blank-within : (w v a e : ℕ) (how : List Cell → List Cell) (xs : List Cell) → a ≤ e → e ≤ length xs
-    → length (how (take (e - a) (drop a xs))) ≡ e - a → w ≤ v → e ≤ v → IsBlankFrom w xs → IsBlankFrom v (within a e how xs)
-blank-within w v a e how xs order inside long later reaches is k from =
-    cell-behind a e k (how (take (e - a) (drop a xs))) xs (blank plain) long order (omega (arith, reaches, from)) inside
-    ∙ is k (omega (arith, later, from))
+blank-within : (a e : ℕ) (w v : Written) (how : List Cell → List Cell) (xs : List Cell) → a ≤ e → e ≤ length xs
+    → length (how (take (e - a) (drop a xs))) ≡ e - a → Wider a e w v → IsBlankBeside w.first w.past xs → IsBlankBeside v.first v.past (within a e how xs)
+blank-within a e w v how xs order inside long wide is k beside =
+    let both = beside-both a e k w v wide beside in
+    cell-beside a e k (how (take (e - a) (drop a xs))) xs long order inside both.1 ∙ is k both.0
 
-pub blank-change : (w v a e : ℕ) (how : List Cell → List Cell) (xs : List Cell) → a ≤ e → e ≤ length xs
-    → length (how (take (e - a) (drop a (cut a (cut e xs))))) ≡ e - a → w ≤ v → e ≤ v → IsBlankFrom w xs → IsBlankFrom v (change a e how xs)
-blank-change w v a e how xs order inside long later reaches is =
-    blank-within w v a e how (cut a (cut e xs)) order (omega (arith, inside, length-cut a (cut e xs), length-cut e xs)) long later reaches
-    (blank-cut w a (cut e xs) (blank-cut w e xs is))
+blank-change : (a e : ℕ) (w v : Written) (how : List Cell → List Cell) (xs : List Cell) → a ≤ e → e ≤ length xs
+    → length (how (take (e - a) (drop a (cut a (cut e xs))))) ≡ e - a → Wider a e w v → IsBlankBeside w.first w.past xs
+    → IsBlankBeside v.first v.past (change a e how xs)
+blank-change a e w v how xs order inside long wide is =
+    blank-within a e w v how (cut a (cut e xs)) order (omega (arith, inside, length-cut a (cut e xs), length-cut e xs)) long wide
+    (blank-cut w.first w.past a (cut e xs) (blank-cut w.first w.past e xs is))
 
-pub blank-glyph : (w v a n c : ℕ) (style : Style) (link : ℕ) (xs : List Cell) → 1 ≤ n → n ≤ 2 → a + n ≤ length xs → w ≤ v → a + n ≤ v
-    → IsBlankFrom w xs → IsBlankFrom v (change a (a + n) (λ run. glyph n c style link) xs)
-blank-glyph w v a n c style link xs some few inside later reaches is =
+blank-glyph : (a n c : ℕ) (w v : Written) (style : Style) (link : ℕ) (xs : List Cell) → 1 ≤ n → n ≤ 2 → a + n ≤ length xs → Wider a (a + n) w v
+    → IsBlankBeside w.first w.past xs → IsBlankBeside v.first v.past (change a (a + n) (λ run. glyph n c style link) xs)
+blank-glyph a n c w v style link xs some few inside wide is =
     let long : a + n - a ≡ n = omega arith in
-    blank-change w v a (a + n) (λ run. glyph n c style link) xs (omega arith) inside (length-glyph n c style link _ refl some few ∙ sym long) later reaches is
+    blank-change a (a + n) w v (λ run. glyph n c style link) xs (omega arith) inside (length-glyph n c style link _ refl some few ∙ sym long) wide is
 
 -- a character after another
 pub whole-glyphs : (w a : ℕ) (text : List ℕ) (style : Style) (link : ℕ) (xs : List Cell) → a + length text ≤ w → w ≡ length xs
@@ -95,15 +129,16 @@ whole-glyphs w a (c ∷ text) style link xs inside long is =
     whole-glyphs w (a + 1) text style link one (omega (arith, inside)) (long ∙ sym (length-put a 1 c style link xs (omega arith) (omega arith) fits))
     (whole-glyph w 0 a 1 c style link xs (omega arith) (omega arith) start end fits is)
 
-pub blank-glyphs : (w v a : ℕ) (text : List ℕ) (style : Style) (link : ℕ) (xs : List Cell) → a + length text ≤ length xs → w ≤ v → a + length text ≤ v
-    → IsBlankFrom w xs → IsBlankFrom v (with_glyphs a text style link xs)
-blank-glyphs w v a [] style link xs inside later reaches is = blank-later w v xs later is
-blank-glyphs w v a (c ∷ text) style link xs inside later reaches is =
+blank-glyphs : (a : ℕ) (w v : Written) (text : List ℕ) (style : Style) (link : ℕ) (xs : List Cell) → a + length text ≤ length xs
+    → Wider a (a + length text) w v → IsBlankBeside w.first w.past xs → IsBlankBeside v.first v.past (with_glyphs a text style link xs)
+blank-glyphs a w v [] style link xs inside wide is = λ k beside. is k (beside-both a (a + 0) k w v wide beside).0
+blank-glyphs a w v (c ∷ text) style link xs inside wide is =
     let one : List Cell = change a (a + 1) (λ run. glyph 1 c style link) xs in
     let fits : a + 1 ≤ length xs = omega (arith, inside) in
     let long : length one ≡ length xs = length-put a 1 c style link xs (omega arith) (omega arith) fits in
-    blank-glyphs v v (a + 1) text style link one (omega (arith, inside, long)) (omega arith) (omega (arith, reaches))
-    (blank-glyph w v a 1 c style link xs (omega arith) (omega arith) fits later (omega (arith, reaches)) is)
+    let next : Wider a (a + 1) w v = record { first = wide.first; start = wide.start; past = wide.past; end = omega (arith, wide.end) } in
+    let rest : Wider (a + 1) (a + 1 + length text) v v = record { first = omega arith; start = omega (arith, wide.start); past = omega arith; end = omega (arith, wide.end) } in
+    blank-glyphs (a + 1) v v text style link one (omega (arith, inside, long)) rest (blank-glyph a 1 c w v style link xs (omega arith) (omega arith) fits next is)
 
 pub length-glyphs : (a : ℕ) (text : List ℕ) (style : Style) (link : ℕ) (xs : List Cell) → a + length text ≤ length xs
     → length (with_glyphs a text style link xs) ≡ length xs
@@ -114,99 +149,105 @@ length-glyphs a (c ∷ text) style link xs inside =
     length-glyphs (a + 1) text style link one (omega (arith, inside, long)) ∙ long
 
 -- a mark
-marked-blank : (w v mark p at : ℕ) (x : Cell) (xs : List Cell) → at < v → w ≤ v → IsBlankFrom w xs → IsBlankFrom v (set xs at x)
-marked-blank w v mark p at x xs below later is k from =
-    let other : k ≡ at → ⊥ = λ e. absurd (omega (arith, e, below, from)) in
-    get_or-set_other xs at k x (blank plain) other ∙ is k (omega (arith, later, from))
+marked-at : (t : Bool) (p k : ℕ) (w v : Written) → 0 < p → Wider (p - 2) p w v → IsBeside v.first v.past k → k ≡ (if t then p - 2 else p - 1) → ⊥
+marked-at true p k w v some wide beside is = elim (beside-both (p - 2) p k w v wide beside).1 [
+  | inl before ↦ absurd (omega (arith, is, before))
+  | inr behind ↦ absurd (omega (arith, is, some, behind))
+]
+marked-at false p k w v some wide beside is = elim (beside-both (p - 2) p k w v wide beside).1 [
+  | inl before ↦ absurd (omega (arith, is, before))
+  | inr behind ↦ absurd (omega (arith, is, some, behind))
+]
 
-marked-at : (t : Bool) (p v : ℕ) → 0 < p → p ≤ v → (if t then p - 2 else p - 1) < v
-marked-at true p v some reaches = omega (arith, some, reaches)
-marked-at false p v some reaches = omega (arith, some, reaches)
-
-pub blank-marked : (w v mark p : ℕ) (xs : List Cell) → 0 < p → p ≤ v → w ≤ v → IsBlankFrom w xs → IsBlankFrom v (marked_before mark p xs)
+blank-marked : (mark p : ℕ) (w v : Written) (xs : List Cell) → 0 < p → Wider (p - 2) p w v → IsBlankBeside w.first w.past xs
+    → IsBlankBeside v.first v.past (marked_before mark p xs)
 unfolding marked_before
-blank-marked w v mark p xs some reaches later is =
+blank-marked mark p w v xs some wide is k beside =
     let at : ℕ = if is_right (cell_at (p - 1) xs).part then p - 2 else p - 1 in
-    marked-blank w v mark p at (with_mark mark (cell_at at xs)) xs (marked-at (is_right (cell_at (p - 1) xs).part) p v some reaches) later is
+    blank-set xs at k (with_mark mark (cell_at at xs)) (is k (beside-both (p - 2) p k w v wide beside).0)
+    (λ e. absurd (marked-at (is_right (cell_at (p - 1) xs).part) p k w v some wide beside e))
 
-erased-at : (n k : ℕ) (run : List Cell) → length run ≡ n → k < n → get_or (erased (blank plain) run) k (blank plain) ≡ blank plain
-erased-at n k run long inside = get_or-replicate (length run) k (blank plain) (blank plain) (omega (arith, long, inside))
-
--- plain blanks, as far as something was written
-pub same-cells : (a e past w : ℕ) (xs : List Cell) → a ≤ e → e ≤ length xs → IsBlankFrom w xs → past ≡ min e w → a < past
-    → within a past (erased (blank plain)) xs ≡ within a e (erased (blank plain)) xs
-same-cells a e past w xs order inside is least some =
-    let space : Cell = blank plain in
-    let few : past ≤ e = omega (arith, least) in
-    let first : length (erased space (take (past - a) (drop a xs))) ≡ past - a =
-    length-replicate (length (take (past - a) (drop a xs))) space ∙ length-run a past xs (omega (arith, few, inside)) in
-    let second : length (erased space (take (e - a) (drop a xs))) ≡ e - a =
-    length-replicate (length (take (e - a) (drop a xs))) space ∙ length-run a e xs inside in
-    let inside_first : past ≤ length xs = omega (arith, few, inside) in
-    let first_long : length (within a past (erased space) xs) ≡ length xs = length-within a past (erased space) xs (omega (arith, some)) inside_first first in
-    let second_long : length (within a e (erased space) xs) ≡ length xs = length-within a e (erased space) xs order inside second in
-    ext_get_or space (within a past (erased space) xs) (within a e (erased space) xs) (first_long ∙ sym second_long) (λ k below.
-    elim (cases_lt k a) [
-      | inl before ↦
-          cell-before a past k (erased space (take (past - a) (drop a xs))) xs space before (omega (arith, order, inside))
-          ∙ sym (cell-before a e k (erased space (take (e - a) (drop a xs))) xs space before (omega (arith, order, inside)))
-      | inr reached ↦ elim (cases_lt k past) [
-        | inl less ↦
-            cell-within a past k (erased space (take (past - a) (drop a xs))) xs space first reached less inside_first
-            ∙ (erased-at (past - a) (k - a) (take (past - a) (drop a xs)) (length-run a past xs inside_first) (omega (arith, reached, less))
-            ∙ sym (cell-within a e k (erased space (take (e - a) (drop a xs))) xs space second reached (omega (arith, less, few)) inside
-            ∙ erased-at (e - a) (k - a) (take (e - a) (drop a xs)) (length-run a e xs inside) (omega (arith, reached, less, few))))
-        | inr behind ↦ elim (cases_lt k e) [
-          | inl in_run ↦
-              cell-behind a past k (erased space (take (past - a) (drop a xs))) xs space first (omega (arith, some)) behind inside_first
-              ∙ (is k (omega (arith, least, behind, in_run))
-              ∙ sym (cell-within a e k (erased space (take (e - a) (drop a xs))) xs space second reached in_run inside
-              ∙ erased-at (e - a) (k - a) (take (e - a) (drop a xs)) (length-run a e xs inside) (omega (arith, reached, in_run))))
-          | inr past_run ↦
-              cell-behind a past k (erased space (take (past - a) (drop a xs))) xs space first (omega (arith, some)) behind inside_first
-              ∙ sym (cell-behind a e k (erased space (take (e - a) (drop a xs))) xs space second order past_run inside)
-        ]
-      ]
+-- the last cell, which says that the row goes on
+blank-going : (on : Bool) (e : ℕ) (w v : Written) (xs : List Cell) → 0 < e → Wider (e - 1) e w v → IsBlankBeside w.first w.past xs
+    → IsBlankBeside v.first v.past (going_on on e xs)
+unfolding going_on
+blank-going on e w v xs some wide is k beside =
+    let both = beside-both (e - 1) e k w v wide beside in
+    blank-set xs (e - 1) k (record (cell_at (e - 1) xs) { goes_on = on }) (is k both.0) (λ same. elim both.1 [
+      | inl before ↦ absurd (omega (arith, same, before))
+      | inr behind ↦ absurd (omega (arith, same, some, behind))
     ])
 
-pub same-all : (a e w : ℕ) (xs : List Cell) → a ≤ e → e ≤ length xs → IsBlankFrom w xs → min e w ≤ a
-    → xs ≡ within a e (erased (blank plain)) xs
-same-all a e w xs order inside is none =
-    let space : Cell = blank plain in
-    let run : List Cell = take (e - a) (drop a xs) in
-    let long : length (erased space run) ≡ e - a = length-replicate (length run) space ∙ length-run a e xs inside in
-    ext_get_or space xs (within a e (erased space) xs) (sym (length-within a e (erased space) xs order inside long)) (λ k below.
-    elim (cases_lt k a) [
-      | inl before ↦ sym (cell-before a e k (erased space run) xs space before (omega (arith, order, inside)))
-      | inr reached ↦ elim (cases_lt k e) [
-        | inl in_run ↦
-            is k (omega (arith, none, reached, in_run))
-            ∙ sym (cell-within a e k (erased space run) xs space long reached in_run inside
-            ∙ erased-at (e - a) (k - a) run (length-run a e xs inside) (omega (arith, reached, in_run)))
-        | inr past_run ↦ sym (cell-behind a e k (erased space run) xs space long order past_run inside)
-      ]
-    ])
+-- plain blanks
+abbrev cleared : ℕ → ℕ → List Cell → List Cell
+cleared a e xs = within a e (erased (blank plain)) xs
 
-pub blank-cleared : (a past w : ℕ) (xs : List Cell) → a < past → past ≤ length xs → IsBlankFrom w xs → past ≡ w
-    → IsBlankFrom a (within a past (erased (blank plain)) xs)
-blank-cleared a past w xs some inside is whole k from =
-    let space : Cell = blank plain in
-    let run : List Cell = take (past - a) (drop a xs) in
-    let long : length (erased space run) ≡ past - a = length-replicate (length run) space ∙ length-run a past xs inside in
-    elim (cases_lt k past) [
-      | inl less ↦
-          cell-within a past k (erased space run) xs space long from less inside
-          ∙ erased-at (past - a) (k - a) run (length-run a past xs inside) (omega (arith, from, less))
-      | inr behind ↦
-          cell-behind a past k (erased space run) xs space long (omega (arith, some)) behind inside
-          ∙ is k (omega (arith, whole, behind))
+module _ (a e : ℕ) (xs : List Cell) (order : a ≤ e) (inside : e ≤ length xs) where
+  cleared-run : length (erased (blank plain) (take (e - a) (drop a xs))) ≡ e - a
+  cleared-run = length-replicate (length (take (e - a) (drop a xs))) (blank plain) ∙ length-run a e xs inside
+
+  cleared-length : length (cleared a e xs) ≡ length xs
+  cleared-length = length-within a e (erased (blank plain)) xs order inside cleared-run
+
+  cleared-among : (k : ℕ) → (a ≤ k) × (k < e) → cell_at k (cleared a e xs) ≡ blank plain
+  cleared-among k there =
+      cell-within a e k (erased (blank plain) (take (e - a) (drop a xs))) xs (blank plain) cleared-run there.0 there.1 inside
+      ∙ get_or-replicate (length (take (e - a) (drop a xs))) (k - a) (blank plain) (blank plain) (omega (arith, length-run a e xs inside, there.0, there.1))
+
+  cleared-beside : (k : ℕ) → IsBeside a e k → cell_at k (cleared a e xs) ≡ cell_at k xs
+  cleared-beside k beside = cell-beside a e k (erased (blank plain) (take (e - a) (drop a xs))) xs cleared-run order inside beside
+
+  -- those beside which the cells were plain blanks need not be cleared
+  module _ (first last from past : ℕ) (starts : from ≡ max a first) (ends : past ≡ min e last) (is : IsBlankBeside first last xs) where
+    blank-untouched : (k : ℕ) → IsBeside from past k → (a ≤ k) × (k < e) → cell_at k xs ≡ blank plain
+    blank-untouched k beside there = elim beside [
+      | inl before ↦ is k (inl (omega (arith, starts, before, there.0)))
+      | inr behind ↦ is k (inr (omega (arith, ends, behind, there.1)))
     ]
 
-pub blank-erased : (w v a e : ℕ) (space : Cell) (xs : List Cell) → a ≤ e → e ≤ length xs → w ≤ v → e ≤ v
-    → IsBlankFrom w xs → IsBlankFrom v (within a e (erased space) xs)
-blank-erased w v a e space xs order inside later reaches is =
+    same-beside : (k : ℕ) → IsBeside from past k → cell_at k xs ≡ cell_at k (cleared a e xs)
+    same-beside k beside = elim (among a e k) [
+      | inl there ↦ blank-untouched k beside there ∙ sym (cleared-among k there)
+      | inr away ↦ sym (cleared-beside k away)
+    ]
+
+    pub same-none : past ≤ from → xs ≡ cleared a e xs
+    same-none none = ext_get_or (blank plain) xs (cleared a e xs) (sym cleared-length) (λ k below. elim (cases_lt k from) [
+      | inl before ↦ same-beside k (inl before)
+      | inr reached ↦ same-beside k (inr (omega (arith, none, reached)))
+    ])
+
+  -- what is left of those columns
+  pub blank-without : (w v : Written) → IsBlankBeside w.first w.past xs
+      → ((k : ℕ) → IsBeside v.first v.past k → IsBeside w.first w.past k ⊎ ((a ≤ k) × (k < e))) → IsBlankBeside v.first v.past (cleared a e xs)
+  blank-without w v is left k beside = elim (among a e k) [
+    | inl there ↦ cleared-among k there
+    | inr away ↦ elim (left k beside) [
+      | inl old ↦ cleared-beside k away ∙ is k old
+      | inr there ↦ cleared-among k there
+    ]
+  ]
+
+pub same-some : (a e first last from past : ℕ) (xs : List Cell) → a ≤ e → e ≤ length xs → from ≡ max a first → past ≡ min e last → IsBlankBeside first last xs
+    → from < past → cleared from past xs ≡ cleared a e xs
+same-some a e first last from past xs order inside starts ends is some =
+    let order_too : from ≤ past = omega (arith, some) in
+    let inside_too : past ≤ length xs = omega (arith, ends, inside) in
+    ext_get_or (blank plain) (cleared from past xs) (cleared a e xs) (cleared-length from past xs order_too inside_too ∙ sym (cleared-length a e xs order inside)) (λ k below.
+    elim (among from past k) [
+      | inl there ↦
+          cleared-among from past xs order_too inside_too k there
+          ∙ sym (cleared-among a e xs order inside k (omega (arith, starts, there.0), omega (arith, ends, there.1)))
+      | inr away ↦
+          cleared-beside from past xs order_too inside_too k away
+          ∙ same-beside a e xs order inside first last from past starts ends is k away
+    ])
+
+pub blank-erased : (a e : ℕ) (w v : Written) (space : Cell) (xs : List Cell) → a ≤ e → e ≤ length xs → v ≡ joined a e w
+    → IsBlankBeside w.first w.past xs → IsBlankBeside v.first v.past (within a e (erased space) xs)
+blank-erased a e w v space xs order inside joins is =
     let run : List Cell = take (e - a) (drop a xs) in
-    blank-within w v a e (erased space) xs order inside (length-replicate (length run) space ∙ length-run a e xs inside) later reaches is
+    blank-within a e w v (erased space) xs order inside (length-replicate (length run) space ∙ length-run a e xs inside) (joined-wider a e w v joins) is
 
 -- a row of blanks
 pub whole-new : (n w : ℕ) (style : Style) → IsWhole w (replicate n (blank style))
@@ -220,170 +261,141 @@ pub going-same : (on : Bool) (end : ℕ) (xs : List Cell) → (cell_at (end - 1)
 unfolding going_on
 going-same on end xs is = rw (← is) (sym (set-get_or xs (end - 1) (blank plain)))
 
--- a row that became as another one
-pub copied-all : (past w v : ℕ) (xs ys : List Cell) → length xs ≡ length ys → w ≤ past → v ≤ past → past ≤ length xs
-    → IsBlankFrom w xs → IsBlankFrom v ys → take past ys ++ drop past xs ≡ ys
-copied-all past w v xs ys long first second inside is are =
-    ext_get_or (blank plain) (take past ys ++ drop past xs) ys (grind (arith, places)) (λ k below.
-    elim (cases_lt k past) [
-      | inl less ↦ grind (arith, places)
-      | inr behind ↦
-          let there : get_or (take past ys ++ drop past xs) k (blank plain) ≡ cell_at k xs = grind (arith, places) in
-          there ∙ (is k (omega (arith, first, behind)) ∙ sym (are k (omega (arith, second, behind))))
-    ])
+-- What a row of `n` cells is: of so many, with halves in pairs, and blank beside some columns.
+pub record Kept (n : ℕ) (v : Written) (cells : List Cell) : Type 0 where
+  pub long : length cells ≡ n
+  pub whole : IsWhole n cells
+  pub few : v.past ≤ n
+  pub blank : IsBlankBeside v.first v.past cells
 
--- What a row of `n` cells is after an edit: of so many, with halves in pairs, and blank from `v` on.
-pub record Kept (n v : ℕ) (new : List Cell) : Type 0 where
-  pub long : length new ≡ n
-  pub whole : IsWhole n new
-  pub few : v ≤ n
-  pub blank_from : IsBlankFrom v new
+abbrev pub IsRow : Written → List Cell → Type 0
+IsRow v cells = (v.past ≤ length cells) × IsWhole (length cells) cells × IsBlankBeside v.first v.past cells
 
 -- what is in a Vec of so many once its slice is written
 abbrev pub written : ℕ → List Cell → List Cell → List Cell
 written n new old = take n (new ++ drop (length new) old)
 
-pub kept-row : (n v : ℕ) (old new : List Cell) → Kept n v new
-    → (v ≤ length (written n new old)) × IsWhole (length (written n new old)) (written n new old) × IsBlankFrom v (written n new old)
+pub kept-row : (n : ℕ) (v : Written) (old new : List Cell) → Kept n v new → IsRow v (written n new old)
 kept-row n v old new k =
-    let same : written n new old ≡ new = take_at new (drop (length new) old) n k.long in
-    subst (λ l. (v ≤ length l) × IsWhole (length l) l × IsBlankFrom v l) (sym same)
-    (subst (λ m. v ≤ m) (sym k.long) k.few, subst (λ m. IsWhole m new) (sym k.long) k.whole, k.blank_from)
+    subst (IsRow v) (sym (take_at new (drop (length new) old) n k.long))
+    (subst (λ m. v.past ≤ m) (sym k.long) k.few, subst (λ m. IsWhole m new) (sym k.long) k.whole, k.blank)
 
-pub kept-whole : (n v : ℕ) (now old new : List Cell) → length now ≡ n → Kept n v new → IsWhole (length now) (written n new old)
+pub kept-whole : (n : ℕ) (v : Written) (now old new : List Cell) → length now ≡ n → Kept n v new → IsWhole (length now) (written n new old)
 kept-whole n v now old new long k =
     let same : written n new old ≡ new = take_at new (drop (length new) old) n k.long in
     subst (λ l. IsWhole (length now) l) (sym same) (subst (λ m. IsWhole m new) (sym long) k.whole)
 
--- a row as it was
-pub old-whole : (n : ℕ) (xs items : List Cell) → xs ≡ items → length xs ≡ n → IsWhole (length items) items → IsWhole n xs
-old-whole n xs items value long is = subst (λ m. IsWhole m xs) long (subst (λ l. IsWhole (length l) l) (sym value) is)
+-- a row as it was, by its slice
+pub kept-slice : (n : ℕ) (w : Written) (xs items : List Cell) → xs ≡ items → length xs ≡ n → IsRow w items → Kept n w xs
+kept-slice n w xs items value long row =
+    let is : IsRow w xs = subst (IsRow w) (sym value) row in
+    record {
+      long = long;
+      whole = subst (λ m. IsWhole m xs) long is.1;
+      few = omega (arith, is.0, long);
+      blank = is.2;
+    }
 
-pub old-blank : (w : ℕ) (xs items : List Cell) → xs ≡ items → IsBlankFrom w items → IsBlankFrom w xs
-old-blank w xs items value is = subst (IsBlankFrom w) (sym value) is
+-- after each edit of the columns from `a` up to `e`
+module _ (n a e : ℕ) (w v : Written) (xs new : List Cell) (old : Kept n w xs) (joins : v ≡ joined a e w) (inside : e ≤ n) where
+  wide : Wider a e w v
+  wide = joined-wider a e w v joins
 
--- after each edit
-module _ (n : ℕ) (xs new : List Cell) (long : length xs ≡ n) (whole : IsWhole n xs) where
-  pub kept-deleted : (a e k : ℕ) (space : Cell) (style : Style) → space ≡ blank style → a ≤ e → e ≡ n → new ≡ deleted k a e space xs → Kept n e new
-  kept-deleted a e k space style is order last put =
+  few : v.past ≤ n
+  few = let past : v.past ≡ max w.past e = ap (λ (x : Written). x.past) joins in omega (arith, past, old.few, inside)
+
+  abbrev kept : length new ≡ n → IsWhole n new → IsBlankBeside v.first v.past new → Kept n v new
+  kept long whole blank = record { long = long; whole = whole; few = few; blank = blank }
+
+  pub kept-deleted : (k : ℕ) (space : Cell) (style : Style) → space ≡ blank style → a ≤ e → new ≡ deleted k a e space xs → Kept n v new
+  kept-deleted k space style is order put =
       let right : is_right space.part ≡ false = ap (λ (x : Cell). is_right x.part) is in
       let left : is_left space.part ≡ false = ap (λ (x : Cell). is_left x.part) is in
       let from : 0 * n ≤ a = omega arith in
-      let to : e ≤ 0 * n + n = omega (arith, last) in
-      let inside : e ≤ length xs = omega (arith, last, long) in
-      let many : length new ≡ n = ap length put ∙ (length-deleted n 0 a e k space xs right left from order to inside ∙ long) in
-      record {
-        long = many;
-        whole = subst (IsWhole n) (sym put) (whole-deleted n 0 a e k space xs right left from order to inside whole);
-        few = omega (arith, last);
-        blank_from = blank-past e new (omega (arith, many, last));
-      }
+      let to : e ≤ 0 * n + n = omega (arith, inside) in
+      let fits : e ≤ length xs = omega (arith, inside, old.long) in
+      let first : List Cell = cut (a + min k (e - a)) xs in
+      let run : List Cell = take (e - a) (drop a (cut a (cut e first))) in
+      let long : length run ≡ e - a = length-run a e (cut a (cut e first)) (omega (arith, fits, length-cut a (cut e first), length-cut e first, length-cut (a + min k (e - a)) xs)) in
+      kept (ap length put ∙ (length-deleted n 0 a e k space xs right left from order to fits ∙ old.long))
+      (subst (IsWhole n) (sym put) (whole-deleted n 0 a e k space xs right left from order to fits old.whole))
+      (subst (IsBlankBeside v.first v.past) (sym put)
+      (blank-change a e w v (moved_back k space) first order (omega (arith, fits, length-cut (a + min k (e - a)) xs)) (length-back k space run ∙ long) wide
+      (blank-cut w.first w.past (a + min k (e - a)) xs old.blank)))
 
-  pub kept-inserted : (a e k : ℕ) (space : Cell) (style : Style) → space ≡ blank style → a ≤ e → e ≡ n → new ≡ inserted k a e space xs → Kept n e new
-  kept-inserted a e k space style is order last put =
+  pub kept-inserted : (k : ℕ) (space : Cell) (style : Style) → space ≡ blank style → a ≤ e → new ≡ inserted k a e space xs → Kept n v new
+  kept-inserted k space style is order put =
       let right : is_right space.part ≡ false = ap (λ (x : Cell). is_right x.part) is in
       let left : is_left space.part ≡ false = ap (λ (x : Cell). is_left x.part) is in
       let from : 0 * n ≤ a = omega arith in
-      let to : e ≤ 0 * n + n = omega (arith, last) in
-      let inside : e ≤ length xs = omega (arith, last, long) in
-      let many : length new ≡ n = ap length put ∙ (length-inserted n 0 a e k space xs right left from order to inside ∙ long) in
-      record {
-        long = many;
-        whole = subst (IsWhole n) (sym put) (whole-inserted n 0 a e k space xs right left from order to inside whole);
-        few = omega (arith, last);
-        blank_from = blank-past e new (omega (arith, many, last));
-      }
+      let to : e ≤ 0 * n + n = omega (arith, inside) in
+      let fits : e ≤ length xs = omega (arith, inside, old.long) in
+      let first : List Cell = cut (e - min k (e - a)) xs in
+      let run : List Cell = take (e - a) (drop a (cut a (cut e first))) in
+      let long : length run ≡ e - a = length-run a e (cut a (cut e first)) (omega (arith, fits, length-cut a (cut e first), length-cut e first, length-cut (e - min k (e - a)) xs)) in
+      kept (ap length put ∙ (length-inserted n 0 a e k space xs right left from order to fits ∙ old.long))
+      (subst (IsWhole n) (sym put) (whole-inserted n 0 a e k space xs right left from order to fits old.whole))
+      (subst (IsBlankBeside v.first v.past) (sym put)
+      (blank-change a e w v (moved_on k space) first order (omega (arith, fits, length-cut (e - min k (e - a)) xs)) (length-on k space run ∙ long) wide
+      (blank-cut w.first w.past (e - min k (e - a)) xs old.blank)))
 
-  pub kept-erased : (v a e : ℕ) (style : Style) (first second : List Cell) → a ≤ e → e ≤ n → first ≡ cut e xs → second ≡ cut a first
-      → new ≡ within a e (erased (blank style)) second → length new ≡ length second → v ≤ length second → IsBlankFrom v new → Kept n v new
-  kept-erased v a e style first second order inside one two put same few is =
-      let all : new ≡ change a e (erased (blank style)) xs = put ∙ ap (within a e (erased (blank style))) (two ∙ ap (cut a) one) in
-      let many : length second ≡ n = ap length two ∙ (length-cut a first ∙ (ap length one ∙ (length-cut e xs ∙ long))) in
-      record {
-        long = same ∙ many;
-        whole = subst (IsWhole n) (sym all) (whole-erased n a e (blank style) xs order (omega (arith, inside, long)) refl refl whole);
-        few = omega (arith, few, many);
-        blank_from = is;
-      }
+  pub kept-marked : (mark : ℕ) → 0 < e → a ≡ e - 2 → new ≡ marked_before mark e xs → Kept n v new
+  kept-marked mark some start put =
+      kept (ap length put ∙ (length-marked mark e xs ∙ old.long)) (subst (IsWhole n) (sym put) (whole-marked n mark e xs old.whole))
+      (subst (IsBlankBeside v.first v.past) (sym put) (blank-marked mark e w v xs some (subst (λ s. Wider s e w v) start wide) old.blank))
 
-  pub kept-put : (w v a m c : ℕ) (style : Style) (link : ℕ) → 1 ≤ m → m ≤ 2 → a + m ≤ n → v ≡ max w (a + m) → w ≤ n → IsBlankFrom w xs
-      → new ≡ change a (a + m) (λ run. glyph m c style link) xs → Kept n v new
-  kept-put w v a m c style link some few inside most less is put =
+  pub kept-going : (on : Bool) → 0 < e → a ≡ e - 1 → new ≡ going_on on e xs → Kept n v new
+  kept-going on some start put =
+      kept (ap length put ∙ (length-going_on on e xs ∙ old.long)) (subst (IsWhole n) (sym put) (whole-going_on n on e xs old.whole))
+      (subst (IsBlankBeside v.first v.past) (sym put) (blank-going on e w v xs some (subst (λ s. Wider s e w v) start wide) old.blank))
+
+module _ (n a : ℕ) (w v : Written) (style : Style) (link : ℕ) (xs new : List Cell) (old : Kept n w xs) where
+  pub kept-put : (m c : ℕ) → v ≡ joined a (a + m) w → 1 ≤ m → m ≤ 2 → a + m ≤ n → new ≡ change a (a + m) (λ run. glyph m c style link) xs → Kept n v new
+  kept-put m c joins some many inside put =
       let from : 0 * n ≤ a = omega arith in
       let to : a + m ≤ 0 * n + n = omega (arith, inside) in
-      let fits : a + m ≤ length xs = omega (arith, inside, long) in
-      record {
-        long = ap length put ∙ (length-put a m c style link xs some few fits ∙ long);
-        whole = subst (IsWhole n) (sym put) (whole-glyph n 0 a m c style link xs some few from to fits whole);
-        few = omega (arith, most, less, inside);
-        blank_from = subst (IsBlankFrom v) (sym put) (blank-glyph w v a m c style link xs some few fits (omega (arith, most)) (omega (arith, most)) is);
-      }
+      let fits : a + m ≤ length xs = omega (arith, inside, old.long) in
+      kept n a (a + m) w v xs new old joins inside (ap length put ∙ (length-put a m c style link xs some many fits ∙ old.long))
+      (subst (IsWhole n) (sym put) (whole-glyph n 0 a m c style link xs some many from to fits old.whole))
+      (subst (IsBlankBeside v.first v.past) (sym put) (blank-glyph a m c w v style link xs some many fits (joined-wider a (a + m) w v joins) old.blank))
 
-  pub kept-glyphs : (w v a : ℕ) (text : List ℕ) (style : Style) (link : ℕ) → a + length text ≤ n → v ≡ max w (a + length text) → w ≤ n → IsBlankFrom w xs
-      → new ≡ with_glyphs a text style link xs → Kept n v new
-  kept-glyphs w v a text style link inside most less is put =
-      let fits : a + length text ≤ length xs = omega (arith, inside, long) in
-      record {
-        long = ap length put ∙ (length-glyphs a text style link xs fits ∙ long);
-        whole = subst (IsWhole n) (sym put) (whole-glyphs n a text style link xs inside (sym long) whole);
-        few = omega (arith, most, less, inside);
-        blank_from = subst (IsBlankFrom v) (sym put) (blank-glyphs w v a text style link xs fits (omega (arith, most)) (omega (arith, most)) is);
-      }
+  pub kept-glyphs : (text : List ℕ) → v ≡ joined a (a + length text) w → a + length text ≤ n → new ≡ with_glyphs a text style link xs → Kept n v new
+  kept-glyphs text joins inside put =
+      let fits : a + length text ≤ length xs = omega (arith, inside, old.long) in
+      kept n a (a + length text) w v xs new old joins inside (ap length put ∙ (length-glyphs a text style link xs fits ∙ old.long))
+      (subst (IsWhole n) (sym put) (whole-glyphs n a text style link xs inside (sym old.long) old.whole))
+      (subst (IsBlankBeside v.first v.past) (sym put) (blank-glyphs a w v text style link xs fits (joined-wider a (a + length text) w v joins) old.blank))
 
-  pub kept-marked : (w v mark p : ℕ) → 0 < p → p ≤ n → v ≡ max w p → w ≤ n → IsBlankFrom w xs → new ≡ marked_before mark p xs → Kept n v new
-  kept-marked w v mark p some inside most less is put = record {
-    long = ap length put ∙ (length-marked mark p xs ∙ long);
-    whole = subst (IsWhole n) (sym put) (whole-marked n mark p xs whole);
-    few = omega (arith, most, less, inside);
-    blank_from = subst (IsBlankFrom v) (sym put) (blank-marked w v mark p xs some (omega (arith, most)) (omega (arith, most)) is);
-  }
+pub kept-erased : (n a e : ℕ) (w v : Written) (style : Style) (xs first second new : List Cell) → Kept n w xs → a ≤ e → e ≤ n → first ≡ cut e xs → second ≡ cut a first
+    → new ≡ within a e (erased (blank style)) second → length new ≡ length second → v.past ≤ length second → IsBlankBeside v.first v.past new → Kept n v new
+kept-erased n a e w v style xs first second new old order inside one two put same few is =
+    let all : new ≡ change a e (erased (blank style)) xs = put ∙ ap (within a e (erased (blank style))) (two ∙ ap (cut a) one) in
+    let many : length second ≡ n = ap length two ∙ (length-cut a first ∙ (ap length one ∙ (length-cut e xs ∙ old.long))) in
+    record {
+      long = same ∙ many;
+      whole = subst (IsWhole n) (sym all) (whole-erased n a e (blank style) xs order (omega (arith, inside, old.long)) refl refl old.whole);
+      few = omega (arith, few, many);
+      blank = is;
+    }
 
-  pub kept-going : (on : Bool) (e : ℕ) → e ≡ n → new ≡ going_on on e xs → Kept n e new
-  kept-going on e last put =
-      let many : length new ≡ n = ap length put ∙ (length-going_on on e xs ∙ long) in
-      record {
-        long = many;
-        whole = subst (IsWhole n) (sym put) (whole-going_on n on e xs whole);
-        few = omega (arith, last);
-        blank_from = blank-past e new (omega (arith, many, last));
-      }
-
-pub kept-filled : (n v e : ℕ) (style : Style) (xs new : List Cell) → length xs ≡ n → e ≡ n → new ≡ replicate (length xs) (blank style)
-    → v ≤ n → IsBlankFrom v new → Kept n v new
-kept-filled n v e style xs new long last put few is = record {
+pub kept-filled : (n : ℕ) (v : Written) (style : Style) (xs new : List Cell) → length xs ≡ n → new ≡ replicate (length xs) (blank style)
+    → v.past ≤ n → IsBlankBeside v.first v.past new → Kept n v new
+kept-filled n v style xs new long put few is = record {
   long = ap length put ∙ (length-replicate (length xs) (blank style) ∙ long);
   whole = subst (IsWhole n) (sym put) (whole-new (length xs) n style);
   few = few;
-  blank_from = is;
+  blank = is;
 }
 
-pub new-row : (n : ℕ) (cells : List Cell) → cells ≡ replicate n (blank plain)
-    → (0 ≤ length cells) × IsWhole (length cells) cells × IsBlankFrom 0 cells
-new-row n cells are = (omega arith, subst (IsWhole (length cells)) (sym are) (whole-new n (length cells) plain), subst (IsBlankFrom 0) (sym are) (blank-new n))
+pub new-row : (f n : ℕ) (cells : List Cell) → cells ≡ replicate n (blank plain)
+    → (0 ≤ length cells) × IsWhole (length cells) cells × IsBlankBeside f 0 cells
+new-row f n cells are = (omega arith, subst (IsWhole (length cells)) (sym are) (whole-new n (length cells) plain), subst (IsBlankBeside f 0) (sym are) (blank-new f n))
 
 pub filled : (e : ℕ) (style : Style) (xs new : List Cell) → e ≡ length xs → new ≡ within 0 e (erased (blank style)) xs → new ≡ replicate (length xs) (blank style)
 filled e style xs new last put =
     let first : take (e - 0) (drop 0 xs) ≡ xs = take_all (e - 0) xs (omega (arith, last)) in
     let rest : drop (e - 0) (drop 0 xs) ≡ [] = drop_all (e - 0) xs (omega (arith, last)) in
     put ∙ rw (first, rest) (append-nil (replicate (length xs) (blank style)))
-
-module _ (n v w past : ℕ) (xs ys others new : List Cell) (long : length xs ≡ n) (same : length ys ≡ n) (most : past ≡ max w v) (are : others ≡ ys)
-    (put : new ≡ take past others ++ drop past xs) (less : w ≤ n) (few : v ≤ n) (is : IsBlankFrom w xs) (is_too : IsBlankFrom v ys) where
-  new-is : new ≡ ys
-  new-is =
-      put ∙ (ap (λ l. take past l ++ drop past xs) are
-      ∙ copied-all past w v xs ys (long ∙ sym same) (omega (arith, most)) (omega (arith, most)) (omega (arith, most, less, few, long)) is is_too)
-
-  pub kept-copied : IsWhole (length ys) ys → Kept n v new
-  kept-copied whole = record {
-    long = ap length new-is ∙ same;
-    whole = subst (IsWhole n) (sym new-is) (subst (λ m. IsWhole m ys) same whole);
-    few = few;
-    blank_from = subst (IsBlankFrom v) (sym new-is) is_too;
-  }
-
-  pub became : (old : List Cell) → take n (new ++ drop (length new) old) ≡ ys
-  became old = take_at new (drop (length new) old) n (ap length new-is ∙ same) ∙ new-is
 
 -- a test that two are not equal fails
 pub not-other : (a b : Bool) → not (beq a b) ≡ false → a ≡ b

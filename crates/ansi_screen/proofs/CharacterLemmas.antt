@@ -1,5 +1,5 @@
 -- Cells hold characters alone that may be printed and are shown, whatever calls a screen receives.
-use Rattle.std.proofs.Common.{◌≡◌, ℕ, zero, suc, ◌+◌, ◌-◌, ◌*◌, ◌<◌, ◌≤◌, Bool, true, false, List, [], ◌∷◌, ◌++◌, length, take, drop, set, refl, arith}
+use Rattle.std.proofs.Common.{◌≡◌, ℕ, zero, suc, ◌+◌, ◌-◌, ◌*◌, ◌<◌, ◌≤◌, Bool, true, false, List, [], ◌∷◌, ◌++◌, length, take, drop, set, refl, sym, subst, arith}
 use Rattle.std.specs.Prelude.{⊤, min, nat_lt, nat_le, nat_eq, ◌==◌, ◌&&◌, ◌||◌, not, replicate, slice_index, if◌then◌else◌, Option, None, Some}
 use Rattle.std.specs.Fn.{iterate}
 use Rattle.std.specs.List.{AllByRecursion}
@@ -22,14 +22,19 @@ use Rattle.ansi_screen.specs.declared.function.Setting.TheVariants.{Rendition, S
 use Rattle.ansi_screen.specs.declared.function.Function.{Function}
 use Rattle.ansi_screen.specs.declared.function.Function.TheVariants.{Edits, Moves, Sets, Nothing}
 use Rattle.ansi_screen.specs.Cells.{blank, emptied, with_mark, one_more, is_right, cell_at, marked_before, going_on, cut, within, change, erased, moved_back, moved_on}
-use Rattle.ansi_screen.specs.Display.{Display, here, row_start, row_end, row_cells, fresh, renewed}
+use Rattle.ansi_screen.specs.Display.{Display, here, row_start, row_end, row_cells, fresh}
 use Rattle.ansi_screen.specs.Moves.{to_row, to_column, settled, tabbed, tabbed_back, with_stop}
-use Rattle.ansi_screen.specs.Edits.{with_cells, space, row_going_on, erased_cells, erased_part, erased_display, erased_line, erased_characters, deleted_characters, inserted_characters, rows_up, rows_down, is_in_margins, inserted_lines, deleted_lines, index, reverse_index, row_above_ended, erases_from_row, erases_first}
+use Rattle.ansi_screen.specs.Edits.{scrolled_up, kept_by_scroll, kept_by_erase, renewed, with_cells, space, row_going_on, erased_cells, erased_part, erased_display, erased_line, erased_characters, deleted_characters, inserted_characters, rows_up, rows_down, is_in_margins, inserted_lines, deleted_lines, index, reverse_index, row_above_ended, erases_from_row, erases_first}
 use Rattle.ansi_screen.specs.Widths.{is_shown, columns}
 use Rattle.ansi_screen.specs.Print.{glyph, wrapped, with_room, with_glyph, put, marked, shown, line_drawing, drawn, draws, printed, printed_again}
 use Rattle.ansi_screen.specs.Modes.{with_charset, restored, with_origin, with_margins, to_alternate, to_main, with_alternate, softly_reset, with_private_mode, with_mode, with_modes, first_field}
 use Rattle.ansi_screen.specs.After.{State, function_of, first_of, second_of, is_bare, count, is_known, edited, moved, set as set_by, controlled, sequenced, executed, escaped, designated, repeated, repeatable, is_repeat, after, after_all}
-use Rattle.ansi_screen.specs.Leaving.{swapped, main_screen, is_wrapping, leaving, before_escape, before_scroll, first_rows, rows_left, all_left}
+use Rattle.ansi_screen.specs.Edits.{swapped, main_screen}
+use Rattle.ansi_screen.specs.Text.{first_rows}
+use Rattle.ansi_screen.specs.Laws.{is_wrapping}
+use Rattle.ansi_screen.specs.Leaving.{rows_left, all_left}
+use Rattle.ansi_screen.proofs.LeavingTable.{leaving, before_escape, before_leaving}
+use Rattle.ansi_screen.proofs.LeftLemmas.{rows_left-is}
 
 -- a character that may be printed and is shown; such marks, cells and displays
 abbrev pub IsGood : ℕ → Type 0
@@ -143,9 +148,9 @@ good-glyph : (n c : ℕ) (style : Style) (link : ℕ) (t : Bool) → nat_eq n 2 
 good-glyph n c style link true is good = rw is ((good, tt), ((good-space, tt), tt))
 good-glyph n c style link false is good = rw is ((good, tt), tt)
 
-pub all-append : (xs ys : List (List Cell)) → AllByRecursion AreGood xs → AllByRecursion AreGood ys → AllByRecursion AreGood (xs ++ ys)
-all-append [] ys are others = others
-all-append (x ∷ xs) ys are others = (are.0, all-append xs ys are.1 others)
+pub all-append : {A : Type 0} (P : A → Type 0) (xs ys : List A) → AllByRecursion P xs → AllByRecursion P ys → AllByRecursion P (xs ++ ys)
+all-append P [] ys are others = others
+all-append P (x ∷ xs) ys are others = (are.0, all-append P xs ys are.1 others)
 
 -- displays
 good-if : (t : Bool) (a b : Display) → HasGood a → HasGood b → HasGood (if t then a else b)
@@ -186,7 +191,7 @@ good-rows_down n first last d s =
 
 good-index : (d : Display) → HasGood d → HasGood (index d)
 unfolding index
-good-index d s = good-if (d.cursor.row + 1 == d.bottom) (rows_up 1 d.top d.bottom d) (to_row (d.cursor.row + 1) d) (good-rows_up 1 d.top d.bottom d s) s
+good-index d s = good-if (d.cursor.row + 1 == d.bottom) (scrolled_up 1 d) (to_row (d.cursor.row + 1) d) (good-rows_up 1 d.top d.bottom (record d { history = kept_by_scroll 1 d }) s) s
 
 good-reverse : (d : Display) → HasGood d → HasGood (reverse_index d)
 unfolding reverse_index
@@ -217,7 +222,8 @@ unfolding edited erased_display erased_line erased_characters inserted_lines del
 good-edited InsertCharacters n d s = good-inserted (count n) d s
 good-edited EraseInDisplay n d s =
     let begun : Bool = erases_from_row n d in
-    good-part n 0 (length d.cells) (row_above_ended begun d) (good-row_above begun d s)
+    let left : Display = record d { history = kept_by_erase n d } in
+    good-part n 0 (length d.cells) (row_above_ended begun left) (good-row_above begun left s)
 good-edited EraseInLine n d s =
     let begun : Bool = erases_first n d in
     good-part n (row_start d) (row_end d) (row_above_ended begun d) (good-row_above begun d s)
@@ -383,7 +389,7 @@ good-settings Rendition groups d s = s
 good-settings SetModes groups d s = good-modes (with_mode true) (good-mode true) groups d s
 good-settings ResetModes groups d s = good-modes (with_mode false) (good-mode false) groups d s
 good-settings Margins groups d s = good-margins (first_of groups) (second_of groups) d s
-good-settings ScrollUp groups d s = good-rows_up (count (first_of groups)) d.top d.bottom d s
+good-settings ScrollUp groups d s = good-rows_up (count (first_of groups)) d.top d.bottom (record d { history = kept_by_scroll (count (first_of groups)) d }) s
 good-settings ScrollDown groups d s = good-rows_down (count (first_of groups)) d.top d.bottom d s
 good-settings ForwardTab groups d s = good-times tabbed good-tabbed (min (count (first_of groups)) d.width) d s
 good-settings ClearStops groups d s =
@@ -478,7 +484,7 @@ good-after_all (call ∷ calls) s are good = good-after_all calls (after call s)
 pub good-first_rows : (n : ℕ) (d : Display) → HasGood d → AllByRecursion AreGood (first_rows n d)
 good-first_rows zero d s = tt
 good-first_rows (suc n) d s =
-    all-append (first_rows n d) (row_cells n d ∷ []) (good-first_rows n d s)
+    all-append AreGood (first_rows n d) (row_cells n d ∷ []) (good-first_rows n d s)
     (good-take d.width (drop (n * d.width) d.cells) (good-drop (n * d.width) d.cells s.0), tt)
 
 marked-good : (t : Bool) (d : Display) → HasGood d → HasGood (if t then row_going_on true d else d)
@@ -493,20 +499,21 @@ unfolding before_escape
 good-before_escape [] final d s = good-if (final == 0x63) (main_screen d) d (good-main d s) s
 good-before_escape (mark ∷ marks) final d s = s
 
-good-before_scroll : (call : Call) (d : Display) → HasGood d → HasGood (before_scroll call d)
-good-before_scroll (print c) d s = marked-good (is_wrapping c d) d s
-good-before_scroll (execute byte) d s = s
-good-before_scroll (csi_dispatch groups intermediates ignore final) d s = s
-good-before_scroll (esc_dispatch intermediates ignore final) d s =
+good-before_leaving : (call : Call) (d : Display) → HasGood d → HasGood (before_leaving call d)
+good-before_leaving (print c) d s = marked-good (is_wrapping c d) d s
+good-before_leaving (execute byte) d s = s
+good-before_leaving (csi_dispatch groups intermediates ignore final) d s = s
+good-before_leaving (esc_dispatch intermediates ignore final) d s =
     good-if ignore d (before_escape intermediates final d) s (good-before_escape intermediates final d s)
-good-before_scroll (hook groups intermediates ignore final) d s = s
-good-before_scroll (put_byte byte) d s = s
-good-before_scroll unhook d s = s
-good-before_scroll (osc_dispatch parts bell) d s = s
+good-before_leaving (hook groups intermediates ignore final) d s = s
+good-before_leaving (put_byte byte) d s = s
+good-before_leaving unhook d s = s
+good-before_leaving (osc_dispatch parts bell) d s = s
 
 pub good-left : (calls : List Call) (s : State) → AllByRecursion PrintsCharacter calls → IsGoodState s → AllByRecursion AreGood (all_left calls s)
 good-left [] s are good = tt
 good-left (call ∷ calls) s are good =
-    all-append (rows_left call s.display) (all_left calls (after call s))
-    (good-first_rows (leaving call s.display) (before_scroll call s.display) (good-before_scroll call s.display good.display))
+    all-append AreGood (rows_left call s) (all_left calls (after call s))
+    (subst (λ rows. AllByRecursion AreGood rows) (sym (rows_left-is call s))
+    (good-first_rows (leaving call s.display) (before_leaving call s.display) (good-before_leaving call s.display good.display)))
     (good-left calls (after call s) are.1 (good-after call s are.0 good))

@@ -15,9 +15,9 @@ use Rattle.ansi_screen.specs.declared.function.Setting.TheVariants.{Rendition, S
 use Rattle.ansi_screen.specs.declared.function.Function.{Function}
 use Rattle.ansi_screen.specs.declared.function.Function.TheVariants.{Edits, Moves, Sets, Nothing}
 use Rattle.ansi_screen.specs.Cells.{blank}
-use Rattle.ansi_screen.specs.Display.{Display, fresh, renewed}
+use Rattle.ansi_screen.specs.Display.{Display, fresh}
 use Rattle.ansi_screen.specs.Moves.{to_column, settled, to_position, tabbed, tabbed_back, with_stop}
-use Rattle.ansi_screen.specs.Edits.{space, index, reverse_index}
+use Rattle.ansi_screen.specs.Edits.{kept_by_scroll, renewed, space, index, reverse_index}
 use Rattle.ansi_screen.specs.Widths.{is_shown, columns}
 use Rattle.ansi_screen.specs.Print.{line_drawing, shown, drawn, draws, printed, printed_again}
 use Rattle.ansi_screen.specs.Modes.{saving, shifted, with_charset, restored, with_origin, with_margins, to_alternate, to_main, with_alternate, softly_reset, with_private_mode, with_mode, with_modes, first_field}
@@ -155,7 +155,7 @@ holds-set Rendition groups d s = (s.0, s.1, selected-colors groups d.cursor.styl
 holds-set SetModes groups d s = holds-modes (with_mode true) (holds-mode true) groups d s
 holds-set ResetModes groups d s = holds-modes (with_mode false) (holds-mode false) groups d s
 holds-set Margins groups d s = holds-margins (first_of groups) (second_of groups) d s
-holds-set ScrollUp groups d s = holds-rows_up (count (first_of groups)) d.top d.bottom d s
+holds-set ScrollUp groups d s = holds-rows_up (count (first_of groups)) d.top d.bottom (record d { history = kept_by_scroll (count (first_of groups)) d }) s
 holds-set ScrollDown groups d s = holds-rows_down (count (first_of groups)) d.top d.bottom d s
 holds-set ForwardTab groups d s = holds-times tabbed holds-tabbed (min (count (first_of groups)) d.width) d s
 holds-set ClearStops groups d s =

@@ -17,7 +17,7 @@ use Rattle.ansi_screen.specs.declared.function.Edit.TheVariants.{InsertCharacter
 use Rattle.ansi_screen.specs.Cells.{blank, emptied, with_mark, one_more, is_right, cell_at, marked_before, going_on, cut, within, change, erased, moved_back, moved_on}
 use Rattle.ansi_screen.specs.Display.{Display, here, row_start, row_end}
 use Rattle.ansi_screen.specs.Moves.{to_row, to_column, settled}
-use Rattle.ansi_screen.specs.Edits.{with_cells, space, row_going_on, erased_cells, erased_part, erased_display, erased_line, erased_characters, deleted_characters, inserted_characters, rows_up, rows_down, is_in_margins, inserted_lines, deleted_lines, index, reverse_index, row_above_ended, erases_from_row, erases_first}
+use Rattle.ansi_screen.specs.Edits.{scrolled_up, kept_by_scroll, kept_by_erase, with_cells, space, row_going_on, erased_cells, erased_part, erased_display, erased_line, erased_characters, deleted_characters, inserted_characters, rows_up, rows_down, is_in_margins, inserted_lines, deleted_lines, index, reverse_index, row_above_ended, erases_from_row, erases_first}
 use Rattle.ansi_screen.specs.Widths.{is_shown, columns}
 use Rattle.ansi_screen.specs.Print.{glyph, wrapped, with_room, with_glyph, put, marked, shown}
 use Rattle.ansi_screen.specs.After.{edited, count}
@@ -221,7 +221,7 @@ holds-rows_down n first last d s =
 
 pub holds-index : (d : Display) → Holds d → Holds (index d)
 unfolding index
-holds-index d s = holds-if (d.cursor.row + 1 == d.bottom) (rows_up 1 d.top d.bottom d) (to_row (d.cursor.row + 1) d) (holds-rows_up 1 d.top d.bottom d s) s
+holds-index d s = holds-if (d.cursor.row + 1 == d.bottom) (scrolled_up 1 d) (to_row (d.cursor.row + 1) d) (holds-rows_up 1 d.top d.bottom (record d { history = kept_by_scroll 1 d }) s) s
 
 pub holds-reverse : (d : Display) → Holds d → Holds (reverse_index d)
 unfolding reverse_index
@@ -253,7 +253,8 @@ unfolding edited erased_display erased_line erased_characters inserted_lines del
 holds-edited InsertCharacters n d s = holds-inserted (count n) d s
 holds-edited EraseInDisplay n d s =
     let begun : Bool = erases_from_row n d in
-    holds-part n 0 (length d.cells) (row_above_ended begun d) (holds-row_above begun d s)
+    let left : Display = record d { history = kept_by_erase n d } in
+    holds-part n 0 (length d.cells) (row_above_ended begun left) (holds-row_above begun left s)
 holds-edited EraseInLine n d s =
     let begun : Bool = erases_first n d in
     holds-part n (row_start d) (row_end d) (row_above_ended begun d) (holds-row_above begun d s)

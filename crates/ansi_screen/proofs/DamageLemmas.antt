@@ -1,6 +1,6 @@
 -- What an edit can change is noted.
 use Rattle.std.proofs.Common.{◌≡◌, ◌≢◌, ◌⊎◌, inl, inr, ℕ, suc, ◌+◌, ◌-◌, ◌*◌, ◌<◌, ◌≤◌, Bool, true, false, ◌&&◌, List, ◌++◌, length, take, drop, set, refl, ap, sym, ◌∙◌, subst, arith}
-use Rattle.std.specs.Prelude.{min, nat_lt, replicate, slice_set}
+use Rattle.std.specs.Prelude.{Option, None, Some, min, nat_lt, replicate, slice_set}
 use Rattle.std.proofs.lemmas.List.{get_or-take, get_or-drop, get_or-set_same, get_or-set_other, length-set, length-replicate, length-append, length-take-le, length-drop, length-map, same_lists, get_or_default, get_or-replicate, take-replicate, drop-replicate, replicate-append-replicate, places}
 use Rattle.std.proofs.lemmas.Bool.{cases_Bool}
 use Rattle.std.proofs.Math.Nat.{suc-mul, mul-le-mul_right}
@@ -15,9 +15,11 @@ use Rattle.ansi_screen.specs.Print.{glyph}
 use Rattle.ansi_screen.specs.Runs.{glyphs, with_glyphs}
 use Rattle.ansi_screen.specs.Edits.{with_cells}
 use Rattle.ansi_screen.specs.Display.{Display, IsSized, most_columns}
-use Rattle.ansi_screen.specs.Damage.{Noted, no_span, whole_span, span_at, joined, IsOutside, IsDisplay, AreEmptyBeside}
+use Rattle.ansi_screen.specs.Damage.{Noted, HasHistory, no_span, whole_span, span_at, joined, IsOutside, IsDisplay, AreEmptyBeside}
 use Rattle.ansi_screen.specs.Grid.{Grid, with_list}
+use Rattle.ansi_screen.specs.History.{Kept, with_left}
 use Rattle.ansi_screen.specs.Reachable.{RowsBegin}
+use Rattle.ansi_screen.proofs.HistoryLemmas.{kept-columns}
 use Rattle.ansi_screen.proofs.EditLemmas.{same-erased, same-deleted}
 use Rattle.ansi_screen.proofs.PairLemmas.{length-cut, length-run, length-back, length-on, clear-cut_other}
 use Rattle.ansi_screen.proofs.RunLemmas.{put-run}
@@ -398,6 +400,14 @@ module _ (width height first past : ℕ) (spans : List Span) (cells : List Cell)
       → Writes width height spans (with_rows first past spans) cells (within (first * width) (past * width) (erased gap) cells)
   writes-blanks gap = writes-within (erased gap) (length-replicate (length (take (past * width - first * width) (drop (first * width) cells))) gap ∙ run-long)
 
+-- The first row begins with the first cell.
+pub from-first : (width height past : ℕ) (spans news : List Span) (run : List Cell → List Cell) (cells : List Cell)
+    → Writes width height spans news cells (within (0 * width) (past * width) run cells)
+    → Writes width height spans news cells (within 0 (past * width) run cells)
+from-first width height past spans news run cells writes =
+    let none : 0 * width ≡ 0 = omega arith in
+    subst (λ n. Writes width height spans news cells (within n (past * width) run cells)) none writes
+
 -- All cells are erased.
 pub writes-all : (width height rows : ℕ) (spans : List Span) (cells : List Cell) (gap : Cell) → width ≤ most_columns → length cells ≡ height * width → rows ≡ height
     → length spans ≡ height → RowsBegin width cells
@@ -419,6 +429,7 @@ wrote noted behind d cells was framed writes =
     let s : IsSized d = was.sized in
     record {
       sized = record { two_columns = s.two_columns; columns_limit = s.columns_limit; a_row = s.a_row; rows_limit = s.rows_limit; cells_fill = writes.long ∙ s.cells_fill; hidden_fill = s.hidden_fill; tabs_fill = s.tabs_fill; cursor_row = s.cursor_row; cursor_column = s.cursor_column; saved_row = s.saved_row; saved_column = s.saved_column; hidden_row = s.hidden_row; hidden_column = s.hidden_column; margins = s.margins; margins_within = s.margins_within };
+      kept = was.kept;
       long = writes.spans ∙ was.long;
       damage = record {
         long = writes.long ∙ was.damage.long;
@@ -463,6 +474,28 @@ in-column noted column d inside was =
     let s : IsSized d = was.sized in
     record {
       sized = record { two_columns = s.two_columns; columns_limit = s.columns_limit; a_row = s.a_row; rows_limit = s.rows_limit; cells_fill = s.cells_fill; hidden_fill = s.hidden_fill; tabs_fill = s.tabs_fill; cursor_row = s.cursor_row; cursor_column = inside; saved_row = s.saved_row; saved_column = s.saved_column; hidden_row = s.hidden_row; hidden_column = s.hidden_column; margins = s.margins; margins_within = s.margins_within };
+      kept = was.kept;
+      long = was.long;
+      damage = was.damage;
+    }
+
+-- rows of another width, which is the same
+pub kept-width : (width other : ℕ) (history : Option Kept) → other ≡ width → HasHistory width history → HasHistory other history
+kept-width width other history same kept = subst (λ n. HasHistory n history) (sym same) kept
+
+-- What is kept of rows that left has the columns that it had.
+pub left-history : (width : ℕ) (rows : List (List Cell)) (history : Option Kept) → HasHistory width history → HasHistory width (with_left rows history)
+left-history width rows None has = has
+left-history width rows (Some kept) has = kept-columns rows kept ∙ has
+
+-- other rows that left are kept
+keeping-others : (noted : Noted) (history : Option Kept) (d : Display) → HasHistory d.width history → IsDisplay noted d
+    → IsDisplay noted (record d { history = history })
+keeping-others noted history d has was =
+    let s : IsSized d = was.sized in
+    record {
+      sized = record { two_columns = s.two_columns; columns_limit = s.columns_limit; a_row = s.a_row; rows_limit = s.rows_limit; cells_fill = s.cells_fill; hidden_fill = s.hidden_fill; tabs_fill = s.tabs_fill; cursor_row = s.cursor_row; cursor_column = s.cursor_column; saved_row = s.saved_row; saved_column = s.saved_column; hidden_row = s.hidden_row; hidden_column = s.hidden_column; margins = s.margins; margins_within = s.margins_within };
+      kept = has;
       long = was.long;
       damage = was.damage;
     }
@@ -501,11 +534,24 @@ module _ (noted behind : Noted) (g new hidden : Grid) (v d : Display) (is : v �
       let fits : column ≤ new.width = subst (λ (f : Grid). column ≤ f.width) (sym now) inside in
       (stays.0, stays.1, in-column behind column (on_grid new v) fits stays.2)
 
+  -- and rows left
+  pub leaves-rows : (past : ℕ) (rows : List (List Cell)) (history : Option Kept)
+      → behind ≡ record noted { spans = take 0 noted.spans ++ (replicate (past - 0) whole_span ++ drop past noted.spans) }
+      → Writes g.width g.height noted.spans (with_rows 0 past noted.spans) g.cells cells → history ≡ with_left rows v.history
+      → (hidden.width ≡ new.width) × (hidden.height ≡ new.height) × IsDisplay behind (record (on_grid new v) { history = history })
+  leaves-rows past rows history is_noted writes left =
+      let stays : Stays = edits-rows 0 past is_noted writes in
+      let same : new.width ≡ g.width = ap (λ (f : Grid). f.width) now in
+      let has : HasHistory new.width history =
+      kept-width g.width new.width history same (subst (λ h. HasHistory g.width h) (sym left) (left-history g.width rows v.history was.2.kept)) in
+      (stays.0, stays.1, keeping-others behind history (on_grid new v) has stays.2)
+
 -- Where all is noted, any cells and any frame will do.
 pub all-noted : (rows : ℕ) (behind : Noted) (new : Display) → behind ≡ record { spans = replicate rows whole_span; is_framed = true }
-    → rows ≡ new.height → IsSized new → length new.cells ≡ length new.shown.cells → IsDisplay behind new
-all-noted rows behind new noted high sized same = record {
+    → rows ≡ new.height → IsSized new → HasHistory new.width new.history → length new.cells ≡ length new.shown.cells → IsDisplay behind new
+all-noted rows behind new noted high sized kept same = record {
   sized = sized;
+  kept = kept;
   long = rw noted (length-replicate rows whole_span ∙ high);
   damage = rw (noted, high) (record {
     long = same;

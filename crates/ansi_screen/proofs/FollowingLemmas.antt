@@ -1,6 +1,6 @@
 -- Cells that differ from others in what is noted alone become those, where that is copied.
 use Rattle.std.proofs.Common.{◌≡◌, inl, inr, ℕ, zero, suc, ◌+◌, ◌-◌, ◌*◌, ◌/◌, ◌%◌, ◌<◌, ◌≤◌, Bool, true, false, List, ◌++◌, length, get_or, take, drop, refl, ap, sym, ◌∙◌, subst, arith}
-use Rattle.std.specs.Prelude.{min, nat_lt}
+use Rattle.std.specs.Prelude.{min, max, nat_lt}
 use Rattle.std.proofs.lemmas.List.{same_lists, places, get_or-take, get_or-drop, get_or_default, length-take-le, length-drop, drop_at}
 use Rattle.std.proofs.lemmas.Nat.{div_below, le-div}
 use Rattle.std.proofs.lemmas.Bool.{cases_Bool}
@@ -12,12 +12,12 @@ use Rattle.ansi_screen.specs.declared.damage.Span.{Span}
 use Rattle.ansi_screen.specs.Cells.{blank, cell_at}
 use Rattle.ansi_screen.specs.Damage.{no_span, span_at, IsOutside, KeepsColumns, AreEmptyBeside}
 use Rattle.ansi_screen.specs.Following.{copied}
-use Rattle.ansi_screen.specs.Grid.{IsBlankFrom}
+use Rattle.ansi_screen.specs.Grid.{IsBeside, IsBlankBeside}
 
--- Where a row kept its columns, and from some place on both are blank, other cells than those between are the same.
-module _ (left right past written : ℕ) (cells others : List Cell) (long : length cells ≡ length others) (within : right ≤ length cells)
-    (kept : KeepsColumns left right others cells) (blanks : IsBlankFrom written cells) (others_blank : IsBlankFrom written others)
-    (last : past ≡ min right written) where
+-- Where a row kept its columns, and beside some both are blank, other cells than those between are the same.
+module _ (left right from past first written : ℕ) (cells others : List Cell) (long : length cells ≡ length others) (within : right ≤ length cells)
+    (kept : KeepsColumns left right others cells) (blanks : IsBlankBeside first written cells) (others_blank : IsBlankBeside first written others)
+    (start : from ≡ max left first) (last : past ≡ min right written) where
   in-front : (k : ℕ) (d : Cell) → k < left → get_or cells k d ≡ get_or others k d
   in-front k d before = sym (get_or-take left cells k d before) ∙ (ap (λ l. get_or l k d) kept.front ∙ get_or-take left others k d before)
 
@@ -27,47 +27,53 @@ module _ (left right past written : ℕ) (cells others : List Cell) (long : leng
       subst (λ n. get_or cells n d ≡ get_or others n d) there
       (sym (get_or-drop right cells (k - right) d) ∙ (ap (λ l. get_or l (k - right) d) kept.back ∙ get_or-drop right others (k - right) d))
 
-  at-blanks : (k : ℕ) (d : Cell) → k < length cells → written ≤ k → get_or cells k d ≡ get_or others k d
-  at-blanks k d inside reached =
-      get_or_default cells k d (blank plain) inside ∙ (blanks k reached ∙ (sym (others_blank k reached)
+  at-blanks : (k : ℕ) (d : Cell) → k < length cells → IsBeside first written k → get_or cells k d ≡ get_or others k d
+  at-blanks k d inside beside =
+      get_or_default cells k d (blank plain) inside ∙ (blanks k beside ∙ (sym (others_blank k beside)
       ∙ get_or_default others k (blank plain) d (omega (arith, long))))
+
+  before-same : (k : ℕ) (d : Cell) → k < length cells → k < from → get_or cells k d ≡ get_or others k d
+  before-same k d inside before = elim (cases_Bool (nat_lt k left)) [
+    | inl is ↦ in-front k d (ltb-true k left is)
+    | inr is ↦ at-blanks k d inside (inl (omega (arith, start, before, ltb-false k left is)))
+  ]
 
   past-same : (k : ℕ) (d : Cell) → k < length cells → past ≤ k → get_or cells k d ≡ get_or others k d
   past-same k d inside reached = elim (cases_Bool (nat_lt k right)) [
-    | inl is ↦ at-blanks k d inside (omega (arith, last, ltb-true k right is))
+    | inl is ↦ at-blanks k d inside (inr (omega (arith, last, ltb-true k right is)))
     | inr is ↦ at-back k d (ltb-false k right is)
   ]
 
   abbrev between : List Cell
-  between = take left cells ++ (take (past - left) (drop left others) ++ drop (past - left) (drop left cells))
+  between = take from cells ++ (take (past - from) (drop from others) ++ drop (past - from) (drop from cells))
 
-  between-front : (k : ℕ) (d : Cell) → left ≤ past → k < left → get_or between k d ≡ get_or cells k d
+  between-front : (k : ℕ) (d : Cell) → from ≤ past → k < from → get_or between k d ≡ get_or cells k d
   between-front k d some before = let few : past ≤ length cells = omega (arith, last) in grind (arith, places)
 
-  between-among : (k : ℕ) (d : Cell) → left ≤ k → k < past → get_or between k d ≡ get_or others k d
-  between-among k d from to = let few : past ≤ length others = omega (arith, last, long) in grind (arith, places)
+  between-among : (k : ℕ) (d : Cell) → from ≤ k → k < past → get_or between k d ≡ get_or others k d
+  between-among k d reached to = let few : past ≤ length others = omega (arith, last, long) in grind (arith, places)
 
-  between-back : (k : ℕ) (d : Cell) → left ≤ past → past ≤ k → get_or between k d ≡ get_or cells k d
+  between-back : (k : ℕ) (d : Cell) → from ≤ past → past ≤ k → get_or between k d ≡ get_or cells k d
   between-back k d some reached = let few : past ≤ length cells = omega (arith, last) in let few_too : past ≤ length others = omega (arith, last, long) in grind (arith, places)
 
-  between-at : (k : ℕ) (d : Cell) (t u : Bool) → nat_lt k left ≡ t → nat_lt k past ≡ u → left ≤ past → k < length cells → get_or between k d ≡ get_or others k d
-  between-at k d true u before is some inside = let less : k < left = ltb-true k left before in between-front k d some less ∙ in-front k d less
-  between-at k d false true before is some inside = between-among k d (ltb-false k left before) (ltb-true k past is)
+  between-at : (k : ℕ) (d : Cell) (t u : Bool) → nat_lt k from ≡ t → nat_lt k past ≡ u → from ≤ past → k < length cells → get_or between k d ≡ get_or others k d
+  between-at k d true u before is some inside = let less : k < from = ltb-true k from before in between-front k d some less ∙ before-same k d inside less
+  between-at k d false true before is some inside = between-among k d (ltb-false k from before) (ltb-true k past is)
   between-at k d false false before is some inside =
       let reached : past ≤ k = ltb-false k past is in between-back k d some reached ∙ past-same k d inside reached
 
-  between-long : left ≤ past → length between ≡ length cells
+  between-long : from ≤ past → length between ≡ length cells
   between-long some = let few : past ≤ length cells = omega (arith, last) in let few_too : past ≤ length others = omega (arith, last, long) in grind (arith, places)
 
-  pub copied-between : left ≤ past → between ≡ others
+  pub copied-between : from ≤ past → between ≡ others
   copied-between some =
       same_lists between others (between-long some ∙ long) (λ k d h. between-at k d _ _ refl refl some (omega (arith, between-long some, h)))
 
   -- the same, where nothing is between
-  pub copied-nothing : past ≤ left → cells ≡ others
-  copied-nothing none = same_lists cells others long (λ k d h. elim (cases_Bool (nat_lt k left)) [
-    | inl is ↦ in-front k d (ltb-true k left is)
-    | inr is ↦ past-same k d h (omega (arith, none, ltb-false k left is))
+  pub copied-nothing : past ≤ from → cells ≡ others
+  copied-nothing none = same_lists cells others long (λ k d h. elim (cases_Bool (nat_lt k from)) [
+    | inl is ↦ before-same k d h (ltb-true k from is)
+    | inr is ↦ past-same k d h (omega (arith, none, ltb-false k from is))
   ])
 
 -- no column is noted where no span is

@@ -89,7 +89,7 @@ number-at n zero (q ∷ order) d are inside = are.0
 number-at n (suc r) (q ∷ order) d are inside = number-at n r order d are.1 (omega (arith, inside))
 
 -- each row of some
-rows-at : (w r : ℕ) (rows : List (List Cell)) (d : List Cell) → AreRows w rows → r < length rows
+pub rows-at : (w r : ℕ) (rows : List (List Cell)) (d : List Cell) → AreRows w rows → r < length rows
     → (length (get_or rows r d) ≡ w) × IsWhole w (get_or rows r d)
 rows-at w r [] d are inside = absurd (omega (arith, inside))
 rows-at w zero (row ∷ rows) d are inside = are.0

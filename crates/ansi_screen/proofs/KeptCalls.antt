@@ -18,10 +18,12 @@ use Rattle.ansi_screen.specs.declared.function.Setting.TheVariants.{Rendition, S
 use Rattle.ansi_screen.specs.declared.function.Function.{Function}
 use Rattle.ansi_screen.specs.declared.function.Function.TheVariants.{Edits, Moves, Sets, Nothing}
 use Rattle.ansi_screen.specs.Cells.{blank, is_right, marked_before}
-use Rattle.ansi_screen.specs.Display.{Display, Picture, IsSized, here, row_end, stops, blanks, fresh, renewed, most_columns, most_rows}
+use Rattle.ansi_screen.specs.Display.{Display, Picture, IsSized, here, row_end, stops, blanks, fresh, most_columns, most_rows}
 use Rattle.ansi_screen.specs.Links.{commanded}
 use Rattle.ansi_screen.specs.Moves.{to_row, to_column, settled, up, down, line_of, to_position, tabbed, tabbed_back, with_stop}
-use Rattle.ansi_screen.specs.Edits.{space, with_cells, row_going_on, inserted_characters, index, reverse_index}
+use Rattle.ansi_screen.specs.History.{with_left}
+use Rattle.ansi_screen.specs.Text.{printed_rows}
+use Rattle.ansi_screen.specs.Edits.{renewed, main_screen, space, with_cells, row_going_on, inserted_characters, index, reverse_index}
 use Rattle.ansi_screen.specs.Widths.{is_shown, columns, is_among}
 use Rattle.ansi_screen.specs.Ranges.{no_column, two_columns}
 use Rattle.ansi_screen.specs.Print.{wrapped, with_room, with_glyph, put, marked, shown, drawn, draws, printed, printed_again}
@@ -30,7 +32,7 @@ use Rattle.ansi_screen.specs.After.{State, function_of, first_of, second_of, is_
 use Rattle.ansi_screen.specs.Reachable.{is_left, IsWhole, IsScreen}
 use Rattle.ansi_screen.proofs.PairLemmas.{paired-replicate, right-replicate}
 use Rattle.ansi_screen.proofs.WholeLemmas.{whole-glyph, length-put, whole-marked, length-marked}
-use Rattle.ansi_screen.proofs.KeptLemmas.{kept-if, kept-place, kept-cells, kept-column, kept-settled, settled-column, kept-up, kept-down, kept-line, kept-position, kept-tabbed, kept-tabbed_back, kept-times, kept-stop, kept-cleared, row_end-inside, kept-erased_display, kept-erased_line, kept-erased_characters, kept-going_on, kept-deleted, kept-inserted, kept-scrolled_up, kept-scrolled_down, kept-inserted_lines, kept-deleted_lines, kept-index, kept-reverse_index}
+use Rattle.ansi_screen.proofs.KeptLemmas.{kept-history, kept-if, kept-place, kept-cells, kept-column, kept-settled, settled-column, kept-up, kept-down, kept-line, kept-position, kept-tabbed, kept-tabbed_back, kept-times, kept-stop, kept-cleared, row_end-inside, kept-erased_display, kept-erased_line, kept-erased_characters, kept-going_on, kept-deleted, kept-inserted, kept-scrolled_up, kept-scrolled_down, kept-inserted_lines, kept-deleted_lines, kept-index, kept-reverse_index}
 
 -- printing
 kept-wrapped : (n : ℕ) (d : Display) → IsScreen d → IsScreen (wrapped n d)
@@ -342,8 +344,9 @@ kept-escaped final d s =
     (λ f. kept-if (final == 0x48) (with_stop true d) sixth (λ is. kept-stop true d s)
     (λ g. kept-if (final == 0x4D) (reverse_index place) seventh (λ is. kept-reverse_index place (kept-settled d s))
     (λ h. kept-if (final == 0x63) new d
-    (λ is. kept-picture d.shown (fresh d.width d.height)
-    (new-screen d.width d.height s.sized.two_columns s.sized.columns_limit s.sized.a_row s.sized.rows_limit)) (λ none. s)))))))
+    (λ is. kept-history (with_left (printed_rows (main_screen d)) d.history) (record (fresh d.width d.height) { shown = d.shown })
+    (kept-picture d.shown (fresh d.width d.height)
+    (new-screen d.width d.height s.sized.two_columns s.sized.columns_limit s.sized.a_row s.sized.rows_limit))) (λ none. s)))))))
 
 kept-designated : (intermediates : List ℕ) (final : ℕ) (d : Display) → IsScreen d → IsScreen (designated intermediates final d)
 unfolding designated

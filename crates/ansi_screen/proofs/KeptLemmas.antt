@@ -1,7 +1,7 @@
 -- Whatever a call does to a screen, it stays one: within its sizes, halves in pairs, and in origin
 -- mode with the cursor within the margins.
 use Rattle.std.proofs.Common.{◌≡◌, ℕ, zero, suc, ◌+◌, ◌-◌, ◌*◌, ◌<◌, ◌≤◌, Bool, true, false, List, length, drop, set, refl, ◌∙◌, arith}
-use Rattle.std.specs.Prelude.{min, max, nat_lt, nat_le, ◌==◌, replicate, if◌then◌else◌, ◌&&◌}
+use Rattle.std.specs.Prelude.{Option, min, max, nat_lt, nat_le, ◌==◌, replicate, if◌then◌else◌, ◌&&◌}
 use Rattle.std.specs.Fn.{iterate}
 use Rattle.std.proofs.lemmas.List.{length-set, length-replicate}
 use Rattle.std.proofs.lemmas.Bool.{and_parts}
@@ -10,9 +10,10 @@ use borrow.Author.Tests.{ltb-true, ltb-false, eqb-false}
 use Rattle.ansi_screen.specs.declared.cell.Cell.{Cell}
 use Rattle.ansi_screen.specs.declared.place.Place.{Place}
 use Rattle.ansi_screen.specs.Cells.{change, erased, going_on}
-use Rattle.ansi_screen.specs.Display.{Display, here, row_start, row_end, stops}
+use Rattle.ansi_screen.specs.Display.{Display, IsSized, here, row_start, row_end, stops}
+use Rattle.ansi_screen.specs.History.{Kept}
 use Rattle.ansi_screen.specs.Moves.{to_row, to_column, settled, up, down, to_line, to_position, tabbed, tabbed_back, with_stop, cleared_stops, column_of, before_stop}
-use Rattle.ansi_screen.specs.Edits.{with_cells, space, row_going_on, erased_cells, erased_part, erased_display, erased_line, erased_characters, deleted_characters, inserted_characters, rows_up, rows_down, scrolled_up, scrolled_down, is_in_margins, inserted_lines, deleted_lines, index, reverse_index, row_above_ended, erases_from_row, erases_first}
+use Rattle.ansi_screen.specs.Edits.{with_cells, space, row_going_on, erased_cells, erased_part, erased_display, erased_line, erased_characters, deleted_characters, inserted_characters, rows_up, rows_down, scrolled_up, scrolled_down, is_in_margins, inserted_lines, deleted_lines, index, reverse_index, row_above_ended, erases_from_row, erases_first, kept_by_erase, kept_by_scroll}
 use Rattle.ansi_screen.specs.Reachable.{IsWhole, IsScreen}
 use Rattle.ansi_screen.proofs.PairLemmas.{whole-erased}
 use Rattle.ansi_screen.proofs.WholeLemmas.{whole-deleted, length-deleted, whole-inserted, length-inserted, whole-rows_up, length-rows_up, whole-rows_down, length-rows_down, length-erased, whole-going_on, length-going_on}
@@ -166,13 +167,23 @@ kept-above_at false d s = s
 pub kept-row_above : (begun : Bool) (d : Display) → IsScreen d → IsScreen (row_above_ended begun d)
 kept-row_above begun d s = kept-above_at (begun && nat_lt 0 d.cursor.row) d s
 
+-- what is kept of rows that left
+pub kept-history : (history : Option Kept) (d : Display) → IsScreen d → IsScreen (record d { history = history })
+kept-history history d s = record {
+  sized = (let is : IsSized d = s.sized in record { two_columns = is.two_columns; columns_limit = is.columns_limit; a_row = is.a_row; rows_limit = is.rows_limit; cells_fill = is.cells_fill; hidden_fill = is.hidden_fill; tabs_fill = is.tabs_fill; cursor_row = is.cursor_row; cursor_column = is.cursor_column; saved_row = is.saved_row; saved_column = is.saved_column; hidden_row = is.hidden_row; hidden_column = is.hidden_column; margins = is.margins; margins_within = is.margins_within });
+  whole = s.whole;
+  hidden_whole = s.hidden_whole;
+  in_margins = s.in_margins;
+}
+
 pub kept-erased_display : (kind : ℕ) (d : Display) → IsScreen d → d.cursor.column < d.width → IsScreen (erased_display kind d)
 unfolding erased_display
 kept-erased_display kind d s inside =
-    let ended : Display = row_above_ended (erases_from_row kind d) d in
-    let screen : IsScreen ended = kept-row_above (erases_from_row kind d) d s in
+    let left : Display = record d { history = kept_by_erase kind d } in
+    let ended : Display = row_above_ended (erases_from_row kind d) left in
+    let screen : IsScreen ended = kept-row_above (erases_from_row kind d) left (kept-history (kept_by_erase kind d) d s) in
     let end : row_end d ≤ length d.cells = row_end-inside d s in
-    let long : length ended.cells ≡ length d.cells = long-row_above (erases_from_row kind d) d in
+    let long : length ended.cells ≡ length d.cells = long-row_above (erases_from_row kind d) left in
     kept-part kind 0 (length d.cells) ended screen (omega arith) (omega arith) (omega (arith, long))
 
 pub kept-erased_line : (kind : ℕ) (d : Display) → IsScreen d → d.cursor.column < d.width → IsScreen (erased_line kind d)
@@ -240,7 +251,9 @@ kept-rows_down n first last d s order inside =
     (whole-rows_down d.width first last n (space d) d.cells refl refl (omega arith) ordered end s.whole)
 
 pub kept-scrolled_up : (n : ℕ) (d : Display) → IsScreen d → IsScreen (scrolled_up n d)
-kept-scrolled_up n d s = let margins : d.top < d.bottom = s.sized.margins in kept-rows_up n d.top d.bottom d s (omega arith) s.sized.margins_within
+kept-scrolled_up n d s =
+    let margins : d.top < d.bottom = s.sized.margins in
+    kept-rows_up n d.top d.bottom (record d { history = kept_by_scroll n d }) (kept-history (kept_by_scroll n d) d s) (omega arith) s.sized.margins_within
 
 pub kept-scrolled_down : (n : ℕ) (d : Display) → IsScreen d → IsScreen (scrolled_down n d)
 kept-scrolled_down n d s = let margins : d.top < d.bottom = s.sized.margins in kept-rows_down n d.top d.bottom d s (omega arith) s.sized.margins_within

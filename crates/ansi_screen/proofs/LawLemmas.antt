@@ -12,12 +12,14 @@ use Rattle.ansi_screen.specs.declared.function.Move.TheVariants.{Up, Down, Forwa
 use Rattle.ansi_screen.specs.declared.function.Function.{Function}
 use Rattle.ansi_screen.specs.declared.function.Function.TheVariants.{Moves, Nothing}
 use Rattle.ansi_screen.specs.declared.function.Setting.TheVariants.{Rendition}
-use Rattle.ansi_screen.specs.Display.{Display, Picture, fresh, renewed}
+use Rattle.ansi_screen.specs.Edits.{renewed}
+use Rattle.ansi_screen.specs.Display.{Display, Picture, fresh}
 use Rattle.ansi_screen.specs.Modes.{restored}
 use Rattle.ansi_screen.specs.Moves.{settled, tabbed_back}
 use Rattle.ansi_screen.specs.After.{State, function_of, moved, set, controlled, sequenced, escaped, designated, is_repeat, after, after_all, Shows, first_of, second_of, count}
+use Rattle.ansi_screen.specs.Leaving.{unkept}
 use Rattle.ansi_screen.specs.Laws.{with_shown, reset, save, restore, IsMoveOrStyle}
-use Rattle.ansi_screen.proofs.PictureLemmas.{same-after_all}
+use Rattle.ansi_screen.proofs.PictureLemmas.{same-after_all, unkept-after_all}
 
 -- the display with another cursor
 abbrev at_place : Place → Display → Display
@@ -138,13 +140,15 @@ enclosed-restores calls s are absolute =
     ∙ ap (λ (d : Display). at_place d.saved d) begun)))
 
 pub reset-forgets : (calls : List Call) (a b : State) → a.display.width ≡ b.display.width → a.display.height ≡ b.display.height
-    → with_shown b.display.shown (after_all (reset ∷ calls) a) ≡ after_all (reset ∷ calls) b
+    → with_shown b.display.shown (unkept (after_all (reset ∷ calls) a)) ≡ unkept (after_all (reset ∷ calls) b)
 reset-forgets calls a b same_width same_height =
     let p : Picture = b.display.shown in
     let new : ℕ → ℕ → State = λ w h. record { display = record (fresh w h) { shown = p }; last = None } in
-    sym (same-after_all p calls (after reset a))
-    ∙ ap (after_all calls) (ap (with_shown p) (after-reset a) ∙ (ap (λ n. new n a.display.height) same_width
-    ∙ (ap (λ n. new b.display.width n) same_height ∙ sym (after-reset b))))
+    ap (with_shown p) (sym (unkept-after_all calls (after reset a)))
+    ∙ (sym (same-after_all p calls (unkept (after reset a)))
+    ∙ (ap (after_all calls) (ap (λ s. with_shown p (unkept s)) (after-reset a) ∙ (ap (λ n. new n a.display.height) same_width
+    ∙ (ap (λ n. new b.display.width n) same_height ∙ sym (ap unkept (after-reset b)))))
+    ∙ unkept-after_all calls (after reset b)))
 
 pub Shows-only : (bytes : List ℕ) (old first second : State) → Shows old bytes first → Shows old bytes second → first ≡ second
 Shows-only bytes old first second (calls, are, is) (others, are_others, is_other) =

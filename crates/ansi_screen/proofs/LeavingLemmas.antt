@@ -1,23 +1,21 @@
--- Rows that are handed on, one after another; a character before which a row was marked; and RIS, before which the main
--- screen was brought forward.
-use Rattle.std.proofs.Common.{◌≡◌, ℕ, zero, suc, ◌+◌, ◌-◌, ◌≤◌, Bool, true, false, List, [], ◌∷◌, ◌++◌, get_or, set, refl, ap, sym, ◌∙◌, subst, add-one, arith}
-use Rattle.std.specs.Prelude.{nat_lt, ◌==◌, ◌&&◌, not, if◌then◌else◌}
-use Rattle.std.proofs.lemmas.Bool.{and_parts, eqb-true, le-ltb}
-use Rattle.anstyle_parse.specs.Stream.Call.{Call, print, esc_dispatch, Goes}
-use Rattle.ansi_style.specs.Style.{plain}
+-- Rows that are handed on, one after another, and what a call leaves of a screen of which they are taken.
+use Rattle.std.proofs.Common.{◌≡◌, ℕ, ◌+◌, ◌<◌, List, [], ◌∷◌, ◌++◌, length, take, refl, ap, ap₂, sym, ◌∙◌, subst, add-one, append-nil}
+use Rattle.std.specs.Prelude.{None, Some, slice_index_or}
+use Rattle.std.specs.Option.{option_map}
+use Rattle.std.proofs.lemmas.List.{take_more}
+use Rattle.anstyle_parse.specs.Stream.Call.{Call, Goes}
 use Rattle.ansi_screen.specs.declared.cell.Cell.{Cell}
-use Rattle.ansi_screen.specs.declared.leaving.Scrolling.{Scrolling}
-use Rattle.ansi_screen.specs.Cells.{blank, going_on}
-use Rattle.ansi_screen.specs.Display.{Display, row_end, row_cells}
-use Rattle.ansi_screen.specs.Moves.{to_column, settled}
-use Rattle.ansi_screen.specs.Edits.{with_cells, row_going_on, index}
-use Rattle.ansi_screen.specs.Widths.{is_shown, columns}
-use Rattle.ansi_screen.specs.Print.{wrapped, put, shown, drawn, draws, printed}
-use Rattle.std.specs.Prelude.{None}
-use Rattle.ansi_screen.specs.After.{State, escaped, designated, after, after_all, left_to_repeat}
-use Rattle.ansi_screen.specs.Leaving.{swapped, main_screen, leaving, is_wrapping, before_escape, before_scroll, first_rows, rows_left, all_left, TakesRows, screen_of, taker_of, Scrolls, ScrollsAll}
-use Rattle.ansi_screen.proofs.KeptCalls.{columns-few}
-use Rattle.ansi_screen.proofs.RowLemmas.{drawn-if}
+use Rattle.ansi_screen.specs.Display.{Display, IsSized, row_cells}
+use Rattle.ansi_screen.specs.History.{Kept, nothing_kept, kept_after, kept_after_all, with_left}
+use Rattle.ansi_screen.specs.Text.{first_rows, printed_count}
+use Rattle.ansi_screen.specs.After.{State, after, after_all}
+use Rattle.ansi_screen.specs.Leaving.{unkept, kept_rows, rows_left, all_left, HasRoom, with_room_alone, TakesRows, Scrolled, screen_of, taker_of, Scrolls, ScrollsAll}
+use Rattle.ansi_screen.proofs.HistoryLemmas.{kept-columns}
+use Rattle.ansi_screen.proofs.SizeLemmas.{sized-after, sized-after_all, few-leave}
+use Rattle.ansi_screen.proofs.StayLemmas.{used-beside}
+use Rattle.ansi_screen.proofs.PictureLemmas.{unkept-after, unkept-after_all}
+use Rattle.ansi_screen.proofs.LeavingTable.{leaving_rows, with_left-none, history-after, kept-left}
+use Rattle.ansi_screen.proofs.LeftLemmas.{rows_left-is, all_left-unkept, history-after_all}
 
 module _ {R : Type 0} (takes : R → List Cell → R → Type 0) where
   pub takes-append : (rows more : List (List Cell)) (a b c : R) → TakesRows takes a rows b → TakesRows takes b more c
@@ -33,151 +31,87 @@ module _ {R : Type 0} (takes : R → List Cell → R → Type 0) where
       subst (λ k. TakesRows takes a (first_rows k d) c) (sym (add-one n))
       (takes-append (first_rows n d) (row_cells n d ∷ []) a b c first (c, subst (λ l. takes b l c) same second, refl))
 
+  pub takes-kept : (n : ℕ) (rows : List (List Cell)) (row : List Cell) (a b c : R) → n < length rows → row ≡ slice_index_or rows n []
+      → TakesRows takes a (take n rows) b → takes b row c → TakesRows takes a (take (n + 1) rows) c
+  takes-kept n rows row a b c inside same first second =
+      subst (λ l. TakesRows takes a l c) (sym (take_more rows n [] inside))
+      (takes-append (take n rows) (slice_index_or rows n [] ∷ []) a b c first (c, subst (λ l. takes b l c) same second, refl))
+
   -- call by call
-  pub scrolls-all : (calls : List Call) (old new : Scrolling R) → Goes (Scrolls takes) old calls new → ScrollsAll takes old calls new
+  pub scrolls-all : (calls : List Call) (old new : Scrolled R) → Goes (Scrolls takes) old calls new → ScrollsAll takes old calls new
   scrolls-all [] old new same = record { screen = ap screen_of same; taken = ap taker_of same }
   scrolls-all (call ∷ calls) old new (mid, first, others) =
       let rest : ScrollsAll takes mid calls new = scrolls-all calls mid new others in
       record {
         screen = rest.screen ∙ ap (after_all calls) first.screen;
-        taken = takes-append (rows_left call (screen_of old).display) (all_left calls (after call (screen_of old)))
+        taken = takes-append (rows_left call (screen_of old)) (all_left calls (after call (screen_of old)))
             (taker_of old) (taker_of mid) (taker_of new) first.taken
             (subst (λ s. TakesRows takes (taker_of mid) (all_left calls s) (taker_of new)) first.screen rest.taken);
       }
 
--- A row that is marked twice is as one that is marked once,
-set-twice : (cells : List Cell) (i : ℕ)
-    → (let once : List Cell = set cells i (record (get_or cells i (blank plain)) { goes_on = true }) in
-    set once i (record (get_or once i (blank plain)) { goes_on = true }) ≡ once)
-set-twice [] i = refl
-set-twice (x ∷ cells) zero = refl
-set-twice (x ∷ cells) (suc i) = ap (λ l. x ∷ l) (set-twice cells i)
+-- As many rows have something printed, whatever is kept.
+pub unkept-printed : (s : State) → printed_count s.display ≡ printed_count (unkept s).display
+unkept-printed s = sym (used-beside s.display.shown None s.display.height s.display)
 
-going_on-twice : (end : ℕ) (cells : List Cell) → going_on true end (going_on true end cells) ≡ going_on true end cells
-unfolding going_on
-going_on-twice end cells = set-twice cells (end - 1)
+-- What is kept is for as many rows as before.
+pub kept-most : (rows : List (List Cell)) (kept : Kept) → (kept_after_all rows kept).most ≡ kept.most
+kept-most [] kept = refl
+kept-most (row ∷ rows) kept = kept-most rows (kept_after row kept)
 
--- A character that the row has room for does not wrap.
-one_false : (a b d : Bool) → (a && b && false && d) ≡ false
-one_false true true d = refl
-one_false true false d = refl
-one_false false b d = refl
+-- Once the rows that left by a call are taken, there is room as before it,
+pub room-again : (call : Call) (s other taken : State) → HasRoom s → other ≡ after call s → taken ≡ with_room_alone other → IsSized taken.display → HasRoom taken
+room-again call s other taken has is alone sized =
+    let rows : List (List Cell) = leaving_rows call s.display in
+    let none : Kept = nothing_kept s.display.height s.display.width in
+    let now : other.display.history ≡ Some (kept_after_all rows none) =
+    ap (λ (t : State). t.display.history) is ∙ (history-after call s ∙ ap (with_left rows) has.room) in
+    let size = sized-after s.display.width s.display.height call s (refl, refl, has.sized.margins_within) in
+    let wide : taken.display.width ≡ s.display.width = ap (λ (t : State). t.display.width) alone ∙ (ap (λ (t : State). t.display.width) is ∙ size.0) in
+    let high : taken.display.height ≡ s.display.height = ap (λ (t : State). t.display.height) alone ∙ (ap (λ (t : State). t.display.height) is ∙ size.1) in
+    record {
+      sized = sized;
+      room = ap (λ (t : State). t.display.history) alone
+          ∙ (ap (option_map (λ (kept : Kept). nothing_kept kept.most kept.columns)) now
+          ∙ ap₂ (λ most columns. Some (nothing_kept most columns)) (kept-most rows none ∙ sym high) (kept-columns rows none ∙ sym wide));
+    }
 
-pub not_wrapping : (c : ℕ) (d : Display) → d.cursor.column + 2 ≤ d.width → is_wrapping c d ≡ false
-unfolding is_wrapping
-not_wrapping c d room =
-    let few : columns c ≤ 2 = columns-few c _ _ refl refl in
-    let fits : nat_lt d.width (d.cursor.column + columns c) ≡ false = le-ltb d.width (d.cursor.column + columns c) (omega arith) in
-    rw fits (one_false (is_shown c) (not (columns c == 0)) d.wraps)
-
-picked : (t : Bool) (a b : Display) → t ≡ true → (if t then a else b) ≡ a
-picked true a b is = refl
-picked false a b is = cc is
-
-wrapped-marked : (n : ℕ) (d : Display) → nat_lt d.width (d.cursor.column + n) ≡ true → d.wraps ≡ true
-    → wrapped n (row_going_on true d) ≡ wrapped n d
-unfolding wrapped
-wrapped-marked n d full on =
-    let once : Display = row_going_on true d in
-    let twice : Display = row_going_on true once in
-    picked (nat_lt d.width (d.cursor.column + n)) (if d.wraps then index (to_column 0 twice) else settled once) once full
-    ∙ (picked d.wraps (index (to_column 0 twice)) (settled once) on
-    ∙ (ap (λ cells. index (to_column 0 (with_cells cells d))) (going_on-twice (row_end d) d.cells)
-    ∙ (sym (picked d.wraps (index (to_column 0 once)) (settled d) on)
-    ∙ sym (picked (nat_lt d.width (d.cursor.column + n)) (if d.wraps then index (to_column 0 once) else settled d) d full))))
-
-shown-marked : (c n : ℕ) (d : Display) → columns c ≡ n → (n == 0) ≡ false → nat_lt d.width (d.cursor.column + n) ≡ true
-    → d.wraps ≡ true → shown c (row_going_on true d) ≡ shown c d
-unfolding shown
-shown-marked c n d is some full on = rw (is, some) (ap (put n c) (wrapped-marked n d full on))
-
-not-true : (t : Bool) → not t ≡ true → t ≡ false
-not-true true is = cc is
-not-true false is = refl
-
--- so that a character which autowrap comes before does the same then.
-printed-marked : (c : ℕ) (d : Display) (t : Bool) → is_wrapping c d ≡ t
-    → printed c (if t then row_going_on true d else d) ≡ printed c d
-unfolding printed is_wrapping
-printed-marked c d false is = refl
-printed-marked c d true is =
-    let room : Bool = nat_lt d.width (d.cursor.column + columns c) in
-    let on = and_parts (is_shown c && not (columns c == 0) && room) d.wraps is in
-    let full = and_parts (is_shown c && not (columns c == 0)) room on.0 in
-    let some = and_parts (is_shown c) (not (columns c == 0)) full.0 in
-    let character : ℕ = if draws d.cursor.charsets then drawn c else c in
-    rw some.0 (shown-marked character (columns c) d (drawn-if c (draws d.cursor.charsets)) (not-true (columns c == 0) some.1) full.1 on.1)
-
-pub after-marked : (c : ℕ) (s : State)
-    → after (print c) (record s { display = before_scroll (print c) s.display }) ≡ after (print c) s
-after-marked c s = ap (λ d. record { display = d; last = left_to_repeat (print c) }) (printed-marked c s.display _ refl)
-
--- RIS does the same with either screen in front.
-fresh-main : (d : Display) (t : Bool) → escaped 0x63 (if t then swapped d else d) ≡ escaped 0x63 d
-unfolding escaped
-fresh-main d true = refl
-fresh-main d false = refl
-
-escaped-main : (final : ℕ) (d : Display) (t : Bool) → (final == 0x63) ≡ t → escaped final (if t then main_screen d else d) ≡ escaped final d
-escaped-main final d true is =
-    let same : final ≡ 0x63 = eqb-true final 0x63 is in
-    ap (λ n. escaped n (main_screen d)) same ∙ (fresh-main d d.is_alternate ∙ ap (λ n. escaped n d) (sym same))
-escaped-main final d false is = refl
-
-designated-begun : (intermediates : List ℕ) (final : ℕ) (d : Display)
-    → designated intermediates final (before_escape intermediates final d) ≡ designated intermediates final d
-unfolding designated before_escape
-designated-begun [] final d = escaped-main final d _ refl
-designated-begun (mark ∷ marks) final d = refl
-
-pub after-begun : (intermediates : List ℕ) (final : ℕ) (s : State)
-    → after (esc_dispatch intermediates false final) (record s { display = before_scroll (esc_dispatch intermediates false final) s.display })
-    ≡ after (esc_dispatch intermediates false final) s
-after-begun intermediates final s = ap (λ (d : Display). record { display = d; last = None }) (designated-begun intermediates final s.display)
+-- and so there is where none left.
+pub room-still : (calls : List Call) (s other : State) → HasRoom s → other ≡ after_all calls s → all_left calls s ≡ [] → IsSized other.display → HasRoom other
+room-still calls s other has is stays sized =
+    let size = sized-after_all s.display.width s.display.height calls s (refl, refl, has.sized.margins_within) in
+    let wide : other.display.width ≡ s.display.width = ap (λ (t : State). t.display.width) is ∙ size.0 in
+    let high : other.display.height ≡ s.display.height = ap (λ (t : State). t.display.height) is ∙ size.1 in
+    record {
+      sized = sized;
+      room = ap (λ (t : State). t.display.history) is
+          ∙ (history-after_all calls s ∙ (ap (λ rows. with_left rows s.display.history) stays ∙ (with_left-none s.display.history
+          ∙ (has.room ∙ ap₂ (λ most columns. Some (nothing_kept most columns)) (sym high) (sym wide)))));
+    }
 
 module _ {R : Type 0} (takes : R → List Cell → R → Type 0) where
-  -- the rows are taken once the display is as it scrolls, and then the call does the rest
-  begun-scrolls : (call : Call) (n : ℕ) (old : Scrolling R) (begun middle done : State) (taker : R)
-      → after call (record (screen_of old) { display = before_scroll call (screen_of old).display }) ≡ after call (screen_of old)
-      → begun ≡ record (screen_of old) { display = before_scroll call (screen_of old).display }
-      → n ≡ leaving call (screen_of old).display → middle ≡ begun
-      → TakesRows takes (taker_of old) (first_rows n begun.display) taker
-      → done ≡ after call middle
-      → Scrolls takes old call (record { screen = done; taker = taker })
-  begun-scrolls call n old begun middle done taker alike marked count same taken after_middle = record {
-    screen = after_middle ∙ (ap (after call) (same ∙ marked) ∙ alike);
-    taken = subst (λ (s : State). TakesRows takes (taker_of old) (first_rows (leaving call (screen_of old).display) s.display) taker) marked
-        (subst (λ k. TakesRows takes (taker_of old) (first_rows k begun.display) taker) count taken);
+  -- and these rows are all that left by it.
+  pub call-scrolls : (call : Call) (s other taken : State) (old new : R) → HasRoom s → other ≡ after call s → taken ≡ with_room_alone other
+      → TakesRows takes old (kept_rows other.display.history) new
+      → Scrolls takes (record { screen = unkept s; taker = old }) call (record { screen = unkept taken; taker = new })
+  call-scrolls call s other taken old new has is alone rows = record {
+    screen = ap unkept alone ∙ (ap unkept is ∙ sym (unkept-after call s));
+    taken = subst (λ l. TakesRows takes old l new)
+        (ap (λ (t : State). kept_rows t.display.history) is
+        ∙ (kept-left s.display.height s.display.width call s (few-leave s.display.width s.display.height call s.display (refl, refl, has.sized.margins_within)) has.room
+        ∙ sym (rows_left-is call s)))
+        rows;
   }
 
-  -- a character, once the row is marked
-  pub print-scrolls : (c n : ℕ) (old : Scrolling R) (begun middle printed : State) (taker : R)
-      → begun ≡ record (screen_of old) { display = before_scroll (print c) (screen_of old).display }
-      → n ≡ leaving (print c) (screen_of old).display → middle ≡ begun
-      → TakesRows takes (taker_of old) (first_rows n begun.display) taker
-      → printed ≡ after (print c) middle
-      → Scrolls takes old (print c) (record { screen = printed; taker = taker })
-  print-scrolls c n old begun middle printed taker = begun-scrolls (print c) n old begun middle printed taker (after-marked c (screen_of old))
-
-  -- no row leaves by an escape sequence of which something was dropped
-  pub dropped-scrolls : (intermediates : List ℕ) (ignore : Bool) (final : ℕ) (old : Scrolling R) (middle done : State) (taker : R)
-      → ignore ≡ true → middle ≡ screen_of old → taker ≡ taker_of old → done ≡ after (esc_dispatch intermediates ignore final) middle
-      → Scrolls takes old (esc_dispatch intermediates ignore final) (record { screen = done; taker = taker })
-  dropped-scrolls intermediates true final old middle done taker dropped same_screen same_taker after_middle = record {
-    screen = after_middle ∙ ap (after (esc_dispatch intermediates true final)) same_screen;
-    taken = same_taker;
+  -- Where none left, none is taken.
+  pub calls-stay : (calls : List Call) (s other : State) (taker : R) → other ≡ after_all calls s → all_left calls s ≡ []
+      → ScrollsAll takes (record { screen = unkept s; taker = taker }) calls (record { screen = unkept other; taker = taker })
+  calls-stay calls s other taker is stays = record {
+    screen = ap unkept is ∙ sym (unkept-after_all calls s);
+    taken = subst (λ l. TakesRows takes taker l taker) (sym (all_left-unkept calls s ∙ stays)) refl;
   }
-  dropped-scrolls intermediates false final old middle done taker dropped same_screen same_taker after_middle = cc dropped
 
-  -- an escape sequence of which nothing was dropped, once the main screen shows if it is RIS
-  pub escape-scrolls : (intermediates : List ℕ) (ignore : Bool) (final n : ℕ) (old : Scrolling R) (begun middle done : State) (taker : R)
-      → ignore ≡ false
-      → begun ≡ record (screen_of old) { display = before_scroll (esc_dispatch intermediates false final) (screen_of old).display }
-      → n ≡ leaving (esc_dispatch intermediates false final) (screen_of old).display → middle ≡ begun
-      → TakesRows takes (taker_of old) (first_rows n begun.display) taker
-      → done ≡ after (esc_dispatch intermediates ignore final) middle
-      → Scrolls takes old (esc_dispatch intermediates ignore final) (record { screen = done; taker = taker })
-  escape-scrolls intermediates true final n old begun middle done taker whole marked count same taken after_middle = cc whole
-  escape-scrolls intermediates false final n old begun middle done taker whole marked count same taken after_middle =
-      begun-scrolls (esc_dispatch intermediates false final) n old begun middle done taker (after-begun intermediates final (screen_of old))
-      marked count same taken after_middle
+  pub call-stays : (call : Call) (s other : State) (taker : R) → other ≡ after call s → all_left (call ∷ []) s ≡ []
+      → Scrolls takes (record { screen = unkept s; taker = taker }) call (record { screen = unkept other; taker = taker })
+  call-stays call s other taker is stays =
+      let all = calls-stay (call ∷ []) s other taker is stays in
+      record { screen = all.screen; taken = subst (λ l. TakesRows takes taker l taker) (append-nil (rows_left call s)) all.taken }

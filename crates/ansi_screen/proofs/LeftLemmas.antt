@@ -1,31 +1,30 @@
--- Which rows leave does not hang on the picture since which a screen notes what changes.
-use Rattle.std.proofs.Common.{◌≡◌, ℕ, zero, suc, Bool, true, false, List, [], ◌∷◌, ◌++◌, refl, ap, ap₂, ◌∙◌}
-use Rattle.std.specs.Prelude.{◌==◌, ◌||◌, ◌&&◌, not, if◌then◌else◌}
+-- Which rows leave does not hang on the picture since which a screen notes what changes, nor on the rows that it keeps.
+use Rattle.std.proofs.Common.{◌≡◌, ℕ, ◌+◌, Bool, true, false, List, [], ◌∷◌, ◌++◌, length, refl, ap, ap₂, sym, ◌∙◌}
+use Rattle.std.specs.Prelude.{Option, None, Some, ◌==◌, ◌||◌, ◌&&◌, not, if◌then◌else◌}
 use Rattle.anstyle_parse.specs.Stream.Call.{Call, print, execute, hook, put, unhook, osc_dispatch, csi_dispatch, esc_dispatch}
 use Rattle.ansi_screen.specs.declared.cell.Cell.{Cell}
 use Rattle.ansi_screen.specs.declared.function.Edit.TheVariants.{InsertCharacters, EraseInDisplay, EraseInLine, InsertLines, DeleteLines, DeleteCharacters, EraseCharacters}
 use Rattle.ansi_screen.specs.declared.function.Function.{Function}
 use Rattle.ansi_screen.specs.declared.function.Function.TheVariants.{Edits, Moves, Sets, Nothing}
 use Rattle.ansi_screen.specs.declared.function.Setting.TheVariants.{Rendition, SetModes, ResetModes, Margins, ScrollUp, ScrollDown, ForwardTab, ClearStops, SaveCursor, RestoreCursor}
-use Rattle.ansi_screen.specs.Display.{Display, Picture, row_cells}
+use Rattle.ansi_screen.specs.Display.{Display, Picture}
 use Rattle.ansi_screen.specs.Edits.{row_going_on}
-use Rattle.ansi_screen.specs.After.{State, function_of, first_of, after}
-use Rattle.ansi_screen.specs.Text.{is_unprinted, used, used_rows}
-use Rattle.ansi_screen.specs.Leaving.{swapped, main_screen, printed_count, leaving_up, leaving_by_index, is_wrapping, leaving_by_control, leaving_by_escape, leaving_by_function, leaving_by_sequence, leaving, before_escape, before_scroll, first_rows, rows_left, all_left}
-use Rattle.ansi_screen.specs.Laws.{with_shown}
-use Rattle.ansi_screen.proofs.PictureLemmas.{same-after}
+use Rattle.ansi_screen.specs.After.{State, function_of, first_of, after, after_all}
+use Rattle.ansi_screen.specs.Text.{is_unprinted, used_rows, first_rows, printed_count}
+use Rattle.ansi_screen.specs.Edits.{swapped, main_screen}
+use Rattle.ansi_screen.specs.History.{Kept, nothing_kept, kept_after, with_left}
+use Rattle.ansi_screen.specs.Leaving.{keeping, unkept, rows_left, all_left}
+use Rattle.ansi_screen.specs.Laws.{with_shown, is_wrapping}
+use Rattle.ansi_screen.proofs.StayLemmas.{used-beside}
+use Rattle.ansi_screen.proofs.PictureLemmas.{same-after, unkept-after}
+use Rattle.ansi_screen.proofs.LeavingTable.{leaving_up, leaving_by_index, leaving_by_control, leaving_by_escape, leaving_by_function, leaving_by_sequence, leaving, before_escape, before_leaving, leaving_rows, with_left-none, history-after, kept-left, call-few, length-rows}
 
-module _ (p : Picture) where
+module _ (p : Picture) (history : Option Kept) where
   abbrev since : Display → Display
-  since d = record d { shown = p }
+  since d = record d { shown = p; history = history }
 
   used-since : (n : ℕ) (d : Display) → used_rows is_unprinted n (since d) ≡ used_rows is_unprinted n d
-  used-since zero d = refl
-  used-since (suc n) d = ap (λ k. if used is_unprinted (row_cells n d) == 0 then k else suc n) (used-since n d)
-
-  rows-since : (n : ℕ) (d : Display) → first_rows n (since d) ≡ first_rows n d
-  rows-since zero d = refl
-  rows-since (suc n) d = ap (λ l. l ++ row_cells n d ∷ []) (rows-since n d)
+  used-since = used-beside p history
 
   if-since : (t : Bool) (x y : Display) → (if t then since x else since y) ≡ since (if t then x else y)
   if-since true x y = refl
@@ -82,7 +81,7 @@ module _ (p : Picture) where
   leaving-since unhook d = refl
   leaving-since (osc_dispatch parts bell) d = refl
 
-  before-since : (call : Call) (d : Display) → before_scroll call (since d) ≡ since (before_scroll call d)
+  before-since : (call : Call) (d : Display) → before_leaving call (since d) ≡ since (before_leaving call d)
   unfolding is_wrapping before_escape
   before-since (print c) d = if-since (is_wrapping c d) (row_going_on true d) d
   before-since (esc_dispatch [] true final) d = refl
@@ -97,12 +96,44 @@ module _ (p : Picture) where
   before-since unhook d = refl
   before-since (osc_dispatch parts bell) d = refl
 
-  left-since : (call : Call) (d : Display) → rows_left call (since d) ≡ rows_left call d
+  left-since : (call : Call) (d : Display) → leaving_rows call (since d) ≡ leaving_rows call d
   left-since call d =
-      ap₂ (λ n (e : Display). first_rows n e) (leaving-since call d) (before-since call d) ∙ rows-since (leaving call d) (before_scroll call d)
+      ap₂ (λ n (e : Display). first_rows n e) (leaving-since call d) (before-since call d)
 
-  pub all_left-since : (calls : List Call) (s : State) → all_left calls (with_shown p s) ≡ all_left calls s
-  all_left-since [] s = refl
-  all_left-since (call ∷ calls) s =
-      ap₂ (λ (l m : List (List Cell)). l ++ m) (left-since call s.display)
-      (ap (all_left calls) (same-after p call s) ∙ all_left-since calls (after call s))
+-- The rows that leave by a call are those of the table,
+pub rows_left-is : (call : Call) (s : State) → rows_left call s ≡ leaving_rows call s.display
+rows_left-is call s =
+    let most : ℕ = s.display.height + s.display.bottom in
+    kept-left most s.display.width call (keeping s) (call-few call (keeping s).display) refl
+    ∙ left-since s.display.shown (Some (nothing_kept most s.display.width)) call s.display
+
+pub length-left : (call : Call) (s : State) → length (rows_left call s) ≡ leaving call s.display
+length-left call s =
+    ap length (rows_left-is call s) ∙ length-rows (leaving call s.display) (before_leaving call s.display).width (before_leaving call s.display).cells
+
+-- whatever was shown, and whatever is kept.
+pub all_left-since : (p : Picture) (calls : List Call) (s : State) → all_left calls (with_shown p s) ≡ all_left calls s
+all_left-since p [] s = refl
+all_left-since p (call ∷ calls) s =
+    ap₂ (λ (l m : List (List Cell)). l ++ m)
+    (rows_left-is call (with_shown p s) ∙ (left-since p s.display.history call s.display ∙ sym (rows_left-is call s)))
+    (ap (all_left calls) (same-after p call s) ∙ all_left-since p calls (after call s))
+
+pub all_left-unkept : (calls : List Call) (s : State) → all_left calls (unkept s) ≡ all_left calls s
+all_left-unkept [] s = refl
+all_left-unkept (call ∷ calls) s =
+    ap (λ l. rows_left call s ++ l) (ap (all_left calls) (unkept-after call s) ∙ all_left-unkept calls (after call s))
+
+-- What is kept after calls are the rows that left by them, and what was kept before.
+pub with_left-append : (rows more : List (List Cell)) (history : Option Kept) → with_left (rows ++ more) history ≡ with_left more (with_left rows history)
+with_left-append rows more None = refl
+with_left-append [] more (Some kept) = refl
+with_left-append (row ∷ rows) more (Some kept) = with_left-append rows more (Some (kept_after row kept))
+
+pub history-after_all : (calls : List Call) (s : State) → (after_all calls s).display.history ≡ with_left (all_left calls s) s.display.history
+history-after_all [] s = sym (with_left-none s.display.history)
+history-after_all (call ∷ calls) s =
+    history-after_all calls (after call s)
+    ∙ (ap (with_left (all_left calls (after call s)))
+    (history-after call s ∙ ap (λ rows. with_left rows s.display.history) (sym (rows_left-is call s)))
+    ∙ sym (with_left-append (rows_left call s) (all_left calls (after call s)) s.display.history))

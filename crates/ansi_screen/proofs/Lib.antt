@@ -1,4 +1,3 @@
-pub mod TurnLemmas
 pub mod CellLemmas
 pub mod RunLemmas
 pub mod PrintedLemmas
@@ -15,9 +14,11 @@ pub mod TableLemmas
 pub mod TextLemmas
 pub mod CallLemmas
 pub mod RepeatLemmas
-pub mod LeavingLemmas
+pub mod StayLemmas
 pub mod PictureLemmas
+pub mod LeavingTable
 pub mod LeftLemmas
+pub mod LeavingLemmas
 pub mod LawLemmas
 pub mod ScrollLemmas
 pub mod PlainLemmas
@@ -32,4 +33,6 @@ pub mod FollowingLemmas
 pub mod ColorLemmas
 pub mod ContentLemmas
 pub mod ContentCalls
+pub mod HistoryLemmas
+pub mod HandedLemmas
 mod EqualityLemmas

@@ -1,21 +1,23 @@
 -- Rows that change places, and parts of a grid's cells that become blank or other ones, row by row.
-use Rattle.std.proofs.Common.{◌≡◌, ℕ, zero, suc, ◌+◌, ◌-◌, ◌*◌, ◌<◌, ◌≤◌, Bool, true, false, ◌&&◌, List, [], ◌∷◌, ◌++◌, length, get_or, take, drop, refl, ap, ap₂, sym, ◌∙◌, subst, arith}
-use Rattle.std.specs.Prelude.{min, replicate, map, nat_lt, nat_eq, if◌then◌else◌}
+use Rattle.std.proofs.Common.{◌≡◌, ◌≢◌, inl, inr, ℕ, zero, suc, ◌+◌, ◌-◌, ◌*◌, ◌<◌, ◌≤◌, Bool, true, false, ◌&&◌, List, [], ◌∷◌, ◌++◌, length, get_or, take, drop, refl, ap, ap₂, sym, ◌∙◌, subst, arith}
+use Rattle.std.specs.Prelude.{Option, ◌==◌, not, min, replicate, map, nat_lt, nat_eq, if◌then◌else◌}
 use Rattle.std.specs.List.{AllByRecursion}
 use Rattle.std.proofs.lemmas.List.{places, same_lists, take_at, drop_at, drop-drop, append_assoc, append-nil, length-append, length-take-le, length-drop, length-replicate, replicate-append-replicate, take-append-drop, take_all, drop_all, length-map, map-append, get_or-replicate, take-map, drop-map}
 use Rattle.std.proofs.lemmas.Grind.{flat_map-append}
 use Rattle.std.proofs.Math.Nat.{suc-mul, add-mul, mul-le-mul_right}
-use Rattle.std.proofs.lemmas.Bool.{and_right, false≢true}
+use Rattle.std.proofs.lemmas.Bool.{cases_Bool, and_right, false≢true}
 use borrow.Author.Tests.{eqb-true}
 use Rattle.ansi_style.specs.declared.style.Style.{Style}
 use Rattle.ansi_style.specs.Style.{plain}
 use Rattle.ansi_screen.specs.declared.cell.Cell.{Cell}
 use Rattle.ansi_screen.specs.Cells.{blank, cut, cell_at, is_right, going_on, within, change, erased, moved_back, moved_on}
 use Rattle.ansi_screen.specs.Display.{Display, row_start}
-use Rattle.ansi_screen.specs.Edits.{row_above_ended, with_cells}
+use Rattle.ansi_screen.specs.Edits.{row_above_ended, with_cells, space, erased_part, erased_display, erases_from_row, kept_by_erase}
 use Rattle.ansi_screen.specs.Following.{copied}
 use Rattle.ansi_screen.specs.Grid.{Grid, with_list, flat, in_order, AreRows, times, IsOrder}
+use Rattle.ansi_screen.specs.History.{Kept, with_left}
 use Rattle.ansi_screen.specs.Reachable.{RowsBegin}
+use Rattle.ansi_screen.specs.Text.{printed_rows}
 use Rattle.ansi_screen.proofs.CellLemmas.{cut-none, cut-first, cut-past}
 use Rattle.ansi_screen.proofs.PairLemmas.{length-cut, clear-cut_other}
 use Rattle.ansi_screen.proofs.WholeLemmas.{length-going_on}
@@ -501,11 +503,67 @@ rotated-order n a e k order items new same long ordered inside few is =
     let many : length turned ≡ n = turned-long a e k order ordered inside few ∙ (sym (ap length same) ∙ long) in
     ap (λ l. take n (l ++ drop (length l) order)) all ∙ take_at turned (drop (length turned) order) n many
 
+all-erased : (space : Cell) (cells : List Cell) → replicate (length cells) space ≡ change 0 (length cells) (erased space) cells
+all-erased space cells =
+    let n : ℕ = length cells in
+    let both : cells ≡ cut 0 (cut n cells) = cut-past cells n (omega arith) ∙ cut-first (cut n cells) 0 (omega arith) in
+    sym (erased-all n space cells refl) ∙ ap (within 0 n (erased space)) both
+
 pub erased-everything : (g : Grid) (space : Cell) → with_list (replicate (length g.cells) space) g ≡ with_list (change 0 (length g.cells) (erased space) g.cells) g
-erased-everything g space =
-    let n : ℕ = length g.cells in
-    let both : g.cells ≡ cut 0 (cut n g.cells) = cut-past g.cells n (omega arith) ∙ cut-first (cut n g.cells) 0 (omega arith) in
-    ap (λ l. with_list l g) (sym (erased-all n space g.cells refl) ∙ ap (within 0 n (erased space)) both)
+erased-everything g space = ap (λ l. with_list l g) (all-erased space g.cells)
+
+-- of all cells that are erased the number alone counts
+erased-alike : (space : Cell) (cells others : List Cell) → length others ≡ length cells
+    → change 0 (length others) (erased space) others ≡ change 0 (length cells) (erased space) cells
+erased-alike space cells others same = sym (all-erased space others) ∙ (ap (λ n. replicate n space) same ∙ all-erased space cells)
+
+-- All is erased, whatever stood there.
+pub erased-out : (kind : ℕ) (d e : Display) (history : Option Kept) → kind ≡ 2 → e ≡ record d { cells = e.cells; history = history }
+    → length e.cells ≡ length d.cells
+    → erased_part kind 0 (length e.cells) (row_above_ended (erases_from_row kind e) e)
+    ≡ erased_part kind 0 (length d.cells) (row_above_ended (erases_from_row kind d) (record d { history = history }))
+unfolding erased_part erases_from_row
+erased-out kind d e history all is same =
+    rw all (ap (λ (f : Display). with_cells (change 0 (length e.cells) (erased (space f)) e.cells) f) is
+    ∙ ap (λ l. with_cells l (record d { history = history })) (erased-alike (space d) d.cells e.cells same))
+
+-- ED 2 on the main screen: the rows left before; and any other ED
+abbrev in-place : ℕ → Display → Display
+in-place kind f = erased_part kind 0 (length f.cells) (row_above_ended (erases_from_row kind f) f)
+
+abbrev taken-away : ℕ → Bool → Display → Display
+taken-away kind b d = erased_part kind 0 (length d.cells)
+    (row_above_ended (erases_from_row kind d) (record d { history = if b then with_left (printed_rows d) d.history else d.history }))
+
+pub display-out : (kind : ℕ) (d f e new : Display) → kind ≡ 2 → d.is_alternate ≡ false → f ≡ e
+    → e ≡ record d { cells = e.cells; history = with_left (printed_rows d) d.history } → length e.cells ≡ length d.cells
+    → new ≡ erased_part kind 0 (length f.cells) (row_above_ended (erases_from_row kind f) f) → new ≡ erased_display kind d
+unfolding erased_display kept_by_erase
+display-out kind d f e new all main moved is same put =
+    let here : (kind == 2 && not d.is_alternate) ≡ true = rw (all, main) refl in
+    put ∙ (ap (in-place kind) moved ∙ (erased-out kind d e (with_left (printed_rows d) d.history) all is same
+    ∙ ap (λ b. taken-away kind b d) (sym here)))
+
+display-kept : (kind : ℕ) (d f new : Display) → (kind == 2 && not d.is_alternate) ≡ false → f ≡ d
+    → new ≡ erased_part kind 0 (length f.cells) (row_above_ended (erases_from_row kind f) f) → new ≡ erased_display kind d
+unfolding erased_display kept_by_erase
+display-kept kind d f new none same put =
+    put ∙ (ap (in-place kind) same ∙ ap (λ b. taken-away kind b d) (sym none))
+
+none-here : (b alternate : Bool) → alternate ≡ true → (b && not alternate) ≡ false
+none-here true alternate is = rw is refl
+none-here false alternate is = refl
+
+pub display-hidden : (kind : ℕ) (d f new : Display) → d.is_alternate ≡ true → f ≡ d
+    → new ≡ erased_part kind 0 (length f.cells) (row_above_ended (erases_from_row kind f) f) → new ≡ erased_display kind d
+display-hidden kind d f new is same put = display-kept kind d f new (none-here (kind == 2) d.is_alternate is) same put
+
+pub display-part : (kind : ℕ) (d f new : Display) → kind ≢ 2 → f ≡ d
+    → new ≡ erased_part kind 0 (length f.cells) (row_above_ended (erases_from_row kind f) f) → new ≡ erased_display kind d
+display-part kind d f new part same put = elim (cases_Bool (kind == 2)) [
+  | inl is ↦ absurd (part (eqb-true kind 2 is))
+  | inr is ↦ display-kept kind d f new (ap (λ b. b && not d.is_alternate) is) same put
+]
 
 pub same-long : (g other : Grid) → length g.cells ≡ g.height * g.width → length other.cells ≡ other.height * other.width
     → g.width ≡ other.width → g.height ≡ other.height → length other.cells ≡ length g.cells

@@ -1,8 +1,10 @@
--- No call reads or changes what was shown of a screen: where that is another one, all else is the same.
-use Rattle.std.proofs.Common.{◌≡◌, ℕ, zero, suc, ◌+◌, ◌-◌, Bool, true, false, List, [], ◌∷◌, length, refl, ap, ◌∙◌}
-use Rattle.std.specs.Prelude.{min, max, nat_lt, nat_le, ◌==◌, ◌&&◌, ◌||◌, if◌then◌else◌, Option, None, Some}
+-- No call reads what was shown of a screen, nor what it keeps of the rows that left it: where these are others, all else is
+-- the same.
+use Rattle.std.proofs.Common.{◌≡◌, ℕ, zero, suc, ◌+◌, ◌-◌, Bool, true, false, List, [], ◌∷◌, length, refl, ap, sym, ◌∙◌}
+use Rattle.std.specs.Prelude.{min, max, nat_lt, nat_le, ◌==◌, not, ◌&&◌, ◌||◌, if◌then◌else◌, Option, None, Some}
 use Rattle.std.specs.Fn.{iterate}
 use Rattle.anstyle_parse.specs.Stream.Call.{Call, print, execute, hook, put as put_byte, unhook, osc_dispatch, csi_dispatch, esc_dispatch}
+use Rattle.ansi_screen.specs.declared.cell.Cell.{Cell}
 use Rattle.ansi_screen.specs.declared.function.Edit.{Edit}
 use Rattle.ansi_screen.specs.declared.function.Edit.TheVariants.{InsertCharacters, EraseInDisplay, EraseInLine, InsertLines, DeleteLines, DeleteCharacters, EraseCharacters}
 use Rattle.ansi_screen.specs.declared.function.Move.{Move}
@@ -11,19 +13,27 @@ use Rattle.ansi_screen.specs.declared.function.Setting.{Setting}
 use Rattle.ansi_screen.specs.declared.function.Setting.TheVariants.{Rendition, SetModes, ResetModes, Margins, ScrollUp, ScrollDown, ForwardTab, ClearStops, SaveCursor, RestoreCursor}
 use Rattle.ansi_screen.specs.declared.function.Function.{Function}
 use Rattle.ansi_screen.specs.declared.function.Function.TheVariants.{Edits, Moves, Sets, Nothing}
-use Rattle.ansi_screen.specs.Display.{Display, Picture, row_start, row_end, renewed}
+use Rattle.ansi_screen.specs.Display.{Display, Picture, row_start, row_end, fresh}
 use Rattle.ansi_screen.specs.Moves.{to_column, to_position, settled, tabbed, tabbed_back, with_stop}
-use Rattle.ansi_screen.specs.Edits.{row_going_on, erased_part, erased_display, erased_line, erased_characters, deleted_characters, inserted_characters, rows_up, rows_down, is_in_margins, inserted_lines, deleted_lines, index, reverse_index, row_above_ended, erases_from_row, erases_first}
+use Rattle.ansi_screen.specs.Edits.{renewed, swapped, main_screen, kept_by_erase, kept_by_scroll, scrolled_up, row_going_on, erased_part, erased_display, erased_line, erased_characters, deleted_characters, inserted_characters, rows_up, rows_down, is_in_margins, inserted_lines, deleted_lines, index, reverse_index, row_above_ended, erases_from_row, erases_first}
 use Rattle.ansi_screen.specs.Widths.{is_shown, columns}
 use Rattle.ansi_screen.specs.Print.{wrapped, with_room, with_glyph, put, marked, shown, drawn, draws, printed, printed_again}
 use Rattle.ansi_screen.specs.Modes.{saving, shifted, with_charset, restored, with_origin, with_margins, to_alternate, to_main, with_alternate, softly_reset, with_private_mode, with_mode, with_modes, first_field}
+use Rattle.ansi_screen.specs.History.{Kept, with_left}
+use Rattle.ansi_screen.specs.Text.{first_rows, printed_rows}
+use Rattle.ansi_screen.specs.Leaving.{unkept}
 use Rattle.ansi_screen.specs.Laws.{with_shown}
+use Rattle.ansi_screen.proofs.StayLemmas.{used-beside}
 use Rattle.ansi_screen.specs.After.{State, function_of, first_of, second_of, is_bare, count, is_known, edited, moved, set as set_by, controlled, sequenced, executed, escaped, designated, repeated, is_repeat, displayed, left_to_repeat, after, after_all}
 
-module _ (p : Picture) where
-  -- a display of which something else was shown
+-- What is kept becomes something else, by a change that it does not matter for whether it comes before rows leave or after.
+abbrev pub IsBeside : (Option Kept → Option Kept) → Type 0
+IsBeside other = (rows : List (List Cell)) (history : Option Kept) → with_left rows (other history) ≡ other (with_left rows history)
+
+module _ (p : Picture) (other : Option Kept → Option Kept) (beside : IsBeside other) where
+  -- a display of which something else was shown, and something else is kept
   abbrev pub with_picture : Display → Display
-  with_picture d = record d { shown = p }
+  with_picture d = record d { shown = p; history = other d.history }
 
   same-if : (t : Bool) (a b c e : Display) → c ≡ with_picture a → e ≡ with_picture b → (if t then c else e) ≡ with_picture (if t then a else b)
   same-if true a b c e first second = first
@@ -39,6 +49,34 @@ module _ (p : Picture) where
   same-times step same zero d = refl
   same-times step same (suc n) d = ap (iterate step n) (same d) ∙ same-times step same n (step d)
 
+  -- rows that leave
+  same-kept : (t : Bool) (rows : List (List Cell)) (history : Option Kept)
+      → (if t then with_left rows (other history) else other history) ≡ other (if t then with_left rows history else history)
+  same-kept true rows history = beside rows history
+  same-kept false rows history = refl
+
+  same-rows : (d : Display) → printed_rows (with_picture d) ≡ printed_rows d
+  same-rows d = ap (λ n. first_rows n d) (used-beside p (other d.history) d.height d)
+
+  same-scroll : (n : ℕ) (d : Display) → kept_by_scroll n (with_picture d) ≡ other (kept_by_scroll n d)
+  unfolding kept_by_scroll
+  same-scroll n d = same-kept (d.top == 0 && not d.is_alternate) (first_rows (min n d.bottom) d) d.history
+
+  same-erase : (kind : ℕ) (d : Display) → kept_by_erase kind (with_picture d) ≡ other (kept_by_erase kind d)
+  unfolding kept_by_erase
+  same-erase kind d =
+      ap (λ rows. if kind == 2 && not d.is_alternate then with_left rows (other d.history) else other d.history) (same-rows d)
+      ∙ same-kept (kind == 2 && not d.is_alternate) (printed_rows d) d.history
+
+  same-main_rows : (d : Display) (t : Bool) → printed_rows (if t then swapped (with_picture d) else with_picture d) ≡ printed_rows (if t then swapped d else d)
+  same-main_rows d true = same-rows (swapped d)
+  same-main_rows d false = same-rows d
+
+  same-renewed : (d : Display) → renewed (with_picture d) ≡ record (renewed d) { shown = p; history = other (renewed d).history }
+  same-renewed d =
+      ap (λ (h : Option Kept). record (fresh d.width d.height) { shown = p; history = h })
+      (ap (λ rows. with_left rows (other d.history)) (same-main_rows d d.is_alternate) ∙ beside (printed_rows (main_screen d)) d.history)
+
   -- edits
   same-part : (kind start end : ℕ) (d : Display) → erased_part kind start end (with_picture d) ≡ with_picture (erased_part kind start end d)
   unfolding erased_part
@@ -48,13 +86,18 @@ module _ (p : Picture) where
   unfolding rows_up
   same-up n first last d = refl
 
+  same-scrolled : (n : ℕ) (d : Display) → scrolled_up n (with_picture d) ≡ with_picture (scrolled_up n d)
+  unfolding rows_up
+  same-scrolled n d =
+      ap (λ (h : Option Kept). rows_up n d.top d.bottom (record d { shown = p; history = h })) (same-scroll n d)
+
   same-down : (n first last : ℕ) (d : Display) → rows_down n first last (with_picture d) ≡ with_picture (rows_down n first last d)
   unfolding rows_down
   same-down n first last d = refl
 
   same-index : (d : Display) → index (with_picture d) ≡ with_picture (index d)
   unfolding index
-  same-index d = same-if (d.cursor.row + 1 == d.bottom) _ _ _ _ (same-up 1 d.top d.bottom d) refl
+  same-index d = same-if (d.cursor.row + 1 == d.bottom) _ _ _ _ (same-scrolled 1 d) refl
 
   same-reverse : (d : Display) → reverse_index (with_picture d) ≡ with_picture (reverse_index d)
   unfolding reverse_index
@@ -71,7 +114,9 @@ module _ (p : Picture) where
   same-edited : (edit : Edit) (n : ℕ) (d : Display) → edited edit n (with_picture d) ≡ with_picture (edited edit n d)
   unfolding edited erased_display erased_line erased_characters inserted_lines deleted_lines erases_from_row erases_first
   same-edited InsertCharacters n d = same-inserted (count n) d
-  same-edited EraseInDisplay n d = same-part n 0 (length d.cells) (row_above_ended (erases_from_row n d) d)
+  same-edited EraseInDisplay n d =
+      ap (λ (h : Option Kept). erased_part n 0 (length d.cells) (row_above_ended (erases_from_row n d) (record d { shown = p; history = h }))) (same-erase n d)
+      ∙ same-part n 0 (length d.cells) (row_above_ended (erases_from_row n d) (record d { history = kept_by_erase n d }))
   same-edited EraseInLine n d = same-part n (row_start d) (row_end d) (row_above_ended (erases_first n d) d)
   same-edited InsertLines n d = same-if (is_in_margins d) _ _ _ _ (ap (to_column 0) (same-down (count n) d.cursor.row d.bottom d)) refl
   same-edited DeleteLines n d = same-if (is_in_margins d) _ _ _ _ (ap (to_column 0) (same-up (count n) d.cursor.row d.bottom d)) refl
@@ -184,7 +229,7 @@ module _ (p : Picture) where
   same-settings SetModes groups d = same-modes (with_mode true) (same-mode true) groups d
   same-settings ResetModes groups d = same-modes (with_mode false) (same-mode false) groups d
   same-settings Margins groups d = same-margins (first_of groups) (second_of groups) d
-  same-settings ScrollUp groups d = same-up (count (first_of groups)) d.top d.bottom d
+  same-settings ScrollUp groups d = same-scrolled (count (first_of groups)) d
   same-settings ScrollDown groups d = same-down (count (first_of groups)) d.top d.bottom d
   same-settings ForwardTab groups d = same-times tabbed same-tabbed (min (count (first_of groups)) d.width) d
   same-settings ClearStops groups d = same-if (first_of groups == 0) _ _ _ _ refl (same-if (first_of groups == 3) _ _ _ _ refl refl)
@@ -241,7 +286,7 @@ module _ (p : Picture) where
       (same-step (final == 0x45) (λ x. index (to_column 0 x)) fifth d (same-index (to_column 0 d))
       (same-step (final == 0x48) (with_stop true) sixth d refl
       (same-step (final == 0x4D) (λ x. reverse_index (settled x)) seventh d (same-reverse (settled d))
-      (same-step (final == 0x63) renewed (λ x. x) d refl refl))))))
+      (same-step (final == 0x63) renewed (λ x. x) d (same-renewed d) refl))))))
 
   same-charset : (mark final : ℕ) (d : Display) → with_charset mark final (with_picture d) ≡ with_picture (with_charset mark final d)
   unfolding with_charset
@@ -266,9 +311,38 @@ module _ (p : Picture) where
   same-displayed unhook s = refl
   same-displayed (osc_dispatch parts bell) s = refl
 
-  pub same-after : (call : Call) (s : State) → after call (with_shown p s) ≡ with_shown p (after call s)
-  same-after call s = ap (λ (d : Display). record { display = d; last = left_to_repeat call }) (same-displayed call s)
+  abbrev pub instead : State → State
+  instead s = record s { display = with_picture s.display }
 
-  pub same-after_all : (calls : List Call) (s : State) → after_all calls (with_shown p s) ≡ with_shown p (after_all calls s)
-  same-after_all [] s = refl
-  same-after_all (call ∷ calls) s = ap (after_all calls) (same-after call s) ∙ same-after_all calls (after call s)
+  pub instead-after : (call : Call) (s : State) → after call (instead s) ≡ instead (after call s)
+  instead-after call s = ap (λ (d : Display). record { display = d; last = left_to_repeat call }) (same-displayed call s)
+
+  pub instead-after_all : (calls : List Call) (s : State) → after_all calls (instead s) ≡ instead (after_all calls s)
+  instead-after_all [] s = refl
+  instead-after_all (call ∷ calls) s = ap (after_all calls) (instead-after call s) ∙ instead-after_all calls (after call s)
+
+-- of what was shown alone
+as-it-is : IsBeside (λ history. history)
+as-it-is rows history = refl
+
+pub same-after : (p : Picture) (call : Call) (s : State) → after call (with_shown p s) ≡ with_shown p (after call s)
+same-after p = instead-after p (λ history. history) as-it-is
+
+pub same-after_all : (p : Picture) (calls : List Call) (s : State) → after_all calls (with_shown p s) ≡ with_shown p (after_all calls s)
+same-after_all p = instead-after_all p (λ history. history) as-it-is
+
+-- and of what is kept alone, where nothing is
+pub none-beside : IsBeside (λ history. None)
+none-beside rows history = refl
+
+kept-same : (call : Call) (s : State) → (after call s).display.shown ≡ s.display.shown
+kept-same call s = ap (λ (t : State). t.display.shown) (same-after s.display.shown call s)
+
+pub unkept-after : (call : Call) (s : State) → after call (unkept s) ≡ unkept (after call s)
+unkept-after call s =
+    instead-after s.display.shown (λ history. None) none-beside call s
+    ∙ ap (λ p. record (after call s) { display = record (after call s).display { shown = p; history = None } }) (sym (kept-same call s))
+
+pub unkept-after_all : (calls : List Call) (s : State) → after_all calls (unkept s) ≡ unkept (after_all calls s)
+unkept-after_all [] s = refl
+unkept-after_all (call ∷ calls) s = ap (after_all calls) (unkept-after call s) ∙ unkept-after_all calls (after call s)

@@ -15,7 +15,11 @@ use Rattle.ansi_screen.specs.Widths.{is_shown, columns}
 use Rattle.ansi_screen.specs.Print.{glyph, wrapped, with_room, with_glyph, put, shown, draws, printed}
 use Rattle.ansi_screen.specs.Runs.{is_printed_ascii, with_glyphs, printed_all, HasRoom}
 use Rattle.ansi_screen.specs.After.{State, repeatable, after, after_all}
-use Rattle.ansi_screen.specs.Leaving.{is_wrapping, leaving, all_left}
+use Rattle.ansi_screen.specs.Laws.{is_wrapping}
+use Rattle.ansi_screen.specs.Text.{first_rows}
+use Rattle.ansi_screen.specs.Leaving.{all_left}
+use Rattle.ansi_screen.proofs.LeavingTable.{leaving, before_leaving}
+use Rattle.ansi_screen.proofs.LeftLemmas.{rows_left-is}
 use Rattle.ansi_screen.specs.Laws.{printing}
 use Rattle.ansi_screen.specs.TextsProof.{after_all-append}
 use Rattle.ansi_screen.proofs.RangeLemmas.{no_column-below, two_columns-below}
@@ -110,7 +114,9 @@ run-stays [] s are room = refl
 run-stays (c ∷ text) s are room =
     let parts = within-parts c are.0 in
     let stays : leaving (print c) s.display ≡ 0 = none-leaves c s.display (columns-ascii c parts.1) (omega (arith, room.fits)) in
-    rw stays (run-stays text (after (print c) s) are.1 (first-room c text s.display are.0 room))
+    ap₂ (λ (l m : List (List Cell)). l ++ m)
+    (rows_left-is (print c) s ∙ ap (λ n. first_rows n (before_leaving (print c) s.display)) stays)
+    (run-stays text (after (print c) s) are.1 (first-room c text s.display are.0 room))
 
 -- what REP repeats after a text
 abbrev pub last_after : List ℕ → Option ℕ → Option ℕ

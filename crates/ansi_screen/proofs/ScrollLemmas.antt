@@ -1,5 +1,5 @@
 -- As many rows leave by a call as the screen moves up.
-use Rattle.std.proofs.Common.{◌≡◌, ℕ, zero, suc, ◌+◌, ◌-◌, ◌*◌, ◌<◌, ◌≤◌, Bool, true, false, List, [], ◌∷◌, ◌++◌, length, take, drop, refl, ap, sym, ◌∙◌, inl, inr, arith}
+use Rattle.std.proofs.Common.{◌≡◌, ℕ, zero, suc, ◌+◌, ◌-◌, ◌*◌, ◌<◌, ◌≤◌, Bool, true, false, List, [], ◌∷◌, ◌++◌, length, take, drop, refl, ap, ap₂, sym, ◌∙◌, inl, inr, arith}
 use Rattle.std.specs.Prelude.{◌≢◌, ◌⊎◌, min, nat_lt, nat_le, ◌==◌, ◌&&◌, ◌||◌, not, if◌then◌else◌}
 use Rattle.std.specs.Fn.{iterate}
 use Rattle.std.proofs.lemmas.Bool.{ne_eqb, leb-true, leb-false}
@@ -19,9 +19,13 @@ use Rattle.ansi_screen.specs.Widths.{is_shown, columns}
 use Rattle.ansi_screen.specs.Print.{wrapped}
 use Rattle.ansi_screen.specs.Modes.{with_mode, with_modes, with_margins, with_charset, saving, restored, first_field}
 use Rattle.ansi_screen.specs.After.{State, function_of, first_of, second_of, is_bare, count, set, controlled, executed, escaped, designated}
-use Rattle.ansi_screen.specs.Leaving.{leaving_up, leaving_by_index, is_wrapping, leaving_by_control, leaving_by_escape, leaving_by_function, leaving_by_sequence, leaving, main_screen, before_escape, before_scroll}
+use Rattle.ansi_screen.specs.Edits.{main_screen}
+use Rattle.ansi_screen.specs.Leaving.{rows_left}
+use Rattle.ansi_screen.specs.Text.{first_rows}
 use Rattle.ansi_screen.specs.Reachable.{IsScreen}
-use Rattle.ansi_screen.specs.Laws.{EditsNothing, KeepsRows, once_scrolled}
+use Rattle.ansi_screen.specs.Laws.{EditsNothing, KeepsRows, is_wrapping, before_scroll, once_scrolled}
+use Rattle.ansi_screen.proofs.LeftLemmas.{rows_left-is, length-left}
+use Rattle.ansi_screen.proofs.LeavingTable.{leaving_up, leaving_by_index, leaving_by_control, leaving_by_escape, leaving_by_function, leaving_by_sequence, leaving, before_escape, before_leaving}
 use Rattle.ansi_screen.proofs.PairLemmas.{length-run}
 use Rattle.ansi_screen.proofs.KeptLemmas.{kept-column, kept-settled, kept-going_on}
 use Rattle.ansi_screen.proofs.LawLemmas.{moved-cursor, no-repeat, after-sequence}
@@ -85,6 +89,7 @@ module _ (d : Display) (s : IsScreen d) (top : d.top ≡ 0) (main : d.is_alterna
   leaving-top n = rw (top, main) refl
 
   scrolled-up : (n : ℕ) → (scrolled_up n d).cells ≡ up_by (leaving_up n d) d
+  unfolding rows_up
   scrolled-up n =
       ap (λ k. (rows_up n k d.bottom d).cells) top
       ∙ (up-min n d _ refl s ∙ ap (λ k. up_by k d) (sym (leaving-top n)))
@@ -227,7 +232,7 @@ unfolding leaving_by_index leaving_up
 joined-up d s top main = first-up (row_going_on true d) (kept-going_on true d s) top main
 
 printed-up : (c : ℕ) (s : State) → IsScreen s.display → s.display.top ≡ 0 → s.display.is_alternate ≡ false
-    → (once_scrolled (print c) s).cells ≡ (rows_up (leaving (print c) s.display) 0 s.display.bottom (before_scroll (print c) s.display)).cells
+    → (once_scrolled (print c) s).cells ≡ (rows_up (leaving (print c) s.display) 0 s.display.bottom (before_leaving (print c) s.display)).cells
 unfolding wrapped is_wrapping
 printed-up c s screen top main =
     let d : Display = s.display in
@@ -239,8 +244,8 @@ begun-other : (final : ℕ) (d : Display) → final ≢ 0x63 → before_escape [
 unfolding before_escape
 begun-other final d other = ap (λ t. if t then main_screen d else d) (ne_eqb final 0x63 other)
 
-pub moved-up : (s : State) (call : Call) → IsScreen s.display → KeepsRows call → s.display.top ≡ 0 → s.display.is_alternate ≡ false
-    → (once_scrolled call s).cells ≡ (rows_up (leaving call s.display) 0 s.display.bottom (before_scroll call s.display)).cells
+moved-up : (s : State) (call : Call) → IsScreen s.display → KeepsRows call → s.display.top ≡ 0 → s.display.is_alternate ≡ false
+    → (once_scrolled call s).cells ≡ (rows_up (leaving call s.display) 0 s.display.bottom (before_leaving call s.display)).cells
 unfolding leaving_by_sequence leaving_by_escape before_escape designated
 moved-up s (print c) screen keeps top main = printed-up c s screen top main
 moved-up s (execute byte) screen keeps top main = executed-up byte s.display _ refl screen top main
@@ -261,3 +266,27 @@ moved-up s (hook groups intermediates ignore final) screen keeps top main = sym 
 moved-up s (put byte) screen keeps top main = sym (up-none s.display)
 moved-up s unhook screen keeps top main = sym (up-none s.display)
 moved-up s (osc_dispatch parts bell) screen keeps top main = sym (up-none s.display)
+
+same-before : (call : Call) (d : Display) → KeepsRows call → before_leaving call d ≡ before_scroll call d
+unfolding before_escape
+same-before (print c) d keeps = refl
+same-before (execute byte) d keeps = refl
+same-before (csi_dispatch groups intermediates ignore final) d keeps = refl
+same-before (esc_dispatch [] false final) d keeps = begun-other final d keeps.1
+same-before (esc_dispatch (mark ∷ marks) false final) d keeps = refl
+same-before (esc_dispatch intermediates true final) d keeps = refl
+same-before (hook groups intermediates ignore final) d keeps = refl
+same-before (put byte) d keeps = refl
+same-before unhook d keeps = refl
+same-before (osc_dispatch parts bell) d keeps = refl
+
+pub rows-up : (s : State) (call : Call) → IsScreen s.display → KeepsRows call → s.display.top ≡ 0 → s.display.is_alternate ≡ false
+    → (once_scrolled call s).cells ≡ (rows_up (length (rows_left call s)) 0 s.display.bottom (before_scroll call s.display)).cells
+rows-up s call screen keeps top main =
+    moved-up s call screen keeps top main
+    ∙ ap₂ (λ n (e : Display). (rows_up n 0 s.display.bottom e).cells) (sym (length-left call s)) (same-before call s.display keeps)
+
+-- and they are the first
+pub rows-first : (s : State) (call : Call) → KeepsRows call → rows_left call s ≡ first_rows (length (rows_left call s)) (before_scroll call s.display)
+rows-first s call keeps =
+    rows_left-is call s ∙ ap₂ (λ n (e : Display). first_rows n e) (sym (length-left call s)) (same-before call s.display keeps)

@@ -1,5 +1,4 @@
 -- A screen may go to another thread: it owns its memory alone, and what it keeps for clauses takes none.
-use denote.RattleType.{RattleType}
 use denote.Struct.Declared.{shape, fields}
 use denote.Param.Send.{IsSend, AllSend, sendable, view_send, recorded_send, struct_send}
 use Rattle.std.proofs.Crossing.{crosses}
@@ -7,9 +6,9 @@ use Rattle.ansi_screen.specs.contracts.display.Display as display
 use Rattle.ansi_screen.specs.contracts.display.Display.TheInside as inside
 use Rattle.ansi_screen.specs.contracts.display.Shown as shown
 use Rattle.ansi_screen.specs.contracts.screen.Screen as screen
-use Rattle.ansi_screen.specs.contracts.leaving.Scrolling as scrolling
 use Rattle.ansi_screen.proofs.damage.Damage.TheSendSync as damage_send
 use Rattle.ansi_screen.proofs.grid.Grid.TheSendSync as grid_send
+use Rattle.ansi_screen.proofs.history.History.TheSendSync as history_send
 use Rattle.ansi_screen.proofs.place.Place.TheSendSync as place_send
 
 shown_send : IsSend (shown.the_field).row
@@ -39,7 +38,7 @@ inside_send =
                       search sendable,
                       (
                         search sendable,
-                        (search sendable, (search sendable, (grid, (place, (damage_send.the_send, (shown_send, tt)))))),
+                        (search sendable, (search sendable, (grid, (place, (damage_send.the_send, (shown_send, (search (sendable, crosses, history_send.the_send) depth 20, tt))))))),
                       ),
                     ),
                   ),
@@ -58,12 +57,3 @@ display_send = view_send _ _ _ _ _ inside_send
 
 pub screen_send : IsSend screen.the_row
 screen_send = search (sendable, crosses, display_send) depth 20
-
-pub scrolling_send : (R : RattleType) → IsSend R → IsSend (scrolling.the_row R)
-scrolling_send R s =
-    let of = scrolling.the_type R in
-    recorded_send _ of.D of.to of.to_one (struct_send (shape of) (screen_send, (search (sendable, s), tt)))
-
--- the same, as a field of another type
-pub scrolling_field_send : (R : RattleType) → IsSend R → IsSend (scrolling.the_field R).row
-scrolling_field_send R s = struct_send (shape (scrolling.the_type R)) (screen_send, (search (sendable, s), tt))

@@ -12,15 +12,18 @@ use Rattle.ansi_screen.specs.declared.function.Setting.{Setting}
 use Rattle.ansi_screen.specs.declared.function.Setting.TheVariants.{Rendition, SetModes, ResetModes, Margins, ScrollUp, ScrollDown, ForwardTab, ClearStops, SaveCursor, RestoreCursor}
 use Rattle.ansi_screen.specs.declared.function.Function.{Function}
 use Rattle.ansi_screen.specs.declared.function.Function.TheVariants.{Edits, Moves, Sets, Nothing}
-use Rattle.ansi_screen.specs.Display.{Display, row_start, row_end, renewed}
+use Rattle.ansi_screen.specs.Display.{Display, row_start, row_end}
 use Rattle.ansi_screen.specs.Moves.{to_row, to_column, settled, tabbed, tabbed_back, with_stop}
-use Rattle.ansi_screen.specs.Edits.{row_going_on, erased_part, erased_display, erased_line, erased_characters, deleted_characters, inserted_characters, rows_up, rows_down, is_in_margins, inserted_lines, deleted_lines, index, reverse_index, row_above_ended, erases_from_row, erases_first}
+use Rattle.ansi_screen.specs.Edits.{scrolled_up, kept_by_scroll, kept_by_erase, renewed, row_going_on, erased_part, erased_display, erased_line, erased_characters, deleted_characters, inserted_characters, rows_up, rows_down, is_in_margins, inserted_lines, deleted_lines, index, reverse_index, row_above_ended, erases_from_row, erases_first}
 use Rattle.ansi_screen.specs.Widths.{is_shown, columns}
 use Rattle.ansi_screen.specs.Print.{wrapped, with_room, with_glyph, put, marked, shown, drawn, draws, printed, printed_again}
 use Rattle.ansi_screen.specs.Modes.{with_charset, restored, with_origin, with_margins, to_alternate, to_main, with_alternate, softly_reset, with_private_mode, with_mode, with_modes, first_field}
 use Rattle.ansi_screen.specs.After.{State, function_of, first_of, second_of, is_bare, count, is_known, edited, moved, set as set_by, controlled, sequenced, executed, escaped, designated, repeated, is_repeat, after, after_all}
 use Rattle.ansi_screen.specs.Text.{is_unprinted, used_rows}
-use Rattle.ansi_screen.specs.Leaving.{swapped, main_screen, printed_count, leaving_up, leaving_by_index, is_wrapping, leaving_by_control, leaving_by_escape, leaving_by_function, leaving_by_sequence, leaving}
+use Rattle.ansi_screen.specs.Edits.{swapped, main_screen}
+use Rattle.ansi_screen.specs.Text.{printed_count}
+use Rattle.ansi_screen.specs.Laws.{is_wrapping}
+use Rattle.ansi_screen.proofs.LeavingTable.{leaving_up, leaving_by_index, leaving_by_control, leaving_by_escape, leaving_by_function, leaving_by_sequence, leaving}
 
 -- either of two numbers
 le-if : (t : Bool) (a b n : ℕ) → a ≤ n → b ≤ n → (if t then a else b) ≤ n
@@ -71,7 +74,7 @@ module _ (width height : ℕ) where
 
   sized-index : (d : Display) → HasSize d → HasSize (index d)
   unfolding index
-  sized-index d s = sized-if (d.cursor.row + 1 == d.bottom) (rows_up 1 d.top d.bottom d) (to_row (d.cursor.row + 1) d) (sized-rows_up 1 d.top d.bottom d s) s
+  sized-index d s = sized-if (d.cursor.row + 1 == d.bottom) (scrolled_up 1 d) (to_row (d.cursor.row + 1) d) (sized-rows_up 1 d.top d.bottom (record d { history = kept_by_scroll 1 d }) s) s
 
   sized-reverse : (d : Display) → HasSize d → HasSize (reverse_index d)
   unfolding reverse_index
@@ -88,7 +91,7 @@ module _ (width height : ℕ) where
   sized-edited : (edit : Edit) (n : ℕ) (d : Display) → HasSize d → HasSize (edited edit n d)
   unfolding edited erased_display erased_line erased_characters inserted_lines deleted_lines
   sized-edited InsertCharacters n d s = sized-inserted (count n) d s
-  sized-edited EraseInDisplay n d s = sized-part n 0 (length d.cells) (row_above_ended (erases_from_row n d) d) s
+  sized-edited EraseInDisplay n d s = sized-part n 0 (length d.cells) (row_above_ended (erases_from_row n d) (record d { history = kept_by_erase n d })) s
   sized-edited EraseInLine n d s = sized-part n (row_start d) (row_end d) (row_above_ended (erases_first n d) d) s
   sized-edited InsertLines n d s =
       sized-if (is_in_margins d) (to_column 0 (rows_down (count n) d.cursor.row d.bottom d)) d (sized-rows_down (count n) d.cursor.row d.bottom d s) s
@@ -205,7 +208,7 @@ module _ (width height : ℕ) where
   sized-settings SetModes groups d s = sized-modes (with_mode true) (sized-mode true) groups d s
   sized-settings ResetModes groups d s = sized-modes (with_mode false) (sized-mode false) groups d s
   sized-settings Margins groups d s = sized-margins (first_of groups) (second_of groups) d s
-  sized-settings ScrollUp groups d s = sized-rows_up (count (first_of groups)) d.top d.bottom d s
+  sized-settings ScrollUp groups d s = sized-rows_up (count (first_of groups)) d.top d.bottom (record d { history = kept_by_scroll (count (first_of groups)) d }) s
   sized-settings ScrollDown groups d s = sized-rows_down (count (first_of groups)) d.top d.bottom d s
   sized-settings ForwardTab groups d s = sized-times tabbed sized-tabbed (min (count (first_of groups)) d.width) d s
   sized-settings ClearStops groups d s =

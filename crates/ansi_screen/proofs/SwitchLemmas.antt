@@ -7,14 +7,14 @@ use Rattle.ansi_screen.specs.declared.function.Edit.TheVariants.{InsertCharacter
 use Rattle.ansi_screen.specs.declared.function.Setting.TheVariants.{Rendition, SetModes, ResetModes, Margins, ScrollUp, ScrollDown, ForwardTab, ClearStops, SaveCursor, RestoreCursor}
 use Rattle.ansi_screen.specs.declared.function.Function.{Function}
 use Rattle.ansi_screen.specs.declared.function.Function.TheVariants.{Edits, Moves, Sets, Nothing}
-use Rattle.ansi_screen.specs.Display.{Display, renewed}
+use Rattle.ansi_screen.specs.Display.{Display}
 use Rattle.ansi_screen.specs.Moves.{to_row, to_column, settled, tabbed}
-use Rattle.ansi_screen.specs.Edits.{row_going_on, erased_part, erased_display, inserted_characters, rows_up, rows_down, index, reverse_index, row_above_ended, erases_from_row}
+use Rattle.ansi_screen.specs.Edits.{scrolled_up, kept_by_scroll, kept_by_erase, renewed, row_going_on, erased_part, erased_display, inserted_characters, rows_up, rows_down, index, reverse_index, row_above_ended, erases_from_row}
 use Rattle.ansi_screen.specs.Widths.{is_shown, columns}
 use Rattle.ansi_screen.specs.Print.{wrapped, with_room, with_glyph, put, marked, shown, drawn, draws, printed, printed_again}
 use Rattle.ansi_screen.specs.Modes.{restored, with_charset}
 use Rattle.ansi_screen.specs.After.{State, function_of, first_of, count, is_known, edited, set as set_by, controlled, sequenced, executed, escaped, designated, repeated, is_repeat, after}
-use Rattle.ansi_screen.specs.Leaving.{leaving_by_function, leaving_by_sequence, leaving}
+use Rattle.ansi_screen.proofs.LeavingTable.{leaving_by_function, leaving_by_sequence, leaving}
 
 -- the main screen shows
 abbrev pub IsMain : Display → Type 0
@@ -38,7 +38,7 @@ main-rows_down n first last d s = s
 
 main-index : (d : Display) → IsMain d → IsMain (index d)
 unfolding index
-main-index d s = main-if (d.cursor.row + 1 == d.bottom) (rows_up 1 d.top d.bottom d) (to_row (d.cursor.row + 1) d) (main-rows_up 1 d.top d.bottom d s) s
+main-index d s = main-if (d.cursor.row + 1 == d.bottom) (scrolled_up 1 d) (to_row (d.cursor.row + 1) d) (main-rows_up 1 d.top d.bottom (record d { history = kept_by_scroll 1 d }) s) s
 
 main-reverse : (d : Display) → IsMain d → IsMain (reverse_index d)
 unfolding reverse_index
@@ -139,11 +139,11 @@ main-part kind start end d s = main-if (kind == 0) _ _ s (main-if (kind == 1) _ 
 
 main-erased : (n : ℕ) (d : Display) → IsMain d → IsMain (edited EraseInDisplay n d)
 unfolding edited erased_display
-main-erased n d s = main-part n 0 (length d.cells) (row_above_ended (erases_from_row n d) d) s
+main-erased n d s = main-part n 0 (length d.cells) (row_above_ended (erases_from_row n d) (record d { history = kept_by_erase n d })) s
 
 main-scrolled : (groups : List (List ℕ)) (d : Display) → IsMain d → IsMain (set_by ScrollUp groups d)
 unfolding set_by
-main-scrolled groups d s = main-rows_up (count (first_of groups)) d.top d.bottom d s
+main-scrolled groups d s = main-rows_up (count (first_of groups)) d.top d.bottom (record d { history = kept_by_scroll (count (first_of groups)) d }) s
 
 function-main : (function : Function) (groups : List (List ℕ)) (d : Display) → IsMain d
     → (leaving_by_function function groups d ≡ 0) ⊎ IsMain (controlled function groups d)

@@ -16,10 +16,10 @@ use Rattle.ansi_screen.specs.declared.function.Setting.{Setting}
 use Rattle.ansi_screen.specs.declared.function.Setting.TheVariants.{Rendition, SetModes, ResetModes, Margins, ScrollUp, ScrollDown, ForwardTab, ClearStops, SaveCursor, RestoreCursor}
 use Rattle.ansi_screen.specs.declared.function.Function.{Function}
 use Rattle.ansi_screen.specs.declared.function.Function.TheVariants.{Edits, Moves, Sets, Nothing}
-use Rattle.ansi_screen.specs.Display.{Display, fresh, renewed, forgotten}
+use Rattle.ansi_screen.specs.Display.{Display, fresh, forgotten}
 use Rattle.ansi_screen.specs.Links.{commanded}
 use Rattle.ansi_screen.specs.Moves.{to_column, settled, up, down, to_line, line_of, to_position, tabbed, tabbed_back, with_stop, cleared_stops}
-use Rattle.ansi_screen.specs.Edits.{erased_display, erased_line, erased_characters, deleted_characters, inserted_characters, inserted_lines, deleted_lines, scrolled_up, scrolled_down, index, reverse_index}
+use Rattle.ansi_screen.specs.Edits.{erased_display, erased_line, erased_characters, deleted_characters, inserted_characters, inserted_lines, deleted_lines, scrolled_up, scrolled_down, index, reverse_index, renewed}
 use Rattle.ansi_screen.specs.Print.{printed, printed_again}
 use Rattle.ansi_screen.specs.Widths.{is_shown, columns}
 use Rattle.ansi_screen.specs.Modes.{with_style, shifted, with_charset, saving, restored, with_margins, with_modes, with_mode, with_private_mode, softly_reset, first_field}

@@ -2,7 +2,7 @@
 --
 -- Sources: ECMA-48 (5th edition), 8.3 (ED, EL, ECH, ICH, DCH, IL, DL, SU, SD); xterm's ctlseqs;
 -- terminfo(5), "bce", for the background of erased places.
-use Rattle.std.specs.Prelude.{ℕ, ◌+◌, ◌-◌, min, Bool, true, false, ◌&&◌, nat_lt, List, ◌++◌, length, take, drop, replicate, slice_index_or, slice_set, if◌then◌else◌}
+use Rattle.std.specs.Prelude.{ℕ, zero, suc, ◌+◌, ◌-◌, ◌*◌, min, Bool, true, false, ◌&&◌, nat_lt, List, [], ◌∷◌, ◌++◌, length, take, drop, replicate, slice_index_or, slice_set, if◌then◌else◌}
 use Rattle.ansi_style.specs.declared.style.Style.{Style}
 use Rattle.ansi_style.specs.Style.{plain}
 use Rattle.ansi_screen.specs.declared.cell.Cell.{Cell}
@@ -100,3 +100,8 @@ deleted count start end space cells =
 abbrev pub inserted : ℕ → ℕ → ℕ → Cell → List Cell → List Cell
 inserted count start end space cells =
     change start end (moved_on count space) (cut (end - min count (end - start)) cells)
+
+-- the first n rows of cells, which stand row by row
+abbrev pub rows_of : (n width : ℕ) → List Cell → List (List Cell)
+rows_of zero width cells = []
+rows_of (suc n) width cells = rows_of n width cells ++ take width (drop (n * width) cells) ∷ []

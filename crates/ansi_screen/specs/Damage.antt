@@ -2,11 +2,12 @@
 -- have.
 --
 -- Sources: libvterm's `vterm.h` (`damage`, `VTermRect`); Alacritty's `TermDamage` (a span of columns for each line).
-use Rattle.std.specs.Prelude.{◌≡◌, ◌≤◌, ◌⊎◌, ℕ, ◌+◌, ◌*◌, ◌<◌, min, max, Bool, false, List, length, take, drop, get_or}
+use Rattle.std.specs.Prelude.{◌≡◌, ◌≤◌, ◌⊎◌, ⊤, ℕ, Option, None, Some, ◌+◌, ◌*◌, ◌<◌, min, max, Bool, false, List, length, take, drop, get_or}
 use Rattle.ansi_screen.specs.declared.cell.Cell.{Cell}
 use Rattle.ansi_screen.specs.declared.damage.Span.{Span}
 use Rattle.ansi_screen.specs.Cells.{cell_at}
 use Rattle.ansi_screen.specs.Display.{Display, Picture, picture, IsSized, most_columns}
+use Rattle.ansi_screen.specs.History.{Kept}
 
 -- what is noted: of each row the columns that were written, and whether the frame can have changed
 pub record Noted : Type 0 where
@@ -46,9 +47,16 @@ pub record KeepsColumns (left right : ℕ) (olds news : List Cell) : Type 0 wher
   pub front : take left news ≡ take left olds
   pub back : drop right news ≡ drop right olds
 
--- What holds of a display in memory: sizes and places, a span for each row, and all that can have changed is noted.
+-- What is kept of rows that left has rows of this width.
+abbrev pub HasHistory : (width : ℕ) → Option Kept → Type 0
+HasHistory width None = ⊤
+HasHistory width (Some kept) = kept.columns ≡ width
+
+-- What holds of a display in memory: sizes and places, room for rows that leave, a span for each row, and all that can
+-- have changed is noted.
 pub record IsDisplay (noted : Noted) (d : Display) : Type 0 where
   pub sized : IsSized d
+  pub kept : HasHistory d.width d.history
   pub long : length noted.spans ≡ d.height
   pub damage : HasDamage d.width d.height noted d.shown (picture d)
 

@@ -1,12 +1,13 @@
 -- A terminal's display: its cells, and all that decides what a call does to it.
 --
 -- Rows and columns count from 0, row by row from the top left, in one flat list of cells.
-use Rattle.std.specs.Prelude.{◌≡◌, ℕ, zero, suc, ◌+◌, ◌*◌, ◌%◌, ◌<◌, ◌≤◌, Bool, true, false, ◌==◌, List, [], ◌∷◌, ◌++◌, length, take, drop, replicate}
+use Rattle.std.specs.Prelude.{◌≡◌, ℕ, zero, suc, Option, None, ◌+◌, ◌*◌, ◌%◌, ◌<◌, ◌≤◌, Bool, true, false, ◌==◌, List, [], ◌∷◌, ◌++◌, length, take, drop, replicate}
 use Rattle.ansi_style.specs.Style.{plain}
 use Rattle.ansi_screen.specs.declared.cell.Cell.{Cell}
 use Rattle.ansi_screen.specs.declared.place.Charsets.{Charsets}
 use Rattle.ansi_screen.specs.declared.place.Place.{Place}
 use Rattle.ansi_screen.specs.Cells.{blank}
+use Rattle.ansi_screen.specs.History.{Kept}
 
 -- What decides, beside the cells that show, what a call does: what was saved, margins, tabs, and the alternate screen
 -- with what it covers.
@@ -52,6 +53,8 @@ pub record Display : Type 0 where
   pub hidden_saved : Place
   -- the picture of it when its damage (`Damage`) was last forgotten; no call reads it
   pub shown : Picture
+  -- what it keeps of the rows that left it, if it keeps any; no call reads it
+  pub history : Option Kept
 
 -- its picture
 abbrev pub picture : Display → Picture
@@ -96,7 +99,7 @@ stops (suc n) = stops n ++ (n % 8 == 0) ∷ []
 abbrev pub blanks : ℕ → ℕ → List Cell
 blanks width height = replicate (height * width) (blank plain)
 
--- A new display, of which nothing was shown but blanks.
+-- A new display, of which nothing was shown but blanks, and which keeps no rows that leave it.
 abbrev pub fresh : ℕ → ℕ → Display
 fresh width height = record {
   width = width;
@@ -127,11 +130,8 @@ fresh width height = record {
       hidden_saved = home;
     };
   };
+  history = None;
 }
-
--- RIS: each display is a new one, but for what was shown of it.
-abbrev pub renewed : Display → Display
-renewed d = record (fresh d.width d.height) { shown = d.shown }
 
 -- What holds of the sizes and places of every display.
 pub record IsSized (d : Display) : Type 0 where

@@ -1,12 +1,19 @@
 -- Edits of cells: each is a row of this table, over the one form of `Cells`.
 --
--- Sources: xterm's ctlseqs; ECMA-48, 8.3 (ED, EL, ECH, ICH, DCH, IL, DL, SU, SD); for IND, RI
--- and DECSTBM the VT510 manual.
-use Rattle.std.specs.Prelude.{ℕ, ◌+◌, ◌-◌, ◌*◌, min, Bool, true, false, ◌&&◌, ◌==◌, nat_lt, nat_le, List, length, if◌then◌else◌}
+-- Rows leave the main screen where they move up past its first row, and where all of it is taken away (ED 2, RIS), up to
+-- the last in which something was printed. None leaves by DL or another ED, nor from the alternate screen.
+--
+-- Sources: xterm's ctlseqs; ECMA-48, 8.3 (ED, EL, ECH, ICH, DCH, IL, DL, SU, SD); for IND, RI, RIS
+-- and DECSTBM the VT510 manual. For rows that leave: xterm(1), "-sl" (lines scrolled off the top of the window are saved);
+-- its ctlseqs, 1049 (nothing of the alternate screen is saved). Before ED 2 and RIS tmux saves the rows up to the last
+-- that is used (`grid_view_clear_history`), and before ED 2 VTE does so (`clear_screen`); xterm does not.
+use Rattle.std.specs.Prelude.{ℕ, ◌+◌, ◌-◌, ◌*◌, min, Option, Bool, true, false, ◌&&◌, not, ◌==◌, nat_lt, nat_le, List, length, if◌then◌else◌}
 use Rattle.ansi_screen.specs.declared.cell.Cell.{Cell}
 use Rattle.ansi_screen.specs.Cells.{blank, going_on, within, change, erased, moved_back, moved_on, deleted, inserted}
-use Rattle.ansi_screen.specs.Display.{Display, here, row_start, row_end}
+use Rattle.ansi_screen.specs.Display.{Display, fresh, here, row_start, row_end}
+use Rattle.ansi_screen.specs.History.{Kept, with_left}
 use Rattle.ansi_screen.specs.Moves.{to_row, to_column}
+use Rattle.ansi_screen.specs.Text.{first_rows, printed_rows}
 
 abbrev pub with_cells : List Cell → Display → Display
 with_cells cells d = record d { cells = cells }
@@ -39,8 +46,14 @@ erases_from_row kind d = kind == 0 && d.cursor.column == 0
 unfoldable pub erases_first : ℕ → Display → Bool
 erases_first kind d = if kind == 0 then d.cursor.column == 0 else true
 
+-- ED 2 takes away all of the screen that shows.
+unfoldable pub kept_by_erase : ℕ → Display → Option Kept
+kept_by_erase kind d = if kind == 2 && not d.is_alternate then with_left (printed_rows d) d.history else d.history
+
 unfoldable pub erased_display : ℕ → Display → Display
-erased_display kind d = erased_part kind 0 (length d.cells) (row_above_ended (erases_from_row kind d) d)
+erased_display kind d =
+    erased_part kind 0 (length d.cells)
+    (row_above_ended (erases_from_row kind d) (record d { history = kept_by_erase kind d }))
 
 unfoldable pub erased_line : ℕ → Display → Display
 erased_line kind d = erased_part kind (row_start d) (row_end d) (row_above_ended (erases_first kind d) d)
@@ -73,9 +86,14 @@ unfoldable pub rows_down : ℕ → ℕ → ℕ → Display → Display
 rows_down n first last d =
     with_cells (within (first * d.width) (last * d.width) (moved_on (n * d.width) (space d)) d.cells) d
 
+-- of n rows that scroll up within the margins those at the top of the main screen leave
+unfoldable pub kept_by_scroll : ℕ → Display → Option Kept
+kept_by_scroll n d =
+    if d.top == 0 && not d.is_alternate then with_left (first_rows (min n d.bottom) d) d.history else d.history
+
 -- SU, SD: what is within the margins scrolls
 abbrev pub scrolled_up : ℕ → Display → Display
-scrolled_up n d = rows_up n d.top d.bottom d
+scrolled_up n d = rows_up n d.top d.bottom (record d { history = kept_by_scroll n d })
 
 abbrev pub scrolled_down : ℕ → Display → Display
 scrolled_down n d = rows_down n d.top d.bottom d
@@ -96,3 +114,18 @@ index d = if d.cursor.row + 1 == d.bottom then scrolled_up 1 d else to_row (d.cu
 
 unfoldable pub reverse_index : Display → Display
 reverse_index d = if d.cursor.row == d.top then scrolled_down 1 d else to_row (d.cursor.row - 1) d
+
+-- the display with the main and the alternate screen in each other's place; and the main screen, where it is hidden
+abbrev pub swapped : Display → Display
+swapped d = record d { cells = d.hidden; hidden = d.cells }
+
+abbrev pub main_screen : Display → Display
+main_screen d = if d.is_alternate then swapped d else d
+
+-- RIS: each display is a new one, but for what was shown of it and for what it keeps: all of the main screen is taken
+-- away, also where it is hidden.
+abbrev pub renewed : Display → Display
+renewed d = record (fresh d.width d.height) {
+  shown = d.shown;
+  history = with_left (printed_rows (main_screen d)) d.history;
+}

@@ -1,5 +1,5 @@
 -- A grid of cells: rows of one width, which stand in memory in any order.
-use Rattle.std.specs.Prelude.{◌≡◌, ◌<◌, ◌≤◌, ℕ, zero, suc, ◌==◌, List, [], ◌∷◌, length, map, slice_index_or, if◌then◌else◌}
+use Rattle.std.specs.Prelude.{◌≡◌, ◌⊎◌, ◌<◌, ◌≤◌, ℕ, zero, suc, ◌==◌, List, [], ◌∷◌, length, map, slice_index_or, if◌then◌else◌}
 use Rattle.std.specs.List.{flat_map, AllByRecursion}
 use Rattle.ansi_style.specs.Style.{plain}
 use Rattle.ansi_screen.specs.declared.cell.Cell.{Cell}
@@ -26,6 +26,14 @@ in_order order rows = map (λ at. slice_index_or rows at []) order
 -- All cells from a place on are plain blanks.
 abbrev pub IsBlankFrom : ℕ → List Cell → Type 0
 IsBlankFrom from cells = (place : ℕ) → from ≤ place → cell_at place cells ≡ blank plain
+
+-- A place is not among those from one up to another.
+abbrev pub IsBeside : (first past place : ℕ) → Type 0
+IsBeside first past place = (place < first) ⊎ (past ≤ place)
+
+-- All cells beside those from a place up to another are plain blanks.
+abbrev pub IsBlankBeside : (first past : ℕ) → List Cell → Type 0
+IsBlankBeside first past cells = (place : ℕ) → IsBeside first past place → cell_at place cells ≡ blank plain
 
 -- Each row has so many cells, and the halves of its wide characters are in pairs.
 abbrev pub AreRows : ℕ → List (List Cell) → Type 0

@@ -1,5 +1,5 @@
 -- What the laws speak of.
-use Rattle.std.specs.Prelude.{◌≡◌, ◌≢◌, ⊤, ◌⊎◌, ℕ, ◌+◌, ◌-◌, ◌≤◌, false, true, ◌&&◌, not, ◌==◌, if◌then◌else◌, List, [], ◌∷◌, ◌++◌, length, map, replicate, encode_utf8}
+use Rattle.std.specs.Prelude.{◌≡◌, ◌≢◌, ⊤, ◌⊎◌, ℕ, ◌+◌, ◌-◌, ◌≤◌, nat_lt, Bool, false, true, ◌&&◌, not, ◌==◌, if◌then◌else◌, List, [], ◌∷◌, ◌++◌, length, map, replicate, encode_utf8}
 use Rattle.std.specs.List.{AllByRecursion, flat_map, join_by}
 use Rattle.anstyle_parse.specs.Stream.Call.{Call, print, execute, csi_dispatch, esc_dispatch}
 use Rattle.anstyle_parse.specs.Laws.Lawful.{is_character}
@@ -12,6 +12,7 @@ use Rattle.ansi_screen.specs.declared.function.Function.TheVariants.{Edits, Move
 use Rattle.ansi_screen.specs.declared.function.Setting.TheVariants.{ScrollDown}
 use Rattle.ansi_screen.specs.Cells.{plain_cell, blank}
 use Rattle.ansi_screen.specs.Display.{Display, Picture, blanks}
+use Rattle.ansi_screen.specs.Edits.{row_going_on}
 use Rattle.ansi_screen.specs.Widths.{is_shown, columns}
 use Rattle.ansi_screen.specs.Print.{wrapped}
 use Rattle.ansi_screen.specs.After.{State, function_of, displayed}
@@ -47,6 +48,15 @@ KeepsRows (csi_dispatch groups [] false final) = (final ≢ 0x62) × EditsNothin
 KeepsRows (csi_dispatch groups (mark ∷ marks) false final) = ⊥
 KeepsRows (esc_dispatch [] false final) = (final ≢ 0x4D) × (final ≢ 0x63)
 KeepsRows call = ⊤
+
+-- whether autowrap comes before a character
+unfoldable pub is_wrapping : ℕ → Display → Bool
+is_wrapping c d = is_shown c && not (columns c == 0) && nat_lt d.width (d.cursor.column + columns c) && d.wraps
+
+-- the display before such a call scrolls it: where autowrap comes, the cursor's row goes on in the next
+abbrev pub before_scroll : Call → Display → Display
+before_scroll (print c) d = if is_wrapping c d then row_going_on true d else d
+before_scroll call d = d
 
 -- the display once a call has scrolled it: before the character that it prints is put, if it prints one
 abbrev pub once_scrolled : Call → State → Display

@@ -12,6 +12,8 @@ pub mod Runs
 pub mod Modes
 pub mod Reachable
 pub mod Grid
+pub mod History
+pub mod Ring
 pub mod After
 pub mod Leaving
 pub mod Size

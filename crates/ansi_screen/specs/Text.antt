@@ -9,7 +9,7 @@ use Rattle.ansi_screen.specs.declared.cell.Part.{Part}
 use Rattle.ansi_screen.specs.declared.cell.Part.TheVariants.{Empty}
 use Rattle.ansi_screen.specs.declared.text.LeftOut.{LeftOut}
 use Rattle.ansi_screen.specs.declared.text.LeftOut.TheVariants.{Blanks, Unprinted}
-use Rattle.ansi_screen.specs.Cells.{is_right, cell_at}
+use Rattle.ansi_screen.specs.Cells.{is_right, cell_at, rows_of}
 use Rattle.ansi_screen.specs.Display.{Display, row_cells}
 
 -- the characters of no column that came after a cell's own
@@ -72,3 +72,13 @@ rows_text (suc row) d = rows_text row d ++ (row_text (row_cells row d) ++ 0x0A �
 -- the text of the display
 abbrev pub text_of : Display → List ℕ
 text_of d = rows_text (used_rows is_blank d.height d) d
+
+-- so many rows, from the first on; and those up to the last in which something was printed, and how many these are
+abbrev pub first_rows : ℕ → Display → List (List Cell)
+first_rows n d = rows_of n d.width d.cells
+
+abbrev pub printed_count : Display → ℕ
+printed_count d = used_rows is_unprinted d.height d
+
+abbrev pub printed_rows : Display → List (List Cell)
+printed_rows d = first_rows (printed_count d) d

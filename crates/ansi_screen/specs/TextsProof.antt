@@ -4,10 +4,9 @@ use Rattle.std.proofs.Common.{◌≡◌, ℕ, ◌<◌, IsTrue, arith, List, [], 
 use Rattle.anstyle_parse.specs.Stream.Call.{Call}
 use Rattle.anstyle_parse.proofs.Characters.Encoding.{within_parts}
 use Rattle.ansi_screen.specs.declared.cell.Cell.{Cell}
-use Rattle.ansi_screen.specs.declared.leaving.Scrolling.{Scrolling}
 use Rattle.ansi_screen.specs.After.{State, after, after_all}
 use Rattle.ansi_screen.specs.Runs.{is_printed_ascii}
-use Rattle.ansi_screen.specs.Leaving.{rows_left, all_left, TakesRows, screen_of, taker_of, Scrolls, ScrollsAll}
+use Rattle.ansi_screen.specs.Leaving.{rows_left, all_left, TakesRows, Scrolled, screen_of, taker_of, Scrolls, ScrollsAll}
 
 -- printed ASCII is ASCII
 pub printed-low : (b : ℕ) → IsTrue (is_printed_ascii b) → b < 0x80
@@ -34,8 +33,8 @@ becomes-more old middle new calls more first second =
 pub all_left-append : (calls more : List Call) (s : State) → all_left (calls ++ more) s ≡ all_left calls s ++ all_left more (after_all calls s)
 all_left-append [] more s = refl
 all_left-append (call ∷ calls) more s =
-    ap (λ rows. rows_left call s.display ++ rows) (all_left-append calls more (after call s))
-    ∙ sym (append_assoc (rows_left call s.display) (all_left calls (after call s)) (all_left more (after_all calls (after call s))))
+    ap (λ rows. rows_left call s ++ rows) (all_left-append calls more (after call s))
+    ∙ sym (append_assoc (rows_left call s) (all_left calls (after call s)) (all_left more (after_all calls (after call s))))
 
 -- of a screen of which no row is lost
 module _ {R : Type 0} (takes : R → List Cell → R → Type 0) where
@@ -45,16 +44,16 @@ module _ {R : Type 0} (takes : R → List Cell → R → Type 0) where
   took-append (row ∷ rows) more a b c first second =
       (first.0, first.1, took-append rows more first.0 b c first.2 second)
 
-  pub scrolls-none : (s : Scrolling R) → ScrollsAll takes s [] s
+  pub scrolls-none : (s : Scrolled R) → ScrollsAll takes s [] s
   scrolls-none s = record { screen = refl; taken = refl }
 
-  pub scrolls-one : (old : Scrolling R) (call : Call) (new : Scrolling R) → Scrolls takes old call new → ScrollsAll takes old (call ∷ []) new
+  pub scrolls-one : (old : Scrolled R) (call : Call) (new : Scrolled R) → Scrolls takes old call new → ScrollsAll takes old (call ∷ []) new
   scrolls-one old call new is = record {
     screen = is.screen;
-    taken = subst (λ rows. TakesRows takes (taker_of old) rows (taker_of new)) (sym (append-nil (rows_left call (screen_of old).display))) is.taken;
+    taken = subst (λ rows. TakesRows takes (taker_of old) rows (taker_of new)) (sym (append-nil (rows_left call (screen_of old)))) is.taken;
   }
 
-  pub scrolls-more : (old middle new : Scrolling R) (calls more : List Call) → ScrollsAll takes old calls middle → ScrollsAll takes middle more new
+  pub scrolls-more : (old middle new : Scrolled R) (calls more : List Call) → ScrollsAll takes old calls middle → ScrollsAll takes middle more new
       → ScrollsAll takes old (calls ++ more) new
   scrolls-more old middle new calls more first second = record {
     screen = second.screen ∙ (ap (after_all more) first.screen ∙ sym (after_all-append calls more (screen_of old)));
@@ -64,7 +63,7 @@ module _ {R : Type 0} (takes : R → List Cell → R → Type 0) where
   }
 
   -- calls by which no row leaves
-  pub scrolls-stays : (old new : Scrolling R) (calls : List Call) → screen_of new ≡ after_all calls (screen_of old) → taker_of new ≡ taker_of old
+  pub scrolls-stays : (old new : Scrolled R) (calls : List Call) → screen_of new ≡ after_all calls (screen_of old) → taker_of new ≡ taker_of old
       → all_left calls (screen_of old) ≡ [] → ScrollsAll takes old calls new
   scrolls-stays old new calls shown same stays = record {
     screen = shown;

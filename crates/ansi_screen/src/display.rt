@@ -3,7 +3,6 @@ ghost use Rattle.std.specs.Prelude.{◌≡◌, ◌+◌, ◌*◌, ◌<◌, ◌≤
 
 mod edits;
 mod following;
-mod leaving;
 mod links;
 mod modes;
 mod moves;
@@ -14,6 +13,7 @@ mod print;
 use crate::cell::Cell;
 use crate::damage::Damage;
 use crate::grid::Grid;
+use crate::history::History;
 use crate::place::Place;
 use crate::size::{MAX_COLUMNS, MAX_ROWS, MIN_COLUMNS, MIN_ROWS};
 use crate::tabs::reset_stops;
@@ -49,6 +49,8 @@ pub(crate) struct Display {
     /// What can have changed since it was forgotten, and, for clauses alone, the picture of then.
     damage: Damage,
     shown: Shown,
+    /// The last rows that left it, if it keeps any.
+    history: Option<History>,
 }
 
 /// A picture of a display. It is there for clauses alone, and takes no memory.
@@ -101,6 +103,7 @@ impl Model for Display {
           hidden_saved = s.shown.hidden_saved.value;
         };
       };
+      history = s.history;
     } };
 
     ghost invariant = { λ s. (s.hidden.width ≡ s.cells.width) × (s.hidden.height ≡ s.cells.height)
@@ -133,11 +136,15 @@ impl Model for Display {
               hidden_saved = s.shown.hidden_saved.value;
             };
           };
+          history = s.history;
         }) };
 }
 
 impl Display {
-    ghost use Rattle.ansi_screen.specs.Display.{fresh, IsSized, row_cells};
+    ghost use Rattle.std.specs.Prelude.{Some};
+    ghost use Rattle.std.specs.Option.{option_map};
+    ghost use Rattle.ansi_screen.specs.Display.{fresh, forgotten, IsSized, row_cells};
+    ghost use Rattle.ansi_screen.specs.History.{nothing_kept};
     ghost use Rattle.ansi_screen.specs.Grid.{IsBlankFrom};
 
     /// A blank screen of so many columns and rows, with the cursor at its top left. `Err` means
@@ -181,7 +188,62 @@ impl Display {
             hidden_saved: Place::home(),
             damage,
             shown,
+            history: None,
         })
+    }
+
+    /// The same, which keeps the last `most` of the rows that leave it.
+    pub(crate) fn with_history(
+        alloc: Global,
+        columns: usize,
+        rows: usize,
+        most: usize,
+    ) -> Result<Display, AllocError>
+        requires min_columns { MIN_COLUMNS ≤ columns }
+        requires max_columns { columns ≤ MAX_COLUMNS }
+        requires min_rows { MIN_ROWS ≤ rows }
+        requires max_rows { rows ≤ MAX_ROWS }
+        ensures { IfOk result (λ display.
+            display ≡ record (fresh columns rows) { history = Some (nothing_kept most columns) }) }
+    {
+        let history = History::new(alloc, most, columns)?;
+        let mut display = Display::new(alloc, columns, rows)?;
+        // (for the proof: no columns are none)
+        let _ = display.cells.width();
+        display.history = Some(history);
+        Ok(display)
+    }
+
+    /// Another one that shows and keeps the same. `Err` means that memory is wanting.
+    pub(crate) fn copy(&self, alloc: Global) -> Result<Display, AllocError>
+        ensures { IfOk result (λ copy. copy ≡ forgotten self.now) }
+    {
+        let (columns, rows) = (self.columns(), self.rows());
+        let mut copy = Display::new(alloc, columns, rows)?;
+        copy.copy_from(self);
+        if let Some(history) = &self.history {
+            copy.history = Some(history.copy(alloc)?);
+        }
+        Ok(copy)
+    }
+
+    /// The last rows that left it, if it keeps any.
+    #[inline]
+    pub(crate) fn history(&self) -> Option<&History>
+        ensures { option_map (λ history. history.now) result ≡ self.now.history }
+    {
+        self.history.as_ref()
+    }
+
+    /// The rows that left are kept no longer.
+    pub(crate) fn clear_history(&mut self)
+        ensures { self.new ≡ record self.old {
+          history = option_map (λ kept. nothing_kept kept.most kept.columns) self.old.history;
+        } }
+    {
+        if let Some(history) = &mut self.history {
+            history.clear();
+        }
     }
 
     /// How many columns it has.

@@ -1,17 +1,19 @@
 //! The cells of a screen: rows, of which each can stand anywhere in memory.
-ghost use Rattle.std.specs.Prelude.{◌≡◌, ℕ, true, false, ◌+◌, ◌-◌, ◌*◌, ◌<◌, ◌≤◌, ◌++◌, length, take, drop, replicate, IfOk};
+ghost use Rattle.std.specs.Prelude.{◌≡◌, ℕ, true, false, ◌+◌, ◌-◌, ◌*◌, ◌<◌, ◌≤◌, ◌++◌, length, min, take, drop, replicate, IfOk};
 ghost use Rattle.ansi_style.specs.Style.{plain};
-ghost use Rattle.ansi_screen.specs.Cells.{blank, cell_at, marked_before, going_on, within, change, erased, moved_back, moved_on, deleted, inserted};
-ghost use Rattle.ansi_screen.specs.Damage.{KeepsColumns, IsOutside, span_at};
+ghost use Rattle.ansi_screen.specs.Cells.{blank, cell_at, rows_of, marked_before, going_on, within, change, erased, moved_back, moved_on, deleted, inserted};
+ghost use Rattle.ansi_screen.specs.Damage.{HasHistory, KeepsColumns, IsOutside, span_at};
 ghost use Rattle.ansi_screen.specs.Following.{copied};
 ghost use Rattle.ansi_screen.specs.Grid.{with_list, IsBlankFrom, IsOrder};
+ghost use Rattle.ansi_screen.specs.History.{kept_after, kept_after_all, with_left};
 ghost use Rattle.ansi_screen.specs.Print.{glyph};
 ghost use Rattle.ansi_screen.specs.Reachable.{RowsBegin};
 ghost use Rattle.ansi_screen.specs.Runs.{with_glyphs};
 
 use crate::cell::Cell;
 use crate::damage::Damage;
-use crate::row::{Row, has_ground};
+use crate::history::History;
+use crate::row::{Row, blank_rows, has_ground};
 use ansi_style::Style;
 use std::alloc::{AllocError, Global};
 use std::marker::Model;
@@ -47,17 +49,6 @@ impl Model for Grid {
         ≡ replicate (length (flat (in_order g.order.items g.rows.items))) (blank plain)) };
 }
 
-/// So many blank rows.
-fn blank_rows(alloc: Global, width: usize, height: usize) -> Result<Vec<Row>, AllocError>
-    ensures { IfOk result (λ rows. rows.items ≡ replicate height (replicate width (blank plain))) }
-{
-    let mut rows = Vec::with_capacity(alloc, height)?;
-    for _row in 0..height {
-        rows.push(Row::new(alloc, width)?)?;
-    }
-    Ok(rows)
-}
-
 /// So many numbers, from 0.
 #[tactic(auto, using(crate::proofs::MovedLemmas::order_push, crate::proofs::MovedLemmas::order_none))]
 fn numbers(alloc: Global, count: u16) -> Result<Vec<u16>, AllocError>
@@ -71,18 +62,26 @@ fn numbers(alloc: Global, count: u16) -> Result<Vec<u16>, AllocError>
     Ok(order)
 }
 
-/// The first one comes after the others. A loop, which moves several at once as it is compiled, takes less than a general
-/// rotation, and most scrolls are by one row.
+/// The first one comes after the others. To move these takes less than a general rotation, and most scrolls are by one row.
 fn move_first_to_end(order: &mut [u16])
     requires { 0 < length order.old }
     ensures { order.new ≡ drop 1 order.old ++ take 1 order.old }
 {
     let first = order[0];
     let last = order.len() - 1;
-    for i in 0..last {
-        order[i] = order[i + 1];
-    }
+    order.copy_within(1.., 0);
     order[last] = first;
+}
+
+/// The last one comes before the others.
+fn move_last_to_front(order: &mut [u16])
+    requires { 0 < length order.old }
+    ensures { order.new ≡ drop (length order.old - 1) order.old ++ take (length order.old - 1) order.old }
+{
+    let last = order.len() - 1;
+    let number = order[last];
+    order.copy_within(..last, 1);
+    order[0] = number;
 }
 
 /// The first `count` come after the others.
@@ -102,7 +101,11 @@ fn rotate_on(order: &mut [u16], count: usize)
     requires { count ≤ length order.old }
     ensures { order.new ≡ drop (length order.old - count) order.old ++ take (length order.old - count) order.old }
 {
-    order.rotate_right(count);
+    if count == 1 {
+        move_last_to_front(order);
+    } else {
+        order.rotate_right(count);
+    }
 }
 
 impl Grid {
@@ -475,6 +478,94 @@ impl Grid {
             let count = count.min(last - first);
             self.rotate_on(first, last, count);
             self.fill_rows(first, first + count, style);
+        }
+    }
+
+    /// A row leaves, and is kept; a blank one takes its place.
+    fn hand_out_row(&mut self, row: usize, style: Style, history: &mut History)
+        requires row { row < self.old.height }
+        requires columns { history.old.columns ≡ self.old.width }
+        ensures cells { self.new ≡ with_list (within (row * self.old.width) (row * self.old.width + self.old.width)
+            (erased (blank style)) self.old.cells) self.old }
+        ensures kept { history.new ≡ kept_after (take self.old.width (drop (row * self.old.width) self.old.cells))
+            history.old }
+    {
+        self.is_written = true;
+        let at = usize::from(self.order[row]);
+        history.keep(&mut self.rows[at]);
+        self.rows[at].fill(style);
+    }
+
+    /// The first `count` rows leave, in order, and are kept; blank ones take their places.
+    pub(crate) fn hand_out(&mut self, count: usize, style: Style, history: &mut History)
+        requires within { count ≤ self.old.height }
+        requires columns { history.old.columns ≡ self.old.width }
+        ensures cells { self.new ≡ with_list (within 0 (count * self.old.width) (erased (blank style)) self.old.cells)
+            self.old }
+        ensures kept { history.new ≡ kept_after_all (rows_of count self.old.width self.old.cells) history.old }
+    {
+        // (for the proof: the cells fill the rows)
+        let _ = self.width();
+        for row in 0..count {
+            self.hand_out_row(row, style, history);
+        }
+    }
+
+    /// The first rows up to `last` move up by as many as `count`, and those that leave at the top are kept; blank ones
+    /// follow.
+    pub(crate) fn move_out(
+        &mut self,
+        last: usize,
+        count: usize,
+        style: Style,
+        history: &mut History,
+    )
+        requires within { last ≤ self.old.height }
+        requires columns { history.old.columns ≡ self.old.width }
+        ensures cells { self.new ≡ with_list (within 0 (last * self.old.width)
+            (moved_back (count * self.old.width) (blank style)) self.old.cells) self.old }
+        ensures kept { history.new ≡ kept_after_all (rows_of (min count last) self.old.width self.old.cells)
+            history.old }
+    {
+        // (for the proof: the cells fill the rows)
+        let _ = self.width();
+        let count = count.min(last);
+        self.hand_out(count, style, history);
+        self.rotate_back(0, last, count);
+    }
+
+    /// The first `count` rows leave, and are kept if any are; blank ones take their places.
+    pub(crate) fn leave(&mut self, count: usize, style: Style, history: &mut Option<History>)
+        requires within { count ≤ self.old.height }
+        requires columns { HasHistory self.old.width history.old }
+        ensures cells { self.new ≡ with_list (within 0 (count * self.old.width) (erased (blank style)) self.old.cells)
+            self.old }
+        ensures kept { history.new ≡ with_left (rows_of count self.old.width self.old.cells) history.old }
+    {
+        match history {
+            Some(history) => self.hand_out(count, style, history),
+            None => self.fill_rows(0, count, style),
+        }
+    }
+
+    /// The first rows up to `last` move up by as many as `count`, and those that leave at the top are kept if any are;
+    /// blank ones follow.
+    pub(crate) fn scroll_out(
+        &mut self,
+        last: usize,
+        count: usize,
+        style: Style,
+        history: &mut Option<History>,
+    )
+        requires within { last ≤ self.old.height }
+        requires columns { HasHistory self.old.width history.old }
+        ensures cells { self.new ≡ with_list (within 0 (last * self.old.width)
+            (moved_back (count * self.old.width) (blank style)) self.old.cells) self.old }
+        ensures kept { history.new ≡ with_left (rows_of (min count last) self.old.width self.old.cells) history.old }
+    {
+        match history {
+            Some(history) => self.move_out(last, count, style, history),
+            None => self.move_back(0, last, count, style),
         }
     }
 }

@@ -2,12 +2,13 @@
 ghost use Rattle.std.specs.Prelude.{◌≡◌, ◌≤◌, ◌+◌, ◌↔◌, ℕ, None, false, List, [], ◌∷◌, ◌++◌, length, IsTrue};
 ghost use Rattle.std.specs.List.{flat_map, AllByRecursion};
 ghost use Rattle.anstyle_parse.specs.Stream.Call.{Call};
-ghost use Rattle.ansi_screen.specs.Display.{Picture, renewed, most_columns, most_rows};
+ghost use Rattle.ansi_screen.specs.Display.{Picture, most_columns, most_rows};
+ghost use Rattle.ansi_screen.specs.Edits.{renewed, rows_up};
 ghost use Rattle.ansi_screen.specs.Reachable.{IsScreen, HasContents};
 ghost use Rattle.ansi_screen.specs.After.{State, new_state, after, after_all, Shows};
-ghost use Rattle.ansi_screen.specs.Leaving.{ScrollsBy, leaving, before_scroll};
-ghost use Rattle.ansi_screen.specs.Edits.{rows_up};
-ghost use Rattle.ansi_screen.specs.Laws.{with_shown, KeepsRows, once_scrolled, reset, save, restore, IsMoveOrStyle, carriage_return, erase_rest, printing, typing, lines_text, FitsIn, page, text_columns};
+ghost use Rattle.ansi_screen.specs.Leaving.{ScrollsBy, unkept, rows_left};
+ghost use Rattle.ansi_screen.specs.Text.{first_rows};
+ghost use Rattle.ansi_screen.specs.Laws.{with_shown, KeepsRows, before_scroll, once_scrolled, reset, save, restore, IsMoveOrStyle, carriage_return, erase_rest, printing, typing, lines_text, FitsIn, page, text_columns};
 
 use crate::cell::{Cell, Marks, Part};
 use crate::leaving::{Scrolling, TakeRow};
@@ -52,19 +53,22 @@ pub fn determined()
         → Shows old bytes second → first ≡ second }
 {}
 
-/// ESC c makes every screen a new one of its size; so after it, nothing counts that came before.
+/// ESC c makes every screen a new one of its size; so after it, nothing counts that came before, but for rows that
+/// left and are kept.
 pub fn reset()
     ensures new { (screen : State) → (after reset screen).display ≡ renewed screen.display }
     ensures last { (screen : State) → (after reset screen).last ≡ None }
     ensures forgets { (a b : State) (calls : List Call)
         → a.display.width ≡ b.display.width → a.display.height ≡ b.display.height
-        → with_shown b.display.shown (after_all (reset ∷ calls) a) ≡ after_all (reset ∷ calls) b }
+        → with_shown b.display.shown (unkept (after_all (reset ∷ calls) a)) ≡ unkept (after_all (reset ∷ calls) b) }
 {}
 
-/// What was shown of a screen when its damage was last forgotten decides nothing, and no call changes it.
+/// What was shown of a screen when its damage was last forgotten decides nothing, and no call changes it; and what is
+/// kept of rows that left decides nothing.
 pub fn unread()
-    ensures { (screen : State) (picture : Picture) (calls : List Call)
+    ensures shown { (screen : State) (picture : Picture) (calls : List Call)
         → after_all calls (with_shown picture screen) ≡ with_shown picture (after_all calls screen) }
+    ensures kept { (screen : State) (calls : List Call) → after_all calls (unkept screen) ≡ unkept (after_all calls screen) }
 {}
 
 /// ESC 7 and ESC 8 enclose moves and styles: out of origin mode, nothing of them is left.
@@ -109,10 +113,12 @@ pub fn scrolled_off<R: TakeRow>(scrolling: &mut Scrolling<R>, pieces: &[&[u8]])
 /// first row, each call that edits no cells leaves them as they were, moved up by the rows that leave,
 /// but for the character that it prints.
 pub fn rows_leave()
-    ensures { (screen : State) (call : Call) → IsScreen screen.display → KeepsRows call
+    ensures up { (screen : State) (call : Call) → IsScreen screen.display → KeepsRows call
         → screen.display.top ≡ 0 → screen.display.is_alternate ≡ false
-        → (once_scrolled call screen).cells
-        ≡ (rows_up (leaving call screen.display) 0 screen.display.bottom (before_scroll call screen.display)).cells }
+        → (once_scrolled call screen).cells ≡ (rows_up (length (rows_left call screen)) 0 screen.display.bottom
+        (before_scroll call screen.display)).cells }
+    ensures rows { (screen : State) (call : Call) → KeepsRows call → rows_left call screen
+        ≡ first_rows (length (rows_left call screen)) (before_scroll call screen.display) }
 {}
 
 /// `==` of cells, of places and of sizes is equality, and so it is of what they are made of.

@@ -1,15 +1,22 @@
-//! Scrollback: a screen that hands on the rows that leave it, before they are gone; which ones, [`Scrolling`] says.
-ghost use Rattle.std.specs.Prelude.{◌≡◌, ◌≤◌, ℕ, List, ◌∷◌, length, map};
+//! Scrollback: a screen of which each row is taken that leaves it; which rows leave, [`Scrolling`] says.
+ghost use Rattle.std.specs.Prelude.{◌≡◌, ◌≤◌, ℕ, List, Some, ◌∷◌, length, map, IfOk};
 ghost use Rattle.ansi_screen.specs.declared.cell.Cell.{Cell as ACell};
+ghost use Rattle.ansi_screen.specs.Display.{IsSized};
+ghost use Rattle.ansi_screen.specs.Edits.{swapped};
 ghost use Rattle.ansi_screen.specs.Grid.{IsBlankFrom};
-ghost use Rattle.ansi_screen.specs.Leaving.{TakesRows, first_rows, printed_rows, swapped};
+ghost use Rattle.ansi_screen.specs.Leaving.{TakesRows, kept_rows, with_room_alone};
+ghost use Rattle.ansi_screen.specs.Text.{first_rows, printed_rows};
 
 use crate::cell::Cell;
 use crate::display::Display;
+use crate::history::History;
 use crate::screen::Screen;
+use crate::size::{MAX_COLUMNS, MAX_ROWS, MIN_COLUMNS, MIN_ROWS};
 use crate::text::LeftOut;
 use crate::texts::{PutRuns, print_by_runs};
 use anstyle_parse::{Params, Perform, PerformText};
+use std::alloc::{AllocError, Global};
+use std::marker::Model;
 
 /// Takes rows, one after another.
 pub trait TakeRow {
@@ -40,8 +47,44 @@ pub trait TakeCommand: TakeRow {
         ensures { takes_command self.old link (map (λ part. part.now) parts.now) self.new };
 }
 
-/// A screen, and a taker to which each row of the main screen that scrolls off at the top is handed,
-/// before it is gone: in order, each once. A row that autowrap left is handed on as one that goes on.
+/// A screen with room for the rows that leave it by a call, until they are taken.
+#[derive(Drop)]
+pub struct Scrollable {
+    screen: Screen,
+}
+
+impl Model for Scrollable {
+    ghost use Rattle.std.specs.Prelude.{◌≡◌};
+    ghost use Rattle.ansi_screen.specs.After.{State};
+    ghost use Rattle.ansi_screen.specs.Leaving.{unkept, HasRoom};
+
+    ghost Value = { State };
+
+    ghost view = { λ s. unkept s.screen };
+
+    ghost invariant = { λ s. HasRoom s.screen };
+}
+
+impl Scrollable {
+    ghost use Rattle.ansi_screen.specs.After.{new_state};
+
+    /// A blank screen of so many columns and rows. `Err` means that memory is wanting.
+    pub fn new(alloc: Global, columns: usize, rows: usize) -> Result<Scrollable, AllocError>
+        requires min_columns { MIN_COLUMNS ≤ columns }
+        requires max_columns { columns ≤ MAX_COLUMNS }
+        requires min_rows { MIN_ROWS ≤ rows }
+        requires max_rows { rows ≤ MAX_ROWS }
+        ensures { IfOk result (λ screen. screen ≡ new_state columns rows) }
+    {
+        let screen = Screen::with_history(alloc, columns, rows, rows)?;
+        // (for the proof: it is within its sizes)
+        let _ = screen.rows();
+        Ok(Scrollable { screen })
+    }
+}
+
+/// A screen, and a taker to which each row of the main screen is handed that leaves it: after the call by which it does,
+/// in order, each once. A row that autowrap left is handed on as one that goes on.
 ///
 /// Such rows leave by LF, VT, FF, IND, NEL, SU and autowrap, where the upper margin is the first row. By ED 2 and RIS,
 /// which take away all of the main screen, its rows leave up to the last in which something was printed. No row leaves
@@ -50,6 +93,46 @@ pub trait TakeCommand: TakeRow {
 pub struct Scrolling<R> {
     screen: Screen,
     taker: R,
+}
+
+impl<R> Model for Scrolling<R> {
+    ghost use Rattle.ansi_screen.specs.Leaving.{Scrolled, unkept, HasRoom};
+
+    ghost Value = { Scrolled R };
+
+    ghost view = { λ s. record { screen = unkept s.screen; taker = s.taker } };
+
+    ghost invariant = { λ s. HasRoom s.screen };
+}
+
+/// Hands rows on that left.
+#[inline(never)]
+fn hand_on_left<R: TakeRow>(history: &History, taker: &mut R)
+    ensures { TakesRows R.takes taker.old history.now.rows taker.new }
+{
+    let (count, _) = history.counts();
+    for number in 0..count {
+        if let Some((cells, written)) = history.row(number) {
+            taker.take_row(cells, written);
+        }
+    }
+}
+
+/// Hands the rows on that a call has made leave, if any has.
+#[inline]
+fn take_left<R: TakeRow>(screen: &mut Screen, taker: &mut R)
+    ensures screen { screen.new ≡ with_room_alone screen.old }
+    ensures taken { TakesRows R.takes taker.old (kept_rows screen.old.display.history) taker.new }
+    ensures sized { IsSized screen.new.display }
+{
+    if let Some(history) = screen.history()
+        && !history.is_new()
+    {
+        hand_on_left(history, taker);
+        screen.clear_history();
+    }
+    // (for the proof: it is within its sizes)
+    let _ = screen.rows();
 }
 
 /// Hands the first rows on.
@@ -65,19 +148,22 @@ fn hand_on<R: TakeRow>(display: &Display, count: usize, taker: &mut R)
 
 impl<R: TakeRow> Scrolling<R> {
     ghost use Rattle.ansi_screen.specs.After.{as_shown};
-    ghost use Rattle.ansi_screen.specs.Leaving.{screen_of, taker_of};
+    ghost use Rattle.ansi_screen.specs.Leaving.{unkept, screen_of, taker_of};
 
     /// One with this screen, of which no row has left yet.
-    pub fn new(screen: Screen, taker: R) -> Scrolling<R>
+    pub fn new(screen: Scrollable, taker: R) -> Scrolling<R>
         ensures screen { screen_of result ≡ screen }
         ensures taker { taker_of result ≡ taker }
     {
-        Scrolling { screen, taker }
+        Scrolling {
+            screen: screen.screen,
+            taker,
+        }
     }
 
     /// The screen.
     pub fn screen(&self) -> &Screen
-        ensures { result.now ≡ screen_of self.now }
+        ensures { unkept result.now ≡ screen_of self.now }
     {
         &self.screen
     }
@@ -107,7 +193,7 @@ impl<R: TakeRow> Scrolling<R> {
 
     /// The screen, and what took the rows.
     pub fn into_parts(self) -> (Screen, R)
-        ensures screen { result.0 ≡ screen_of self }
+        ensures screen { unkept result.0 ≡ screen_of self }
         ensures taker { result.1 ≡ taker_of self }
     {
         let Scrolling { screen, taker } = self;
@@ -173,15 +259,13 @@ impl<R: TakeRow> Perform for Scrolling<R> {
     ghost means = { Scrolls R.takes };
 
     fn print(&mut self, c: char) {
-        let count = self.screen.begin_print(c);
-        self.hand_on(count);
         self.screen.print(c);
+        take_left(&mut self.screen, &mut self.taker);
     }
 
     fn execute(&mut self, byte: u8) {
-        let count = self.screen.display().leaving_by_control(byte);
-        self.hand_on(count);
         self.screen.execute(byte);
+        take_left(&mut self.screen, &mut self.taker);
     }
 
     fn hook(&mut self, params: &Params, intermediates: &[u8], ignore: bool, action: u8) {
@@ -198,24 +282,19 @@ impl<R: TakeRow> Perform for Scrolling<R> {
 
     fn osc_dispatch(&mut self, params: &[&[u8]], bell_terminated: bool) {
         self.screen.osc_dispatch(params, bell_terminated);
+        // (for the proof: it is within its sizes)
+        let _ = self.screen.rows();
     }
 
     fn csi_dispatch(&mut self, params: &Params, intermediates: &[u8], ignore: bool, action: u8) {
-        if !ignore {
-            let display = self.screen.display();
-            let count = display.leaving_by_sequence(params, intermediates, action);
-            self.hand_on(count);
-        }
         self.screen
             .csi_dispatch(params, intermediates, ignore, action);
+        take_left(&mut self.screen, &mut self.taker);
     }
 
     fn esc_dispatch(&mut self, intermediates: &[u8], ignore: bool, byte: u8) {
-        if !ignore {
-            let count = self.screen.begin_escape(intermediates, byte);
-            self.hand_on(count);
-        }
         self.screen.esc_dispatch(intermediates, ignore, byte);
+        take_left(&mut self.screen, &mut self.taker);
     }
 }
 
@@ -227,7 +306,10 @@ impl<R: TakeRow> PutRuns for Scrolling<R> {
     ghost receives = { ScrollsAll R.takes };
 
     fn put_front(&mut self, run: &[u8]) -> usize {
-        self.screen.put_run(run)
+        let count = self.screen.put_run(run);
+        // (for the proof: it is within its sizes)
+        let _ = self.screen.rows();
+        count
     }
 
     ghost receives_none = { scrolls-none R.takes };

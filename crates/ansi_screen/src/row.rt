@@ -1,39 +1,129 @@
-//! A row of cells, which knows how far it was written.
+//! A row of cells, which knows in which columns it was written.
 ghost use Rattle.std.specs.Prelude.{◌≡◌, false, ◌+◌, ◌<◌, ◌≤◌, length, replicate, IfOk};
+ghost use Rattle.std.specs.Vec.{vec_capacity};
 ghost use Rattle.ansi_style.specs.Style.{plain};
 ghost use Rattle.ansi_screen.specs.Cells.{blank, marked_before, going_on, within, change, erased, deleted, inserted};
 ghost use Rattle.ansi_screen.specs.Damage.{KeepsColumns};
-ghost use Rattle.ansi_screen.specs.Grid.{IsBlankFrom};
+ghost use Rattle.ansi_screen.specs.Grid.{AreRows, IsBlankFrom, IsBlankBeside};
 ghost use Rattle.ansi_screen.specs.Print.{glyph};
 ghost use Rattle.ansi_screen.specs.Reachable.{IsWhole};
 ghost use Rattle.ansi_screen.specs.Runs.{with_glyphs};
 
 use crate::cell::Cell;
 use crate::runs;
+use crate::size::MAX_COLUMNS;
 use ansi_style::{Color, Style};
 use std::alloc::{AllocError, Global};
 use std::marker::Model;
 
-/// A row of cells. What lies past the last cell that was written costs nothing to make blank.
+/// The columns from `first` up to `past`, in which something was written; none, where `past` is not greater than
+/// `first`.
+#[derive(Clone, Copy)]
+struct Written {
+    first: usize,
+    past: usize,
+}
+
+const NOTHING: Written = Written {
+    first: MAX_COLUMNS,
+    past: 0,
+};
+
+impl Written {
+    ghost use Rattle.std.specs.Prelude.{◌≡◌, ◌⊎◌, ◌≤◌, ◌<◌, ℕ, min, max};
+    ghost use Rattle.ansi_screen.specs.Grid.{IsBeside};
+
+    /// The columns from `start` up to `end` were written too.
+    #[inline]
+    fn join(&mut self, start: usize, end: usize)
+        ensures { self.new ≡ record { first = min self.old.first start; past = max self.old.past end } }
+    {
+        if start < self.first {
+            self.first = start;
+        }
+        if self.past < end {
+            self.past = end;
+        }
+    }
+
+    /// The columns that are left where those from `start` up to `end` became plain blanks.
+    fn without(self, start: usize, end: usize) -> Written
+        ensures fewer { result.past ≤ self.past }
+        ensures left { (column : ℕ) → IsBeside result.first result.past column
+            → IsBeside self.first self.past column ⊎ ((start ≤ column) × (column < end)) }
+    {
+        if self.first < start {
+            Written {
+                first: self.first,
+                past: if self.past <= end {
+                    self.past.min(start)
+                } else {
+                    self.past
+                },
+            }
+        } else if end < self.past {
+            Written {
+                first: self.first.max(end),
+                past: self.past,
+            }
+        } else {
+            NOTHING
+        }
+    }
+}
+
+/// A row of cells. Beside the columns that were written it costs nothing to make them blank.
 #[derive(Drop)]
 pub(crate) struct Row {
     cells: Vec<Cell>,
-    /// From here on all cells are plain blanks.
-    written: usize,
+    /// All cells beside these are plain blanks.
+    written: Written,
 }
 
 impl Model for Row {
     ghost use Rattle.std.specs.Prelude.{◌≤◌, List, length};
     ghost use Rattle.ansi_screen.specs.declared.cell.Cell.{Cell};
-    ghost use Rattle.ansi_screen.specs.Grid.{IsBlankFrom};
+    ghost use Rattle.ansi_screen.specs.Grid.{IsBlankBeside};
     ghost use Rattle.ansi_screen.specs.Reachable.{IsWhole};
 
     ghost Value = { List Cell };
 
     ghost view = { λ row. row.cells.items };
 
-    ghost invariant = { λ row. (row.written ≤ length row.cells.items) × IsWhole (length row.cells.items) row.cells.items
-        × IsBlankFrom row.written row.cells.items };
+    ghost invariant = { λ row. (row.written.past ≤ length row.cells.items)
+        × IsWhole (length row.cells.items) row.cells.items
+        × IsBlankBeside row.written.first row.written.past row.cells.items };
+}
+
+/// So many blank rows.
+pub(crate) fn blank_rows(alloc: Global, width: usize, height: usize) -> Result<Vec<Row>, AllocError>
+    ensures { IfOk result (λ rows. rows.items ≡ replicate height (replicate width (blank plain))) }
+{
+    let mut rows = Vec::with_capacity(alloc, height)?;
+    for _row in 0..height {
+        rows.push(Row::new(alloc, width)?)?;
+    }
+    Ok(rows)
+}
+
+/// Rows with the cells of these, each of so many, and room for as many rows as `most`.
+pub(crate) fn copied_rows(
+    alloc: Global,
+    rows: &[Row],
+    width: usize,
+    most: usize,
+) -> Result<Vec<Row>, AllocError>
+    requires { AreRows width rows.now }
+    ensures copies { IfOk result (λ copies. copies.items ≡ rows.now) }
+    ensures capacity { IfOk result (λ copies. most ≤ vec_capacity copies) }
+{
+    let mut copies = Vec::with_capacity(alloc, most)?;
+    for row in rows {
+        let mut copy = Row::new(alloc, width)?;
+        copy.copy(row);
+        copies.push(copy)?;
+    }
+    Ok(copies)
 }
 
 /// Whether the style has a background of its own.
@@ -44,60 +134,60 @@ pub(crate) fn has_ground(style: Style) -> bool
     !matches!(style.background, Color::Default)
 }
 
-/// The cells from `start` up to `end` are blank, whatever stood beside them. From `written` on they were plain blanks;
-/// the answer is from where on they are so then.
-fn clear(cells: &mut [Cell], written: usize, start: usize, end: usize, style: Style) -> usize
+/// The cells from `start` up to `end` are blank, whatever stood beside them. Beside `written` they were plain blanks;
+/// the answer is beside which columns they are so then.
+fn clear(cells: &mut [Cell], written: Written, start: usize, end: usize, style: Style) -> Written
     requires order { start ≤ end }
     requires within { end ≤ length cells.old }
-    requires written { written ≤ length cells.old }
-    requires rest { IsBlankFrom written cells.old }
+    requires written { written.past ≤ length cells.old }
+    requires blank { IsBlankBeside written.first written.past cells.old }
     ensures cells { cells.new ≡ within start end (erased (blank style)) cells.old }
     ensures length { length cells.new ≡ length cells.old }
-    ensures written { result ≤ length cells.old }
-    ensures rest { IsBlankFrom result cells.new }
+    ensures written { result.past ≤ length cells.old }
+    ensures blank { IsBlankBeside result.first result.past cells.new }
 {
     if has_ground(style) {
         runs::clear(&mut cells[start..end], Cell::blank(style));
-        written.max(end)
+        let mut written = written;
+        written.join(start, end);
+        written
     } else {
-        clear_written(cells, written, start, end)
+        clear_written(cells, written, start, end);
+        written.without(start, end)
     }
 }
 
 /// The same, as plain blanks.
-fn clear_written(cells: &mut [Cell], written: usize, start: usize, end: usize) -> usize
+fn clear_written(cells: &mut [Cell], written: Written, start: usize, end: usize)
     requires order { start ≤ end }
     requires within { end ≤ length cells.old }
-    requires written { written ≤ length cells.old }
-    requires rest { IsBlankFrom written cells.old }
+    requires written { written.past ≤ length cells.old }
+    requires blank { IsBlankBeside written.first written.past cells.old }
     ensures cells { cells.new ≡ within start end (erased (blank plain)) cells.old }
     ensures length { length cells.new ≡ length cells.old }
-    ensures written { result ≤ length cells.old }
-    ensures rest { IsBlankFrom result cells.new }
 {
-    let past = end.min(written);
-    if start < past {
-        runs::clear(&mut cells[start..past], Cell::blank(Style::default()));
-        if past == written { start } else { written }
-    } else {
-        written
+    let from = start.max(written.first);
+    let past = end.min(written.past);
+    if from < past {
+        runs::clear(&mut cells[from..past], Cell::blank(Style::default()));
     }
 }
 
-/// Cells become as others are, from which they differ between `left` and `right` alone. From `written` on both are
+/// Cells become as others are, from which they differ between `left` and `right` alone. Beside `written` both are
 /// plain blanks.
-fn copy_between(cells: &mut [Cell], left: usize, right: usize, written: usize, others: &[Cell])
+fn copy_between(cells: &mut [Cell], left: usize, right: usize, written: Written, others: &[Cell])
     requires length { length cells.old ≡ length others.now }
     requires order { left ≤ right }
     requires within { right ≤ length cells.old }
     requires kept { KeepsColumns left right others.now cells.old }
-    requires blank { IsBlankFrom written cells.old }
-    requires others_blank { IsBlankFrom written others.now }
+    requires blank { IsBlankBeside written.first written.past cells.old }
+    requires others_blank { IsBlankBeside written.first written.past others.now }
     ensures { cells.new ≡ others.now }
 {
-    let past = right.min(written);
-    if left < past {
-        cells[left..past].copy_from_slice(&others[left..past]);
+    let from = left.max(written.first);
+    let past = right.min(written.past);
+    if from < past {
+        cells[from..past].copy_from_slice(&others[from..past]);
     }
 }
 
@@ -107,7 +197,18 @@ impl Row {
         ensures { IfOk result (λ row. row ≡ replicate width (blank plain)) }
     {
         let cells = Vec::from_elem(alloc, Cell::blank(Style::default()), width)?;
-        Ok(Row { cells, written: 0 })
+        Ok(Row::of_blanks(cells, width))
+    }
+
+    /// One of so many cells, which are plain blanks.
+    pub(crate) fn of_blanks(cells: Vec<Cell>, width: usize) -> Row
+        requires { cells.items ≡ replicate width (blank plain) }
+        ensures { result ≡ replicate width (blank plain) }
+    {
+        Row {
+            cells,
+            written: NOTHING,
+        }
     }
 
     /// Its cells.
@@ -124,7 +225,7 @@ impl Row {
         ensures within { result ≤ length self.now }
         ensures rest { IsBlankFrom result self.now }
     {
-        self.written
+        self.written.past
     }
 
     /// All cells are blank.
@@ -144,9 +245,8 @@ impl Row {
         ensures length { length self.new ≡ length self.old }
         ensures whole { IsWhole (length self.old) self.new }
     {
-        let past = self.written.max(other.written);
-        runs::copy(self.cells.as_mut_slice(), past, other.cells.as_slice());
-        self.written = other.written;
+        let end = self.cells.len();
+        self.copy_columns(0, end, other);
     }
 
     /// It becomes as another one is, from which it differs in the columns from `left` up to `right` alone.
@@ -160,7 +260,8 @@ impl Row {
         ensures whole { IsWhole (length self.old) self.new }
     {
         let others_written = other.written;
-        let written = self.written.max(others_written);
+        let mut written = self.written;
+        written.join(others_written.first, others_written.past);
         copy_between(
             self.cells.as_mut_slice(),
             left,
@@ -200,7 +301,7 @@ impl Row {
             count,
             Cell::blank(style),
         );
-        self.written = end;
+        self.written.join(start, end);
     }
 
     /// Inserts blanks at `start`; the cells from there on move, and those past the end are lost.
@@ -218,7 +319,7 @@ impl Row {
             count,
             Cell::blank(style),
         );
-        self.written = end;
+        self.written.join(start, end);
     }
 
     /// A character of so many columns, in a link or in none.
@@ -231,7 +332,7 @@ impl Row {
         ensures whole { IsWhole (length self.old) self.new }
     {
         runs::put(self.cells.as_mut_slice(), column, columns, c, style, link);
-        self.written = self.written.max(column + usize::from(columns));
+        self.written.join(column, column + usize::from(columns));
     }
 
     /// Printed ASCII, a character in each cell from `column` on, in a link or in none.
@@ -244,7 +345,7 @@ impl Row {
         ensures whole { IsWhole (length self.old) self.new }
     {
         runs::put_run(self.cells.as_mut_slice(), column, run, style, link);
-        self.written = self.written.max(column + run.len());
+        self.written.join(column, column + run.len());
     }
 
     /// A mark of the character that stands before a column.
@@ -256,7 +357,7 @@ impl Row {
         ensures whole { IsWhole (length self.old) self.new }
     {
         runs::mark_before(self.cells.as_mut_slice(), column, mark);
-        self.written = self.written.max(column);
+        self.written.join(column.saturating_sub(2), column);
     }
 
     /// Says whether it goes on in the next row, and answers whether it did not before.
@@ -270,7 +371,7 @@ impl Row {
         if runs::goes_on(self.cells.as_slice()) != on {
             let end = self.cells.len();
             runs::set_goes_on(self.cells.as_mut_slice(), end, on);
-            self.written = end;
+            self.written.join(end - 1, end);
             true
         } else {
             false

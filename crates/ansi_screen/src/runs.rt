@@ -55,16 +55,6 @@ pub(crate) fn clear(cells: &mut [Cell], blank: Cell)
     }
 }
 
-/// The first cells become as others are.
-pub(crate) fn copy(cells: &mut [Cell], count: usize, others: &[Cell])
-    requires few { count ≤ length cells.old }
-    requires length { length cells.old ≡ length others.now }
-    ensures copied { cells.new ≡ take count others.now ++ drop count cells.old }
-    ensures length { length cells.new ≡ length cells.old }
-{
-    cells[..count].copy_from_slice(&others[..count]);
-}
-
 /// Moves cells to the front by as many as `count`; blanks follow them.
 pub(crate) fn move_back(run: &mut [Cell], count: usize, blank: Cell)
     ensures { run.new ≡ moved_back count blank run.old }

@@ -1,9 +1,10 @@
 //! A screen as a performer.
-ghost use Rattle.std.specs.Prelude.{◌≡◌, ◌<◌, ◌≤◌, ◌⊎◌, ℕ, false, [], length, take, IfOk};
+ghost use Rattle.std.specs.Prelude.{◌≡◌, ◌<◌, ◌≤◌, ◌⊎◌, ℕ, None, [], false, length, take, IfOk};
 ghost use Rattle.ansi_screen.specs.After.{repeatable, is_repeat};
 
 use crate::cell::Cell;
 use crate::display::{Display, first_of};
+use crate::history::History;
 use crate::place::Place;
 use crate::size::{MAX_COLUMNS, MAX_ROWS, MIN_COLUMNS, MIN_ROWS};
 use crate::texts::{PutRuns, print_by_runs};
@@ -56,15 +57,18 @@ fn is_repeat(intermediates: &[u8], final_byte: u8) -> bool
 }
 
 impl Screen {
-    ghost use Rattle.ansi_screen.specs.Display.{IsSized, row_cells, shown_cells, picture};
+    ghost use Rattle.ansi_screen.specs.Display.{fresh, IsSized, row_cells, shown_cells, picture};
     ghost use Rattle.ansi_screen.specs.Grid.{IsBlankFrom};
-    ghost use Rattle.anstyle_parse.specs.Stream.Call.{print, esc_dispatch};
     ghost use Rattle.anstyle_parse.specs.Stream.Items.{EachIs};
     ghost use Rattle.ansi_screen.specs.After.{new_state, as_shown, after_all};
     ghost use Rattle.ansi_screen.specs.Runs.{is_printed_ascii};
     ghost use Rattle.ansi_screen.specs.Laws.{printing};
-    ghost use Rattle.ansi_screen.specs.Leaving.{before_scroll, leaving, all_left, swapped};
-    ghost use Rattle.ansi_screen.specs.Following.{IsShownOf, HasSizeOf};
+    ghost use Rattle.std.specs.Prelude.{Some};
+    ghost use Rattle.std.specs.Option.{option_map};
+    ghost use Rattle.ansi_screen.specs.Edits.{swapped};
+    ghost use Rattle.ansi_screen.specs.History.{nothing_kept};
+    ghost use Rattle.ansi_screen.specs.Leaving.{all_left, with_room_alone};
+    ghost use Rattle.ansi_screen.specs.Following.{following, IsShownOf, HasSizeOf};
     ghost use Rattle.ansi_screen.specs.Damage.{KeepsColumns};
 
     /// A blank screen of so many columns and rows, with the cursor at its top left. `Err` means
@@ -81,6 +85,55 @@ impl Screen {
             display,
             printed: None,
         })
+    }
+
+    /// The same, which keeps the last `most` of the rows that leave it.
+    pub fn with_history(
+        alloc: Global,
+        columns: usize,
+        rows: usize,
+        most: usize,
+    ) -> Result<Screen, AllocError>
+        requires min_columns { MIN_COLUMNS ≤ columns }
+        requires max_columns { columns ≤ MAX_COLUMNS }
+        requires min_rows { MIN_ROWS ≤ rows }
+        requires max_rows { rows ≤ MAX_ROWS }
+        ensures { IfOk result (λ screen. screen ≡ record {
+          display = record (fresh columns rows) { history = Some (nothing_kept most columns) };
+          last = None;
+        }) }
+    {
+        let display = Display::with_history(alloc, columns, rows, most)?;
+        Ok(Screen {
+            display,
+            printed: None,
+        })
+    }
+
+    /// Another one that shows and keeps the same; what it notes is what changes from now on. `Err` means that memory is
+    /// wanting.
+    pub fn copy(&self, alloc: Global) -> Result<Screen, AllocError>
+        ensures { IfOk result (λ copy. copy ≡ as_shown self.now) }
+    {
+        Ok(Screen {
+            display: self.display.copy(alloc)?,
+            printed: self.printed,
+        })
+    }
+
+    /// The last rows that left it, if it keeps any.
+    #[inline]
+    pub fn history(&self) -> Option<&History>
+        ensures { option_map (λ history. history.now) result ≡ self.now.display.history }
+    {
+        self.display.history()
+    }
+
+    /// The rows that left are kept no longer, and count no more.
+    pub fn clear_history(&mut self)
+        ensures { self.new ≡ with_room_alone self.old }
+    {
+        self.display.clear_history();
     }
 
     /// How many columns it has.
@@ -177,44 +230,28 @@ impl Screen {
     }
 
     /// Becomes as another screen is, from which it differs in no more than can have changed of that, and in the cursor,
-    /// modes and links. Nothing else is copied, and no memory is taken.
+    /// modes and links. Nothing else is copied, what it keeps of rows that left neither, and no memory is taken.
     pub fn catch_up(&mut self, other: &Screen)
         requires { IsShownOf other.now.display self.old.display }
-        ensures { self.new ≡ as_shown other.now }
+        ensures { self.new ≡ record {
+          display = following other.now.display self.old.display;
+          last = other.now.last;
+        } }
     {
         self.display.catch_up(other.display());
         self.printed = other.printed;
     }
 
-    /// Becomes as another screen of its size is. No memory is taken.
+    /// Becomes as another screen of its size is, but for what it keeps of rows that left. No memory is taken.
     pub fn copy_from(&mut self, other: &Screen)
         requires { HasSizeOf other.now.display self.old.display }
-        ensures { self.new ≡ as_shown other.now }
+        ensures { self.new ≡ record {
+          display = following other.now.display self.old.display;
+          last = other.now.last;
+        } }
     {
         self.display.copy_from(other.display());
         self.printed = other.printed;
-    }
-
-    /// What a character does before anything scrolls: where autowrap comes before it, the cursor's row
-    /// goes on in the next. The answer is how many rows leave by it.
-    pub(crate) fn begin_print(&mut self, c: char) -> usize
-        ensures marked { self.new ≡ record self.old { display = before_scroll (print c) self.old.display } }
-        ensures count { result ≡ leaving (print c) self.old.display }
-        ensures within { result ≤ self.new.display.height }
-    {
-        self.display.begin_print(c)
-    }
-
-    /// What an escape sequence of which nothing was dropped does before anything scrolls: before RIS the main screen
-    /// shows. The answer is how many rows leave by it.
-    pub(crate) fn begin_escape(&mut self, intermediates: &[u8], final_byte: u8) -> usize
-        ensures marked { self.new ≡ record self.old {
-          display = before_scroll (esc_dispatch intermediates.now false final_byte) self.old.display;
-        } }
-        ensures count { result ≡ leaving (esc_dispatch intermediates.now false final_byte) self.old.display }
-        ensures within { result ≤ self.new.display.height }
-    {
-        self.display.begin_escape(intermediates, final_byte)
     }
 
     /// The cells of the main and of the alternate screen change places; all else stays.

@@ -5,7 +5,7 @@ use Rattle.ansi_screen.specs.Display.{Display}
 use Rattle.screen_pieces.specs.declared.terminal.Terminal.{Terminal}
 use Rattle.screen_pieces.specs.Drawing.{update_of}
 use Rattle.screen_pieces.specs.Terminal.{display_of, history_of, StandsAfter, IsNew}
-use Rattle.screen_pieces.specs.History.{Kept}
+use Rattle.ansi_screen.specs.History.{Kept}
 use Rattle.screen_pieces.specs.Same.{ShowSame}
 use Rattle.screen_pieces.specs.Text.{HasText, LacksRoom}
 

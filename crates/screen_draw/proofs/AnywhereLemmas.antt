@@ -10,6 +10,7 @@ use Rattle.anstyle_parse.proofs.Agreement.Whole.{AreCalls-machine}
 use Rattle.anstyle_parse.proofs.Division.Only.{AreCalls-only}
 use Rattle.anstyle_parse.proofs.Headline.{AreCalls-forgotten}
 use Rattle.ansi_screen.specs.After.{State, after_all, Shows}
+use Rattle.ansi_screen.specs.Leaving.{unkept}
 use Rattle.ansi_screen.specs.Display.{Display}
 use Rattle.ansi_screen.specs.Reachable.{IsScreen, HasContents}
 use Rattle.ansi_screen.proofs.LawLemmas.{after_all-append}
@@ -20,7 +21,7 @@ use Rattle.screen_draw.proofs.RedrawnLemmas.{redrawn-is}
 use Rattle.screen_draw.proofs.NotedLemmas.{since-stays}
 
 pub drawn-anywhere : (d : Display) (before : List ℕ) (old new : State) → AreCalls (canon (drawn_calls d)) (drawn_calls d) → IsScreen d → HasContents d → IsScreen old.display
-    → old.display.width ≡ d.width → old.display.height ≡ d.height → Shows old (before ++ canon (drawn_calls d)) new → new ≡ drawn_state old.display.shown d
+    → old.display.width ≡ d.width → old.display.height ≡ d.height → Shows old (before ++ canon (drawn_calls d)) new → unkept new ≡ drawn_state old.display.shown d
 drawn-anywhere d before old new made is holds old_is width height (calls, are, leads) =
     let first = machine_calls decoded (before ++ escape_byte ∷ []) (new_machine []) in
     let rest = (escape_text [] false ++ 0x63 ∷ []) ++ canon (shown_screen_calls d) in
@@ -28,7 +29,5 @@ drawn-anywhere d before old new made is holds old_is width height (calls, are, l
     AreCalls-forgotten before rest first (drawn_calls d) (AreCalls-machine (before ++ escape_byte ∷ [])) made in
     let same : calls ≡ first ++ drawn_calls d = AreCalls-only (before ++ canon (drawn_calls d)) calls (first ++ drawn_calls d) are joined in
     let sized = sized-after_all d.width d.height first old (width, height, omega (arith, old_is.sized.margins_within, height)) in
-    leads
-    ∙ ap (λ (l : List Call). after_all l old) same
-    ∙ after_all-append first (drawn_calls d) old
+    ap unkept (leads ∙ ap (λ (l : List Call). after_all l old) same ∙ after_all-append first (drawn_calls d) old)
     ∙ (redrawn-is d (after_all first old) is holds sized.0 sized.1 ∙ ap (λ p. drawn_state p d) (since-stays first old))

@@ -8,7 +8,7 @@ use Rattle.ansi_style.specs.Style.{plain}
 use Rattle.ansi_screen.specs.declared.cell.Cell.{Cell}
 use Rattle.ansi_screen.specs.declared.place.Place.{Place}
 use Rattle.ansi_screen.specs.Cells.{blank, cell_at}
-use Rattle.ansi_screen.specs.Display.{Display, home, renewed, blanks, stops, row_end}
+use Rattle.ansi_screen.specs.Display.{Display, home, blanks, stops, row_end}
 use Rattle.ansi_screen.specs.Edits.{erased_cells}
 use Rattle.ansi_screen.specs.Moves.{to_row, to_position}
 use Rattle.ansi_screen.specs.Modes.{with_private_mode, with_alternate, to_main, into_margins, restored, with_margins}
@@ -19,7 +19,7 @@ use Rattle.screen_draw.specs.Draw.{escape, sequence, private_mode, plain_calls}
 use Rattle.screen_draw.specs.Redrawn.{as_printed, as_drawn, drawn_cells, as_shown}
 use Rattle.screen_draw.specs.Update.{reset_stop_calls, reset_stops_calls, leave_calls, reset_modes, cleared_calls}
 use Rattle.screen_draw.proofs.SelectedLemmas.{after-private, after-insert}
-use Rattle.screen_draw.proofs.CanvasLemmas.{on, after-plain, after-clear}
+use Rattle.screen_draw.proofs.CanvasLemmas.{on, as_new, after-plain, after-clear}
 use Rattle.screen_draw.proofs.SavedLemmas.{clear-all}
 use Rattle.screen_draw.proofs.BehindLemmas.{after-save}
 use Rattle.screen_draw.proofs.RestLemmas.{Tabbed, tabbed, after-column, after-set, after-unset, stop-made, stops_from, stops-are, drawn-blanks, all-rows}
@@ -65,7 +65,7 @@ module _ (base : Display) (cells : List Cell) where
 
 -- the main screen, with nothing covered
 abbrev main_of : Display → List Cell → Place → Place → Display
-main_of d cells p q = record (renewed d) {
+main_of d cells p q = record (as_new d) {
   cells = cells;
   cursor = p;
   saved = q;
@@ -157,7 +157,7 @@ after-all_rows d cells p q s screen contents at =
 
 -- the modes
 after-reset_modes : (d : Display) (cells : List Cell) (p q : Place) (s : State) → IsScreen d → HasContents d → s.display ≡ main_of d cells p q
-    → (r : Place) × ((after_all reset_modes s).display ≡ on (record (renewed d) { saved = q; tabs = d.tabs }) cells r)
+    → (r : Place) × ((after_all reset_modes s).display ≡ on (record (as_new d) { saved = q; tabs = d.tabs }) cells r)
 unfolding with_private_mode
 after-reset_modes d cells p q s screen contents at =
     let (r, rows) = after-all_rows d cells p q s screen contents at in
@@ -174,7 +174,7 @@ after-reset_modes d cells p q s screen contents at =
 first-stop : (n width : ℕ) → n ≡ width → length {A = Bool} [] + n ≡ width
 first-stop n width is = omega arith
 
-pub cleared-is : (d : Display) (s : State) → IsScreen d → HasContents d → s.display ≡ as_shown d.shown d → (after_all (cleared_calls d) s).display ≡ renewed d
+pub cleared-is : (d : Display) (s : State) → IsScreen d → HasContents d → s.display ≡ as_shown d.shown d → (after_all (cleared_calls d) s).display ≡ as_new d
 cleared-is d s screen contents at =
     let w : ℕ = d.width in
     let h : ℕ = d.height in
@@ -187,7 +187,7 @@ cleared-is d s screen contents at =
     let left : one.display ≡ main_of d cells p q = more.1.1 in
     let two : State = after_all reset_modes one in
     let (r, modes) = after-reset_modes d cells p q one screen contents left in
-    let base : Display = record (renewed d) { saved = q } in
+    let base : Display = record (as_new d) { saved = q } in
     let three : State = after_all plain_calls two in
     let plainly : three.display ≡ on (tabbed base d.tabs) cells (record home { column = 0 }) =
     after-plain two ∙ ap (λ (e : Display). record e { cursor = home }) modes in
@@ -203,7 +203,7 @@ cleared-is d s screen contents at =
     let wide : 2 ≤ w = screen.sized.two_columns in
     let six : State = after (sequence (2 ∷ []) 0x4A) five in
     let clear : six.display ≡ on base (blanks w h) home =
-    after-clear five (omega arith)
+    after-clear five (omega arith) (ap (λ (e : Display). e.history) homed)
     ∙ (ap (λ (e : Display). erased_cells 0 (length e.cells) e) homed
     ∙ (ap (λ l. on base l home) (clear-all cells (blank plain)) ∙ ap (λ n. on base (replicate n (blank plain)) home) fill)) in
     ap (λ (e : State). e.display) (after_all-append (leave_calls d.is_alternate) (reset_modes ++ (plain_calls ++ (stops_are ++ (plain_calls ++ last)))) s)

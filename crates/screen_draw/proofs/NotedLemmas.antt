@@ -1,4 +1,4 @@
--- What a screen has noted stays noted; and of a drawing, nothing counts that stood there but the picture.
+-- What a screen has noted stays noted; and of a drawing, nothing counts that stood there but the picture and rows that left.
 use Rattle.std.proofs.Common.{◌≡◌, ℕ, List, refl, ap, sym, ◌∙◌, subst}
 use Rattle.std.specs.Prelude.{None}
 use Rattle.anstyle_parse.specs.Stream.Call.{Call}
@@ -6,11 +6,12 @@ use Rattle.ansi_screen.specs.After.{State, after, after_all, as_shown}
 use Rattle.ansi_screen.specs.Display.{Display, Picture, picture, IsSized, fresh}
 use Rattle.ansi_screen.specs.Following.{IsShownOf}
 use Rattle.ansi_screen.proofs.LawLemmas.{after-reset}
-use Rattle.ansi_screen.proofs.PictureLemmas.{same-after_all}
+use Rattle.ansi_screen.proofs.PictureLemmas.{same-after_all, unkept-after_all}
 use Rattle.ansi_screen.proofs.SizeLemmas.{sized-after_all}
 use Rattle.screen_draw.proofs.PictureLemmas.{sized-since}
 use Rattle.screen_draw.specs.Draw.{escape, shown_screen_calls, drawn_calls}
 use Rattle.ansi_screen.specs.Laws.{with_shown}
+use Rattle.ansi_screen.specs.Leaving.{unkept}
 
 -- the picture stays
 pub since-stays : (calls : List Call) (s : State) → (after_all calls s).display.shown ≡ s.display.shown
@@ -23,22 +24,27 @@ noted-stays calls s d sized noted =
     let size = sized-after_all s.display.width s.display.height calls s (refl, refl, sized.margins_within) in
     record { width = noted.width ∙ sym size.0; height = noted.height ∙ sym size.1; picture = since-stays calls s ∙ noted.picture }
 
--- so it is where the screen was forgotten, and is the one that is shown but for the picture
-pub still-noted : (shown wanted begun new : State) (calls : List Call) → as_shown wanted ≡ as_shown shown → begun ≡ as_shown wanted
+-- so it is where the screen was forgotten, and is the one that is shown but for the picture and rows that left
+pub still-noted : (shown wanted begun new : State) (calls : List Call) → as_shown (unkept wanted) ≡ as_shown (unkept shown) → begun ≡ as_shown wanted
     → IsSized wanted.display → new ≡ after_all calls begun → IsShownOf new.display shown.display
 still-noted shown wanted begun new calls same forgets sized is =
     let small : IsSized begun.display = subst (λ (s : State). IsSized s.display) (sym forgets) (sized-since (picture wanted.display) wanted.display sized) in
+    let alike : IsShownOf (as_shown (unkept wanted)).display shown.display =
+    subst (λ (s : State). IsShownOf s.display shown.display) (sym same) (record { width = refl; height = refl; picture = refl }) in
     let now : IsShownOf begun.display shown.display =
-    subst (λ (s : State). IsShownOf s.display shown.display) (sym (forgets ∙ same)) (record { width = refl; height = refl; picture = refl }) in
+    subst (λ (s : State). IsShownOf s.display shown.display) (sym forgets)
+    (record { width = alike.width; height = alike.height; picture = alike.picture }) in
     subst (λ (s : State). IsShownOf s.display shown.display) (sym is) (noted-stays calls begun shown.display small now)
 
 -- A drawing begins with RIS.
 pub drawing-forgets : (drawn : Display) (a b : State) → a.display.width ≡ b.display.width → a.display.height ≡ b.display.height
-    → after_all (drawn_calls drawn) a ≡ with_shown a.display.shown (after_all (drawn_calls drawn) b)
+    → unkept (after_all (drawn_calls drawn) a) ≡ with_shown a.display.shown (unkept (after_all (drawn_calls drawn) b))
 drawing-forgets drawn a b width height =
     let p : Picture = a.display.shown in
     let rest : List Call = shown_screen_calls drawn in
     let new : ℕ → ℕ → State = λ w h. record { display = record (fresh w h) { shown = p }; last = None } in
-    ap (after_all rest)
-    (after-reset a ∙ (ap (λ w. new w a.display.height) width ∙ (ap (new b.display.width) height ∙ ap (with_shown p) (sym (after-reset b)))))
-    ∙ same-after_all p rest (after (escape 0x63) b)
+    sym (unkept-after_all (drawn_calls drawn) a)
+    ∙ (ap (after_all rest)
+    (after-reset (unkept a)
+    ∙ (ap (λ w. new w a.display.height) width ∙ (ap (new b.display.width) height ∙ ap (with_shown p) (sym (after-reset (unkept b))))))
+    ∙ (same-after_all p rest (after (escape 0x63) (unkept b)) ∙ ap (with_shown p) (unkept-after_all (drawn_calls drawn) b)))

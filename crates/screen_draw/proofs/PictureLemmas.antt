@@ -1,9 +1,11 @@
--- Nothing that is drawn reads the picture from which on a display notes what changes.
+-- Nothing that is drawn reads the picture from which on a display notes what changes, nor what it keeps of the rows that
+-- left it.
 use Rattle.std.proofs.Common.{◌≡◌, ℕ, zero, suc, List, [], ◌++◌, refl, ap, ap₂}
-use Rattle.std.specs.Prelude.{if◌then◌else◌}
+use Rattle.std.specs.Prelude.{if◌then◌else◌, Option}
 use Rattle.anstyle_parse.specs.Stream.Call.{Call}
 use Rattle.ansi_screen.specs.declared.place.Place.{Place}
 use Rattle.ansi_screen.specs.Display.{Display, Picture, IsSized, row_cells}
+use Rattle.ansi_screen.specs.History.{Kept}
 use Rattle.ansi_screen.specs.Reachable.{IsScreen, HasContents}
 use Rattle.screen_draw.specs.Alike.{has_same_frame, looks_same, is_plain, lacks_print, is_steady}
 use Rattle.screen_draw.specs.Draw.{shown_screen_calls}
@@ -51,24 +53,34 @@ contents-since p d c = record {
   main = c.main;
 }
 
+-- the same one, which keeps something else too
+abbrev pub beside : Picture → Option Kept → Display → Display
+beside p history d = record d { shown = p; history = history }
+
 -- updates
-module _ (p q : Picture) (a b : Display) where
-  place-since : (n : ℕ) (start : Place) → place_behind n start (since p a) (since q b) ≡ place_behind n start a b
+module _ (p q : Picture) (history others : Option Kept) (a b : Display) where
+  abbrev first : Display
+  first = beside p history a
+
+  abbrev second : Display
+  second = beside q others b
+
+  place-since : (n : ℕ) (start : Place) → place_behind n start first second ≡ place_behind n start a b
   place-since zero start = refl
   place-since (suc n) start = ap (λ k. (brush_after n 0 (begun_at k) (row_cells n a) (row_cells n b)).place) (place-since n start)
 
-  rows-since : (n : ℕ) (start : Place) → rows_calls n start (since p a) (since q b) ≡ rows_calls n start a b
+  rows-since : (n : ℕ) (start : Place) → rows_calls n start first second ≡ rows_calls n start a b
   rows-since zero start = refl
   rows-since (suc n) start =
       ap₂ (λ (l : List Call) k. l ++ row_calls n 0 (begun_at k) (row_cells n a) (row_cells n b)) (rows-since n start) (place-since n start)
 
-  from-since : (start : Place) → changes_from start (since p a) (since q b) ≡ changes_from start a b
+  from-since : (start : Place) → changes_from start first second ≡ changes_from start a b
   unfolding wants_wrap lacks_print
   from-since start =
       let modes : List Call = mode_changes 7 a.wraps b.wraps ++ mode_changes 25 a.is_visible b.is_visible in
       ap₂ (λ (l : List Call) k. l ++ (cursor_changes k b ++ modes)) (rows-since b.height start) (place-since b.height start)
 
-  pub update-since : update_calls (since p a) (since q b) ≡ update_calls a b
+  pub update-since : update_calls first second ≡ update_calls a b
   unfolding is_steady looks_same has_same_frame is_plain lacks_print
   update-since =
       ap (λ l. if is_steady a b then margin_changes a b ++ l else if looks_same a b then [] else cleared_calls a ++ shown_screen_calls b)

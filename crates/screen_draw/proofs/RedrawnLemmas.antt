@@ -3,14 +3,16 @@ use Rattle.std.proofs.Common.{◌≡◌, ℕ, ◌+◌, Bool, true, List, [], len
 use Rattle.std.specs.Prelude.{map, None}
 use Rattle.ansi_screen.specs.declared.cell.Cell.{Cell}
 use Rattle.ansi_screen.specs.declared.place.Place.{Place}
-use Rattle.ansi_screen.specs.Display.{Display, Picture, home, fresh, renewed, stops, letters}
+use Rattle.ansi_screen.specs.Display.{Display, Picture, home, fresh, stops, letters}
 use Rattle.ansi_screen.specs.After.{State, after, after_all}
+use Rattle.ansi_screen.specs.Leaving.{unkept}
 use Rattle.ansi_screen.specs.Reachable.{IsScreen, HasContents}
 use Rattle.ansi_screen.proofs.LawLemmas.{after-reset}
+use Rattle.ansi_screen.proofs.PictureLemmas.{unkept-after_all}
 use Rattle.screen_draw.specs.Draw.{escape, plain_calls, covered_calls, screen_calls, stops_calls, cursor_calls, shown_screen_calls, drawn_calls}
 use Rattle.screen_draw.specs.Redrawn.{as_drawn, drawn_cells, drawn_state}
 use Rattle.screen_draw.proofs.SelectedLemmas.{after-modes, last-calls, before_cursor}
-use Rattle.screen_draw.proofs.CanvasLemmas.{on, after-plain}
+use Rattle.screen_draw.proofs.CanvasLemmas.{on, as_new, after-plain}
 use Rattle.screen_draw.proofs.BehindLemmas.{IsOpen, after-screen}
 use Rattle.screen_draw.proofs.RestLemmas.{over, after-covered, stops_from, stops-are, after-stops, after-margins}
 use Rattle.screen_draw.proofs.CursorLemmas.{full, after-cursor}
@@ -19,9 +21,9 @@ use Rattle.screen_draw.proofs.PictureLemmas.{screen-since, contents-since}
 first-column : (n width : ℕ) → n ≡ width → length {A = Bool} [] + n ≡ width
 first-column n width is = omega arith
 
-module _ (d : Display) (new : State) (screen : IsScreen d) (contents : HasContents d) (new-is : new.display ≡ renewed d) where
+module _ (d : Display) (new : State) (screen : IsScreen d) (contents : HasContents d) (new-is : new.display ≡ as_new d) where
   opened : IsOpen (over d)
-  opened = record { top = refl; bottom = refl; replaces = refl; unlinked = refl; wide = screen.sized.two_columns }
+  opened = record { top = refl; bottom = refl; replaces = refl; unlinked = refl; unkept = refl; wide = screen.sized.two_columns }
 
   -- before the cursor
   abbrev Before : State → Type 0
@@ -57,9 +59,10 @@ module _ (d : Display) (new : State) (screen : IsScreen d) (contents : HasConten
       (after-modes d placed ∙ ap (λ (e : Display). record e { wraps = d.wraps; inserts = d.inserts; is_visible = d.is_visible }) there)
 
 pub redrawn-is : (d : Display) (old : State) → IsScreen d → HasContents d → old.display.width ≡ d.width → old.display.height ≡ d.height
-    → after_all (drawn_calls d) old ≡ drawn_state old.display.shown d
+    → unkept (after_all (drawn_calls d) old) ≡ drawn_state old.display.shown d
 redrawn-is d old screen contents width height =
     let since : Picture = old.display.shown in
-    shown-is (record d { shown = since }) (after (escape 0x63) old) (screen-since since d screen) (contents-since since d contents)
-    (ap (λ (s : State). s.display) (after-reset old)
+    sym (unkept-after_all (drawn_calls d) old)
+    ∙ shown-is (record d { shown = since }) (after (escape 0x63) (unkept old)) (screen-since since d screen) (contents-since since d contents)
+    (ap (λ (s : State). s.display) (after-reset (unkept old))
     ∙ (ap (λ n. record (fresh n old.display.height) { shown = since }) width ∙ ap (λ n. record (fresh d.width n) { shown = since }) height))

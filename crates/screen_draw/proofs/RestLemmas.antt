@@ -10,7 +10,7 @@ use Rattle.ansi_style.proofs.EqualityLemmas.{are_equal-refl}
 use Rattle.ansi_screen.specs.declared.cell.Cell.{Cell}
 use Rattle.ansi_screen.specs.declared.place.Place.{Place}
 use Rattle.ansi_screen.specs.Cells.{blank}
-use Rattle.ansi_screen.specs.Display.{Display, home, renewed, blanks, stops, letters}
+use Rattle.ansi_screen.specs.Display.{Display, home, blanks, stops, letters}
 use Rattle.ansi_screen.specs.Moves.{to_row, to_position, with_stop}
 use Rattle.ansi_screen.specs.Modes.{with_private_mode, with_alternate, to_alternate, restored, with_margins}
 use Rattle.ansi_screen.specs.After.{State, after, after_all, designated, escaped, function_of, moved, controlled, sequenced, is_repeat, set as set_by}
@@ -19,7 +19,7 @@ use Rattle.ansi_screen.proofs.LawLemmas.{after_all-append}
 use Rattle.screen_draw.specs.Draw.{escape, sequence, private_mode, is_erased, covered_calls, screen_calls, stop_calls, stops_calls}
 use Rattle.screen_draw.specs.Redrawn.{as_drawn}
 use Rattle.screen_draw.proofs.SelectedLemmas.{after-private}
-use Rattle.screen_draw.proofs.CanvasLemmas.{on}
+use Rattle.screen_draw.proofs.CanvasLemmas.{on, as_new}
 use Rattle.screen_draw.proofs.BehindLemmas.{IsOpen, after-screen}
 
 -- blank cells are drawn as they are
@@ -37,7 +37,7 @@ drawn-blanks (suc n) = ap (λ x. x ∷ map as_drawn (replicate n (blank plain)))
 
 -- a new screen over what is covered
 abbrev pub over : Display → Display
-over d = record (renewed d) { is_alternate = d.is_alternate; hidden = map as_drawn d.hidden; hidden_saved = d.hidden_saved }
+over d = record (as_new d) { is_alternate = d.is_alternate; hidden = map as_drawn d.hidden; hidden_saved = d.hidden_saved }
 
 restored_at : (base : Display) (cells : List Cell) (q saved : Place) (t : Bool) → saved.is_relative ≡ t → base.top ≡ 0 → base.bottom ≡ base.height → saved.row < base.height
     → (if t then to_row (max base.top (min saved.row (base.bottom - 1))) (on (record base { saved = saved }) cells saved) else on (record base { saved = saved }) cells saved)
@@ -61,11 +61,11 @@ after-alternate s main = after-private 1049 true s ∙ rw main refl
 abbrev pub Covers : Display → State → Type 0
 Covers d s = (cells : List Cell) × (length cells ≡ d.height * d.width) × ((p : Place) × (s.display ≡ on (over d) cells p))
 
-covered_at : (d : Display) (s : State) (t : Bool) → d.is_alternate ≡ t → IsScreen d → HasContents d → s.display ≡ renewed d
+covered_at : (d : Display) (s : State) (t : Bool) → d.is_alternate ≡ t → IsScreen d → HasContents d → s.display ≡ as_new d
     → Covers d (after_all (if t then screen_calls d.width d.hidden_saved d.hidden ++ (escape 0x38 ∷ private_mode 1049 true ∷ []) else []) s)
 covered_at d s true is screen contents new =
-    let base : Display = renewed d in
-    let opened : IsOpen base = record { top = refl; bottom = refl; replaces = refl; unlinked = refl; wide = screen.sized.two_columns } in
+    let base : Display = as_new d in
+    let opened : IsOpen base = record { top = refl; bottom = refl; replaces = refl; unlinked = refl; unkept = refl; wide = screen.sized.two_columns } in
     let first : State = after_all (screen_calls d.width d.hidden_saved d.hidden) s in
     let second : State = after (escape 0x38) first in
     let (q, at) = after-screen base opened (blanks d.width d.height) (length-replicate (d.height * d.width) (blank plain)) d.hidden_saved screen.sized.hidden_row screen.sized.hidden_column contents.hidden_colored
@@ -91,13 +91,13 @@ covered_at d s false is screen contents new =
       length-replicate (d.height * d.width) (blank plain),
       (
         home,
-        new ∙ (ap (λ l. record (renewed d) { hidden = l }) hidden
-            ∙ (ap (λ p. record (renewed d) { hidden = map as_drawn d.hidden; hidden_saved = p }) (sym nothing.1)
-            ∙ ap (λ t. record (renewed d) { hidden = map as_drawn d.hidden; hidden_saved = d.hidden_saved; is_alternate = t }) (sym is))),
+        new ∙ (ap (λ l. record (as_new d) { hidden = l }) hidden
+            ∙ (ap (λ p. record (as_new d) { hidden = map as_drawn d.hidden; hidden_saved = p }) (sym nothing.1)
+            ∙ ap (λ t. record (as_new d) { hidden = map as_drawn d.hidden; hidden_saved = d.hidden_saved; is_alternate = t }) (sym is))),
       ),
     )
 
-pub after-covered : (d : Display) (s : State) → IsScreen d → HasContents d → s.display ≡ renewed d → Covers d (after_all (covered_calls d) s)
+pub after-covered : (d : Display) (s : State) → IsScreen d → HasContents d → s.display ≡ as_new d → Covers d (after_all (covered_calls d) s)
 after-covered d s screen contents new = covered_at d s _ refl screen contents new
 
 -- tabs: those of a new screen from a column on

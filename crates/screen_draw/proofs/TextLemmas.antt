@@ -1,6 +1,6 @@
 -- A drawing shows the text of the screen: what it can't tell is no part of that.
 use Rattle.std.proofs.Common.{◌≡◌, ℕ, zero, suc, ◌*◌, ◌-◌, Bool, true, false, List, [], ◌∷◌, ◌++◌, take, drop, map, set, get_or, refl, ap, ap₂, ◌∙◌, subst}
-use Rattle.std.specs.Prelude.{◌==◌, ◌&&◌, not, encode_utf8, if◌then◌else◌, ⊤}
+use Rattle.std.specs.Prelude.{◌==◌, ◌&&◌, not, encode_utf8, if◌then◌else◌, ⊤, None}
 use Rattle.std.specs.List.{flat_map}
 use Rattle.ansi_style.specs.Style.{plain}
 use Rattle.ansi_screen.specs.declared.cell.Cell.{Cell}
@@ -125,3 +125,11 @@ cells-drawn d false = texts-drawn d.cells
 
 pub text-drawn : (since : Picture) (d : Display) → text_of (as_shown since d) ≡ text_of d
 text-drawn since d = text-same (as_shown since d) d refl refl (cells-drawn d (d.cursor.column == d.width))
+
+-- What is kept of rows that left is no part of the text.
+texts-self : (cells : List Cell) → HaveTexts cells cells
+texts-self [] = tt
+texts-self (cell ∷ cells) = (record { text = refl; blanks = refl }, texts-self cells)
+
+pub text-unkept : (d : Display) → text_of (record d { history = None }) ≡ text_of d
+text-unkept d = text-same (record d { history = None }) d refl refl (texts-self d.cells)

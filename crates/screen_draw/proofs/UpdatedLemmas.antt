@@ -14,8 +14,10 @@ use Rattle.anstyle_parse.specs.Stream.Canon.{canon}
 use Rattle.anstyle_parse.proofs.Canonical.Replay.{replay}
 use Rattle.std.specs.List.{AllByRecursion}
 use Rattle.ansi_screen.specs.After.{State, after_all, Shows}
+use Rattle.ansi_screen.specs.Leaving.{unkept}
 use Rattle.ansi_screen.specs.Reachable.{IsScreen, HasContents}
 use Rattle.ansi_screen.proofs.LawLemmas.{after_all-append, Shows-only}
+use Rattle.ansi_screen.proofs.PictureLemmas.{unkept-after_all}
 use Rattle.screen_draw.specs.Draw.{is_erased, shown_screen_calls}
 use Rattle.screen_draw.specs.Redrawn.{printed_part, as_printed, as_drawn, drawn_cells, as_shown}
 use Rattle.screen_draw.specs.Alike.{are_alike, all_two, are_same_places, has_same_frame, has_same_margins, has_same_modes, looks_same, is_steady}
@@ -99,25 +101,34 @@ module _ (other b : Display) (old : State) where
       let clear : State = after_all (cleared_calls a) old in
       ap (λ (e : State). e.display) (after_all-append (cleared_calls a) (shown_screen_calls b) old ∙ shown-is b clear to gets (cleared-is a old from has at))
 
-pub updated-is : (a b : Display) (since_then : Picture) (old : State) → IsScreen a → HasContents a → IsScreen b → HasContents b
+-- of a terminal that keeps no rows
+updated-is_unkept : (a b : Display) (since_then : Picture) (old : State) → IsScreen a → HasContents a → IsScreen b → HasContents b
     → a.width ≡ b.width → a.height ≡ b.height → old.display ≡ as_shown since_then a
     → (after_all (update_calls a b) old).display ≡ as_shown since_then b
-updated-is a b p old from has to gets width height at =
+updated-is_unkept a b p old from has to gets width height at =
     let first : Display = since p a in
     let last : Display = since p b in
     let same : first ≡ sized first last = ap (λ w. record first { width = w }) width ∙ ap (λ h. record first { width = b.width; height = h }) height in
-    ap (λ (l : List Call). (after_all l old).display) (sym (update-since p p a b))
+    ap (λ (l : List Call). (after_all l old).display) (sym (update-since p p a.history b.history a b))
     ∙ subst (λ (x : Display). IsScreen x → HasContents x → old.display ≡ as_shown x.shown x
     → (after_all (update_calls x last) old).display ≡ as_shown p b) (sym same)
     (λ screen holds begun. updated_at first last old _ _ refl refl screen holds (screen-since p b to) (contents-since p b gets) begun)
     (screen-since p a from) (contents-since p a has) at
 
+-- and of any other
+pub updated-is : (a b : Display) (since_then : Picture) (old : State) → IsScreen a → HasContents a → IsScreen b → HasContents b
+    → a.width ≡ b.width → a.height ≡ b.height → (unkept old).display ≡ as_shown since_then a
+    → (unkept (after_all (update_calls a b) old)).display ≡ as_shown since_then b
+updated-is a b p old from has to gets width height at =
+    ap (λ (s : State). s.display) (sym (unkept-after_all (update_calls a b) old))
+    ∙ updated-is_unkept a b p (unkept old) from has to gets width height at
+
 -- the same of its text
 pub updated-shows : (a b : Display) (since_then : Picture) (old new : State) → AllByRecursion IsDrawing (update_calls a b)
     → a.width ≡ b.width → a.height ≡ b.height → IsScreen a → HasContents a → IsScreen b → HasContents b
-    → old.display ≡ as_shown since_then a → Shows old (canon (update_calls a b)) new → new.display ≡ as_shown since_then b
+    → (unkept old).display ≡ as_shown since_then a → Shows old (canon (update_calls a b)) new → (unkept new).display ≡ as_shown since_then b
 updated-shows a b p old new drawing width height from has to gets at shows =
     let calls : List Call = update_calls a b in
-    ap (λ (s : State). s.display)
+    ap (λ (s : State). (unkept s).display)
     (Shows-only (canon calls) old new (after_all calls old) shows (calls, replay calls (drawing-lawful calls drawing), refl))
     ∙ updated-is a b p old from has to gets width height at

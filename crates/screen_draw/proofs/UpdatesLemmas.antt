@@ -18,22 +18,23 @@ use Rattle.anstyle_parse.proofs.Canonical.Items.{AreCalls-nil}
 use Rattle.anstyle_parse.proofs.Canonical.Replay.{replay}
 use Rattle.anstyle_parse.proofs.Written.Output.{Adds-append}
 use Rattle.ansi_screen.specs.After.{State, after_all, Shows}
+use Rattle.ansi_screen.specs.Leaving.{unkept}
 use Rattle.ansi_screen.specs.Reachable.{IsScreen, HasContents}
 use Rattle.ansi_screen.specs.Display.{Picture, picture, forgotten, IsSized}
 use Rattle.ansi_screen.proofs.KeptCalls.{kept-after_all}
 use Rattle.ansi_screen.proofs.ContentCalls.{contents-after_all}
-use Rattle.ansi_screen.proofs.PictureLemmas.{same-after_all}
+use Rattle.ansi_screen.proofs.PictureLemmas.{same-after_all, unkept-after_all}
 use Rattle.ansi_screen.proofs.SizeLemmas.{HasSize, sized-after_all}
 use Rattle.ansi_screen.proofs.LawLemmas.{after_all-append, Shows-only}
 use Rattle.screen_draw.specs.declared.updates.Stopped.{Stopped}
 use Rattle.screen_draw.specs.declared.updates.Stopped.TheVariants.{Stuck, AtFault}
 use Rattle.screen_draw.specs.Draw.{drawn_calls}
 use Rattle.screen_draw.specs.Drawing.{IsDrawing, Draws}
-use Rattle.ansi_screen.specs.Following.{IsShownOf}
+use Rattle.ansi_screen.specs.Following.{IsShownOf, following}
 use Rattle.ansi_screen.specs.Laws.{with_shown}
 use Rattle.screen_draw.specs.Redrawn.{as_shown}
 use Rattle.screen_draw.specs.Update.{update_calls}
-use Rattle.screen_draw.specs.Updates.{updates_calls, followed_calls, last_of, AreScreens, joined, IsPiece, StopsBy, LeadsTo, Follows, GetsOn, LooksAs}
+use Rattle.screen_draw.specs.Updates.{updates_calls, followed_calls, last_of, AreScreens, joined, IsPiece, StopsBy, LeadsTo, Follows, GetsOn, LooksAs, LooksAlike}
 use Rattle.screen_draw.proofs.DrawLemmas.{both-drawing, drawing-lawful, draws-append}
 use Rattle.screen_draw.proofs.RedrawnLemmas.{redrawn-is}
 use Rattle.screen_draw.proofs.UpdatedLemmas.{updated-is}
@@ -120,14 +121,14 @@ module _ (first : State) (screen : IsScreen first.display) (contents : HasConten
       (sized-after_all width height shows.0 first (refl, refl, screen.sized.margins_within))
 
   updates-follow : (since : Picture) (before : List ℕ) (pieces : List (List ℕ)) (screens : List State) (current old : State)
-      → Shows first before current → AreScreens first before pieces screens → old.display ≡ as_shown since current.display
-      → (after_all (updates_calls current screens) old).display ≡ as_shown since (last_of current screens).display
+      → Shows first before current → AreScreens first before pieces screens → (unkept old).display ≡ as_shown since current.display
+      → (unkept (after_all (updates_calls current screens) old)).display ≡ as_shown since (last_of current screens).display
   updates-follow since before [] [] current old shows are at = at
   updates-follow since before (piece ∷ pieces) (next ∷ screens) current old shows are at =
       let calls : List Call = update_calls current.display next.display in
       let here = has-size before current shows in
       let there = has-size (before ++ piece) next are.0 in
-      ap (λ (e : State). e.display) (after_all-append calls (updates_calls next screens) old)
+      ap (λ (e : State). (unkept e).display) (after_all-append calls (updates_calls next screens) old)
       ∙ updates-follow since (before ++ piece) pieces screens next (after_all calls old) are.0 are.1
       (updated-is current.display next.display since old
       (is-screen before current shows) (has-contents before current shows)
@@ -138,10 +139,10 @@ module _ (first : State) (screen : IsScreen first.display) (contents : HasConten
 
   pub followed-is : (pieces : List (List ℕ)) (screens : List State) (old : State)
       → old.display.width ≡ width → old.display.height ≡ height → AreScreens first [] pieces screens
-      → (after_all (followed_calls first screens) old).display ≡ as_shown old.display.shown (last_of first screens).display
+      → (unkept (after_all (followed_calls first screens) old)).display ≡ as_shown old.display.shown (last_of first screens).display
   followed-is pieces screens old wide high are =
       let drawn : List Call = drawn_calls first.display in
-      ap (λ (e : State). e.display) (after_all-append drawn (updates_calls first screens) old)
+      ap (λ (e : State). (unkept e).display) (after_all-append drawn (updates_calls first screens) old)
       ∙ updates-follow old.display.shown [] pieces screens first (after_all drawn old) (shows-nothing first) are
       (ap (λ (e : State). e.display) (redrawn-is first.display old screen contents wide high))
 
@@ -169,7 +170,7 @@ leads-to first pieces screens are drawing count = λ old new screen contents wid
     let calls : List Call = followed_calls first some in
     let draws : AllByRecursion IsDrawing calls = both-drawing drawn (updates_calls first some) (front-drawing drawn (updates_calls first screens) drawing)
     (updates-drawing count first screens (rest-drawing drawn (updates_calls first screens) drawing)) in
-    ap (λ (e : State). e.display)
+    ap (λ (e : State). (unkept e).display)
     (Shows-only (canon calls) old new (after_all calls old) shows (calls, replay calls (drawing-lawful calls draws), refl))
     ∙ followed-is first screen contents (take count pieces) some old wide high (screens-front count first [] pieces screens are)
 
@@ -204,14 +205,15 @@ passed-on sink calls a b c draws none = record {
 
 -- an update more
 pub draws-more : {W : Type 0} (sink : SinkOf W) (first shown wanted screen : State) (p q : Picture) (screens : List State) (a b c d : Output W)
-    → Draws sink (updates_calls first screens) a b → shown ≡ with_shown p (last_of first screens) → wanted ≡ with_shown q screen
+    → Draws sink (updates_calls first screens) a b → unkept shown ≡ with_shown p (unkept (last_of first screens)) → wanted ≡ with_shown q screen
     → Adds sink (canon (update_calls shown.display wanted.display)) b c → AllByRecursion IsDrawing (update_calls shown.display wanted.display)
     → Adds sink [] c d → Draws sink (updates_calls first (screens ++ screen ∷ [])) a d
 draws-more sink first shown wanted screen p q screens a b c d before same next added drawing none =
     let now : State = last_of first screens in
     let calls : List Call = update_calls now.display screen.display in
     let is : update_calls shown.display wanted.display ≡ calls =
-    ap₂ (λ (s t : State). update_calls s.display t.display) same next ∙ update-since p q now.display screen.display in
+    sym (update-since shown.display.shown wanted.display.shown None wanted.display.history shown.display wanted.display)
+    ∙ (ap₂ (λ (s t : State). update_calls s.display t.display) same next ∙ update-since p q None screen.display.history now.display screen.display) in
     let more : Draws sink calls b c = subst (λ (l : List Call). Draws sink l b c) is (record { added = added; drawing = drawing }) in
     subst (λ l. Draws sink l a d) (sym (calls-more first screen screens))
     (draws-append sink (updates_calls first screens) calls a b d before (passed-on sink calls b c d more none))
@@ -279,29 +281,41 @@ pub record ComesOn (first last shown new : State) (before piece : List ℕ) : Ty
   pub noted : IsShownOf new.display shown.display
 
 pub comes-on : (first last shown wanted new : State) (since : Picture) (before piece : List ℕ) (calls : List Call) → Shows first before last
-    → Continues before piece calls → shown ≡ with_shown since last → wanted ≡ with_shown (picture last.display) last → IsSized wanted.display
+    → Continues before piece calls → unkept shown ≡ with_shown since (unkept last) → wanted ≡ with_shown (picture last.display) last → IsSized wanted.display
     → new ≡ after_all calls wanted → ComesOn first last shown new before piece
 comes-on first last shown wanted new since before piece calls shows continues same to sized is =
-    let now : IsShownOf wanted.display shown.display =
+    let now : IsShownOf wanted.display (unkept shown).display =
     subst (λ (s : State). IsShownOf wanted.display s.display) (sym same)
-    (subst (λ (s : State). IsShownOf s.display (with_shown since last).display) (sym to) (record { width = refl; height = refl; picture = refl })) in
+    (subst (λ (s : State). IsShownOf s.display (with_shown since (unkept last)).display) (sym to) (record { width = refl; height = refl; picture = refl })) in
     record {
       next = after_all calls last;
       shows = shows-more first last before piece calls shows continues;
       is = is ∙ (ap (after_all calls) to ∙ same-after_all (picture last.display) calls last);
-      noted = subst (λ (s : State). IsShownOf s.display shown.display) (sym is) (noted-stays calls wanted shown.display sized now);
+      noted = subst (λ (s : State). IsShownOf s.display shown.display) (sym is)
+          (noted-stays calls wanted shown.display sized (record { width = now.width; height = now.height; picture = now.picture }));
     }
+
+-- with the picture that it has
+alike-own : (s t : State) (since : Picture) → unkept s ≡ with_shown since (unkept t) → LooksAlike t s
+alike-own s t since is = is ∙ ap (λ (e : State). with_shown e.display.shown (unkept t)) (sym is)
 
 -- A piece more comes to the screen that is shown: it looks as the one to which all of it leads.
 pub comes-too : (first last next shown new : State) (before piece : List ℕ) (calls : List Call) → Shows first before last
-    → Continues before piece calls → LooksAs last shown → new ≡ after_all calls shown → Shows first (before ++ piece) next → LooksAs next new
+    → Continues before piece calls → LooksAlike last shown → new ≡ after_all calls shown → Shows first (before ++ piece) next → LooksAlike next new
 comes-too first last next shown new before piece calls shows continues same is wanted =
     let since : Picture = shown.display.shown in
     let there : after_all calls last ≡ next =
     Shows-only (before ++ piece) first (after_all calls last) next (shows-more first last before piece calls shows continues) wanted in
-    with-own new next since
-    (is ∙ (ap (after_all calls) same ∙ (same-after_all since calls last ∙ ap (λ (s : State). with_shown since s) there)))
+    alike-own new next since
+    (ap unkept is
+    ∙ (sym (unkept-after_all calls shown)
+    ∙ (ap (after_all calls) same
+    ∙ (same-after_all since calls (unkept last)
+    ∙ (ap (with_shown since) (unkept-after_all calls last) ∙ ap (λ (s : State). with_shown since (unkept s)) there)))))
 
 -- It is copied from a screen that looks so.
-pub comes-copied : (next wanted new : State) → LooksAs next wanted → new ≡ record wanted { display = forgotten wanted.display } → LooksAs next new
-comes-copied next wanted new looks copied = with-own new next (picture next.display) (was-forgotten next wanted new wanted.display.shown looks copied)
+pub comes-copied : (next wanted shown new : State) → LooksAs next wanted
+    → new ≡ record { display = following wanted.display shown.display; last = wanted.last } → LooksAlike next new
+comes-copied next wanted shown new looks copied =
+    alike-own new next (picture next.display)
+    (ap unkept copied ∙ ap (λ (s : State). unkept (record s { display = forgotten s.display })) looks)

@@ -29,9 +29,17 @@ drawn_cells d =
     else map as_drawn d.cells
 
 -- the display, on which no link has begun; and the screen, on which nothing is left to REP. The terminal that shows it
--- has a picture of its own, from which on it notes what changes, and keeps that.
+-- has a picture of its own, from which on it notes what changes, and keeps that. What it keeps of the rows that left it
+-- is no part of this.
 abbrev pub as_shown : (since : Picture) → Display → Display
-as_shown since d = record d { cells = drawn_cells d; hidden = map as_drawn d.hidden; links = 0; link = 0; shown = since }
+as_shown since d = record d {
+  cells = drawn_cells d;
+  hidden = map as_drawn d.hidden;
+  links = 0;
+  link = 0;
+  shown = since;
+  history = None;
+}
 
 abbrev pub drawn_state : (since : Picture) → Display → State
 drawn_state since d = record { display = as_shown since d; last = None }

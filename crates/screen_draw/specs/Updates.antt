@@ -13,6 +13,7 @@ use Rattle.anstyle_parse.specs.Stream.Call.{Call}
 use Rattle.anstyle_parse.specs.Stream.Calls.{AreCalls}
 use Rattle.anstyle_parse.specs.Stream.Canon.{canon}
 use Rattle.ansi_screen.specs.After.{State, Shows}
+use Rattle.ansi_screen.specs.Leaving.{unkept}
 use Rattle.ansi_screen.specs.Reachable.{IsScreen, HasContents}
 use Rattle.screen_draw.specs.declared.updates.Stopped.{Stopped}
 use Rattle.screen_draw.specs.declared.updates.Stopped.TheVariants.{Stuck, AtFault}
@@ -38,6 +39,10 @@ last_of first (screen ∷ screens) = last_of screen screens
 -- A screen looks as another one: it is the same but for the picture from which on it notes what changes.
 abbrev pub LooksAs : State → State → Type 0
 LooksAs other screen = screen ≡ with_shown screen.display.shown other
+
+-- It shows the same, but can have kept other rows that left: a copy does not take these along (`following`).
+abbrev pub LooksAlike : State → State → Type 0
+LooksAlike other screen = unkept screen ≡ with_shown screen.display.shown (unkept other)
 
 -- Each screen is the one that all bytes lead to, from the first screen and a new parser on, up to the end of its
 -- piece; `before` was read before these pieces.
@@ -75,11 +80,12 @@ StopsBy (Err (AtFault Write)) at_end fault failed failed_after count = (fault �
 StopsBy {T} (Err (AtFault other)) at_end fault failed failed_after count = (fault ≡ None) × EndsAs {T = T} (Err other) at_end failed failed_after count
 StopsBy {T} (Ok done) at_end fault failed failed_after count = (fault ≡ None) × EndsAs {T = T} (Ok done) at_end failed failed_after count
 
--- A terminal of the size of a screen shows another one by these bytes, whatever it showed before.
+-- A terminal of the size of a screen shows another one by these bytes, whatever it showed before, but for the rows that
+-- left it, which it keeps.
 abbrev pub LeadsTo : State → List ℕ → State → Type 0
 LeadsTo first bytes wanted = (old new : State) → IsScreen first.display → HasContents first.display
     → old.display.width ≡ first.display.width → old.display.height ≡ first.display.height
-    → Shows old bytes new → new.display ≡ as_shown old.display.shown wanted.display
+    → Shows old bytes new → (unkept new).display ≡ as_shown old.display.shown wanted.display
 
 -- A reader's bytes were followed, from a screen on.
 pub record Follows {R W T : Type 0} (source : SourceOf R) (sink : SinkOf W) (reader reader_after : R)

@@ -1,6 +1,7 @@
 //! Laws of drawing. Each is the contract of a function that does nothing.
 ghost use Rattle.std.specs.Prelude.{◌≡◌, ◌<◌, ◌≤◌, ◌+◌, ◌*◌, ℕ, true, List, [], length};
 ghost use Rattle.ansi_screen.specs.After.{State, after_all, Shows};
+ghost use Rattle.ansi_screen.specs.Leaving.{unkept};
 ghost use Rattle.ansi_screen.specs.Display.{Display, IsSized, Picture};
 ghost use Rattle.ansi_screen.specs.Following.{IsShownOf};
 ghost use Rattle.ansi_screen.specs.Reachable.{IsScreen, HasContents};
@@ -19,11 +20,12 @@ ghost use Rattle.anstyle_parse.specs.Stream.Call.{Call};
 ghost use Rattle.ansi_screen.specs.declared.cell.Cell.{Cell};
 
 /// Whatever stood there, nothing of it counts: the calls that draw a screen lead any two screens of one
-/// size to the same one. Each of them keeps the picture from which on it notes what changes.
+/// size to the same one. Each of them keeps the picture from which on it notes what changes, and the rows that left it.
 pub fn forgets()
     ensures { (drawn : Display) (a b : State)
         → a.display.width ≡ b.display.width → a.display.height ≡ b.display.height
-        → after_all (drawn_calls drawn) a ≡ with_shown a.display.shown (after_all (drawn_calls drawn) b) }
+        → unkept (after_all (drawn_calls drawn) a)
+        ≡ with_shown a.display.shown (unkept (after_all (drawn_calls drawn) b)) }
 {}
 
 /// A drawing leaves the modes, and the style and the character sets of what comes next, as they are on the
@@ -38,30 +40,32 @@ pub fn selected()
 {}
 
 /// The same screen shows: the calls that draw a screen lead every screen of its size to it, all of it but links, what
-/// REP repeats, whether a row goes on, and whether a space was printed or nothing stands there.
+/// REP repeats, whether a row goes on, whether a space was printed or nothing stands there, and the rows that left, of
+/// which each screen keeps its own.
 pub fn redrawn()
     ensures { (drawn : Display) (old : State) → IsScreen drawn → HasContents drawn
         → old.display.width ≡ drawn.width → old.display.height ≡ drawn.height
-        → after_all (drawn_calls drawn) old ≡ drawn_state old.display.shown drawn }
+        → unkept (after_all (drawn_calls drawn) old) ≡ drawn_state old.display.shown drawn }
 {}
 
 /// The other screen shows: the calls of an update lead a terminal that shows the one, as a drawing or an update
-/// leaves it, to what a drawing of the other leads to.
+/// leaves it, to what a drawing of the other leads to, but for the rows that left, which it keeps.
 pub fn updated()
     ensures { (shown wanted : Display) (since : Picture) (old : State) → IsScreen shown → HasContents shown
         → IsScreen wanted → HasContents wanted → shown.width ≡ wanted.width → shown.height ≡ wanted.height
-        → old.display ≡ as_shown since shown
-        → (after_all (update_calls shown wanted) old).display ≡ as_shown since wanted }
+        → (unkept old).display ≡ as_shown since shown
+        → (unkept (after_all (update_calls shown wanted) old)).display ≡ as_shown since wanted }
 {}
 
 /// A terminal follows a stream: the calls of a drawing, and of an update after each piece, lead every screen of the
-/// size to the one that all pieces lead to; and so after each of the pieces, since these may be any.
+/// size to the one that all pieces lead to, but for the rows that left, which it keeps; and so after each of the pieces,
+/// since these may be any.
 pub fn followed()
     ensures shown { (first old : State) (pieces : List (List ℕ)) (screens : List State)
         → IsScreen first.display → HasContents first.display
         → old.display.width ≡ first.display.width → old.display.height ≡ first.display.height
         → AreScreens first [] pieces screens
-        → (after_all (followed_calls first screens) old).display
+        → (unkept (after_all (followed_calls first screens) old)).display
         ≡ as_shown old.display.shown (last_of first screens).display }
     ensures whole { (first : State) (pieces : List (List ℕ)) (screens : List State)
         → AreScreens first [] pieces screens → Shows first (joined pieces) (last_of first screens) }

@@ -35,6 +35,7 @@ ghost use Rattle.ansi_screen.specs.Following.{IsShownOf};
 ghost use Rattle.screen_draw.specs.Redrawn.{as_shown, drawn_state};
 ghost use Rattle.screen_draw.specs.Update.{update_calls};
 ghost use Rattle.ansi_screen.specs.After.{State, Shows};
+ghost use Rattle.ansi_screen.specs.Leaving.{unkept};
 ghost use Rattle.ansi_screen.specs.Display.{Picture, IsSized};
 ghost use Rattle.ansi_screen.specs.Reachable.{IsScreen, HasContents};
 ghost use Rattle.std.specs.Prelude.{◌≡◌, ◌≤◌, ◌++◌, ℕ, List, length};
@@ -52,9 +53,9 @@ use whole::{put_all, put_update};
 /// The terminal is reset first. All is drawn: cells with their styles, what the alternate screen covers,
 /// what is saved, tabs, margins, modes, and the cursor with its style. No memory is taken.
 ///
-/// Not drawn are links, what REP would repeat, and whether a row goes on in the next. A space stands as a printed one
-/// where nothing was printed: where half of a wide character was lost, where marks came after nothing, and in
-/// the last column, where a wrap is pending.
+/// Not drawn are links, what REP would repeat, whether a row goes on in the next, and the rows that left the screen. A
+/// space stands as a printed one where nothing was printed: where half of a wide character was lost, where marks came
+/// after nothing, and in the last column, where a wrap is pending.
 pub fn draw<W: Sink>(screen: &Screen, output: &mut Output<W>)
     // It adds the canonical text of these calls.
     ensures text { Adds W.Sink (canon (drawn_calls screen.now.display)) output.old output.new }
@@ -63,19 +64,20 @@ pub fn draw<W: Sink>(screen: &Screen, output: &mut Output<W>)
     ensures made { AreCalls (canon (drawn_calls screen.now.display)) (drawn_calls screen.now.display) }
     ensures lawful { AreLawful (drawn_calls screen.now.display) }
 
-    // A terminal of that size that takes this text shows the screen, whatever it showed before: each screen that a
-    // stream leads to has these premises (`ansi_screen::laws::reachable`, `contents`).
+    // A terminal of that size that takes this text shows the screen, whatever it showed before, but for the rows that
+    // left it, which it keeps: each screen that a stream leads to has these premises (`ansi_screen::laws::reachable`,
+    // `contents`).
     ensures redrawn { (old new : State) → IsScreen screen.now.display → HasContents screen.now.display
         → old.display.width ≡ screen.now.display.width → old.display.height ≡ screen.now.display.height
         → Shows old (canon (drawn_calls screen.now.display)) new
-        → new ≡ drawn_state old.display.shown screen.now.display }
+        → unkept new ≡ drawn_state old.display.shown screen.now.display }
 
     // So it does after any bytes, also where these have begun a string or a character.
     ensures anywhere { (before : List ℕ) (old new : State) → IsScreen screen.now.display
         → HasContents screen.now.display → IsScreen old.display
         → old.display.width ≡ screen.now.display.width → old.display.height ≡ screen.now.display.height
         → Shows old (before ++ canon (drawn_calls screen.now.display)) new
-        → new ≡ drawn_state old.display.shown screen.now.display }
+        → unkept new ≡ drawn_state old.display.shown screen.now.display }
 
     // They print what is shown, and have no controls but SO and SI, and no strings.
     ensures only { AllByRecursion IsDrawing (drawn_calls screen.now.display) }
@@ -107,12 +109,13 @@ pub fn update<W: Sink>(shown: &Screen, wanted: &Screen, output: &mut Output<W>)
         (update_calls shown.now.display wanted.now.display) }
     ensures lawful { AreLawful (update_calls shown.now.display wanted.now.display) }
 
-    // A terminal that shows the one, as a drawing or an update leaves it, shows by this text the other.
+    // A terminal that shows the one, as a drawing or an update leaves it, shows by this text the other, but for the rows
+    // that left it, which it keeps.
     ensures updated { (since : Picture) (old new : State) → IsScreen shown.now.display → HasContents shown.now.display
         → IsScreen wanted.now.display → HasContents wanted.now.display
-        → old.display ≡ as_shown since shown.now.display
+        → (unkept old).display ≡ as_shown since shown.now.display
         → Shows old (canon (update_calls shown.now.display wanted.now.display)) new
-        → new.display ≡ as_shown since wanted.now.display }
+        → (unkept new).display ≡ as_shown since wanted.now.display }
 
     // They print what is shown, and have no controls but SO and SI, and no strings; there is neither RIS nor DECSTR.
     ensures only { AllByRecursion IsDrawing (update_calls shown.now.display wanted.now.display) }
@@ -142,12 +145,13 @@ pub fn update_noted<W: Sink>(shown: &Screen, wanted: &Screen, output: &mut Outpu
         (update_calls shown.now.display wanted.now.display) }
     ensures lawful { AreLawful (update_calls shown.now.display wanted.now.display) }
 
-    // A terminal that shows the one, as a drawing or an update leaves it, shows by this text the other.
+    // A terminal that shows the one, as a drawing or an update leaves it, shows by this text the other, but for the rows
+    // that left it, which it keeps.
     ensures updated { (since : Picture) (old new : State) → IsScreen shown.now.display → HasContents shown.now.display
         → IsScreen wanted.now.display → HasContents wanted.now.display
-        → old.display ≡ as_shown since shown.now.display
+        → (unkept old).display ≡ as_shown since shown.now.display
         → Shows old (canon (update_calls shown.now.display wanted.now.display)) new
-        → new.display ≡ as_shown since wanted.now.display }
+        → (unkept new).display ≡ as_shown since wanted.now.display }
 
     // They print what is shown, and have no controls but SO and SI, and no strings; there is neither RIS nor DECSTR.
     ensures only { AllByRecursion IsDrawing (update_calls shown.now.display wanted.now.display) }

@@ -5,7 +5,7 @@ ghost use Rattle.anstyle_parse.specs.Views.Accumulator.{front_of};
 ghost use Rattle.anstyle_parse.specs.Views.Parser.{IsAfter};
 ghost use Rattle.ansi_screen.specs.After.{State, Shows};
 ghost use Rattle.ansi_screen.specs.Following.{IsShownOf};
-ghost use Rattle.screen_draw.specs.Updates.{Follows, GetsOn, LooksAs};
+ghost use Rattle.screen_draw.specs.Updates.{Follows, GetsOn, LooksAs, LooksAlike};
 
 use crate::{draw, update_noted};
 use ansi_screen::Screen;
@@ -60,8 +60,8 @@ fn come_after(
 )
     requires noted { IsShownOf wanted.now.display shown.old.display }
     ensures screen { (first last next : State) (before : List ℕ) → IsAfter front_of shown_parser.old before
-        → Shows first before last → LooksAs last shown.old
-        → Shows first (before ++ piece.now) next → LooksAs next wanted.now → LooksAs next shown.new }
+        → Shows first before last → LooksAlike last shown.old
+        → Shows first (before ++ piece.now) next → LooksAs next wanted.now → LooksAlike next shown.new }
     ensures parser { (before : List ℕ) → IsAfter front_of shown_parser.old before
         → IsAfter front_of parser.now (before ++ piece.now) → IsAfter front_of shown_parser.new (before ++ piece.now) }
 {

@@ -13,8 +13,8 @@ use Rattle.ansi_screen.specs.declared.cell.Marks.{Marks}
 use Rattle.ansi_screen.specs.declared.cell.Marks.TheVariants.{Unmarked, One, Two}
 use Rattle.ansi_screen.specs.Cells.{is_right}
 use Rattle.ansi_screen.specs.After.{State, new_state, after_all}
-use Rattle.ansi_screen.specs.Text.{marks_text, cell_text, used, is_unprinted, goes_on}
-use Rattle.ansi_screen.specs.Leaving.{all_left, printed_count, printed_rows}
+use Rattle.ansi_screen.specs.Text.{marks_text, cell_text, used, is_unprinted, goes_on, printed_count, printed_rows}
+use Rattle.ansi_screen.specs.Leaving.{all_left}
 use Rattle.ansi_screen.proofs.CharacterLemmas.{PrintsCharacter, IsGood, AreGoodMarks, IsGoodCell, AreGood, IsGoodState, good-new, good-after_all, good-left, good-first_rows}
 use Rattle.screen_text.specs.Lines.{open_after, showing}
 use Rattle.screen_text.specs.Shown.{given_all}

@@ -10,8 +10,8 @@ use Rattle.ansi_html.proofs.StyledLemmas.{HaveLinks}
 use Rattle.ansi_screen.specs.declared.cell.Cell.{Cell}
 use Rattle.ansi_screen.specs.After.{State, after, after_all}
 use Rattle.ansi_screen.specs.Display.{Display}
-use Rattle.ansi_screen.specs.Leaving.{rows_left, all_left, printed_rows}
-use Rattle.ansi_screen.specs.Text.{used, is_unprinted, goes_on}
+use Rattle.ansi_screen.specs.Leaving.{rows_left, all_left}
+use Rattle.ansi_screen.specs.Text.{used, is_unprinted, goes_on, printed_rows}
 use Rattle.screen_text.specs.Lines.{open_after, showing}
 use Rattle.screen_text.specs.Rows.{Handed, leaving, command, commands, all_handed}
 use Rattle.screen_text.specs.Shown.{given_all}
@@ -42,7 +42,7 @@ rows_in-commands (esc_dispatch intermediates ignore final) s others = refl
 pub rows_in-handed : (calls : List Call) (s : State) → rows_in (all_handed calls s) ≡ all_left calls s
 rows_in-handed [] s = refl
 rows_in-handed (call ∷ calls) s =
-    let rows = rows_left call s.display in
+    let rows = rows_left call s in
     let later = all_handed calls (after call s) in
     ap rows_in (append_assoc (map leaving rows) (commands call s) later)
     ∙ rows_in-rows rows (commands call s ++ later)
@@ -73,7 +73,7 @@ behind-commands (esc_dispatch intermediates ignore final) s others links = refl
 pub behind-handed : (calls : List Call) (s : State) (links : List Kept) → links_behind links (all_handed calls s) ≡ all_links calls s links
 behind-handed [] s links = refl
 behind-handed (call ∷ calls) s links =
-    let rows = rows_left call s.display in
+    let rows = rows_left call s in
     let later = all_handed calls (after call s) in
     ap (links_behind links) (append_assoc (map leaving rows) (commands call s) later)
     ∙ behind-rows rows (commands call s ++ later) links

@@ -12,8 +12,7 @@ use Rattle.ansi_html.specs.Styled.{Styled, styled_html, shown_after, output_of, 
 use Rattle.ansi_html.proofs.StyledWriterLemmas.{WritesStyled-append}
 use Rattle.ansi_screen.specs.declared.cell.Cell.{Cell}
 use Rattle.ansi_screen.specs.Display.{Display, row_cells}
-use Rattle.ansi_screen.specs.Leaving.{first_rows, printed_rows}
-use Rattle.ansi_screen.specs.Text.{goes_on}
+use Rattle.ansi_screen.specs.Text.{goes_on, first_rows, printed_rows}
 use Rattle.screen_text.specs.Lines.{open_after}
 use Rattle.screen_html.specs.Links.{Kept}
 use Rattle.screen_html.specs.Page.{page_styled, page_html}

@@ -181,9 +181,9 @@ behind-more links (row ∷ rows) others = behind-more links rows others
 
 module _ (links : List Kept) where
   handed-call : (call : Call) (calls : List Call) (s : State) → IsNoCommand call
-      → all_handed (call ∷ calls) s ≡ map leaving (rows_left call s.display) ++ all_handed calls (after call s)
-  handed-call (print c) calls s is = append_assoc (map leaving (rows_left (print c) s.display)) [] (all_handed calls (after (print c) s))
-  handed-call (execute byte) calls s is = append_assoc (map leaving (rows_left (execute byte) s.display)) [] (all_handed calls (after (execute byte) s))
+      → all_handed (call ∷ calls) s ≡ map leaving (rows_left call s) ++ all_handed calls (after call s)
+  handed-call (print c) calls s is = append_assoc (map leaving (rows_left (print c) s)) [] (all_handed calls (after (print c) s))
+  handed-call (execute byte) calls s is = append_assoc (map leaving (rows_left (execute byte) s)) [] (all_handed calls (after (execute byte) s))
   handed-call (hook groups intermediates ignore final) calls s is = absurd is
   handed-call (put byte) calls s is = absurd is
   handed-call unhook calls s is = absurd is
@@ -194,7 +194,7 @@ module _ (links : List Kept) where
   handed-rows_alone : (calls : List Call) (s : State) → AreNoCommands calls → handed_styled links (all_handed calls s) ≡ rows_styled links (all_left calls s)
   handed-rows_alone [] s are = refl
   handed-rows_alone (call ∷ calls) s are =
-      let rows = rows_left call s.display in
+      let rows = rows_left call s in
       ap (handed_styled links) (handed-call call calls s are.0)
       ∙ (handed-more links rows (all_handed calls (after call s))
       ∙ (ap (λ l. rows_styled links rows ++ l) (handed-rows_alone calls (after call s) are.1)
@@ -204,7 +204,7 @@ module _ (links : List Kept) where
   links-stay [] s are = refl
   links-stay (call ∷ calls) s are =
       ap (links_behind links) (handed-call call calls s are.0)
-      ∙ (behind-more links (rows_left call s.display) (all_handed calls (after call s)) ∙ links-stay calls (after call s) are.1)
+      ∙ (behind-more links (rows_left call s) (all_handed calls (after call s)) ∙ links-stay calls (after call s) are.1)
 
 -- plain rows are unstyled
 no-link : link_at 0 no_links ≡ []

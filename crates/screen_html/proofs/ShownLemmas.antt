@@ -11,8 +11,8 @@ use Rattle.ansi_html.proofs.StyledLemmas.{styled_html-append, shown_after-append
 use Rattle.ansi_screen.specs.declared.cell.Cell.{Cell}
 use Rattle.ansi_screen.specs.After.{State, after_all}
 use Rattle.ansi_screen.specs.Display.{Display}
-use Rattle.ansi_screen.specs.Text.{cell_text, used, is_unprinted, goes_on}
-use Rattle.ansi_screen.specs.Leaving.{all_left, printed_rows}
+use Rattle.ansi_screen.specs.Text.{cell_text, used, is_unprinted, goes_on, printed_rows}
+use Rattle.ansi_screen.specs.Leaving.{all_left}
 use Rattle.screen_text.specs.declared.performer.ShownWriter.{ShownWriter}
 use Rattle.screen_text.specs.Lines.{row_text, rows_text, open_after, closing, showing, row_text_at, after_row as after_line, after_command as after_text_command}
 use Rattle.screen_text.specs.Rows.{Handed, leaving, command, all_handed, rows_from, after_rows, last_rows_from}

@@ -21,7 +21,9 @@ use Rattle.ansi_html.proofs.TextLemmas.{IsUtf8-stripped}
 use Rattle.ansi_screen.specs.declared.cell.Cell.{Cell}
 use Rattle.ansi_screen.specs.After.{State, new_state, after, after_all}
 use Rattle.ansi_screen.specs.Display.{Display}
-use Rattle.ansi_screen.specs.Leaving.{all_left, swapped, printed_rows}
+use Rattle.ansi_screen.specs.Text.{printed_rows}
+use Rattle.ansi_screen.specs.Edits.{swapped}
+use Rattle.ansi_screen.specs.Leaving.{all_left}
 use Rattle.screen_text.specs.Lines.{open_after}
 use Rattle.screen_text.specs.Rows.{all_handed}
 use Rattle.screen_text.specs.Shown.{given_all, shown_text}

@@ -5,7 +5,7 @@ use Rattle.ansi_html.specs.declared.scheme.Styling.{Styling}
 use Rattle.ansi_html.specs.Styled.{Styled, all_html}
 use Rattle.ansi_screen.specs.After.{State, after}
 use Rattle.ansi_screen.specs.Display.{Display}
-use Rattle.ansi_screen.specs.Leaving.{printed_rows}
+use Rattle.ansi_screen.specs.Text.{printed_rows}
 use Rattle.screen_text.specs.Lines.{rows_text, open_after, closing}
 use Rattle.screen_html.specs.Links.{Kept, links_after}
 use Rattle.screen_html.specs.Shown.{rows_styled, closing_styled}

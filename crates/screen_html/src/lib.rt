@@ -3,7 +3,7 @@
 //! ```
 //! let mut log = FromRead::new(log);
 //! let writer = FromWrite::new(Vec::new(alloc));
-//! let screen = Screen::new(alloc, 80, 24)?;
+//! let screen = Scrollable::new(alloc, 80, 24)?;
 //! let links = LinkMemory::new(alloc)?;
 //! let styling = Styling::Inline(Scheme::Both);
 //! let (page, ran) = convert_shown(
@@ -40,7 +40,7 @@ mod runs;
 mod table;
 
 use ansi_html::Styling;
-use ansi_screen::Screen;
+use ansi_screen::Scrollable;
 use anstyle_parse::io::{Fault, Output, Sink, Source, write_calls_by};
 pub use blocks::BlockRows;
 pub use page::write_screen;
@@ -63,7 +63,7 @@ pub use table::{LinkMemory, LinkTable};
 /// always handed back. The answer is that of [`write_calls_by`], and where a write of the head failed,
 /// `Err(Fault::Write)`: then nothing is read.
 pub fn convert_shown<R: Source, W: Sink>(
-    screen: Screen,
+    screen: Scrollable,
     memory: LinkMemory,
     styling: Styling,
     head: &[u8],

@@ -2,7 +2,7 @@
 ghost use Rattle.std.specs.Prelude.{◌≡◌, ◌≤◌, false};
 ghost use Rattle.anstyle_parse.specs.Io.Output.{Adds};
 ghost use Rattle.ansi_html.specs.Styled.{WritesStyled};
-ghost use Rattle.ansi_screen.specs.Leaving.{first_rows};
+ghost use Rattle.ansi_screen.specs.Text.{first_rows};
 ghost use Rattle.screen_text.specs.Lines.{open_after};
 ghost use Rattle.screen_html.specs.Shown.{rows_styled};
 ghost use Rattle.screen_html.specs.Page.{page_html};

@@ -1,66 +1,73 @@
--- What is kept does not hang on the picture since which a screen notes what changes; so a copy stands where the screen stands.
+-- What is kept does not hang on the picture since which a screen notes what changes, nor on what was kept before; and a copy
+-- stands where the screen stands.
 use Rattle.std.proofs.Common.{◌≡◌, ℕ, List, [], ◌∷◌, refl, sym, ap, ◌∙◌, subst}
+use Rattle.std.specs.Prelude.{Option, None}
 use Rattle.anstyle_parse.specs.Stream.Call.{Call, print, execute, hook, put, unhook, osc_dispatch, csi_dispatch, esc_dispatch}
 use Rattle.anstyle_parse.specs.Views.Accumulator.{front_of}
 use Rattle.anstyle_parse.specs.Views.Parser.{IsAfter}
 use Rattle.ansi_screen.specs.Display.{Picture}
 use Rattle.ansi_screen.specs.After.{State, after, after_all}
 use Rattle.ansi_screen.specs.Laws.{with_shown}
-use Rattle.ansi_screen.proofs.PictureLemmas.{same-after, same-after_all}
-use Rattle.screen_html.specs.Links.{Kept as KeptLink, no_links}
+use Rattle.ansi_screen.specs.History.{Kept}
+use Rattle.ansi_screen.specs.Leaving.{unkept, all_left}
+use Rattle.ansi_screen.proofs.PictureLemmas.{IsBeside, instead, instead-after, none-beside, same-after_all, unkept-after_all}
+use Rattle.screen_html.specs.Links.{Kept as KeptLink}
 use Rattle.screen_html.specs.Page.{links_by, all_links}
 use Rattle.screen_pieces.specs.declared.terminal.Terminal.{Terminal}
-use Rattle.screen_pieces.specs.History.{Kept, kept_of, KeepsLeft}
-use Rattle.screen_pieces.specs.Terminal.{screen_of, history_of, links_of, KeepsLinks, StandsAfter, IsCopy}
-use Rattle.ansi_screen.proofs.LeftLemmas.{all_left-since}
+use Rattle.screen_pieces.specs.History.{KeepsLeft}
+use Rattle.screen_pieces.specs.Terminal.{screen_of, KeepsLinks, StandsAfter, IsCopy}
+use Rattle.ansi_screen.proofs.LeftLemmas.{all_left-since, all_left-unkept}
 
--- the links that begin
-links_by-since : (p : Picture) (call : Call) (s : State) (links : List KeptLink) → links_by call (with_shown p s) links ≡ links_by call s links
-links_by-since p (print c) s links = refl
-links_by-since p (execute byte) s links = refl
-links_by-since p (hook groups intermediates ignore final) s links = refl
-links_by-since p (put byte) s links = refl
-links_by-since p unhook s links = refl
-links_by-since p (osc_dispatch parts bell) s links = refl
-links_by-since p (csi_dispatch groups intermediates ignore final) s links = refl
-links_by-since p (esc_dispatch intermediates ignore final) s links = refl
+module _ (p : Picture) (other : Option Kept → Option Kept) (beside : IsBeside other) where
+  abbrev this : State → State
+  this = instead p other beside
 
-all_links-since : (p : Picture) (calls : List Call) (s : State) (links : List KeptLink)
-    → all_links calls (with_shown p s) links ≡ all_links calls s links
-all_links-since p [] s links = refl
-all_links-since p (call ∷ calls) s links =
-    let next : after call (with_shown p s) ≡ with_shown p (after call s) = same-after p call s in
-    ap (λ (e : State). all_links calls e (links_by call e links)) next
-    ∙ (all_links-since p calls (after call s) (links_by call (with_shown p (after call s)) links)
-    ∙ ap (all_links calls (after call s)) (links_by-since p call (after call s) links))
+  -- the links that begin
+  links_by-instead : (call : Call) (s : State) (links : List KeptLink) → links_by call (this s) links ≡ links_by call s links
+  links_by-instead (print c) s links = refl
+  links_by-instead (execute byte) s links = refl
+  links_by-instead (hook groups intermediates ignore final) s links = refl
+  links_by-instead (put byte) s links = refl
+  links_by-instead unhook s links = refl
+  links_by-instead (osc_dispatch parts bell) s links = refl
+  links_by-instead (csi_dispatch groups intermediates ignore final) s links = refl
+  links_by-instead (esc_dispatch intermediates ignore final) s links = refl
 
--- what is kept, from a screen on, and from the same with another picture
-pub left-since : (p : Picture) (first : State) (bytes : List ℕ) (kept : Kept) → KeepsLeft first bytes kept → KeepsLeft (with_shown p first) bytes kept
-left-since p first bytes kept (calls, are, is) =
-    (calls, are, is ∙ ap (kept_of kept.most kept.columns) (sym (all_left-since p calls first)))
+  all_links-instead : (calls : List Call) (s : State) (links : List KeptLink) → all_links calls (this s) links ≡ all_links calls s links
+  all_links-instead [] s links = refl
+  all_links-instead (call ∷ calls) s links =
+      let next : after call (this s) ≡ this (after call s) = instead-after p other beside call s in
+      ap (λ (e : State). all_links calls e (links_by call e links)) next
+      ∙ (all_links-instead calls (after call s) (links_by call (this (after call s)) links)
+      ∙ ap (all_links calls (after call s)) (links_by-instead call (after call s) links))
 
-pub left-back : (p : Picture) (first : State) (bytes : List ℕ) (kept : Kept) → KeepsLeft (with_shown p first) bytes kept → KeepsLeft first bytes kept
-left-back p first bytes kept (calls, are, is) = (calls, are, is ∙ ap (kept_of kept.most kept.columns) (all_left-since p calls first))
+-- The same rows leave, and the same links begin, by calls after which a screen stands, whatever was shown and is kept.
+pub left-led : (since : Picture) (calls made : List Call) (first screen : State) → unkept screen ≡ after_all calls (with_shown since (unkept first))
+    → all_left made screen ≡ all_left made (after_all calls first)
+left-led since calls made first screen led =
+    sym (all_left-unkept made screen)
+    ∙ (ap (all_left made) (led ∙ (same-after_all since calls (unkept first) ∙ ap (with_shown since) (unkept-after_all calls first)))
+    ∙ (all_left-since since made (unkept (after_all calls first)) ∙ all_left-unkept made (after_all calls first)))
 
-pub links-since : (p : Picture) (first : State) (bytes : List ℕ) (links : List KeptLink) → KeepsLinks first bytes links
-    → KeepsLinks (with_shown p first) bytes links
-links-since p first bytes links (calls, are, is) = (calls, are, is ∙ sym (all_links-since p calls first no_links))
-
-pub links-back : (p : Picture) (first : State) (bytes : List ℕ) (links : List KeptLink) → KeepsLinks (with_shown p first) bytes links
-    → KeepsLinks first bytes links
-links-back p first bytes links (calls, are, is) = (calls, are, is ∙ all_links-since p calls first no_links)
+pub links-led : (since : Picture) (calls made : List Call) (first screen : State) (links : List KeptLink)
+    → unkept screen ≡ after_all calls (with_shown since (unkept first))
+    → all_links made screen links ≡ all_links made (after_all calls first) links
+links-led since calls made first screen links led =
+    sym (all_links-instead screen.display.shown (λ history. None) none-beside made screen links)
+    ∙ (ap (λ (s : State). all_links made s links) (led ∙ (same-after_all since calls (unkept first) ∙ ap (with_shown since) (unkept-after_all calls first)))
+    ∙ all_links-instead since (λ history. None) none-beside made (after_all calls first) links)
 
 pub copy-stands : (first : State) (bytes : List ℕ) (terminal copy : Terminal) → IsCopy terminal copy → StandsAfter first bytes terminal
     → StandsAfter first bytes copy
 copy-stands first bytes terminal copy is stands =
     let q : Picture = (screen_of copy).display.shown in
-    let old : State = with_shown (screen_of terminal).display.shown first in
-    let same : screen_of copy ≡ with_shown q (screen_of terminal) =
-    is.screen ∙ ap (λ (s : State). with_shown s.display.shown (screen_of terminal)) (sym is.screen) in
+    let old : State = with_shown (screen_of terminal).display.shown (unkept first) in
+    let same : unkept (screen_of copy) ≡ with_shown q (unkept (screen_of terminal)) =
+    ap unkept is.screen ∙ ap (λ (s : State). with_shown s.display.shown (unkept (screen_of terminal))) (sym is.screen) in
     let (calls, are, led) = stands.shows in
     record {
       shows = (calls, are, same ∙ (ap (with_shown q) led ∙ sym (same-after_all q calls old)));
       parser = subst (λ p. IsAfter front_of p bytes) (sym is.parser) stands.parser;
-      history = subst (KeepsLeft first bytes) (sym is.history) stands.history;
+      history = subst (λ (s : State). KeepsLeft first bytes s.display.history) (sym is.screen) stands.history;
       links = subst (KeepsLinks first bytes) (sym is.links) stands.links;
     }

@@ -1,50 +1,90 @@
 -- A piece more leads on.
-use Rattle.std.proofs.Common.{◌≡◌, ℕ, List, [], ◌++◌, sym, ap, ap₂, ◌∙◌}
+use Rattle.std.proofs.Common.{◌≡◌, ℕ, List, [], ◌∷◌, ◌++◌, refl, sym, ap, ap₂, ◌∙◌}
+use Rattle.std.specs.Prelude.{Option, None, Some}
 use Rattle.anstyle_parse.specs.Stream.Call.{Call}
 use Rattle.anstyle_parse.specs.Stream.Calls.{Continues}
 use Rattle.anstyle_parse.proofs.Division.Only.{AreCalls-only}
+use Rattle.ansi_screen.specs.declared.cell.Cell.{Cell}
 use Rattle.ansi_screen.specs.After.{State, Shows, after_all}
-use Rattle.ansi_screen.specs.Leaving.{screen_of, TakesRows, all_left}
+use Rattle.ansi_screen.specs.History.{Kept, kept_after_all, with_left}
+use Rattle.ansi_screen.specs.Leaving.{unkept, all_left, with_room_alone}
 use Rattle.ansi_screen.specs.TextsProof.{after_all-append, all_left-append}
 use Rattle.screen_draw.proofs.NotedLemmas.{since-stays}
 use Rattle.ansi_screen.specs.Display.{Picture}
 use Rattle.ansi_screen.specs.Laws.{with_shown}
+use Rattle.ansi_screen.proofs.HistoryLemmas.{kept-columns}
+use Rattle.ansi_screen.proofs.PictureLemmas.{unkept-after_all}
+use Rattle.ansi_screen.proofs.LeavingLemmas.{kept-most}
+use Rattle.ansi_screen.proofs.LeavingTable.{with_left-none}
+use Rattle.ansi_screen.proofs.LeftLemmas.{history-after_all, with_left-append}
 use Rattle.screen_pieces.specs.declared.watched.Watched.{Watched}
-use Rattle.screen_pieces.specs.History.{Kept, kept_of, KeepsLeft, Takes}
+use Rattle.screen_pieces.specs.History.{nothing_yet, KeepsLeft}
 use Rattle.screen_pieces.specs.Watched.{WatchesAll}
-use Rattle.screen_pieces.proofs.HistoryLemmas.{kept-all, same-room}
+use Rattle.screen_pieces.proofs.CopyLemmas.{left-led}
 
 pub shows-more : (first old new : State) (before more : List ℕ) (made : List Call) → Continues before more made
     → new ≡ after_all made old → Shows first before old → Shows first (before ++ more) new
 shows-more first old new before more made continues becomes shows =
     (shows.0 ++ made, continues shows.0 shows.1, becomes ∙ ap (after_all made) shows.2 ∙ sym (after_all-append shows.0 made first))
 
-pub keeps-more : (first screen : State) (before more : List ℕ) (made : List Call) (old new : Kept) → Continues before more made
-    → Shows first before screen → KeepsLeft first before old → TakesRows Takes old (all_left made screen) new → KeepsLeft first (before ++ more) new
-keeps-more first screen before more made old new continues shows kept taken =
+-- As much room stays for rows that leave.
+kept-room : (rows : List (List Cell)) (history : Option Kept) → nothing_yet (with_left rows history) ≡ nothing_yet history
+kept-room rows None = refl
+kept-room rows (Some kept) =
+    ap₂ (λ most columns. nothing_yet (Some (record kept { most = most; columns = columns }))) (kept-most rows kept) (kept-columns rows kept)
+
+room-stays : (made : List Call) (old new : State) → new ≡ after_all made old → nothing_yet new.display.history ≡ nothing_yet old.display.history
+room-stays made old new becomes =
+    ap nothing_yet (ap (λ (s : State). s.display.history) becomes ∙ history-after_all made old) ∙ kept-room (all_left made old) old.display.history
+
+-- What is kept are the last of all rows that left.
+pub keeps-more : (first screen new : State) (since : Picture) (before more : List ℕ) (made : List Call) → Continues before more made
+    → Shows (with_shown since (unkept first)) before (unkept screen) → KeepsLeft first before screen.display.history → new ≡ after_all made screen
+    → KeepsLeft first (before ++ more) new.display.history
+keeps-more first screen new since before more made continues shows kept becomes =
     let calls = kept.0 in
-    let led : screen ≡ after_all calls first = shows.2 ∙ ap (λ (l : List Call). after_all l first) (AreCalls-only before shows.0 calls shows.1 kept.1) in
-    let rows : all_left calls first ++ all_left made screen ≡ all_left (calls ++ made) first =
-    ap (λ (s : State). all_left calls first ++ all_left made s) led ∙ sym (all_left-append calls made first) in
-    let room = same-room (all_left made screen) old new taken in (
+    let led : unkept screen ≡ after_all calls (with_shown since (unkept first)) =
+    shows.2 ∙ ap (λ (l : List Call). after_all l (with_shown since (unkept first))) (AreCalls-only before shows.0 calls shows.1 kept.1) in
+    let left : all_left calls first ++ all_left made screen ≡ all_left (calls ++ made) first =
+    ap (λ (rows : List (List Cell)). all_left calls first ++ rows) (left-led since calls made first screen led) ∙ sym (all_left-append calls made first) in (
       calls ++ made,
       continues calls kept.1,
-      kept-all old.most old.columns (all_left calls first) (all_left made screen) old new taken kept.2
-          ∙ ap (kept_of old.most old.columns) rows
-          ∙ ap₂ (λ m n. kept_of m n (all_left (calls ++ made) first)) (sym room.most) (sym room.columns),
+      ap (λ (s : State). s.display.history) becomes
+          ∙ (history-after_all made screen
+          ∙ (ap (with_left (all_left made screen)) kept.2
+          ∙ (sym (with_left-append (all_left calls first) (all_left made screen) (nothing_yet screen.display.history))
+          ∙ (ap (λ rows. with_left rows (nothing_yet screen.display.history)) left
+          ∙ ap (with_left (all_left (calls ++ made) first)) (sym (room-stays made screen new becomes)))))),
     )
 
--- none has left
-pub keeps-none : (most columns : ℕ) (kept : Kept) → kept ≡ kept_of most columns [] → kept ≡ kept_of kept.most kept.columns []
-keeps-none most columns kept is =
-    is ∙ ap₂ (λ m n. kept_of m n []) (sym (ap (λ (k : Kept). k.most) is)) (sym (ap (λ (k : Kept). k.columns) is))
-
 -- The picture since which it notes what changes stays.
-pub picture-stays : (made : List Call) (old new : Watched) → WatchesAll old made new
-    → (screen_of new.scrolling).display.shown ≡ (screen_of old.scrolling).display.shown
+pub picture-stays : (made : List Call) (old new : Watched) → WatchesAll old made new → new.screen.display.shown ≡ old.screen.display.shown
 picture-stays made old new watches =
-    ap (λ (s : State). s.display.shown) watches.scrolls.screen ∙ since-stays made (screen_of old.scrolling)
+    ap (λ (s : State). s.display.shown) watches.screen ∙ since-stays made old.screen
+
+-- There stays as much room for rows that leave.
+pub room-led : (made : List Call) (old new : Watched) → WatchesAll old made new
+    → nothing_yet new.screen.display.history ≡ nothing_yet old.screen.display.history
+room-led made old new watches = room-stays made old.screen new.screen watches.screen
+
+-- Without what it keeps, its screen is led on by the same calls.
+pub unkept-led : (made : List Call) (old new : Watched) → WatchesAll old made new → unkept new.screen ≡ after_all made (unkept old.screen)
+unkept-led made old new watches = ap unkept watches.screen ∙ sym (unkept-after_all made old.screen)
 
 -- a screen with the picture that it has
 pub with-own : (s first : State) (since : Picture) → s ≡ with_shown since first → s ≡ with_shown s.display.shown first
 with-own s first since is = is ∙ ap (λ (e : State). with_shown e.display.shown first) (sym is)
+
+-- Where what was kept is kept no longer, no row has left yet, and there is as much room.
+twice : (history : Option Kept) → nothing_yet (nothing_yet history) ≡ nothing_yet history
+twice None = refl
+twice (Some kept) = refl
+
+pub cleared-room : (s new : State) → new ≡ with_room_alone s → nothing_yet new.display.history ≡ nothing_yet s.display.history
+cleared-room s new is = ap (λ (t : State). nothing_yet t.display.history) is ∙ twice s.display.history
+
+pub cleared-left : (s new : State) → new ≡ with_room_alone s → new.display.history ≡ with_left [] (nothing_yet new.display.history)
+cleared-left s new is =
+    ap (λ (t : State). t.display.history) is
+    ∙ (sym (twice s.display.history)
+    ∙ (ap (λ (t : State). nothing_yet t.display.history) (sym is) ∙ sym (with_left-none (nothing_yet new.display.history))))

@@ -2,7 +2,6 @@ pub mod FeedLemmas
 pub mod CopyLemmas
 pub mod SendLemmas
 pub mod TextLemmas
-pub mod HistoryLemmas
 pub mod LinkLemmas
 pub mod WholeRowLemmas
 pub mod DrawingLemmas

@@ -1,17 +1,15 @@
 -- A terminal may go to another thread, as its screen may: it owns its memory alone.
 use denote.Struct.Declared.{shape, fields}
 use denote.Param.Send.{IsSend, sendable, recorded_send, struct_send}
-use Rattle.ansi_screen.proofs.SendLemmas.{scrolling_field_send}
+use Rattle.ansi_screen.proofs.SendLemmas.{screen_send}
 use Rattle.anstyle_parse.proofs.parser.Parser.TheSendSync as parser_send
 use Rattle.anstyle_parse.proofs.accumulator.Utf8Parser.TheSendSync as utf8_send
 use Rattle.screen_html.proofs.table.LinkTable.TheSendSync as links_send
-use Rattle.screen_pieces.specs.contracts.history.History as history
 use Rattle.screen_pieces.specs.contracts.watched.Watched as watched
 use Rattle.screen_pieces.specs.contracts.terminal.Terminal as terminal
-use Rattle.screen_pieces.proofs.history.History.TheSendSync as history_send
 
 watched_send : IsSend (watched.the_field).row
-watched_send = struct_send (shape watched.the_type) (scrolling_field_send history.the_row history_send.the_send, (links_send.the_send, tt))
+watched_send = struct_send (shape watched.the_type) (screen_send, (links_send.the_send, tt))
 
 pub terminal_send : IsSend terminal.the_row
 terminal_send =

@@ -1,7 +1,7 @@
 -- Each row that leaves a screen has a cell in each column.
-use Rattle.std.proofs.Common.{◌≡◌, ◌≤◌, ◌<◌, ◌-◌, ◌*◌, ℕ, zero, suc, Bool, true, false, List, [], ◌∷◌, ◌++◌, length, take, drop, map, refl, ap, ap₂, ◌∙◌, subst, append-nil, length-take, length-drop, arith}
+use Rattle.std.proofs.Common.{◌≡◌, ◌≤◌, ◌<◌, ◌-◌, ◌*◌, ℕ, zero, suc, Bool, true, false, List, [], ◌∷◌, ◌++◌, length, take, drop, refl, sym, ◌∙◌, subst, length-take, length-drop, arith}
 use Rattle.std.specs.Prelude.{replicate, ◌==◌, if◌then◌else◌}
-use Rattle.std.proofs.lemmas.List.{map-append, take_all}
+use Rattle.std.specs.List.{AllByRecursion}
 use Rattle.anstyle_parse.specs.Stream.Call.{Call, print, execute, hook, put, unhook, osc_dispatch, csi_dispatch, esc_dispatch}
 use Rattle.ansi_style.specs.Style.{plain}
 use Rattle.ansi_screen.specs.declared.cell.Cell.{Cell}
@@ -9,28 +9,28 @@ use Rattle.ansi_screen.specs.After.{State, after}
 use Rattle.ansi_screen.specs.Cells.{blank}
 use Rattle.ansi_screen.specs.Display.{Display, IsSized, row_cells}
 use Rattle.ansi_screen.specs.Edits.{row_going_on}
-use Rattle.ansi_screen.specs.Leaving.{swapped, main_screen, leaving, is_wrapping, before_escape, before_scroll, first_rows, rows_left, all_left}
+use Rattle.ansi_screen.specs.Edits.{swapped, main_screen}
+use Rattle.ansi_screen.specs.Text.{first_rows}
+use Rattle.ansi_screen.specs.Laws.{is_wrapping}
+use Rattle.ansi_screen.specs.Leaving.{rows_left, all_left}
 use Rattle.ansi_screen.specs.Reachable.{IsScreen}
+use Rattle.ansi_screen.proofs.CharacterLemmas.{all-append}
 use Rattle.ansi_screen.proofs.KeptCalls.{kept-after}
 use Rattle.ansi_screen.proofs.KeptLemmas.{kept-if, kept-going_on, row-inside}
 use Rattle.ansi_screen.proofs.SizeLemmas.{sized-after, few-leave}
-use Rattle.screen_pieces.specs.History.{fitted}
-
-pub fitted-whole : (columns : ℕ) (row : List Cell) → length row ≡ columns → fitted columns row ≡ row
-fitted-whole columns row is =
-    let none : columns - length row ≡ 0 = omega (arith, is) in
-    ap (λ n. take columns row ++ replicate n (blank plain)) none ∙ append-nil (take columns row) ∙ take_all columns row (omega (arith, is))
+use Rattle.ansi_screen.proofs.LeavingTable.{leaving, before_escape, before_leaving}
+use Rattle.ansi_screen.proofs.LeftLemmas.{rows_left-is}
+use Rattle.screen_pieces.specs.History.{HasCells}
 
 row-length : (n : ℕ) (d : Display) → IsSized d → n < d.height → length (row_cells n d) ≡ d.width
 row-length n d sized inside =
     omega (arith, length-take d.width (drop (n * d.width) d.cells), length-drop (n * d.width) d.cells, sized.cells_fill, row-inside n d.width d.height inside)
 
-first-whole : (n : ℕ) (d : Display) → IsSized d → n ≤ d.height → map (fitted d.width) (first_rows n d) ≡ first_rows n d
-first-whole zero d sized few = refl
+first-whole : (n : ℕ) (d : Display) → IsSized d → n ≤ d.height → AllByRecursion (HasCells d.width) (first_rows n d)
+first-whole zero d sized few = tt
 first-whole (suc n) d sized few =
-    map-append (fitted d.width) (first_rows n d) (row_cells n d ∷ [])
-    ∙ ap₂ (λ (rows : List (List Cell)) row. rows ++ row ∷ []) (first-whole n d sized (omega (arith, few)))
-    (fitted-whole d.width (row_cells n d) (row-length n d sized (omega (arith, few))))
+    all-append (HasCells d.width) (first_rows n d) (row_cells n d ∷ []) (first-whole n d sized (omega (arith, few)))
+    (row-length n d sized (omega (arith, few)), tt)
 
 sized-either : (t : Bool) (a b : Display) → IsSized a → IsSized b → IsSized (if t then a else b)
 sized-either true a b first second = first
@@ -60,7 +60,7 @@ unfolding before_escape
 sized-escape [] final d s = sized-either (final == 0x63) (main_screen d) d (sized-either d.is_alternate (swapped d) d (sized-swapped d s) s) s
 sized-escape (mark ∷ marks) final d s = s
 
-before-sized : (call : Call) (d : Display) → IsScreen d → IsSized (before_scroll call d)
+before-sized : (call : Call) (d : Display) → IsScreen d → IsSized (before_leaving call d)
 before-sized (print c) d is = (kept-if (is_wrapping c d) (row_going_on true d) d (λ _. kept-going_on true d is) (λ _. is)).sized
 before-sized (execute byte) d is = is.sized
 before-sized (csi_dispatch groups intermediates ignore final) d is = is.sized
@@ -87,7 +87,7 @@ same-escape [] final d =
     same-either (final == 0x63) (main_screen d) d d (same-either d.is_alternate (swapped d) d d (refl, refl) (refl, refl)) (refl, refl)
 same-escape (mark ∷ marks) final d = (refl, refl)
 
-before-same : (call : Call) (d : Display) → ((before_scroll call d).width ≡ d.width) × ((before_scroll call d).height ≡ d.height)
+before-same : (call : Call) (d : Display) → ((before_leaving call d).width ≡ d.width) × ((before_leaving call d).height ≡ d.height)
 before-same (print c) d = same-if (is_wrapping c d) d
 before-same (execute byte) d = (refl, refl)
 before-same (csi_dispatch groups intermediates ignore final) d = (refl, refl)
@@ -98,20 +98,20 @@ before-same (put byte) d = (refl, refl)
 before-same unhook d = (refl, refl)
 before-same (osc_dispatch parts bell) d = (refl, refl)
 
-left-whole : (call : Call) (d : Display) → IsScreen d → map (fitted d.width) (rows_left call d) ≡ rows_left call d
-left-whole call d is =
-    let e = before_scroll call d in
+left-whole : (call : Call) (s : State) → IsScreen s.display → AllByRecursion (HasCells s.display.width) (rows_left call s)
+left-whole call s is =
+    let d : Display = s.display in
     let same = before-same call d in
     let few : leaving call d ≤ d.height = few-leave d.width d.height call d (refl, refl, is.sized.margins_within) in
-    subst (λ w. map (fitted w) (first_rows (leaving call d) (before_scroll call d)) ≡ first_rows (leaving call d) (before_scroll call d)) same.0
-    (first-whole (leaving call d) (before_scroll call d) (before-sized call d is) (omega (arith, few, same.1)))
+    subst (λ rows. AllByRecursion (HasCells d.width) rows) (sym (rows_left-is call s))
+    (subst (λ w. AllByRecursion (HasCells w) (first_rows (leaving call d) (before_leaving call d))) same.0
+    (first-whole (leaving call d) (before_leaving call d) (before-sized call d is) (omega (arith, few, same.1))))
 
 pub all-whole : (columns : ℕ) (calls : List Call) (s : State) → IsScreen s.display → s.display.width ≡ columns
-    → map (fitted columns) (all_left calls s) ≡ all_left calls s
-all-whole columns [] s is wide = refl
+    → AllByRecursion (HasCells columns) (all_left calls s)
+all-whole columns [] s is wide = tt
 all-whole columns (call ∷ calls) s is wide =
     let next : (after call s).display.width ≡ s.display.width =
     (sized-after s.display.width s.display.height call s (refl, refl, is.sized.margins_within)).0 in
-    map-append (fitted columns) (rows_left call s.display) (all_left calls (after call s))
-    ∙ ap₂ (λ (a b : List (List Cell)). a ++ b) (subst (λ w. map (fitted w) (rows_left call s.display) ≡ rows_left call s.display) wide (left-whole call s.display is))
+    all-append (HasCells columns) (rows_left call s) (all_left calls (after call s)) (subst (λ w. AllByRecursion (HasCells w) (rows_left call s)) wide (left-whole call s is))
     (all-whole columns calls (after call s) (kept-after call s is) (next ∙ wide))

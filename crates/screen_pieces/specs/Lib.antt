@@ -2,7 +2,6 @@ pub mod Cells
 pub mod Text
 pub mod Drawing
 pub mod History
-pub mod Ring
 pub mod Watched
 pub mod WatchedProof
 pub mod Terminal

@@ -1,5 +1,5 @@
 -- A screen that takes its stream in pieces.
-use Rattle.std.specs.Prelude.{◌≡◌, ◌<◌, ◌≤◌, ℕ, List, [], ◌++◌, length, take, drop, map, slice_index_or}
+use Rattle.std.specs.Prelude.{◌≡◌, ◌<◌, ◌≤◌, ℕ, Some, List, [], ◌++◌, length, take, drop, map, slice_index_or}
 use Rattle.ansi_style.specs.Style.{plain}
 use Rattle.anstyle_parse.specs.Stream.Call.{Call}
 use Rattle.anstyle_parse.specs.Stream.Calls.{AreCalls}
@@ -10,7 +10,8 @@ use Rattle.ansi_screen.specs.After.{State, new_state, Shows, as_shown}
 use Rattle.ansi_screen.specs.Cells.{blank}
 use Rattle.ansi_screen.specs.Damage.{KeepsColumns}
 use Rattle.ansi_screen.specs.Display.{Display, row_cells, shown_cells}
-use Rattle.ansi_screen.specs.Leaving.{screen_of as scrolling_screen, taker_of}
+use Rattle.ansi_screen.specs.History.{Kept, nothing_kept}
+use Rattle.ansi_screen.specs.Leaving.{unkept}
 use Rattle.ansi_screen.specs.Laws.{with_shown}
 use Rattle.screen_html.specs.Links.{Kept as KeptLink, no_links}
 use Rattle.screen_html.specs.Page.{all_links}
@@ -18,18 +19,18 @@ use Rattle.screen_pieces.specs.declared.cell.CellBytes.{CellBytes}
 use Rattle.screen_pieces.specs.declared.modes.ModeBytes.{ModeBytes}
 use Rattle.screen_pieces.specs.declared.terminal.Terminal.{Terminal}
 use Rattle.screen_pieces.specs.Cells.{cell_in}
-use Rattle.screen_pieces.specs.History.{Kept, kept_row, KeepsLeft, SameRoom}
+use Rattle.screen_pieces.specs.History.{nothing_yet, kept_of, kept_row, KeepsLeft}
 use Rattle.ansi_style.specs.Bytes.{is_set}
 
 abbrev pub screen_of : Terminal → State
-screen_of terminal = scrolling_screen terminal.watched.scrolling
+screen_of terminal = terminal.watched.screen
 
 abbrev pub display_of : Terminal → Display
 display_of terminal = (screen_of terminal).display
 
 -- what it keeps of the rows that left
 abbrev pub history_of : Terminal → Kept
-history_of terminal = taker_of terminal.watched.scrolling
+history_of terminal = kept_of (display_of terminal).history
 
 -- the links that it keeps, by their numbers
 abbrev pub links_of : Terminal → List KeptLink
@@ -39,43 +40,46 @@ links_of terminal = terminal.watched.links
 abbrev pub KeepsLinks : State → List ℕ → List KeptLink → Type 0
 KeepsLinks first bytes links = (calls : List Call) × AreCalls bytes calls × (links ≡ all_links calls first no_links)
 
--- the first screen of a stream, with the picture from which on this one notes what changes: no call reads that
+-- the first screen of a stream, with the picture from which on this one notes what changes: no call reads that, nor what
+-- is kept of the rows that left
 abbrev pub begun : (first : State) → Terminal → State
-begun first terminal = with_shown (display_of terminal).shown first
+begun first terminal = with_shown (display_of terminal).shown (unkept first)
 
 -- It stands after the bytes: its screen is the one that they lead to, from a first one on, its parser stands after
 -- them, and what it keeps are the last rows that left by them and the last links that began.
 pub record StandsAfter (first : State) (bytes : List ℕ) (terminal : Terminal) : Type 0 where
-  pub shows : Shows (begun first terminal) bytes (screen_of terminal)
+  pub shows : Shows (begun first terminal) bytes (unkept (screen_of terminal))
   pub parser : IsAfter front_of terminal.parser bytes
-  pub history : KeepsLeft first bytes (history_of terminal)
+  pub history : KeepsLeft first bytes (display_of terminal).history
   pub links : KeepsLinks first bytes (links_of terminal)
 
 -- Another one stands where it stands, in all that it shows and keeps; what it notes is what changes from now on.
 pub record IsCopy (terminal copy : Terminal) : Type 0 where
   pub screen : screen_of copy ≡ as_shown (screen_of terminal)
   pub parser : copy.parser ≡ terminal.parser
-  pub history : history_of copy ≡ history_of terminal
   pub links : links_of copy ≡ links_of terminal
+
+-- There is as much room as before for rows that leave.
+abbrev pub SameRoom : (old new : Terminal) → Type 0
+SameRoom old new = nothing_yet (display_of new).history ≡ nothing_yet (display_of old).history
 
 -- It takes the next bytes of the stream: whatever bytes it stood after, it stands after these too. It forgets nothing
 -- of what can have changed: the picture from which on that is noted stays.
 pub record Feeds (piece : List ℕ) (old new : Terminal) : Type 0 where
   pub stands : (first : State) (before : List ℕ) → StandsAfter first before old → StandsAfter first (before ++ piece) new
-  pub room : SameRoom (history_of old) (history_of new)
+  pub room : SameRoom old new
   pub since : (display_of new).shown ≡ (display_of old).shown
 
 -- It is one of the same size at the beginning of a stream. Here too it forgets nothing of what can have changed.
 pub record Begins (old new : Terminal) : Type 0 where
   pub stands : StandsAfter (new_state (display_of old).width (display_of old).height) [] new
-  pub room : SameRoom (history_of old) (history_of new)
+  pub room : SameRoom old new
   pub since : (display_of new).shown ≡ (display_of old).shown
 
 -- It is a new screen, with room for so many of the rows that leave it.
 pub record IsNew (columns rows history : ℕ) (terminal : Terminal) : Type 0 where
   pub stands : StandsAfter (new_state columns rows) [] terminal
-  pub at_most : (history_of terminal).most ≡ history
-  pub in_columns : (history_of terminal).columns ≡ columns
+  pub room : (display_of terminal).history ≡ Some (nothing_kept history columns)
 
 -- the cell of a row and a column
 abbrev pub cell_of : (row column : ℕ) → Display → Cell

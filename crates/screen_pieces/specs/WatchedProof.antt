@@ -3,12 +3,10 @@
 use Rattle.std.proofs.Common.{◌≡◌, List, [], ◌∷◌, ◌++◌, refl, sym, ap₂, ◌∙◌}
 use Rattle.anstyle_parse.specs.Stream.Call.{Call}
 use Rattle.ansi_screen.specs.After.{State, after, after_all}
-use Rattle.ansi_screen.specs.Leaving.{screen_of}
-use Rattle.ansi_screen.specs.TextsProof.{scrolls-none, scrolls-one, scrolls-more}
+use Rattle.ansi_screen.specs.TextsProof.{becomes-more}
 use Rattle.screen_html.specs.Links.{Kept as KeptLink}
 use Rattle.screen_html.specs.Page.{links_by, all_links}
 use Rattle.screen_pieces.specs.declared.watched.Watched.{Watched}
-use Rattle.screen_pieces.specs.History.{Takes}
 use Rattle.screen_pieces.specs.Watched.{Watches, WatchesAll}
 
 pub all_links-append : (calls more : List Call) (s : State) (links : List KeptLink)
@@ -17,15 +15,15 @@ all_links-append [] more s links = refl
 all_links-append (call ∷ calls) more s links = all_links-append calls more (after call s) (links_by call (after call s) links)
 
 pub receives-none : (watched : Watched) → WatchesAll watched [] watched
-receives-none watched = record { scrolls = scrolls-none Takes watched.scrolling; links = refl }
+receives-none watched = record { screen = refl; links = refl }
 
 pub receives-one : (old : Watched) (call : Call) (new : Watched) → Watches old call new → WatchesAll old (call ∷ []) new
-receives-one old call new is = record { scrolls = scrolls-one Takes old.scrolling call new.scrolling is.scrolls; links = is.links }
+receives-one old call new is = record { screen = is.screen; links = is.links }
 
 pub receives-more : (old middle new : Watched) (calls more : List Call) → WatchesAll old calls middle → WatchesAll middle more new
     → WatchesAll old (calls ++ more) new
 receives-more old middle new calls more first second = record {
-  scrolls = scrolls-more Takes old.scrolling middle.scrolling new.scrolling calls more first.scrolls second.scrolls;
-  links = second.links ∙ ap₂ (λ (s : State) l. all_links more s l) first.scrolls.screen first.links
-      ∙ sym (all_links-append calls more (screen_of old.scrolling) old.links);
+  screen = becomes-more old.screen middle.screen new.screen calls more first.screen second.screen;
+  links = second.links ∙ ap₂ (λ (s : State) l. all_links more s l) first.screen first.links
+      ∙ sym (all_links-append calls more old.screen old.links);
 }

@@ -1,20 +1,20 @@
 //! Laws of the rows that leave a screen, of copies, and of what changes.
-ghost use Rattle.std.specs.Prelude.{◌≡◌, ◌≤◌, ℕ, List, map};
+ghost use Rattle.std.specs.Prelude.{◌≡◌, ◌≤◌, ℕ, List};
 ghost use Rattle.anstyle_parse.specs.Stream.Call.{Call};
 ghost use Rattle.ansi_screen.specs.After.{State, new_state};
 ghost use Rattle.ansi_screen.specs.Damage.{KeepsColumns};
 ghost use Rattle.ansi_screen.specs.Display.{most_columns, most_rows, row_cells};
 ghost use Rattle.ansi_screen.specs.Leaving.{all_left};
 ghost use Rattle.screen_pieces.specs.declared.terminal.Terminal.{Terminal};
-ghost use Rattle.screen_pieces.specs.History.{fitted};
+ghost use Rattle.std.specs.List.{AllByRecursion};
+ghost use Rattle.screen_pieces.specs.History.{HasCells};
 ghost use Rattle.screen_pieces.specs.Terminal.{display_of, StandsAfter, IsCopy, Feeds, CanHaveChanged};
 
-/// Rows are whole: each that leaves a screen, whatever calls a new one has received, has a cell in each column. So what
-/// is kept of it is the row as it left.
+/// Rows are whole: each that leaves a screen, whatever calls a new one has received, has a cell in each column.
 pub fn rows_are_whole()
     ensures { (columns rows : ℕ) (calls : List Call)
         → 2 ≤ columns → columns ≤ most_columns → 1 ≤ rows → rows ≤ most_rows
-        → map (fitted columns) (all_left calls (new_state columns rows)) ≡ all_left calls (new_state columns rows) }
+        → AllByRecursion (HasCells columns) (all_left calls (new_state columns rows)) }
 {}
 
 /// What has changed is told: where a screen has forgotten what can have changed, and has then been fed a piece, each

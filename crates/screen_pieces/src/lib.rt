@@ -6,7 +6,6 @@
 
 mod cell;
 mod drawing;
-mod history;
 pub mod laws;
 mod modes;
 mod page;
@@ -18,6 +17,5 @@ mod watched;
 
 pub use ansi_style::bytes::{ColorBytes, StyleBytes};
 pub use cell::CellBytes;
-pub use history::History;
 pub use modes::{ModeBytes, RESERVED_MODES};
 pub use terminal::Terminal;

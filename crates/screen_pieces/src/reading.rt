@@ -1,10 +1,10 @@
 //! What a screen shows, as plain records and as text.
-ghost use Rattle.std.specs.Prelude.{◌≡◌, ◌≤◌, ◌⊎◌, length, IfOk, IfErr, IfSome, IfNone};
+ghost use Rattle.std.specs.Prelude.{◌≡◌, ◌<◌, ◌≤◌, ◌⊎◌, length, IfOk, IfErr, IfSome, IfNone};
 ghost use Rattle.std.specs.Bool.{OnTrue, OnFalse};
 ghost use Rattle.ansi_screen.specs.Text.{row_text, text_of};
 ghost use Rattle.ansi_style.specs.Bytes.{style_of};
 ghost use Rattle.screen_pieces.specs.Text.{HasText, LacksRoom, text_of_row, text_of_part};
-ghost use Rattle.screen_pieces.specs.History.{text_of_kept};
+ghost use Rattle.screen_pieces.specs.History.{kept_row, text_of_kept};
 
 use crate::cell::{CellBytes, put_cell, put_cells, put_plain};
 use crate::modes::ModeBytes;
@@ -173,7 +173,10 @@ impl Terminal {
         ensures kept { result.0 ≡ length (history_of self.now).rows }
         ensures left { result.1 ≡ (history_of self.now).left }
     {
-        self.history().counts()
+        match self.history() {
+            None => (0, 0),
+            Some(history) => history.counts(),
+        }
     }
 
     /// As [`Terminal::put_row`], of a row that left: of those that are kept the oldest is the first, 0.
@@ -181,7 +184,7 @@ impl Terminal {
         ensures row { OnTrue result (HasKeptRow number room.old room.new (history_of self.now)) }
         ensures refused { OnFalse result (room.new ≡ room.old) }
     {
-        match self.history().row(number) {
+        match self.history_row(number) {
             None => false,
             Some(cells) => {
                 if room.len() < cells.len() {
@@ -193,13 +196,23 @@ impl Terminal {
         }
     }
 
+    /// The cells of a row that left, of those that are kept.
+    fn history_row(&self, number: usize) -> Option<&[Cell]>
+        ensures none { IfNone result (length (history_of self.now).rows ≤ number) }
+        ensures within { IfSome result (λ cells. number < length (history_of self.now).rows) }
+        ensures cells { IfSome result (λ cells. cells.now ≡ kept_row number (history_of self.now)) }
+    {
+        let (cells, _) = self.history()?.row(number)?;
+        Some(cells)
+    }
+
     /// As [`Terminal::row_text`], of a row that left.
     pub fn history_text(&self, number: usize, room: &mut [u8]) -> Result<usize, usize>
         ensures text { IfOk result (HasText (text_of_kept number (history_of self.now)) room.old room.new) }
         ensures refused { IfErr result
             (λ needed. (needed ≡ 0) ⊎ LacksRoom (text_of_kept number (history_of self.now)) room.old needed) }
     {
-        match self.history().row(number) {
+        match self.history_row(number) {
             None => Err(0),
             Some(cells) => put_text(cells, room),
         }

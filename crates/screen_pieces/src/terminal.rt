@@ -1,10 +1,10 @@
 //! A screen with the parser that leads to it.
 ghost use Rattle.std.specs.Prelude.{◌≡◌, ◌≤◌, [], IfOk};
-ghost use Rattle.ansi_screen.specs.After.{new_state, as_shown};
+ghost use Rattle.std.specs.Option.{option_map};
+ghost use Rattle.ansi_screen.specs.After.{new_state};
 
-use crate::history::History;
 use crate::watched::Watched;
-use ansi_screen::{MAX_COLUMNS, MAX_ROWS, MIN_COLUMNS, MIN_ROWS, Screen, Scrolling};
+use ansi_screen::{History, MAX_COLUMNS, MAX_ROWS, MIN_COLUMNS, MIN_ROWS, Screen};
 use anstyle_parse::{Parser, Perform, Utf8Parser};
 use screen_html::LinkTable;
 use std::alloc::{AllocError, Global};
@@ -19,18 +19,8 @@ pub struct Terminal {
     watched: Watched,
 }
 
-/// A screen as this one is.
-fn copied(alloc: Global, screen: &Screen) -> Result<Screen, AllocError>
-    ensures { IfOk result (λ copy. copy ≡ as_shown screen.now) }
-{
-    let (columns, rows) = (screen.columns(), screen.rows());
-    let mut copy = Screen::new(alloc, columns, rows)?;
-    copy.copy_from(screen);
-    Ok(copy)
-}
-
 impl Terminal {
-    ghost use Rattle.screen_pieces.specs.Terminal.{screen_of, history_of, links_of, StandsAfter, Feeds, Begins, IsNew, IsCopy};
+    ghost use Rattle.screen_pieces.specs.Terminal.{screen_of, display_of, links_of, StandsAfter, Feeds, Begins, IsNew, IsCopy};
 
     /// A blank screen of so many columns and rows, at the beginning of a stream. `Err` means that memory is
     /// wanting.
@@ -57,14 +47,11 @@ impl Terminal {
         requires max_rows { rows ≤ MAX_ROWS }
         ensures { IfOk result (IsNew columns rows history) }
     {
-        let screen = Screen::new(alloc, columns, rows)?;
-        let kept = History::new(alloc, history, columns)?;
-        let links = LinkTable::new(alloc)?;
         Ok(Terminal {
             parser: Parser::<Utf8Parser>::new(),
             watched: Watched {
-                scrolling: Scrolling::new(screen, kept),
-                links,
+                screen: Screen::with_history(alloc, columns, rows, history)?,
+                links: LinkTable::new(alloc)?,
             },
         })
     }
@@ -73,15 +60,11 @@ impl Terminal {
     pub fn copy(&self, alloc: Global) -> Result<Terminal, AllocError>
         ensures { IfOk result (IsCopy self.now) }
     {
-        let parser = self.parser.clone()?;
-        let screen = copied(alloc, self.screen())?;
-        let kept = self.history().copy(alloc)?;
-        let links = self.links().copy(alloc)?;
         Ok(Terminal {
-            parser,
+            parser: self.parser.clone()?,
             watched: Watched {
-                scrolling: Scrolling::new(screen, kept),
-                links,
+                screen: self.screen().copy(alloc)?,
+                links: self.links().copy(alloc)?,
             },
         })
     }
@@ -98,8 +81,8 @@ impl Terminal {
         ensures { Begins self.old self.new }
     {
         // ESC c, which makes any screen a new one
-        self.watched.scrolling.esc_dispatch(&[], false, b'c');
-        self.watched.scrolling.pass_on();
+        self.watched.screen.esc_dispatch(&[], false, b'c');
+        self.watched.screen.clear_history();
         self.watched.links.clear();
         self.parser = Parser::<Utf8Parser>::new();
     }
@@ -109,21 +92,21 @@ impl Terminal {
     pub fn forget(&mut self)
         ensures { IsCopy self.old self.new }
     {
-        self.watched.scrolling.forget();
+        self.watched.screen.forget();
     }
 
     /// The screen.
     pub fn screen(&self) -> &Screen
         ensures { result.now ≡ screen_of self.now }
     {
-        self.watched.scrolling.screen()
+        &self.watched.screen
     }
 
     /// The rows that left the screen, of which it keeps the last.
-    pub fn history(&self) -> &History
-        ensures { result.now ≡ history_of self.now }
+    pub fn history(&self) -> Option<&History>
+        ensures { option_map (λ history. history.now) result ≡ (display_of self.now).history }
     {
-        self.watched.scrolling.taker()
+        self.screen().history()
     }
 
     /// The links of its cells, of which it keeps the last.

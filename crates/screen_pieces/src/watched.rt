@@ -1,13 +1,12 @@
-//! A screen with what left it and the links that began on it.
-use crate::history::History;
-use ansi_screen::Scrolling;
+//! A screen with the links that began on it.
+use ansi_screen::Screen;
 use anstyle_parse::{Params, Perform, PerformText};
 use screen_html::LinkTable;
 
-/// A screen that keeps the rows that leave it, and the links of its cells by their numbers.
+/// A screen, which keeps the rows that leave it, and the links of its cells by their numbers.
 #[derive(Drop)]
 pub(crate) struct Watched {
-    pub(crate) scrolling: Scrolling<History>,
+    pub(crate) screen: Screen,
     pub(crate) links: LinkTable,
 }
 
@@ -19,38 +18,38 @@ impl Perform for Watched {
     ghost means = { Watches };
 
     fn print(&mut self, c: char) {
-        self.scrolling.print(c);
+        self.screen.print(c);
     }
 
     fn execute(&mut self, byte: u8) {
-        self.scrolling.execute(byte);
+        self.screen.execute(byte);
     }
 
     fn hook(&mut self, params: &Params, intermediates: &[u8], ignore: bool, action: u8) {
-        self.scrolling.hook(params, intermediates, ignore, action);
+        self.screen.hook(params, intermediates, ignore, action);
     }
 
     fn put(&mut self, byte: u8) {
-        self.scrolling.put(byte);
+        self.screen.put(byte);
     }
 
     fn unhook(&mut self) {
-        self.scrolling.unhook();
+        self.screen.unhook();
     }
 
     fn osc_dispatch(&mut self, params: &[&[u8]], bell_terminated: bool) {
-        self.scrolling.osc_dispatch(params, bell_terminated);
-        let link = self.scrolling.screen().link();
+        self.screen.osc_dispatch(params, bell_terminated);
+        let link = self.screen.link();
         self.links.take_command(link, params);
     }
 
     fn csi_dispatch(&mut self, params: &Params, intermediates: &[u8], ignore: bool, action: u8) {
-        self.scrolling
+        self.screen
             .csi_dispatch(params, intermediates, ignore, action);
     }
 
     fn esc_dispatch(&mut self, intermediates: &[u8], ignore: bool, byte: u8) {
-        self.scrolling.esc_dispatch(intermediates, ignore, byte);
+        self.screen.esc_dispatch(intermediates, ignore, byte);
     }
 }
 
@@ -60,7 +59,7 @@ impl PerformText for Watched {
     ghost use Rattle.screen_pieces.specs.WatchedProof.{receives-none, receives-one, receives-more};
 
     fn print_text(&mut self, text: &str) {
-        self.scrolling.print_text(text);
+        self.screen.print_text(text);
     }
 
     ghost receives = { WatchesAll };

@@ -104,7 +104,7 @@ handed-safe : (calls : List Call) (s : State) (cs : List ℕ) (on : Bool)
     → so_far cs ++ rows_from row_safe after_row after_command (standing_after cs on) (all_handed calls s) ≡ so_far (cs ++ rows_marked (all_left calls s))
 handed-safe [] s cs on = append-nil (so_far cs) ∙ ap so_far (sym (append-nil cs))
 handed-safe (call ∷ calls) s cs on =
-    let rows = rows_left call s.display in
+    let rows = rows_left call s in
     let later = all_handed calls (after call s) in
     let reached = cs ++ rows_marked rows in
     ap (λ l. so_far cs ++ rows_from row_safe after_row after_command (standing_after cs on) l) (append_assoc (map leaving rows) (commands call s) later)
@@ -118,7 +118,7 @@ handed-stand : (calls : List Call) (s : State) (cs : List ℕ) (on : Bool)
     ≡ standing_after (cs ++ rows_marked (all_left calls s)) (open_after on (all_left calls s))
 handed-stand [] s cs on = ap (λ l. standing_after l on) (sym (append-nil cs))
 handed-stand (call ∷ calls) s cs on =
-    let rows = rows_left call s.display in
+    let rows = rows_left call s in
     let later = all_handed calls (after call s) in
     let reached = cs ++ rows_marked rows in
     ap (after_rows after_row after_command (standing_after cs on)) (append_assoc (map leaving rows) (commands call s) later)

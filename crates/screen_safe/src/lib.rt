@@ -2,7 +2,7 @@
 //! what shows nothing written visibly.
 //!
 //! ```
-//! let screen = Screen::new(alloc, 80, 24)?;
+//! let screen = Scrollable::new(alloc, 80, 24)?;
 //! let mut reader = FromRead::new(recording);
 //! let (writer, answer) = write_safe_shown(screen, &mut reader, FromWrite::new(Vec::new(alloc)));
 //! // of 1 0 % CR a U+202E b LF: a < U + 2 0 2 E > b, a line feed
@@ -16,7 +16,7 @@ ghost use Rattle.screen_safe.specs.Shown.{safe_left, safe_ending};
 pub mod laws;
 mod rows;
 
-use ansi_screen::Screen;
+use ansi_screen::Scrollable;
 use anstyle_parse::io::{Fault, Output, Sink, Source, write_calls_by};
 pub use rows::SafeRows;
 use screen_text::ShownWriter;
@@ -28,7 +28,7 @@ use screen_text::ShownWriter;
 /// The bytes are read in pieces of at most 4096 and go to a new parser; no memory is taken. The writer is
 /// always handed back. The answer is that of [`write_calls_by`].
 pub fn write_safe_shown<R: Source, W: Sink>(
-    screen: Screen,
+    screen: Scrollable,
     reader: &mut R,
     writer: W,
 ) -> (W, Result<(), Fault>)

@@ -1,5 +1,5 @@
 -- How long the text of what a screen showed can be.
-use Rattle.std.proofs.Common.{◌≡◌, ℕ, zero, suc, ◌+◌, ◌*◌, ◌≤◌, Bool, true, false, List, [], ◌∷◌, ◌++◌, length, take, drop, refl, ap, subst, inl, inr, arith}
+use Rattle.std.proofs.Common.{◌≡◌, ℕ, zero, suc, ◌+◌, ◌*◌, ◌≤◌, Bool, true, false, List, [], ◌∷◌, ◌++◌, length, take, drop, refl, ap, sym, subst, inl, inr, arith}
 use Rattle.std.specs.Prelude.{◌⊎◌, ◌==◌, encode_utf8, if◌then◌else◌}
 use Rattle.std.specs.List.{AllByRecursion, flat_map}
 use Rattle.std.proofs.lemmas.List.{length-append, length-take}
@@ -13,12 +13,14 @@ use Rattle.ansi_screen.specs.declared.cell.Marks.{Marks}
 use Rattle.ansi_screen.specs.declared.cell.Marks.TheVariants.{Unmarked, One, Two}
 use Rattle.ansi_screen.specs.Cells.{is_right}
 use Rattle.ansi_screen.specs.Display.{Display, row_cells}
-use Rattle.ansi_screen.specs.Edits.{row_going_on}
+use Rattle.ansi_screen.specs.Edits.{row_going_on, swapped, main_screen}
 use Rattle.ansi_screen.specs.After.{State, new_state, executed, after, after_all}
-use Rattle.ansi_screen.specs.Text.{marks_text, cell_text, used, is_unprinted, goes_on}
-use Rattle.ansi_screen.specs.Leaving.{swapped, main_screen, printed_count, printed_rows, leaving, is_wrapping, before_escape, before_scroll, first_rows, rows_left, all_left}
-use Rattle.ansi_screen.specs.Laws.{carriage_return, line_feed}
+use Rattle.ansi_screen.specs.Text.{marks_text, cell_text, used, is_unprinted, goes_on, printed_count, printed_rows, first_rows}
+use Rattle.ansi_screen.specs.Leaving.{rows_left, all_left}
+use Rattle.ansi_screen.specs.Laws.{carriage_return, line_feed, is_wrapping}
 use Rattle.ansi_screen.specs.TextsProof.{after_all-append, all_left-append}
+use Rattle.ansi_screen.proofs.LeavingTable.{leaving, before_escape, before_leaving}
+use Rattle.ansi_screen.proofs.LeftLemmas.{rows_left-is, length-left as length-leaving}
 use Rattle.ansi_screen.proofs.SizeLemmas.{HasSize, few-used, sized-after, sized-after_all, few-leave}
 use Rattle.ansi_screen.proofs.SwitchLemmas.{IsMain, none-or-main}
 use Rattle.screen_text.specs.Lines.{row_text, showing}
@@ -118,7 +120,7 @@ module _ (width height : ℕ) where
   few-escape [] final d is = width-of (final == 0x63) (main_screen d) d (width-of d.is_alternate (swapped d) d is is) is
   few-escape (mark ∷ marks) final d is = is
 
-  few-before : (call : Call) (d : Display) → d.width ≡ width → (before_scroll call d).width ≡ width
+  few-before : (call : Call) (d : Display) → d.width ≡ width → (before_leaving call d).width ≡ width
   few-before (print c) d is = width-if (is_wrapping c d) d is
   few-before (execute byte) d is = is
   few-before (csi_dispatch groups intermediates ignore final) d is = is
@@ -132,8 +134,9 @@ module _ (width height : ℕ) where
   few-left : (calls : List Call) (s : State) → HasSize width height s.display → AreFew width (all_left calls s)
   few-left [] s is = tt
   few-left (call ∷ calls) s is =
-      few-append width (rows_left call s.display) (all_left calls (after call s))
-      (few-first width (leaving call s.display) (before_scroll call s.display) (few-before call s.display is.0))
+      few-append width (rows_left call s) (all_left calls (after call s))
+      (subst (AreFew width) (sym (rows_left-is call s))
+      (few-first width (leaving call s.display) (before_leaving call s.display) (few-before call s.display is.0)))
       (few-left calls (after call s) (sized-after width height call s is))
 
   -- the rows of the main screen count, where it is hidden
@@ -161,8 +164,8 @@ module _ (width height : ℕ) where
   length-one call s is =
       omega (
         arith,
-        length-append (rows_left call s.display) [],
-        length-first (leaving call s.display) (before_scroll call s.display),
+        length-append (rows_left call s) [],
+        length-leaving call s,
         leave-one_at call s s.display.is_alternate refl is,
       )
 
@@ -177,8 +180,8 @@ module _ (width height : ℕ) where
       let next : State = after carriage_return s in
       rw test (omega (
         arith,
-        length-append (rows_left carriage_return s.display) (all_left (line_feed ∷ []) next),
-        ap length (return-left s.display),
+        length-append (rows_left carriage_return s) (all_left (line_feed ∷ []) next),
+        ap length (return-left s),
         length-one line_feed next (sized-after width height carriage_return s is),
         same-hidden s,
       ))

@@ -20,9 +20,10 @@ use Rattle.ansi_screen.specs.declared.cell.Marks.{Marks}
 use Rattle.ansi_screen.specs.declared.cell.Marks.TheVariants.{Unmarked, One, Two}
 use Rattle.ansi_screen.specs.Cells.{is_right}
 use Rattle.ansi_screen.specs.After.{State, new_state, after_all}
-use Rattle.ansi_screen.specs.Text.{marks_text, cell_text, used, is_unprinted, goes_on}
+use Rattle.ansi_screen.specs.Text.{marks_text, cell_text, used, is_unprinted, goes_on, printed_count, printed_rows}
 use Rattle.ansi_screen.specs.Display.{Display}
-use Rattle.ansi_screen.specs.Leaving.{all_left, swapped, printed_count, printed_rows}
+use Rattle.ansi_screen.specs.Edits.{swapped}
+use Rattle.ansi_screen.specs.Leaving.{all_left}
 use Rattle.screen_text.specs.Lines.{row_text, rows_text, open_after, closing, showing}
 use Rattle.screen_text.specs.Shown.{given, given_all, shown_text}
 use Rattle.ansi_screen.proofs.CharacterLemmas.{PrintsCharacter, IsGood, AreGoodMarks, IsGoodCell, AreGood, HasGood, IsGoodState, all-append, good-new, good-after_all, good-left, good-first_rows}
@@ -140,7 +141,7 @@ good-hidden false d good = tt
 
 pub good-showing : (d : Display) → HasGood d → AllByRecursion AreGood (showing d)
 good-showing d good =
-    all-append (if d.is_alternate then printed_rows (swapped d) else []) (printed_rows d) (good-hidden d.is_alternate d good)
+    all-append AreGood (if d.is_alternate then printed_rows (swapped d) else []) (printed_rows d) (good-hidden d.is_alternate d good)
     (good-first_rows (printed_count d) d good)
 
 pub clean-shown : (columns rows : ℕ) (bytes : List ℕ) (calls : List Call) → AreCalls bytes calls

@@ -8,8 +8,8 @@ use Rattle.std.proofs.Math.Nat.{mul-le-mul_right}
 use Rattle.anstyle_parse.proofs.Lists.Parts.{AllByRecursion-take}
 use Rattle.ansi_screen.specs.declared.cell.Cell.{Cell}
 use Rattle.ansi_screen.specs.Display.{Display, row_cells}
-use Rattle.ansi_screen.specs.Text.{used, used_rows, is_unprinted, goes_on}
-use Rattle.ansi_screen.specs.Leaving.{swapped, first_rows, printed_rows}
+use Rattle.ansi_screen.specs.Text.{used, used_rows, is_unprinted, goes_on, first_rows, printed_rows}
+use Rattle.ansi_screen.specs.Edits.{swapped}
 use Rattle.screen_text.specs.Lines.{rows_text, open_after, showing}
 use Rattle.screen_text.proofs.EndLemmas.{open_after-append}
 use Rattle.screen_text.proofs.RowTextLemmas.{spaces, unprinted-blank, used-printed, goes_on-printed, text-ended}

@@ -14,7 +14,8 @@ use Rattle.ansi_screen.specs.Display.{Display}
 use Rattle.ansi_screen.specs.Widths.{is_shown, columns}
 use Rattle.ansi_screen.specs.Print.{glyph, printed, shown, marked}
 use Rattle.ansi_screen.specs.Text.{cell_text, marks_text, is_unprinted, is_empty, is_unmarked}
-use Rattle.ansi_screen.specs.Leaving.{is_wrapping, rows_left}
+use Rattle.ansi_screen.specs.Laws.{is_wrapping}
+use Rattle.ansi_screen.proofs.LeavingTable.{leaving_rows}
 use Rattle.ansi_screen.proofs.PlainLemmas.{plain, at}
 use Rattle.screen_text.proofs.RowTextLemmas.{spaces, IsPrinted, printed-append, printed-parts}
 use Rattle.screen_text.proofs.TypedLemmas.{joined, length-joined, Typed}
@@ -116,7 +117,7 @@ mark-wraps m d none =
     ap (λ n. is_shown m && not (n == 0) && nat_lt d.width (d.cursor.column + n) && d.wraps) none
     ∙ ap (λ (b : Bool). b && nat_lt d.width (d.cursor.column + 0) && d.wraps) (and_right (is_shown m) false refl)
 
-pub mark-left : (m : ℕ) (d : Display) → columns m ≡ 0 → rows_left (print m) d ≡ []
+pub mark-left : (m : ℕ) (d : Display) → columns m ≡ 0 → leaving_rows (print m) d ≡ []
 mark-left m d none = rw (mark-wraps m d none) refl
 
 -- a cell with one mark more

@@ -10,10 +10,12 @@ use Rattle.ansi_screen.specs.Widths.{is_shown, columns}
 use Rattle.ansi_screen.specs.Print.{printed}
 use Rattle.ansi_screen.specs.Edits.{erases_first, erased_part, erased_line}
 use Rattle.ansi_screen.specs.After.{State, function_of, is_known, edited, controlled, sequenced, is_repeat, executed, after, after_all}
-use Rattle.ansi_screen.specs.Leaving.{is_wrapping, leaving_by_control, leaving_by_function, leaving_by_sequence, rows_left, all_left}
+use Rattle.ansi_screen.specs.Leaving.{rows_left, all_left}
 use Rattle.ansi_screen.specs.Reachable.{IsScreen}
-use Rattle.ansi_screen.specs.Laws.{carriage_return, line_feed, erase_rest, printing, text_columns}
+use Rattle.ansi_screen.specs.Laws.{carriage_return, line_feed, erase_rest, printing, text_columns, is_wrapping}
 use Rattle.ansi_screen.specs.TextsProof.{all_left-append}
+use Rattle.ansi_screen.proofs.LeavingTable.{leaving_by_control, leaving_by_function, leaving_by_sequence, leaving_rows}
+use Rattle.ansi_screen.proofs.LeftLemmas.{rows_left-is}
 use Rattle.ansi_screen.proofs.LawLemmas.{after_all-append}
 use Rattle.ansi_screen.proofs.KeptCalls.{kept-after, kept-after_all}
 use Rattle.ansi_screen.proofs.RowLemmas.{Wrote, printed-wrote, written-anew}
@@ -30,7 +32,7 @@ fits-wraps c d fits =
     and_left (is_shown c && not (columns c == 0) && nat_lt d.width (d.cursor.column + columns c)) d.wraps
     (and_right (is_shown c && not (columns c == 0)) (nat_lt d.width (d.cursor.column + columns c)) room)
 
-pub fits-left : (c : ℕ) (d : Display) → d.cursor.column + columns c ≤ d.width → rows_left (print c) d ≡ []
+pub fits-left : (c : ℕ) (d : Display) → d.cursor.column + columns c ≤ d.width → leaving_rows (print c) d ≡ []
 fits-left c d fits = rw (fits-wraps c d fits) refl
 
 printing-left : (text : List ℕ) (s : State) → IsScreen s.display → s.display.cursor.column + text_columns text ≤ s.display.width
@@ -41,7 +43,7 @@ printing-left (c ∷ text) s screen fits =
     let width : (after (print c) s).display.width ≡ s.display.width = ap (λ (d : Display). d.width) wrote.is in
     let column : (after (print c) s).display.cursor.column ≡ wrote.column = ap (λ (d : Display). d.cursor.column) wrote.is in
     let near : wrote.column ≤ s.display.cursor.column + columns c = wrote.fits in
-    ap (λ l. l ++ all_left (printing text) (after (print c) s)) (fits-left c s.display (omega arith))
+    ap (λ l. l ++ all_left (printing text) (after (print c) s)) (rows_left-is (print c) s ∙ fits-left c s.display (omega arith))
     ∙ printing-left text (after (print c) s) (kept-after (print c) s screen) (omega arith)
 
 printing-width : (text : List ℕ) (s : State) → IsScreen s.display → s.display.cursor.column + text_columns text ≤ s.display.width
@@ -54,13 +56,13 @@ printing-width (c ∷ text) s screen fits =
     let near : wrote.column ≤ s.display.cursor.column + columns c = wrote.fits in
     printing-width text (after (print c) s) (kept-after (print c) s screen) (omega arith) ∙ width
 
-pub return-left : (d : Display) → rows_left carriage_return d ≡ []
+pub return-left : (s : State) → rows_left carriage_return s ≡ []
 unfolding leaving_by_control
-return-left d = refl
+return-left s = rows_left-is carriage_return s
 
-erase-left : (d : Display) → rows_left erase_rest d ≡ []
+erase-left : (s : State) → rows_left erase_rest s ≡ []
 unfolding leaving_by_sequence leaving_by_function function_of
-erase-left d = refl
+erase-left s = rows_left-is erase_rest s
 
 return-column : (d : Display) → (executed 0x0D d).cursor.column ≡ min 0 (d.width - 1)
 unfolding executed
@@ -81,10 +83,10 @@ written-left text s screen fits =
     let end : State = after_all (printing text) next in
     let first : next.display.cursor.column ≡ min 0 (s.display.width - 1) = return-column s.display in
     let wide : next.display.width ≡ s.display.width = return-width s.display in
-    ap (λ l. l ++ all_left (printing text ++ erase_rest ∷ []) next) (return-left s.display)
+    ap (λ l. l ++ all_left (printing text ++ erase_rest ∷ []) next) (return-left s)
     ∙ (all_left-append (printing text) (erase_rest ∷ []) next
-    ∙ (ap (λ l. l ++ (rows_left erase_rest end.display ++ [])) (printing-left text next (kept-after carriage_return s screen) (omega arith))
-    ∙ ap (λ l. l ++ []) (erase-left end.display)))
+    ∙ (ap (λ l. l ++ (rows_left erase_rest end ++ [])) (printing-left text next (kept-after carriage_return s screen) (omega arith))
+    ∙ ap (λ l. l ++ []) (erase-left end)))
 
 -- what is given of these calls is they themselves
 pub given-printing : (text : List ℕ) → given_all (printing text) ≡ printing text
@@ -171,7 +173,10 @@ erased-returned s wide =
 
 wipe-left : (s : State) → all_left (erase_line ∷ carriage_return ∷ []) s ≡ []
 unfolding leaving_by_sequence leaving_by_function function_of leaving_by_control
-wipe-left s = refl
+wipe-left s =
+    let next : State = after erase_line s in
+    ap (λ l. l ++ (rows_left carriage_return next ++ [])) (rows_left-is erase_line s)
+    ∙ ap (λ l. l ++ []) (rows_left-is carriage_return next)
 
 pub wiped-shown : (s : State) (earlier later : List Call) (before : List ℕ) → IsScreen (after_all (given_all earlier) s).display
     → (after_all (given_all earlier) s).display.cursor.column + text_columns before ≤ (after_all (given_all earlier) s).display.width
@@ -230,9 +235,9 @@ returned-shown s earlier later =
     let second : given_all (earlier ++ line_feed ∷ later) ≡ (start ++ once) ++ rest =
     flat_map-append given earlier (line_feed ∷ later) ∙ sym (append_assoc start once rest) in
     let rows : all_left twice there ≡ all_left once there =
-    ap (λ l. l ++ all_left once next) (return-left there.display)
-    ∙ (ap (λ l. l ++ all_left (line_feed ∷ []) (after carriage_return next)) (return-left next.display)
-    ∙ (ap (all_left (line_feed ∷ [])) (return-twice there) ∙ ap (λ l. l ++ all_left (line_feed ∷ []) next) (sym (return-left there.display)))) in
+    ap (λ l. l ++ all_left once next) (return-left there)
+    ∙ (ap (λ l. l ++ all_left (line_feed ∷ []) (after carriage_return next)) (return-left next)
+    ∙ (ap (all_left (line_feed ∷ [])) (return-twice there) ∙ ap (λ l. l ++ all_left (line_feed ∷ []) next) (sym (return-left there)))) in
     let left : all_left (start ++ twice) s ≡ all_left (start ++ once) s =
     all_left-append start twice s ∙ (ap (λ l. all_left start s ++ l) rows ∙ sym (all_left-append start once s)) in
     let end : after_all (start ++ twice) s ≡ after_all (start ++ once) s =

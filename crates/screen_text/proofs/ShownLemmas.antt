@@ -13,8 +13,9 @@ use Rattle.anstyle_parse.specs.Io.AddingProof.{Adds-append}
 use Rattle.ansi_screen.specs.declared.cell.Cell.{Cell}
 use Rattle.ansi_screen.specs.Display.{Display}
 use Rattle.ansi_screen.specs.After.{State, after, after_all}
-use Rattle.ansi_screen.specs.Text.{cell_text, used, is_unprinted, goes_on}
-use Rattle.ansi_screen.specs.Leaving.{swapped, printed_rows, all_left, rows_left, TakesRows, Scrolls, ScrollsAll}
+use Rattle.ansi_screen.specs.Text.{cell_text, used, is_unprinted, goes_on, printed_rows}
+use Rattle.ansi_screen.specs.Edits.{swapped}
+use Rattle.ansi_screen.specs.Leaving.{all_left, rows_left, TakesRows, Scrolls, ScrollsAll}
 use Rattle.ansi_screen.proofs.LeavingLemmas.{takes-append}
 use Rattle.screen_text.specs.declared.performer.ShownWriter.{ShownWriter}
 use Rattle.screen_text.specs.Lines.{row_text, rows_text, open_after, closing, showing, row_text_at, after_row as after_line, after_command}
@@ -32,7 +33,7 @@ module _ {R : Type 0} (takes : R → List Cell → R → Type 0) (takes_command 
   pub scrolls-shows : (call : Call) (old new : ShownWriter R) → commands call (screen_of old) ≡ [] → Scrolls takes old.scrolling call new.scrolling
       → Shows takes takes_command passes_on old (call ∷ []) new
   scrolls-shows call old new other scrolls =
-      let rows : List (List Cell) = rows_left call (screen_of old).display in
+      let rows : List (List Cell) = rows_left call (screen_of old) in
       let all : map leaving rows ≡ all_handed (call ∷ []) (screen_of old) =
       sym (append-nil (map leaving rows)) ∙ (ap (λ l. map leaving rows ++ l) (sym other) ∙ sym (append-nil (handed call (screen_of old)))) in
       record {
@@ -49,7 +50,7 @@ module _ {R : Type 0} (takes : R → List Cell → R → Type 0) (takes_command 
   printing-handed : (text : List ℕ) (s : State) → all_handed (map print text) s ≡ map leaving (all_left (map print text) s)
   printing-handed [] s = refl
   printing-handed (c ∷ text) s =
-      let rows : List (List Cell) = rows_left (print c) s.display in
+      let rows : List (List Cell) = rows_left (print c) s in
       ap₂ (λ a b. a ++ b) (append-nil (map leaving rows)) (printing-handed text (after (print c) s))
       ∙ sym (map-append leaving rows (all_left (map print text) (after (print c) s)))
 
@@ -176,7 +177,7 @@ pub handed_text : (calls : List Call) (s : State) (on : Bool)
     → rows_from row_text_at after_line after_command on (all_handed calls s) ≡ rows_text (all_left calls s)
 handed_text [] s on = refl
 handed_text (call ∷ calls) s on =
-    let rows = rows_left call s.display in
+    let rows = rows_left call s in
     let later = all_handed calls (after call s) in
     ap (rows_from row_text_at after_line after_command on) (append_assoc (map leaving rows) (commands call s) later)
     ∙ rows_text-from on rows (commands call s ++ later)
@@ -187,7 +188,7 @@ pub handed_open : (calls : List Call) (s : State) (on : Bool)
     → after_rows after_line after_command on (all_handed calls s) ≡ open_after on (all_left calls s)
 handed_open [] s on = refl
 handed_open (call ∷ calls) s on =
-    let rows = rows_left call s.display in
+    let rows = rows_left call s in
     let later = all_handed calls (after call s) in
     ap (after_rows after_line after_command on) (append_assoc (map leaving rows) (commands call s) later)
     ∙ open_after-rows on rows (commands call s ++ later)

@@ -17,12 +17,15 @@ use Rattle.ansi_screen.specs.declared.cell.Part.{Part}
 use Rattle.ansi_screen.specs.declared.cell.Part.TheVariants.{Empty, Whole, Left, Right}
 use Rattle.ansi_screen.specs.Cells.{is_right, cell_at, going_on}
 use Rattle.ansi_screen.specs.Display.{Display, row_end, row_cells}
-use Rattle.ansi_screen.specs.Edits.{row_going_on}
+use Rattle.ansi_screen.specs.Edits.{row_going_on, swapped, main_screen}
 use Rattle.ansi_screen.specs.Widths.{is_among, columns}
 use Rattle.ansi_screen.specs.Reachable.{FitsPart, AreMarks, IsCell, AreCells, IsScreen, HasContents}
 use Rattle.ansi_screen.specs.After.{State, new_state, after, after_all}
-use Rattle.ansi_screen.specs.Text.{cell_text, marks_text, used, is_unprinted, goes_on}
-use Rattle.ansi_screen.specs.Leaving.{swapped, main_screen, printed_count, printed_rows, is_wrapping, leaving, before_escape, before_scroll, first_rows, rows_left, all_left}
+use Rattle.ansi_screen.specs.Text.{cell_text, marks_text, used, is_unprinted, goes_on, printed_count, printed_rows, first_rows}
+use Rattle.ansi_screen.specs.Laws.{is_wrapping}
+use Rattle.ansi_screen.specs.Leaving.{rows_left, all_left}
+use Rattle.ansi_screen.proofs.LeavingTable.{leaving, before_escape, before_leaving}
+use Rattle.ansi_screen.proofs.LeftLemmas.{rows_left-is}
 use Rattle.ansi_screen.proofs.CharacterLemmas.{PrintsCharacter, AreGoodMarks, IsGoodCell, AreGood, IsGoodState, good-new, good-after_all, good-left}
 use Rattle.ansi_screen.proofs.ContentLemmas.{cells-take, cells-drop, cells-at}
 use Rattle.ansi_screen.proofs.ContentCalls.{contents-new, contents-after, contents-after_all}
@@ -274,16 +277,16 @@ cells-before_escape [] final d are hidden =
     cells-either (final == 0x63) (main_screen d) d (cells-either d.is_alternate (swapped d) d hidden are) are
 cells-before_escape (mark ∷ marks) final d are hidden = are
 
-cells-before_scroll : (call : Call) (d : Display) → AreCells d.cells → AreCells d.hidden → AreCells (before_scroll call d).cells
-cells-before_scroll (print c) d are hidden = cells-marked (is_wrapping c d) d are
-cells-before_scroll (execute byte) d are hidden = are
-cells-before_scroll (csi_dispatch groups intermediates ignore final) d are hidden = are
-cells-before_scroll (esc_dispatch intermediates ignore final) d are hidden =
+cells-before_leaving : (call : Call) (d : Display) → AreCells d.cells → AreCells d.hidden → AreCells (before_leaving call d).cells
+cells-before_leaving (print c) d are hidden = cells-marked (is_wrapping c d) d are
+cells-before_leaving (execute byte) d are hidden = are
+cells-before_leaving (csi_dispatch groups intermediates ignore final) d are hidden = are
+cells-before_leaving (esc_dispatch intermediates ignore final) d are hidden =
     cells-either ignore d (before_escape intermediates final d) are (cells-before_escape intermediates final d are hidden)
-cells-before_scroll (hook groups intermediates ignore final) d are hidden = are
-cells-before_scroll (put byte) d are hidden = are
-cells-before_scroll unhook d are hidden = are
-cells-before_scroll (osc_dispatch parts bell) d are hidden = are
+cells-before_leaving (hook groups intermediates ignore final) d are hidden = are
+cells-before_leaving (put byte) d are hidden = are
+cells-before_leaving unhook d are hidden = are
+cells-before_leaving (osc_dispatch parts bell) d are hidden = are
 
 -- the rows that still show
 cells-hidden : (t : Bool) (d : Display) → AreCells d.hidden → AllByRecursion AreCells (if t then printed_rows (swapped d) else [])
@@ -298,8 +301,9 @@ cells-showing d are hidden =
 cells-left : (calls : List Call) (s : State) → IsScreen s.display → HasContents s.display → AllByRecursion AreCells (all_left calls s)
 cells-left [] s screen holds = tt
 cells-left (call ∷ calls) s screen holds =
-    rows-append AreCells (rows_left call s.display) (all_left calls (after call s))
-    (cells-first_rows (leaving call s.display) (before_scroll call s.display) (cells-before_scroll call s.display holds.cells holds.hidden))
+    rows-append AreCells (rows_left call s) (all_left calls (after call s))
+    (subst (AllByRecursion AreCells) (sym (rows_left-is call s))
+    (cells-first_rows (leaving call s.display) (before_leaving call s.display) (cells-before_leaving call s.display holds.cells holds.hidden)))
     (cells-left calls (after call s) (kept-after call s screen) (contents-after call s screen holds))
 
 module _ (columns_of rows_of : ℕ) (bytes : List ℕ) (calls : List Call) (screen : IsScreen (new_state columns_of rows_of).display) (are : AreCalls bytes calls) where

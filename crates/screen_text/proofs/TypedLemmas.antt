@@ -9,10 +9,11 @@ use Rattle.std.proofs.Math.Nat.{suc-mul}
 use Rattle.ansi_screen.specs.declared.cell.Cell.{Cell}
 use Rattle.ansi_screen.specs.Cells.{blank, cut, within, change, going_on, moved_back}
 use Rattle.ansi_screen.specs.Display.{Display}
-use Rattle.ansi_screen.specs.Edits.{rows_up, index}
+use Rattle.ansi_screen.specs.Edits.{rows_up, kept_by_scroll, index}
 use Rattle.ansi_screen.specs.Widths.{is_shown, columns}
 use Rattle.ansi_screen.specs.Print.{glyph, wrapped, with_room, with_glyph, put, shown, printed}
-use Rattle.ansi_screen.specs.Leaving.{leaving_up, leaving_by_index, first_rows}
+use Rattle.ansi_screen.specs.Text.{first_rows}
+use Rattle.ansi_screen.proofs.LeavingTable.{leaving_up, leaving_by_index}
 use Rattle.ansi_screen.proofs.PlainLemmas.{plain, at, cut-blanks}
 use Rattle.screen_text.proofs.RowTextLemmas.{spaces, ArePrinted, ArePlainCells, ArePlainRows, plain-rows_append}
 
@@ -104,7 +105,7 @@ back-first width end first rest long all_long =
 index-last : (width height row column : ℕ) (first rest : List Cell) → (row + 1 == height) ≡ true → length first ≡ width
     → length (first ++ rest) ≡ height * width
     → index (at width height (first ++ rest) row column) ≡ at width height (rest ++ spaces width) row column
-unfolding index rows_up
+unfolding index rows_up kept_by_scroll
 index-last width height row column first rest last long all_long =
     let from : 0 * width ≡ 0 = omega arith in
     let one : 1 * width ≡ width = omega arith in

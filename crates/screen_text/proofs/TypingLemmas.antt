@@ -11,9 +11,12 @@ use Rattle.ansi_screen.specs.Display.{Display, row_cells}
 use Rattle.ansi_screen.specs.Edits.{row_going_on, index}
 use Rattle.ansi_screen.specs.Widths.{is_shown, columns}
 use Rattle.ansi_screen.specs.Print.{glyph, printed}
-use Rattle.ansi_screen.specs.After.{State, executed, after_all}
-use Rattle.ansi_screen.specs.Leaving.{is_wrapping, leaving_up, leaving_by_index, leaving_by_control, first_rows, rows_left, all_left}
-use Rattle.ansi_screen.specs.Laws.{carriage_return, line_feed}
+use Rattle.ansi_screen.specs.After.{State, executed, after, after_all}
+use Rattle.ansi_screen.specs.Text.{first_rows}
+use Rattle.ansi_screen.specs.Leaving.{rows_left, all_left}
+use Rattle.ansi_screen.specs.Laws.{carriage_return, line_feed, is_wrapping}
+use Rattle.ansi_screen.proofs.LeavingTable.{leaving_up, leaving_by_index, leaving_by_control, leaving_rows}
+use Rattle.ansi_screen.proofs.LeftLemmas.{rows_left-is}
 use Rattle.ansi_screen.proofs.PlainLemmas.{plain, at, return-first}
 use Rattle.ansi_screen.proofs.WholeLemmas.{length-glyph}
 use Rattle.screen_text.proofs.RowTextLemmas.{spaces, mark, plain-printed, plain-mark, length-mark, printed-append, printed-glyph}
@@ -91,9 +94,9 @@ module _ (width height : ℕ) (left all : List (List Cell)) (current : List Cell
         scrolled = typed.scrolled;
       }
 
-  pub put-left : (c : ℕ) → length current + columns c ≤ width → rows_left (print c) d ≡ []
+  pub put-left : (c : ℕ) → length current + columns c ≤ width → leaving_rows (print c) d ≡ []
   put-left c room =
-      ap (λ e. rows_left (print c) e) typed.is
+      ap (λ e. leaving_rows (print c) e) typed.is
       ∙ fits-left c (at width height (joined typed.full ++ (current ++ spaces typed.rest)) (length typed.full) (length current)) room
 
 -- CR and LF
@@ -103,7 +106,7 @@ feed-index width height row cells =
     let first : min 0 (width - 1) ≡ 0 = omega arith in
     rw first refl
 
-feed-left : (d : Display) → rows_left line_feed d ≡ first_rows (leaving_by_index d) d
+feed-left : (d : Display) → leaving_rows line_feed d ≡ first_rows (leaving_by_index d) d
 unfolding leaving_by_control
 feed-left d = refl
 
@@ -112,6 +115,7 @@ pub typed-feed : (width height : ℕ) (left all : List (List Cell)) (current : L
     [] (after_all (carriage_return ∷ line_feed ∷ []) s).display
 typed-feed width height left all current s typed =
     let d : Display = s.display in
+    let there : State = after carriage_return s in
     let row : List Cell = current ++ spaces (width - length current) in
     let rest : ℕ = typed.rest - (width - length current) in
     let row_there : ℕ = length typed.full in
@@ -126,9 +130,9 @@ typed-feed width height left all current s typed =
     next-row width height rest left all typed.full row _ refl typed.long (row-long width height left all current d typed) typed.below
     (row-fill width height left all current d typed) typed.split typed.even (plain-printed current (width - length current) typed.printed) typed.scrolled in
     let out : all_left (carriage_return ∷ line_feed ∷ []) s ≡ next.out =
-    ap (λ l. l ++ (rows_left line_feed (executed 0x0D d) ++ [])) (return-left d)
-    ∙ (append-nil (rows_left line_feed (executed 0x0D d))
-    ∙ (ap (λ e. rows_left line_feed e) returned ∙ (feed-left first ∙ next.is))) in
+    ap (λ l. l ++ (rows_left line_feed there ++ [])) (return-left s)
+    ∙ (append-nil (rows_left line_feed there)
+    ∙ (rows_left-is line_feed there ∙ (ap (λ e. leaving_rows line_feed e) returned ∙ (feed-left first ∙ next.is)))) in
     subst (λ l. Typed width height (left ++ l) (all ++ row ∷ []) [] (executed 0x0A (executed 0x0D d))) (sym out)
     (subst (λ e. Typed width height (left ++ next.out) (all ++ row ∷ []) [] e) (sym fed) next.typed)
 
@@ -174,7 +178,7 @@ unfolding leaving_by_index leaving_up
 leaves-place width height row column cells cells_then = refl
 
 wrap-left : (width height row column c : ℕ) (cells : List Cell) → is_shown c ≡ true → 1 ≤ columns c → width < column + columns c
-    → rows_left (print c) (at width height cells row column)
+    → leaving_rows (print c) (at width height cells row column)
     ≡ (let d : Display = at width height (going_on true (row * width + width) cells) row 0 in first_rows (leaving_by_index d) d)
 wrap-left width height row column c cells is some full =
     let d : Display = at width height cells row column in
@@ -185,7 +189,7 @@ wrap-left width height row column c cells is some full =
 
 pub typed-wrap : (width height c : ℕ) (left all : List (List Cell)) (current : List Cell) (d : Display) → Typed width height left all current d
     → 2 ≤ width → is_shown c ≡ true → 1 ≤ columns c → columns c ≤ 2 → width < length current + columns c
-    → Typed width height (left ++ rows_left (print c) d) (all ++ mark (width - 1) (current ++ spaces (width - length current)) ∷ [])
+    → Typed width height (left ++ leaving_rows (print c) d) (all ++ mark (width - 1) (current ++ spaces (width - length current)) ∷ [])
     (glyph (columns c) c plain 0) (printed c d)
 typed-wrap width height c left all current d typed wide is some few full =
     let line : List Cell = current ++ spaces (width - length current) in
@@ -202,8 +206,8 @@ typed-wrap width height c left all current d typed wide is some few full =
     next-row width height rest left all typed.full row _ refl typed.long (length-mark (width - 1) line ∙ long) typed.below
     (row-fill width height left all current d typed) typed.split typed.even
     (plain-mark (width - 1) line (plain-printed current (width - length current) typed.printed)) typed.scrolled in
-    let out : rows_left (print c) d ≡ next.out =
-    ap (λ e. rows_left (print c) e) typed.is
+    let out : leaving_rows (print c) d ≡ next.out =
+    ap (λ e. leaving_rows (print c) e) typed.is
     ∙ (wrap-left width height row_there (length current) c cells is some full
     ∙ (ap (λ l. first_rows (leaving_by_index (at width height l row_there 0)) (at width height l row_there 0)) marked ∙ next.is)) in
     let indexed : index (at width height (going_on true (row_there * width + width) cells) row_there 0)

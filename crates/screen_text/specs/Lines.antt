@@ -8,8 +8,8 @@ use Rattle.anstyle_parse.specs.declared.io.devices.Sink.{Ghosts as SinkOf}
 use Rattle.anstyle_parse.specs.declared.io.output.Output.{Output}
 use Rattle.ansi_screen.specs.declared.cell.Cell.{Cell}
 use Rattle.ansi_screen.specs.Display.{Display}
-use Rattle.ansi_screen.specs.Text.{cell_text, is_unprinted, goes_on, used}
-use Rattle.ansi_screen.specs.Leaving.{swapped, printed_rows}
+use Rattle.ansi_screen.specs.Edits.{swapped}
+use Rattle.ansi_screen.specs.Text.{cell_text, is_unprinted, goes_on, used, printed_rows}
 use Rattle.screen_text.specs.declared.rows.TextRows.{TextRows}
 use Rattle.screen_text.specs.Rows.{WritesRow, WritesCommand, WritesNothing}
 

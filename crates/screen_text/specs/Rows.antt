@@ -21,7 +21,7 @@ commands (osc_dispatch parts bell_terminated) s = command (after (osc_dispatch p
 commands call s = []
 
 abbrev pub handed : Call → State → List Handed
-handed call s = map leaving (rows_left call s.display) ++ commands call s
+handed call s = map leaving (rows_left call s) ++ commands call s
 
 abbrev pub all_handed : List Call → State → List Handed
 all_handed [] s = []

@@ -11,7 +11,7 @@ mod performer;
 mod recording;
 mod rows;
 
-use ansi_screen::Screen;
+use ansi_screen::Scrollable;
 use anstyle_parse::io::{Fault, Output, Sink, Source, write_calls_by};
 pub use option::{NoSize, SHOWN, screen_size};
 pub use performer::ShownWriter;
@@ -29,7 +29,7 @@ pub use rows::{TextRows, WriteRows};
 /// The bytes are read in pieces of at most 4096 and go to a new parser; no memory is taken. The writer is
 /// always handed back. The answer is that of [`write_calls_by`].
 pub fn write_shown<R: Source, W: Sink>(
-    screen: Screen,
+    screen: Scrollable,
     reader: &mut R,
     writer: W,
 ) -> (W, Result<(), Fault>)

@@ -6,7 +6,7 @@ ghost use Rattle.screen_text.specs.Shown.{given, given_all};
 ghost use Rattle.screen_text.specs.Writer.{rows_of, screen_of, text_from, ending_from, Shows};
 
 use crate::rows::WriteRows;
-use ansi_screen::{Screen, Scrolling, TakeCommand, TakeRow};
+use ansi_screen::{Scrollable, Scrolling, TakeCommand, TakeRow};
 use anstyle_parse::io::{Output, Sink, WritingPerformer};
 use anstyle_parse::{Params, Perform, PerformText};
 
@@ -21,7 +21,7 @@ pub struct ShownWriter<R> {
 
 impl<R: TakeCommand> ShownWriter<R> {
     /// One with this screen, of which no row has left, and this writer of rows. Nothing is written.
-    pub fn new(screen: Screen, rows: R) -> ShownWriter<R>
+    pub fn new(screen: Scrollable, rows: R) -> ShownWriter<R>
         ensures rows { rows_of result ≡ rows }
         ensures screen { screen_of result ≡ screen }
     {

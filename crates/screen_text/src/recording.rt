@@ -4,7 +4,7 @@ ghost use Rattle.std.specs.Option.{option_map};
 ghost use Rattle.ansi_screen.specs.Size.{IsTaken};
 ghost use Rattle.screen_text.specs.Recording.{first_line, after_text, number_from, after_number, size_of_all, size_by_rows, size_of_end, size_of_line, recorded_size, of_a_log, is_digit_of, size_for, screen_for, is_decided, CanBeShown};
 
-use ansi_screen::{MAX_COLUMNS, Screen, Size};
+use ansi_screen::{MAX_COLUMNS, Scrollable, Size};
 use std::alloc::{AllocError, Global};
 
 /// No more bytes of a stream are looked at for the size.
@@ -55,13 +55,13 @@ impl ShownSize {
     }
 
     /// The blank screen for a stream that begins with these bytes, and goes on where they decide its size.
-    pub fn screen(self, alloc: Global, front: &[u8]) -> Result<Screen, AllocError>
+    pub fn screen(self, alloc: Global, front: &[u8]) -> Result<Scrollable, AllocError>
         requires { CanBeShown self }
         ensures { IfOk result (λ screen. (rest : List ℕ) → (is_decided self front.now ≡ true) ⊎ (rest ≡ [])
             → screen ≡ screen_for self (front.now ++ rest)) }
     {
         let size = self.of(front);
-        Screen::new(alloc, size.columns, size.rows)
+        Scrollable::new(alloc, size.columns, size.rows)
     }
 }
 

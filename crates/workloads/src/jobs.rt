@@ -5,7 +5,7 @@ use crate::pieces::{PIECES, Writing};
 use crate::random::Random;
 use crate::recording::{Recording, put_frame};
 use ansi_html::{Scheme, Styling, convert};
-use ansi_screen::Screen;
+use ansi_screen::{Screen, Scrollable};
 use ansi_strip::strip_inert;
 use anstyle_parse::io::{Buffer, FromRead, FromWrite, Output, Source};
 use event_pieces::{Event, feed};
@@ -174,7 +174,7 @@ fn html(alloc: Global, document: &[u8]) -> Vec<u8> {
 }
 
 fn shown(alloc: Global, document: &[u8]) -> Result<Vec<u8>, AllocError> {
-    let screen = Screen::new(alloc, COLUMNS, ROWS)?;
+    let screen = Scrollable::new(alloc, COLUMNS, ROWS)?;
     let links = LinkMemory::new(alloc)?;
     let writer = paper(alloc);
     let styling = Styling::Inline(Scheme::Both);

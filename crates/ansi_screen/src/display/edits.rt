@@ -1,11 +1,18 @@
 //! Edits of cells.
-ghost use Rattle.std.specs.Prelude.{◌≡◌, ◌+◌, ◌*◌, ◌<◌, ◌≤◌, length};
+ghost use Rattle.std.specs.Prelude.{◌≡◌, ◌+◌, ◌*◌, ◌<◌, ◌≤◌, length, min};
 ghost use Rattle.ansi_screen.specs.Cells.{going_on, within, erased, deleted, inserted};
 ghost use Rattle.ansi_screen.specs.Display.{here, row_start, row_end};
 ghost use Rattle.ansi_screen.specs.Moves.{settled};
-ghost use Rattle.ansi_screen.specs.Edits.{with_cells, space, erased_cells, row_going_on, row_above_ended, erases_from_row, erases_first, erased_part, erased_display, erased_line, erased_characters, deleted_characters, inserted_characters, rows_up, rows_down, scrolled_up, scrolled_down, inserted_lines, deleted_lines, index, reverse_index};
+ghost use Rattle.ansi_screen.specs.History.{with_left};
+ghost use Rattle.ansi_screen.specs.Text.{first_rows, printed_rows};
+ghost use Rattle.ansi_screen.specs.Edits.{with_cells, space, erased_cells, row_going_on, row_above_ended, erases_from_row, erases_first, erased_part, erased_display, erased_line, erased_characters, deleted_characters, inserted_characters, rows_up, rows_down, swapped, scrolled_up, scrolled_down, inserted_lines, deleted_lines, index, reverse_index};
 
 use super::Display;
+use crate::text::LeftOut;
+use std::mem;
+
+/// The number of ED that erases all of a screen.
+const ALL: u16 = 2;
 
 impl Display {
     /// Where the first cell of the cursor's row is erased, the row above no longer goes on in it.
@@ -31,9 +38,60 @@ impl Display {
         requires { self.old.cursor.column < self.old.width }
         ensures { self.new ≡ erased_display kind self.old }
     {
+        if kind == ALL && !self.is_alternate {
+            self.hand_out_printed();
+        }
+        self.erase_in_place(kind);
+    }
+
+    /// The same, where the rows that are kept have left.
+    fn erase_in_place(&mut self, kind: u16)
+        requires { self.old.cursor.column < self.old.width }
+        ensures { self.new ≡ erased_part kind 0 (length self.old.cells)
+            (row_above_ended (erases_from_row kind self.old) self.old) }
+    {
         let is_begun_anew = self.erases_from_row(kind);
         self.end_row_above(is_begun_anew);
         self.erase_part_of_display(kind);
+    }
+
+    /// The rows up to the last in which something was printed leave, where some are kept: all is to be erased then.
+    pub(super) fn hand_out_printed(&mut self)
+        ensures left { self.new ≡ record self.old {
+          cells = self.new.cells;
+          history = with_left (printed_rows self.old) self.old.history;
+        } }
+        ensures length { length self.new.cells ≡ length self.old.cells }
+    {
+        if self.history.is_some() {
+            let count = self.used_rows(LeftOut::Unprinted);
+            self.hand_out(count);
+        }
+    }
+
+    /// The first rows leave, and are kept; blank ones take their places.
+    fn hand_out(&mut self, count: usize)
+        requires { count ≤ self.old.height }
+        ensures left { self.new ≡ record self.old {
+          cells = self.new.cells;
+          history = with_left (first_rows count self.old) self.old.history;
+        } }
+        ensures length { length self.new.cells ≡ length self.old.cells }
+    {
+        let style = self.cursor.style;
+        // (for the proof: the cells fill the rows, now and after the change below)
+        let _ = self.cells.width();
+        self.damage.note_rows(0, count);
+        self.cells.leave(count, style, &mut self.history);
+        let _ = self.cells.width();
+    }
+
+    /// The cells of the main and of the alternate screen change places; all else stays.
+    pub(crate) fn swap_screens(&mut self)
+        ensures { self.new ≡ swapped self.old }
+    {
+        self.damage.note_all();
+        mem::swap(&mut self.cells, &mut self.hidden);
     }
 
     /// The same, where the row above ends.
@@ -269,11 +327,33 @@ impl Display {
     }
 
     /// SU
+    #[tactic(auto, unfolding(crate::specs::Edits::kept_by_scroll))]
     pub(super) fn scroll_up(&mut self, count: u16)
         ensures { self.new ≡ scrolled_up count self.old }
     {
         let (top, bottom) = (self.top, self.bottom);
-        self.rows_up(count, top, bottom);
+        if top == 0 && !self.is_alternate {
+            self.rows_out(count);
+        } else {
+            self.rows_up(count, top, bottom);
+        }
+    }
+
+    /// The rows within the margins move up, and those that leave at the top are kept.
+    #[tactic(auto, unfolding(crate::specs::Edits::rows_up))]
+    fn rows_out(&mut self, count: u16)
+        ensures { self.new ≡ rows_up count 0 self.old.bottom (record self.old {
+          history = with_left (first_rows (min count self.old.bottom) self.old) self.old.history;
+        }) }
+    {
+        let style = self.cursor.style;
+        let bottom = self.bottom;
+        // (for the proof: the cells fill the rows, now and after the change below)
+        let _ = self.cells.width();
+        self.damage.note_rows(0, bottom);
+        self.cells
+            .scroll_out(bottom, usize::from(count), style, &mut self.history);
+        let _ = self.cells.width();
     }
 
     /// SD

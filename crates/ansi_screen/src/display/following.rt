@@ -1,7 +1,7 @@
 //! What can have changed of a display, and one that becomes as another is.
 ghost use Rattle.std.specs.Prelude.{◌≡◌, ◌<◌, ◌≤◌, ◌⊎◌, ℕ, false};
 ghost use Rattle.ansi_screen.specs.Display.{IsSized, picture, forgotten, row_cells, shown_cells};
-ghost use Rattle.ansi_screen.specs.Following.{IsShownOf, HasSizeOf, with_cells_of, with_cursor_of, with_frame_of};
+ghost use Rattle.ansi_screen.specs.Following.{following, IsShownOf, HasSizeOf, with_cells_of, with_cursor_of, with_frame_of};
 
 use crate::display::{Display, Shown};
 use std::snapshot::Snapshot;
@@ -59,7 +59,7 @@ impl Display {
     /// Becomes as another one is, from which it differs in no more than can have changed of that.
     pub(crate) fn catch_up(&mut self, other: &Display)
         requires { IsShownOf other.now self.old }
-        ensures { self.new ≡ forgotten other.now }
+        ensures { self.new ≡ following other.now self.old }
     {
         self.copy_changed(other);
         if other.is_framed() {
@@ -71,7 +71,7 @@ impl Display {
     /// Becomes as another one of its size is.
     pub(crate) fn copy_from(&mut self, other: &Display)
         requires { HasSizeOf other.now self.old }
-        ensures { self.new ≡ forgotten other.now }
+        ensures { self.new ≡ following other.now self.old }
     {
         self.copy_all(other);
         self.copy_frame(other);

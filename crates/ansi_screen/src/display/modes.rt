@@ -1,7 +1,8 @@
 //! Modes, margins, saved cursors, the alternate screen.
 ghost use Rattle.std.specs.Prelude.{◌≡◌, ◌<◌};
 ghost use Rattle.anstyle_parse.specs.Views.Params.{groups_shown};
-ghost use Rattle.ansi_screen.specs.Display.{renewed};
+ghost use Rattle.ansi_screen.specs.Display.{fresh};
+ghost use Rattle.ansi_screen.specs.Edits.{renewed};
 ghost use Rattle.ansi_screen.specs.Modes.{with_style, shifted, with_charset, saving, into_margins, restored, with_origin, with_margins, to_alternate, to_main, with_alternate, with_private_mode, with_mode, with_modes, softly_reset, first_field};
 
 use super::Display;
@@ -202,6 +203,20 @@ impl Display {
     /// RIS
     pub(super) fn reset(&mut self)
         ensures { self.new ≡ renewed self.old }
+    {
+        if self.is_alternate {
+            self.swap_screens();
+        }
+        self.hand_out_printed();
+        self.renew();
+    }
+
+    /// All is as on a new screen, but for what was shown of it and what it keeps.
+    fn renew(&mut self)
+        ensures { self.new ≡ record (fresh self.old.width self.old.height) {
+          shown = self.old.shown;
+          history = self.old.history;
+        } }
     {
         self.damage.note_all();
         self.cells.fill(Style::default());

@@ -1,10 +1,11 @@
 -- They are lawful, and so replayed.
 use Rattle.anstyle_parse.proofs.Canonical.Replay.{replay}
-use Rattle.std.proofs.Common.{sym}
+use Rattle.std.proofs.Common.{ap, refl, ◌∙◌}
 use Rattle.anstyle_parse.specs.Stream.Canon.{canon}
+use Rattle.ansi_screen.specs.After.{after_all}
+use Rattle.ansi_screen.specs.Leaving.{unkept}
 use Rattle.ansi_screen.proofs.LawLemmas.{Shows-only}
 use Rattle.screen_draw.specs.Draw.{drawn_calls}
-use Rattle.screen_draw.specs.Redrawn.{drawn_state}
 use Rattle.screen_draw.proofs.AnywhereLemmas.{drawn-anywhere}
 use Rattle.screen_draw.proofs.RedrawnLemmas.{redrawn-is}
 use Rattle.screen_draw.proofs.BoundLemmas.{drawn-bound}
@@ -20,8 +21,10 @@ returns-clause-lawful g c = drawing-lawful (drawn_calls c.args.screen.now.displa
 pub returns-clause-redrawn : goal.returns-clause-redrawn
 returns-clause-redrawn g c = λ old new is holds width height shows.
     let d = c.args.screen.now.display in
-    Shows-only (canon (drawn_calls d)) old new (drawn_state old.display.shown d) shows
-    (drawn_calls d, replay (drawn_calls d) (drawing-lawful (drawn_calls d) c.put_all.ensures.drawing), sym (redrawn-is d old is holds width height))
+    ap unkept
+    (Shows-only (canon (drawn_calls d)) old new (after_all (drawn_calls d) old) shows
+    (drawn_calls d, replay (drawn_calls d) (drawing-lawful (drawn_calls d) c.put_all.ensures.drawing), refl))
+    ∙ redrawn-is d old is holds width height
 
 pub returns-clause-anywhere : goal.returns-clause-anywhere
 returns-clause-anywhere g c = λ before old new is holds old_is width height shows.

@@ -1,6 +1,7 @@
 //! All parts of a screen, and the bytes that draw it.
 ghost use Rattle.anstyle_parse.specs.Io.Output.{Adds};
 ghost use Rattle.anstyle_parse.specs.Stream.Canon.{canon};
+ghost use Rattle.ansi_screen.specs.Leaving.{unkept};
 ghost use Rattle.ansi_screen.specs.After.{as_shown};
 ghost use Rattle.screen_draw.specs.Update.{update_calls};
 ghost use Rattle.std.specs.Prelude.{◌≡◌, ◌≤◌, IfOk};
@@ -331,7 +332,7 @@ fn laws(_rt: HostRuntime) {
 }
 
 /// Writes what a piece of a stream changes, as the page of the crate `screen_draw` shows it. Before and after it both
-/// screens are the same, but for the pictures from which on they note what changes.
+/// screens are the same, but for the pictures from which on they note what changes, and for rows that left.
 fn show_piece<W: Sink>(
     parser: &mut Parser<Utf8Parser>,
     shown: &mut Screen,
@@ -339,8 +340,8 @@ fn show_piece<W: Sink>(
     piece: &[u8],
     output: &mut Output<W>,
 )
-    requires { as_shown shown.old ≡ as_shown wanted.old }
-    ensures screens { as_shown shown.new ≡ as_shown wanted.new }
+    requires { as_shown (unkept shown.old) ≡ as_shown (unkept wanted.old) }
+    ensures screens { as_shown (unkept shown.new) ≡ as_shown (unkept wanted.new) }
     ensures text { Adds W.Sink (canon (update_calls shown.old.display wanted.new.display)) output.old output.new }
 {
     noted();
@@ -358,7 +359,7 @@ fn blank_screens(alloc: Global, columns: usize, rows: usize) -> Result<(Screen, 
     requires max_columns { columns ≤ 1000 }
     requires min_rows { 1 ≤ rows }
     requires max_rows { rows ≤ 1000 }
-    ensures { IfOk result (λ screens. as_shown screens.0 ≡ as_shown screens.1) }
+    ensures { IfOk result (λ screens. as_shown (unkept screens.0) ≡ as_shown (unkept screens.1)) }
 {
     Ok((
         Screen::new(alloc, columns, rows)?,
@@ -376,7 +377,7 @@ fn assert_reset(rt: &impl Abort, screen: &Screen) {
 
 /// Shows [`PARTS`] and a reset, and what each leads to.
 fn show_both(rt: &impl Abort, screen: &mut Screen, wanted: &mut Screen, output: &mut Output<Memory>)
-    requires { as_shown screen.old ≡ as_shown wanted.old }
+    requires { as_shown (unkept screen.old) ≡ as_shown (unkept wanted.old) }
 {
     let mut parser = Parser::<Utf8Parser>::new();
     show_piece(&mut parser, screen, wanted, PARTS, output);

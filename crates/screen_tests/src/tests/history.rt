@@ -1,8 +1,10 @@
 //! Rows that left a screen.
 use super::{Put, assert_counts, assert_same, fed, feed, reset};
+use ansi_screen::{Cell, Screen};
+use anstyle_parse::Perform;
 use screen_pieces::laws::{changes_are_told, copies_stand, rows_are_whole};
-use screen_pieces::{CellBytes, History, Terminal};
-use std::alloc::{AllocError, Global};
+use screen_pieces::{CellBytes, Terminal};
+use std::alloc::{AllocError, AllocGlobal, Global};
 use std::process::Abort;
 use std::test::Fail;
 
@@ -18,16 +20,22 @@ fn kept(terminal: &Terminal, number: usize) -> Put<4> {
     (answer, room)
 }
 
+/// The cells of a row that a screen keeps.
+fn cells(screen: &Screen, number: usize) -> Option<&[Cell]> {
+    let (cells, _) = screen.history()?.row(number)?;
+    Some(cells)
+}
+
 /// The character of a row's first cell that is kept, and how many cells it has.
-fn first(history: &History, number: usize) -> (char, usize) {
-    match history.row(number) {
+fn first(screen: &Screen, number: usize) -> (char, usize) {
+    match cells(screen, number) {
         Some([cell, rest @ ..]) => (cell.character, rest.len() + 1),
         _ => (' ', 0),
     }
 }
 
-fn assert_first(rt: &impl Abort, history: &History, number: usize, wanted: (char, usize)) {
-    assert_same(rt, &first(history, number), &wanted);
+fn assert_first(rt: &impl Abort, screen: &Screen, number: usize, wanted: (char, usize)) {
+    assert_same(rt, &first(screen, number), &wanted);
 }
 
 fn assert_kept(rt: &impl Abort, terminal: &Terminal, number: usize, wanted: Put<4>) {
@@ -35,16 +43,24 @@ fn assert_kept(rt: &impl Abort, terminal: &Terminal, number: usize, wanted: Put<
 }
 
 /// How many rows are kept, and how many have left.
-fn assert_counted(rt: &impl Abort, history: &History, wanted: (usize, usize)) {
-    assert_same(rt, &history.counts(), &wanted);
+fn counted(screen: &Screen) -> (usize, usize) {
+    match screen.history() {
+        Some(history) => history.counts(),
+        None => (0, 0),
+    }
+}
+
+fn assert_counted(rt: &impl Abort, screen: &Screen, wanted: (usize, usize)) {
+    assert_same(rt, &counted(screen), &wanted);
 }
 
 /// One row is kept, of four cells.
 fn assert_one_row(rt: &impl Abort, terminal: Terminal) {
     laws();
-    assert_first(rt, terminal.history(), 0, ('a', 4));
-    assert_first(rt, terminal.history(), 1, (' ', 0));
-    assert_counted(rt, terminal.history(), (1, 1));
+    assert!(rt; terminal.history().is_some());
+    assert_first(rt, terminal.screen(), 0, ('a', 4));
+    assert_first(rt, terminal.screen(), 1, (' ', 0));
+    assert_counted(rt, terminal.screen(), (1, 1));
     drop(terminal);
 }
 
@@ -172,5 +188,25 @@ fn assert_no_rows(rt: &impl Abort, mut terminal: Terminal) {
 #[test]
 fn no_rows(rt: HostRuntime) -> Result<(), Fail> {
     assert_no_rows(&rt, Terminal::new(rt.alloc(), 4, 2)?);
+    Ok(())
+}
+
+/// A row leaves a screen of four columns and one row that keeps one; its copy keeps it when it is kept no longer.
+fn assert_copied(rt: &(impl Abort + AllocGlobal), mut screen: Screen) -> Result<(), AllocError> {
+    screen.print('a');
+    screen.execute(b'\n');
+    let copy = screen.copy(rt.alloc())?;
+    screen.clear_history();
+    assert_first(rt, &copy, 0, ('a', 4));
+    assert_counted(rt, &screen, (0, 0));
+    drop((screen, copy));
+    Ok(())
+}
+
+// A screen keeps rows by itself, and one that is asked for none keeps none.
+#[test]
+fn kept_by_a_screen(rt: HostRuntime) -> Result<(), Fail> {
+    assert_copied(&rt, Screen::with_history(rt.alloc(), 4, 1, 1)?)?;
+    assert!(rt; Screen::new(rt.alloc(), 4, 1)?.history().is_none());
     Ok(())
 }

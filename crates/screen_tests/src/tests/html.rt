@@ -1,7 +1,7 @@
 //! What a screen showed, as HTML. Streams stand in tests/screen_twin.
 use super::{Memory, Ran, assert_written, memory};
 use ansi_html::{Scheme, Styling};
-use ansi_screen::Screen;
+use ansi_screen::Scrollable;
 use anstyle_parse::io::{Fault, FromRead, FromWrite, write_calls_by};
 use screen_html::laws::{blocks, last_links, plain_text};
 use screen_html::{BlockRows, HtmlRows, LinkMemory, convert_shown};
@@ -13,7 +13,7 @@ use std::test::Fail;
 fn shown(alloc: Global, log: &[u8]) -> Result<(Vec<u8>, Result<(), Fault>), AllocError> {
     let mut log = FromRead::new(log);
     let writer = FromWrite::new(Vec::new(alloc));
-    let screen = Screen::new(alloc, 80, 24)?;
+    let screen = Scrollable::new(alloc, 80, 24)?;
     let links = LinkMemory::new(alloc)?;
     let styling = Styling::Inline(Scheme::Both);
     let (page, ran) = convert_shown(
@@ -30,12 +30,12 @@ fn a_page(rt: HostRuntime) -> Result<(), Fail> {
 }
 
 /// A blank screen of three columns and one row, and no links.
-fn small(alloc: Global) -> Result<(Screen, LinkMemory), AllocError> {
-    Ok((Screen::new(alloc, 3, 1)?, LinkMemory::new(alloc)?))
+fn small(alloc: Global) -> Result<(Scrollable, LinkMemory), AllocError> {
+    Ok((Scrollable::new(alloc, 3, 1)?, LinkMemory::new(alloc)?))
 }
 
 /// What the rows are that a screen shows of a stream, and then a dot.
-fn written<R: WriteRows<Memory> + Drop>(screen: Screen, rows: R, stream: &[u8]) -> Ran {
+fn written<R: WriteRows<Memory> + Drop>(screen: Scrollable, rows: R, stream: &[u8]) -> Ran {
     let mut reader = FromRead::new(stream);
     let (writer, answer) = write_calls_by(ShownWriter::new(screen, rows), &mut reader, b".");
     (writer.into_inner(), answer)

@@ -2,8 +2,8 @@
 use super::{assert_same, assert_written};
 use ansi_screen::laws::scrolled_off;
 use ansi_screen::{
-    Cell, LeftOut, Part, Screen, Scrolling, Size, TakeCommand, TakeRow, goes_on, is_ascii_alone,
-    put_cells, used, used_of_written,
+    Cell, LeftOut, Part, Screen, Scrollable, Scrolling, Size, TakeCommand, TakeRow, goes_on,
+    is_ascii_alone, put_cells, used, used_of_written,
 };
 use ansi_style::Style;
 use anstyle_parse::Perform;
@@ -50,8 +50,8 @@ impl TakeCommand for Counter {
 }
 
 /// A blank screen of three columns and one row.
-fn blank(alloc: Global) -> Result<Screen, AllocError> {
-    Screen::new(alloc, 3, 1)
+fn blank(alloc: Global) -> Result<Scrollable, AllocError> {
+    Scrollable::new(alloc, 3, 1)
 }
 
 /// A screen of three columns and one row, whose rows are counted as they leave.
@@ -202,7 +202,7 @@ fn blanks_are_not_used(rt: HostRuntime) {
 
 #[test]
 fn what_was_shown(rt: HostRuntime) -> Result<(), Fail> {
-    let screen = Screen::new(rt.alloc(), 4, 2)?;
+    let screen = Scrollable::new(rt.alloc(), 4, 2)?;
     let mut reader = FromRead::new(b"10%\r20%\nlonger\n\x1b[31m ok \n".as_slice());
     let (writer, answer) = write_shown(screen, &mut reader, FromWrite::new(Vec::new(rt.alloc())));
     assert_written(&rt, (writer.into_inner(), answer), b"20%\nlonger\n ok \n");
@@ -225,7 +225,7 @@ fn laws(_rt: HostRuntime) {
 // By hand: what came before counts as written.
 #[test]
 fn a_writer_that_is_given(rt: HostRuntime) -> Result<(), Fail> {
-    let screen = Screen::new(rt.alloc(), 2, 1)?;
+    let screen = Scrollable::new(rt.alloc(), 2, 1)?;
     let mut output = Output::new(FromWrite::new(Vec::new(rt.alloc())));
     let blank = Cell::blank(Style::default());
     assert!(rt; is_ascii_alone(&blank));

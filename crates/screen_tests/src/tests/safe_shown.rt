@@ -1,6 +1,6 @@
 //! Rows of what a screen showed, as safe text, that were worked by hand. (More are rows of tests/safe_rows.py.)
 use super::assert_written;
-use ansi_screen::Screen;
+use ansi_screen::Scrollable;
 use anstyle_parse::io::{FromRead, FromWrite, Output};
 use screen_safe::laws::{of_the_class, read_back, whole};
 use screen_safe::{SafeRows, write_safe_shown};
@@ -33,7 +33,7 @@ fn assert_shown(
     given: &str,
     text: &str,
 ) -> Result<(), AllocError> {
-    let screen = Screen::new(rt.alloc(), 9, 3)?;
+    let screen = Scrollable::new(rt.alloc(), 9, 3)?;
     let mut reader = FromRead::new(Tape::new(given.as_bytes()));
     let writer = FromWrite::new(Vec::new(rt.alloc()));
     let (writer, answer) = write_safe_shown(screen, &mut reader, writer);
@@ -51,7 +51,7 @@ fn texts(rt: HostRuntime) -> Result<(), Fail> {
 
 #[test]
 fn names(rt: HostRuntime) -> Result<(), Fail> {
-    let screen = Screen::new(rt.alloc(), 9, 3)?;
+    let screen = Scrollable::new(rt.alloc(), 9, 3)?;
     let rows = SafeRows::new(Output::new(FromWrite::new(Vec::new(rt.alloc()))));
     let writer = ShownWriter::new(screen, rows);
     laws();

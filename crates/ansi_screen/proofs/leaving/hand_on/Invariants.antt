@@ -1,5 +1,6 @@
 -- The rows so far are taken.
-use Rattle.ansi_screen.specs.Leaving.{TakesRows, first_rows}
+use Rattle.ansi_screen.specs.Leaving.{TakesRows}
+use Rattle.ansi_screen.specs.Text.{first_rows}
 use Rattle.ansi_screen.proofs.leaving.hand_on.Given as goal
 
 abbrev pub invariant-loop-row : goal.invariant-loop-row

@@ -4,7 +4,7 @@ use Rattle.screen_draw.proofs.updates.come_after.Goals as goal
 
 pub returns-in-Ok-clause-screen : goal.returns-in-Ok-clause-screen
 returns-in-Ok-clause-screen c = λ first last next before stands shows same more looks.
-    comes-copied next c.args.wanted.now c.catch_up.new.self looks c.catch_up.ensures
+    comes-copied next c.args.wanted.now c.args.shown.now c.catch_up.new.self looks c.catch_up.ensures
 
 pub returns-clause-screen : goal.returns-clause-screen
 returns-clause-screen c = λ first last next before stands shows same more looks.

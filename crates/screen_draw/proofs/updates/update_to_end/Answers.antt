@@ -11,8 +11,9 @@ use Rattle.ansi_screen.specs.After.{State, Shows}
 use Rattle.screen_draw.specs.Draw.{drawn_calls}
 use Rattle.screen_draw.specs.Drawing.{Draws}
 use Rattle.ansi_screen.specs.Laws.{with_shown}
+use Rattle.ansi_screen.specs.Leaving.{unkept}
 use Rattle.screen_draw.specs.Update.{update_calls}
-use Rattle.screen_draw.specs.Updates.{IsPiece, joined, last_of, LooksAs}
+use Rattle.screen_draw.specs.Updates.{IsPiece, joined, last_of, LooksAlike}
 use Rattle.screen_draw.proofs.UpdatesLemmas.{joined-more, last-more, pieces-more, screens-more, text-passed-on, no-updates, begins, draws-more, stops-there, follows, with-own, was-forgotten, comes-on}
 use Rattle.screen_draw.proofs.updates.update_to_end.Goals as goal
 
@@ -35,7 +36,7 @@ loop-turn-init g c = record {
   each = tt;
   are_screens = tt;
   is_last = refl;
-  is_shown = c.requires.same ∙ ap (λ (s : State). with_shown s.display.shown c.args.wanted.now) (sym c.requires.same);
+  is_shown = ap unkept (c.requires.same ∙ ap (λ (s : State). with_shown s.display.shown c.args.wanted.now) (sym c.requires.same));
   draws = no-updates g.W.Sink c.hand_on.new.output;
   shows = ([], AreCalls-nil, refl);
   stands = c.new-parser.ensures.stands;
@@ -147,7 +148,7 @@ loop-turn-preserved g c =
     ) in
     let looks = with-own wanted comes.next _ comes.is in
     let stands = c.advance_texts.ensures.stands (joined before.pieces) before.stands in
-    let shown : LooksAs comes.next c.come_after.new.shown =
+    let shown : LooksAlike comes.next c.come_after.new.shown =
     c.come_after.ensures.screen first last comes.next (joined before.pieces) before.stands_shown before.shows before.is_shown comes.shows looks in
     record {
       pieces = before.pieces ++ bytes ∷ [];
@@ -157,7 +158,7 @@ loop-turn-preserved g c =
       each = pieces-more IsPiece before.pieces bytes before.each is_piece;
       are_screens = screens-more first comes.next [] bytes before.pieces before.screens before.are_screens comes.shows;
       is_last = looks ∙ ap (with_shown wanted.display.shown) (sym ended);
-      is_shown = shown ∙ ap (with_shown c.come_after.new.shown.display.shown) (sym ended);
+      is_shown = shown ∙ ap (λ (s : State). with_shown c.come_after.new.shown.display.shown (unkept s)) (sym ended);
       draws = draws-more g.W.Sink first c.loop-turn.shown wanted comes.next _ _ before.screens _ _ _ _ before.draws
           before.is_shown comes.is c.update_noted.ensures.text c.update_noted.ensures.only c.hand_on-in-Some.ensures.passed;
       shows = subst (λ l. Shows first l (last_of first (before.screens ++ comes.next ∷ []))) more

@@ -1,7 +1,7 @@
 -- The rows so far are written.
 use Rattle.std.proofs.Common.{◌≡◌, false}
 use Rattle.ansi_html.specs.Styled.{WritesStyled}
-use Rattle.ansi_screen.specs.Leaving.{first_rows}
+use Rattle.ansi_screen.specs.Text.{first_rows}
 use Rattle.screen_text.specs.Lines.{open_after}
 use Rattle.screen_html.specs.Shown.{rows_styled}
 use Rattle.screen_html.proofs.page.put_rows.Given as goal

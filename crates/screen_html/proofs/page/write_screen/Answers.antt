@@ -1,7 +1,7 @@
 -- The last line is ended, and the last element.
 use Rattle.std.proofs.Common.{◌≡◌, Bool, false, ap, ◌∙◌, subst}
 use Rattle.ansi_html.specs.Styled.{WritesStyled}
-use Rattle.ansi_screen.specs.Leaving.{first_rows, printed_rows}
+use Rattle.ansi_screen.specs.Text.{first_rows, printed_rows}
 use Rattle.screen_text.specs.Lines.{open_after}
 use Rattle.screen_html.specs.Shown.{rows_styled, closing_styled}
 use Rattle.screen_html.proofs.PageLemmas.{adds-page}

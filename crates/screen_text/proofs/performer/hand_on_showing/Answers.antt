@@ -1,7 +1,9 @@
 -- The rows of the main screen, and then those of the one that shows.
 use Rattle.std.proofs.Common.{◌≡◌, true, false, ap, sym, ◌∙◌, subst}
 use Rattle.ansi_screen.specs.After.{State}
-use Rattle.ansi_screen.specs.Leaving.{TakesRows, swapped, printed_rows, taker_of, screen_of as scrolling_screen}
+use Rattle.ansi_screen.specs.Text.{printed_rows}
+use Rattle.ansi_screen.specs.Edits.{swapped}
+use Rattle.ansi_screen.specs.Leaving.{TakesRows, taker_of, screen_of as scrolling_screen}
 use Rattle.screen_text.proofs.ShownLemmas.{takes-showing}
 use Rattle.screen_text.proofs.performer.hand_on_showing.Goals as goal
 use Rattle.screen_text.proofs.performer.hand_on_showing.Goals.{then-is_alternate, else-is_alternate}

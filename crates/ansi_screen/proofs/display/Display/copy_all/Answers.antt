@@ -2,7 +2,7 @@
 use Rattle.std.proofs.Common.{rules, ◌≡◌, ◌*◌, length, ap, ap₂, sym, ◌∙◌}
 use Rattle.ansi_screen.specs.Display.{Display}
 use Rattle.ansi_screen.specs.Grid.{Grid}
-use Rattle.ansi_screen.proofs.DamageLemmas.{all-noted}
+use Rattle.ansi_screen.proofs.DamageLemmas.{all-noted, kept-width}
 use Rattle.ansi_screen.proofs.display.Display.copy_all.Goals as goal
 
 pub invariant_of-self : goal.invariant_of-self
@@ -19,5 +19,5 @@ invariant_of-self c =
     ∙ (c.other.invariant.2.sized.cells_fill ∙ (ap₂ (λ a b. a * b) (sym high) (sym wide) ∙ sym was.sized.cells_fill)) in (
       c.self.invariant.0 ∙ sym new_wide,
       c.self.invariant.1 ∙ sym new_high,
-      all-noted _ _ _ c.note_all.ensures (was.long ∙ sym new_high) (search rules) (long ∙ was.damage.long),
+      all-noted _ _ _ c.note_all.ensures (was.long ∙ sym new_high) (search rules) (kept-width _ _ _ new_wide was.kept) (long ∙ was.damage.long),
     )

@@ -1,9 +1,16 @@
--- The row that was marked before is marked again.
-use Rattle.ansi_screen.proofs.LeavingLemmas.{print-scrolls}
+-- The rows that left are taken, and there is room again.
+use Rattle.std.proofs.Common.{subst}
+use Rattle.anstyle_parse.specs.Stream.Call.{print}
+use Rattle.ansi_screen.specs.Leaving.{unkept, Scrolls}
+use Rattle.ansi_screen.proofs.LeavingLemmas.{room-again, call-scrolls}
 use Rattle.ansi_screen.proofs.leaving.ScrollingPerform.print.Goals as goal
+
+pub invariant_of-self : goal.invariant_of-self
+invariant_of-self g c =
+    room-again (print c.args.c) c.self.inside.screen c.print.new.self c.take_left.new.screen c.self.invariant c.print.ensures c.take_left.ensures.screen c.take_left.ensures.sized
 
 pub returns : goal.returns
 returns g c =
-    print-scrolls g.R.TakeRow.takes c.args.c c.begin_print-count.result c.args.self.now c.begin_print-count.new.self
-    c.hand_on.new.self.screen c.print.new.self c.hand_on.new.self.taker c.begin_print-count.ensures.marked
-    c.begin_print-count.ensures.count c.hand_on.ensures.screen c.hand_on.ensures.taken c.print.ensures
+    subst (λ s. Scrolls g.R.TakeRow.takes s (print c.args.c) (record { screen = unkept c.take_left.new.screen; taker = c.take_left.new.taker })) c.self.view_is
+    (call-scrolls g.R.TakeRow.takes (print c.args.c) c.self.inside.screen c.print.new.self c.take_left.new.screen c.self.inside.taker c.take_left.new.taker c.self.invariant c.print.ensures c.take_left.ensures.screen
+    c.take_left.ensures.taken)

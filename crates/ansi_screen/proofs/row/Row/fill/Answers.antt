@@ -1,6 +1,6 @@
 -- All cells are blank.
 use Rattle.std.proofs.Common.{◌≡◌, length, ap, sym, ◌∙◌, arith}
-use Rattle.ansi_screen.proofs.BlankLemmas.{Kept, kept-row, kept-whole, old-whole, kept-filled, filled}
+use Rattle.ansi_screen.proofs.BlankLemmas.{Kept, kept-row, kept-whole, kept-filled, filled}
 use Rattle.ansi_screen.proofs.row.Row.fill.Goals as goal
 
 pub invariant_of-self : goal.invariant_of-self
@@ -9,10 +9,8 @@ invariant_of-self c =
     let xs = c.as_mut_slice.result.now in
     let items = c.self.inside.cells.items in
     let long = c.as_mut_slice.ensures.len in
-    let value = c.as_mut_slice.ensures.value in
-    let whole = old-whole n xs items value long c.self.invariant.1 in
-    let last : c.len-end.result ≡ n = omega (arith, c.len-end.ensures) in
-    let kept : Kept n c.clear-self-inside.result c.clear-self-inside.new.cells = kept-filled n c.clear-self-inside.result c.len-end.result c.args.style xs c.clear-self-inside.new.cells long last (filled c.len-end.result c.args.style xs c.clear-self-inside.new.cells (last ∙ sym long) c.clear-self-inside.ensures.cells) (omega (arith, c.clear-self-inside.ensures.written, long)) c.clear-self-inside.ensures.rest in
+    let last : c.len-end.result ≡ length xs = omega (arith, c.len-end.ensures, long) in
+    let kept : Kept n c.clear-self-inside.result c.clear-self-inside.new.cells = kept-filled n c.clear-self-inside.result c.args.style xs c.clear-self-inside.new.cells long (filled c.len-end.result c.args.style xs c.clear-self-inside.new.cells last c.clear-self-inside.ensures.cells) (omega (arith, c.clear-self-inside.ensures.written, long)) c.clear-self-inside.ensures.blank in
     kept-row n c.clear-self-inside.result items c.clear-self-inside.new.cells kept
 
 pub returns-clause-whole : goal.returns-clause-whole
@@ -21,8 +19,6 @@ returns-clause-whole c =
     let xs = c.as_mut_slice.result.now in
     let items = c.self.inside.cells.items in
     let long = c.as_mut_slice.ensures.len in
-    let value = c.as_mut_slice.ensures.value in
-    let whole = old-whole n xs items value long c.self.invariant.1 in
-    let last : c.len-end.result ≡ n = omega (arith, c.len-end.ensures) in
-    let kept : Kept n c.clear-self-inside.result c.clear-self-inside.new.cells = kept-filled n c.clear-self-inside.result c.len-end.result c.args.style xs c.clear-self-inside.new.cells long last (filled c.len-end.result c.args.style xs c.clear-self-inside.new.cells (last ∙ sym long) c.clear-self-inside.ensures.cells) (omega (arith, c.clear-self-inside.ensures.written, long)) c.clear-self-inside.ensures.rest in
-    kept-whole n c.clear-self-inside.result c.args.self.now items c.clear-self-inside.new.cells (sym (ap length c.self.view_is) ∙ (sym (ap length value) ∙ long)) kept
+    let last : c.len-end.result ≡ length xs = omega (arith, c.len-end.ensures, long) in
+    let kept : Kept n c.clear-self-inside.result c.clear-self-inside.new.cells = kept-filled n c.clear-self-inside.result c.args.style xs c.clear-self-inside.new.cells long (filled c.len-end.result c.args.style xs c.clear-self-inside.new.cells last c.clear-self-inside.ensures.cells) (omega (arith, c.clear-self-inside.ensures.written, long)) c.clear-self-inside.ensures.blank in
+    kept-whole n c.clear-self-inside.result c.args.self.now items c.clear-self-inside.new.cells (sym (ap length c.self.view_is) ∙ (sym (ap length c.as_mut_slice.ensures.value) ∙ c.as_mut_slice.ensures.len)) kept

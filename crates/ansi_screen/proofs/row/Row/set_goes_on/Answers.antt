@@ -1,8 +1,8 @@
 -- The row keeps its number of cells, and its halves in pairs.
-use Rattle.std.proofs.Common.{◌≡◌, List, length, ap, sym, ◌∙◌, arith}
+use Rattle.std.proofs.Common.{◌≡◌, ◌-◌, ◌<◌, refl, List, length, ap, sym, ◌∙◌, arith}
 use Rattle.ansi_screen.specs.declared.cell.Cell.{Cell}
 use Rattle.ansi_screen.specs.Text.{goes_on}
-use Rattle.ansi_screen.proofs.BlankLemmas.{Kept, kept-row, kept-whole, old-whole, kept-going, going-same, not-other}
+use Rattle.ansi_screen.proofs.BlankLemmas.{Kept, kept-slice, kept-row, kept-whole, kept-going, going-same, not-other}
 use Rattle.ansi_screen.proofs.row.Row.set_goes_on.Goals as goal
 
 pub invariant_of-self : goal.invariant_of-self
@@ -10,24 +10,22 @@ invariant_of-self c =
     let n = c.self.inside.cells.len in
     let xs = c.as_mut_slice.result.now in
     let items = c.self.inside.cells.items in
-    let long = c.as_mut_slice.ensures.len in
-    let value = c.as_mut_slice.ensures.value in
-    let whole = old-whole n xs items value long c.self.invariant.1 in
+    let old = kept-slice n c.self.inside.written xs items c.as_mut_slice.ensures.value c.as_mut_slice.ensures.len c.self.invariant in
     let last : c.len-end.result ≡ n = omega (arith, c.len-end.ensures) in
-    let kept : Kept n c.len-end.result c.set_goes_on.new.cells = kept-going n xs c.set_goes_on.new.cells long whole c.args.on c.len-end.result last c.set_goes_on.ensures.set in
-    kept-row n c.len-end.result items c.set_goes_on.new.cells kept
+    let some : 0 < c.len-end.result = omega (arith, last, c.as_mut_slice.ensures.len, ap length c.as_mut_slice.ensures.value, ap length c.self.view_is, c.requires) in
+    let kept : Kept n c.join.new.self c.set_goes_on.new.cells = kept-going n (c.len-end.result - 1) c.len-end.result c.self.inside.written c.join.new.self xs c.set_goes_on.new.cells old c.join.ensures (omega (arith, last)) c.args.on some refl c.set_goes_on.ensures.set in
+    kept-row n c.join.new.self items c.set_goes_on.new.cells kept
 
 pub returns-then-goes_on-on-clause-whole : goal.returns-then-goes_on-on-clause-whole
 returns-then-goes_on-on-clause-whole c =
     let n = c.self.inside.cells.len in
     let xs = c.as_mut_slice.result.now in
     let items = c.self.inside.cells.items in
-    let long = c.as_mut_slice.ensures.len in
-    let value = c.as_mut_slice.ensures.value in
-    let whole = old-whole n xs items value long c.self.invariant.1 in
+    let old = kept-slice n c.self.inside.written xs items c.as_mut_slice.ensures.value c.as_mut_slice.ensures.len c.self.invariant in
     let last : c.len-end.result ≡ n = omega (arith, c.len-end.ensures) in
-    let kept : Kept n c.len-end.result c.set_goes_on.new.cells = kept-going n xs c.set_goes_on.new.cells long whole c.args.on c.len-end.result last c.set_goes_on.ensures.set in
-    kept-whole n c.len-end.result c.args.self.now items c.set_goes_on.new.cells (sym (ap length c.self.view_is) ∙ (sym (ap length value) ∙ long)) kept
+    let some : 0 < c.len-end.result = omega (arith, last, c.as_mut_slice.ensures.len, ap length c.as_mut_slice.ensures.value, ap length c.self.view_is, c.requires) in
+    let kept : Kept n c.join.new.self c.set_goes_on.new.cells = kept-going n (c.len-end.result - 1) c.len-end.result c.self.inside.written c.join.new.self xs c.set_goes_on.new.cells old c.join.ensures (omega (arith, last)) c.args.on some refl c.set_goes_on.ensures.set in
+    kept-whole n c.join.new.self c.args.self.now items c.set_goes_on.new.cells (sym (ap length c.self.view_is) ∙ (sym (ap length c.as_mut_slice.ensures.value) ∙ c.as_mut_slice.ensures.len)) kept
 
 pub returns-else-goes_on-on-clause-cells : goal.returns-else-goes_on-on-clause-cells
 returns-else-goes_on-on-clause-cells c =

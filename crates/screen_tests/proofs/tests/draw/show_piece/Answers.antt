@@ -3,7 +3,8 @@ use Rattle.std.proofs.Common.{ap, sym}
 use Rattle.anstyle_parse.specs.Machine.Step.{machine_calls}
 use Rattle.anstyle_parse.specs.Views.Accumulator.{parser_after}
 use Rattle.anstyle_parse.specs.Views.Parser.{machine_of}
-use Rattle.ansi_screen.specs.After.{as_shown}
+use Rattle.ansi_screen.specs.After.{State, as_shown}
+use Rattle.ansi_screen.specs.Leaving.{unkept}
 use Rattle.ansi_screen.proofs.CallLemmas.{after_all-goes}
 use Rattle.screen_draw.proofs.NotedLemmas.{still-noted}
 use Rattle.screen_tests.proofs.tests.draw.show_piece.Goals as goal
@@ -23,4 +24,4 @@ catch_up-requires g c =
     c.columns.ensures.sized (after_all-goes calls c.forget.new.self c.advance_all.new.performer c.advance_all.ensures.calls)
 
 pub returns-clause-screens : goal.returns-clause-screens
-returns-clause-screens g c = ap as_shown c.catch_up.ensures
+returns-clause-screens g c = ap (λ (s : State). as_shown (unkept s)) c.catch_up.ensures

@@ -1,0 +1,17 @@
+-- The rows that left are taken, and there is room again.
+use Rattle.std.proofs.Common.{subst}
+use Rattle.anstyle_parse.specs.Stream.Call.{csi_dispatch}
+use Rattle.anstyle_parse.specs.Views.Params.{groups_shown}
+use Rattle.ansi_screen.specs.Leaving.{unkept, Scrolls}
+use Rattle.ansi_screen.proofs.LeavingLemmas.{room-again, call-scrolls}
+use Rattle.ansi_screen.proofs.leaving.ScrollingPerform.csi_dispatch.Goals as goal
+
+pub invariant_of-self : goal.invariant_of-self
+invariant_of-self g c =
+    room-again (csi_dispatch (groups_shown c.args.params.now) c.args.intermediates.now c.args.ignore c.args.action) c.self.inside.screen c.csi_dispatch.new.self c.take_left.new.screen c.self.invariant c.csi_dispatch.ensures c.take_left.ensures.screen c.take_left.ensures.sized
+
+pub returns : goal.returns
+returns g c =
+    subst (λ s. Scrolls g.R.TakeRow.takes s (csi_dispatch (groups_shown c.args.params.now) c.args.intermediates.now c.args.ignore c.args.action) (record { screen = unkept c.take_left.new.screen; taker = c.take_left.new.taker })) c.self.view_is
+    (call-scrolls g.R.TakeRow.takes (csi_dispatch (groups_shown c.args.params.now) c.args.intermediates.now c.args.ignore c.args.action) c.self.inside.screen c.csi_dispatch.new.self c.take_left.new.screen c.self.inside.taker c.take_left.new.taker c.self.invariant c.csi_dispatch.ensures c.take_left.ensures.screen
+    c.take_left.ensures.taken)

@@ -1,6 +1,0 @@
--- The rows so far are copied.
-use Rattle.std.proofs.Common.{◌≡◌, take}
-use Rattle.screen_pieces.proofs.history.copied.Given as goal
-
-abbrev pub invariant-loop-row : goal.invariant-loop-row
-invariant-loop-row l = l.copies.items ≡ take l.row-index l.rows

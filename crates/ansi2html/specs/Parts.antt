@@ -33,9 +33,11 @@ GoesOn (Err stopped) next none = none
 
 -- They are written in turn, each to what those before it left. One that is not written whole is the last, and those
 -- after it are not touched.
-abbrev pub WritesParts : {R W : Type 0} → SourceOf R → SinkOf W → (text : Given → List ℕ) → (parts parts_after : List (Part R))
+abbrev pub WritesParts : {R W : Type 0} → SourceOf R → SinkOf W → (text : Given → List ℕ)
+    → (parts parts_after : List (Part R))
     → (writer writer_after : W) → Result (Unit {0}) Stopped → Type 0
-WritesParts source sink text [] parts_after writer writer_after answer = (parts_after ≡ []) × (writer_after ≡ writer) × (answer ≡ Ok tt)
+WritesParts source sink text [] parts_after writer writer_after answer =
+    (parts_after ≡ []) × (writer_after ≡ writer) × (answer ≡ Ok tt)
 WritesParts source sink text (part ∷ parts) [] writer writer_after answer = ⊥
 WritesParts {W = W} source sink text (part ∷ parts) (part_after ∷ parts_after) writer writer_after answer =
     (middle : W) × (first : Result (Unit {0}) Stopped) × WritesPart source sink text part part_after writer middle first

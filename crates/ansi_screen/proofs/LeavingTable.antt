@@ -378,72 +378,77 @@ few-at : (t : Bool) (n k : ℕ) → k ≤ n → (if t then k else suc n) ≤ suc
 few-at true n k few = omega (arith, few)
 few-at false n k few = omega arith
 
-printed-few : (n : ℕ) (d : Display) → used_rows is_unprinted n d ≤ n
-printed-few zero d = omega arith
-printed-few (suc n) d = few-at (used is_unprinted (row_cells n d) == 0) n (used_rows is_unprinted n d) (printed-few n d)
+pub few-used : (n : ℕ) (d : Display) → used_rows is_unprinted n d ≤ n
+few-used zero d = omega arith
+few-used (suc n) d = few-at (used is_unprinted (row_cells n d) == 0) n (used_rows is_unprinted n d) (few-used n d)
+
+few-if : (t : Bool) (a b most : ℕ) → a ≤ most → b ≤ most → (if t then a else b) ≤ most
+few-if true a b most first second = first
+few-if false a b most first second = second
 
 -- no more leave than the screen has rows, or rows above the lower margin
-no-more : (t : Bool) (n most : ℕ) → n ≤ most → (if t then n else 0) ≤ most
-no-more true n most few = few
-no-more false n most few = omega arith
+module _ (most : ℕ) where
+  no-more : (t : Bool) (n : ℕ) → n ≤ most → (if t then n else 0) ≤ most
+  no-more t n few = few-if t n 0 most few (omega arith)
 
-up-few : (n : ℕ) (d : Display) → leaving_up n d ≤ d.height + d.bottom
-unfolding leaving_up
-up-few n d = no-more (d.top == 0 && not d.is_alternate) (min n d.bottom) (d.height + d.bottom) (omega arith)
+  up-few : (n : ℕ) (d : Display) → d.bottom ≤ most → leaving_up n d ≤ most
+  unfolding leaving_up
+  up-few n d low = no-more (d.top == 0 && not d.is_alternate) (min n d.bottom) (omega (arith, low))
 
-index-few : (d : Display) → leaving_by_index d ≤ d.height + d.bottom
-unfolding leaving_by_index
-index-few d = no-more (d.cursor.row + 1 == d.bottom) (leaving_up 1 d) (d.height + d.bottom) (up-few 1 d)
+  index-few : (d : Display) → d.bottom ≤ most → leaving_by_index d ≤ most
+  unfolding leaving_by_index
+  index-few d low = no-more (d.cursor.row + 1 == d.bottom) (leaving_up 1 d) (up-few 1 d low)
 
-either-few : (t : Bool) (a b most : ℕ) → a ≤ most → b ≤ most → (if t then a else b) ≤ most
-either-few true a b most first second = first
-either-few false a b most first second = second
+  printed-few : (d : Display) → d.height ≤ most → printed_count d ≤ most
+  printed-few d tall = omega (arith, few-used d.height d, tall)
 
-main-few : (t : Bool) (d : Display) → printed_count (if t then swapped d else d) ≤ d.height + d.bottom
-main-few true d = omega (arith, printed-few d.height (swapped d))
-main-few false d = omega (arith, printed-few d.height d)
+  main-few : (t : Bool) (d : Display) → d.height ≤ most → printed_count (if t then swapped d else d) ≤ most
+  main-few true d tall = printed-few (swapped d) tall
+  main-few false d tall = printed-few d tall
 
-function-few : (function : Function) (groups : List (List ℕ)) (d : Display) → leaving_by_function function groups d ≤ d.height + d.bottom
-unfolding leaving_by_function
-function-few (Edits InsertCharacters) groups d = omega arith
-function-few (Edits EraseInDisplay) groups d =
-    no-more (first_of groups == 2 && not d.is_alternate) (printed_count d) (d.height + d.bottom) (omega (arith, printed-few d.height d))
-function-few (Edits EraseInLine) groups d = omega arith
-function-few (Edits InsertLines) groups d = omega arith
-function-few (Edits DeleteLines) groups d = omega arith
-function-few (Edits DeleteCharacters) groups d = omega arith
-function-few (Edits EraseCharacters) groups d = omega arith
-function-few (Moves move) groups d = omega arith
-function-few (Sets Rendition) groups d = omega arith
-function-few (Sets SetModes) groups d = omega arith
-function-few (Sets ResetModes) groups d = omega arith
-function-few (Sets Margins) groups d = omega arith
-function-few (Sets ScrollUp) groups d = up-few (count (first_of groups)) d
-function-few (Sets ScrollDown) groups d = omega arith
-function-few (Sets ForwardTab) groups d = omega arith
-function-few (Sets ClearStops) groups d = omega arith
-function-few (Sets SaveCursor) groups d = omega arith
-function-few (Sets RestoreCursor) groups d = omega arith
-function-few Nothing groups d = omega arith
+  function-few : (function : Function) (groups : List (List ℕ)) (d : Display) → d.height ≤ most → d.bottom ≤ most
+      → leaving_by_function function groups d ≤ most
+  unfolding leaving_by_function
+  function-few (Edits InsertCharacters) groups d tall low = omega arith
+  function-few (Edits EraseInDisplay) groups d tall low =
+      no-more (first_of groups == 2 && not d.is_alternate) (printed_count d) (printed-few d tall)
+  function-few (Edits EraseInLine) groups d tall low = omega arith
+  function-few (Edits InsertLines) groups d tall low = omega arith
+  function-few (Edits DeleteLines) groups d tall low = omega arith
+  function-few (Edits DeleteCharacters) groups d tall low = omega arith
+  function-few (Edits EraseCharacters) groups d tall low = omega arith
+  function-few (Moves move) groups d tall low = omega arith
+  function-few (Sets Rendition) groups d tall low = omega arith
+  function-few (Sets SetModes) groups d tall low = omega arith
+  function-few (Sets ResetModes) groups d tall low = omega arith
+  function-few (Sets Margins) groups d tall low = omega arith
+  function-few (Sets ScrollUp) groups d tall low = up-few (count (first_of groups)) d low
+  function-few (Sets ScrollDown) groups d tall low = omega arith
+  function-few (Sets ForwardTab) groups d tall low = omega arith
+  function-few (Sets ClearStops) groups d tall low = omega arith
+  function-few (Sets SaveCursor) groups d tall low = omega arith
+  function-few (Sets RestoreCursor) groups d tall low = omega arith
+  function-few Nothing groups d tall low = omega arith
+
+  pub call-few : (call : Call) (d : Display) → d.height ≤ most → d.bottom ≤ most → leaving call d ≤ most
+  unfolding leaving_by_control leaving_by_escape leaving_by_function leaving_by_sequence
+  call-few (print c) d tall low = no-more (is_wrapping c d) (leaving_by_index d) (index-few d low)
+  call-few (execute byte) d tall low =
+      no-more (byte == 0x0A || byte == 0x0B || byte == 0x0C) (leaving_by_index d) (index-few d low)
+  call-few (csi_dispatch groups intermediates true final) d tall low = omega arith
+  call-few (csi_dispatch groups [] false final) d tall low = function-few (function_of final) groups d tall low
+  call-few (csi_dispatch groups (mark ∷ marks) false final) d tall low = omega arith
+  call-few (esc_dispatch intermediates true final) d tall low = omega arith
+  call-few (esc_dispatch [] false final) d tall low =
+      few-if (final == 0x44 || final == 0x45) (leaving_by_index d) _ most (index-few d low)
+      (no-more (final == 0x63) (printed_count (main_screen d)) (main-few d.is_alternate d tall))
+  call-few (esc_dispatch (mark ∷ marks) false final) d tall low = omega arith
+  call-few (hook groups intermediates ignore final) d tall low = omega arith
+  call-few (put_byte byte) d tall low = omega arith
+  call-few unhook d tall low = omega arith
+  call-few (osc_dispatch parts bell) d tall low = omega arith
 
 -- So the rows that leave by a call are those of the table.
-pub call-few : (call : Call) (d : Display) → leaving call d ≤ d.height + d.bottom
-unfolding leaving_by_control leaving_by_escape leaving_by_function leaving_by_sequence
-call-few (print c) d = no-more (is_wrapping c d) (leaving_by_index d) (d.height + d.bottom) (index-few d)
-call-few (execute byte) d = no-more (byte == 0x0A || byte == 0x0B || byte == 0x0C) (leaving_by_index d) (d.height + d.bottom) (index-few d)
-call-few (csi_dispatch groups intermediates true final) d = omega arith
-call-few (csi_dispatch groups [] false final) d = function-few (function_of final) groups d
-call-few (csi_dispatch groups (mark ∷ marks) false final) d = omega arith
-call-few (esc_dispatch intermediates true final) d = omega arith
-call-few (esc_dispatch [] false final) d =
-    either-few (final == 0x44 || final == 0x45) (leaving_by_index d) _ (d.height + d.bottom) (index-few d)
-    (no-more (final == 0x63) (printed_count (main_screen d)) (d.height + d.bottom) (main-few d.is_alternate d))
-call-few (esc_dispatch (mark ∷ marks) false final) d = omega arith
-call-few (hook groups intermediates ignore final) d = omega arith
-call-few (put_byte byte) d = omega arith
-call-few unhook d = omega arith
-call-few (osc_dispatch parts bell) d = omega arith
-
 rows_of-fit : (n : ℕ) (from : Display) (kept : Kept) → kept.rows ≡ [] → n ≤ kept.most
     → (kept_after_all (first_rows n from) kept).rows ≡ first_rows n from
 rows_of-fit n from kept none room =

@@ -1,5 +1,5 @@
 -- Which rows leave does not hang on the picture since which a screen notes what changes, nor on the rows that it keeps.
-use Rattle.std.proofs.Common.{◌≡◌, ℕ, ◌+◌, Bool, true, false, List, [], ◌∷◌, ◌++◌, length, refl, ap, ap₂, sym, ◌∙◌}
+use Rattle.std.proofs.Common.{◌≡◌, ℕ, ◌+◌, Bool, true, false, List, [], ◌∷◌, ◌++◌, length, refl, arith, ap, ap₂, sym, ◌∙◌}
 use Rattle.std.specs.Prelude.{Option, None, Some, ◌==◌, ◌||◌, ◌&&◌, not, if◌then◌else◌}
 use Rattle.anstyle_parse.specs.Stream.Call.{Call, print, execute, hook, put, unhook, osc_dispatch, csi_dispatch, esc_dispatch}
 use Rattle.ansi_screen.specs.declared.cell.Cell.{Cell}
@@ -104,7 +104,7 @@ module _ (p : Picture) (history : Option Kept) where
 pub rows_left-is : (call : Call) (s : State) → rows_left call s ≡ leaving_rows call s.display
 rows_left-is call s =
     let most : ℕ = s.display.height + s.display.bottom in
-    kept-left most s.display.width call (keeping s) (call-few call (keeping s).display) refl
+    kept-left most s.display.width call (keeping s) (call-few most call (keeping s).display (omega arith) (omega arith)) refl
     ∙ left-since s.display.shown (Some (nothing_kept most s.display.width)) call s.display
 
 pub length-left : (call : Call) (s : State) → length (rows_left call s) ≡ leaving call s.display

@@ -1,6 +1,6 @@
 -- Whatever calls a screen receives, it keeps its size, and no more rows leave by a call than it has.
 use Rattle.std.proofs.Common.{◌≡◌, ℕ, zero, suc, ◌+◌, ◌-◌, ◌<◌, ◌≤◌, Bool, true, false, List, [], ◌∷◌, length, refl, arith}
-use Rattle.std.specs.Prelude.{min, nat_lt, nat_le, ◌==◌, ◌&&◌, ◌||◌, not, if◌then◌else◌, Option, None, Some}
+use Rattle.std.specs.Prelude.{min, nat_lt, nat_le, ◌==◌, ◌&&◌, ◌||◌, if◌then◌else◌, Option, None, Some}
 use Rattle.std.specs.Fn.{iterate}
 use Rattle.std.proofs.lemmas.Bool.{and_parts, ltb-true}
 use Rattle.anstyle_parse.specs.Stream.Call.{Call, print, execute, hook, put as put_byte, unhook, osc_dispatch, csi_dispatch, esc_dispatch}
@@ -19,16 +19,8 @@ use Rattle.ansi_screen.specs.Widths.{is_shown, columns}
 use Rattle.ansi_screen.specs.Print.{wrapped, with_room, with_glyph, put, marked, shown, drawn, draws, printed, printed_again}
 use Rattle.ansi_screen.specs.Modes.{with_charset, restored, with_origin, with_margins, to_alternate, to_main, with_alternate, softly_reset, with_private_mode, with_mode, with_modes, first_field}
 use Rattle.ansi_screen.specs.After.{State, function_of, first_of, second_of, is_bare, count, is_known, edited, moved, set as set_by, controlled, sequenced, executed, escaped, designated, repeated, is_repeat, after, after_all}
-use Rattle.ansi_screen.specs.Text.{is_unprinted, used_rows}
 use Rattle.ansi_screen.specs.Edits.{swapped, main_screen}
-use Rattle.ansi_screen.specs.Text.{printed_count}
-use Rattle.ansi_screen.specs.Laws.{is_wrapping}
-use Rattle.ansi_screen.proofs.LeavingTable.{leaving_up, leaving_by_index, leaving_by_control, leaving_by_escape, leaving_by_function, leaving_by_sequence, leaving}
-
--- either of two numbers
-le-if : (t : Bool) (a b n : ℕ) → a ≤ n → b ≤ n → (if t then a else b) ≤ n
-le-if true a b n first second = first
-le-if false a b n first second = second
+use Rattle.ansi_screen.proofs.LeavingTable.{leaving, call-few}
 
 margin-inside : (last height n : ℕ) (t : Bool) → (nat_lt 0 last && nat_lt last height) ≡ t → height ≤ n → (if t then last else height) ≤ n
 margin-inside last height n true is fits =
@@ -36,15 +28,6 @@ margin-inside last height n true is fits =
     let below : last < height = ltb-true last height parts.1 in
     omega arith
 margin-inside last height n false is fits = fits
-
--- rows up to the last in which something was printed
-used-if : (t : Bool) (a n : ℕ) → a ≤ n → (if t then a else n) ≤ n
-used-if true a n few = few
-used-if false a n few = omega arith
-
-pub few-used : (n : ℕ) (d : Display) → used_rows is_unprinted n d ≤ n
-few-used zero d = omega arith
-few-used (suc n) d = used-if _ (used_rows is_unprinted n d) (suc n) (omega (arith, few-used n d))
 
 module _ (width height : ℕ) where
   -- a display of this size, with its lower margin within
@@ -288,68 +271,8 @@ module _ (width height : ℕ) where
   sized-after_all [] s is = is
   sized-after_all (call ∷ calls) s is = sized-after_all calls (after call s) (sized-after call s is)
 
-  -- rows that leave by a call
-  few-up : (n : ℕ) (d : Display) → HasSize d → leaving_up n d ≤ height
-  unfolding leaving_up
-  few-up n d s = let inside : d.bottom ≤ height = s.2 in le-if (d.top == 0 && not d.is_alternate) (min n d.bottom) 0 height (omega arith) (omega arith)
-
-  few-index : (d : Display) → HasSize d → leaving_by_index d ≤ height
-  unfolding leaving_by_index
-  few-index d s = le-if (d.cursor.row + 1 == d.bottom) (leaving_up 1 d) 0 height (few-up 1 d s) (omega arith)
-
-  few-control : (byte : ℕ) (d : Display) → HasSize d → leaving_by_control byte d ≤ height
-  unfolding leaving_by_control
-  few-control byte d s = le-if (byte == 0x0A || byte == 0x0B || byte == 0x0C) (leaving_by_index d) 0 height (few-index d s) (omega arith)
-
-  few-printed : (d : Display) → HasSize d → printed_count d ≤ height
-  few-printed d s = omega (arith, few-used d.height d, s.1)
-
   pub sized-main : (d : Display) → HasSize d → HasSize (main_screen d)
   sized-main d s = sized-if d.is_alternate (swapped d) d s s
 
-  few-escape : (intermediates : List ℕ) (final : ℕ) (d : Display) → HasSize d → leaving_by_escape intermediates final d ≤ height
-  unfolding leaving_by_escape
-  few-escape [] final d s =
-      le-if (final == 0x44 || final == 0x45) (leaving_by_index d) (if final == 0x63 then printed_count (main_screen d) else 0) height (few-index d s)
-      (le-if (final == 0x63) (printed_count (main_screen d)) 0 height (few-printed (main_screen d) (sized-main d s)) (omega arith))
-  few-escape (mark ∷ marks) final d s = omega arith
-
-  few-function : (function : Function) (groups : List (List ℕ)) (d : Display) → HasSize d → leaving_by_function function groups d ≤ height
-  unfolding leaving_by_function
-  few-function (Edits InsertCharacters) groups d s = omega arith
-  few-function (Edits EraseInDisplay) groups d s =
-      le-if (first_of groups == 2 && not d.is_alternate) (printed_count d) 0 height (few-printed d s) (omega arith)
-  few-function (Edits EraseInLine) groups d s = omega arith
-  few-function (Edits InsertLines) groups d s = omega arith
-  few-function (Edits DeleteLines) groups d s = omega arith
-  few-function (Edits DeleteCharacters) groups d s = omega arith
-  few-function (Edits EraseCharacters) groups d s = omega arith
-  few-function (Moves move) groups d s = omega arith
-  few-function (Sets Rendition) groups d s = omega arith
-  few-function (Sets SetModes) groups d s = omega arith
-  few-function (Sets ResetModes) groups d s = omega arith
-  few-function (Sets Margins) groups d s = omega arith
-  few-function (Sets ScrollUp) groups d s = few-up (count (first_of groups)) d s
-  few-function (Sets ScrollDown) groups d s = omega arith
-  few-function (Sets ForwardTab) groups d s = omega arith
-  few-function (Sets ClearStops) groups d s = omega arith
-  few-function (Sets SaveCursor) groups d s = omega arith
-  few-function (Sets RestoreCursor) groups d s = omega arith
-  few-function Nothing groups d s = omega arith
-
-  few-sequence : (groups : List (List ℕ)) (intermediates : List ℕ) (final : ℕ) (d : Display) → HasSize d → leaving_by_sequence groups intermediates final d ≤ height
-  unfolding leaving_by_sequence
-  few-sequence groups [] final d s = few-function (function_of final) groups d s
-  few-sequence groups (mark ∷ marks) final d s = omega arith
-
   pub few-leave : (call : Call) (d : Display) → HasSize d → leaving call d ≤ height
-  few-leave (print c) d s = le-if (is_wrapping c d) (leaving_by_index d) 0 height (few-index d s) (omega arith)
-  few-leave (execute byte) d s = few-control byte d s
-  few-leave (csi_dispatch groups intermediates ignore final) d s =
-      le-if ignore 0 (leaving_by_sequence groups intermediates final d) height (omega arith) (few-sequence groups intermediates final d s)
-  few-leave (esc_dispatch intermediates ignore final) d s =
-      le-if ignore 0 (leaving_by_escape intermediates final d) height (omega arith) (few-escape intermediates final d s)
-  few-leave (hook groups intermediates ignore final) d s = omega arith
-  few-leave (put_byte byte) d s = omega arith
-  few-leave unhook d s = omega arith
-  few-leave (osc_dispatch parts bell) d s = omega arith
+  few-leave call d s = call-few height call d (omega (arith, s.1)) s.2

@@ -34,7 +34,8 @@ functions =
     -- A CUU, B CUD, C CUF, D CUB; E CNL, F CPL, G CHA, H CUP; Z CBT, ` HPA, a HPR, d VPA, e VPR, f HVP
     (0x41, Moves Up) ∷ (0x42, Moves Down) ∷ (0x43, Moves Forward) ∷ (0x44, Moves Back) ∷
     (0x45, Moves NextLine) ∷ (0x46, Moves PrecedingLine) ∷ (0x47, Moves Column) ∷ (0x48, Moves Position) ∷
-    (0x5A, Moves BackTab) ∷ (0x60, Moves Column) ∷ (0x61, Moves Forward) ∷ (0x64, Moves Line) ∷ (0x65, Moves LineForward) ∷ (0x66, Moves Position) ∷
+    (0x5A, Moves BackTab) ∷ (0x60, Moves Column) ∷ (0x61, Moves Forward) ∷
+    (0x64, Moves Line) ∷ (0x65, Moves LineForward) ∷ (0x66, Moves Position) ∷
     -- I CHT, S SU, T SD, g TBC; h SM, l RM, m SGR, r DECSTBM; s SCOSC, u SCORC
     (0x49, Sets ForwardTab) ∷ (0x53, Sets ScrollUp) ∷ (0x54, Sets ScrollDown) ∷ (0x67, Sets ClearStops) ∷
     (0x68, Sets SetModes) ∷ (0x6C, Sets ResetModes) ∷ (0x6D, Sets Rendition) ∷ (0x72, Sets Margins) ∷

@@ -24,7 +24,8 @@ glyph n c style link =
 -- the next row, in which this row goes on, and else to the last column.
 unfoldable pub wrapped : ℕ → Display → Display
 wrapped n d =
-    if nat_lt d.width (d.cursor.column + n) then (if d.wraps then index (to_column 0 (row_going_on true d)) else settled d)
+    if nat_lt d.width (d.cursor.column + n)
+    then (if d.wraps then index (to_column 0 (row_going_on true d)) else settled d)
     else d
 
 -- in insert mode the rest of the row makes room

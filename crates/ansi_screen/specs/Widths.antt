@@ -24,12 +24,14 @@ columns c = if is_among c no_column then 0 else if is_among c two_columns then 2
 -- the word has them by two bits each
 abbrev pub entry : List ℕ → List (List ℕ) → List ℕ → ℕ → ℕ
 entry index groups words n =
-    slice_index_or words (slice_index_or (slice_index_or groups (slice_index_or index (n / 1024) 0) []) (n % 1024 / 32) 0) 0
+    slice_index_or words
+    (slice_index_or (slice_index_or groups (slice_index_or index (n / 1024) 0) []) (n % 1024 / 32) 0) 0
     / 2 ^ (n % 32 * 2) % 4
 
 -- a table that has the columns of each character
 pub record IsTable (index : List ℕ) (groups : List (List ℕ)) (words : List ℕ) : Type 0 where
   pub indexed : (n : ℕ) → n < 0x11_0000 → n / 1024 < length index
   pub grouped : (n : ℕ) → n < 0x11_0000 → slice_index_or index (n / 1024) 0 < length groups
-  pub there : (n : ℕ) → n < 0x11_0000 → slice_index_or (slice_index_or groups (slice_index_or index (n / 1024) 0) []) (n % 1024 / 32) 0 < length words
+  pub there : (n : ℕ) → n < 0x11_0000
+      → slice_index_or (slice_index_or groups (slice_index_or index (n / 1024) 0) []) (n % 1024 / 32) 0 < length words
   pub right : (n : ℕ) → n < 0x11_0000 → entry index groups words n ≡ columns n

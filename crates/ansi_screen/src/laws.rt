@@ -68,7 +68,8 @@ pub fn reset()
 pub fn unread()
     ensures shown { (screen : State) (picture : Picture) (calls : List Call)
         → after_all calls (with_shown picture screen) ≡ with_shown picture (after_all calls screen) }
-    ensures kept { (screen : State) (calls : List Call) → after_all calls (unkept screen) ≡ unkept (after_all calls screen) }
+    ensures kept { (screen : State) (calls : List Call)
+        → after_all calls (unkept screen) ≡ unkept (after_all calls screen) }
 {}
 
 /// ESC 7 and ESC 8 enclose moves and styles: out of origin mode, nothing of them is left.

@@ -46,7 +46,8 @@ IsRefusedKept read room needed (Some terminal) = (needed ≡ 0) ⊎ LacksRoom (r
 
 -- The bytes of an update stand at the front of the room; or not: the number is 0, or the room has fewer bytes.
 abbrev pub ReadsUpdate : (room room_after : List ℕ) (written : ℕ) → Terminal → Terminal → Type 0
-ReadsUpdate room room_after written shown wanted = HasText (update_of (display_of shown) (display_of wanted)) room room_after written
+ReadsUpdate room room_after written shown wanted =
+    HasText (update_of (display_of shown) (display_of wanted)) room room_after written
 
 abbrev pub LacksUpdate : (room : List ℕ) (needed : ℕ) → Terminal → Terminal → Type 0
 LacksUpdate room needed shown wanted = LacksRoom (update_of (display_of shown) (display_of wanted)) room needed

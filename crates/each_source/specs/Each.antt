@@ -19,7 +19,8 @@ use Rattle.each_source.specs.declared.Stopped.TheVariants.{NoMemory, Stuck, AtFa
 -- read as reads are made at most.
 abbrev pub HasEnded : {R : Type 0} → SourceOf R → R → ℕ → Type 0
 HasEnded source reader count =
-    (IsTrue source.zero_is_end → IsAtEnd (source.remaining reader)) ⊎ (IsTrue (source.has_failed reader) ⊎ (most_reads ≤ count))
+    (IsTrue source.zero_is_end → IsAtEnd (source.remaining reader))
+    ⊎ (IsTrue (source.has_failed reader) ⊎ (most_reads ≤ count))
 
 -- What is read of what a source gave, as of a log; where no more comes, a character that is begun is broken off.
 abbrev pub text_read : (at_end : Bool) → List ℕ → List ℕ
@@ -37,7 +38,8 @@ BeginsWith enough front given =
     (rest : List ℕ) × (given.read ≡ front ++ rest) × ((enough front ≡ true) ⊎ (rest ≡ []))
 
 -- What a source gave, and the calls of what is read of it; where it was read whole, why no more was read.
-pub record IsRead {R : Type 0} (source : SourceOf R) (whole : Type 0) (reader reader_after : R) (given : Given) : Type 0 where
+pub record IsRead {R : Type 0} (source : SourceOf R) (whole : Type 0) (reader reader_after : R) (given : Given)
+    : Type 0 where
   pub at_end : Bool
   pub consumed : Consumes (source.remaining reader) (source.remaining reader_after) given.read
   pub are_calls : AreCalls (text_read at_end given.read) given.calls
@@ -51,7 +53,8 @@ IsBegun source _ _ = ⊥
 
 -- The first sources were read, each with its calls; where the next one was begun its front was read, and the others
 -- were not touched.
-abbrev pub AreRead : {R : Type 0} → SourceOf R → (whole begun : Type 0) → (readers readers_after : List R) → List Given → Type 0
+abbrev pub AreRead : {R : Type 0} → SourceOf R → (whole begun : Type 0) → (readers readers_after : List R)
+    → List Given → Type 0
 AreRead source whole begun readers readers_after [] =
     (readers_after ≡ readers) ⊎ (begun × IsBegun source readers readers_after)
 AreRead source whole begun (reader ∷ readers) (after ∷ readers_after) (given ∷ others) =
@@ -105,12 +108,17 @@ stopped_by (Err fault) = Err (AtFault fault)
 -- texts of the sources before it; and where the writer is stuck, the head and the texts of what was read.
 abbrev pub WritesJoin : {T : Type 0} → Result T Stopped → (before after : Option (List ℕ)) → (head texts tail : List ℕ)
     → (read given : ℕ) → Type 0
-WritesJoin (Ok done) before after head texts tail read given = Appends before after (head ++ (texts ++ tail)) × (read ≡ given)
-WritesJoin (Err (AtFault Flush)) before after head texts tail read given = Appends before after (head ++ (texts ++ tail)) × (read ≡ given)
-WritesJoin (Err (AtFault Write)) before after head texts tail read given = AppendsPrefix before after (head ++ (texts ++ tail))
+WritesJoin (Ok done) before after head texts tail read given =
+    Appends before after (head ++ (texts ++ tail)) × (read ≡ given)
+WritesJoin (Err (AtFault Flush)) before after head texts tail read given =
+    Appends before after (head ++ (texts ++ tail)) × (read ≡ given)
+WritesJoin (Err (AtFault Write)) before after head texts tail read given =
+    AppendsPrefix before after (head ++ (texts ++ tail))
 WritesJoin (Err (AtFault Read)) before after head texts tail read given = ⊥
-WritesJoin (Err NoMemory) before after head texts tail read given = Appends before after (head ++ texts) × (read < given)
-WritesJoin (Err Stuck) before after head texts tail read given = Appends before after (head ++ texts) × (read ≤ given)
+WritesJoin (Err NoMemory) before after head texts tail read given =
+    Appends before after (head ++ texts) × (read < given)
+WritesJoin (Err Stuck) before after head texts tail read given =
+    Appends before after (head ++ texts) × (read ≤ given)
 
 -- Why: with Ok the writer has failed only if it had before, with a fault it has failed.
 abbrev pub StopsBy : {T : Type 0} → (failed failed_after : Bool) → Result T Stopped → Type 0
@@ -121,7 +129,8 @@ StopsBy failed failed_after (Err Stuck) = ⊤
 
 -- A run over sources: what each gave and the calls of what is read of it, what was written, and why no more was.
 pub record WritesEach {R W T : Type 0} (source : SourceOf R) (sink : SinkOf W) (text : Given → List ℕ)
-    (head tail : List ℕ) (readers readers_after : List R) (writer writer_after : W) (answer : Result T Stopped) : Type 0 where
+    (head tail : List ℕ) (readers readers_after : List R) (writer writer_after : W) (answer : Result T Stopped)
+    : Type 0 where
   pub given : List Given
   pub are_read : AreRead source (AreWhole answer) (LacksMemory answer) readers readers_after given
   pub written : WritesJoin answer (sink.contents writer) (sink.contents writer_after) head (flat_map text given) tail

@@ -39,7 +39,8 @@ is_over _ = true
 -- A piece went to a parser, and its calls to a performer. Where the answer is why no more is to be read, a fault is
 -- kept or the writer is stuck, and else no fault is.
 pub record GivesOn {W P : Type 0} (receives : P → List Call → P → Type 0) (output_of : P → Output W)
-    (parser : Parser Utf8Parser) (performer : P) (piece : List ℕ) (parser_after : Parser Utf8Parser) (performer_after : P)
+    (parser : Parser Utf8Parser) (performer : P) (piece : List ℕ)
+    (parser_after : Parser Utf8Parser) (performer_after : P)
     (stopped : Option Ended) : Type 0 where
   pub received : (first : P) (before : List ℕ) → IsAfter front_of parser (as_read before)
       → HasReceivedTexts receives first (as_read before) performer
@@ -70,4 +71,5 @@ HasNoEscape bytes = AllByRecursion (λ b. b ≢ 0x1B) bytes
 
 -- ESC stands at a place of the list, and nowhere after it
 abbrev pub IsLastEscape : ℕ → List ℕ → Type 0
-IsLastEscape place bytes = (before : List ℕ) × (after : List ℕ) × (bytes ≡ before ++ 0x1B ∷ after) × (length before ≡ place) × HasNoEscape after
+IsLastEscape place bytes =
+    (before : List ℕ) × (after : List ℕ) × (bytes ≡ before ++ 0x1B ∷ after) × (length before ≡ place) × HasNoEscape after

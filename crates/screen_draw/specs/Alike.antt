@@ -54,7 +54,8 @@ are_same_places a b =
 unfoldable pub has_same_frame : Display → Display → Bool
 has_same_frame a b =
     beq a.is_alternate b.is_alternate && ((not a.is_alternate || all_two are_alike a.hidden b.hidden)
-    && (are_same_places a.saved b.saved && (are_same_places a.hidden_saved b.hidden_saved && all_two beq a.tabs b.tabs)))
+    && (are_same_places a.saved b.saved
+    && (are_same_places a.hidden_saved b.hidden_saved && all_two beq a.tabs b.tabs)))
 
 -- DECSTBM
 abbrev pub has_same_margins : Display → Display → Bool

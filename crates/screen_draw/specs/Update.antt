@@ -93,7 +93,8 @@ begun_at place = record { place = place; erased = 0 }
 abbrev pub place_behind : ℕ → Place → Display → Display → Place
 place_behind zero place shown wanted = place
 place_behind (suc row) place shown wanted =
-    (brush_after row 0 (begun_at (place_behind row place shown wanted)) (row_cells row shown) (row_cells row wanted)).place
+    (brush_after row 0 (begun_at (place_behind row place shown wanted)) (row_cells row shown)
+    (row_cells row wanted)).place
 
 -- so many rows
 abbrev pub rows_calls : ℕ → Place → Display → Display → List Call
@@ -112,7 +113,8 @@ wants_wrap place wanted =
 abbrev pub cursor_changes : Place → Display → List Call
 cursor_changes place wanted =
     if wants_wrap place wanted
-    then position wanted.cursor.row (last_column wanted) ∷ (wrap_calls (Some (last_cell wanted)) ++ select wanted.cursor.style ∷ [])
+    then position wanted.cursor.row (last_column wanted)
+    ∷ (wrap_calls (Some (last_cell wanted)) ++ select wanted.cursor.style ∷ [])
     else move_calls place wanted.cursor.row wanted.cursor.column ++ style_calls place.style wanted.cursor.style
 
 -- DECAWM and DECTCEM, where they differ
@@ -141,7 +143,8 @@ changes_calls shown wanted =
 
 -- Tabs as on a new screen, in each eighth column: CHA, and HTS or TBC where they are not.
 abbrev pub reset_stop_calls : ℕ → Bool → List Call
-reset_stop_calls column true = if column % 8 == 0 then [] else sequence ((column + 1) ∷ []) 0x47 ∷ sequence (0 ∷ []) 0x67 ∷ []
+reset_stop_calls column true =
+    if column % 8 == 0 then [] else sequence ((column + 1) ∷ []) 0x47 ∷ sequence (0 ∷ []) 0x67 ∷ []
 reset_stop_calls column false = if column % 8 == 0 then sequence ((column + 1) ∷ []) 0x47 ∷ escape 0x48 ∷ [] else []
 
 abbrev pub reset_stops_calls : ℕ → List Bool → List Call
@@ -160,7 +163,8 @@ abbrev pub cleared_calls : Display → List Call
 cleared_calls shown =
     leave_calls shown.is_alternate
     ++ (reset_modes
-    ++ (plain_calls ++ (reset_stops_calls 0 shown.tabs ++ (plain_calls ++ (sequence (2 ∷ []) 0x4A ∷ escape 0x37 ∷ [])))))
+    ++ (plain_calls ++ (reset_stops_calls 0 shown.tabs
+    ++ (plain_calls ++ (sequence (2 ∷ []) 0x4A ∷ escape 0x37 ∷ [])))))
 
 -- Where more than that differs all is drawn.
 abbrev pub update_calls : Display → Display → List Call

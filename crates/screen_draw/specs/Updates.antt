@@ -77,8 +77,10 @@ abbrev pub StopsBy : {T : Type 0} → Result T Stopped → (at_end : Type 0) →
     → (failed failed_after : Bool) → ℕ → Type 0
 StopsBy (Err Stuck) at_end fault failed failed_after count = (fault ≡ None) × (failed_after ≡ failed)
 StopsBy (Err (AtFault Write)) at_end fault failed failed_after count = (fault ≡ Some Write) × (failed_after ≡ failed)
-StopsBy {T} (Err (AtFault other)) at_end fault failed failed_after count = (fault ≡ None) × EndsAs {T = T} (Err other) at_end failed failed_after count
-StopsBy {T} (Ok done) at_end fault failed failed_after count = (fault ≡ None) × EndsAs {T = T} (Ok done) at_end failed failed_after count
+StopsBy {T} (Err (AtFault other)) at_end fault failed failed_after count =
+    (fault ≡ None) × EndsAs {T = T} (Err other) at_end failed failed_after count
+StopsBy {T} (Ok done) at_end fault failed failed_after count =
+    (fault ≡ None) × EndsAs {T = T} (Ok done) at_end failed failed_after count
 
 -- A terminal of the size of a screen shows another one by these bytes, whatever it showed before, but for the rows that
 -- left it, which it keeps.

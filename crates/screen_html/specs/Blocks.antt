@@ -74,7 +74,8 @@ left_blocked styling s calls =
 
 abbrev pub ending_blocked : Styling → State → List Call → List ℕ
 ending_blocked styling s calls =
-    last_rows_from row_blocked after_row_blocked after_command_blocked closing_blocked (blocked_after_all styling s calls)
+    last_rows_from row_blocked after_row_blocked after_command_blocked closing_blocked
+    (blocked_after_all styling s calls)
     (map leaving (showing (after_all (given_all calls) s).display))
 
 abbrev pub shown_blocked : Styling → State → List Call → List ℕ

@@ -66,7 +66,8 @@ SameRoom old new = nothing_yet (display_of new).history ≡ nothing_yet (display
 -- It takes the next bytes of the stream: whatever bytes it stood after, it stands after these too. It forgets nothing
 -- of what can have changed: the picture from which on that is noted stays.
 pub record Feeds (piece : List ℕ) (old new : Terminal) : Type 0 where
-  pub stands : (first : State) (before : List ℕ) → StandsAfter first before old → StandsAfter first (before ++ piece) new
+  pub stands : (first : State) (before : List ℕ) → StandsAfter first before old
+      → StandsAfter first (before ++ piece) new
   pub room : SameRoom old new
   pub since : (display_of new).shown ≡ (display_of old).shown
 

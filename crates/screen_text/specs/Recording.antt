@@ -36,7 +36,8 @@ number_from number (b ∷ bytes) = if is_digit_of number b then number_from (num
 
 abbrev pub after_number : ℕ → List ℕ → List ℕ
 after_number number [] = []
-after_number number (b ∷ bytes) = if is_digit_of number b then after_number (number * 10 + (b - 0x30)) bytes else b ∷ bytes
+after_number number (b ∷ bytes) =
+    if is_digit_of number b then after_number (number * 10 + (b - 0x30)) bytes else b ∷ bytes
 
 -- this size, where a screen can have it, and where nothing follows
 abbrev pub size_of_all : (columns rows : ℕ) → Option (List ℕ) → Option Size
@@ -46,11 +47,13 @@ size_of_all columns rows _ = None
 -- the size that ` COLUMNS="120" LINES="40"]` says, if that is all
 abbrev pub size_by_rows : (columns : ℕ) → Option (List ℕ) → Option Size
 size_by_rows columns None = None
-size_by_rows columns (Some bytes) = size_of_all columns (number_from 0 bytes) (after_text (codes "\"]") (after_number 0 bytes))
+size_by_rows columns (Some bytes) =
+    size_of_all columns (number_from 0 bytes) (after_text (codes "\"]") (after_number 0 bytes))
 
 abbrev pub size_by_columns : Option (List ℕ) → Option Size
 size_by_columns None = None
-size_by_columns (Some bytes) = size_by_rows (number_from 0 bytes) (after_text (codes "\" LINES=\"") (after_number 0 bytes))
+size_by_columns (Some bytes) =
+    size_by_rows (number_from 0 bytes) (after_text (codes "\" LINES=\"") (after_number 0 bytes))
 
 unfoldable pub size_of_end : List ℕ → Option Size
 size_of_end bytes = size_by_columns (after_text (codes " COLUMNS=\"") bytes)

@@ -17,7 +17,8 @@ pub data Handed : Type 0 where
 
 -- by a call, and by a list of calls, in order
 abbrev pub commands : Call → State → List Handed
-commands (osc_dispatch parts bell_terminated) s = command (after (osc_dispatch parts bell_terminated) s).display.link parts ∷ []
+commands (osc_dispatch parts bell_terminated) s =
+    command (after (osc_dispatch parts bell_terminated) s).display.link parts ∷ []
 commands call s = []
 
 abbrev pub handed : Call → State → List Handed

@@ -24,10 +24,12 @@ text_from standing_in row_text after_row after_command performer calls =
     (all_handed (given_all calls) (screen_of performer))
 
 abbrev pub ending_from : {R S : Type 0} → (standing_in : R → S) → (row_text : S → List Cell → List ℕ)
-    → (after_row : S → List Cell → S) → (after_command : S → ℕ → List (List ℕ) → S) → (closing : S → List ℕ) → ShownWriter R → List Call → List ℕ
+    → (after_row : S → List Cell → S) → (after_command : S → ℕ → List (List ℕ) → S) → (closing : S → List ℕ)
+    → ShownWriter R → List Call → List ℕ
 ending_from standing_in row_text after_row after_command closing performer calls =
     last_rows_from row_text after_row after_command closing
-    (after_rows after_row after_command (standing_in (rows_of performer)) (all_handed (given_all calls) (screen_of performer)))
+    (after_rows after_row after_command (standing_in (rows_of performer))
+    (all_handed (given_all calls) (screen_of performer)))
     (map leaving (showing (after_all (given_all calls) (screen_of performer)).display))
 
 -- The screen has received these calls; the rows that left were taken, and the commands among the calls.

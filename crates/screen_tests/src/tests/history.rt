@@ -1,6 +1,6 @@
 //! Rows that left a screen.
 use super::{Put, assert_counts, assert_same, fed, feed, reset};
-use ansi_screen::{Cell, Screen};
+use ansi_screen::{Cell, History, Screen};
 use anstyle_parse::Perform;
 use screen_pieces::laws::{changes_are_told, copies_stand, rows_are_whole};
 use screen_pieces::{CellBytes, Terminal};
@@ -44,7 +44,8 @@ fn assert_kept(rt: &impl Abort, terminal: &Terminal, number: usize, wanted: Put<
 
 /// How many rows are kept, and how many have left.
 fn counted(screen: &Screen) -> (usize, usize) {
-    match screen.history() {
+    let kept: Option<&History> = screen.history();
+    match kept {
         Some(history) => history.counts(),
         None => (0, 0),
     }

@@ -1,7 +1,6 @@
--- The others move to the front, and the first one comes into the last place.
-use Rattle.std.proofs.Common.{◌≡◌, suc, ◌+◌, ◌-◌, ◌++◌, [], ◌∷◌, length, get_or, drop, set, ap, sym, ◌∙◌, arith}
+-- The first one comes into the last place.
+use Rattle.std.proofs.Common.{◌≡◌, suc, ◌-◌, ◌++◌, [], ◌∷◌, length, get_or, drop, set, ap, sym, ◌∙◌, arith}
 use Rattle.std.proofs.lemmas.List.{length-drop, drop_all, take_more}
-use Rattle.std.proofs.lemmas.List.Edits.{paste_all}
 use Rattle.std.proofs.Math.Seq.{drop-cons, set-append_seam}
 use Rattle.ansi_screen.proofs.grid.move_first_to_end.Goals as goal
 
@@ -11,12 +10,9 @@ returns c =
     let last = length order - 1 in
     let others = drop 1 order in
     let long : length others ≡ last = length-drop 1 order in
-    let same : 0 + last ≡ last = omega arith in
-    let moved : c.copy_within.new.self ≡ others ++ drop last order =
-    c.copy_within.ensures.after ∙ (paste_all order 0 others last (sym long) ∙ ap (λ k. others ++ drop k order) same) in
     let behind : drop last order ≡ get_or order last 0 ∷ [] =
     drop-cons order last 0 (omega (arith, c.requires)) ∙ ap (λ l. get_or order last 0 ∷ l) (drop_all (suc last) order (omega (arith, c.requires))) in
-    ap (λ l. set l last (get_or order 0 0)) (moved ∙ ap (λ l. others ++ l) behind)
+    ap (λ l. set l last (get_or order 0 0)) (c.close_up.ensures ∙ ap (λ l. others ++ l) behind)
     ∙ (ap (λ k. set (others ++ (get_or order last 0 ∷ [])) k (get_or order 0 0)) (sym long)
     ∙ (set-append_seam others (get_or order last 0) [] (get_or order 0 0)
     ∙ ap (λ l. others ++ l) (sym (take_more order 0 0 c.requires))))

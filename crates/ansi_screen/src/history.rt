@@ -47,7 +47,7 @@ impl Model for History {
     ghost invariant = { λ history. (history.next ≤ length history.places.items)
         × (history.count ≤ length history.places.items) × AreRows history.columns history.places.items
         × HasSpare history.columns history.count history.next (length history.places.items)
-            (vec_capacity history.places) history.spare.items };
+        (vec_capacity history.places) history.spare.items };
 }
 
 /// Where no place is left, a blank one comes after the others, if there is memory for one.
@@ -57,7 +57,9 @@ fn make_place(places: &mut Vec<Row>, spare: &mut Vec<Room>, next: usize)
     ensures made { IsMade next places.old.items places.new.items spare.old.items spare.new.items }
     ensures capacity { vec_capacity places.old ≤ vec_capacity places.new }
 {
-    if next == places.len() && let Some(room) = spare.pop() {
+    if next == places.len()
+        && let Some(room) = spare.pop()
+    {
         let _ = places.push(room.into_row());
     }
 }

@@ -16,13 +16,12 @@ loop-order-preserved c =
     let is = c.loop-order.invariant in
     let more : at + 1 + 16 ≤ length now = omega (arith, c.loop-order-test.true) in
     let room : at + 16 ≤ length now = omega (arith, more) in
-    let next : drop (at + 1) now ≡ drop at (drop 1 old) = same-from at 1 now old is.3 ∙ past-first at old in
-    (
+    let next : drop (at + 1) now ≡ drop at (drop 1 old) = same-from at 1 now old is.3 ∙ past-first at old in (
       omega (arith, more, is.1),
       length-put_chunk at now (chunk (at + 1) 16 now) ∙ is.1,
       up-to-moved (at + 1) at 16 now more room
-      ∙ (ap₂ (λ a b. a ++ b) is.2 (ap (take 16) next) ∙ sym (take-add at 16 (drop 1 old))),
-      after-moved (at + 1) at 16 now more room ∙ same-from at 16 now old is.3
+          ∙ (ap₂ (λ a b. a ++ b) is.2 (ap (take 16) next) ∙ sym (take-add at 16 (drop 1 old))),
+      after-moved (at + 1) at 16 now more room ∙ same-from at 16 now old is.3,
     )
 
 pub returns : goal.returns

@@ -23,13 +23,12 @@ loop-past-preserved c =
     ∙ (ap (drop at) (same-up-to (at + 16) (past + 1) now old (omega (arith, all)) is.2
     ∙ sym (take-take (at + 16) (length old - 1) old (omega (arith, all, is.0)))) ∙ drop-take at 16 others) in
     let rest : drop (at + 1 + 16) now ≡ drop 16 (drop at others) =
-    ap (λ n. drop n now) next ∙ (is.3 ∙ (ap (λ n. drop n others) (sym all) ∙ sym (drop-drop 16 at others))) in
-    (
+    ap (λ n. drop n now) next ∙ (is.3 ∙ (ap (λ n. drop n others) (sym all) ∙ sym (drop-drop 16 at others))) in (
       omega (arith, is.0),
       length-put_chunk (at + 1) now (chunk at 16 now) ∙ is.1,
       before-moved at (at + 1) 16 now there room ∙ same-up-to (at + 1) (past + 1) now old (omega arith) is.2,
       from-moved at (at + 1) 16 now there room
-      ∙ (ap₂ (λ a b. a ++ b) read rest ∙ take-append-drop 16 (drop at others))
+          ∙ (ap₂ (λ a b. a ++ b) read rest ∙ take-append-drop 16 (drop at others)),
     )
 
 pub returns : goal.returns

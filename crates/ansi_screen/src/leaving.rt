@@ -136,7 +136,6 @@ fn take_left<R: TakeRow>(screen: &mut Screen, taker: &mut R)
 }
 
 /// Hands the first rows on.
-#[inline(never)]
 fn hand_on<R: TakeRow>(display: &Display, count: usize, taker: &mut R)
     requires { count ≤ display.now.height }
     ensures { TakesRows R.takes taker.old (first_rows count display.now) taker.new }
@@ -202,17 +201,13 @@ impl<R: TakeRow> Scrolling<R> {
 
     /// Hands so many rows of the screen on, from the first: as at the end of a stream, where they still
     /// show.
-    #[inline(always)]
     pub fn hand_on(&mut self, count: usize)
         requires { count ≤ (screen_of self.old).display.height }
         ensures screen { screen_of self.new ≡ screen_of self.old }
         ensures taken { TakesRows R.takes (taker_of self.old) (first_rows count (screen_of self.old).display)
             (taker_of self.new) }
     {
-        // No row leaves by most calls, as by a carriage return: these ask no more.
-        if count > 0 {
-            hand_on(self.screen.display(), count, &mut self.taker);
-        }
+        hand_on(self.screen.display(), count, &mut self.taker);
     }
 
     /// Hands the rows of the screen on, up to the last in which something was printed.

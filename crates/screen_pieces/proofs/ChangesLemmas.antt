@@ -2,10 +2,10 @@
 use Rattle.std.proofs.Common.{◌≡◌, ℕ, ◌*◌, List, ◌++◌, take, drop, refl, sym, ap, ◌∙◌, subst, arith}
 use Rattle.ansi_screen.specs.After.{State, new_state}
 use Rattle.ansi_screen.specs.Damage.{KeepsColumns}
-use Rattle.ansi_screen.specs.Display.{Display, Picture, picture, row_cells, shown_cells}
+use Rattle.ansi_screen.specs.Display.{Picture, picture, row_cells, shown_cells}
 use Rattle.ansi_screen.proofs.SizeLemmas.{sized-after_all}
 use Rattle.screen_pieces.specs.declared.terminal.Terminal.{Terminal}
-use Rattle.screen_pieces.specs.Terminal.{screen_of, display_of, begun, StandsAfter, IsCopy, Feeds, CanHaveChanged}
+use Rattle.screen_pieces.specs.Terminal.{display_of, begun, StandsAfter, IsCopy, Feeds, CanHaveChanged}
 use Rattle.screen_pieces.proofs.CopyLemmas.{copy-stands}
 
 -- a screen that began in so many columns has them

@@ -1,12 +1,12 @@
 -- A piece more leads on.
-use Rattle.std.proofs.Common.{◌≡◌, ℕ, List, [], ◌∷◌, ◌++◌, refl, sym, ap, ap₂, ◌∙◌}
+use Rattle.std.proofs.Common.{◌≡◌, ℕ, List, [], ◌++◌, refl, sym, ap, ap₂, ◌∙◌}
 use Rattle.std.specs.Prelude.{Option, None, Some}
 use Rattle.anstyle_parse.specs.Stream.Call.{Call}
 use Rattle.anstyle_parse.specs.Stream.Calls.{Continues}
 use Rattle.anstyle_parse.proofs.Division.Only.{AreCalls-only}
 use Rattle.ansi_screen.specs.declared.cell.Cell.{Cell}
 use Rattle.ansi_screen.specs.After.{State, Shows, after_all}
-use Rattle.ansi_screen.specs.History.{Kept, kept_after_all, with_left}
+use Rattle.ansi_screen.specs.History.{Kept, with_left}
 use Rattle.ansi_screen.specs.Leaving.{unkept, all_left, with_room_alone}
 use Rattle.ansi_screen.specs.TextsProof.{after_all-append, all_left-append}
 use Rattle.screen_draw.proofs.NotedLemmas.{since-stays}
@@ -33,7 +33,7 @@ kept-room rows None = refl
 kept-room rows (Some kept) =
     ap₂ (λ most columns. nothing_yet (Some (record kept { most = most; columns = columns }))) (kept-most rows kept) (kept-columns rows kept)
 
-room-stays : (made : List Call) (old new : State) → new ≡ after_all made old → nothing_yet new.display.history ≡ nothing_yet old.display.history
+pub room-stays : (made : List Call) (old new : State) → new ≡ after_all made old → nothing_yet new.display.history ≡ nothing_yet old.display.history
 room-stays made old new becomes =
     ap nothing_yet (ap (λ (s : State). s.display.history) becomes ∙ history-after_all made old) ∙ kept-room (all_left made old) old.display.history
 

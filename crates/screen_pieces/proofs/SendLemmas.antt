@@ -1,5 +1,5 @@
 -- A terminal may go to another thread, as its screen may: it owns its memory alone.
-use denote.Struct.Declared.{shape, fields}
+use denote.Struct.Declared.{shape}
 use denote.Param.Send.{IsSend, sendable, recorded_send, struct_send}
 use Rattle.ansi_screen.proofs.SendLemmas.{screen_send}
 use Rattle.anstyle_parse.proofs.parser.Parser.TheSendSync as parser_send

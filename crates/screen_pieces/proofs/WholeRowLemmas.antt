@@ -1,12 +1,9 @@
 -- Each row that leaves a screen has a cell in each column.
-use Rattle.std.proofs.Common.{◌≡◌, ◌≤◌, ◌<◌, ◌-◌, ◌*◌, ℕ, zero, suc, Bool, true, false, List, [], ◌∷◌, ◌++◌, length, take, drop, refl, sym, ◌∙◌, subst, length-take, length-drop, arith}
-use Rattle.std.specs.Prelude.{replicate, ◌==◌, if◌then◌else◌}
+use Rattle.std.proofs.Common.{◌≡◌, ◌≤◌, ◌<◌, ◌*◌, ℕ, zero, suc, Bool, true, false, List, [], ◌∷◌, length, drop, refl, sym, ◌∙◌, subst, length-take, length-drop, arith}
+use Rattle.std.specs.Prelude.{◌==◌, if◌then◌else◌}
 use Rattle.std.specs.List.{AllByRecursion}
 use Rattle.anstyle_parse.specs.Stream.Call.{Call, print, execute, hook, put, unhook, osc_dispatch, csi_dispatch, esc_dispatch}
-use Rattle.ansi_style.specs.Style.{plain}
-use Rattle.ansi_screen.specs.declared.cell.Cell.{Cell}
 use Rattle.ansi_screen.specs.After.{State, after}
-use Rattle.ansi_screen.specs.Cells.{blank}
 use Rattle.ansi_screen.specs.Display.{Display, IsSized, row_cells}
 use Rattle.ansi_screen.specs.Edits.{row_going_on}
 use Rattle.ansi_screen.specs.Edits.{swapped, main_screen}

@@ -1,5 +1,5 @@
 -- The calls of the piece continue those of the bytes before.
-use Rattle.std.proofs.Common.{◌++◌, ap, sym, subst, ◌∙◌}
+use Rattle.std.proofs.Common.{◌++◌, sym, subst}
 use Rattle.ansi_screen.specs.After.{Shows}
 use Rattle.ansi_screen.specs.Display.{Picture}
 use Rattle.ansi_screen.specs.Laws.{with_shown}

@@ -63,32 +63,37 @@ fn numbers(alloc: Global, count: u16) -> Result<Vec<u16>, AllocError>
     Ok(order)
 }
 
-/// All but the first come a place nearer to the front, by sixteen at once. The last stands where it stood too.
+/// All but the first come a place nearer to the front, by sixteen at once: the last sixteen, which are read before, at
+/// the end. The last stands where it stood too.
 fn close_up(order: &mut [u16])
-    requires { 0 < length order.old }
+    requires { 16 < length order.old }
     ensures { order.new ≡ drop 1 order.old ++ drop (length order.old - 1) order.old }
 {
+    let past = order.len() - u16x16::LEN;
+    let end = u16x16::from_slice(&order[past..]);
     let mut at = 0;
-    while order.len() - at > u16x16::LEN {
+    while at + 1 < past {
         let numbers = u16x16::from_slice(&order[at + 1..]);
         numbers.copy_to_slice(&mut order[at..]);
         at += u16x16::LEN;
     }
-    order.copy_within(at + 1.., at);
+    end.copy_to_slice(&mut order[past - 1..]);
 }
 
-/// All but the last come a place further from the front, by sixteen at once. The first stands where it stood too.
+/// All but the last come a place further from the front, by sixteen at once: the first sixteen, which are read before,
+/// at the end. The first stands where it stood too.
 fn make_room(order: &mut [u16])
-    requires { 0 < length order.old }
+    requires { 16 < length order.old }
     ensures { order.new ≡ take 1 order.old ++ take (length order.old - 1) order.old }
 {
+    let front = u16x16::from_slice(order);
     let mut past = order.len() - 1;
-    while past >= u16x16::LEN {
+    while past > u16x16::LEN {
         past -= u16x16::LEN;
         let numbers = u16x16::from_slice(&order[past..]);
         numbers.copy_to_slice(&mut order[past + 1..]);
     }
-    order.copy_within(..past, 1);
+    front.copy_to_slice(&mut order[1..]);
 }
 
 /// The first one comes after the others. To move these takes less than a general rotation, and most scrolls are by one
@@ -99,7 +104,11 @@ fn move_first_to_end(order: &mut [u16])
 {
     let first = order[0];
     let last = order.len() - 1;
-    close_up(order);
+    if last < u16x16::LEN {
+        order.copy_within(1.., 0);
+    } else {
+        close_up(order);
+    }
     order[last] = first;
 }
 
@@ -110,7 +119,11 @@ fn move_last_to_front(order: &mut [u16])
 {
     let last = order.len() - 1;
     let number = order[last];
-    make_room(order);
+    if last < u16x16::LEN {
+        order.copy_within(..last, 1);
+    } else {
+        make_room(order);
+    }
     order[0] = number;
 }
 

@@ -1,9 +1,9 @@
--- Sixteen more have gone further from the front; and so do the few that are left.
+-- Sixteen more have gone further from the front; and so do the first ones, as they stood before.
 use Rattle.std.proofs.Common.{◌≡◌, ◌+◌, ◌-◌, ◌≤◌, ◌++◌, length, take, drop, ap, ap₂, sym, ◌∙◌, arith}
 use Rattle.std.specs.Simd.Lanes.{chunk}
-use Rattle.std.proofs.lemmas.List.{append_assoc, drop-drop, drop-take, take-take, take-append-drop}
+use Rattle.std.proofs.lemmas.List.{drop-drop, drop-take, take-take, take-append-drop}
 use Rattle.std.proofs.lemmas.Simd.{length-put_chunk}
-use Rattle.ansi_screen.proofs.ShiftLemmas.{before-moved, from-moved, same-up-to}
+use Rattle.ansi_screen.proofs.ShiftLemmas.{before-moved, from-moved, same-up-to, opened}
 use Rattle.ansi_screen.proofs.grid.make_room.Goals as goal
 
 pub loop-past-preserved : goal.loop-past-preserved
@@ -33,18 +33,5 @@ loop-past-preserved c =
 
 pub returns : goal.returns
 returns c =
-    let old = c.args.order.now in
-    let now = c.loop-past.order in
-    let past = c.loop-past.past in
     let is = c.loop-past.invariant in
-    let others = take (length old - 1) old in
-    let first : take 1 now ≡ take 1 old = same-up-to 1 (past + 1) now old (omega arith) is.2 in
-    let moved : take past now ≡ take past others =
-    same-up-to past (past + 1) now old (omega arith) is.2 ∙ sym (take-take past (length old - 1) old (omega (arith, is.0))) in
-    let rest : drop (1 + past) now ≡ drop past others =
-    let on : 1 + past ≡ past + 1 = omega arith in ap (λ n. drop n now) on ∙ is.3 in
-    let all : past - 0 ≡ past = omega arith in
-    c.copy_within.ensures.after
-    ∙ (ap (λ n. take 1 now ++ take n now ++ drop (1 + n) now) all
-    ∙ (append_assoc (take 1 now) (take past now) (drop (1 + past) now)
-    ∙ ap₂ (λ a b. a ++ b) first (ap₂ (λ a b. a ++ b) moved rest ∙ take-append-drop past others)))
+    opened c.loop-past.past 16 c.args.order.now c.loop-past.order is.0 is.1 is.2 is.3 c.requires c.loop-past-test.false

@@ -136,6 +136,7 @@ pub(crate) fn has_ground(style: Style) -> bool
 
 /// The cells from `start` up to `end` are blank, whatever stood beside them. Beside `written` they were plain blanks;
 /// the answer is beside which columns they are so then.
+#[inline]
 fn clear(cells: &mut [Cell], written: Written, start: usize, end: usize, style: Style) -> Written
     requires order { start ≤ end }
     requires within { end ≤ length cells.old }

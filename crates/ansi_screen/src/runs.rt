@@ -40,7 +40,9 @@ const FEW: usize = 8;
 const BLOCK: usize = 64;
 
 /// Clears all of these cells, without a look at halves of wide characters: a few one by one, and then as many as are
-/// cleared, or a block, by a copy of the first ones, again and again.
+/// cleared, or a block, by a copy of the first ones, again and again. It is out of line, so that a row on which nothing
+/// was written does not pay for it.
+#[inline(never)]
 pub(crate) fn clear(cells: &mut [Cell], blank: Cell)
     ensures { cells.new ≡ erased blank cells.old }
 {

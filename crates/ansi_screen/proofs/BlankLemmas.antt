@@ -2,7 +2,7 @@
 use Rattle.std.proofs.Common.{◌≡◌, ℕ, ◌+◌, ◌-◌, ◌*◌, ◌<◌, ◌≤◌, Bool, true, false, ◌&&◌, ◌⊎◌, zero, suc, List, [], ◌∷◌, ◌++◌, length, get_or, take, drop, set, refl, ap, sym, ◌∙◌, subst, inl, inr, arith}
 use Rattle.std.specs.Prelude.{min, max, replicate, nat_lt, if◌then◌else◌}
 use Rattle.std.proofs.lemmas.Bool.{cases_lt, false≢true}
-use Rattle.std.proofs.lemmas.List.{places, ext_get_or, get_or_past, get_or-replicate, set-get_or, length-replicate, take_at, take_all, drop_all, append-nil}
+use Rattle.std.proofs.lemmas.List.{places, ext_get_or, get_or_past, get_or-replicate, set-get_or, length-replicate, take_at}
 use mathlib.Core.Bool.{beq, not}
 use Rattle.ansi_style.specs.declared.style.Style.{Style}
 use Rattle.ansi_style.specs.Style.{plain}
@@ -390,12 +390,6 @@ kept-filled n v style xs new long put few is = record {
 pub new-row : (f n : ℕ) (cells : List Cell) → cells ≡ replicate n (blank plain)
     → (0 ≤ length cells) × IsWhole (length cells) cells × IsBlankBeside f 0 cells
 new-row f n cells are = (omega arith, subst (IsWhole (length cells)) (sym are) (whole-new n (length cells) plain), subst (IsBlankBeside f 0) (sym are) (blank-new f n))
-
-pub filled : (e : ℕ) (style : Style) (xs new : List Cell) → e ≡ length xs → new ≡ within 0 e (erased (blank style)) xs → new ≡ replicate (length xs) (blank style)
-filled e style xs new last put =
-    let first : take (e - 0) (drop 0 xs) ≡ xs = take_all (e - 0) xs (omega (arith, last)) in
-    let rest : drop (e - 0) (drop 0 xs) ≡ [] = drop_all (e - 0) xs (omega (arith, last)) in
-    put ∙ rw (first, rest) (append-nil (replicate (length xs) (blank style)))
 
 -- a test that two are not equal fails
 pub not-other : (a b : Bool) → not (beq a b) ≡ false → a ≡ b

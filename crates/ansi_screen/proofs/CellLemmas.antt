@@ -2,7 +2,7 @@
 use Rattle.std.proofs.Common.{◌≡◌, ℕ, suc, ◌+◌, ◌-◌, ◌<◌, ◌≤◌, Bool, true, false, ◌&&◌, List, [], ◌∷◌, ◌++◌, length, get_or, take, drop, set, refl, ap, sym, ◌∙◌, arith}
 use Rattle.std.specs.Prelude.{nat_lt, replicate}
 use Rattle.std.proofs.lemmas.Bool.{lt-ltb, le-ltb, and_left, and_right}
-use Rattle.std.proofs.lemmas.List.{take_at, length-append, length-drop, length-replicate, take-replicate, replicate-append-replicate, get_or_default, get_or_past, set_split, drop-drop, drop-set-lt, take_more_set, append_assoc, length-set}
+use Rattle.std.proofs.lemmas.List.{take_at, drop_at, length-append, length-drop, length-replicate, take-replicate, replicate-append-replicate, get_or_default, get_or_past, set_split, drop-drop, drop-set-lt, take_more_set, append_assoc, length-set}
 use Rattle.ansi_style.specs.Style.{plain}
 use Rattle.ansi_screen.specs.declared.cell.Cell.{Cell}
 use Rattle.ansi_screen.specs.Cells.{blank, emptied, is_right, cell_at, cut, within}
@@ -90,3 +90,21 @@ pub length-copied : (k : ℕ) (cells front rest new : List Cell) → cells ≡ f
     → length (front ++ (new ++ drop k rest)) ≡ length cells
 length-copied k cells front rest new parts long few =
     omega (arith, ap length parts, length-append front rest, length-append front (new ++ drop k rest), length-append new (drop k rest), length-drop k rest, long, few)
+
+-- where the first cells are blanks, as many more that are copied from others
+pub cleared-next : (n k most : ℕ) (space : Cell) (cells initial new : List Cell) → cells ≡ replicate n space ++ drop n initial → n ≤ length initial
+    → k ≤ most → new ≡ take k (replicate most space)
+    → take n cells ++ (new ++ drop (n + k - n) (drop n cells)) ≡ replicate (n + k) space ++ drop (n + k) initial
+cleared-next n k most space cells initial new so_far inside few copied =
+    let front : List Cell = replicate n space in
+    let long : length front ≡ n = length-replicate n space in
+    let first : take n cells ≡ front = ap (take n) so_far ∙ take_at front (drop n initial) n long in
+    let rest : drop n cells ≡ drop n initial = ap (drop n) so_far ∙ drop_at front (drop n initial) n long in
+    let there : n + k - n ≡ k = omega arith in
+    let behind : drop (n + k - n) (drop n cells) ≡ drop (n + k) initial =
+    ap (drop (n + k - n)) rest ∙ (ap (λ m. drop m (drop n initial)) there ∙ drop-drop k n initial) in
+    ap (λ l. l ++ (new ++ drop (n + k - n) (drop n cells))) first
+    ∙ (ap (λ l. front ++ (l ++ drop (n + k - n) (drop n cells))) (copied ∙ take-replicate k most space few)
+    ∙ (ap (λ l. front ++ (replicate k space ++ l)) behind
+    ∙ (sym (append_assoc front (replicate k space) (drop (n + k) initial))
+    ∙ ap (λ l. l ++ drop (n + k) initial) (replicate-append-replicate n k space))))

@@ -5,6 +5,7 @@ pub mod PartLemmas
 pub mod BlankLemmas
 pub mod GridLemmas
 pub mod MovedLemmas
+pub mod CoveredLemmas
 pub mod ShiftLemmas
 pub mod PairLemmas
 pub mod WholeLemmas

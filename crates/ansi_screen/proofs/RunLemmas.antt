@@ -3,12 +3,13 @@ use Rattle.std.proofs.Common.{◌≡◌, ℕ, zero, suc, ◌+◌, ◌-◌, ◌<�
 use Rattle.std.specs.Prelude.{nat_lt, replicate, Option, None, if◌then◌else◌}
 use Rattle.std.proofs.Math.Seq.{drop-cons}
 use Rattle.std.proofs.lemmas.Bool.{lt-ltb, and_right}
-use Rattle.std.proofs.lemmas.List.{append_assoc, length-append, length-map, length-set, length-take-le, length-drop, drop-drop, drop_at, take_at, take-set-le, drop-set-lt, drop-set, set_at, take-append-drop, take_more, map-append, length-take, drop_more, get_or_at, get_or-replicate, length-replicate}
+use Rattle.std.proofs.lemmas.List.{append_assoc, length-append, length-map, length-set, length-take-le, length-drop, drop-drop, drop_at, take_at, take-set-le, drop-set-lt, drop-set, set_at, take-append-drop, take_more, map-append, length-take, drop_more, get_or_at, get_or-replicate, length-replicate, get_or-take, get_or-drop, get_or_default, same_lists}
 use Rattle.ansi_style.specs.declared.style.Style.{Style}
 use Rattle.ansi_style.specs.Style.{plain}
 use Rattle.ansi_screen.specs.declared.cell.Cell.{Cell}
 use Rattle.ansi_screen.specs.declared.cell.Part.TheVariants.{Whole}
 use Rattle.ansi_screen.specs.Cells.{blank, printed_cell, emptied, is_right, cell_at, cut, change}
+use Rattle.ansi_screen.specs.Grid.{IsBlankFrom}
 use Rattle.ansi_screen.specs.Print.{glyph}
 use Rattle.ansi_screen.specs.Reachable.{left_style, ArePaired}
 use Rattle.ansi_screen.specs.Runs.{glyphs, with_glyphs}
@@ -328,6 +329,18 @@ fill-more run i style link x cells initial inside long is so_far =
     ∙ (sym (append_assoc front (g (get_or run i 0) ∷ []) (drop (i + 1) initial))
     ∙ ap (λ l. l ++ drop (i + 1) initial) (sym (ap (map g) (take_more run i 0 inside) ∙ map-append g (take i run) (get_or run i 0 ∷ []))))))
 
+-- where the others are alike, the next one of them
+pub next-alike : (run : List ℕ) (i : ℕ) (style : Style) (link : ℕ) (space d : Cell) (cells : List Cell) → i < length run
+    → cells ≡ glyphs (take i run) style link ++ drop i (replicate (length run) space) → get_or cells i d ≡ space
+next-alike run i style link space d cells inside so_far =
+    let spaces : List Cell = replicate (length run) space in
+    let g : ℕ → Cell = λ character. printed_cell character style link Whole in
+    let front : List Cell = glyphs (take i run) style link in
+    let front_long : length front ≡ i = omega (arith, length-map (take i run) g, length-take i run, inside) in
+    let first : drop i spaces ≡ space ∷ drop (i + 1) spaces =
+    drop_more spaces i d (omega (arith, length-replicate (length run) space, inside)) ∙ ap (λ x. x ∷ drop (i + 1) spaces) (get_or-replicate (length run) i space d inside) in
+    ap (λ l. get_or l i d) (so_far ∙ ap (λ l. front ++ l) first) ∙ get_or_at front space (drop (i + 1) spaces) d i front_long
+
 -- the same where the others are alike, and the cell gets its character alone
 pub fill-on : (run : List ℕ) (i : ℕ) (style : Style) (link c : ℕ) (d : Cell) (cells : List Cell) → i < length run
     → c ≡ get_or run i 0
@@ -338,12 +351,36 @@ fill-on run i style link c d cells inside is so_far =
     let space : Cell = printed_cell 0x20 style link Whole in
     let spaces : List Cell = replicate (length run) space in
     let g : ℕ → Cell = λ character. printed_cell character style link Whole in
-    let front : List Cell = glyphs (take i run) style link in
     let long : length spaces ≡ length run = length-replicate (length run) space in
-    let front_long : length front ≡ i = omega (arith, length-map (take i run) g, length-take i run, inside) in
-    let first : drop i spaces ≡ space ∷ drop (i + 1) spaces =
-    drop_more spaces i d (omega (arith, long, inside)) ∙ ap (λ x. x ∷ drop (i + 1) spaces) (get_or-replicate (length run) i space d inside) in
-    let there : get_or cells i d ≡ space =
-    ap (λ l. get_or l i d) (so_far ∙ ap (λ l. front ++ l) first) ∙ get_or_at front space (drop (i + 1) spaces) d i front_long in
-    ap (λ (x : Cell). set cells i (record x { character = c })) there
+    ap (λ (x : Cell). set cells i (record x { character = c })) (next-alike run i style link space d cells inside so_far)
     ∙ fill-more run i style link (g c) cells spaces inside long (ap g is) so_far
+
+-- Where all are plain blanks from a place on, so many are there,
+pub blanks-there : (place : ℕ) (text : List ℕ) (cells : List Cell) → place + length text ≤ length cells → IsBlankFrom place cells
+    → take (place + length text - place) (drop place cells) ≡ replicate (length text) (blank plain)
+blanks-there place text cells inside are =
+    let n = length text in
+    let same : place + n - place ≡ n = omega arith in
+    ap (λ k. take k (drop place cells)) same
+    ∙ same_lists (take n (drop place cells)) (replicate n (blank plain))
+    (omega (arith, length-take n (drop place cells), length-drop place cells, length-replicate n (blank plain), inside))
+    (λ k d below.
+    let few : k < n = omega (arith, below, length-take n (drop place cells)) in
+    get_or-take n (drop place cells) k d few
+    ∙ (get_or-drop place cells k d
+    ∙ (get_or_default cells (place + k) d (blank plain) (omega (arith, few, inside))
+    ∙ (are (place + k) (omega arith) ∙ sym (get_or-replicate n k (blank plain) d few)))))
+
+-- nothing is cut there,
+cut-blank : (from place : ℕ) (cells : List Cell) → IsBlankFrom from cells → from ≤ place → cells ≡ cut place cells
+cut-blank from place cells are past =
+    cut-none cells place (and_right (nat_lt 0 place) (is_right (cell_at place cells).part) (ap (λ (x : Cell). is_right x.part) (are place past)))
+
+-- and characters that are put there stand for them.
+pub put-on-blanks : (text : List ℕ) (place : ℕ) (style : Style) (link : ℕ) (cells new : List Cell)
+    → 0 < length text → place + length text ≤ length cells → ArePaired None cells → IsBlankFrom place cells
+    → new ≡ glyphs text style link
+    → take place cells ++ (new ++ drop (place + length text - place) (drop place cells)) ≡ with_glyphs place text style link cells
+put-on-blanks text place style link cells new some inside are blanks is =
+    put-run-paired text place style link cells cells cells new some inside are (cut-blank place place cells blanks (omega arith))
+    (cut-blank place (place + length text) cells blanks (omega arith)) is

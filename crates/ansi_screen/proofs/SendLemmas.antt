@@ -6,6 +6,7 @@ use Rattle.ansi_screen.specs.contracts.display.Display as display
 use Rattle.ansi_screen.specs.contracts.display.Display.TheInside as inside
 use Rattle.ansi_screen.specs.contracts.display.Shown as shown
 use Rattle.ansi_screen.specs.contracts.screen.Screen as screen
+use Rattle.ansi_screen.proofs.covered.Covered.TheSendSync as covered_send
 use Rattle.ansi_screen.proofs.damage.Damage.TheSendSync as damage_send
 use Rattle.ansi_screen.proofs.grid.Grid.TheSendSync as grid_send
 use Rattle.ansi_screen.proofs.history.History.TheSendSync as history_send
@@ -38,7 +39,7 @@ inside_send =
                       search sendable,
                       (
                         search sendable,
-                        (search sendable, (search sendable, (grid, (place, (damage_send.the_send, (shown_send, (search (sendable, crosses, history_send.the_send) depth 20, tt))))))),
+                        (search sendable, (search sendable, (covered_send.the_send, (place, (damage_send.the_send, (shown_send, (search (sendable, crosses, history_send.the_send) depth 20, tt))))))),
                       ),
                     ),
                   ),

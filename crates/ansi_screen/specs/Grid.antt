@@ -1,5 +1,5 @@
 -- A grid of cells: rows of one width, which stand in memory in any order.
-use Rattle.std.specs.Prelude.{◌≡◌, ◌⊎◌, ◌<◌, ◌≤◌, ℕ, zero, suc, ◌==◌, List, [], ◌∷◌, length, map, slice_index_or, if◌then◌else◌}
+use Rattle.std.specs.Prelude.{◌≡◌, ◌⊎◌, ◌<◌, ◌≤◌, ◌*◌, ℕ, zero, suc, ◌==◌, List, [], ◌∷◌, length, map, replicate, slice_index_or, if◌then◌else◌}
 use Rattle.std.specs.List.{flat_map, AllByRecursion}
 use Rattle.ansi_style.specs.Style.{plain}
 use Rattle.ansi_screen.specs.declared.cell.Cell.{Cell}
@@ -11,6 +11,10 @@ pub record Grid : Type 0 where
   pub width : ℕ
   pub height : ℕ
   pub cells : List Cell
+
+-- all plain blanks
+abbrev pub blank_grid : (width height : ℕ) → Grid
+blank_grid width height = record { width = width; height = height; cells = replicate (height * width) (blank plain) }
 
 abbrev pub with_list : List Cell → Grid → Grid
 with_list cells grid = record grid { cells = cells }

@@ -52,7 +52,8 @@ pub struct Cell {
 }
 
 impl Cell {
-    ghost use Rattle.ansi_screen.specs.declared.cell.Part.TheVariants.{Empty};
+    ghost use Rattle.ansi_style.specs.Style.{plain};
+    ghost use Rattle.ansi_screen.specs.declared.cell.Part.TheVariants.{Empty, Whole};
     ghost use Rattle.ansi_screen.specs.Cells.{plain_cell, printed_cell, blank, emptied, is_right, with_mark};
 
     /// A character alone, in a link or in none.
@@ -97,6 +98,28 @@ impl Cell {
         ensures { result ≡ emptied self }
     {
         Cell::unprinted(self.style)
+    }
+
+    /// A plain blank becomes a character: there is less to write than of a new cell.
+    #[inline(always)]
+    pub(crate) fn print(&mut self, character: char, style: Style, link: u32)
+        requires { self.old ≡ blank plain }
+        ensures { self.new ≡ printed_cell character style link Whole }
+    {
+        self.character = character;
+        self.link = link;
+        self.style = style;
+        self.part = Part::Whole;
+    }
+
+    /// The same in the plain style and in no link, which it is in as a blank.
+    #[inline(always)]
+    pub(crate) fn print_plain(&mut self, character: char)
+        requires { self.old ≡ blank plain }
+        ensures { self.new ≡ printed_cell character plain 0 Whole }
+    {
+        self.character = character;
+        self.part = Part::Whole;
     }
 
     /// With one mark more, where there is room.

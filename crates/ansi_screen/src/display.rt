@@ -11,6 +11,7 @@ mod performer;
 mod print;
 
 use crate::cell::Cell;
+use crate::covered::Covered;
 use crate::damage::Damage;
 use crate::grid::Grid;
 use crate::history::History;
@@ -44,7 +45,7 @@ pub(crate) struct Display {
     link: u32,
     /// While the alternate screen shows: the main one's cells, and what it has saved.
     is_alternate: bool,
-    hidden: Grid,
+    hidden: Covered,
     hidden_saved: Place,
     /// What can have changed since it was forgotten, and, for clauses alone, the picture of then.
     damage: Damage,
@@ -57,7 +58,7 @@ pub(crate) struct Display {
 #[derive(Drop)]
 pub(crate) struct Shown {
     cells: Snapshot<Grid>,
-    hidden: Snapshot<Grid>,
+    hidden: Snapshot<Covered>,
     tabs: Snapshot<Vec<bool>>,
     /// What is saved on the screen that shows and on the hidden one.
     saved: Snapshot<Place>,
@@ -157,7 +158,7 @@ impl Display {
         ensures { IfOk result (λ display. display ≡ fresh columns rows) }
     {
         let cells = Grid::new(alloc, columns, rows as u16)?;
-        let hidden = Grid::new(alloc, columns, rows as u16)?;
+        let hidden = Covered::new(alloc, columns, rows as u16)?;
         let mut tabs = Vec::from_elem(alloc, false, columns)?;
         reset_stops(tabs.as_mut_slice());
         let damage = Damage::all(alloc, rows)?;

@@ -4,7 +4,7 @@ ghost use Rattle.ansi_style.specs.Style.{plain};
 ghost use Rattle.ansi_screen.specs.Cells.{blank, cell_at, rows_of, marked_before, going_on, within, change, erased, moved_back, moved_on, deleted, inserted};
 ghost use Rattle.ansi_screen.specs.Damage.{HasHistory, KeepsColumns, IsOutside, span_at};
 ghost use Rattle.ansi_screen.specs.Following.{copied};
-ghost use Rattle.ansi_screen.specs.Grid.{with_list, IsBlankFrom, IsOrder};
+ghost use Rattle.ansi_screen.specs.Grid.{blank_grid, with_list, IsBlankFrom, IsOrder};
 ghost use Rattle.ansi_screen.specs.History.{kept_after, kept_after_all, with_left};
 ghost use Rattle.ansi_screen.specs.Print.{glyph};
 ghost use Rattle.ansi_screen.specs.Reachable.{RowsBegin};
@@ -52,7 +52,7 @@ impl Model for Grid {
 
 /// So many numbers, from 0.
 #[tactic(auto, using(crate::proofs::MovedLemmas::order_push, crate::proofs::MovedLemmas::order_none))]
-fn numbers(alloc: Global, count: u16) -> Result<Vec<u16>, AllocError>
+pub(crate) fn numbers(alloc: Global, count: u16) -> Result<Vec<u16>, AllocError>
     ensures length { IfOk result (λ order. length order.items ≡ count) }
     ensures order { IfOk result (λ order. IsOrder count order.items) }
 {
@@ -155,19 +155,25 @@ impl Grid {
     /// So many blank rows of so many cells.
     pub(crate) fn new(alloc: Global, width: usize, height: u16) -> Result<Grid, AllocError>
         requires { 0 < width }
-        ensures { IfOk result (λ grid. grid ≡ record {
-          width = width;
-          height = height;
-          cells = replicate (height * width) (blank plain);
-        }) }
+        ensures { IfOk result (λ grid. grid ≡ blank_grid width height) }
     {
         let rows = blank_rows(alloc, width, usize::from(height))?;
-        Ok(Grid {
+        Ok(Grid::of_blanks(width, numbers(alloc, height)?, rows))
+    }
+
+    /// Blank rows of so many cells, in an order.
+    pub(crate) fn of_blanks(width: usize, order: Vec<u16>, rows: Vec<Row>) -> Grid
+        requires some { 0 < width }
+        requires blank { rows.items ≡ replicate (length order.items) (replicate width (blank plain)) }
+        requires order { IsOrder (length order.items) order.items }
+        ensures { result ≡ blank_grid width (length order.items) }
+    {
+        Grid {
             width,
-            order: numbers(alloc, height)?,
+            order,
             rows,
             is_written: false,
-        })
+        }
     }
 
     /// How many cells a row has.

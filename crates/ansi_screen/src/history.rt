@@ -6,7 +6,7 @@ ghost use Rattle.ansi_screen.specs.Ring.{IsMade};
 ghost use Rattle.std.specs.Vec.{vec_capacity};
 
 use crate::cell::Cell;
-use crate::room::{Room, rooms};
+use crate::memory::{RowMemory, memory_for_rows};
 use crate::row::{Row, copied_rows};
 use std::alloc::{AllocError, Global};
 use std::marker::Model;
@@ -19,7 +19,7 @@ pub struct History {
     /// A ring: before `next` stands the row that left last.
     places: Vec<Row>,
     /// Memory for more places, which is written when they are taken.
-    spare: Vec<Room>,
+    spare: Vec<RowMemory>,
     columns: usize,
     next: usize,
     /// How many places have a row that left.
@@ -51,16 +51,16 @@ impl Model for History {
 }
 
 /// Where no place is left, a blank one comes after the others, if there is memory for one.
-fn make_place(places: &mut Vec<Row>, spare: &mut Vec<Room>, next: usize)
+fn make_place(places: &mut Vec<Row>, spare: &mut Vec<RowMemory>, next: usize)
     requires within { next ≤ length places.old.items }
     requires room { length places.old.items + length spare.old.items ≤ vec_capacity places.old }
     ensures made { IsMade next places.old.items places.new.items spare.old.items spare.new.items }
     ensures capacity { vec_capacity places.old ≤ vec_capacity places.new }
 {
     if next == places.len()
-        && let Some(room) = spare.pop()
+        && let Some(memory) = spare.pop()
     {
-        let _ = places.push(room.into_row());
+        let _ = places.push(memory.into_row());
     }
 }
 
@@ -74,7 +74,7 @@ impl History {
     {
         Ok(History {
             places: Vec::with_capacity(alloc, most)?,
-            spare: rooms(alloc, columns, most)?,
+            spare: memory_for_rows(alloc, columns, most)?,
             columns,
             next: 0,
             count: 0,
@@ -89,7 +89,7 @@ impl History {
         let most = self.places.len() + self.spare.len();
         Ok(History {
             places: copied_rows(alloc, self.places.as_slice(), self.columns, most)?,
-            spare: rooms(alloc, self.columns, self.spare.len())?,
+            spare: memory_for_rows(alloc, self.columns, self.spare.len())?,
             columns: self.columns,
             next: self.next,
             count: self.count,

@@ -6,6 +6,7 @@
 #![tactic(auto)]
 
 mod cell;
+mod covered;
 mod damage;
 mod display;
 mod function;
@@ -13,10 +14,10 @@ mod grid;
 mod history;
 pub mod laws;
 mod leaving;
+mod memory;
 mod parts;
 mod place;
 mod printed;
-mod room;
 mod row;
 mod runs;
 mod screen;

@@ -1,12 +1,12 @@
 //! A row of cells, which knows in which columns it was written.
-ghost use Rattle.std.specs.Prelude.{◌≡◌, false, ◌+◌, ◌<◌, ◌≤◌, length, replicate, IfOk};
+ghost use Rattle.std.specs.Prelude.{◌≡◌, false, ◌+◌, ◌<◌, ◌≤◌, length, replicate, IfOk, None};
 ghost use Rattle.std.specs.Vec.{vec_capacity};
 ghost use Rattle.ansi_style.specs.Style.{plain};
 ghost use Rattle.ansi_screen.specs.Cells.{blank, marked_before, going_on, within, change, erased, deleted, inserted};
 ghost use Rattle.ansi_screen.specs.Damage.{KeepsColumns};
 ghost use Rattle.ansi_screen.specs.Grid.{AreRows, IsBlankFrom, IsBlankBeside};
 ghost use Rattle.ansi_screen.specs.Print.{glyph};
-ghost use Rattle.ansi_screen.specs.Reachable.{IsWhole};
+ghost use Rattle.ansi_screen.specs.Reachable.{ArePaired, IsWhole};
 ghost use Rattle.ansi_screen.specs.Runs.{with_glyphs};
 
 use crate::cell::Cell;
@@ -170,7 +170,46 @@ fn clear_written(cells: &mut [Cell], written: Written, start: usize, end: usize)
     let from = start.max(written.first);
     let past = end.min(written.past);
     if from < past {
-        runs::clear(&mut cells[from..past], Cell::blank(Style::default()));
+        runs::clear_plain(&mut cells[from..past]);
+    }
+}
+
+/// All cells are blank: with less to ask than where some are. Beside `written` they were plain blanks; the answer is
+/// beside which columns they are so then.
+fn clear_all(cells: &mut [Cell], written: Written, style: Style) -> Written
+    requires written { written.past ≤ length cells.old }
+    requires blank { IsBlankBeside written.first written.past cells.old }
+    ensures cells { cells.new ≡ replicate (length cells.old) (blank style) }
+    ensures written { result.past ≤ length cells.old }
+    ensures blank { IsBlankBeside result.first result.past cells.new }
+{
+    let end = cells.len();
+    if has_ground(style) {
+        runs::clear(cells, Cell::blank(style));
+        Written {
+            first: 0,
+            past: end,
+        }
+    } else {
+        clear_written(cells, written, 0, end);
+        NOTHING
+    }
+}
+
+/// Printed ASCII, a character in each cell from `column` on, in a link or in none. Beside `written` all are plain
+/// blanks: those who write a row from left to right find no other.
+#[inline]
+fn put_run(cells: &mut [Cell], written: Written, column: usize, run: &[u8], style: Style, link: u32)
+    requires some { 0 < length run.now }
+    requires within { column + length run.now ≤ length cells.old }
+    requires paired { ArePaired None cells.old }
+    requires blank { IsBlankBeside written.first written.past cells.old }
+    ensures { cells.new ≡ with_glyphs column run.now style link cells.old }
+{
+    if written.past <= column {
+        runs::put_run_on_blanks(cells, column, run, style, link);
+    } else {
+        runs::put_run(cells, column, run, style, link);
     }
 }
 
@@ -235,8 +274,7 @@ impl Row {
         ensures length { length self.new ≡ length self.old }
         ensures whole { IsWhole (length self.old) self.new }
     {
-        let end = self.cells.len();
-        self.written = clear(self.cells.as_mut_slice(), self.written, 0, end, style);
+        self.written = clear_all(self.cells.as_mut_slice(), self.written, style);
     }
 
     /// It becomes as another one is.
@@ -345,7 +383,14 @@ impl Row {
         ensures length { length self.new ≡ length self.old }
         ensures whole { IsWhole (length self.old) self.new }
     {
-        runs::put_run(self.cells.as_mut_slice(), column, run, style, link);
+        put_run(
+            self.cells.as_mut_slice(),
+            self.written,
+            column,
+            run,
+            style,
+            link,
+        );
         self.written.join(column, column + run.len());
     }
 

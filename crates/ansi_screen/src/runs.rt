@@ -1,13 +1,15 @@
 //! Edits of cells in a row, or in several.
-ghost use Rattle.std.specs.Prelude.{true, ◌≡◌, ◌+◌, ◌<◌, ◌≤◌, ◌++◌, length, take, drop, None};
-ghost use Rattle.ansi_screen.specs.Cells.{is_right, cell_at, cut, marked_before, going_on, change, erased, moved_back, moved_on, deleted, inserted};
+ghost use Rattle.std.specs.Prelude.{true, ◌≡◌, ◌+◌, ◌<◌, ◌≤◌, ◌++◌, length, take, drop, replicate, None};
+ghost use Rattle.ansi_style.specs.Style.{plain};
+ghost use Rattle.ansi_screen.specs.Cells.{blank, is_right, cell_at, cut, marked_before, going_on, change, erased, moved_back, moved_on, deleted, inserted};
+ghost use Rattle.ansi_screen.specs.Grid.{IsBlankFrom};
 ghost use Rattle.ansi_screen.specs.Print.{glyph};
 ghost use Rattle.ansi_screen.specs.Reachable.{ArePaired};
 ghost use Rattle.ansi_screen.specs.Runs.{glyphs, with_glyphs};
 ghost use Rattle.ansi_screen.specs.Text.{goes_on};
 
-use crate::cell::{Cell, Part};
-use ansi_style::Style;
+use crate::cell::{Cell, Marks, Part};
+use ansi_style::{Color, Style, Underline};
 
 /// Makes blanks of the halves of a wide character whose right half stands at `place`.
 #[inline(always)]
@@ -53,6 +55,43 @@ pub(crate) fn clear(cells: &mut [Cell], blank: Cell)
         let count = most.min(cells.len() - cleared);
         let (front, rest) = cells.split_at_mut(cleared);
         rest[..count].copy_from_slice(&front[..count]);
+        cleared += count;
+    }
+}
+
+/// How many plain blanks stand ready to be copied: as many as most rows have.
+const READY: usize = 128;
+
+static PLAIN_BLANKS: [Cell; READY] = [Cell {
+    character: ' ',
+    link: 0,
+    marks: Marks::Unmarked,
+    style: Style {
+        foreground: Color::Default,
+        background: Color::Default,
+        underline: Underline::Off,
+        bold: false,
+        dim: false,
+        italic: false,
+        blink: false,
+        reverse: false,
+        hidden: false,
+        struck_out: false,
+        overlined: false,
+    },
+    part: Part::Empty,
+    goes_on: false,
+}; READY];
+
+/// Makes plain blanks of all of these cells, by copies of such.
+#[inline(never)]
+pub(crate) fn clear_plain(cells: &mut [Cell])
+    ensures { cells.new ≡ erased (blank plain) cells.old }
+{
+    let mut cleared = 0;
+    'copies: while cleared < cells.len() {
+        let count = READY.min(cells.len() - cleared);
+        cells[cleared..cleared + count].copy_from_slice(&PLAIN_BLANKS[..count]);
         cleared += count;
     }
 }
@@ -193,6 +232,50 @@ pub(crate) fn put_run(cells: &mut [Cell], place: usize, run: &[u8], style: Style
     cut(cells, place);
     cut(cells, place + run.len());
     fill(&mut cells[place..place + run.len()], run, style, link);
+}
+
+/// Printed ASCII on plain blanks, a character in each cell from `place` on: there is nothing to cut, and less to write.
+pub(crate) fn put_run_on_blanks(
+    cells: &mut [Cell],
+    place: usize,
+    run: &[u8],
+    style: Style,
+    link: u32,
+)
+    requires some { 0 < length run.now }
+    requires within { place + length run.now ≤ length cells.old }
+    requires paired { ArePaired None cells.old }
+    requires blank { IsBlankFrom place cells.old }
+    ensures { cells.new ≡ with_glyphs place run.now style link cells.old }
+{
+    let blanks = &mut cells[place..place + run.len()];
+    if link == 0 && style.is_same(&Style::default()) {
+        print_plain(blanks, run);
+    } else {
+        print(blanks, run, style, link);
+    }
+}
+
+/// Plain blanks become these characters.
+#[inline(always)]
+fn print(blanks: &mut [Cell], run: &[u8], style: Style, link: u32)
+    requires { blanks.old ≡ replicate (length run.now) (blank plain) }
+    ensures { blanks.new ≡ glyphs run.now style link }
+{
+    for (i, byte) in run.iter().enumerate() {
+        blanks[i].print(char::from(*byte), style, link);
+    }
+}
+
+/// The same in the plain style and in no link.
+#[inline(always)]
+fn print_plain(blanks: &mut [Cell], run: &[u8])
+    requires { blanks.old ≡ replicate (length run.now) (blank plain) }
+    ensures { blanks.new ≡ glyphs run.now plain 0 }
+{
+    for (i, byte) in run.iter().enumerate() {
+        blanks[i].print_plain(char::from(*byte));
+    }
 }
 
 /// How many cells are filled by copies at least; fewer are written one by one.

@@ -9,7 +9,6 @@ ghost use Rattle.ansi_screen.specs.Edits.{with_cells, space, erased_cells, row_g
 
 use super::Display;
 use crate::text::LeftOut;
-use std::mem;
 
 /// The number of ED that erases all of a screen.
 const ALL: u16 = 2;
@@ -91,7 +90,7 @@ impl Display {
         ensures { self.new ≡ swapped self.old }
     {
         self.damage.note_all();
-        mem::swap(&mut self.cells, &mut self.hidden);
+        self.hidden.swap(&mut self.cells);
     }
 
     /// The same, where the row above ends.

@@ -10,7 +10,6 @@ use crate::place::{Charsets, Place};
 use crate::tabs::reset_stops;
 use ansi_style::Style;
 use anstyle_parse::Params;
-use std::mem;
 
 /// The first field of a group; 0, where there is none.
 pub(super) fn first_field(group: &[u16]) -> u16
@@ -107,7 +106,7 @@ impl Display {
         if !self.is_alternate {
             let style = self.cursor.style;
             self.damage.note_all();
-            mem::swap(&mut self.cells, &mut self.hidden);
+            self.hidden.swap(&mut self.cells);
             self.cells.fill(style);
             self.saved = Place::home();
             self.is_alternate = true;
@@ -122,8 +121,8 @@ impl Display {
     {
         if self.is_alternate {
             self.damage.note_all();
-            mem::swap(&mut self.cells, &mut self.hidden);
-            self.hidden.fill(Style::default());
+            self.hidden.swap(&mut self.cells);
+            self.hidden.clear();
             self.saved = self.hidden_saved;
             self.is_alternate = false;
             self.hidden_saved = Place::home();
@@ -220,7 +219,7 @@ impl Display {
     {
         self.damage.note_all();
         self.cells.fill(Style::default());
-        self.hidden.fill(Style::default());
+        self.hidden.clear();
         reset_stops(self.tabs.as_mut_slice());
         self.cursor = Place::home();
         self.saved = Place::home();

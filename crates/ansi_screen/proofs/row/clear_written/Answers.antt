@@ -4,7 +4,7 @@ use Rattle.ansi_screen.proofs.row.clear_written.Goals as goal
 
 pub returns-then-from-past-clause-cells : goal.returns-then-from-past-clause-cells
 returns-then-from-past-clause-cells c =
-    rw (c.clear.ensures, c.blank.ensures, c.default.ensures)
+    rw c.clear_plain.ensures
     (same-some c.args.start c.args.end c.args.written.first c.args.written.past c.max-from.result c.min-past.result c.args.cells.now c.requires.order c.requires.within c.max-from.ensures c.min-past.ensures c.requires.blank c.if-from-past.true)
 
 pub returns-else-from-past-clause-cells : goal.returns-else-from-past-clause-cells

@@ -13,7 +13,7 @@ invariant_of-self c =
     let high : c.fill.new.self.height ≡ c.self.inside.cells.height = ap (λ (g : Grid). g.height) c.fill.ensures in
     let long : length c.fill.new.self.cells ≡ length c.self.inside.cells.cells =
     ap (λ (g : Grid). length g.cells) c.fill.ensures ∙ length-replicate (length c.self.inside.cells.cells) (blank c.default.result) in (
-      ap (λ (g : Grid). g.width) c.fill-2.ensures ∙ (c.self.invariant.0 ∙ sym (ap (λ (g : Grid). g.width) c.fill.ensures)),
-      ap (λ (g : Grid). g.height) c.fill-2.ensures ∙ (c.self.invariant.1 ∙ sym high),
+      ap (λ (g : Grid). g.width) c.clear.ensures ∙ (c.self.invariant.0 ∙ sym (ap (λ (g : Grid). g.width) c.fill.ensures)),
+      ap (λ (g : Grid). g.height) c.clear.ensures ∙ (c.self.invariant.1 ∙ sym high),
       all-noted _ _ _ c.note_all.ensures (was.long ∙ sym high) (grind (arith, common_steps)) (kept-width _ _ _ (ap (λ (g : Grid). g.width) c.fill.ensures) was.kept) (long ∙ was.damage.long),
     )

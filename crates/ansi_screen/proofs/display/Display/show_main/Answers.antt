@@ -1,6 +1,7 @@
 -- All is noted.
 use Rattle.std.proofs.Common.{rules, ◌≡◌, ◌*◌, length, ap, sym, ◌∙◌, arith}
 use Rattle.std.proofs.lemmas.List.{length-replicate}
+use Rattle.ansi_style.specs.Style.{plain}
 use Rattle.ansi_screen.specs.Cells.{blank}
 use Rattle.ansi_screen.specs.Grid.{Grid}
 use Rattle.ansi_screen.proofs.DamageLemmas.{all-noted, kept-width}
@@ -10,14 +11,14 @@ pub invariant_of-self : goal.invariant_of-self
 invariant_of-self c =
     let was = c.self.invariant.2 in
     let s = was.sized in
-    let wide : c.swap.new.x.width ≡ c.self.inside.cells.width = ap (λ (g : Grid). g.width) c.swap.ensures.x_after ∙ c.self.invariant.0 in
-    let high : c.swap.new.x.height ≡ c.self.inside.cells.height = ap (λ (g : Grid). g.height) c.swap.ensures.x_after ∙ c.self.invariant.1 in
-    let long : length c.swap.new.x.cells ≡ c.self.inside.cells.height * c.self.inside.cells.width =
-    ap (λ (g : Grid). length g.cells) c.swap.ensures.x_after ∙ s.hidden_fill in
-    let long_hidden : length c.fill.new.self.cells ≡ c.self.inside.cells.height * c.self.inside.cells.width =
-    ap (λ (g : Grid). length g.cells) c.fill.ensures
-    ∙ (length-replicate (length c.swap.new.y.cells) (blank c.default.result)
-    ∙ (ap (λ (g : Grid). length g.cells) c.swap.ensures.y_after ∙ s.cells_fill)) in (
+    let wide : c.swap.new.shown.width ≡ c.self.inside.cells.width = ap (λ (g : Grid). g.width) c.swap.ensures.shown ∙ c.self.invariant.0 in
+    let high : c.swap.new.shown.height ≡ c.self.inside.cells.height = ap (λ (g : Grid). g.height) c.swap.ensures.shown ∙ c.self.invariant.1 in
+    let long : length c.swap.new.shown.cells ≡ c.self.inside.cells.height * c.self.inside.cells.width =
+    ap (λ (g : Grid). length g.cells) c.swap.ensures.shown ∙ s.hidden_fill in
+    let long_hidden : length c.clear.new.self.cells ≡ c.self.inside.cells.height * c.self.inside.cells.width =
+    ap (λ (g : Grid). length g.cells) c.clear.ensures
+    ∙ (length-replicate (length c.swap.new.self.cells) (blank plain)
+    ∙ (ap (λ (g : Grid). length g.cells) c.swap.ensures.covered ∙ s.cells_fill)) in (
       search rules,
       search rules,
       all-noted _ _ _ c.note_all.ensures (was.long ∙ sym high)

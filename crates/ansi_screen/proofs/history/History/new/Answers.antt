@@ -9,7 +9,7 @@ use Rattle.ansi_screen.proofs.history.History.new.Goals as goal
 pub invariant_of-result : goal.invariant_of-result
 invariant_of-result c =
     let none = c.in_ok-with_capacity.ensures.items in
-    let rooms = c.in_ok-rooms.ensures in (
+    let rooms = c.in_ok-memory_for_rows.ensures in (
       omega arith,
       omega arith,
       subst (AreRows c.args.columns) (sym none) tt,

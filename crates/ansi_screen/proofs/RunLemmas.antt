@@ -372,7 +372,7 @@ blanks-there place text cells inside are =
     ∙ (are (place + k) (omega arith) ∙ sym (get_or-replicate n k (blank plain) d few)))))
 
 -- nothing is cut there,
-cut-blank : (from place : ℕ) (cells : List Cell) → IsBlankFrom from cells → from ≤ place → cells ≡ cut place cells
+pub cut-blank : (from place : ℕ) (cells : List Cell) → IsBlankFrom from cells → from ≤ place → cells ≡ cut place cells
 cut-blank from place cells are past =
     cut-none cells place (and_right (nat_lt 0 place) (is_right (cell_at place cells).part) (ap (λ (x : Cell). is_right x.part) (are place past)))
 

@@ -42,8 +42,8 @@ impl Charsets {
     }
 
     /// Whether the set that is used is the line drawing set.
-    pub(crate) fn draws(self) -> bool
-        ensures { result ≡ draws self }
+    pub(crate) fn draws(&self) -> bool
+        ensures { result ≡ draws self.now }
     {
         if self.uses_g1 {
             self.g1_draws

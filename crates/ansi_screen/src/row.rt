@@ -196,6 +196,30 @@ fn clear_all(cells: &mut [Cell], written: Written, style: Style) -> Written
     }
 }
 
+/// A character of so many columns, in a link or in none. Beside `written` all are plain blanks.
+#[inline]
+fn put(
+    cells: &mut [Cell],
+    written: Written,
+    column: usize,
+    columns: u16,
+    c: char,
+    style: Style,
+    link: u32,
+)
+    requires some { 1 ≤ columns }
+    requires few { columns ≤ 2 }
+    requires within { column + columns ≤ length cells.old }
+    requires blank { IsBlankBeside written.first written.past cells.old }
+    ensures { cells.new ≡ change column (column + columns) (λ run. glyph columns c style link) cells.old }
+{
+    if written.past <= column {
+        runs::put_on_blanks(cells, column, columns, c, style, link);
+    } else {
+        runs::put(cells, column, columns, c, style, link);
+    }
+}
+
 /// Printed ASCII, a character in each cell from `column` on, in a link or in none. Beside `written` all are plain
 /// blanks: those who write a row from left to right find no other.
 #[inline]
@@ -370,7 +394,15 @@ impl Row {
         ensures length { length self.new ≡ length self.old }
         ensures whole { IsWhole (length self.old) self.new }
     {
-        runs::put(self.cells.as_mut_slice(), column, columns, c, style, link);
+        put(
+            self.cells.as_mut_slice(),
+            self.written,
+            column,
+            columns,
+            c,
+            style,
+            link,
+        );
         self.written.join(column, column + usize::from(columns));
     }
 

@@ -200,6 +200,29 @@ pub(crate) fn put(cells: &mut [Cell], place: usize, columns: u16, c: char, style
     }
 }
 
+/// A character of so many columns on plain blanks, of which none is a half.
+pub(crate) fn put_on_blanks(
+    cells: &mut [Cell],
+    place: usize,
+    columns: u16,
+    c: char,
+    style: Style,
+    link: u32,
+)
+    requires some { 1 ≤ columns }
+    requires few { columns ≤ 2 }
+    requires within { place + columns ≤ length cells.old }
+    requires blank { IsBlankFrom place cells.old }
+    ensures { cells.new ≡ change place (place + columns) (λ run. glyph columns c style link) cells.old }
+{
+    if columns == 2 {
+        cells[place] = Cell::printed(c, style, link, Part::Left);
+        cells[place + 1] = Cell::printed(' ', style, link, Part::Right);
+    } else {
+        cells[place] = Cell::printed(c, style, link, Part::Whole);
+    }
+}
+
 /// A character of one column.
 fn put_narrow(cells: &mut [Cell], place: usize, c: char, style: Style, link: u32)
     requires { place < length cells.old }

@@ -4,8 +4,8 @@ from expected_pages import BLOCK_BEGIN, BLOCK_END, blocks_begun, blocks_ended, l
 from open_strings import said
 
 ROOM = 4 * 1024  # the kilobytes of memory that a program may take
-# and with a screen of 1000x100: its cells take 7,813, and the rows that leave by one call, at most all of them, 3,907 until they are taken
-ROOM_SHOWN = 16 * 1024
+# and with a screen of 1000x100: 3,907 of cells that show, and as many of the alternate screen once it showed, and of rows that leave by a call
+ROOM_SHOWN = 12 * 1024
 
 
 class Program:

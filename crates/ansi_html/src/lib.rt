@@ -104,7 +104,7 @@ pub fn convert<R: Source, W: Sink>(
     // What is written is the head, the HTML of the calls of what was read, and the tail.
     ensures runs { RunsToEnding R.Source W.Sink
         (λ calls. head.now ++ html_text styling calls) (λ calls. html_ending calls ++ tail.now)
-        reader.old reader.new writer result.0 result.1 }
+        reader.old reader.new writer result }
 
     // With Ok nothing of it is held back.
     ensures handed_on { OnOk result.1 (W.holds_nothing result.0) }
@@ -165,7 +165,7 @@ pub fn convert_lines<R: Source, W: Sink>(
     // What is written is the head, the HTML in lines of the calls of what was read, and the tail.
     ensures runs { RunsToEnding R.Source W.Sink
         (λ calls. head.now ++ lined_text styling calls) (λ calls. lined_ending calls ++ tail.now)
-        reader.old reader.new writer result.0 result.1 }
+        reader.old reader.new writer result }
 
     // With Ok nothing of it is held back.
     ensures handed_on { OnOk result.1 (W.holds_nothing result.0) }

@@ -50,7 +50,7 @@ pub use performer::Stripper;
 /// What was stripped, stripped again, is itself ([`laws::stripped_twice`]). It is UTF-8
 /// ([`laws::stripped_utf8`]), and clean text is left as it is ([`laws::clean_text`]).
 pub fn strip<R: Source, W: Sink>(reader: &mut R, writer: W) -> (W, Result<(), Fault>)
-    ensures runs { Runs R.Source W.Sink stripped reader.old reader.new writer result.0 result.1 }
+    ensures runs { Runs R.Source W.Sink stripped reader.old reader.new writer result }
 
     // With Ok nothing of it is held back.
     ensures handed_on { OnOk result.1 (W.holds_nothing result.0) }
@@ -65,7 +65,7 @@ pub fn strip<R: Source, W: Sink>(reader: &mut R, writer: W) -> (W, Result<(), Fa
 /// ([`laws::inert_twice`]). It is UTF-8 of inert characters alone ([`laws::inert_utf8`]), and such text is left as it
 /// is ([`laws::inert_clean_text`]).
 pub fn strip_inert<R: Source, W: Sink>(reader: &mut R, writer: W) -> (W, Result<(), Fault>)
-    ensures runs { Runs R.Source W.Sink inert_text reader.old reader.new writer result.0 result.1 }
+    ensures runs { Runs R.Source W.Sink inert_text reader.old reader.new writer result }
 
     // With Ok nothing of it is held back.
     ensures handed_on { OnOk result.1 (W.holds_nothing result.0) }

@@ -1,5 +1,5 @@
 //! Sixteen bytes, tested by one comparison.
-ghost use Rattle.std.specs.Prelude.{◌≡◌, ◌≤◌, ◌+◌, map, not};
+ghost use Rattle.std.specs.Prelude.{◌≡◌, ◌≤◌, ◌<◌, ◌+◌, ◌-◌, map, not};
 ghost use Rattle.std.specs.Simd.Lanes.{mask_l};
 ghost use Rattle.anstyle_parse.specs.Stream.Bytes.{is_within, is_parameter, is_plain_text};
 ghost use Rattle.anstyle_parse.specs.Stream.Texts.{is_layout};
@@ -18,14 +18,16 @@ pub(crate) fn lanes(chunk: &[u8; CHUNK]) -> u8x16
     u8x16::from_slice(chunk)
 }
 
-/// A bit for each byte, the lowest for the first: whether it is none of the `count` from 0x20 on. 0x20 is subtracted,
-/// and a byte below that wraps to 0xE0 or more: so one comparison with `count` finds what is below and what is above.
+/// A bit for each byte, the lowest for the first: whether it is none of the `count` from `first` on. `first` is
+/// subtracted, and a byte below that wraps to `count` or more: so one comparison with `count` finds what is below and
+/// what is above.
 #[inline(always)]
-pub(crate) fn outside(bytes: u8x16, count: u8) -> u64
-    requires { count ≤ 0xE0 }
-    ensures { result ≡ mask_l (map (λ b. not (is_within 0x20 (0x1F + count) b)) bytes) }
+pub(crate) fn outside(bytes: u8x16, first: u8, count: u8) -> u64
+    requires some { 0 < first }
+    requires within { first + count ≤ 0x100 }
+    ensures { result ≡ mask_l (map (λ b. not (is_within first (first - 1 + count) b)) bytes) }
 {
-    (bytes - u8x16::splat(0x20))
+    (bytes - u8x16::splat(first))
         .simd_ge(u8x16::splat(count))
         .to_bitmask()
 }
@@ -53,9 +55,7 @@ pub(crate) fn unplain(bytes: u8x16) -> u64
 pub(crate) fn beyond_digits(bytes: u8x16) -> u64
     ensures { result ≡ mask_l (map (λ b. not (is_within 0x30 0x39 b)) bytes) }
 {
-    (bytes - u8x16::splat(b'0'))
-        .simd_ge(u8x16::splat(10))
-        .to_bitmask()
+    outside(bytes, b'0', 10)
 }
 
 /// The same: whether it is none of the digits and separators of fields. These twelve stand one after another.
@@ -63,7 +63,5 @@ pub(crate) fn beyond_digits(bytes: u8x16) -> u64
 pub(crate) fn beyond_fields(bytes: u8x16) -> u64
     ensures { result ≡ mask_l (map (λ b. not (is_parameter b)) bytes) }
 {
-    (bytes - u8x16::splat(b'0'))
-        .simd_ge(u8x16::splat(12))
-        .to_bitmask()
+    outside(bytes, b'0', 12)
 }

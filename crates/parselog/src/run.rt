@@ -38,7 +38,7 @@ impl Mode {
 /// - `Err(Fault::Write)` where a write failed: what is written is a proper prefix of the
 ///   text, and nothing was read or written after the fault.
 pub fn run<R: Source, W: Sink>(mode: Mode, reader: &mut R, writer: W) -> (W, Result<(), Fault>)
-    ensures runs { Runs R.Source W.Sink (text_of mode) reader.old reader.new writer result.0 result.1 }
+    ensures runs { Runs R.Source W.Sink (text_of mode) reader.old reader.new writer result }
 
     // With Ok nothing of it is held back.
     ensures handed_on { OnOk result.1 (W.holds_nothing result.0) }

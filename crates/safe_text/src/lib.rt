@@ -52,7 +52,7 @@ pub use performer::{SafeWriter, Standing};
 /// ([`laws::read_back`], [`laws::marks`]), and safe text is left as it is ([`laws::safe_stays`]).
 pub fn write_safe<R: Source, W: Sink>(reader: &mut R, writer: W) -> (W, Result<(), Fault>)
     ensures runs { RunsToEnding R.Source W.Sink decided_marked undecided_marked
-        reader.old reader.new writer result.0 result.1 }
+        reader.old reader.new writer result }
 
     // With Ok nothing of it is held back.
     ensures handed_on { OnOk result.1 (W.holds_nothing result.0) }

@@ -75,7 +75,7 @@ pub fn convert_shown<R: Source, W: Sink>(
     ensures runs { RunsToEnding R.Source W.Sink
         (λ calls. head.now ++ left_html styling screen calls)
         (λ calls. ending_html styling screen calls ++ tail.now)
-        reader.old reader.new writer result.0 result.1 }
+        reader.old reader.new writer result }
 
     // With Ok nothing of it is held back.
     ensures handed_on { OnOk result.1 (W.holds_nothing result.0) }

@@ -33,7 +33,7 @@ pub fn write_safe_shown<R: Source, W: Sink>(
     writer: W,
 ) -> (W, Result<(), Fault>)
     ensures runs { RunsToEnding R.Source W.Sink (safe_left screen) (safe_ending screen)
-        reader.old reader.new writer result.0 result.1 }
+        reader.old reader.new writer result }
 
     // With Ok nothing of it is held back.
     ensures handed_on { OnOk result.1 (W.holds_nothing result.0) }

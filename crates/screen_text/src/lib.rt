@@ -34,7 +34,7 @@ pub fn write_shown<R: Source, W: Sink>(
     writer: W,
 ) -> (W, Result<(), Fault>)
     ensures runs { RunsToEnding R.Source W.Sink (left_text screen) (ending_text screen)
-        reader.old reader.new writer result.0 result.1 }
+        reader.old reader.new writer result }
 
     // With Ok nothing of it is held back.
     ensures handed_on { OnOk result.1 (W.holds_nothing result.0) }

@@ -34,10 +34,10 @@ returns-clause-runs g c =
     let its_text : List Call → List ℕ = λ calls. head ++ text_from performer calls in
     let its_ending : List Call → List ℕ = λ calls. ending_from performer calls ++ tail in
     let Ran : W → Type 0 = λ w. RunsToEnding {R = R} {W = W} {T = Unit {0}} g.R.Source g.W.Sink text ending
-    c.args.reader.now c.write_calls_by.new.reader w c.write_calls_by.result.0 c.write_calls_by.result.1 in
+    c.args.reader.now c.write_calls_by.new.reader w c.write_calls_by.result in
     subst Ran c.new-output.ensures.writer
     (Runs-same R W (Unit {0}) g.R.Source g.W.Sink its_text its_ending text ending
-    c.args.reader.now c.write_calls_by.new.reader start.writer c.write_calls_by.result.0 c.write_calls_by.result.1
+    c.args.reader.now c.write_calls_by.new.reader start.writer c.write_calls_by.result
     (λ calls. ap (λ t. head ++ t) (text_from-new styling performer is calls)) (λ calls. ap (λ t. t ++ tail) (ending_from-new styling performer is calls))
     (c.write_calls_by.ensures.runs start head c.new-output.ensures.no_fault
     (subst (λ output. Adds g.W.Sink head start output) (sym c.new.ensures.output) c.put.ensures)))

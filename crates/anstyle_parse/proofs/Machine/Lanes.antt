@@ -1,5 +1,5 @@
 -- Sixteen bytes, tested at once.
-use Rattle.std.proofs.Common.{◌≡◌, ◌≢◌, ⊎_elim, ◌&&◌, ◌||◌, bit_or, ℕ, ◌+◌, ◌*◌, ◌-◌, ◌%◌, ◌^◌, ◌<◌, ◌≤◌, Bool, true, false, cond, eqb, leb, ltb, List, [], ◌∷◌, length, take, map, replicate, suc, subst, refl, sym, ap, ap₂, ◌∙◌, arith, w8, Fits}
+use Rattle.std.proofs.Common.{◌≡◌, ◌≢◌, ⊎_elim, ◌&&◌, ◌||◌, bit_or, ℕ, ◌+◌, ◌*◌, ◌-◌, ◌%◌, ◌^◌, ◌<◌, ◌≤◌, Bool, true, false, cond, eqb, leb, ltb, List, [], ◌∷◌, length, take, map, replicate, suc, zero, subst, refl, sym, ap, ap₂, ◌∙◌, arith, w8, Fits}
 use Rattle.std.specs.Prelude.{not, nat_le}
 use Rattle.std.specs.List.{prefix_len}
 use Rattle.std.specs.Simd.Lanes.{zip2, mask_l, top, Each1}
@@ -73,21 +73,24 @@ module _ (before count : ℕ) (few : before + count ≤ 0xFF) where
       ∙ zip2_splat_left at_most count 16 (map (λ b. minus b (suc before)) bytes) (length-map bytes (λ b. minus b (suc before)) ∙ long)
       ∙ map-map (λ x. at_most count x) (λ b. minus b (suc before)) bytes
 
-  pub mask-beyond : (bytes : List ℕ) → length bytes ≡ 16 → Each1 (Fits w8) bytes
+  mask-beyond : (bytes : List ℕ) → length bytes ≡ 16 → Each1 (Fits w8) bytes
       → mask_l (map (top 7) (zip2 at_most (replicate 16 count) (zip2 minus bytes (replicate 16 (suc before))))) % 2 ^ 64
       ≡ mask_l (map (is_beyond before count) bytes)
   mask-beyond bytes long fits =
       ap (λ l. mask_l l % 2 ^ 64) (ap (map (top 7)) (lanes_are bytes long) ∙ all_lanes bytes fits)
       ∙ mask_l-mod (map (is_beyond before count) bytes) 64 (omega (arith, length-map bytes (is_beyond before count)))
 
--- the same of so many from 20 on
-abbrev pub is_outside : (count b : ℕ) → Bool
-is_outside count b = not (is_within 0x20 (0x1F + count) b)
+-- the same of so many from one on
+abbrev pub is_outside : (first count b : ℕ) → Bool
+is_outside first count b = not (is_within first (first - 1 + count) b)
 
-pub mask-outside : (count : ℕ) → count ≤ 0xE0 → (bytes : List ℕ) → length bytes ≡ 16 → Each1 (Fits w8) bytes
-    → mask_l (map (top 7) (zip2 at_most (replicate 16 count) (zip2 minus bytes (replicate 16 0x20)))) % 2 ^ 64
-    ≡ mask_l (map (is_outside count) bytes)
-mask-outside count few = mask-beyond 0x1F count (omega (arith, few))
+pub mask-outside : (first count : ℕ) → 0 < first → first + count ≤ 0x100 → (bytes : List ℕ) → length bytes ≡ 16 → Each1 (Fits w8) bytes
+    → mask_l (map (top 7) (zip2 at_most (replicate 16 count) (zip2 minus bytes (replicate 16 first)))) % 2 ^ 64
+    ≡ mask_l (map (is_outside first count) bytes)
+mask-outside zero count some few bytes long fits = absurd (omega (arith, some))
+mask-outside (suc before) count some few bytes long fits =
+    let last : before ≡ suc before - 1 = omega arith in
+    mask-beyond before count (omega (arith, few)) bytes long fits ∙ ap (λ n. mask_l (map (λ b. not (is_within (suc before) (n + count) b)) bytes)) last
 
 -- whether a byte is a layout control, lane by lane
 abbrev hit : ℕ → ℕ → ℕ
@@ -134,12 +137,12 @@ unprinted-layout : (b : ℕ) → is_layout b ≡ true → is_within 0x20 0x7F b 
 unfolding is_within
 unprinted-layout b is = ap (λ t. t && nat_le b 0x7F) (lt-leb 0x20 b (omega (arith, layout-low b is)))
 
-mask-parts : (bytes : List ℕ) → mask_l (map (is_outside 0x60) bytes) ≡ mask_l (map is_layout bytes) + mask_l (map (λ b. not (is_text_byte b)) bytes)
+mask-parts : (bytes : List ℕ) → mask_l (map (is_outside 0x20 0x60) bytes) ≡ mask_l (map is_layout bytes) + mask_l (map (λ b. not (is_text_byte b)) bytes)
 mask-parts [] = refl
 mask-parts (b ∷ bytes) =
     omega (arith, mask-parts bytes, one_part (is_within 0x20 0x7F b) (is_layout b) (unprinted-layout b))
 
-module _ (bytes : List ℕ) (unprinted layouts : ℕ) (are_unprinted : unprinted ≡ mask_l (map (is_outside 0x60) bytes)) (are_layouts : layouts ≡ mask_l (map is_layout bytes)) where
+module _ (bytes : List ℕ) (unprinted layouts : ℕ) (are_unprinted : unprinted ≡ mask_l (map (is_outside 0x20 0x60) bytes)) (are_layouts : layouts ≡ mask_l (map is_layout bytes)) where
   pub layouts-le : layouts ≤ unprinted
   layouts-le = omega (arith, mask-parts bytes, are_unprinted, are_layouts)
 

@@ -59,12 +59,12 @@ module _ (R W T : Type 0) (source : SourceOf R) (sink : SinkOf W) where
       → Consumes (source.remaining reader) (source.remaining reader_after) read → AreCalls read calls → source.has_failed reader_after ≡ source.has_failed reader
       → (fault_in final ≡ None → IsTrue source.zero_is_end → IsAtEnd (source.remaining reader_after))
       → fault_in start ≡ None → Adds sink (text calls ++ ending calls) start final → Finishes sink final writer_after answer
-      → RunsToEnding source sink text ending reader reader_after (writer_in start) writer_after answer
+      → RunsToEnding source sink text ending reader reader_after (writer_in start) (writer_after, answer)
   Runs-ended text ending reader reader_after start final writer_after answer read calls consumed are kept at_end none added finishes =
       by_added (subst (λ f. AddsAt f sink (text calls ++ ending calls) start final) none added)
     where
       Ran : Result T Fault → Type 0
-      Ran a = RunsToEnding source sink text ending reader reader_after (writer_in start) writer_after a
+      Ran a = RunsToEnding source sink text ending reader reader_after (writer_in start) (writer_after, a)
 
       all_written : AddsAll sink (text calls ++ ending calls) start final → (a : Result T Fault) → FinishesAt None sink (writer_in final) writer_after a → Ran a
       all_written all (Ok done) end = record {
@@ -111,7 +111,7 @@ module _ (R W T : Type 0) (source : SourceOf R) (sink : SinkOf W) where
       → Consumes (source.remaining reader) (source.remaining reader_after) read → AreCalls read calls → IsTrue (source.has_failed reader_after) ⊎ (most_reads ≤ length read)
       → fault_in start ≡ None → fault_in middle ≡ None → Adds sink (text calls) start middle → Adds sink (ending calls) middle final
       → Finishes sink final writer_after answer
-      → RunsToEnding {T = T} source sink text ending reader reader_after (writer_in start) writer_after (Err Read)
+      → RunsToEnding {T = T} source sink text ending reader reader_after (writer_in start) (writer_after, (Err Read))
   Runs-failed text ending reader reader_after start middle final writer_after answer read calls consumed are cause none unstopped first second finishes = record {
     read = read;
     calls = calls;
@@ -162,7 +162,7 @@ module _ (R W T : Type 0) (source : SourceOf R) (sink : SinkOf W) where
   pub Runs-stopped : (text ending : List Call → List ℕ) (head more other : List ℕ) (reader : R) (start stopped final : Output W) (writer_after : W) (answer : Result T Fault)
       → text [] ≡ head ++ more → is_some (fault_in stopped) ≡ true → fault_in start ≡ None → Adds sink head start stopped → Adds sink other stopped final
       → Finishes sink final writer_after answer
-      → RunsToEnding source sink text ending reader reader (writer_in start) writer_after answer
+      → RunsToEnding source sink text ending reader reader (writer_in start) (writer_after, answer)
   Runs-stopped text ending head more other reader start stopped final writer_after answer begins kept none added nothing finishes =
       Runs-ended text ending reader reader start stopped writer_after answer [] [] (Consumes-nil (source.remaining reader)) AreCalls-nil refl
       (λ clear. absurd (let clash : false ≡ true = sym (ap is_some clear) ∙ kept in cc)) none
@@ -182,31 +182,31 @@ module _ (R W T : Type 0) (source : SourceOf R) (sink : SinkOf W) where
       after_nil [] ys e = e
       after_nil (x ∷ xs) ys e = cc
 
-  pub Runs-without_ending : (text ending : List Call → List ℕ) (reader reader_after : R) (writer writer_after : W) (answer : Result T Fault) → ((calls : List Call) → ending calls ≡ [])
-      → RunsToEnding source sink text ending reader reader_after writer writer_after answer
-      → Runs source sink text reader reader_after writer writer_after answer
-  Runs-without_ending text ending reader reader_after writer writer_after answer none ran = record {
+  pub Runs-without_ending : (text ending : List Call → List ℕ) (reader reader_after : R) (writer : W) (result : W × Result T Fault) → ((calls : List Call) → ending calls ≡ [])
+      → RunsToEnding source sink text ending reader reader_after writer result
+      → Runs source sink text reader reader_after writer result
+  Runs-without_ending text ending reader reader_after writer result none ran = record {
     read = ran.read;
     calls = ran.calls;
     consumed = ran.consumed;
     are_calls = ran.are_calls;
-    written = WritesText-ended answer (sink.has_failed writer_after) (sink.contents writer) (sink.contents writer_after) (text ran.calls) (ending ran.calls) (none ran.calls) ran.written;
+    written = WritesText-ended result.1 (sink.has_failed result.0) (sink.contents writer) (sink.contents result.0) (text ran.calls) (ending ran.calls) (none ran.calls) ran.written;
     unread = ran.unread;
     causes = ran.causes;
   }
 
   -- a text and an ending that are the same for all calls
-  pub Runs-same : (text ending other_text other : List Call → List ℕ) (reader reader_after : R) (writer writer_after : W) (answer : Result T Fault)
+  pub Runs-same : (text ending other_text other : List Call → List ℕ) (reader reader_after : R) (writer : W) (result : W × Result T Fault)
       → ((calls : List Call) → text calls ≡ other_text calls) → ((calls : List Call) → ending calls ≡ other calls)
-      → RunsToEnding source sink text ending reader reader_after writer writer_after answer
-      → RunsToEnding source sink other_text other reader reader_after writer writer_after answer
-  Runs-same text ending other_text other reader reader_after writer writer_after answer same_text same ran = record {
+      → RunsToEnding source sink text ending reader reader_after writer result
+      → RunsToEnding source sink other_text other reader reader_after writer result
+  Runs-same text ending other_text other reader reader_after writer result same_text same ran = record {
     read = ran.read;
     calls = ran.calls;
     consumed = ran.consumed;
     are_calls = ran.are_calls;
-    written = subst (λ t. WritesEnded answer (sink.has_failed writer_after) (sink.contents writer) (sink.contents writer_after) t (other ran.calls)) (same_text ran.calls)
-        (subst (λ e. WritesEnded answer (sink.has_failed writer_after) (sink.contents writer) (sink.contents writer_after) (text ran.calls) e) (same ran.calls) ran.written);
+    written = subst (λ t. WritesEnded result.1 (sink.has_failed result.0) (sink.contents writer) (sink.contents result.0) t (other ran.calls)) (same_text ran.calls)
+        (subst (λ e. WritesEnded result.1 (sink.has_failed result.0) (sink.contents writer) (sink.contents result.0) (text ran.calls) e) (same ran.calls) ran.written);
     unread = ran.unread;
     causes = ran.causes;
   }

@@ -99,27 +99,27 @@ IsCausedBy sink (Err Flush) reader_failed writer count =
 -- A run: the bytes that were read and their calls, what was written, what is left unread,
 -- and the cause of the answer.
 pub record Runs {R W T : Type 0} (source : SourceOf R) (sink : SinkOf W)
-    (text : List Call → List ℕ) (reader reader_after : R) (writer writer_after : W)
-    (answer : Result T Fault) : Type 0 where
+    (text : List Call → List ℕ) (reader reader_after : R) (writer : W)
+    (result : W × Result T Fault) : Type 0 where
   pub read : List ℕ
   pub calls : List Call
   pub consumed : Consumes (source.remaining reader) (source.remaining reader_after) read
   pub are_calls : AreCalls read calls
-  pub written : WritesText answer (sink.contents writer) (sink.contents writer_after) (text calls)
-  pub unread : IsTrue source.zero_is_end → LeavesNothing answer (source.remaining reader_after)
+  pub written : WritesText result.1 (sink.contents writer) (sink.contents result.0) (text calls)
+  pub unread : IsTrue source.zero_is_end → LeavesNothing result.1 (source.remaining reader_after)
   pub causes : source.has_failed reader ≡ false → sink.has_failed writer ≡ false
-      → IsCausedBy sink answer (source.has_failed reader_after) writer_after (length read)
+      → IsCausedBy sink result.1 (source.has_failed reader_after) result.0 (length read)
 
 -- The same where the text of the calls has an ending.
 pub record RunsToEnding {R W T : Type 0} (source : SourceOf R) (sink : SinkOf W)
-    (text ending : List Call → List ℕ) (reader reader_after : R) (writer writer_after : W)
-    (answer : Result T Fault) : Type 0 where
+    (text ending : List Call → List ℕ) (reader reader_after : R) (writer : W)
+    (result : W × Result T Fault) : Type 0 where
   pub read : List ℕ
   pub calls : List Call
   pub consumed : Consumes (source.remaining reader) (source.remaining reader_after) read
   pub are_calls : AreCalls read calls
-  pub written : WritesEnded answer (sink.has_failed writer_after) (sink.contents writer) (sink.contents writer_after)
+  pub written : WritesEnded result.1 (sink.has_failed result.0) (sink.contents writer) (sink.contents result.0)
       (text calls) (ending calls)
-  pub unread : IsTrue source.zero_is_end → LeavesNothing answer (source.remaining reader_after)
+  pub unread : IsTrue source.zero_is_end → LeavesNothing result.1 (source.remaining reader_after)
   pub causes : source.has_failed reader ≡ false → sink.has_failed writer ≡ false
-      → IsCausedBy sink answer (source.has_failed reader_after) writer_after (length read)
+      → IsCausedBy sink result.1 (source.has_failed reader_after) result.0 (length read)

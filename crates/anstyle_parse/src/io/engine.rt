@@ -144,11 +144,11 @@ pub fn write_calls<P: CallWriter<W>, R: Source, W: Sink>(
     reader: &mut R,
     writer: W,
 ) -> (W, Result<(), Fault>)
-    ensures runs { RunsToEnding R.Source W.Sink P.text P.ending reader.old reader.new writer result.0 result.1 }
+    ensures runs { RunsToEnding R.Source W.Sink P.text P.ending reader.old reader.new writer result }
 
     // Where the text has no ending.
     ensures without_ending { ((calls : List Call) → P.ending calls ≡ [])
-        → Runs R.Source W.Sink P.text reader.old reader.new writer result.0 result.1 }
+        → Runs R.Source W.Sink P.text reader.old reader.new writer result }
 
     // With Ok nothing of it is held back.
     ensures handed_on { OnOk result.1 (W.holds_nothing result.0) }
@@ -167,7 +167,7 @@ pub fn write_calls_between<P: CallWriter<W>, R: Source, W: Sink>(
 ) -> (W, Result<(), Fault>)
     ensures runs { RunsToEnding R.Source W.Sink
         (λ calls. head.now ++ P.text calls) (λ calls. P.ending calls ++ tail.now)
-        reader.old reader.new writer result.0 result.1 }
+        reader.old reader.new writer result }
     ensures handed_on { OnOk result.1 (W.holds_nothing result.0) }
 {
     let mut output = Output::new(writer);
@@ -190,7 +190,7 @@ pub fn write_calls_by<P: WritingPerformer<W>, R: Source, W: Sink>(
         → RunsToEnding R.Source W.Sink
         (λ calls. head ++ P.text_from performer calls)
         (λ calls. P.ending_from performer calls ++ tail.now)
-        reader.old reader.new (writer_in start) result.0 result.1 }
+        reader.old reader.new (writer_in start) result }
     ensures handed_on { OnOk result.1 (W.holds_nothing result.0) }
 {
     let mut performer = performer;

@@ -67,7 +67,7 @@ impl Run {
     pub(super) fn others(self, chunk: &[u8; CHUNK]) -> u64
         ensures { result ≡ mask_l (map (λ b. not (is_of_run self b)) chunk.now) }
     {
-        outside(u8x16::from_array(*chunk), self.count())
+        outside(u8x16::from_array(*chunk), SPACE, self.count())
     }
 
     /// Makes the call of a byte of the run, if it has one.

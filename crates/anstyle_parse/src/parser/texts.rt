@@ -36,7 +36,7 @@ fn text_count(chunk: &[u8; CHUNK]) -> usize
     ensures text { EachIs is_text_byte (take result chunk.now) }
 {
     let bytes = lanes(chunk);
-    let unprinted = outside(bytes, PRINTED);
+    let unprinted = outside(bytes, FIRST_PRINTED, PRINTED);
     if unprinted == 0 {
         return CHUNK;
     }

@@ -30,10 +30,10 @@ returns-clause-runs g c =
     let new = ap standing_of c.new.ensures.rows ∙ c.new-rows.ensures.new in
     let output_is = ap output_of c.new.ensures.rows ∙ c.new-rows.ensures.output in
     let Ran : W → Type 0 = λ w. RunsToEnding {R = R} {W = W} {T = Unit {0}} g.R.Source g.W.Sink text ending
-    c.args.reader.now c.write_calls_by.new.reader w c.write_calls_by.result.0 c.write_calls_by.result.1 in
+    c.args.reader.now c.write_calls_by.new.reader w c.write_calls_by.result in
     subst Ran c.new-output.ensures.writer
     (Runs-same R W (Unit {0}) g.R.Source g.W.Sink its_text its_ending text ending
-    c.args.reader.now c.write_calls_by.new.reader start.writer c.write_calls_by.result.0 c.write_calls_by.result.1
+    c.args.reader.now c.write_calls_by.new.reader start.writer c.write_calls_by.result
     (λ calls. ap (λ t. head ++ t) (left-new styling standing_of screen performer c.new.ensures.screen new calls))
     (λ calls. ap (λ t. t ++ tail) (ending-new styling standing_of screen performer c.new.ensures.screen new calls))
     (c.write_calls_by.ensures.runs start head c.new-output.ensures.no_fault

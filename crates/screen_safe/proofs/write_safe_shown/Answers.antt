@@ -23,10 +23,10 @@ returns-clause-runs g c =
     let new = ap standing_of c.new-2.ensures.rows ∙ c.new-rows.ensures.new in
     let output_is = ap output_of c.new-2.ensures.rows ∙ c.new-rows.ensures.output in
     let Ran : W → Type 0 = λ w. RunsToEnding {R = R} {W = W} {T = Unit {0}} g.R.Source g.W.Sink (safe_left screen) (safe_ending screen)
-    c.args.reader.now c.write_calls_by.new.reader w c.write_calls_by.result.0 c.write_calls_by.result.1 in
+    c.args.reader.now c.write_calls_by.new.reader w c.write_calls_by.result in
     subst Ran c.new.ensures.writer
     (Runs-same R W (Unit {0}) g.R.Source g.W.Sink its_text its_ending (safe_left screen) (safe_ending screen)
-    c.args.reader.now c.write_calls_by.new.reader start.writer c.write_calls_by.result.0 c.write_calls_by.result.1
+    c.args.reader.now c.write_calls_by.new.reader start.writer c.write_calls_by.result
     (left-new standing_of screen performer c.new-2.ensures.screen new)
     (λ calls. append-nil (ending_from standing_of row_safe after_row after_command closing_safe performer calls)
     ∙ ending-new standing_of screen performer c.new-2.ensures.screen new calls)

@@ -23,10 +23,10 @@ returns-clause-runs g c =
     let closed = ap is_open c.new-2.ensures.rows ∙ c.new-rows.ensures.closed in
     let output_is = ap output_of c.new-2.ensures.rows ∙ c.new-rows.ensures.output in
     let Ran : W → Type 0 = λ w. RunsToEnding {R = R} {W = W} {T = Unit {0}} g.R.Source g.W.Sink (left_text screen) (ending_text screen)
-    c.args.reader.now c.write_calls_by.new.reader w c.write_calls_by.result.0 c.write_calls_by.result.1 in
+    c.args.reader.now c.write_calls_by.new.reader w c.write_calls_by.result in
     subst Ran c.new.ensures.writer
     (Runs-same R W (Unit {0}) g.R.Source g.W.Sink its_text its_ending (left_text screen) (ending_text screen)
-    c.args.reader.now c.write_calls_by.new.reader start.writer c.write_calls_by.result.0 c.write_calls_by.result.1
+    c.args.reader.now c.write_calls_by.new.reader start.writer c.write_calls_by.result
     (text_from-new is_open screen performer c.new-2.ensures.screen closed) (ending_from-new is_open screen performer c.new-2.ensures.screen closed)
     (c.write_calls_by.ensures.runs start [] c.new.ensures.no_fault
     (subst (λ output. Adds g.W.Sink [] start output) (sym output_is) (Adds-nil g.W.Sink start))))

@@ -3,4 +3,4 @@ use Rattle.anstyle_parse.proofs.Machine.Lanes.{mask-outside}
 use Rattle.ansi_screen.proofs.printed.PrintedAsciiKind.others.Goals as goal
 
 pub returns : goal.returns
-returns c = mask-outside 0x5F (omega arith) c.args.bytes c.fits-bytes.0 c.fits-bytes.1
+returns c = mask-outside 0x20 0x5F (omega arith) (omega arith) c.args.bytes c.fits-bytes.0 c.fits-bytes.1

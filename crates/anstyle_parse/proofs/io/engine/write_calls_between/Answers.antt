@@ -19,10 +19,10 @@ returns-clause-runs g c =
     let its_text : List Call → List ℕ = λ calls. head ++ g.P.WritingPerformer.text_from performer calls in
     let its_ending : List Call → List ℕ = λ calls. g.P.WritingPerformer.ending_from performer calls ++ tail in
     let Ran : W → Type 0 = λ w. RunsToEnding {R = R} {W = W} {T = Unit {0}} g.R.Source g.W.Sink text ending
-    c.args.reader.now c.write_calls_by.new.reader w c.write_calls_by.result.0 c.write_calls_by.result.1 in
+    c.args.reader.now c.write_calls_by.new.reader w c.write_calls_by.result in
     subst Ran c.new-output.ensures.writer
     (Runs-same R W (Unit {0}) g.R.Source g.W.Sink its_text its_ending text ending
-    c.args.reader.now c.write_calls_by.new.reader start.writer c.write_calls_by.result.0 c.write_calls_by.result.1
+    c.args.reader.now c.write_calls_by.new.reader start.writer c.write_calls_by.result
     (λ calls. ap (λ t. head ++ t) (g.met.P.CallWriter.text_of_new performer c.over.ensures.new calls))
     (λ calls. ap (λ t. t ++ tail) (g.met.P.CallWriter.ending_of_new performer c.over.ensures.new calls))
     (c.write_calls_by.ensures.runs start head c.new-output.ensures.no_fault

@@ -1,6 +1,5 @@
 use Rattle.std.proofs.Common.{inl, ◌∷◌}
 use Rattle.anstyle_parse.proofs.Machine.AsReadTo.{LeadsAsReadTo-command, LeadsAsReadTo-first, LeadsAsReadTo-trans}
-use Rattle.anstyle_parse.proofs.Machine.Runs.{KeepsTo-hooked, KeepsTo-string}
 use Rattle.anstyle_parse.proofs.parser.as_read.Parser+Utf8Parser.take_log.Goals as goal
 
 pub store_text-rest-requires-clause-can : goal.store_text-rest-requires-clause-can
@@ -25,24 +24,6 @@ rest-preserved-in-OscString g c =
     LeadsAsReadTo-first g.P.Perform.means n.receives m.receives_none m.receives_one m.receives_more c.in-Some.ensures.cases.0 c.rest.invariant
     (LeadsAsReadTo-command g.P.Perform.means n.receives m.receives_none m.receives_one m.receives_more c.rest.self c.store_text-rest.new.self c.rest.performer
     (c.in-Some.first.now ∷ c.in-Some.behind.now) c.store_text-rest.result.now c.in-OscString.is c.store_text-rest.ensures.leads)
-
-pub take_read_run-rest-requires : goal.take_read_run-rest-requires
-take_read_run-rest-requires g c = KeepsTo-hooked c.rest.self.state c.in-DcsPassthrough.is
-
-pub take_read_run-rest-requires-in-SosPmApcString : goal.take_read_run-rest-requires-in-SosPmApcString
-take_read_run-rest-requires-in-SosPmApcString g c = KeepsTo-string c.rest.self.state c.in-SosPmApcString.is
-
-pub rest-preserved-in-DcsPassthrough : goal.rest-preserved-in-DcsPassthrough
-rest-preserved-in-DcsPassthrough g c =
-    let n = g.P.PerformText in
-    let m = g.met.P.PerformText in
-    LeadsAsReadTo-first g.P.Perform.means n.receives m.receives_none m.receives_one m.receives_more c.in-Some.ensures.cases.0 c.rest.invariant c.take_read_run-rest.ensures.leads
-
-pub rest-preserved-in-SosPmApcString : goal.rest-preserved-in-SosPmApcString
-rest-preserved-in-SosPmApcString g c =
-    let n = g.P.PerformText in
-    let m = g.met.P.PerformText in
-    LeadsAsReadTo-first g.P.Perform.means n.receives m.receives_none m.receives_one m.receives_more c.in-Some.ensures.cases.0 c.rest.invariant c.take_read_run-rest-in-SosPmApcString.ensures.leads
 
 pub rest-preserved : goal.rest-preserved
 rest-preserved g c =

@@ -3,7 +3,7 @@ use Rattle.anstyle_parse.specs.declared.utf8.Front.{Front}
 use Rattle.anstyle_parse.specs.Views.Front.{bytes_of}
 use Rattle.anstyle_parse.specs.Io.Output.{Adds}
 use Rattle.anstyle_parse.proofs.Written.Output.{Adds-nil}
-use Rattle.anstyle_parse.proofs.canon.checkpoints.put_front.Goals as goal
+use Rattle.anstyle_parse.proofs.canon.checkpoints.put_begun_character.Goals as goal
 
 pub returns-in-Empty : goal.returns-in-Empty
 returns-in-Empty g c =

@@ -6,9 +6,9 @@ use std::marker::Model;
 
 /// A text of up to sixteen bytes, at the front of sixteen bytes that may all be read.
 ///
-/// What comes after the text is no part of it. It is there so that whoever takes the text can look at all sixteen bytes
-/// at once, or copy them, whatever the text's length is: most texts between two controls are shorter than sixteen bytes,
-/// and a loop over them, or a copy by their length, costs more than that. simdjson has the same for a whole document, its
+/// What comes after the text is no part of it. It is there so that whoever takes the text can look at all sixteen
+/// bytes at once, or copy them, whatever the text's length is: most texts between two controls are shorter, and a loop
+/// over their bytes, or a copy by their length, costs more than that. simdjson has the same for a whole document, its
 /// `padded_string_view`.
 ///
 /// In a clause it is the text, a list of bytes.

@@ -1,41 +1,48 @@
 -- What has no meaning in HTML, and what comes behind that.
-use Rattle.std.proofs.Common.{◌≡◌, ◌+◌, ◌-◌, ◌++◌, take, drop, arith, sym, ap, ◌∙◌, subst, take-add}
+use Rattle.std.proofs.Common.{◌≡◌, ◌-◌, false, length, take, drop, arith, sym, ap, ◌∙◌, subst, take_all, take-append-drop, length-drop}
+use Rattle.std.proofs.lemmas.List.{take-take}
 use Rattle.anstyle_parse.proofs.Characters.Layout.{IsUtf8-text_bytes}
+use Rattle.anstyle_parse.proofs.Lists.Parts.{AllByRecursion-take}
+use Rattle.ansi_html.specs.Grammar.{is_special, AreClear}
 use Rattle.ansi_html.specs.Writer.{TakesBytes}
-use Rattle.ansi_html.proofs.BytesLemmas.{TakesBytes-none, TakesBytes-append, TakesAll-bytes}
-use Rattle.ansi_html.proofs.performer.HtmlWriterPerformText.print_front.Goals as goal
-use Rattle.ansi_html.proofs.performer.HtmlWriterPerformText.print_front.Goals.{then-clear-gt0, else-clear-gt0}
+use Rattle.ansi_html.proofs.BytesLemmas.{TakesBytes-append, TakesAll-bytes}
+use Rattle.ansi_html.proofs.performer.HtmlWriterPerformText.print_padded.Goals as goal
 
-pub returns-then-clear-count : goal.returns-then-clear-count
-returns-then-clear-count g c =
-    let chunk = c.args.chunk.now in
-    let first = c.args.self.now in
+pub put_clear_padded-requires : goal.put_clear_padded-requires
+put_clear_padded-requires g c =
+    let text = c.args.text.now in
+    let chunk = c.chunk.result.now in
+    let count = c.clear_count.result in
     let clear = c.min-clear.result in
-    let text = take c.args.count chunk in
-    let so_far : TakesBytes g.W.Sink first (take clear chunk) c.if-clear-gt0.self =
-    elim c.if-clear-gt0.branch [
-      | then-clear-gt0 w ↦ subst (λ p. TakesBytes g.W.Sink first (take clear chunk) p) (sym w.self-is) w.put_clear_front.ensures
-      | else-clear-gt0 w ↦ subst (λ p. TakesBytes g.W.Sink first (take clear chunk) p) (sym w.self-is)
-          (let none : 0 ≡ clear = omega (arith, w.if-clear-gt0.false) in subst (λ n. TakesBytes g.W.Sink first (take n chunk) first) none (TakesBytes-none g.W.Sink first))
-    ] in
-    let whole : clear + (c.args.count - clear) ≡ c.args.count = omega (arith, c.if-clear-count.true) in
-    let joined : take clear chunk ++ take (c.args.count - clear) (drop clear chunk) ≡ text = sym (take-add clear (c.args.count - clear) chunk) ∙ ap (λ n. take n chunk) whole in
-    TakesAll-bytes g.W.Sink first c.put_few.new.self text (IsUtf8-text_bytes text c.requires.text)
-    (subst (λ bytes. TakesBytes g.W.Sink first bytes c.put_few.new.self) joined
-    (TakesBytes-append g.W.Sink first c.if-clear-gt0.self c.put_few.new.self (take clear chunk) (take (c.args.count - clear) (drop clear chunk)) so_far c.put_few.ensures))
+    let first : c.first.result ≡ take clear (take count chunk) =
+    c.first.ensures
+    ∙ ap (take clear) (sym c.chunk.ensures.text)
+    ∙ take-take clear (length text) chunk (omega (arith, c.min-clear.ensures, c.len.ensures.value))
+    ∙ sym (take-take clear count chunk (omega (arith, c.min-clear.ensures))) in
+    record { clear = subst AreClear (sym first) (AllByRecursion-take (λ b. is_special b ≡ false) clear (take count chunk) c.clear_count.ensures.clear); }
 
-pub returns-else-clear-count : goal.returns-else-clear-count
-returns-else-clear-count g c =
-    let chunk = c.args.chunk.now in
-    let first = c.args.self.now in
+pub returns-then-clear-len : goal.returns-then-clear-len
+returns-then-clear-len g c =
+    let text = c.args.text.now in
+    let before = c.args.self.now in
+    let middle = c.put_clear_padded.new.self in
+    let after = c.put_few.new.self in
     let clear = c.min-clear.result in
-    let text = take c.args.count chunk in
-    let all : clear ≡ c.args.count = omega (arith, c.if-clear-count.false, c.min-clear.ensures) in
-    let so_far : TakesBytes g.W.Sink first (take clear chunk) c.if-clear-gt0.self =
-    elim c.if-clear-gt0.branch [
-      | then-clear-gt0 w ↦ subst (λ p. TakesBytes g.W.Sink first (take clear chunk) p) (sym w.self-is) w.put_clear_front.ensures
-      | else-clear-gt0 w ↦ subst (λ p. TakesBytes g.W.Sink first (take clear chunk) p) (sym w.self-is)
-          (let none : 0 ≡ clear = omega (arith, w.if-clear-gt0.false) in subst (λ n. TakesBytes g.W.Sink first (take n chunk) first) none (TakesBytes-none g.W.Sink first))
-    ] in
-    TakesAll-bytes g.W.Sink first c.if-clear-gt0.self text (IsUtf8-text_bytes text c.requires.text)
-    (subst (λ n. TakesBytes g.W.Sink first (take n chunk) c.if-clear-gt0.self) all so_far)
+    let all = c.as_bytes.result.now in
+    let rest : take (length all - clear) (drop clear all) ≡ drop clear text =
+    take_all (length all - clear) (drop clear all) (omega (arith, length-drop clear all)) ∙ ap (drop clear) c.as_bytes.ensures in
+    let begun = subst (λ t. TakesBytes g.W.Sink before t middle) c.first.ensures c.put_clear_padded.ensures in
+    let more = subst (λ t. TakesBytes g.W.Sink middle t after) rest c.put_few.ensures in
+    TakesAll-bytes g.W.Sink before after text (IsUtf8-text_bytes text c.requires.text)
+    (subst (λ t. TakesBytes g.W.Sink before t after) (take-append-drop clear text)
+    (TakesBytes-append g.W.Sink before middle after (take clear text) (drop clear text) begun more))
+
+pub returns-else-clear-len : goal.returns-else-clear-len
+returns-else-clear-len g c =
+    let text = c.args.text.now in
+    let before = c.args.self.now in
+    let after = c.put_clear_padded.new.self in
+    let clear = c.min-clear.result in
+    let whole : c.first.result ≡ text = c.first.ensures ∙ take_all clear text (omega (arith, c.if-clear-len.false, c.len-2.ensures.value)) in
+    TakesAll-bytes g.W.Sink before after text (IsUtf8-text_bytes text c.requires.text)
+    (subst (λ t. TakesBytes g.W.Sink before t after) whole c.put_clear_padded.ensures)

@@ -1,5 +1,5 @@
 //! The performer that writes HTML.
-ghost use Rattle.std.specs.Prelude.{◌≡◌, ◌<◌, ◌≤◌, ◌∷◌, ◌++◌, [], true, false, encode_utf8, codes, refl, length, take};
+ghost use Rattle.std.specs.Prelude.{◌≡◌, ◌∷◌, ◌++◌, [], true, false, encode_utf8, codes, refl, length};
 ghost use Rattle.anstyle_parse.specs.Io.Output.{Adds};
 ghost use Rattle.ansi_style.specs.Style.{plain};
 ghost use Rattle.ansi_html.specs.Classes.{class_names, classes_of};
@@ -21,7 +21,7 @@ use crate::tag::put_tag;
 use ansi_strip::is_layout;
 use ansi_style::Style;
 use anstyle_parse::io::{Output, Sink, WritingPerformer};
-use anstyle_parse::{Params, Perform, PerformText};
+use anstyle_parse::{Padded, Params, Perform, PerformText};
 use std::simd::prelude::*;
 
 /// Writes the text of a stream as HTML, in the style that the stream selects.
@@ -191,18 +191,16 @@ impl<W: Sink> HtmlWriter<W> {
         }
     }
 
-    /// The same of the first bytes of a chunk, which is copied whole.
+    /// The same of a short text, of which a whole chunk is copied.
     #[inline(always)]
-    fn put_clear_front(&mut self, chunk: &[u8; CHUNK], count: usize)
-        requires some { 0 < count }
-        requires within { count ≤ length chunk.now }
-        requires clear { AreClear (take count chunk.now) }
-        ensures { TakesBytes W.Sink self.old (take count chunk.now) self.new }
+    fn put_clear_padded(&mut self, clear: &Padded<'_>)
+        requires clear { AreClear clear.now }
+        ensures { TakesBytes W.Sink self.old clear.now self.new }
     {
-        if let Some((first, _)) = chunk.split_first() {
+        if let Some((first, _)) = clear.as_bytes().split_first() {
             let is_line_feed = *first == b'\n';
             self.begin_text(is_line_feed);
-            self.output.put_front(chunk, count);
+            self.output.put_padded(clear);
         }
     }
 
@@ -637,13 +635,11 @@ impl<W: Sink> PerformText for HtmlWriter<W> {
     }
 
     #[inline(always)]
-    fn print_front(&mut self, chunk: &[u8; 16], count: usize) {
-        let clear = clear_count(chunk).min(count);
-        if clear > 0 {
-            self.put_clear_front(chunk, clear);
-        }
-        if clear < count {
-            self.put_few(&chunk[clear..count]);
+    fn print_padded(&mut self, text: &Padded<'_>) {
+        let clear = clear_count(text.chunk()).min(text.len());
+        self.put_clear_padded(&text.first(clear));
+        if clear < text.len() {
+            self.put_few(&text.as_bytes()[clear..]);
         }
     }
 

@@ -1,8 +1,9 @@
 //! Whether a text is clear: of ASCII alone, and with no DEL. That is looked at many bytes at once.
-ghost use Rattle.std.specs.Prelude.{◌≡◌, ◌≤◌, length, take, IsTrue};
+ghost use Rattle.std.specs.Prelude.{◌≡◌, ◌≤◌, length, IsTrue};
 ghost use Rattle.anstyle_parse.specs.Stream.Items.{EachIs};
 ghost use Rattle.ansi_strip.specs.Driving.{is_clear, PassTo};
 
+use anstyle_parse::Padded;
 use std::simd::prelude::*;
 
 /// The bytes of a block of a long text.
@@ -181,16 +182,15 @@ pub fn is_clear(bytes: &[u8]) -> bool
     }
 }
 
-/// Whether the first `count` of sixteen bytes are clear, as [`is_clear`] says it of a text. 0xFF is subtracted, and
-/// what falls below 0 wraps: so 0x7F to 0xFE become 0x80 to 0xFF, which one comparison finds. 0xFF becomes
-/// 0 and passes: it begins no character that drives a terminal.
+/// The same of a text that may be read sixteen bytes past its start. 0xFF is subtracted, and what falls below 0 wraps:
+/// so 0x7F to 0xFE become 0x80 to 0xFF, which one comparison finds. 0xFF becomes 0 and passes: it begins no
+/// character that drives a terminal.
 #[inline(always)]
-pub fn is_clear_front(chunk: &[u8; 16], count: usize) -> bool
-    requires { count ≤ 16 }
-    ensures { IsTrue result → EachIs is_clear (take count chunk.now) }
+pub fn is_clear_padded(text: &Padded<'_>) -> bool
+    ensures { IsTrue result → EachIs is_clear text.now }
 {
-    let unclear = (u8x16::from_array(*chunk) - u8x16::splat(0xFF))
+    let unclear = (u8x16::from_array(*text.chunk()) - u8x16::splat(0xFF))
         .simd_ge(u8x16::splat(0x80))
         .to_bitmask();
-    unclear.trailing_zeros() as usize >= count
+    unclear.trailing_zeros() as usize >= text.len()
 }

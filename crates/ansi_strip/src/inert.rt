@@ -2,10 +2,10 @@
 ghost use Rattle.std.specs.Prelude.{◌≡◌, [], filter};
 ghost use Rattle.ansi_strip.specs.Inert.{is_inert};
 
-use crate::clear::{is_clear, is_clear_front};
+use crate::clear::{is_clear, is_clear_padded};
 use crate::driving::{is_driving, split_at_driving};
 use anstyle_parse::io::{CallWriter, Output, Sink, WritingPerformer};
-use anstyle_parse::{Params, Perform, PerformText};
+use anstyle_parse::{Padded, Params, Perform, PerformText};
 use std::str;
 
 /// Hands all calls on to a performer but the prints of DEL and of U+0080 to U+009F, which terminals take for
@@ -131,11 +131,11 @@ impl<P: PerformText> PerformText for Inert<P> {
     }
 
     #[inline(always)]
-    fn print_front(&mut self, chunk: &[u8; 16], count: usize) {
-        if is_clear_front(chunk, count) {
-            self.performer.print_front(chunk, count);
+    fn print_padded(&mut self, text: &Padded<'_>) {
+        if is_clear_padded(text) {
+            self.performer.print_padded(text);
         } else {
-            self.print_bytes(&chunk[..count]);
+            self.print_bytes(text.as_bytes());
         }
     }
 

@@ -23,7 +23,7 @@ mod returns;
 
 use anstyle_parse::io::{Fault, Sink, Source, write_calls};
 pub use anstyle_parse::is_layout;
-pub use clear::{is_clear, is_clear_front};
+pub use clear::{is_clear, is_clear_padded};
 pub use driving::{is_driving, split_at_driving};
 pub use inert::Inert;
 pub use line_feeds::LineFeeds;

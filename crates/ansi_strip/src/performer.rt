@@ -4,7 +4,7 @@ ghost use Rattle.anstyle_parse.specs.Io.Output.{Adds};
 ghost use Rattle.ansi_strip.specs.Strip.{stripped_call, stripped};
 
 use anstyle_parse::io::{CallWriter, Output, Sink, WritingPerformer};
-use anstyle_parse::{Params, Perform, PerformText, is_layout};
+use anstyle_parse::{Padded, Params, Perform, PerformText, is_layout};
 
 /// Writes each printed character in UTF-8, and the controls 09, 0A and 0D; nothing of any
 /// other call.
@@ -73,8 +73,8 @@ impl<W: Sink> PerformText for Stripper<W> {
     }
 
     #[inline(always)]
-    fn print_front(&mut self, chunk: &[u8; 16], count: usize) {
-        self.output.put_front(chunk, count);
+    fn print_padded(&mut self, text: &Padded<'_>) {
+        self.output.put_padded(text);
     }
 
     /// Nothing is written of a control sequence.

@@ -30,6 +30,7 @@ mod controls;
 pub mod io;
 pub mod laws;
 mod layout;
+mod padded;
 mod params;
 mod parser;
 mod perform;
@@ -38,6 +39,7 @@ mod utf8;
 
 pub use accumulator::{AsciiParser, CharAccumulator, DefaultCharAccumulator, Utf8Parser};
 pub use layout::is_layout;
+pub use padded::Padded;
 pub use params::{Params, ParamsIter};
 pub use parser::Parser;
 pub use perform::{Perform, PerformText};

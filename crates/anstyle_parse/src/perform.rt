@@ -1,11 +1,12 @@
 //! What a parser calls.
-ghost use Rattle.std.specs.Prelude.{map, ⊤, ◌≤◌, ℕ, Bool, IsTrue, List, [], ◌∷◌, ◌++◌, length, take};
+ghost use Rattle.std.specs.Prelude.{map, ⊤, ℕ, Bool, IsTrue, List, [], ◌∷◌, ◌++◌};
 ghost use Rattle.anstyle_parse.specs.Stream.Call.{Call, print, execute, hook, put, unhook, osc_dispatch, csi_dispatch, esc_dispatch};
 ghost use Rattle.anstyle_parse.specs.Stream.Items.{EachIs};
 ghost use Rattle.anstyle_parse.specs.Stream.Texts.{text_calls, layout_calls};
 ghost use Rattle.anstyle_parse.specs.Views.Texts.{is_text_byte};
 
 use crate::layout::split_at_layout;
+use crate::padded::Padded;
 use crate::params::Params;
 
 /// Receives the calls that a [`Parser`](crate::Parser) makes of its bytes.
@@ -100,7 +101,7 @@ impl Perform for () {
 /// after another, with the layout among them, on as one text. An implementation states in
 /// `receives` what a list of calls does to it. It need not say how it stands between two calls of
 /// the list, so that a text may change it in one step. One that writes `print_text`,
-/// `print_with_layout` or `print_front` itself shows that it does what the same calls, one by one,
+/// `print_with_layout` or `print_padded` itself shows that it does what the same calls, one by one,
 /// would have done.
 pub trait PerformText: Perform {
     // What a list of calls does to it: the performer before, the calls, the performer after.
@@ -139,21 +140,17 @@ pub trait PerformText: Perform {
         }
     }
 
-    /// A text that stands at the front of sixteen bytes, the first `count` of them, and is of characters of one byte
-    /// alone: as by `print_with_layout`. What comes after it in `chunk` is no part of the text: it is there so that an
-    /// implementation can look at all sixteen bytes at once, or copy them, whatever `count` is. A parser hands on no
-    /// text that is empty or begins with layout.
+    /// A text with layout, as `print_with_layout` takes it, that may be read sixteen bytes past its start and is of
+    /// characters of one byte alone. A parser hands on no text that is empty or begins with layout.
     ///
     /// Where an implementation does not write it, the text goes to `print_with_layout`.
     #[inline]
-    fn print_front(&mut self, chunk: &[u8; 16], count: usize)
-        requires within { count ≤ length chunk.now }
-        requires text { EachIs is_text_byte (take count chunk.now) }
-        ensures { receives self.old (layout_calls (take count chunk.now)) self.new }
+    fn print_padded(&mut self, text: &Padded<'_>)
+        requires text { EachIs is_text_byte text.now }
+        ensures { receives self.old (layout_calls text.now) self.new }
     {
-        let (text, _) = chunk.split_at(count);
         // Each byte of it is a character.
-        self.print_with_layout(unsafe { str::from_utf8_unchecked(text) });
+        self.print_with_layout(unsafe { str::from_utf8_unchecked(text.as_bytes()) });
     }
 
     /// Whether each control sequence, whatever it says, leaves this performer unchanged, as it stands now.

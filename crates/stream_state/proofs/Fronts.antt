@@ -28,24 +28,22 @@ selected count xs ys long as_long =
     let all : count - 0 ≡ count = omega arith in
     ap (λ n. sel_l (lanes_below count 0 n) xs ys) (sym long) ∙ selected-from count 0 count xs ys (sym all) (long ∙ sym as_long)
 
--- A block is put over a room: its first bytes are others, and those behind them are as they stood there.
-module _ (place size count : ℕ) (room block there moved : List ℕ) (few : count ≤ size) (all : count ≤ length block) (fits : place + size ≤ length room)
-    (stood : there ≡ take size (drop place room)) (are : moved ≡ take count block ++ drop count there) where
+-- A short text is put over a room: the bytes behind it are as they stood there.
+module _ (place size : ℕ) (room text there moved : List ℕ) (short : length text ≤ size) (fits : place + size ≤ length room)
+    (stood : there ≡ take size (drop place room)) (are : moved ≡ text ++ drop (length text) there) where
   abbrev after : List ℕ
   after = drop size (drop place room)
 
-  behind : drop count there ++ after ≡ drop (place + count) room
+  behind : drop (length text) there ++ after ≡ drop (place + length text) room
   behind =
       let left = drop place room in
-      ap (λ l. drop count l ++ after) stood
-      ∙ sym (drop-append-le count (take size left) after (omega (arith, length-take-le size left (omega (arith, length-drop place room)))))
-      ∙ ap (drop count) (take-append-drop size left)
-      ∙ drop-drop count place room
+      ap (λ l. drop (length text) l ++ after) stood
+      ∙ sym (drop-append-le (length text) (take size left) after (omega (arith, length-take-le size left (omega (arith, length-drop place room)))))
+      ∙ ap (drop (length text)) (take-append-drop size left)
+      ∙ drop-drop (length text) place room
 
-  pub put_over-front : take place room ++ (moved ++ after) ≡ take place room ++ take count block ++ drop (place + length (take count block)) room
-  put_over-front =
-      let front = take count block in
+  pub put_over-text : take place room ++ (moved ++ after) ≡ take place room ++ text ++ drop (place + length text) room
+  put_over-text =
       ap (λ l. take place room ++ (l ++ after)) are
-      ∙ ap (λ l. take place room ++ l) (append_assoc front (drop count there) after ∙ ap (λ l. front ++ l) behind)
-      ∙ sym (append_assoc (take place room) front (drop (place + count) room))
-      ∙ ap (λ n. take place room ++ front ++ drop (place + n) room) (sym (length-take-le count block all))
+      ∙ ap (λ l. take place room ++ l) (append_assoc text (drop (length text) there) after ∙ ap (λ l. text ++ l) behind)
+      ∙ sym (append_assoc (take place room) text (drop (place + length text) room))

@@ -48,7 +48,7 @@ impl<'a> LentBytes<'a> {
     /// Holds as many of these bytes as there is room for, which is not for all, and answers how many: `None` where
     /// there is no room. It is out of line, since mostly there is room for all.
     #[inline(never)]
-    fn hold_front(&mut self, bytes: &[u8]) -> Option<usize>
+    fn hold_fitting(&mut self, bytes: &[u8]) -> Option<usize>
         requires over { limit_of self.old < length (held_in self.old) + length bytes.now }
         ensures within { IfSome result (λ count. count ≤ length bytes.now) }
         ensures some { IfSome result (λ count. 0 < count) }
@@ -88,7 +88,7 @@ impl<'a> Sink for LentBytes<'a> {
     #[inline]
     fn write(&mut self, bytes: &[u8]) -> Option<usize> {
         if bytes.len() > self.limit - self.written {
-            return self.hold_front(bytes);
+            return self.hold_fitting(bytes);
         }
         self.hold(bytes);
         Some(bytes.len())
@@ -99,8 +99,8 @@ impl<'a> Sink for LentBytes<'a> {
     }
 }
 
-/// Writes bytes to the front of the room, and answers how many they are.
-pub fn put_front(room: &mut [u8], bytes: &[u8]) -> usize
+/// Writes bytes to the start of the room, which has room for all, and answers how many they are.
+pub fn put_at_start(room: &mut [u8], bytes: &[u8]) -> usize
     requires { length bytes.now ≤ length room.old }
     ensures length { result ≡ length bytes.now }
     ensures written { room.new ≡ bytes.now ++ drop (length bytes.now) room.old }

@@ -7,7 +7,7 @@ ghost use Rattle.strip_pieces.specs.Feed.{least_room, most_text, Feeds, IsTaken,
 
 use crate::slice_writer::SliceWriter;
 use anstyle_parse::{Parser, Utf8Parser};
-use stream_state::{Fed, StreamState, put_front};
+use stream_state::{Fed, StreamState, put_at_start};
 
 /// U+FFFD.
 const REPLACEMENT: [u8; 3] = [0xEF, 0xBF, 0xBD];
@@ -65,7 +65,7 @@ pub fn end(state: &mut StreamState, room: &mut [u8]) -> Option<usize>
     let is_begun = state.is_in_char();
     *state = StreamState::new();
     if is_begun {
-        Some(put_front(room, &REPLACEMENT))
+        Some(put_at_start(room, &REPLACEMENT))
     } else {
         Some(0)
     }

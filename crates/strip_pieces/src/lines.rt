@@ -5,7 +5,7 @@ ghost use Rattle.strip_pieces.specs.SliceWriter.{Puts};
 ghost use Rattle.strip_pieces.specs.Lines.{held_in, StandsForText, Feeds, Refuses, Ends, RefusesEnd};
 
 use crate::slice_writer::SliceWriter;
-use stream_state::{Fed, put_front};
+use stream_state::{Fed, put_at_start};
 
 /// A carriage return.
 const RETURN: u8 = b'\r';
@@ -71,7 +71,7 @@ impl LineState {
         let waits = self.waits == 1;
         *self = LineState::new();
         if waits {
-            Some(put_front(room, &[RETURN]))
+            Some(put_at_start(room, &[RETURN]))
         } else {
             Some(0)
         }

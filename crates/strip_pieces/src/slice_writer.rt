@@ -1,10 +1,10 @@
 //! The performer that writes inert text into the caller's room.
-ghost use Rattle.std.specs.Prelude.{◌≡◌, ◌≤◌, ◌-◌, ◌∷◌, [], length, take, IsUtf8};
+ghost use Rattle.std.specs.Prelude.{◌≡◌, ◌-◌, ◌∷◌, [], length, IsUtf8};
 ghost use Rattle.anstyle_parse.specs.Stream.Texts.{layout_calls};
 ghost use Rattle.ansi_strip.specs.Inert.{inert_text};
 
-use ansi_strip::{is_clear, is_clear_front, is_driving, is_layout, split_at_driving};
-use anstyle_parse::{Params, Perform, PerformText};
+use ansi_strip::{is_clear, is_clear_padded, is_driving, is_layout, split_at_driving};
+use anstyle_parse::{Padded, Params, Perform, PerformText};
 use std::str;
 use stream_state::put_over;
 
@@ -66,20 +66,19 @@ impl<'a> SliceWriter<'a> {
         }
     }
 
-    /// The first `count` of sixteen bytes more. Where there is room for the whole chunk, it is put whole: what the room
-    /// has after them is put where it was.
+    /// Up to sixteen bytes more. Where there is room for a whole chunk, one is put: what the room has after the bytes is
+    /// put where it was.
     #[inline(always)]
-    fn put_front(&mut self, chunk: &[u8; 16], count: usize)
-        requires { count ≤ length chunk.now }
-        ensures { Puts (take count chunk.now) self.old self.new }
+    fn put_padded(&mut self, bytes: &Padded<'_>)
+        ensures { Puts bytes.now self.old self.new }
     {
         let start = self.written;
         if self.into.len() < CHUNK || start > self.into.len() - CHUNK {
-            self.put_bytes(&chunk[..count]);
+            self.put_bytes(bytes.as_bytes());
             return;
         }
-        put_over(&mut self.into[start..start + CHUNK], chunk, count);
-        self.written = start + count;
+        put_over(&mut self.into[start..start + CHUNK], bytes);
+        self.written = start + bytes.len();
     }
 
     /// A text in parts: what stands between the characters that drive a terminal.
@@ -160,11 +159,11 @@ impl<'a> PerformText for SliceWriter<'a> {
     }
 
     #[inline(always)]
-    fn print_front(&mut self, chunk: &[u8; 16], count: usize) {
-        if is_clear_front(chunk, count) {
-            self.put_front(chunk, count);
+    fn print_padded(&mut self, text: &Padded<'_>) {
+        if is_clear_padded(text) {
+            self.put_padded(text);
         } else {
-            self.put_parts_of(&chunk[..count]);
+            self.put_parts_of(text.as_bytes());
         }
     }
 

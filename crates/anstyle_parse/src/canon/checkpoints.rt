@@ -60,7 +60,7 @@ fn put_checkpoint<W: Sink>(output: &mut Output<W>, parser: &Parser)
 {
     match parser.state() {
         State::Ground | State::Anywhere => {}
-        State::Utf8 => put_front(output, parser.accumulator().front()),
+        State::Utf8 => put_begun_character(output, parser.accumulator().front()),
         State::Escape => output.put(b"\x1B"),
         State::EscapeIntermediate => {
             output.put(b"\x1B");
@@ -90,7 +90,7 @@ fn put_checkpoint<W: Sink>(output: &mut Output<W>, parser: &Parser)
 }
 
 /// Writes the bytes of a character that is begun.
-fn put_front<W: Sink>(output: &mut Output<W>, front: Front)
+fn put_begun_character<W: Sink>(output: &mut Output<W>, front: Front)
     ensures { Adds W.Sink (bytes_of front) output.old output.new }
 {
     match front {

@@ -9,6 +9,7 @@ ghost use Rattle.anstyle_parse.specs.Io.Output.{writer_in, fault_in, Adds, Finis
 use super::parts::{split_marker, text_if};
 use crate::controls::{ESCAPE, STRING_TERMINATOR};
 use crate::io::{CallWriter, Fault, Output, Sink, WritingPerformer};
+use crate::padded::Padded;
 use crate::params::Params;
 use crate::perform::{Perform, PerformText};
 
@@ -145,8 +146,8 @@ impl<W: Sink> PerformText for CanonWriter<W> {
     }
 
     #[inline(always)]
-    fn print_front(&mut self, chunk: &[u8; 16], count: usize) {
-        self.output.put_front(chunk, count);
+    fn print_padded(&mut self, text: &Padded<'_>) {
+        self.output.put_padded(text);
     }
 
     ghost receives_none = { AddsTexts-none W.Sink output_of call_text };

@@ -7,6 +7,7 @@ ghost use Rattle.anstyle_parse.specs.declared.io.Fault.TheVariants.{Write as AWr
 
 use super::held::Held;
 use super::{Fault, Sink};
+use crate::padded::Padded;
 
 /// A [`Sink`] in front of another that holds bytes back, up to 8192, and hands them on
 /// together. It takes no memory.
@@ -156,23 +157,23 @@ impl<W: Sink> Sink for Buffer<W> {
         self.write_through(bytes)
     }
 
-    /// The same with the front of a block, which is copied whole where the bytes can wait.
+    /// The same with a text, of which a whole chunk is copied where it can wait.
     #[inline(always)]
-    fn write_front(&mut self, chunk: &[u8; 16], count: usize) -> Option<usize>
-        requires within_chunk { count ≤ 16 }
-        ensures within { IfSome result (λ taken. taken ≤ count) }
-        ensures some { IfSome result (λ taken. 0 < count → 0 < taken) }
-        ensures taken { TakesFrom W.Sink (take count chunk.now) self.old self.new result }
-        ensures held { CanWait self.old (take count chunk.now)
-            → HoldsBack (take count chunk.now) self.old self.new × (result ≡ Some count) }
-        ensures lines_at_once { OnSome result (IsTrue (is_by_line self.old) → EndsLine (take count chunk.now)
+    fn write_padded(&mut self, text: &Padded<'_>) -> Option<usize>
+        ensures within { IfSome result (λ count. count ≤ length text.now) }
+        ensures some { IfSome result (λ count. 0 < length text.now → 0 < count) }
+        ensures taken { TakesFrom W.Sink text.now self.old self.new result }
+        ensures held { CanWait self.old text.now → HoldsBack text.now self.old self.new
+            × (result ≡ Some (length text.now)) }
+        ensures lines_at_once { OnSome result (IsTrue (is_by_line self.old) → EndsLine text.now
             → held_back self.new ≡ []) }
     {
-        let ends_line = self.by_line && chunk[..count].last() == Some(&b'\n');
-        if !ends_line && self.held.hold_front(chunk, count) {
-            return Some(count);
+        let all = text.as_bytes();
+        let ends_line = self.by_line && all.last() == Some(&b'\n');
+        if !ends_line && self.held.hold_padded(text) {
+            return Some(all.len());
         }
-        self.write_through(&chunk[..count])
+        self.write_through(all)
     }
 
     /// Hands on what is held back, and flushes the writer behind it where that went well. What

@@ -7,6 +7,7 @@ ghost use Rattle.anstyle_parse.specs.declared.io.Fault.{Fault as AFault};
 ghost use Rattle.anstyle_parse.specs.declared.io.Fault.TheVariants.{Write as AWrite, Flush as AFlush};
 
 use super::Fault;
+use crate::padded::Padded;
 use std::io;
 use std::io::{Read, Write};
 
@@ -65,20 +66,19 @@ pub trait Sink {
         ensures failed { IfNone result (IsTrue (has_failed self.new)) }
         ensures was_a_write { IfNone result (failed_as self.new AWrite) };
 
-    /// The same with the first `count` bytes of a block, which a writer may copy whole: then the copy
-    /// needs no test of how many there are.
-    fn write_front(&mut self, chunk: &[u8; 16], count: usize) -> Option<usize>
-        requires within_chunk { count ≤ 16 }
-        ensures within { IfSome result (λ taken. taken ≤ count) }
-        ensures some { IfSome result (λ taken. 0 < count → 0 < taken) }
-        ensures passed { IfSome result (λ taken. Appends (contents self.old) (contents self.new)
-            (take taken (take count chunk.now))) }
+    /// The same with a text of which a writer may copy a whole chunk: then the copy needs no test of how many bytes
+    /// there are.
+    fn write_padded(&mut self, text: &Padded<'_>) -> Option<usize>
+        ensures within { IfSome result (λ count. count ≤ length text.now) }
+        ensures some { IfSome result (λ count. 0 < length text.now → 0 < count) }
+        ensures passed { IfSome result (λ count. Appends (contents self.old) (contents self.new)
+            (take count text.now)) }
         ensures not_failed { OnSome result (has_failed self.new ≡ has_failed self.old) }
         ensures nothing_passed { IfNone result (Keeps (contents self.old) (contents self.new)) }
         ensures failed { IfNone result (IsTrue (has_failed self.new)) }
         ensures was_a_write { IfNone result (failed_as self.new AWrite) }
     {
-        self.write(&chunk[..count])
+        self.write(text.as_bytes())
     }
 
     /// Sees to it that what was taken reaches where it is to go, and answers whether that

@@ -1,7 +1,8 @@
 //! The bytes that a buffer holds back.
-ghost use Rattle.std.specs.Prelude.{◌≡◌, ◌≤◌, ◌+◌, ◌++◌, ◌↔◌, ◌==◌, [], length, take, drop, IsTrue};
+ghost use Rattle.std.specs.Prelude.{◌≡◌, ◌≤◌, ◌+◌, ◌++◌, ◌↔◌, ◌==◌, [], length, drop, IsTrue};
 ghost use Rattle.std.specs.Bool.{OnTrue, OnFalse};
 
+use crate::padded::Padded;
 use std::simd::prelude::*;
 
 /// The bytes that are held at most.
@@ -71,20 +72,19 @@ impl Held {
         true
     }
 
-    /// The same with the first `count` bytes of a block. The block is copied whole: what stands after
-    /// the bytes that are held is none of them.
+    /// The same with a text, by a copy of its chunk: what stands after the bytes that are held is none of them.
     #[inline(always)]
-    pub(super) fn hold_front(&mut self, block: &[u8; BLOCK], count: usize) -> bool
-        requires { count ≤ 16 }
-        ensures fits { IsTrue result ↔ (length (held_in self.old) + count ≤ buffer_capacity) }
-        ensures held { OnTrue result (held_in self.new ≡ held_in self.old ++ take count block.now) }
+    pub(super) fn hold_padded(&mut self, text: &Padded<'_>) -> bool
+        ensures fits { IsTrue result ↔ (length (held_in self.old) + length text.now ≤ buffer_capacity) }
+        ensures held { OnTrue result (held_in self.new ≡ held_in self.old ++ text.now) }
         ensures same { OnFalse result (held_in self.new ≡ held_in self.old) }
     {
-        if count > self.room() {
+        if text.len() > self.room() {
             return false;
         }
-        u8x16::from_array(*block).copy_to_slice(&mut self.bytes[self.len..self.len + BLOCK]);
-        self.len += count;
+        let place = &mut self.bytes[self.len..self.len + BLOCK];
+        u8x16::from_array(*text.chunk()).copy_to_slice(place);
+        self.len += text.len();
         true
     }
 

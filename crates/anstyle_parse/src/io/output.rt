@@ -1,10 +1,11 @@
 //! The writing that performers share.
-ghost use Rattle.std.specs.Prelude.{◌≡◌, ◌≤◌, ◌∷◌, [], ℕ, take, List, decimal, if◌then◌else◌, None, Some, Ok, Err, IsNone, OnSome, OnOk, OnErr, IsTrue, encode_utf8};
+ghost use Rattle.std.specs.Prelude.{◌≡◌, ◌∷◌, [], ℕ, List, decimal, if◌then◌else◌, None, Some, Ok, Err, IsNone, OnSome, OnOk, OnErr, IsTrue, encode_utf8};
 ghost use Rattle.std.specs.Io.KnownBytes.{Keeps};
 ghost use Rattle.anstyle_parse.specs.Stream.Groups.{fields_text, groups_text};
 ghost use Rattle.anstyle_parse.specs.Io.Output.{Adds};
 
 use super::{Fault, Sink};
+use crate::padded::Padded;
 use crate::params::Params;
 
 /// A writer, and the fault that stopped it.
@@ -47,18 +48,18 @@ impl<W: Sink> Output<W> {
         }
     }
 
-    /// The same with the first `count` bytes of a block, which the writer may copy whole.
+    /// The same with a text that the writer may copy by a whole chunk.
     #[inline(always)]
-    pub fn put_front(&mut self, chunk: &[u8; 16], count: usize)
-        requires { count ≤ 16 }
-        ensures { Adds W.Sink (take count chunk.now) self.old self.new }
+    pub fn put_padded(&mut self, text: &Padded<'_>)
+        ensures { Adds W.Sink text.now self.old self.new }
     {
-        if self.fault.is_some() || count == 0 {
+        let all = text.as_bytes();
+        if self.fault.is_some() || all.is_empty() {
             return;
         }
-        match self.writer.write_front(chunk, count) {
-            Some(taken) if taken == count => {}
-            Some(taken) => self.put_rest(&chunk[taken..count]),
+        match self.writer.write_padded(text) {
+            Some(taken) if taken == all.len() => {}
+            Some(taken) => self.put_rest(&all[taken..]),
             None => self.fault = Some(Fault::Write),
         }
     }

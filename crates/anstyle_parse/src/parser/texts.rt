@@ -9,6 +9,7 @@ use super::Parser;
 use crate::accumulator::Utf8Parser;
 use crate::chunks::{CHUNK, lanes, layouts, outside};
 use crate::layout::is_layout;
+use crate::padded::Padded;
 use crate::perform::PerformText;
 use crate::state::State;
 use crate::utf8::{Front, whole};
@@ -148,7 +149,7 @@ impl Parser<Utf8Parser> {
     /// Takes bytes, as [`advance_all`](Parser::advance_all) does, but hands characters that are
     /// printed one after another, with tabs, line feeds and carriage returns among them, on as one
     /// text, as far as they stand in `bytes`: by [`PerformText::print_with_layout`], or, where the
-    /// text ends at a control within sixteen bytes, by [`PerformText::print_front`].
+    /// text ends at a control within sixteen bytes, by [`PerformText::print_padded`].
     ///
     /// A stream may come in any pieces, by any mixture of this call and the others. A character
     /// that is begun in one piece and ends in another is printed by itself.
@@ -211,7 +212,7 @@ impl Parser<Utf8Parser> {
         if let Some((chunk, _)) = bytes.split_first_chunk::<CHUNK>() {
             let count = text_count(chunk);
             if are_ended(chunk, count) && self.is_between_characters() {
-                performer.print_front(chunk, count);
+                performer.print_padded(&Padded::new(chunk, count));
                 let (_, further) = bytes.split_at(count);
                 return further;
             }

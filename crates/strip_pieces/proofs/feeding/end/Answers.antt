@@ -9,8 +9,8 @@ use Rattle.strip_pieces.proofs.feeding.end.Goals as goal
 
 pub returns-then-is_begun-clause-ended : goal.returns-then-is_begun-clause-ended
 returns-then-is_begun-clause-ended c =
-    Ends-of c.args.state.now c.new.result c.args.room.now c.put_front.new.room (0xEF ∷ 0xBF ∷ 0xBD ∷ []) c.put_front.result (print replacement ∷ [])
-    (omega arith) (lit≤ tt) c.put_front.ensures.length c.put_front.ensures.written inert_text-replacement
+    Ends-of c.args.state.now c.new.result c.args.room.now c.put_at_start.new.room (0xEF ∷ 0xBF ∷ 0xBD ∷ []) c.put_at_start.result (print replacement ∷ [])
+    (omega arith) (lit≤ tt) c.put_at_start.ensures.length c.put_at_start.ensures.written inert_text-replacement
     (λ before stands. EndsLog-in before ((c.is_in_char-is_begun.ensures.stream (as_read before) stands).0 c.if-is_begun.true)) c.new.ensures.begins_log
 
 pub returns-else-is_begun-clause-ended : goal.returns-else-is_begun-clause-ended

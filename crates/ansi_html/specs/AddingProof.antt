@@ -3,6 +3,7 @@
 use Rattle.std.proofs.Common.{◌≡◌, List, [], ◌∷◌, ◌++◌, refl, sym, ap, ap₂, ◌∙◌, subst, append_assoc, append-nil}
 use Rattle.anstyle_parse.specs.declared.io.devices.Sink.{Ghosts as SinkOf}
 use Rattle.anstyle_parse.specs.Stream.Call.{Call}
+use Rattle.anstyle_parse.specs.Stream.Texts.{FollowsCalls}
 use Rattle.anstyle_parse.specs.Io.Output.{Adds}
 use Rattle.anstyle_parse.proofs.Written.Output.{Adds-nil, Adds-append}
 use Rattle.ansi_html.specs.declared.scheme.Styling.{Styling}
@@ -46,6 +47,10 @@ module _ {W : Type 0} (sink : SinkOf W) where
             (ap₂ (λ it after. html_from styling at calls ++ html_from it after more) first.styling first.standing ∙ sym (html_from-append styling calls more at))
             (Adds-append sink (html_from styling at calls) (text_from middle more) (output_of old) (output_of middle) (output_of new) first.added second.added);
       }
+
+  -- what lists of calls do to it agrees with what each call means
+  pub TakesAll-follows : FollowsCalls (Takes sink) (TakesAll sink)
+  TakesAll-follows = record { none = TakesAll-none; one = TakesAll-one; more = TakesAll-more }
 
   -- the end of the element that is open after the calls
   pub ending_from-taken : (old new : HtmlWriter W) (calls : List Call) → TakesAll sink old calls new → ending_from new [] ≡ ending_from old calls

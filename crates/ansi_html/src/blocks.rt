@@ -111,7 +111,7 @@ impl<W: Sink> Perform for BlocksWriter<W> {
 /// What stands between line feeds, tabs and carriage returns is written at once.
 impl<W: Sink> PerformText for BlocksWriter<W> {
     ghost use Rattle.ansi_html.specs.Blocker.{TakesCalls};
-    ghost use Rattle.ansi_html.specs.BlockingProof.{TakesCalls-none, TakesCalls-one, TakesCalls-more};
+    ghost use Rattle.ansi_html.specs.BlockingProof.{TakesCalls-follows};
 
     ghost receives = { TakesCalls W.Sink };
 
@@ -122,11 +122,7 @@ impl<W: Sink> PerformText for BlocksWriter<W> {
         }
     }
 
-    ghost receives_none = { TakesCalls-none W.Sink };
-
-    ghost receives_one = { TakesCalls-one W.Sink };
-
-    ghost receives_more = { TakesCalls-more W.Sink };
+    ghost follows = { TakesCalls-follows W.Sink };
 }
 
 /// What is still to be written is the end of the elements that are open, and of the block around them.

@@ -108,7 +108,7 @@ impl<W: Sink> Perform for LinesWriter<W> {
 /// What stands between line feeds, tabs and carriage returns is written at once.
 impl<W: Sink> PerformText for LinesWriter<W> {
     ghost use Rattle.ansi_html.specs.Liner.{TakesCalls};
-    ghost use Rattle.ansi_html.specs.LiningProof.{TakesCalls-none, TakesCalls-one, TakesCalls-more};
+    ghost use Rattle.ansi_html.specs.LiningProof.{TakesCalls-follows};
 
     ghost receives = { TakesCalls W.Sink };
 
@@ -119,11 +119,7 @@ impl<W: Sink> PerformText for LinesWriter<W> {
         }
     }
 
-    ghost receives_none = { TakesCalls-none W.Sink };
-
-    ghost receives_one = { TakesCalls-one W.Sink };
-
-    ghost receives_more = { TakesCalls-more W.Sink };
+    ghost follows = { TakesCalls-follows W.Sink };
 }
 
 /// What is still to be written is the end of the elements that are open.

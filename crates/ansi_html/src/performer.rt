@@ -617,7 +617,7 @@ impl<W: Sink> Perform for HtmlWriter<W> {
 /// what comes after 0D begins with a line break, unless it is 0A.
 impl<W: Sink> PerformText for HtmlWriter<W> {
     ghost use Rattle.ansi_html.specs.Writer.{TakesAll};
-    ghost use Rattle.ansi_html.specs.AddingProof.{TakesAll-none, TakesAll-one, TakesAll-more};
+    ghost use Rattle.ansi_html.specs.AddingProof.{TakesAll-follows};
 
     ghost receives = { TakesAll W.Sink };
 
@@ -643,11 +643,7 @@ impl<W: Sink> PerformText for HtmlWriter<W> {
         }
     }
 
-    ghost receives_none = { TakesAll-none W.Sink };
-
-    ghost receives_one = { TakesAll-one W.Sink };
-
-    ghost receives_more = { TakesAll-more W.Sink };
+    ghost follows = { TakesAll-follows W.Sink };
 }
 
 /// What is still to be written is the end of the element that is open.

@@ -2,6 +2,7 @@
 -- Calls that a screen, alone or with what takes its rows, receives one after another are one list of calls.
 use Rattle.std.proofs.Common.{◌≡◌, ℕ, ◌<◌, IsTrue, arith, List, [], ◌∷◌, ◌++◌, refl, sym, ap, ◌∙◌, subst, append_assoc, append-nil}
 use Rattle.anstyle_parse.specs.Stream.Call.{Call}
+use Rattle.anstyle_parse.specs.Stream.Texts.{FollowsCalls}
 use Rattle.anstyle_parse.proofs.Characters.Encoding.{within_parts}
 use Rattle.ansi_screen.specs.declared.cell.Cell.{Cell}
 use Rattle.ansi_screen.specs.After.{State, after, after_all}
@@ -29,6 +30,10 @@ becomes-one old call new is = is
 pub becomes-more : (old middle new : State) (calls more : List Call) → Becomes old calls middle → Becomes middle more new → Becomes old (calls ++ more) new
 becomes-more old middle new calls more first second =
     second ∙ (ap (after_all more) first ∙ sym (after_all-append calls more old))
+
+-- what lists of calls do to it agrees with what each call means
+pub becomes-follows : FollowsCalls (λ (old : State) call new. new ≡ after call old) Becomes
+becomes-follows = record { none = becomes-none; one = becomes-one; more = becomes-more }
 
 pub all_left-append : (calls more : List Call) (s : State) → all_left (calls ++ more) s ≡ all_left calls s ++ all_left more (after_all calls s)
 all_left-append [] more s = refl
@@ -61,6 +66,10 @@ module _ {R : Type 0} (takes : R → List Cell → R → Type 0) where
         (took-append (all_left calls (screen_of old)) (all_left more (after_all calls (screen_of old))) (taker_of old) (taker_of middle) (taker_of new)
         first.taken (subst (λ s. TakesRows takes (taker_of middle) (all_left more s) (taker_of new)) first.screen second.taken));
   }
+
+  -- what lists of calls do to it agrees with what each call means
+  pub scrolls-follows : FollowsCalls (Scrolls takes) (ScrollsAll takes)
+  scrolls-follows = record { none = scrolls-none; one = scrolls-one; more = scrolls-more }
 
   -- calls by which no row leaves
   pub scrolls-stays : (old new : Scrolled R) (calls : List Call) → screen_of new ≡ after_all calls (screen_of old) → taker_of new ≡ taker_of old

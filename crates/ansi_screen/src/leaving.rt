@@ -296,7 +296,7 @@ impl<R: TakeRow> Perform for Scrolling<R> {
 /// No row leaves by what comes into its cells at once.
 impl<R: TakeRow> PutRuns for Scrolling<R> {
     ghost use Rattle.ansi_screen.specs.Leaving.{ScrollsAll};
-    ghost use Rattle.ansi_screen.specs.TextsProof.{scrolls-none, scrolls-one, scrolls-more};
+    ghost use Rattle.ansi_screen.specs.TextsProof.{scrolls-follows};
 
     ghost receives = { ScrollsAll R.takes };
 
@@ -307,17 +307,13 @@ impl<R: TakeRow> PutRuns for Scrolling<R> {
         count
     }
 
-    ghost receives_none = { scrolls-none R.takes };
-
-    ghost receives_one = { scrolls-one R.takes };
-
-    ghost receives_more = { scrolls-more R.takes };
+    ghost follows = { scrolls-follows R.takes };
 }
 
 /// A text comes into its cells at once, as far as it is printed ASCII and rows have room for it.
 impl<R: TakeRow> PerformText for Scrolling<R> {
     ghost use Rattle.ansi_screen.specs.Leaving.{ScrollsAll};
-    ghost use Rattle.ansi_screen.specs.TextsProof.{scrolls-none, scrolls-one, scrolls-more};
+    ghost use Rattle.ansi_screen.specs.TextsProof.{scrolls-follows};
 
     ghost receives = { ScrollsAll R.takes };
 
@@ -325,9 +321,5 @@ impl<R: TakeRow> PerformText for Scrolling<R> {
         print_by_runs(self, text);
     }
 
-    ghost receives_none = { scrolls-none R.takes };
-
-    ghost receives_one = { scrolls-one R.takes };
-
-    ghost receives_more = { scrolls-more R.takes };
+    ghost follows = { scrolls-follows R.takes };
 }

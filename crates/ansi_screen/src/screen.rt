@@ -346,7 +346,7 @@ impl Perform for Screen {
 }
 
 impl PutRuns for Screen {
-    ghost use Rattle.ansi_screen.specs.TextsProof.{Becomes, becomes-none, becomes-one, becomes-more};
+    ghost use Rattle.ansi_screen.specs.TextsProof.{Becomes, becomes-follows};
 
     ghost receives = { Becomes };
 
@@ -354,16 +354,12 @@ impl PutRuns for Screen {
         self.put_run(run)
     }
 
-    ghost receives_none = { becomes-none };
-
-    ghost receives_one = { becomes-one };
-
-    ghost receives_more = { becomes-more };
+    ghost follows = { becomes-follows };
 }
 
 /// A text comes into its cells at once, as far as it is printed ASCII and rows have room for it.
 impl PerformText for Screen {
-    ghost use Rattle.ansi_screen.specs.TextsProof.{Becomes, becomes-none, becomes-one, becomes-more};
+    ghost use Rattle.ansi_screen.specs.TextsProof.{Becomes, becomes-follows};
 
     ghost receives = { Becomes };
 
@@ -372,9 +368,5 @@ impl PerformText for Screen {
         print_by_runs(self, text);
     }
 
-    ghost receives_none = { becomes-none };
-
-    ghost receives_one = { becomes-one };
-
-    ghost receives_more = { becomes-more };
+    ghost follows = { becomes-follows };
 }

@@ -1,8 +1,8 @@
 //! Texts on a screen: runs of printed ASCII come into their cells at once, and all else character by character.
-ghost use Rattle.std.specs.Prelude.{◌≤◌, List, [], ◌∷◌, ◌++◌, length, take};
+ghost use Rattle.std.specs.Prelude.{◌≤◌, List, length, take};
 ghost use Rattle.anstyle_parse.specs.Stream.Call.{Call};
 ghost use Rattle.anstyle_parse.specs.Stream.Items.{EachIs};
-ghost use Rattle.anstyle_parse.specs.Stream.Texts.{text_calls};
+ghost use Rattle.anstyle_parse.specs.Stream.Texts.{text_calls, FollowsCalls};
 ghost use Rattle.ansi_screen.specs.Laws.{printing};
 ghost use Rattle.ansi_screen.specs.Runs.{is_printed_ascii};
 
@@ -22,13 +22,7 @@ pub(crate) trait PutRuns: Perform {
         ensures put { receives self.old (printing (take result run.now)) self.new }
         ensures within { result ≤ length run.now };
 
-    ghost receives_none: { (performer : Self) → receives performer [] performer };
-
-    ghost receives_one: { (old : Self) (call : Call) (new : Self) → Self.means old call new
-        → receives old (call ∷ []) new };
-
-    ghost receives_more: { (old middle new : Self) (calls more : List Call)
-        → receives old calls middle → receives middle more new → receives old (calls ++ more) new };
+    ghost follows: { FollowsCalls Self.means receives };
 }
 
 /// Prints a text, run by run, with what stands between two runs. It stands in line where a text comes, since many are

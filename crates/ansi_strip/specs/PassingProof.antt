@@ -3,6 +3,7 @@
 use Rattle.std.proofs.Common.{Bool, true, false, cond, List, [], ◌∷◌, ◌++◌, filter, sym, subst}
 use Rattle.std.proofs.lemmas.List.Elements.{filter-append}
 use Rattle.anstyle_parse.specs.Stream.Call.{Call}
+use Rattle.anstyle_parse.specs.Stream.Texts.{FollowsCalls}
 use Rattle.ansi_strip.specs.declared.inert.Inert.{Inert}
 use Rattle.ansi_strip.specs.Inert.{is_inert}
 use Rattle.ansi_strip.specs.Passing.{performer_in, HandsOnWhere, HandsOn, ReceivesInert}
@@ -29,3 +30,12 @@ module _ {P : Type 0} (receives : P → List Call → P → Type 0) where
   receives-more join old middle new calls more first second =
       subst (λ (l : List Call). receives (performer_in old) l (performer_in new)) (sym (filter-append is_inert calls more))
       (join (performer_in old) (performer_in middle) (performer_in new) (filter is_inert calls) (filter is_inert more) first second)
+
+-- what lists of calls do to it agrees with what each call means
+pub receives-follows : {P : Type 0} (means : P → Call → P → Type 0) (receives : P → List Call → P → Type 0)
+    → FollowsCalls means receives → FollowsCalls (HandsOn means) (ReceivesInert receives)
+receives-follows means receives follows = record {
+  none = receives-none receives follows.none;
+  one = receives-one means receives follows.none follows.one;
+  more = receives-more receives follows.more;
+}

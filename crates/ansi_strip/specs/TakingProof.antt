@@ -5,6 +5,7 @@ use Rattle.std.specs.Prelude.{◌==◌, if◌then◌else◌}
 use Rattle.std.proofs.lemmas.Grind.{flat_map-append}
 use Rattle.anstyle_parse.specs.declared.io.devices.Sink.{Ghosts as SinkOf}
 use Rattle.anstyle_parse.specs.Stream.Call.{Call}
+use Rattle.anstyle_parse.specs.Stream.Texts.{FollowsCalls}
 use Rattle.anstyle_parse.specs.Io.Output.{Adds}
 use Rattle.anstyle_parse.proofs.Written.Output.{Adds-nil, Adds-append}
 use Rattle.ansi_strip.specs.declared.line_feeds.LineFeeds.{LineFeeds}
@@ -90,6 +91,11 @@ module _ {W : Type 0} (sink : SinkOf W) where
   TakesCalls-more old middle new calls more first second =
       subst (λ t. Takes sink old t new) (sym (flat_map-append stripped_call calls more))
       (Takes-append old middle new (stripped calls) (stripped more) first second)
+
+  -- what lists of calls do to it agrees with what each call means
+  pub TakesCalls-follows : FollowsCalls (λ (old : LineFeeds W) call new. Takes sink old (stripped_call call) new)
+      (λ old calls new. Takes sink old (stripped calls) new)
+  TakesCalls-follows = record { none = Takes-none; one = TakesCalls-one; more = TakesCalls-more }
 
   -- what is then to be written at the end
   pub ends-taken : (old : LineFeeds W) (calls : List Call) (new : LineFeeds W) → Takes sink old (stripped calls) new → ending_from new [] ≡ ending_from old calls

@@ -117,7 +117,7 @@ impl<P: PerformText> Inert<P> {
 /// A text without these characters is handed on as it is.
 impl<P: PerformText> PerformText for Inert<P> {
     ghost use Rattle.ansi_strip.specs.Passing.{ReceivesInert};
-    ghost use Rattle.ansi_strip.specs.PassingProof.{receives-none, receives-one, receives-more};
+    ghost use Rattle.ansi_strip.specs.PassingProof.{receives-follows};
 
     ghost receives = { ReceivesInert P.receives };
 
@@ -145,11 +145,7 @@ impl<P: PerformText> PerformText for Inert<P> {
         self.performer.passes_over_control_sequences()
     }
 
-    ghost receives_none = { receives-none P.receives P.receives_none };
-
-    ghost receives_one = { receives-one P.means P.receives P.receives_none P.receives_one };
-
-    ghost receives_more = { receives-more P.receives P.receives_more };
+    ghost follows = { receives-follows P.means P.receives P.follows };
 }
 
 /// What it writes is what the performer writes of the inert calls.

@@ -115,7 +115,7 @@ impl<W: Sink> Perform for LineFeeds<W> {
 /// A text is taken as it is, and so is layout.
 impl<W: Sink> PerformText for LineFeeds<W> {
     ghost use Rattle.ansi_strip.specs.LineWriter.{Takes};
-    ghost use Rattle.ansi_strip.specs.TakingProof.{Takes-none, TakesCalls-one, TakesCalls-more};
+    ghost use Rattle.ansi_strip.specs.TakingProof.{TakesCalls-follows};
 
     ghost receives = { λ old calls new. Takes W.Sink old (stripped calls) new };
 
@@ -135,11 +135,7 @@ impl<W: Sink> PerformText for LineFeeds<W> {
         true
     }
 
-    ghost receives_none = { Takes-none W.Sink };
-
-    ghost receives_one = { TakesCalls-one W.Sink };
-
-    ghost receives_more = { TakesCalls-more W.Sink };
+    ghost follows = { TakesCalls-follows W.Sink };
 }
 
 /// What waits at the end is written.

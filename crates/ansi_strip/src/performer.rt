@@ -57,7 +57,7 @@ impl<W: Sink> Perform for Stripper<W> {
 /// A text is left as it is, and so is layout.
 impl<W: Sink> PerformText for Stripper<W> {
     ghost use Rattle.anstyle_parse.specs.Io.Output.{AddsTexts};
-    ghost use Rattle.anstyle_parse.specs.Io.AddingProof.{AddsTexts-none, AddsTexts-one, AddsTexts-more};
+    ghost use Rattle.anstyle_parse.specs.Io.AddingProof.{AddsTexts-follows};
     ghost use Rattle.ansi_strip.specs.Stripper.{output_of};
 
     ghost receives = { AddsTexts W.Sink output_of stripped_call };
@@ -83,11 +83,7 @@ impl<W: Sink> PerformText for Stripper<W> {
         true
     }
 
-    ghost receives_none = { AddsTexts-none W.Sink output_of stripped_call };
-
-    ghost receives_one = { AddsTexts-one W.Sink output_of stripped_call };
-
-    ghost receives_more = { AddsTexts-more W.Sink output_of stripped_call };
+    ghost follows = { AddsTexts-follows W.Sink output_of stripped_call };
 }
 
 /// Stripped text has no ending.

@@ -2,7 +2,7 @@
 ghost use Rattle.std.specs.Prelude.{map, ⊤, ℕ, Bool, IsTrue, List, [], ◌∷◌, ◌++◌};
 ghost use Rattle.anstyle_parse.specs.Stream.Call.{Call, print, execute, hook, put, unhook, osc_dispatch, csi_dispatch, esc_dispatch};
 ghost use Rattle.anstyle_parse.specs.Stream.Items.{EachIs};
-ghost use Rattle.anstyle_parse.specs.Stream.Texts.{text_calls, layout_calls};
+ghost use Rattle.anstyle_parse.specs.Stream.Texts.{text_calls, layout_calls, FollowsCalls};
 ghost use Rattle.anstyle_parse.specs.Views.Texts.{is_text_byte};
 
 use crate::layout::split_at_layout;
@@ -167,12 +167,5 @@ pub trait PerformText: Perform {
 
     // No call leaves it as it is; one does what it means; a list and then another do what both
     // do, joined.
-    ghost receives_none: { (performer : Self) → receives performer [] performer };
-
-    ghost receives_one: { (old : Self) (call : Call) (new : Self) → Self.means old call new
-        → receives old (call ∷ []) new };
-
-    ghost receives_more: { (old middle new : Self) (calls more : List Call)
-        → receives old calls middle → receives middle more new
-        → receives old (calls ++ more) new };
+    ghost follows: { FollowsCalls Self.means receives };
 }

@@ -6,6 +6,7 @@ use Rattle.std.proofs.lemmas.List.{take_at}
 use Rattle.std.proofs.lemmas.Grind.{flat_map-append}
 use Rattle.std.proofs.lemmas.Slice.{drop-append-drop}
 use Rattle.anstyle_parse.specs.Stream.Call.{Call}
+use Rattle.anstyle_parse.specs.Stream.Texts.{FollowsCalls}
 use Rattle.event_pieces.specs.declared.event.Event.{Event}
 use Rattle.event_pieces.specs.declared.writer.EventWriter.{EventWriter}
 use Rattle.event_pieces.specs.Event.{records_of, call_bytes, calls_bytes}
@@ -113,3 +114,7 @@ Adds-more old middle new calls more first second = record {
   few = omega (arith, length-append calls more, first.few, second.few);
   added = has_both old middle new calls more first second;
 }
+
+-- what lists of calls do to it agrees with what each call means
+pub Adds-follows : FollowsCalls (λ (old : EventWriter) call new. Adds (call ∷ []) old new) (λ old calls new. Adds calls old new)
+Adds-follows = record { none = Adds-none; one = Adds-one; more = Adds-more }

@@ -328,7 +328,7 @@ impl<'a> Perform for EventWriter<'a> {
 /// A text is one record. Layout in it is executed, and divides it.
 impl<'a> PerformText for EventWriter<'a> {
     ghost use Rattle.event_pieces.specs.Writer.{Adds};
-    ghost use Rattle.event_pieces.specs.AddingProof.{Adds-none, Adds-one, Adds-more};
+    ghost use Rattle.event_pieces.specs.AddingProof.{Adds-follows};
 
     ghost receives = { λ old calls new. Adds calls old new };
 
@@ -350,9 +350,5 @@ impl<'a> PerformText for EventWriter<'a> {
         }
     }
 
-    ghost receives_none = { Adds-none };
-
-    ghost receives_one = { Adds-one };
-
-    ghost receives_more = { Adds-more };
+    ghost follows = { Adds-follows };
 }

@@ -2,6 +2,7 @@
 -- Calls that are taken one after another are one list of calls.
 use Rattle.std.proofs.Common.{◌≡◌, ℕ, List, [], ◌∷◌, ◌++◌, refl, sym, ap, ap₂, ◌∙◌, subst, append_assoc, append-nil}
 use Rattle.anstyle_parse.specs.Stream.Call.{Call}
+use Rattle.anstyle_parse.specs.Stream.Texts.{FollowsCalls}
 use Rattle.html_urls.specs.declared.linking.Linking.{Linking}
 use Rattle.html_urls.specs.Linked.{Standing, handed, standing_after, handed_from, standing_at_end, left_from}
 use Rattle.html_urls.specs.Resumed.{Resumes}
@@ -44,6 +45,10 @@ module _ {P : Type 0} (receives : P → List Call → P → Type 0) where
             (join (performer_in old) (performer_in middle) (performer_in new) (handed_from at calls) then first.received
             (subst (λ (it : Standing). receives (performer_in middle) (handed_from it more) (performer_in new)) first.standing second.received));
       }
+
+  -- what lists of calls do to it agrees with what each call means
+  pub Takes-follows : (means : P → Call → P → Type 0) → FollowsCalls means receives → FollowsCalls (TakesCall receives) (Takes receives)
+  Takes-follows means follows = record { none = Takes-none follows.none; one = Takes-one; more = Takes-more follows.more }
 
 -- What is then still to be written is what was.
 pub ends-taken : {P : Type 0} {receives : P → List Call → P → Type 0} {written : P → List Call → List ℕ}

@@ -274,7 +274,7 @@ impl<P: PerformText> Perform for Linking<P> {
 /// Text in which no address can begin is handed on at once.
 impl<P: PerformText> PerformText for Linking<P> {
     ghost use Rattle.html_urls.specs.Linker.{Takes};
-    ghost use Rattle.html_urls.specs.LinkerProof.{Takes-none, Takes-one, Takes-more};
+    ghost use Rattle.html_urls.specs.LinkerProof.{Takes-follows};
 
     ghost receives = { Takes P.receives };
 
@@ -286,9 +286,5 @@ impl<P: PerformText> PerformText for Linking<P> {
         }
     }
 
-    ghost receives_none = { Takes-none P.receives P.receives_none };
-
-    ghost receives_one = { Takes-one P.receives };
-
-    ghost receives_more = { Takes-more P.receives P.receives_more };
+    ghost follows = { Takes-follows P.means P.receives P.follows };
 }

@@ -71,5 +71,5 @@ impl<P: Resumable<W>, W: Sink> WritingPerformer<W> for Linking<P> {
 
     ghost adds = { λ old calls new taken. P.adds (performer_in old) _ (performer_in new) taken.received };
 
-    ghost ends = { λ old calls new taken _. ends-taken P.goes_on P.receives_none old calls new taken };
+    ghost ends = { λ old calls new taken _. ends-taken P.goes_on P.follows.none old calls new taken };
 }

@@ -122,16 +122,12 @@ impl<W: Sink> Perform for LogWriter<W> {
 /// A text is a line for each of its characters.
 impl<W: Sink> PerformText for LogWriter<W> {
     ghost use Rattle.anstyle_parse.specs.Io.Output.{AddsTexts};
-    ghost use Rattle.anstyle_parse.specs.Io.AddingProof.{AddsTexts-none, AddsTexts-one, AddsTexts-more};
+    ghost use Rattle.anstyle_parse.specs.Io.AddingProof.{AddsTexts-follows};
     ghost use Rattle.parselog.specs.Log.{output_of};
 
     ghost receives = { AddsTexts W.Sink output_of line };
 
-    ghost receives_none = { AddsTexts-none W.Sink output_of line };
-
-    ghost receives_one = { AddsTexts-one W.Sink output_of line };
-
-    ghost receives_more = { AddsTexts-more W.Sink output_of line };
+    ghost follows = { AddsTexts-follows W.Sink output_of line };
 }
 
 /// The lines have no ending.

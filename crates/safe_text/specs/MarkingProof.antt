@@ -4,6 +4,7 @@ use Rattle.std.specs.Str.{encode_utf8_all}
 use Rattle.std.proofs.Common.{◌≡◌, List, [], ◌∷◌, ◌++◌, refl, sym, ap, ap₂, ◌∙◌, subst, append_assoc, append-nil}
 use Rattle.anstyle_parse.specs.declared.io.devices.Sink.{Ghosts as SinkOf}
 use Rattle.anstyle_parse.specs.Stream.Call.{Call}
+use Rattle.anstyle_parse.specs.Stream.Texts.{FollowsCalls}
 use Rattle.safe_text.specs.declared.marking.MarkingWriter.{MarkingWriter}
 use Rattle.safe_text.specs.Safe.{safe_from}
 use Rattle.safe_text.specs.Decided.{decided_from, waiting, last_from}
@@ -38,6 +39,10 @@ module _ {W : Type 0} (sink : SinkOf W) where
             (Takes-append sink (writer_in old) (writer_in middle) (writer_in new) (marked_from at calls) (marked_from (hiding_from at calls) more) first.taken then_taken);
         hiding = second.hiding ∙ (ap (λ h. hiding_from h more) first.hiding ∙ sym (hiding-append at calls more));
       }
+
+  -- what lists of calls do to it agrees with what each call means
+  pub TakesMarked-follows : FollowsCalls (λ (old : MarkingWriter W) call new. TakesMarked sink old (call ∷ []) new) (TakesMarked sink)
+  TakesMarked-follows = record { none = TakesMarked-none; one = λ _ _ _ taken. taken; more = TakesMarked-more }
 
   -- what is then to be written at the end
   pub ends-marked : (old : MarkingWriter W) (calls : List Call) (new : MarkingWriter W) → TakesMarked sink old calls new

@@ -9,6 +9,7 @@ use Rattle.std.proofs.lemmas.Str.{encodes-append}
 use Rattle.anstyle_parse.specs.declared.io.devices.Sink.{Ghosts as SinkOf}
 use Rattle.anstyle_parse.specs.Stream.Bytes.{is_within}
 use Rattle.anstyle_parse.specs.Stream.Call.{Call}
+use Rattle.anstyle_parse.specs.Stream.Texts.{FollowsCalls}
 use Rattle.anstyle_parse.specs.Io.Output.{Adds}
 use Rattle.anstyle_parse.proofs.Characters.Encoding.{within_parts}
 use Rattle.anstyle_parse.proofs.Written.Output.{Adds-nil, Adds-append}
@@ -199,6 +200,11 @@ module _ {W : Type 0} (sink : SinkOf W) where
   TakesCalls-more old middle new calls more first second =
       subst (λ cs. Takes sink old cs new) (sym (flat_map-append characters_of calls more))
       (Takes-append old middle new (characters calls) (characters more) first second)
+
+  -- what lists of calls do to it agrees with what each call means
+  pub TakesCalls-follows : FollowsCalls (λ (old : SafeWriter W) call new. Takes sink old (characters_of call) new)
+      (λ old calls new. Takes sink old (characters calls) new)
+  TakesCalls-follows = record { none = Takes-none; one = TakesCalls-one; more = TakesCalls-more }
 
   -- what is then to be written at the end
   pub ends-taken : (old : SafeWriter W) (calls : List Call) (new : SafeWriter W) → Takes sink old (characters calls) new → ending_from new [] ≡ ending_from old calls

@@ -179,7 +179,7 @@ impl<W: Sink> Perform for MarkingWriter<W> {
 /// The characters of a text are taken in order: where none is hidden, at once.
 impl<W: Sink> PerformText for MarkingWriter<W> {
     ghost use Rattle.safe_text.specs.MarkingWriter.{TakesMarked};
-    ghost use Rattle.safe_text.specs.MarkingProof.{TakesMarked-none, TakesMarked-more};
+    ghost use Rattle.safe_text.specs.MarkingProof.{TakesMarked-follows};
 
     ghost receives = { TakesMarked W.Sink };
 
@@ -200,11 +200,7 @@ impl<W: Sink> PerformText for MarkingWriter<W> {
         }
     }
 
-    ghost receives_none = { TakesMarked-none W.Sink };
-
-    ghost receives_one = { λ _ _ _ taken. taken };
-
-    ghost receives_more = { TakesMarked-more W.Sink };
+    ghost follows = { TakesMarked-follows W.Sink };
 }
 
 /// At the end hidden text is closed, and what still waits is written.

@@ -364,7 +364,7 @@ impl<W: Sink> Perform for SafeWriter<W> {
 impl<W: Sink> PerformText for SafeWriter<W> {
     ghost use Rattle.safe_text.specs.Safe.{characters};
     ghost use Rattle.safe_text.specs.Writer.{Takes};
-    ghost use Rattle.safe_text.specs.TakingProof.{Takes-none, TakesCalls-one, TakesCalls-more};
+    ghost use Rattle.safe_text.specs.TakingProof.{TakesCalls-follows};
 
     ghost receives = { λ old calls new. Takes W.Sink old (characters calls) new };
 
@@ -382,11 +382,7 @@ impl<W: Sink> PerformText for SafeWriter<W> {
         true
     }
 
-    ghost receives_none = { Takes-none W.Sink };
-
-    ghost receives_one = { TakesCalls-one W.Sink };
-
-    ghost receives_more = { TakesCalls-more W.Sink };
+    ghost follows = { TakesCalls-follows W.Sink };
 }
 
 /// What still waits is written at the end.

@@ -2,6 +2,7 @@
 -- Calls that a watched screen receives one after another are one list of calls.
 use Rattle.std.proofs.Common.{◌≡◌, List, [], ◌∷◌, ◌++◌, refl, sym, ap₂, ◌∙◌}
 use Rattle.anstyle_parse.specs.Stream.Call.{Call}
+use Rattle.anstyle_parse.specs.Stream.Texts.{FollowsCalls}
 use Rattle.ansi_screen.specs.After.{State, after, after_all}
 use Rattle.ansi_screen.specs.TextsProof.{becomes-more}
 use Rattle.screen_html.specs.Links.{Kept as KeptLink}
@@ -27,3 +28,7 @@ receives-more old middle new calls more first second = record {
   links = second.links ∙ ap₂ (λ (s : State) l. all_links more s l) first.screen first.links
       ∙ sym (all_links-append calls more old.screen old.links);
 }
+
+-- what lists of calls do to it agrees with what each call means
+pub receives-follows : FollowsCalls Watches WatchesAll
+receives-follows = record { none = receives-none; one = receives-one; more = receives-more }

@@ -56,7 +56,7 @@ impl Perform for Watched {
 /// No link begins in a text.
 impl PerformText for Watched {
     ghost use Rattle.screen_pieces.specs.Watched.{WatchesAll};
-    ghost use Rattle.screen_pieces.specs.WatchedProof.{receives-none, receives-one, receives-more};
+    ghost use Rattle.screen_pieces.specs.WatchedProof.{receives-follows};
 
     fn print_text(&mut self, text: &str) {
         self.screen.print_text(text);
@@ -64,9 +64,5 @@ impl PerformText for Watched {
 
     ghost receives = { WatchesAll };
 
-    ghost receives_none = { receives-none };
-
-    ghost receives_one = { receives-one };
-
-    ghost receives_more = { receives-more };
+    ghost follows = { receives-follows };
 }

@@ -5,6 +5,7 @@ use Rattle.std.proofs.lemmas.Grind.{flat_map-append}
 use Rattle.anstyle_parse.specs.declared.io.devices.Sink.{Ghosts as SinkOf}
 use Rattle.anstyle_parse.specs.declared.io.output.Output.{Output}
 use Rattle.anstyle_parse.specs.Stream.Call.{Call}
+use Rattle.anstyle_parse.specs.Stream.Texts.{FollowsCalls}
 use Rattle.anstyle_parse.specs.Io.Output.{Adds}
 use Rattle.anstyle_parse.specs.Io.AddingProof.{Adds-nil, Adds-append}
 use Rattle.ansi_screen.specs.declared.cell.Cell.{Cell}
@@ -57,6 +58,11 @@ module _ {R : Type 0} (takes : R → List Cell → R → Type 0) (takes_command 
   receives-more old middle new calls more first second =
       subst (λ l. Shows takes takes_command passes_on old l new) (sym (flat_map-append given calls more))
       (Shows-append old middle new (given_all calls) (given_all more) first second)
+
+  -- what lists of calls do to it agrees with what each call means
+  pub receives-follows : FollowsCalls (λ (old : ShownWriter R) call new. Shows takes takes_command passes_on old (given call) new)
+      (λ old calls new. Shows takes takes_command passes_on old (given_all calls) new)
+  receives-follows = record { none = receives-none; one = receives-one; more = receives-more }
 
 -- What a writer of rows writes of these.
 module _ {R W S : Type 0} (sink : SinkOf W) (takes : R → List Cell → R → Type 0) (takes_command : R → ℕ → List (List ℕ) → R → Type 0)

@@ -74,7 +74,7 @@ impl<R: TakeCommand> Perform for ShownWriter<R> {
 }
 
 impl<R: TakeCommand> PerformText for ShownWriter<R> {
-    ghost use Rattle.screen_text.specs.ShowingProof.{receives-none, receives-one, receives-more};
+    ghost use Rattle.screen_text.specs.ShowingProof.{receives-follows};
 
     fn print_text(&mut self, text: &str) {
         self.scrolling.print_text(text);
@@ -82,11 +82,7 @@ impl<R: TakeCommand> PerformText for ShownWriter<R> {
 
     ghost receives = { λ old calls new. Shows R.takes R.takes_command R.passes_on old (given_all calls) new };
 
-    ghost receives_none = { receives-none R.takes R.takes_command R.passes_on };
-
-    ghost receives_one = { receives-one R.takes R.takes_command R.passes_on };
-
-    ghost receives_more = { receives-more R.takes R.takes_command R.passes_on };
+    ghost follows = { receives-follows R.takes R.takes_command R.passes_on };
 }
 
 /// Hands the rows on that still show: where the alternate screen shows, those of the main screen first.

@@ -6,6 +6,7 @@ use Rattle.std.proofs.lemmas.List.Elements.{filter-append}
 use Rattle.std.proofs.lemmas.Grind.{flat_map-append}
 use Rattle.std.proofs.lemmas.Slice.{drop-append-drop}
 use Rattle.anstyle_parse.specs.Stream.Call.{Call}
+use Rattle.anstyle_parse.specs.Stream.Texts.{FollowsCalls}
 use Rattle.ansi_strip.specs.Inert.{is_inert, inert_text}
 use Rattle.ansi_strip.specs.Strip.{stripped_call, stripped}
 use Rattle.strip_pieces.specs.declared.slice_writer.SliceWriter.{SliceWriter}
@@ -79,3 +80,7 @@ Puts-one old call new puts = subst (λ t. Puts t old new) (inert_text-one call) 
 pub Puts-more : (old middle new : SliceWriter) (calls more : List Call) → Puts (inert_text calls) old middle → Puts (inert_text more) middle new → Puts (inert_text (calls ++ more)) old new
 Puts-more old middle new calls more first second =
     subst (λ t. Puts t old new) (sym (inert_text-more calls more)) (Puts-append (inert_text calls) (inert_text more) old middle new first second)
+
+-- what lists of calls do to it agrees with what each call means
+pub Puts-follows : FollowsCalls (λ (old : SliceWriter) call new. Puts (inert_call call) old new) (λ old calls new. Puts (inert_text calls) old new)
+Puts-follows = record { none = Puts-none; one = Puts-one; more = Puts-more }

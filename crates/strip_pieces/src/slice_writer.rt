@@ -145,7 +145,7 @@ impl<'a> Perform for SliceWriter<'a> {
 /// A text without characters that drive a terminal is left as it is, and so is layout.
 impl<'a> PerformText for SliceWriter<'a> {
     ghost use Rattle.strip_pieces.specs.SliceWriter.{Puts};
-    ghost use Rattle.strip_pieces.specs.PuttingProof.{Puts-none, Puts-one, Puts-more};
+    ghost use Rattle.strip_pieces.specs.PuttingProof.{Puts-follows};
 
     ghost receives = { λ old calls new. Puts (inert_text calls) old new };
 
@@ -173,9 +173,5 @@ impl<'a> PerformText for SliceWriter<'a> {
         true
     }
 
-    ghost receives_none = { Puts-none };
-
-    ghost receives_one = { Puts-one };
-
-    ghost receives_more = { Puts-more };
+    ghost follows = { Puts-follows };
 }

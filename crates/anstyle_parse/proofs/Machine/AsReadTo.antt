@@ -14,7 +14,7 @@ use Rattle.anstyle_parse.specs.Stream.Bytes.{is_within, is_parameter, is_final}
 use Rattle.anstyle_parse.specs.Stream.Call.{Call, Goes}
 use Rattle.anstyle_parse.specs.Stream.Characters.{is_well_formed, character_of}
 use Rattle.anstyle_parse.specs.Stream.Items.{EachIs}
-use Rattle.anstyle_parse.specs.Stream.Texts.{is_layout, layout_calls}
+use Rattle.anstyle_parse.specs.Stream.Texts.{is_layout, layout_calls, FollowsCalls}
 use Rattle.anstyle_parse.specs.Laws.Lawful.{is_character}
 use Rattle.anstyle_parse.specs.Machine.AsRead.{is_break, read_for, read_from}
 use Rattle.anstyle_parse.specs.Machine.Step.{Machine, AccumulatorStep, Completes, state_after_answer, after_answer, step, step_calls, machine_after, machine_calls}
@@ -166,12 +166,9 @@ module _ (m : Machine Utf8Parser) (ground : m.state ≡ Ground) (empty : m.accum
       let Q : Machine Utf8Parser → Type 0 = λ x. AreReadAsTheyAre parser_after x (encode_utf8_all cs) in
       as_they_are-append parser_after m (encode_utf8 c) (encode_utf8_all cs) (character-read c each.0) (subst Q (sym same) (characters-read cs each.1))
 
-module _ {P : Type 0} (means : P → Call → P → Type 0) (receives : P → List Call → P → Type 0)
-    (none : (p : P) → receives p [] p)
-    (one : (old : P) (call : Call) (new : P) → means old call new → receives old (call ∷ []) new)
-    (more : (old middle new : P) (calls further : List Call) → receives old calls middle → receives middle further new → receives old (calls ++ further) new) where
+module _ {P : Type 0} (means : P → Call → P → Type 0) (receives : P → List Call → P → Type 0) (follows : FollowsCalls means receives) where
   pub LeadsAsReadTo-none : (parser : Parser Utf8Parser) (performer : P) (bytes : List ℕ) → LeadsAsReadTo receives (stage parser performer bytes) (stage parser performer bytes)
-  LeadsAsReadTo-none parser performer bytes = record { same = refl; made = []; joined = refl; received = none performer }
+  LeadsAsReadTo-none parser performer bytes = record { same = refl; made = []; joined = refl; received = follows.none performer }
 
   pub LeadsAsReadTo-trans : {p q r : Parser Utf8Parser} {a b c : P} {xs ys zs : List ℕ}
       → LeadsAsReadTo receives (stage p a xs) (stage q b ys) → LeadsAsReadTo receives (stage q b ys) (stage r c zs) → LeadsAsReadTo receives (stage p a xs) (stage r c zs)
@@ -179,7 +176,7 @@ module _ {P : Type 0} (means : P → Call → P → Type 0) (receives : P → Li
     same = second.same ∙ first.same;
     made = first.made ++ second.made;
     joined = first.joined ∙ ap (λ calls. first.made ++ calls) second.joined ∙ sym (append_assoc first.made second.made _);
-    received = more a b c first.made second.made first.received second.received;
+    received = follows.more a b c first.made second.made first.received second.received;
   }
 
   pub LeadsAsReadTo-first : {p q r : Parser Utf8Parser} {a b c : P} {xs ys zs left : List ℕ} → ys ≡ left
@@ -223,7 +220,7 @@ module _ {P : Type 0} (means : P → Call → P → Type 0) (receives : P → Li
       → LeadsAsReadTo receives (stage p a (byte ∷ left)) (stage q b left)
   LeadsAsReadTo-one p q a b byte left reached goes =
       LeadsAsReadTo-read p q a b (byte ∷ left) left (read_one p byte) refl (ap counted reached)
-      (receives-Goes means receives none one more (machine_calls parser_after (read_one p byte) (machine_of p)) a b goes)
+      (receives-Goes means receives follows (machine_calls parser_after (read_one p byte) (machine_of p)) a b goes)
 
   -- one that is read as it is
   pub LeadsAsReadTo-byte : (p q : Parser Utf8Parser) (a b : P) (byte : ℕ) (left : List ℕ) → read_one p byte ≡ byte ∷ []
@@ -232,7 +229,7 @@ module _ {P : Type 0} (means : P → Call → P → Type 0) (receives : P → Li
   LeadsAsReadTo-byte p q a b byte left is stepped goes =
       LeadsAsReadTo-passed p q a b (byte ∷ left) left (byte ∷ []) refl (as_they_are-byte parser_after (machine_of p) byte is) (ap counted stepped)
       (subst (λ calls. receives a calls b) (sym (append-nil (step_calls parser_after byte (machine_of p))))
-      (receives-Goes means receives none one more (step_calls parser_after byte (machine_of p)) a b goes))
+      (receives-Goes means receives follows (step_calls parser_after byte (machine_of p)) a b goes))
 
   -- a text
   pub LeadsAsReadTo-text : (p : Parser Utf8Parser) (a b : P) (xs left : List ℕ) → TakesText receives p a xs b left → LeadsAsReadTo receives (stage p a xs) (stage p b left)
@@ -290,7 +287,7 @@ module _ {P : Type 0} (means : P → Call → P → Type 0) (receives : P → Li
       (as_they_are-plain parser_after is_parameter
       (λ b is. let ends = within_parts 0x1B 0x7E b (parameter_within b is) in (omega (arith, ends.1), (λ bell. omega (arith, ends.0, bell))))
       (machine_of p) quiet.passed quiet.each)
-      (ap counted quiet.machine) (subst (λ l. receives a l a) (sym quiet.none) (none a))
+      (ap counted quiet.machine) (subst (λ l. receives a l a) (sym quiet.none) (follows.none a))
 
   -- text of a command
   pub LeadsAsReadTo-command : {takes : Utf8Parser → ℕ → Type 0} (p q : Parser Utf8Parser) (a : P) (xs left : List ℕ) → p.state ≡ OscString
@@ -298,7 +295,7 @@ module _ {P : Type 0} (means : P → Call → P → Type 0) (receives : P → Li
   LeadsAsReadTo-command p q a xs left command quiet =
       LeadsAsReadTo-passed p q a a xs left quiet.passed quiet.joined
       (as_they_are-each parser_after (λ m. m.state ≡ OscString) is_of_command command-read (machine_of p) quiet.passed command quiet.each)
-      (ap counted quiet.machine) (subst (λ l. receives a l a) (sym quiet.none) (none a))
+      (ap counted quiet.machine) (subst (λ l. receives a l a) (sym quiet.none) (follows.none a))
 
   -- bytes that are read as they are in any state, and are taken as others are
   pub LeadsAsReadTo-unchanged : (p q : Parser Utf8Parser) (a b : P) (xs left : List ℕ) (passes : PassBytes is_unchanged xs left)
@@ -324,4 +321,4 @@ module _ {P : Type 0} (means : P → Call → P → Type 0) (receives : P → Li
       m passed (within 0x1B 0x7E 0x1B (omega arith) (omega arith), (within 0x1B 0x7E 0x5B (omega arith) (omega arith), tt)))
       (ap counted reached)
       (subst (λ l. receives a l a)
-      (sym (ap (λ l. l ++ (step_calls parser_after 0x5B (step parser_after 0x1B m) ++ [])) calls.0 ∙ ap (λ l. l ++ []) calls.1)) (none a))
+      (sym (ap (λ l. l ++ (step_calls parser_after 0x5B (step parser_after 0x1B m) ++ [])) calls.0 ∙ ap (λ l. l ++ []) calls.1)) (follows.none a))

@@ -17,7 +17,7 @@ use Rattle.anstyle_parse.specs.Stream.Bytes.{is_within}
 use Rattle.anstyle_parse.specs.Stream.Call.{Call, Goes, print, execute}
 use Rattle.anstyle_parse.specs.Stream.Characters.{is_well_formed, character_of, BeginWithWhole}
 use Rattle.anstyle_parse.specs.Stream.Items.{EachIs}
-use Rattle.anstyle_parse.specs.Stream.Texts.{is_layout, layout_call, layout_calls}
+use Rattle.anstyle_parse.specs.Stream.Texts.{is_layout, layout_call, layout_calls, FollowsCalls}
 use Rattle.anstyle_parse.specs.Laws.Lawful.{is_character}
 use Rattle.anstyle_parse.specs.Machine.Table.{◌by◌}
 use Rattle.anstyle_parse.specs.Machine.Step.{Machine, step, machine_after, machine_calls}
@@ -231,17 +231,14 @@ decoder-Empty (One a) e = cc
 decoder-Empty (Two a b) e = cc
 decoder-Empty (Three a b c) e = cc
 
-module _ {P : Type 0} (means : P → Call → P → Type 0) (receives : P → List Call → P → Type 0)
-    (none : (p : P) → receives p [] p)
-    (one : (old : P) (call : Call) (new : P) → means old call new → receives old (call ∷ []) new)
-    (more : (old middle new : P) (calls further : List Call) → receives old calls middle → receives middle further new → receives old (calls ++ further) new) where
+module _ {P : Type 0} (means : P → Call → P → Type 0) (receives : P → List Call → P → Type 0) (follows : FollowsCalls means receives) where
   -- what goes by single calls has received the list
   pub receives-Goes : (calls : List Call) (old new : P) → Goes means old calls new → receives old calls new
-  receives-Goes [] old new same = subst (λ p. receives old [] p) (sym same) (none old)
-  receives-Goes (call ∷ calls) old new (middle, first, others) = more old middle new (call ∷ []) calls (one old call middle first) (receives-Goes calls middle new others)
+  receives-Goes [] old new same = subst (λ p. receives old [] p) (sym same) (follows.none old)
+  receives-Goes (call ∷ calls) old new (middle, first, others) = follows.more old middle new (call ∷ []) calls (follows.one old call middle first) (receives-Goes calls middle new others)
 
   pub LeadsByTextTo-none : (parser : Parser Utf8Parser) (performer : P) (bytes : List ℕ) → LeadsByTextTo receives (stage parser performer bytes) (stage parser performer bytes)
-  LeadsByTextTo-none parser performer bytes = record { machine = refl; made = []; joined = refl; received = none performer }
+  LeadsByTextTo-none parser performer bytes = record { machine = refl; made = []; joined = refl; received = follows.none performer }
 
   pub LeadsByTextTo-trans : {p q r : Parser Utf8Parser} {a b c : P} {xs ys zs : List ℕ}
       → LeadsByTextTo receives (stage p a xs) (stage q b ys) → LeadsByTextTo receives (stage q b ys) (stage r c zs) → LeadsByTextTo receives (stage p a xs) (stage r c zs)
@@ -249,7 +246,7 @@ module _ {P : Type 0} (means : P → Call → P → Type 0) (receives : P → Li
     machine = second.machine ∙ first.machine;
     made = first.made ++ second.made;
     joined = first.joined ∙ ap (λ calls. first.made ++ calls) second.joined ∙ sym (append_assoc first.made second.made _);
-    received = more a b c first.made second.made first.received second.received;
+    received = follows.more a b c first.made second.made first.received second.received;
   }
 
   -- a run

@@ -13,6 +13,7 @@ use Rattle.anstyle_parse.specs.declared.io.output.Output.{Output}
 use Rattle.anstyle_parse.specs.declared.canon.writer.CanonWriter.{CanonWriter}
 use Rattle.anstyle_parse.specs.Stream.Call.{Call, Goes}
 use Rattle.anstyle_parse.specs.Stream.Canon.{call_text, canon}
+use Rattle.anstyle_parse.specs.Stream.Texts.{FollowsCalls}
 use Rattle.anstyle_parse.specs.Views.CanonWriter.{output_of}
 use Rattle.anstyle_parse.specs.Io.Output.{writer_in, fault_in, AddsAll, AddsPrefix, Adds, AddsTexts, Flushes}
 
@@ -106,21 +107,24 @@ module _ {W : Type 0} (sink : SinkOf W) where
 
   -- the laws of a performer that adds the text of each call
   module _ {P : Type 0} (output_of : P → Output W) (text : Call → List ℕ) where
-    pub AddsTexts-none : (performer : P) → AddsTexts sink output_of text performer [] performer
+    AddsTexts-none : (performer : P) → AddsTexts sink output_of text performer [] performer
     AddsTexts-none performer = Adds-nil (output_of performer)
 
-    pub AddsTexts-one : (old : P) (call : Call) (new : P) → Adds sink (text call) (output_of old) (output_of new)
+    AddsTexts-one : (old : P) (call : Call) (new : P) → Adds sink (text call) (output_of old) (output_of new)
         → AddsTexts sink output_of text old (call ∷ []) new
     AddsTexts-one old call new added =
         subst (λ t. Adds sink t (output_of old) (output_of new)) (sym (append-nil (text call))) added
 
-    pub AddsTexts-more : (old middle new : P) (calls more : List Call)
+    AddsTexts-more : (old middle new : P) (calls more : List Call)
         → AddsTexts sink output_of text old calls middle → AddsTexts sink output_of text middle more new
         → AddsTexts sink output_of text old (calls ++ more) new
     AddsTexts-more old middle new calls more first second =
         subst (λ t. Adds sink t (output_of old) (output_of new)) (sym (flat_map-append text calls more))
         (Adds-append (flat_map text calls) (flat_map text more)
         (output_of old) (output_of middle) (output_of new) first second)
+
+    pub AddsTexts-follows : FollowsCalls (λ old call new. Adds sink (text call) (output_of old) (output_of new)) (AddsTexts sink output_of text)
+    AddsTexts-follows = record { none = AddsTexts-none; one = AddsTexts-one; more = AddsTexts-more }
 
 -- the texts of calls, joined, are their canonical text
 texts-call_text : (calls : List Call) → flat_map call_text calls ≡ canon calls

@@ -1,6 +1,6 @@
 -- Texts: characters that are printed one after another, as one list of bytes; and texts with the
 -- controls that lay them out.
-use Rattle.std.specs.Prelude.{ℕ, Bool, ◌||◌, ◌==◌, List, map, if◌then◌else◌}
+use Rattle.std.specs.Prelude.{ℕ, Bool, ◌||◌, ◌==◌, List, [], ◌∷◌, ◌++◌, map, if◌then◌else◌}
 use Rattle.std.specs.Str.{chars}
 use Rattle.anstyle_parse.specs.Stream.Call.{Call, print, execute}
 use Rattle.anstyle_parse.specs.Stream.Calls.{AreCalls}
@@ -20,6 +20,16 @@ layout_call character = if is_layout character then execute character else print
 -- the calls of a text with layout, in UTF-8: those of its characters, in order
 abbrev pub layout_calls : List ℕ → List Call
 layout_calls text = map layout_call (chars text)
+
+-- What lists of calls do to a performer agrees with what each call means to it.
+pub record FollowsCalls {P : Type 0} (means : P → Call → P → Type 0) (receives : P → List Call → P → Type 0) : Type 0 where
+  -- no call leaves it as it is
+  pub none : (performer : P) → receives performer [] performer
+  -- one does what it means
+  pub one : (old : P) (call : Call) (new : P) → means old call new → receives old (call ∷ []) new
+  -- a list and then another do what both do, joined
+  pub more : (old middle new : P) (calls more : List Call) → receives old calls middle → receives middle more new
+      → receives old (calls ++ more) new
 
 -- The performer has received exactly the calls of the bytes, by what lists of calls do to it.
 abbrev pub HasReceivedTexts : {P : Type 0} → (P → List Call → P → Type 0) → (first : P) → List ℕ → P → Type 0

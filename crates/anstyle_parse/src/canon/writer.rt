@@ -130,7 +130,7 @@ impl<W: Sink> Perform for CanonWriter<W> {
 /// A text is written as it is, and so is layout.
 impl<W: Sink> PerformText for CanonWriter<W> {
     ghost use Rattle.anstyle_parse.specs.Io.Output.{AddsTexts};
-    ghost use Rattle.anstyle_parse.specs.Io.AddingProof.{AddsTexts-none, AddsTexts-one, AddsTexts-more};
+    ghost use Rattle.anstyle_parse.specs.Io.AddingProof.{AddsTexts-follows};
     ghost use Rattle.anstyle_parse.specs.Views.CanonWriter.{output_of};
 
     ghost receives = { AddsTexts W.Sink output_of call_text };
@@ -150,11 +150,7 @@ impl<W: Sink> PerformText for CanonWriter<W> {
         self.output.put_padded(text);
     }
 
-    ghost receives_none = { AddsTexts-none W.Sink output_of call_text };
-
-    ghost receives_one = { AddsTexts-one W.Sink output_of call_text };
-
-    ghost receives_more = { AddsTexts-more W.Sink output_of call_text };
+    ghost follows = { AddsTexts-follows W.Sink output_of call_text };
 }
 
 /// The canonical text has no ending.

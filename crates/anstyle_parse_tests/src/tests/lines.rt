@@ -92,11 +92,7 @@ impl Perform for Lines {
 impl PerformText for Lines {
     ghost receives = { λ _ _ _. ⊤ };
 
-    ghost receives_none = { λ _. tt };
-
-    ghost receives_one = { λ _ _ _ _. tt };
-
-    ghost receives_more = { λ _ _ _ _ _ _ _. tt };
+    ghost follows = { record { none = λ _. tt; one = λ _ _ _ _. tt; more = λ _ _ _ _ _ _ _. tt } };
 }
 
 /// The calls that a new parser makes of two pieces, with texts at once.

@@ -17,7 +17,7 @@ rest-init g c =
       utf8 = IsUtf8-nil;
       rest_utf8 = c.utf8.text;
       joined = refl;
-      printed = subst (λ calls. g.P.PutRuns.receives first calls first) (sym (ap (map print) chars-nil)) (g.met.P.PutRuns.receives_none first);
+      printed = subst (λ calls. g.P.PutRuns.receives first calls first) (sym (ap (map print) chars-nil)) (g.met.P.PutRuns.follows.none first);
     }
 
 pub rest-preserved : goal.rest-preserved
@@ -32,7 +32,7 @@ rest-preserved g c =
       rest_utf8 = c.split_others.ensures.back;
       joined = two-parts-taken c.args.text.now before.passed c.rest.rest.now run c.split_front.result.1.now others c.split_others.result.1.now
           before.joined c.split_front.ensures.joined c.split_others.ensures.joined;
-      printed = text-more g.P.PutRuns.receives g.met.P.PutRuns.receives_more before.passed run others c.args.performer.now c.rest.performer
+      printed = text-more g.P.PutRuns.receives g.met.P.PutRuns.follows.more before.passed run others c.args.performer.now c.rest.performer
           c.print_run.new.performer c.print_each.new.performer before.utf8 ascii before.printed c.print_run.ensures c.print_each.ensures;
     }
 
@@ -42,6 +42,6 @@ returns-then-is_empty g c =
     let run = c.split_front.result.0.now in
     let after = c.split_front.result.1.now in
     let none : after ≡ [] = nil_from_length after (eqb-true (length after) 0 (sym c.is_empty-in-rest.ensures ∙ c.if-is_empty.true)) in
-    text-run g.P.PutRuns.receives g.met.P.PutRuns.receives_more c.args.text.now before.passed run c.args.performer.now c.rest.performer
+    text-run g.P.PutRuns.receives g.met.P.PutRuns.follows.more c.args.text.now before.passed run c.args.performer.now c.rest.performer
     c.print_run.new.performer (last-part-taken c.args.text.now before.passed c.rest.rest.now run after before.joined c.split_front.ensures.joined none)
     before.utf8 c.split_front.ensures.each before.printed c.print_run.ensures

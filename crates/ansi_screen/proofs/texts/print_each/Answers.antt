@@ -8,16 +8,16 @@ use Rattle.ansi_screen.specs.Laws.{printing}
 use Rattle.ansi_screen.proofs.texts.print_each.Goals as goal
 
 pub loop-c-init : goal.loop-c-init
-loop-c-init g c = g.met.P.PutRuns.receives_none c.args.performer.now
+loop-c-init g c = g.met.P.PutRuns.follows.none c.args.performer.now
 
 pub loop-c-preserved : goal.loop-c-preserved
 loop-c-preserved g c =
     let first = c.args.performer.now in
     let before = c.loop-c.performer in
     let after = c.print.new.self in
-    let one = g.met.P.PutRuns.receives_one before (print c.in-Some.c) after c.print.ensures in
+    let one = g.met.P.PutRuns.follows.one before (print c.in-Some.c) after c.print.ensures in
     subst (λ calls. g.P.PutRuns.receives first calls after) (sym (map-append print c.loop-c.yielded (c.in-Some.c ∷ [])))
-    (g.met.P.PutRuns.receives_more first before after (printing c.loop-c.yielded) (print c.in-Some.c ∷ []) c.loop-c.invariant one)
+    (g.met.P.PutRuns.follows.more first before after (printing c.loop-c.yielded) (print c.in-Some.c ∷ []) c.loop-c.invariant one)
 
 pub returns : goal.returns
 returns g c =

@@ -24,8 +24,8 @@ run-preserved g c =
       passed = before.passed ++ (take n rest ++ ch ∷ []);
       joined = run-parted c.args.run.now before.passed rest further n ch before.joined is;
       ascii = (EachIs-parts is_printed_ascii (take n rest) (ch ∷ further) (subst (EachIs is_printed_ascii) whole before.ascii)).1.1;
-      printed = run-more g.P.PutRuns.receives g.met.P.PutRuns.receives_more before.passed (take n rest) ch c.args.performer.now
-          c.run.performer put after before.printed c.put_front-count.ensures.put (g.met.P.PutRuns.receives_one put (print ch) after means);
+      printed = run-more g.P.PutRuns.receives g.met.P.PutRuns.follows.more before.passed (take n rest) ch c.args.performer.now
+          c.run.performer put after before.printed c.put_front-count.ensures.put (g.met.P.PutRuns.follows.one put (print ch) after means);
     }
 
 pub returns : goal.returns
@@ -35,6 +35,6 @@ returns g c =
     let n = c.put_front-count.result in
     let empty = rw c.in_default.is at c.split_first.ensures.cases in
     let none : drop n rest ≡ [] = sym c.split_at.ensures.back ∙ nil_from_length c.split_at.result.1.now empty in
-    run-last g.P.PutRuns.receives g.met.P.PutRuns.receives_more c.args.run.now before.passed (take n rest) c.args.performer.now
+    run-last g.P.PutRuns.receives g.met.P.PutRuns.follows.more c.args.run.now before.passed (take n rest) c.args.performer.now
     c.run.performer c.put_front-count.new.self (run-whole c.args.run.now before.passed rest n before.joined none)
     before.printed c.put_front-count.ensures.put

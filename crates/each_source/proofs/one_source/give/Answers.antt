@@ -8,7 +8,7 @@ use Rattle.each_source.proofs.one_source.give.Goals as goal
 pub returns-then-is_some : goal.returns-then-is_some
 returns-then-is_some g c = record {
   received = λ first before stands has.
-      passed-on g.P.PerformText.receives g.met.P.PerformText.receives_more first c.advance_log.new.performer c.pass_on.new.self _
+      passed-on g.P.PerformText.receives g.met.P.PerformText.follows.more first c.advance_log.new.performer c.pass_on.new.self _
       (c.advance_log.ensures.received first before stands has) c.pass_on.ensures;
   stands = c.advance_log.ensures.stands;
   clear = tt;
@@ -19,7 +19,7 @@ returns-then-is_some g c = record {
 pub returns-then-is_stuck : goal.returns-then-is_stuck
 returns-then-is_stuck g c = record {
   received = λ first before stands has.
-      passed-on g.P.PerformText.receives g.met.P.PerformText.receives_more first c.advance_log.new.performer c.pass_on.new.self _
+      passed-on g.P.PerformText.receives g.met.P.PerformText.follows.more first c.advance_log.new.performer c.pass_on.new.self _
       (c.advance_log.ensures.received first before stands has) c.pass_on.ensures;
   stands = c.advance_log.ensures.stands;
   clear = tt;
@@ -29,7 +29,7 @@ returns-then-is_stuck g c = record {
 pub returns : goal.returns
 returns g c = record {
   received = λ first before stands has.
-      passed-on g.P.PerformText.receives g.met.P.PerformText.receives_more first c.advance_log.new.performer c.pass_on.new.self _
+      passed-on g.P.PerformText.receives g.met.P.PerformText.follows.more first c.advance_log.new.performer c.pass_on.new.self _
       (c.advance_log.ensures.received first before stands has) c.pass_on.ensures;
   stands = c.advance_log.ensures.stands;
   clear =

@@ -15,7 +15,7 @@ returns-in-Some g c =
     let front = c.args.front.now in
     let performer = c.args.performer.now in
     let (calls, are, received) = c.give-stopped.ensures.received performer [] (stands-new c.new-parser.result c.new-parser.ensures.stands)
-    (received-none g.P.PerformText.receives performer (g.met.P.PerformText.receives_none performer)) in
+    (received-none g.P.PerformText.receives performer (g.met.P.PerformText.follows.none performer)) in
     record {
       rest = [];
       at_end = false;
@@ -33,7 +33,7 @@ returns-in-End g c =
     let performer = c.args.performer.now in
     let new = stands-new c.new-parser.result c.new-parser.ensures.stands in
     let (calls, are, received) = c.end_log.ensures.received performer front (c.give-stopped.ensures.stands [] new)
-    (c.give-stopped.ensures.received performer [] new (received-none g.P.PerformText.receives performer (g.met.P.PerformText.receives_none performer))) in
+    (c.give-stopped.ensures.received performer [] new (received-none g.P.PerformText.receives performer (g.met.P.PerformText.follows.none performer))) in
     record {
       rest = [];
       at_end = true;
@@ -51,7 +51,7 @@ returns-in-Failure g c =
     let performer = c.args.performer.now in
     let new = stands-new c.new-parser.result c.new-parser.ensures.stands in
     let (calls, are, received) = c.end_log-in-Failure.ensures.received performer front (c.give-stopped.ensures.stands [] new)
-    (c.give-stopped.ensures.received performer [] new (received-none g.P.PerformText.receives performer (g.met.P.PerformText.receives_none performer))) in
+    (c.give-stopped.ensures.received performer [] new (received-none g.P.PerformText.receives performer (g.met.P.PerformText.follows.none performer))) in
     record {
       rest = [];
       at_end = true;
@@ -69,7 +69,7 @@ loop-turn-init g c =
     let performer = c.args.performer.now in
     let new = stands-new c.new-parser.result c.new-parser.ensures.stands in
     let (calls, are, received) =
-    c.give-stopped.ensures.received performer [] new (received-none g.P.PerformText.receives performer (g.met.P.PerformText.receives_none performer)) in
+    c.give-stopped.ensures.received performer [] new (received-none g.P.PerformText.receives performer (g.met.P.PerformText.follows.none performer)) in
     record {
       rest = [];
       calls = calls;

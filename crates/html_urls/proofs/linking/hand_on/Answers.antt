@@ -19,6 +19,6 @@ returns-then-is_address g c =
     subst (λ (is : Bool). g.P.PerformText.receives old (released_as is (address_of text) (behind_address text) text) new) (sym link)
     (subst (λ (l : List ℕ). g.P.PerformText.receives old (released_as true (address_of text) l text) new) behind
     (subst (λ (l : List ℕ). g.P.PerformText.receives old (released_as true l c.split_address.result.1.now text) new) address
-    (received-link g.P.PerformText.receives g.met.P.PerformText.receives_more old c.select_link.new.performer c.print_bytes.new.performer
+    (received-link g.P.PerformText.receives g.met.P.PerformText.follows.more old c.select_link.new.performer c.print_bytes.new.performer
     c.select_link-then-is_address.new.performer new c.split_address.result.0.now c.split_address.result.1.now
     c.select_link.ensures c.print_bytes.ensures c.select_link-then-is_address.ensures c.print_bytes-then-is_address.ensures)))

@@ -8,7 +8,7 @@ use Rattle.ansi_strip.proofs.DrivingLemmas.{inert-parts, layout_calls-nil}
 use Rattle.ansi_strip.proofs.inert.Inert.print_parts.Goals as goal
 
 pub rest-init : goal.rest-init
-rest-init g c = (c.utf8.text, [], g.met.P.PerformText.receives_none (performer_in c.args.self.now), refl)
+rest-init g c = (c.utf8.text, [], g.met.P.PerformText.follows.none (performer_in c.args.self.now), refl)
 
 pub rest-preserved-then-not-is_empty : goal.rest-preserved-then-not-is_empty
 rest-preserved-then-not-is_empty g c =
@@ -18,7 +18,7 @@ rest-preserved-then-not-is_empty g c =
     let parts = inert-parts c.rest.rest.now inert behind c.split_at_driving.ensures.characters in (
       c.split_at_driving.ensures.text,
       made ++ layout_calls inert,
-      g.met.P.PerformText.receives_more (performer_in c.args.self.now) (performer_in c.rest.self) c.print_with_layout.new.self made (layout_calls inert) received c.print_with_layout.ensures,
+      g.met.P.PerformText.follows.more (performer_in c.args.self.now) (performer_in c.rest.self) c.print_with_layout.new.self made (layout_calls inert) received c.print_with_layout.ensures,
       are ∙ ap (λ l. made ++ l) parts ∙ sym (append_assoc made (layout_calls inert) (filter is_inert (layout_calls behind))),
     )
 

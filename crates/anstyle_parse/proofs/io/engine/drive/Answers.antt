@@ -16,7 +16,7 @@ loop-turn-init g c = record {
   calls = [];
   consumed = Consumes-nil (g.R.Source.remaining c.args.reader.now);
   are_calls = AreCalls-nil;
-  received = g.met.P.PerformText.receives_none c.args.performer.now;
+  received = g.met.P.PerformText.follows.none c.args.performer.now;
   stands = c.new-parser.ensures.stands;
   no_fault = c.requires;
   not_failed = refl;
@@ -34,8 +34,8 @@ returns-then-is_some g c =
       calls = (before.calls ++ more) ++ [];
       consumed = Consumes-trans _ _ _ _ _ before.consumed c.in-Some.ensures.passed;
       are_calls = subst (AreCalls (before.read ++ bytes)) (sym (append-nil (before.calls ++ more))) (c.advance_heeded.ensures.stream before.read before.stands before.calls before.are_calls);
-      received = g.met.P.PerformText.receives_more c.args.performer.now c.advance_heeded.new.performer c.pass_on.new.self (before.calls ++ more) []
-          (g.met.P.PerformText.receives_more c.args.performer.now c.loop-turn.performer c.advance_heeded.new.performer before.calls more before.received c.advance_heeded.ensures.calls)
+      received = g.met.P.PerformText.follows.more c.args.performer.now c.advance_heeded.new.performer c.pass_on.new.self (before.calls ++ more) []
+          (g.met.P.PerformText.follows.more c.args.performer.now c.loop-turn.performer c.advance_heeded.new.performer before.calls more before.received c.advance_heeded.ensures.calls)
           c.pass_on.ensures;
       stops = (sym (c.is_some.ensures ∙ ap is_some (c.fault.ensures ∙ ap fault_in c.output.ensures)) ∙ c.if-is_some.true, c.in-Some.ensures.not_failed ∙ before.not_failed);
     }
@@ -50,8 +50,8 @@ loop-turn-preserved g c =
       calls = (before.calls ++ more) ++ [];
       consumed = Consumes-trans _ _ _ _ _ before.consumed c.in-Some.ensures.passed;
       are_calls = subst (AreCalls (before.read ++ bytes)) (sym (append-nil (before.calls ++ more))) (c.advance_heeded.ensures.stream before.read before.stands before.calls before.are_calls);
-      received = g.met.P.PerformText.receives_more c.args.performer.now c.advance_heeded.new.performer c.pass_on.new.self (before.calls ++ more) []
-          (g.met.P.PerformText.receives_more c.args.performer.now c.loop-turn.performer c.advance_heeded.new.performer before.calls more before.received c.advance_heeded.ensures.calls)
+      received = g.met.P.PerformText.follows.more c.args.performer.now c.advance_heeded.new.performer c.pass_on.new.self (before.calls ++ more) []
+          (g.met.P.PerformText.follows.more c.args.performer.now c.loop-turn.performer c.advance_heeded.new.performer before.calls more before.received c.advance_heeded.ensures.calls)
           c.pass_on.ensures;
       stands = c.advance_heeded.ensures.stands before.read before.stands;
       no_fault = None-from_is_some (fault_in (g.P.WritingPerformer.output_in c.pass_on.new.self)) (sym (c.is_some.ensures ∙ ap is_some (c.fault.ensures ∙ ap fault_in c.output.ensures)) ∙ c.if-is_some.false);

@@ -8,7 +8,7 @@ pub loop-turn-init : goal.loop-turn-init
 loop-turn-init g c = record {
   read = [];
   consumed = Consumes-nil (g.R.Source.remaining c.args.reader.now);
-  received = ([], AreCalls-nil, g.met.P.PerformText.receives_none c.args.performer.now);
+  received = ([], AreCalls-nil, g.met.P.PerformText.follows.none c.args.performer.now);
   stands = c.new-parser.ensures.stands;
   not_failed = refl;
   counted = omega arith;

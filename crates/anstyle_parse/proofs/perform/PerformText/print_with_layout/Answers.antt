@@ -12,7 +12,7 @@ use Rattle.anstyle_parse.proofs.perform.PerformText.print_with_layout.Goals.{the
 pub rest-init : goal.rest-init
 rest-init g c =
     let m = g.met.Self.PerformText in
-    ([], IsUtf8-nil, c.utf8.text, refl, receives-layout_none g.Self.PerformText.receives m.receives_none m.receives_more c.args.self.now)
+    ([], IsUtf8-nil, c.utf8.text, refl, receives-layout_none g.Self.PerformText.receives m.follows.none m.follows.more c.args.self.now)
 
 pub rest-preserved : goal.rest-preserved
 rest-preserved g c =
@@ -29,16 +29,16 @@ rest-preserved g c =
     elim c.if-not-is_empty.branch [
       | then-not-is_empty w ↦ subst (λ p. r c.rest.self (text_calls shown) p) (sym w.self-is) w.print_text.ensures
       | else-not-is_empty w ↦ subst (λ p. r c.rest.self (text_calls shown) p) (sym w.self-is)
-          (receives-text_none r m.receives_none m.receives_more c.rest.self shown (nil_from_length shown (eqb-true (length shown) 0 (sym c.is_empty-in-rest.ensures ∙ w.if-not-is_empty.false))))
+          (receives-text_none r m.follows.none m.follows.more c.rest.self shown (nil_from_length shown (eqb-true (length shown) 0 (sym c.is_empty-in-rest.ensures ∙ w.if-not-is_empty.false))))
     ] in
-    let so_far = receives-printed r m.receives_none m.receives_more c.args.self.now c.rest.self c.if-not-is_empty.self passed utf8 received shown shown_utf8 c.split_at_layout.ensures.before printed in
+    let so_far = receives-printed r m.follows.none m.follows.more c.args.self.now c.rest.self c.if-not-is_empty.self passed utf8 received shown shown_utf8 c.split_at_layout.ensures.before printed in
     let both = IsUtf8-append passed shown utf8 shown_utf8 in (
       (passed ++ shown) ++ b ∷ [],
       IsUtf8-append (passed ++ shown) (b ∷ []) both (IsUtf8-layout b found.0),
       IsUtf8-back c.rest.rest.now shown b behind found.1 rest_utf8 low,
       joined ∙ ap (λ l. passed ++ l) found.1 ∙ sym (append_assoc passed shown (b ∷ behind)) ∙ sym (append_assoc (passed ++ shown) (b ∷ []) behind),
-      receives-layout r m.receives_none m.receives_more c.args.self.now c.if-not-is_empty.self c.execute.new.self (passed ++ shown) both so_far b found.0
-          (m.receives_one c.if-not-is_empty.self (execute b) c.execute.new.self c.execute.ensures),
+      receives-layout r m.follows.none m.follows.more c.args.self.now c.if-not-is_empty.self c.execute.new.self (passed ++ shown) both so_far b found.0
+          (m.follows.one c.if-not-is_empty.self (execute b) c.execute.new.self c.execute.ensures),
     )
 
 pub returns-in_default : goal.returns-in_default
@@ -52,7 +52,7 @@ returns-in_default g c =
     elim c.if-not-is_empty.branch [
       | then-not-is_empty w ↦ subst (λ p. r c.rest.self (text_calls shown) p) (sym w.self-is) w.print_text.ensures
       | else-not-is_empty w ↦ subst (λ p. r c.rest.self (text_calls shown) p) (sym w.self-is)
-          (receives-text_none r m.receives_none m.receives_more c.rest.self shown (nil_from_length shown (eqb-true (length shown) 0 (sym c.is_empty-in-rest.ensures ∙ w.if-not-is_empty.false))))
+          (receives-text_none r m.follows.none m.follows.more c.rest.self shown (nil_from_length shown (eqb-true (length shown) 0 (sym c.is_empty-in-rest.ensures ∙ w.if-not-is_empty.false))))
     ] in
     subst (λ text. r c.args.self.now (layout_calls text) c.if-not-is_empty.self) (sym (joined ∙ ap (λ l. passed ++ l) none))
-    (receives-printed r m.receives_none m.receives_more c.args.self.now c.rest.self c.if-not-is_empty.self passed utf8 received shown (subst IsUtf8 none rest_utf8) c.split_at_layout.ensures.before printed)
+    (receives-printed r m.follows.none m.follows.more c.args.self.now c.rest.self c.if-not-is_empty.self passed utf8 received shown (subst IsUtf8 none rest_utf8) c.split_at_layout.ensures.before printed)

@@ -15,5 +15,5 @@ returns-else-not-is_empty g c =
     record {
       standing = ap (λ (l : List ℕ). standing l it.is_within it.is_linked) none;
       received = subst (λ (l : List ℕ). g.P.PerformText.receives (performer_in it) (released l) (performer_in it)) (sym none)
-          (subst (λ (calls : List Call). g.P.PerformText.receives (performer_in it) calls (performer_in it)) (sym released-none) (g.met.P.PerformText.receives_none (performer_in it)));
+          (subst (λ (calls : List Call). g.P.PerformText.receives (performer_in it) calls (performer_in it)) (sym released-none) (g.met.P.PerformText.follows.none (performer_in it)));
     }

@@ -13,7 +13,7 @@ returns-then-take g c =
     let m = g.met.P.PerformText in
     let on = sym c.take.ensures.answer ∙ c.if-take.true in
     let held = c.take.ensures.held ∙ ap (λ (t : Bool). if t then (standing_of it).held ++ b ∷ [] else (standing_of it).held) c.if-take.true in
-    taken-on g.P.PerformText.receives m.receives_more m.receives_none it _ b c.requires on
+    taken-on g.P.PerformText.receives m.follows.more m.follows.none it _ b c.requires on
     (ap₂ (λ (l : List ℕ) (within : Bool). standing l within it.is_linked) held c.is_scheme_byte-self.ensures) refl
 
 pub returns-else-take : goal.returns-else-take
@@ -29,5 +29,5 @@ returns-else-take g c =
       received = subst (λ (l : List ℕ). r (performer_in it) (released l) (performer_in c.release.new.self)) held c.release.ensures.received;
     } in
     let begun = c.take_first.new.self in
-    taken-off r m.receives_more it c.release.new.self begun _ b c.requires off releases c.take_first.ensures
+    taken-off r m.follows.more it c.release.new.self begun _ b c.requires off releases c.take_first.ensures
     (ap (λ (within : Bool). standing (standing_of begun).held within begun.is_linked) c.is_scheme_byte-self-else-take.ensures) refl

@@ -15,7 +15,7 @@ loop-c-preserved g c =
     let first = c.args.self.now in
     let character = c.in-Some.c in
     subst (λ (calls : List Call). Takes r first calls c.print.new.self) (sym (map-append print c.loop-c.yielded (character ∷ [])))
-    (Takes-more r g.met.P.PerformText.receives_more first c.loop-c.self c.print.new.self (prints c.loop-c.yielded) (print character ∷ []) c.loop-c.invariant
+    (Takes-more r g.met.P.PerformText.follows.more first c.loop-c.self c.print.new.self (prints c.loop-c.yielded) (print character ∷ []) c.loop-c.invariant
     (Takes-one r c.loop-c.self (print character) c.print.new.self c.print.ensures))
 
 pub returns : goal.returns

@@ -15,7 +15,7 @@ returns-then-begins g c =
       standing = ap (λ (held : List ℕ). standing held it.is_within it.is_linked)
           (c.begin.ensures ∙ sym (ap (λ (t : Bool). if t then b ∷ [] else (standing_of it).held) starts));
       received = subst (λ (t : Bool). g.P.PerformText.receives (performer_in it) (if t then [] else print b ∷ []) (performer_in it)) (sym starts)
-          (g.met.P.PerformText.receives_none (performer_in it));
+          (g.met.P.PerformText.follows.none (performer_in it));
     }
 
 pub returns-else-begins : goal.returns-else-begins
@@ -26,6 +26,6 @@ returns-else-begins g c =
     record {
       standing = sym (ap (λ (t : Bool). standing (if t then b ∷ [] else (standing_of it).held) it.is_within it.is_linked) starts);
       received = subst (λ (t : Bool). g.P.PerformText.receives (performer_in it) (if t then [] else print b ∷ []) c.print.new.self) (sym starts)
-          (g.met.P.PerformText.receives_one (performer_in it) (print b) c.print.new.self
+          (g.met.P.PerformText.follows.one (performer_in it) (print b) c.print.new.self
           (subst (λ (k : ℕ). g.P.Perform.means (performer_in it) (print k) c.print.new.self) c.from.ensures c.print.ensures));
     }

@@ -22,4 +22,4 @@ returns-in_default g c =
     let it = c.args.self.now in
     let none = sym c.as_bytes.ensures.value ∙ nil_from_length c.as_bytes.result.now c.in_default.ensures.cases in
     subst (λ (cs : List ℕ). Takes g.P.PerformText.receives it (prints cs) it) (sym (ap chars none ∙ chars-nil))
-    (Takes-none g.P.PerformText.receives g.met.P.PerformText.receives_none it)
+    (Takes-none g.P.PerformText.receives g.met.P.PerformText.follows.none it)

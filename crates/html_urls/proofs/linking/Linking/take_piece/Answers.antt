@@ -26,5 +26,5 @@ returns g c =
     let r = g.P.PerformText.receives in
     subst (λ (calls : List Call). Takes r c.args.self.now calls c.take_each-2.new.self)
     (sym (ap text_calls c.split_at_scheme.ensures.joined ∙ text_calls-append front rest c.split_at_scheme.ensures.utf8))
-    (Takes-more r g.met.P.PerformText.receives_more c.args.self.now c.take_front.new.self c.take_each-2.new.self (text_calls front) (text_calls rest)
+    (Takes-more r g.met.P.PerformText.follows.more c.args.self.now c.take_front.new.self c.take_each-2.new.self (text_calls front) (text_calls rest)
     c.take_front.ensures c.take_each-2.ensures)

@@ -19,7 +19,7 @@ rest-init g c = record {
   rest_utf8 = c.utf8.text;
   joined = refl;
   taken = subst (λ (cs : List ℕ). Takes g.P.PerformText.receives c.args.self.now (prints cs) c.args.self.now) (sym chars-nil)
-      (Takes-none g.P.PerformText.receives g.met.P.PerformText.receives_none c.args.self.now);
+      (Takes-none g.P.PerformText.receives g.met.P.PerformText.follows.none c.args.self.now);
   unlinked = c.requires;
 }
 
@@ -31,7 +31,7 @@ take_byte-requires g c =
 pub rest-preserved : goal.rest-preserved
 rest-preserved g c =
     let r = g.P.PerformText.receives in
-    let more = Takes-more r g.met.P.PerformText.receives_more in
+    let more = Takes-more r g.met.P.PerformText.follows.more in
     let so_far = c.rest.invariant in
     let first = c.args.self.now in
     let piece = c.split_at_colon.result.0.now in
@@ -70,7 +70,7 @@ returns-in_default g c =
     let end = c.take_piece.new.self in
     subst (λ (calls : List Call). Takes r c.args.self.now calls end)
     (sym (ap text_calls (so_far.joined ∙ ap (λ (l : List ℕ). so_far.passed ++ l) none) ∙ text_calls-append so_far.passed piece so_far.utf8))
-    (Takes-more r g.met.P.PerformText.receives_more c.args.self.now c.rest.self end (text_calls so_far.passed) (text_calls piece) so_far.taken c.take_piece.ensures)
+    (Takes-more r g.met.P.PerformText.follows.more c.args.self.now c.rest.self end (text_calls so_far.passed) (text_calls piece) so_far.taken c.take_piece.ensures)
 
 pub returns-after-rest : goal.returns-after-rest
 returns-after-rest g c =

@@ -15,7 +15,7 @@ returns g c =
     let made = released (standing_of c.args.self).held in
     let received = c.release.ensures.received in
     let end = c.into_output.result in
-    let text : writes.text_from it made ≡ g.P.Resumable.text_after it [] made = m.Resumable.goes_on.same_text it [] it (m.PerformText.receives_none it) made in
+    let text : writes.text_from it made ≡ g.P.Resumable.text_after it [] made = m.Resumable.goes_on.same_text it [] it (m.PerformText.follows.none it) made in
     let ending : writes.ending_from then [] ≡ writes.ending_from it made =
     m.Resumable.goes_on.same_ending it made then received [] ∙ ap (λ l. writes.ending_from it l) (append-nil made) in
     Adds-append g.W.Sink (g.P.Resumable.text_after it [] made) (writes.ending_from it made) (writes.output_in it) (writes.output_in then) end

@@ -38,5 +38,5 @@ returns-clause-received g c = λ first before stands (calls, are, received).
       subst (λ l. AreCalls l (calls ++ more)) (sym (as_read-more old before c.args.bytes.now below stands))
           (Continues-calls front_of (λ _ _. ⊤) parser_added parser_after Decodes-parser_after old read
           (read_from-below parser_after (machine_of old) c.args.bytes.now below) (as_read before) stands calls are),
-      g.met.P.PerformText.receives_more first c.args.performer.now c.take_log.new.performer calls more received (returns-clause-calls g c),
+      g.met.P.PerformText.follows.more first c.args.performer.now c.take_log.new.performer calls more received (returns-clause-calls g c),
     )

@@ -16,8 +16,8 @@ returns-clause-leads g c =
     let passes = c.after_unchanged-rest.ensures in
     let unchanged = c.split_at.result.0.now in
     let same : unchanged ≡ passes.passed = passed-front is_unchanged behind rest unchanged passes c.split_at.ensures.front in
-    LeadsAsReadTo-trans g.P.Perform.means n.receives m.receives_none m.receives_one m.receives_more
-    (LeadsAsReadTo-one g.P.Perform.means n.receives m.receives_none m.receives_one m.receives_more c.args.self.now middle.self c.args.performer.now middle.performer
+    LeadsAsReadTo-trans g.P.Perform.means n.receives m.follows
+    (LeadsAsReadTo-one g.P.Perform.means n.receives m.follows c.args.self.now middle.self c.args.performer.now middle.performer
     c.args.first behind c.step_as_read.ensures.machine c.step_as_read.ensures.calls)
-    (LeadsAsReadTo-unchanged g.P.Perform.means n.receives m.receives_none m.receives_one m.receives_more middle.self after.self middle.performer after.performer behind rest passes
+    (LeadsAsReadTo-unchanged g.P.Perform.means n.receives m.follows middle.self after.self middle.performer after.performer behind rest passes
     (subst (λ (l : List ℕ). LeadsInEffectTo n.receives (stage middle.self middle.performer l) (stage after.self after.performer [])) same c.take_heeded.ensures))

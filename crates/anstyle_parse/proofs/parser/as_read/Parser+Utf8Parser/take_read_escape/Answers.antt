@@ -15,7 +15,7 @@ pub returns-in-Some-clause-leads : goal.returns-in-Some-clause-leads
 returns-in-Some-clause-leads g c =
     let n = g.P.PerformText in
     let m = g.met.P.PerformText in
-    LeadsAsReadTo-trans g.P.Perform.means n.receives m.receives_none m.receives_one m.receives_more
-    (LeadsAsReadTo-introduced g.P.Perform.means n.receives m.receives_none m.receives_one m.receives_more c.args.self.now c.begin_control_sequence.new.self c.args.performer.now
+    LeadsAsReadTo-trans g.P.Perform.means n.receives m.follows
+    (LeadsAsReadTo-introduced g.P.Perform.means n.receives m.follows c.args.self.now c.begin_control_sequence.new.self c.args.performer.now
     c.args.first c.in-Some.next.now c.args.behind.now c.in-Some.header.now c.in-Some.ensures.cases.0 c.requires.ground c.requires.escape c.if-next-eq91.true c.begin_control_sequence.ensures)
     c.take_read_header.ensures.leads

@@ -14,10 +14,10 @@ pub returns-then-is_final_byte-clause-leads : goal.returns-then-is_final_byte-cl
 returns-then-is_final_byte-clause-leads g c =
     let n = g.P.PerformText in
     let m = g.met.P.PerformText in
-    let fields = LeadsAsReadTo-fields g.P.Perform.means n.receives m.receives_none m.receives_one m.receives_more c.args.self.now c.take_fields-rest.new.self c.args.performer.now
+    let fields = LeadsAsReadTo-fields g.P.Perform.means n.receives m.follows c.args.self.now c.take_fields-rest.new.self c.args.performer.now
     c.args.bytes.now c.take_fields-rest.result.now c.take_fields-rest.ensures.leads in
-    LeadsAsReadTo-first g.P.Perform.means n.receives m.receives_none m.receives_one m.receives_more c.in-Some.ensures.cases.0 fields
-    (LeadsAsReadTo-byte g.P.Perform.means n.receives m.receives_none m.receives_one m.receives_more c.take_fields-rest.new.self c.step_by_answer.new.self c.args.performer.now c.step_by_answer.new.performer
+    LeadsAsReadTo-first g.P.Perform.means n.receives m.follows c.in-Some.ensures.cases.0 fields
+    (LeadsAsReadTo-byte g.P.Perform.means n.receives m.follows c.take_fields-rest.new.self c.step_by_answer.new.self c.args.performer.now c.step_by_answer.new.performer
     c.in-Some.last.now c.in-Some.behind.now (read_one-final c.take_fields-rest.new.self c.in-Some.last.now (sym c.is_final_byte.ensures ∙ c.if-is_final_byte.true))
     c.step_by_answer.ensures.machine c.step_by_answer.ensures.calls)
 
@@ -25,13 +25,13 @@ pub returns-else-is_final_byte-clause-leads : goal.returns-else-is_final_byte-cl
 returns-else-is_final_byte-clause-leads g c =
     let n = g.P.PerformText in
     let m = g.met.P.PerformText in
-    let fields = LeadsAsReadTo-fields g.P.Perform.means n.receives m.receives_none m.receives_one m.receives_more c.args.self.now c.take_fields-rest.new.self c.args.performer.now
+    let fields = LeadsAsReadTo-fields g.P.Perform.means n.receives m.follows c.args.self.now c.take_fields-rest.new.self c.args.performer.now
     c.args.bytes.now c.take_fields-rest.result.now c.take_fields-rest.ensures.leads in
-    LeadsAsReadTo-first g.P.Perform.means n.receives m.receives_none m.receives_one m.receives_more c.in-Some.ensures.cases.0 fields c.take_read.ensures.leads
+    LeadsAsReadTo-first g.P.Perform.means n.receives m.follows c.in-Some.ensures.cases.0 fields c.take_read.ensures.leads
 
 pub returns-in-None-clause-leads : goal.returns-in-None-clause-leads
 returns-in-None-clause-leads g c =
     let n = g.P.PerformText in
     let m = g.met.P.PerformText in
-    LeadsAsReadTo-fields g.P.Perform.means n.receives m.receives_none m.receives_one m.receives_more c.args.self.now c.take_fields-rest.new.self c.args.performer.now
+    LeadsAsReadTo-fields g.P.Perform.means n.receives m.follows c.args.self.now c.take_fields-rest.new.self c.args.performer.now
     c.args.bytes.now c.take_fields-rest.result.now c.take_fields-rest.ensures.leads

@@ -10,8 +10,8 @@ pub returns-then-first-lt-CANCEL-clause-leads : goal.returns-then-first-lt-CANCE
 returns-then-first-lt-CANCEL-clause-leads g c =
     let n = g.P.PerformText in
     let m = g.met.P.PerformText in
-    LeadsAsReadTo-first g.P.Perform.means n.receives m.receives_none m.receives_one m.receives_more c.in-Some.ensures.cases.0
-    (LeadsAsReadTo-none g.P.Perform.means n.receives m.receives_none m.receives_one m.receives_more c.args.self.now c.args.performer.now c.args.bytes.now)
-    (LeadsAsReadTo-byte g.P.Perform.means n.receives m.receives_none m.receives_one m.receives_more c.args.self.now c.step_by_answer.new.self c.args.performer.now c.step_by_answer.new.performer
+    LeadsAsReadTo-first g.P.Perform.means n.receives m.follows c.in-Some.ensures.cases.0
+    (LeadsAsReadTo-none g.P.Perform.means n.receives m.follows c.args.self.now c.args.performer.now c.args.bytes.now)
+    (LeadsAsReadTo-byte g.P.Perform.means n.receives m.follows c.args.self.now c.step_by_answer.new.self c.args.performer.now c.step_by_answer.new.performer
     c.in-Some.first.now c.in-Some.behind.now (read_one-ground c.args.self.now c.in-Some.first.now c.requires (omega (arith, c.if-first-lt-CANCEL.true)))
     c.step_by_answer.ensures.machine c.step_by_answer.ensures.calls)

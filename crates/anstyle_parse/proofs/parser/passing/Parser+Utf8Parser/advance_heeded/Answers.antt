@@ -29,5 +29,5 @@ returns-clause-received g c = λ first before stands (calls, are, received).
     let more = machine_calls parser_after c.args.bytes.now (machine_of c.args.self.now) in (
       calls ++ more,
       returns-clause-stream g c before stands calls are,
-      g.met.P.PerformText.receives_more first c.args.performer.now c.take_heeded.new.performer calls more received (returns-clause-calls g c),
+      g.met.P.PerformText.follows.more first c.args.performer.now c.take_heeded.new.performer calls more received (returns-clause-calls g c),
     )

@@ -10,14 +10,14 @@ pub rest-preserved-in-Ground : goal.rest-preserved-in-Ground
 rest-preserved-in-Ground g c =
     let n = g.P.PerformText in
     let m = g.met.P.PerformText in
-    LeadsInEffectTo-trans n.receives m.receives_more c.rest.invariant c.take_or_pass-rest.ensures.leads
+    LeadsInEffectTo-trans n.receives m.follows.more c.rest.invariant c.take_or_pass-rest.ensures.leads
 
 pub rest-preserved : goal.rest-preserved
 rest-preserved g c =
     let n = g.P.PerformText in
     let m = g.met.P.PerformText in
-    LeadsInEffectTo-trans n.receives m.receives_more c.rest.invariant
+    LeadsInEffectTo-trans n.receives m.follows.more c.rest.invariant
     (LeadsInEffectTo-text n.receives
-    (LeadsByTextTo-run g.P.Perform.means n.receives m.receives_none m.receives_one m.receives_more refl
-    (LeadsByTextTo-none g.P.Perform.means n.receives m.receives_none m.receives_one m.receives_more c.rest.self c.rest.performer c.rest.rest.now)
+    (LeadsByTextTo-run g.P.Perform.means n.receives m.follows refl
+    (LeadsByTextTo-none g.P.Perform.means n.receives m.follows c.rest.self c.rest.performer c.rest.rest.now)
     c.take_first-rest.ensures.leads))

@@ -8,7 +8,7 @@ returns-in-Some-clause-leads g c =
     let n = g.P.PerformText in
     let m = g.met.P.PerformText in
     let further = c.take_text-further.result.now in
-    LeadsInEffectTo-trans n.receives m.receives_more
+    LeadsInEffectTo-trans n.receives m.follows.more
     (LeadsInEffectTo-text n.receives c.take_text-further.ensures.leads)
     (LeadsInEffectTo-sequence n.receives c.args.self.now c.take_text-further.new.performer further c.in-Some.behind.now
     c.requires c.in-Some.ensures.sequence c.in-Some.ensures.passes)
@@ -21,5 +21,5 @@ returns-in-None-clause-leads g c =
     let n = g.P.PerformText in
     let m = g.met.P.PerformText in
     LeadsInEffectTo-text n.receives
-    (LeadsByTextTo-run g.P.Perform.means n.receives m.receives_none m.receives_one m.receives_more refl
+    (LeadsByTextTo-run g.P.Perform.means n.receives m.follows refl
     c.take_text-further.ensures.leads c.take_unprinted.ensures.leads)

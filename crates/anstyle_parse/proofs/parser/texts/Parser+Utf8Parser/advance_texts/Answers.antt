@@ -24,7 +24,7 @@ returns-clause-received g c = λ first before stands (calls, are, received).
     let more = machine_calls parser_after c.args.bytes.now (machine_of c.args.self.now) in (
       calls ++ more,
       returns-clause-stream g c before stands calls are,
-      g.met.P.PerformText.receives_more first c.args.performer.now c.take_texts.new.performer calls more received c.take_texts.ensures.calls,
+      g.met.P.PerformText.follows.more first c.args.performer.now c.take_texts.new.performer calls more received c.take_texts.ensures.calls,
     )
 
 pub returns-clause-limits : goal.returns-clause-limits

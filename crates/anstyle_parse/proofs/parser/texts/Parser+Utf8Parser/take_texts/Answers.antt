@@ -12,11 +12,11 @@ pub rest-preserved-in-Ground : goal.rest-preserved-in-Ground
 rest-preserved-in-Ground g c =
     let n = g.P.PerformText in
     let m = g.met.P.PerformText in
-    LeadsByTextTo-run g.P.Perform.means n.receives m.receives_none m.receives_one m.receives_more refl
-    (LeadsByTextTo-trans g.P.Perform.means n.receives m.receives_none m.receives_one m.receives_more c.rest.invariant c.take_text-further.ensures.leads) c.take_unprinted-rest.ensures.leads
+    LeadsByTextTo-run g.P.Perform.means n.receives m.follows refl
+    (LeadsByTextTo-trans g.P.Perform.means n.receives m.follows c.rest.invariant c.take_text-further.ensures.leads) c.take_unprinted-rest.ensures.leads
 
 pub rest-preserved : goal.rest-preserved
 rest-preserved g c =
     let n = g.P.PerformText in
     let m = g.met.P.PerformText in
-    LeadsByTextTo-run g.P.Perform.means n.receives m.receives_none m.receives_one m.receives_more refl c.rest.invariant c.take_first-rest.ensures.leads
+    LeadsByTextTo-run g.P.Perform.means n.receives m.follows refl c.rest.invariant c.take_first-rest.ensures.leads

@@ -1,10 +1,11 @@
-//! The front of sixteen bytes: looked at and moved whole, whatever part of them it is.
+//! Short texts and few fields: looked at and moved by a whole block, whatever their length is.
 ghost use Rattle.std.specs.Prelude.{◌≡◌, ◌≤◌, ◌<◌, ◌-◌, ◌*◌, ◌++◌, ◌∷◌, [], ℕ, map, length, take, drop, get_or, not, IsTrue};
 ghost use Rattle.std.specs.Simd.Lanes.{mask_l};
 ghost use Rattle.anstyle_parse.specs.Stream.Items.{EachIs};
 ghost use Rattle.anstyle_parse.specs.Stream.Texts.{is_layout};
 ghost use Rattle.event_pieces.specs.Event.{groups_bytes};
 
+use anstyle_parse::Padded;
 use std::simd::prelude::*;
 
 /// How many bytes are moved at once.
@@ -48,26 +49,25 @@ fn layouts(bytes: u8x16) -> u64
         | bytes.simd_eq(u8x16::splat(b'\r'))).to_bitmask()
 }
 
-/// How many of the first `count` bytes come before the first layout control.
+/// How many bytes of a text come before its first layout control.
 #[inline(always)]
-pub(crate) fn before_layout(block: &[u8; BLOCK], count: usize) -> usize
-    requires { count ≤ length block.now }
-    ensures within { result ≤ count }
-    ensures shown { EachIs (λ b. not (is_layout b)) (take result block.now) }
-    ensures ends { result < count → IsTrue (is_layout (get_or block.now result 0)) }
+pub(crate) fn before_layout(text: &Padded<'_>) -> usize
+    ensures within { result ≤ length text.now }
+    ensures shown { EachIs (λ b. not (is_layout b)) (take result text.now) }
+    ensures ends { result < length text.now → IsTrue (is_layout (get_or text.now result 0)) }
 {
-    let found = layouts(u8x16::from_array(*block));
-    (found.trailing_zeros() as usize).min(count)
+    let found = layouts(u8x16::from_array(*text.chunk()));
+    (found.trailing_zeros() as usize).min(text.len())
 }
 
-/// The bytes of a block from a place on, at the front of another one.
+/// What a text has from a place on, at the front of another block.
 #[inline(always)]
-pub(crate) fn from_place(block: &[u8; BLOCK], place: usize) -> [u8; BLOCK]
-    requires { place ≤ length block.now }
-    ensures { take (length block.now - place) result ≡ drop place block.now }
+pub(crate) fn from_place(text: &Padded<'_>, place: usize) -> [u8; BLOCK]
+    requires { place ≤ length text.now }
+    ensures { take (length text.now - place) result ≡ drop place text.now }
 {
     let mut wide = [0; 2 * BLOCK];
-    wide[..BLOCK].copy_from_slice(block);
+    wide[..BLOCK].copy_from_slice(text.chunk());
     let mut moved = [0; BLOCK];
     moved.copy_from_slice(&wide[place..place + BLOCK]);
     moved

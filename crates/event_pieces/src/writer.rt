@@ -11,7 +11,7 @@ use crate::event::{
     CSI, ESC, EXECUTE, Event, HOOK, MAX_INTERMEDIATES, OSC, PADDING, PUT, TEXT, UNHOOK,
 };
 use crate::front::{BLOCK, FIELDS_OF_A_BLOCK, before_layout, fields_block, from_place};
-use anstyle_parse::{Params, Perform, PerformText};
+use anstyle_parse::{Padded, Params, Perform, PerformText};
 use stream_state::put_over;
 
 /// Writes records of calls after those that are written, as far as there is room for them.
@@ -83,29 +83,27 @@ impl<'a> EventWriter<'a> {
         }
     }
 
-    /// The first `count` bytes of a block. Where there is room for all of it, it is put whole: what the room has
-    /// after them is put where it was.
+    /// Up to sixteen bytes more. Where there is room for a whole block, one is put: what the room has after the bytes is
+    /// put where it was.
     #[inline(always)]
-    fn put_front(&mut self, block: &[u8; BLOCK], count: usize)
-        requires { count ≤ length block.now }
-        ensures { Puts (take count block.now) self.old self.new }
+    fn put_padded(&mut self, bytes: &Padded<'_>)
+        ensures { Puts bytes.now self.old self.new }
     {
         let start = self.used;
         if self.room.len() < BLOCK || start > self.room.len() - BLOCK {
-            self.put_few(block, count);
+            self.put_few(bytes.as_bytes());
             return;
         }
-        put_over(&mut self.room[start..start + BLOCK], block, count);
-        self.used = start + count;
+        put_over(&mut self.room[start..start + BLOCK], bytes);
+        self.used = start + bytes.len();
     }
 
     /// The same where there is room for less. It is out of line, so that no other call pays for it.
     #[inline(never)]
-    fn put_few(&mut self, block: &[u8; BLOCK], count: usize)
-        requires { count ≤ length block.now }
-        ensures { Puts (take count block.now) self.old self.new }
+    fn put_few(&mut self, bytes: &[u8])
+        ensures { Puts bytes.now self.old self.new }
     {
-        self.put_bytes(&block[..count]);
+        self.put_bytes(bytes);
     }
 
     /// The fields of a group.
@@ -120,14 +118,14 @@ impl<'a> EventWriter<'a> {
         }
     }
 
-    /// The fields of a header. Few that are each a group of their own are put as the front of a block.
+    /// The fields of a header. Few that are each a group of their own are put by a whole block.
     #[inline]
     fn put_fields(&mut self, params: &Params)
         ensures { Puts (groups_bytes (groups_shown params.now)) self.old self.new }
     {
         match params.lone_fields() {
             Some((fields, count)) if count <= FIELDS_OF_A_BLOCK => {
-                self.put_front(&fields_block(fields), 3 * count);
+                self.put_padded(&Padded::new(&fields_block(fields), 3 * count));
             }
             _ => self.put_groups(params),
         }
@@ -217,18 +215,17 @@ impl<'a> EventWriter<'a> {
         self.note_text(start);
     }
 
-    /// The text that the first `count` bytes of a block are, unless it is empty.
+    /// The same with a text of up to sixteen bytes.
     #[inline(always)]
-    fn put_front_text(&mut self, block: &[u8; BLOCK], count: usize)
-        requires within { count ≤ length block.now }
-        requires text { IsUtf8 (take count block.now) }
-        ensures { Adds (text_calls (take count block.now)) self.old self.new }
+    fn put_padded_text(&mut self, text: &Padded<'_>)
+        requires text { IsUtf8 text.now }
+        ensures { Adds (text_calls text.now) self.old self.new }
     {
-        if count == 0 {
+        if text.len() == 0 {
             return;
         }
         let start = self.used;
-        self.put_front(block, count);
+        self.put_padded(text);
         self.note_text(start);
     }
 
@@ -337,15 +334,17 @@ impl<'a> PerformText for EventWriter<'a> {
         self.put_text(text);
     }
 
-    /// Each text up to a layout control is put as the front of a block.
-    fn print_front(&mut self, chunk: &[u8; 16], count: usize) {
-        let mut at = before_layout(chunk, count);
-        self.put_front_text(chunk, at);
-        'layout: while at < count {
-            self.execute(chunk[at]);
-            let behind = from_place(chunk, at + 1);
-            let shown = before_layout(&behind, count - at - 1);
-            self.put_front_text(&behind, shown);
+    /// Each text up to a layout control is put by a whole block.
+    fn print_padded(&mut self, text: &Padded<'_>) {
+        let all = text.as_bytes();
+        let mut at = before_layout(text);
+        self.put_padded_text(&text.first(at));
+        'layout: while at < all.len() {
+            self.execute(all[at]);
+            let moved = from_place(text, at + 1);
+            let behind = Padded::new(&moved, all.len() - at - 1);
+            let shown = before_layout(&behind);
+            self.put_padded_text(&behind.first(shown));
             at += 1 + shown;
         }
     }

@@ -7,7 +7,7 @@ use crate::state::HtmlState;
 use ansi_html::{HtmlWriter, verbatim_length};
 use anstyle_parse::io::{Output, WritingPerformer};
 use anstyle_parse::{Parser, Utf8Parser};
-use stream_state::{Fed, LentBytes, print_end, put_front};
+use stream_state::{Fed, LentBytes, print_end, put_at_start};
 
 /// The bytes of room with which a stream always goes on: what one byte may lead to, where it opens a link
 /// of 1,035 bytes.
@@ -96,7 +96,7 @@ impl HtmlState {
         print_end(&mut writer, is_begun);
         let (buffer, _) = writer.into_output().finish();
         *self = HtmlState::new(self.styling());
-        Some(put_front(room, buffer.bytes()))
+        Some(put_at_start(room, buffer.bytes()))
     }
 
     /// Takes the verbatim text at the front of the piece, if that is all of it, or more than half of it and more than
@@ -117,7 +117,7 @@ impl HtmlState {
         if taken < piece.len() && taken <= sure.max(piece.len() / 2) {
             return None;
         }
-        Some(put_front(room, &piece[..taken]))
+        Some(put_at_start(room, &piece[..taken]))
     }
 
     /// Takes bytes from the front of the piece: those that are tried first, or as many of them as find room.
@@ -250,7 +250,7 @@ impl HtmlState {
         let html = buffer.bytes();
         let faded = self.html_of_a_byte - self.html_of_a_byte / FADES;
         self.html_of_a_byte = faded.max((html.len() / piece.len().max(1)).min(255) as u8);
-        Some(put_front(room, html))
+        Some(put_at_start(room, html))
     }
 }
 

@@ -7,7 +7,7 @@ use crate::state::SafeState;
 use anstyle_parse::io::{Output, WritingPerformer};
 use anstyle_parse::{Parser, Utf8Parser};
 use safe_text::MarkingWriter;
-use stream_state::{Fed, LentBytes, print_end, put_front};
+use stream_state::{Fed, LentBytes, print_end, put_at_start};
 
 /// The bytes of safe text at most that a character leads to.
 const TEXT_OF_A_CHARACTER: usize = 10;
@@ -84,7 +84,7 @@ impl SafeState {
         print_end(&mut writer, is_begun);
         let (buffer, _) = writer.into_output().finish();
         *self = SafeState::new();
-        Some(put_front(room, buffer.bytes()))
+        Some(put_at_start(room, buffer.bytes()))
     }
 
     /// Takes a short piece. Apart, since a call clears its own arrays, used or not.
@@ -130,7 +130,7 @@ impl SafeState {
         self.stream.save(&parser);
         self.save(writer.standing());
         let (buffer, _) = writer.suspend().finish();
-        put_front(room, buffer.bytes())
+        put_at_start(room, buffer.bytes())
     }
 }
 

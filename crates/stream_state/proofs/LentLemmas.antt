@@ -1,4 +1,4 @@
--- What was added to lent memory, and what is put at the front of a room.
+-- What was added to lent memory, and what is put at the start of a room.
 use Rattle.std.proofs.Common.{true, false, ◌≡◌, ◌≢◌, ◌<◌, ◌≤◌, ◌+◌, ◌-◌, ℕ, List, [], ◌∷◌, ◌++◌, length, take, drop, refl, sym, ap, ap₂, ◌∙◌, subst, arith, ⊎_elim, append-nil, length-append, length-take, length-drop}
 use Rattle.std.specs.Prelude.{Option, None, Some, Result, Err, MatchOption, ◌⊎◌}
 use Rattle.std.specs.Io.KnownBytes.{Keeps}
@@ -82,10 +82,10 @@ put_rest from all rest =
     ap (λ l. take from all ++ (rest ++ l)) (nil_from_length behind (omega (arith, length-drop (length all - from) (drop from all), length-drop from all)))
     ∙ ap (λ l. take from all ++ l) (append-nil rest)
 
--- bytes that are put at the front of a room
+-- bytes that are put at the start of a room
 module _ (bytes room after : List ℕ) (written : ℕ) (counted : written ≡ length bytes) (put : after ≡ bytes ++ drop (length bytes) room) where
-  pub put-front : take written after ≡ bytes
-  put-front = ap₂ (λ n (l : List ℕ). take n l) counted put ∙ take-append_seam bytes (drop (length bytes) room)
+  pub put-start : take written after ≡ bytes
+  put-start = ap₂ (λ n (l : List ℕ). take n l) counted put ∙ take-append_seam bytes (drop (length bytes) room)
 
   pub put-behind : drop written after ≡ drop written room
   put-behind = ap₂ (λ n (l : List ℕ). drop n l) counted put ∙ drop-append_seam bytes (drop (length bytes) room) ∙ ap (λ n. drop n room) (sym counted)
@@ -93,7 +93,7 @@ module _ (bytes room after : List ℕ) (written : ℕ) (counted : written ≡ le
   pub put-length : length bytes ≤ length room → length after ≡ length room
   put-length fits = omega (arith, fits, ap length put, length-append bytes (drop (length bytes) room), length-drop (length bytes) room)
 
--- some bytes at the front of a room, and then others in what is left of it
+-- some bytes at the start of a room, and then others in what is left of it
 module _ (room between rest after : List ℕ) (written further : ℕ) (same : length between ≡ length room) (fits : written ≤ length room)
     (whole : after ≡ take written between ++ rest) where
   long : length (take written between) ≡ written

@@ -28,7 +28,7 @@ use ansi_strip::Inert;
 use ansi_strip::LineFeeds;
 use ansi_strip::Stripper;
 use ansi_strip::is_clear;
-use ansi_strip::is_clear_front;
+use ansi_strip::is_clear_padded;
 use ansi_strip::is_driving;
 use ansi_strip::is_layout;
 use ansi_strip::split_at_driving;
@@ -43,6 +43,7 @@ use ansi_style::bytes::kind_number;
 use anstyle_parse::AsciiParser;
 use anstyle_parse::CharAccumulator;
 use anstyle_parse::DefaultCharAccumulator;
+use anstyle_parse::Padded;
 use anstyle_parse::Params;
 use anstyle_parse::ParamsIter;
 use anstyle_parse::Parser;
@@ -407,7 +408,14 @@ fn assert_kinds_of_bytes(rt: &impl Abort) {
     assert!(rt; MAX_CHECKPOINT > 0 && is_layout(b'\t') && !is_layout(0x07));
     assert!(rt; is_driving('\u{9B}') && !is_driving('\u{A0}'));
     assert!(rt; is_clear(b"a\n") && !is_clear(b"a\x7F"));
-    assert!(rt; is_clear_front(b"a\x7F--------------", 1));
+}
+
+fn assert_padded(rt: &impl Abort) {
+    let text = Padded::new(b"a\x7F--------------", 2);
+    let first = text.first(1);
+    assert!(rt; text.len() == 2 && text.chunk()[2] == b'-');
+    assert!(rt; is_clear_padded(&first) && !is_clear_padded(&text));
+    assert_bytes(rt, first.as_bytes(), b"a");
 }
 
 fn assert_split(rt: &impl Abort) {
@@ -427,6 +435,7 @@ fn names_of_runs(rt: HostRuntime) {
     let parser = Parser::<Utf8Parser>::new();
     assert_well(&rt, checkpoint(&parser, memory(rt.alloc())));
     assert_kinds_of_bytes(&rt);
+    assert_padded(&rt);
     assert_split(&rt);
 }
 

@@ -8,7 +8,7 @@ use safe_pieces::{END_ROOM, LEAST_ROOM, SafeState};
 use safe_text::{Held, MarkedStanding, MarkingWriter, SafeWriter, Standing};
 use std::process::Abort;
 use std::test::Fail;
-use stream_state::{LentBytes, put_front};
+use stream_state::{LentBytes, put_at_start};
 
 /// The bytes of a stream one by one, and then its end, in the least room: its text is this.
 fn assert_safe(rt: &(impl Abort + AllocGlobal), stream: &[u8], wanted: &str) -> Result<(), Fail> {
@@ -48,9 +48,9 @@ fn assert_room(rt: &impl Abort) {
     assert!(rt; state.end(&mut room[..END_ROOM - 1]) == None);
 }
 
-fn assert_front(rt: &impl Abort) {
+fn assert_put_at_start(rt: &impl Abort) {
     let mut room = [0; 64];
-    assert_eq!(rt; put_front(&mut room, b"ab"), 2);
+    assert_eq!(rt; put_at_start(&mut room, b"ab"), 2);
     assert_eq!(rt; room[1], b'b');
 }
 
@@ -82,7 +82,7 @@ fn assert_before(rt: &impl Abort, standing: Standing, wanted: char) {
 #[test]
 fn names_of_pieces(rt: HostRuntime) {
     assert_room(&rt);
-    assert_front(&rt);
+    assert_put_at_start(&rt);
     assert_lent(&rt);
     let mut more = [0; 16];
     let standing = Standing {

@@ -1,6 +1,7 @@
 //! Writers of std behind a buffer, with faults in turn, where no clause sees what they hold. Nothing
 //! is lost, doubled or out of order, writes are few, and a fault has the name of the call that
 //! failed at the writer behind.
+use anstyle_parse::Padded;
 use anstyle_parse::canon::{
     Buffer, CanonWriter, Fault, FromRead, FromWrite, Output, Sink, write_calls,
 };
@@ -71,11 +72,12 @@ fn assert_lines(rt: &impl Abort, buffer: Buffered, text: &[u8], writes: u64) {
     assert_written(rt, output, text, writes);
 }
 
-/// The same where each line stands at the front of a block.
-fn assert_fronts(rt: &impl Abort, buffer: Buffered, text: &[u8], writes: u64) {
+/// The same where each line may be read past its end.
+fn assert_padded_lines(rt: &impl Abort, buffer: Buffered, text: &[u8], writes: u64) {
     let mut output = Output::new(buffer);
+    let line = Padded::new(b"print U+0061\nend", 13);
     for _ in 0..1000 {
-        output.put_front(b"print U+0061\nend", 13);
+        output.put_padded(&line);
     }
     assert_written(rt, output, text, writes);
 }
@@ -97,9 +99,9 @@ fn few_writes(rt: HostRuntime) -> Result<(), Fail> {
     let lines = Buffer::by_line(FromWrite::new(Paper::new(rt.alloc())));
     assert_lines(&rt, lines, text.as_slice(), 1000);
     let all = Buffer::new(FromWrite::new(Paper::new(rt.alloc())));
-    assert_fronts(&rt, all, text.as_slice(), 2);
+    assert_padded_lines(&rt, all, text.as_slice(), 2);
     let lines = Buffer::by_line(FromWrite::new(Paper::new(rt.alloc())));
-    assert_fronts(&rt, lines, text.as_slice(), 1000);
+    assert_padded_lines(&rt, lines, text.as_slice(), 1000);
     Ok(())
 }
 

@@ -1,13 +1,14 @@
 -- A text is one record, and none where it is empty.
-use Rattle.std.proofs.Common.{◌<◌, length, take, ap, arith, length-take}
+use Rattle.std.proofs.Common.{◌<◌, length, arith}
+use Rattle.std.proofs.lemmas.List.{nil_from_length}
 use Rattle.event_pieces.proofs.Texts.{Adds-no_text, Adds-some_text}
-use Rattle.event_pieces.proofs.writer.EventWriter.put_front_text.Goals as goal
+use Rattle.event_pieces.proofs.writer.EventWriter.put_padded_text.Goals as goal
 
-pub returns-then-count-eq0 : goal.returns-then-count-eq0
-returns-then-count-eq0 c = Adds-no_text (take c.args.count c.args.block.now) c.args.self.now (ap (λ n. take n c.args.block.now) c.if-count-eq0.true)
+pub returns-then-len-eq0 : goal.returns-then-len-eq0
+returns-then-len-eq0 c = Adds-no_text c.args.text.now c.args.self.now (nil_from_length c.args.text.now (omega (arith, c.len.ensures.value, c.if-len-eq0.true)))
 
 pub returns : goal.returns
 returns c =
-    let text = take c.args.count c.args.block.now in
-    let some : 0 < length text = omega (arith, length-take c.args.count c.args.block.now, c.requires.within, c.if-count-eq0.false) in
-    Adds-some_text text c.args.self.now c.put_front.new.self c.note_text.new.self c.requires.text some c.put_front.ensures c.note_text.ensures
+    let text = c.args.text.now in
+    let some : 0 < length text = omega (arith, c.len.ensures.value, c.if-len-eq0.false) in
+    Adds-some_text text c.args.self.now c.put_padded.new.self c.note_text.new.self c.requires.text some c.put_padded.ensures c.note_text.ensures

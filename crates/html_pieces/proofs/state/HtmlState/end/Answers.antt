@@ -11,7 +11,7 @@ use Rattle.html_pieces.proofs.LighterLemmas.{length-end_calls}
 use Rattle.html_pieces.proofs.StateLemmas.{AreSound-kept}
 use Rattle.stream_state.specs.Log.{end_calls}
 use Rattle.stream_state.specs.contracts.bounded_sink.LentBytesSink.TheImpl.{ghosts}
-use Rattle.stream_state.proofs.LentLemmas.{held-all, no_fault-within, put-front, put-behind}
+use Rattle.stream_state.proofs.LentLemmas.{held-all, no_fault-within, put-start, put-behind}
 use Rattle.html_pieces.proofs.state.HtmlState.end.Goals as goal
 
 pub returns-clause-ended : goal.returns-clause-ended
@@ -40,14 +40,14 @@ returns-clause-ended c =
     let no_fault = no_fault-within text c.new.result old new begins c.new.ensures.nothing without added (omega (arith, ap length is, long, short, few, c.new.ensures.limit)) in
     let whole = held-all text c.new.result old new begins c.new.ensures.nothing without added buffer c.finish-buffer.result.1 no_fault c.finish-buffer.ensures.finishes in
     let html = c.bytes.ensures ∙ whole.1 ∙ is in
-    let front = put-front c.bytes.result.now c.args.room.now c.put_front.new.room c.put_front.result c.put_front.ensures.length c.put_front.ensures.written ∙ html in
+    let front = put-start c.bytes.result.now c.args.room.now c.put_at_start.new.room c.put_at_start.result c.put_at_start.ensures.length c.put_at_start.ensures.written ∙ html in
     record {
       enough_room = omega arith;
-      written_fits = omega (arith, c.put_front.ensures.length, ap length html, long, short, few);
+      written_fits = omega (arith, c.put_at_start.ensures.length, ap length html, long, short, few);
       calls = calls;
       adds = c.is_in_char-is_begun.ensures.ends;
       closes = front;
-      untouched = put-behind c.bytes.result.now c.args.room.now c.put_front.new.room c.put_front.result c.put_front.ensures.length c.put_front.ensures.written;
+      untouched = put-behind c.bytes.result.now c.args.room.now c.put_at_start.new.room c.put_at_start.result c.put_at_start.ensures.length c.put_at_start.ensures.written;
       html = λ before stands. (
         calls,
         c.is_in_char-is_begun.ensures.ends before stands.stream,

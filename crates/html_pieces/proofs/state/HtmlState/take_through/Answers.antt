@@ -21,7 +21,7 @@ use Rattle.stream_state.specs.contracts.bounded_sink.LentBytesSink.TheImpl.{ghos
 use Rattle.html_pieces.specs.State.{styling_in, standing_of}
 use Rattle.html_pieces.proofs.LighterLemmas.{html-lighter}
 use Rattle.html_pieces.proofs.StateLemmas.{AreSound-kept, kept-sound}
-use Rattle.stream_state.proofs.LentLemmas.{held-all, longer, no_fault-of, some_fault-of, put-front, put-behind, put-length}
+use Rattle.stream_state.proofs.LentLemmas.{held-all, longer, no_fault-of, some_fault-of, put-start, put-behind, put-length}
 use Rattle.html_pieces.proofs.state.HtmlState.take_through.Goals as goal
 
 pub returns-then-is_some-clause-little_room : goal.returns-then-is_some-clause-little_room
@@ -89,7 +89,7 @@ returns-clause-taken c =
     let fits : length c.bytes-html.result.now ≤ length c.args.room.now = omega (arith, ap length c.bytes-html.ensures, length-take buffer.written buffer.into.now, buffer.within, whole.0, c.new.ensures.limit) in
     record {
       calls = calls;
-      same_length = put-length c.bytes-html.result.now c.args.room.now c.put_front.new.room c.put_front.result c.put_front.ensures.length c.put_front.ensures.written fits;
+      same_length = put-length c.bytes-html.result.now c.args.room.now c.put_at_start.new.room c.put_at_start.result c.put_at_start.ensures.length c.put_at_start.ensures.written fits;
       continues = λ before is.
           ContinuesLog-calls parser piece (bytes_below piece (λ i. omega (arith, c.type_inv.piece i))) before
           (c.resume_in.ensures (as_read before) c.new-parser.ensures.stands is);
@@ -98,7 +98,7 @@ returns-clause-taken c =
           (c.save.ensures (as_read (before ++ piece)) (c.advance_log.ensures.stands before (c.resume_in.ensures (as_read before) c.new-parser.ensures.stands is)));
       styling = c.save-2.ensures.styling;
       standing = ap kept (c.save-2.ensures.standing ∙ c.standing-2.ensures ∙ stands) ∙ kept-sound _ is_sound;
-      written_fits = omega (arith, c.put_front.ensures.length, fits);
-      html = put-front c.bytes-html.result.now c.args.room.now c.put_front.new.room c.put_front.result c.put_front.ensures.length c.put_front.ensures.written ∙ html ∙ ap₂ (λ it s. html_from it s calls) styling at;
-      untouched = put-behind c.bytes-html.result.now c.args.room.now c.put_front.new.room c.put_front.result c.put_front.ensures.length c.put_front.ensures.written;
+      written_fits = omega (arith, c.put_at_start.ensures.length, fits);
+      html = put-start c.bytes-html.result.now c.args.room.now c.put_at_start.new.room c.put_at_start.result c.put_at_start.ensures.length c.put_at_start.ensures.written ∙ html ∙ ap₂ (λ it s. html_from it s calls) styling at;
+      untouched = put-behind c.bytes-html.result.now c.args.room.now c.put_at_start.new.room c.put_at_start.result c.put_at_start.ensures.length c.put_at_start.ensures.written;
     }

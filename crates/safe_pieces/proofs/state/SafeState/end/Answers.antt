@@ -4,7 +4,7 @@ use Rattle.std.specs.Str.{encode_utf8_all}
 use Rattle.anstyle_parse.specs.Io.Output.{writer_in, fault_in}
 use Rattle.stream_state.specs.Log.{end_calls}
 use Rattle.stream_state.specs.contracts.bounded_sink.LentBytesSink.TheImpl.{ghosts}
-use Rattle.stream_state.proofs.LentLemmas.{held-all, no_fault-within, put-front, put-behind}
+use Rattle.stream_state.proofs.LentLemmas.{held-all, no_fault-within, put-start, put-behind}
 use Rattle.safe_text.specs.Safe.{safe_from}
 use Rattle.safe_text.specs.Marks.{Hiding, marked_from, hiding_from, closing, decided_marked}
 use Rattle.safe_text.specs.Writer.{before_in as writer_before, held_in as writer_held}
@@ -53,14 +53,14 @@ returns-clause-ended c =
     let whole = held-all text c.new.result (output_in writer) c.into_output.result begins c.new.ensures.nothing without added buffer c.finish-buffer.result.1 no_fault
     c.finish-buffer.ensures.finishes in
     let written = c.bytes.ensures ∙ whole.1 ∙ is in
-    let front = put-front c.bytes.result.now c.args.room.now c.put_front.new.room c.put_front.result c.put_front.ensures.length c.put_front.ensures.written ∙ written in
+    let front = put-start c.bytes.result.now c.args.room.now c.put_at_start.new.room c.put_at_start.result c.put_at_start.ensures.length c.put_at_start.ensures.written ∙ written in
     record {
       enough_room = omega arith;
-      written_fits = omega (arith, c.put_front.ensures.length, ap length written, short, few, many, two, marks, close, begun);
+      written_fits = omega (arith, c.put_at_start.ensures.length, ap length written, short, few, many, two, marks, close, begun);
       calls = calls;
       adds = c.is_in_char-is_begun.ensures.ends;
       ending = front;
-      untouched = put-behind c.bytes.result.now c.args.room.now c.put_front.new.room c.put_front.result c.put_front.ensures.length c.put_front.ensures.written;
+      untouched = put-behind c.bytes.result.now c.args.room.now c.put_at_start.new.room c.put_at_start.result c.put_at_start.ensures.length c.put_at_start.ensures.written;
       text = λ before stands own all are these.
           end-rest state calls c.is_in_char-is_begun.ensures.ends before stands own all are these ∙ ap (λ t. decided_marked own ++ t) (sym front);
       begins = c.new-2.ensures;

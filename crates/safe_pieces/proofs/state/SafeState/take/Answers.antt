@@ -14,7 +14,7 @@ use Rattle.stream_state.specs.Log.{StandsForLog, ContinuesLog}
 use Rattle.stream_state.specs.State.{pending_of}
 use Rattle.stream_state.proofs.LogLemmas.{any_log, ContinuesLog-calls}
 use Rattle.stream_state.proofs.LogQuoted.{quoted-log}
-use Rattle.stream_state.proofs.LentLemmas.{put-front, put-behind, put-length}
+use Rattle.stream_state.proofs.LentLemmas.{put-start, put-behind, put-length}
 use Rattle.safe_text.specs.Decided.{decided_from, last_from, waiting}
 use Rattle.safe_text.specs.Marks.{Hiding, marked_from, hiding_from}
 use Rattle.safe_text.proofs.MarkLemmas.{hiding-same}
@@ -28,8 +28,8 @@ save-requires c =
     let log = any_log (pending_of c.args.self.now.stream) in
     (as_read (log.0 ++ c.args.piece.now), c.advance_log.ensures.stands log.0 (c.resume_in.ensures (as_read log.0) c.new-parser.ensures.stands log.1))
 
-pub put_front-requires : goal.put_front-requires
-put_front-requires c =
+pub put_at_start-requires : goal.put_at_start-requires
+put_at_start-requires c =
     let piece = c.args.piece.now in
     let parser = c.resume_in.new.parser in
     let calls = machine_calls parser_after (read_by parser piece) (machine_of parser) in
@@ -77,9 +77,9 @@ returns c =
       hiding = hiding-same _ _ _ _ (c.save-2.ensures.is_hidden ∙ c.standing-2.ensures.is_hidden) (c.save-2.ensures.is_open ∙ c.standing-2.ensures.is_open)
           ∙ taken.hiding ∙ ap (λ at. hiding_from at calls) hiding;
       few_calls = few;
-      same_length = put-length bytes room c.put_front.new.room c.put_front.result c.put_front.ensures.length c.put_front.ensures.written fits;
-      written_fits = omega (arith, c.put_front.ensures.length, ap length written, text-short writer calls, few, c.requires.room);
-      text = put-front bytes room c.put_front.new.room c.put_front.result c.put_front.ensures.length c.put_front.ensures.written
+      same_length = put-length bytes room c.put_at_start.new.room c.put_at_start.result c.put_at_start.ensures.length c.put_at_start.ensures.written fits;
+      written_fits = omega (arith, c.put_at_start.ensures.length, ap length written, text-short writer calls, few, c.requires.room);
+      text = put-start bytes room c.put_at_start.new.room c.put_at_start.result c.put_at_start.ensures.length c.put_at_start.ensures.written
           ∙ written ∙ ap₂ (λ b (l : List ℕ). encode_utf8_all (decided_from b l)) before made;
-      untouched = put-behind bytes room c.put_front.new.room c.put_front.result c.put_front.ensures.length c.put_front.ensures.written;
+      untouched = put-behind bytes room c.put_at_start.new.room c.put_at_start.result c.put_at_start.ensures.length c.put_at_start.ensures.written;
     }

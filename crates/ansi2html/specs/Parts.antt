@@ -22,8 +22,8 @@ around part = (part.before.items, map name_of part.readers.items, part.after.now
 abbrev pub WritesPart : {R W : Type 0} → SourceOf R → SinkOf W → (text : Given → List ℕ) → (part part_after : Part R)
     → (writer writer_after : W) → Result (Unit {0}) Stopped → Type 0
 WritesPart source sink text part part_after writer writer_after answer =
-    WritesEach source sink text part.before.items part.after.now part.readers.items part_after.readers.items
-    writer writer_after answer
+    WritesEach source sink text (part.before.items, part.after.now) part.readers.items part_after.readers.items
+    writer (writer_after, answer)
     × OnOk answer (sink.holds_nothing writer_after)
 
 -- After one that was written whole the next comes; after another none.

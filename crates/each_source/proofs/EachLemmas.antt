@@ -114,7 +114,7 @@ module _ {W T : Type 0} (sink : SinkOf W) where
       → AreRead source (fault_in middle ≡ None) ⊥ readers readers_after given → (fault_in middle ≡ None → length given ≡ length readers)
       → (answer ≡ Err Write) ⊎ (fault_in final ≡ None) → Writes (head ++ (flat_map text given ++ tail)) (sink.contents writer) (sink.contents new) answer
       → Causes (sink.has_failed writer) (sink.has_failed new) answer
-      → WritesEach source sink text head tail readers readers_after writer new (stopped_by answer)
+      → WritesEach source sink text (head, tail) readers readers_after writer (new, stopped_by answer)
   WritesEach-from source text head tail readers readers_after writer new middle final (Ok done) given before are all (inl e) written causes =
       absurd (let clash : Ok done ≡ Err Write = e in cc)
   WritesEach-from source text head tail readers readers_after writer new middle final (Ok done) given before are all (inr clear) written causes = record {
@@ -145,7 +145,7 @@ module _ {W : Type 0} (sink : SinkOf W) where
       (first final : Output W) (answer : Result S Stopped) → is_err answer ≡ true
       → (added : AddsEach source sink text readers readers_after first final answer)
       → (fault_in final ≡ None → Appends (sink.contents writer) (sink.contents new) (head ++ flat_map text added.given))
-      → WritesEach source sink text head tail readers readers_after writer new answer
+      → WritesEach source sink text (head, tail) readers readers_after writer (new, answer)
   WritesEach-stopped source text head tail readers readers_after writer new first final (Ok done) is added written =
       absurd (let clash : false ≡ true = is in cc)
   WritesEach-stopped source text head tail readers readers_after writer new first final (Err NoMemory) is added written = record {

@@ -127,12 +127,13 @@ StopsBy failed failed_after (Err (AtFault fault)) = IsTrue failed_after
 StopsBy failed failed_after (Err NoMemory) = ⊤
 StopsBy failed failed_after (Err Stuck) = ⊤
 
--- A run over sources: what each gave and the calls of what is read of it, what was written, and why no more was.
+-- A run over sources: what each gave and the calls of what is read of it, what was written with a head and a tail
+-- around it, and why no more was.
 pub record WritesEach {R W T : Type 0} (source : SourceOf R) (sink : SinkOf W) (text : Given → List ℕ)
-    (head tail : List ℕ) (readers readers_after : List R) (writer writer_after : W) (answer : Result T Stopped)
+    (around : List ℕ × List ℕ) (readers readers_after : List R) (writer : W) (result : W × Result T Stopped)
     : Type 0 where
   pub given : List Given
-  pub are_read : AreRead source (AreWhole answer) (LacksMemory answer) readers readers_after given
-  pub written : WritesJoin answer (sink.contents writer) (sink.contents writer_after) head (flat_map text given) tail
+  pub are_read : AreRead source (AreWhole result.1) (LacksMemory result.1) readers readers_after given
+  pub written : WritesJoin result.1 (sink.contents writer) (sink.contents result.0) around.0 (flat_map text given) around.1
       (length given) (length readers)
-  pub causes : StopsBy (sink.has_failed writer) (sink.has_failed writer_after) answer
+  pub causes : StopsBy (sink.has_failed writer) (sink.has_failed result.0) result.1

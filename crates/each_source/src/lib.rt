@@ -157,8 +157,8 @@ pub fn write_each<P: WritingPerformer<W>, B: Begin<P, W>, R: Stream, W: Sink>(
 ) -> (W, Result<(), Stopped>)
     // What is written is the join of what is written of each.
     ensures joined { WritesEach R.Source W.Sink
-        (λ given. B.text begin.now given ++ B.ending begin.now given) head.now tail.now
-        readers.old readers.new writer result.0 result.1 }
+        (λ given. B.text begin.now given ++ B.ending begin.now given) (head.now , tail.now)
+        readers.old readers.new writer result }
 
     // With Ok nothing of it is held back.
     ensures handed_on { OnOk result.1 (W.holds_nothing result.0) }

@@ -46,7 +46,7 @@ returns-clause-joined g c =
     let finishes = c.finish-writer-2.ensures.finishes in
     let added = Adds-append sink head (texts ++ tail) start first final c.put.ensures (Adds-append sink texts tail first middle final d.added c.put-2.ensures) in
     let reached = reached_all c.add_each-output.result.1 _ _ _ (sym c.is_err.ensures.value ∙ c.if-is_err.false) d.reaches in
-    let Ran : W → Result (Unit {0}) Stopped → Type 0 = λ w a. WritesEach g.R.Source sink text head tail c.args.readers.now c.add_each-output.new.readers w new a in
+    let Ran : W → Result (Unit {0}) Stopped → Type 0 = λ w a. WritesEach g.R.Source sink text (head, tail) c.args.readers.now c.add_each-output.new.readers w (new, a) in
     let ran = WritesEach-from sink g.R.Source text head tail c.args.readers.now c.add_each-output.new.readers start.writer new middle final answer d.given
     (Adds-no_fault R W (Unit {0}) g.R.Source sink tail middle final c.put-2.ensures) (AreRead-known g.R.Source c.add_each-output.result.1 c.args.readers.now c.add_each-output.new.readers d.given (sym c.is_err.ensures.value ∙ c.if-is_err.false) (λ none. (whole_unless_stopped c.add_each-output.result.1 (sym c.is_err.ensures.value ∙ c.if-is_err.false), none)) d.are_read) reached
     (clear_or_written sink (head ++ (texts ++ tail)) start final new answer none added finishes)

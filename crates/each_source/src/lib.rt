@@ -157,7 +157,7 @@ pub fn write_each<P: WritingPerformer<W>, B: Begin<P, W>, R: Stream, W: Sink>(
 ) -> (W, Result<(), Stopped>)
     // What is written is the join of what is written of each.
     ensures joined { WritesEach R.Source W.Sink
-        (λ given. B.text begin.now given ++ B.ending begin.now given) (head.now , tail.now)
+        (λ given. B.text begin.now given ++ B.ending begin.now given) (head.now, tail.now)
         readers.old readers.new writer result }
 
     // With Ok nothing of it is held back.

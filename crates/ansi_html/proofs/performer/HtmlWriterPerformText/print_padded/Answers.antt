@@ -19,7 +19,7 @@ put_clear_padded-requires g c =
     ∙ ap (take clear) (sym c.chunk.ensures.text)
     ∙ take-take clear (length text) chunk (omega (arith, c.min-clear.ensures, c.len.ensures.value))
     ∙ sym (take-take clear count chunk (omega (arith, c.min-clear.ensures))) in
-    record { clear = subst AreClear (sym first) (AllByRecursion-take (λ b. is_special b ≡ false) clear (take count chunk) c.clear_count.ensures.clear); }
+    record { clear = subst AreClear (sym first) (AllByRecursion-take (λ b. is_special b ≡ false) clear (take count chunk) c.clear_count.ensures.clear) }
 
 pub returns-then-clear-len : goal.returns-then-clear-len
 returns-then-clear-len g c =

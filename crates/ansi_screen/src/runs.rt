@@ -59,9 +59,11 @@ pub(crate) fn clear(cells: &mut [Cell], blank: Cell)
     }
 }
 
-/// How many plain blanks stand ready to be copied: as many as most rows have.
+/// How many plain blanks stand ready to be copied: more than the 80 to 120 columns that terminals mostly have, so that
+/// one copy does for a row of these.
 const READY: usize = 128;
 
+/// Each is `Cell::blank` of the plain style, field by field, since a static can call nothing.
 static PLAIN_BLANKS: [Cell; READY] = [Cell {
     character: ' ',
     link: 0,

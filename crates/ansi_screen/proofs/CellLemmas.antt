@@ -56,7 +56,7 @@ set-one cells place cell inside =
     rw (drop-drop (place + 1 - place) place cells, next) (set_split cells place cell inside)
 
 -- two cells are set
-set-two : (cells : List Cell) (place : ℕ) (l r : Cell) → place + 1 < length cells
+pub set-two : (cells : List Cell) (place : ℕ) (l r : Cell) → place + 1 < length cells
     → set (set cells place l) (place + 1) r ≡ within place (place + 2) (λ run. l ∷ r ∷ []) cells
 set-two cells place l r inside =
     let next : place + (place + 2 - place) ≡ suc (place + 1) = omega arith in
@@ -66,15 +66,6 @@ set-two cells place l r inside =
     rw (drop-drop (place + 2 - place) place cells, next)
     (set_split (set cells place l) (place + 1) r second
     ∙ rw (take_more_set cells place l first, drop-set-lt (suc (place + 1)) cells place l above) (append_assoc (take place cells) (l ∷ []) (r ∷ drop (suc (place + 1)) cells)))
-
--- after the two cuts
-pub cut-set-one : (cells first second : List Cell) (place : ℕ) (cell : Cell) → first ≡ cut (place + 1) cells → second ≡ cut place first
-    → place < length second → set second place cell ≡ within place (place + 1) (λ run. cell ∷ []) (cut place (cut (place + 1) cells))
-cut-set-one cells first second place cell e f inside = rw (← e, ← f) (set-one second place cell inside)
-
-pub cut-set-two : (cells first second : List Cell) (place : ℕ) (l r : Cell) → first ≡ cut (place + 2) cells → second ≡ cut place first
-    → place + 1 < length second → set (set second place l) (place + 1) r ≡ within place (place + 2) (λ run. l ∷ r ∷ []) (cut place (cut (place + 2) cells))
-cut-set-two cells first second place l r e f inside = rw (← e, ← f) (set-two second place l r inside)
 
 -- where the first cells are blanks, as many more that are copied from these
 pub cleared-more : (n k : ℕ) (space : Cell) (front rest new : List Cell) → k ≤ n → front ≡ replicate n space → new ≡ take k front

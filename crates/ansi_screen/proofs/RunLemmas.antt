@@ -8,7 +8,7 @@ use Rattle.ansi_style.specs.declared.style.Style.{Style}
 use Rattle.ansi_style.specs.Style.{plain}
 use Rattle.ansi_screen.specs.declared.cell.Cell.{Cell}
 use Rattle.ansi_screen.specs.declared.cell.Part.TheVariants.{Whole}
-use Rattle.ansi_screen.specs.Cells.{blank, printed_cell, emptied, is_right, cell_at, cut, change}
+use Rattle.ansi_screen.specs.Cells.{blank, printed_cell, emptied, is_right, cell_at, cut, within, change}
 use Rattle.ansi_screen.specs.Grid.{IsBlankFrom}
 use Rattle.ansi_screen.specs.Print.{glyph}
 use Rattle.ansi_screen.specs.Reachable.{left_style, ArePaired}
@@ -376,11 +376,16 @@ pub cut-blank : (from place : ℕ) (cells : List Cell) → IsBlankFrom from cell
 cut-blank from place cells are past =
     cut-none cells place (and_right (nat_lt 0 place) (is_right (cell_at place cells).part) (ap (λ (x : Cell). is_right x.part) (are place past)))
 
+pub change-blank : (start end : ℕ) (how : List Cell → List Cell) (cells : List Cell) → IsBlankFrom start cells → start ≤ end
+    → within start end how cells ≡ change start end how cells
+change-blank start end how cells blanks order =
+    ap (within start end how) (cut-blank start start cells blanks (omega arith) ∙ ap (cut start) (cut-blank start end cells blanks order))
+
 -- and characters that are put there stand for them.
 pub put-on-blanks : (text : List ℕ) (place : ℕ) (style : Style) (link : ℕ) (cells new : List Cell)
-    → 0 < length text → place + length text ≤ length cells → ArePaired None cells → IsBlankFrom place cells
+    → 0 < length text → place + length text ≤ length cells → IsBlankFrom place cells
     → new ≡ glyphs text style link
     → take place cells ++ (new ++ drop (place + length text - place) (drop place cells)) ≡ with_glyphs place text style link cells
-put-on-blanks text place style link cells new some inside are blanks is =
-    put-run-paired text place style link cells cells cells new some inside are (cut-blank place place cells blanks (omega arith))
-    (cut-blank place (place + length text) cells blanks (omega arith)) is
+put-on-blanks text place style link cells new some inside blanks is =
+    put-run text place style link cells cells cells cells new some inside (cut-blank place (place + 1) cells blanks (omega arith))
+    (cut-blank place place cells blanks (omega arith)) (cut-blank place (place + length text) cells blanks (omega arith)) is

@@ -1,5 +1,5 @@
 //! What one place of a screen shows.
-ghost use Rattle.std.specs.Prelude.{◌≡◌};
+ghost use Rattle.std.specs.Prelude.{true, ◌≡◌};
 
 use ansi_style::Style;
 
@@ -100,25 +100,19 @@ impl Cell {
         Cell::unprinted(self.style)
     }
 
-    /// A plain blank becomes a character: there is less to write than of a new cell.
+    /// A plain blank becomes a character: there is less to write than of a new cell, and in the plain style and in no
+    /// link, which it has as a blank, less still.
     #[inline(always)]
-    pub(crate) fn print(&mut self, character: char, style: Style, link: u32)
-        requires { self.old ≡ blank plain }
+    pub(crate) fn print(&mut self, character: char, style: Style, link: u32, is_plain: bool)
+        requires blank { self.old ≡ blank plain }
+        requires plain { is_plain ≡ true → (style ≡ plain) × (link ≡ 0) }
         ensures { self.new ≡ printed_cell character style link Whole }
     {
         self.character = character;
-        self.link = link;
-        self.style = style;
-        self.part = Part::Whole;
-    }
-
-    /// The same in the plain style and in no link, which it is in as a blank.
-    #[inline(always)]
-    pub(crate) fn print_plain(&mut self, character: char)
-        requires { self.old ≡ blank plain }
-        ensures { self.new ≡ printed_cell character plain 0 Whole }
-    {
-        self.character = character;
+        if !is_plain {
+            self.link = link;
+            self.style = style;
+        }
         self.part = Part::Whole;
     }
 

@@ -96,6 +96,18 @@ fn make_room(order: &mut [u16])
     front.copy_to_slice(&mut order[1..]);
 }
 
+/// From how many numbers on a copy by the library moves them faster than sixteen at once do: on a screen of 1000x1000 a
+/// byte of text takes 22.2 instructions so, and 24.5 by sixteens.
+const COPIED_WHOLE: usize = 256;
+
+/// Whether so many numbers move by sixteen at once: fewer do not fill one move, and more are copied as a whole.
+#[inline]
+fn moves_by_lanes(count: usize) -> bool
+    ensures { result ≡ true → 16 ≤ count }
+{
+    u16x16::LEN <= count && count < COPIED_WHOLE
+}
+
 /// The first one comes after the others. To move these takes less than a general rotation, and most scrolls are by one
 /// row.
 fn move_first_to_end(order: &mut [u16])
@@ -104,10 +116,10 @@ fn move_first_to_end(order: &mut [u16])
 {
     let first = order[0];
     let last = order.len() - 1;
-    if last < u16x16::LEN {
-        order.copy_within(1.., 0);
-    } else {
+    if moves_by_lanes(last) {
         close_up(order);
+    } else {
+        order.copy_within(1.., 0);
     }
     order[last] = first;
 }
@@ -119,10 +131,10 @@ fn move_last_to_front(order: &mut [u16])
 {
     let last = order.len() - 1;
     let number = order[last];
-    if last < u16x16::LEN {
-        order.copy_within(..last, 1);
-    } else {
+    if moves_by_lanes(last) {
         make_room(order);
+    } else {
+        order.copy_within(..last, 1);
     }
     order[0] = number;
 }

@@ -12,8 +12,8 @@ use std::alloc::{AllocError, Global};
 use std::marker::Model;
 use std::mem;
 
-/// The last rows that left a screen, at most as many as were asked for. A row that leaves changes places with the oldest
-/// of them, and no cell is copied.
+/// The last rows that left a screen, at most as many as were asked for. A row that leaves changes places with the
+/// oldest of them, and no cell is copied.
 #[derive(Drop)]
 pub struct History {
     /// A ring: before `next` stands the row that left last.

@@ -8,7 +8,6 @@ ghost use Rattle.ansi_screen.specs.Leaving.{TakesRows, kept_rows, with_room_alon
 ghost use Rattle.ansi_screen.specs.Text.{first_rows, printed_rows};
 
 use crate::cell::Cell;
-use crate::display::Display;
 use crate::history::History;
 use crate::screen::Screen;
 use crate::size::{MAX_COLUMNS, MAX_ROWS, MIN_COLUMNS, MIN_ROWS};
@@ -105,46 +104,6 @@ impl<R> Model for Scrolling<R> {
     ghost invariant = { λ s. HasRoom s.screen };
 }
 
-/// Hands rows on that left.
-#[inline(never)]
-fn hand_on_left<R: TakeRow>(history: &History, taker: &mut R)
-    ensures { TakesRows R.takes taker.old history.now.rows taker.new }
-{
-    let (count, _) = history.counts();
-    for number in 0..count {
-        if let Some((cells, written)) = history.row(number) {
-            taker.take_row(cells, written);
-        }
-    }
-}
-
-/// Hands the rows on that a call has made leave, if any has.
-#[inline]
-fn take_left<R: TakeRow>(screen: &mut Screen, taker: &mut R)
-    ensures screen { screen.new ≡ with_room_alone screen.old }
-    ensures taken { TakesRows R.takes taker.old (kept_rows screen.old.display.history) taker.new }
-    ensures sized { IsSized screen.new.display }
-{
-    if let Some(history) = screen.history()
-        && !history.is_new()
-    {
-        hand_on_left(history, taker);
-        screen.clear_history();
-    }
-    // (for the proof: it is within its sizes)
-    let _ = screen.rows();
-}
-
-/// Hands the first rows on.
-fn hand_on<R: TakeRow>(display: &Display, count: usize, taker: &mut R)
-    requires { count ≤ display.now.height }
-    ensures { TakesRows R.takes taker.old (first_rows count display.now) taker.new }
-{
-    for row in 0..count {
-        taker.take_row(display.row(row), display.written(row));
-    }
-}
-
 impl<R: TakeRow> Scrolling<R> {
     ghost use Rattle.ansi_screen.specs.After.{as_shown};
     ghost use Rattle.ansi_screen.specs.Leaving.{unkept, screen_of, taker_of};
@@ -207,7 +166,10 @@ impl<R: TakeRow> Scrolling<R> {
         ensures taken { TakesRows R.takes (taker_of self.old) (first_rows count (screen_of self.old).display)
             (taker_of self.new) }
     {
-        hand_on(self.screen.display(), count, &mut self.taker);
+        let display = self.screen.display();
+        for row in 0..count {
+            self.taker.take_row(display.row(row), display.written(row));
+        }
     }
 
     /// Hands the rows of the screen on, up to the last in which something was printed.
@@ -245,6 +207,36 @@ impl<R: TakeCommand> Scrolling<R> {
         let link = self.screen.link();
         self.taker.take_command(link, parts);
     }
+}
+
+/// Hands rows on that left. It is out of line, since few calls make any leave.
+#[inline(never)]
+fn hand_on_left<R: TakeRow>(history: &History, taker: &mut R)
+    ensures { TakesRows R.takes taker.old history.now.rows taker.new }
+{
+    let (count, _) = history.counts();
+    for number in 0..count {
+        if let Some((cells, written)) = history.row(number) {
+            taker.take_row(cells, written);
+        }
+    }
+}
+
+/// Hands the rows on that a call has made leave, if any has.
+#[inline]
+fn take_left<R: TakeRow>(screen: &mut Screen, taker: &mut R)
+    ensures screen { screen.new ≡ with_room_alone screen.old }
+    ensures taken { TakesRows R.takes taker.old (kept_rows screen.old.display.history) taker.new }
+    ensures sized { IsSized screen.new.display }
+{
+    if let Some(history) = screen.history()
+        && !history.is_new()
+    {
+        hand_on_left(history, taker);
+        screen.clear_history();
+    }
+    // (for the proof: it is within its sizes)
+    let _ = screen.rows();
 }
 
 /// After each call the rows that left by it are taken, and the screen is the one after the call.

@@ -214,7 +214,7 @@ fn put(
     ensures { cells.new ≡ change column (column + columns) (λ run. glyph columns c style link) cells.old }
 {
     if written.past <= column {
-        runs::put_on_blanks(cells, column, columns, c, style, link);
+        runs::put_uncut(cells, column, columns, c, style, link);
     } else {
         runs::put(cells, column, columns, c, style, link);
     }

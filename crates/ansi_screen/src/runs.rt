@@ -1,7 +1,7 @@
 //! Edits of cells in a row, or in several.
 ghost use Rattle.std.specs.Prelude.{true, ◌≡◌, ◌+◌, ◌<◌, ◌≤◌, ◌++◌, length, take, drop, replicate, None};
 ghost use Rattle.ansi_style.specs.Style.{plain};
-ghost use Rattle.ansi_screen.specs.Cells.{blank, is_right, cell_at, cut, marked_before, going_on, change, erased, moved_back, moved_on, deleted, inserted};
+ghost use Rattle.ansi_screen.specs.Cells.{blank, is_right, cell_at, cut, marked_before, going_on, within, change, erased, moved_back, moved_on, deleted, inserted};
 ghost use Rattle.ansi_screen.specs.Grid.{IsBlankFrom};
 ghost use Rattle.ansi_screen.specs.Print.{glyph};
 ghost use Rattle.ansi_screen.specs.Reachable.{ArePaired};
@@ -59,9 +59,11 @@ pub(crate) fn clear(cells: &mut [Cell], blank: Cell)
     }
 }
 
-/// How many plain blanks stand ready to be copied: as many as most rows have.
+/// How many plain blanks stand ready to be copied: more than the 80 to 120 columns that terminals mostly have, so that
+/// one copy does for a row of these.
 const READY: usize = 128;
 
+/// Each is `Cell::blank` of the plain style, field by field, since a static can call nothing.
 static PLAIN_BLANKS: [Cell; READY] = [Cell {
     character: ' ',
     link: 0,
@@ -186,22 +188,20 @@ pub(crate) fn set_goes_on(cells: &mut [Cell], end: usize, on: bool)
     cells[end - 1].goes_on = on;
 }
 
-/// A character of so many columns, in a link or in none.
+/// A character of so many columns, in a link or in none. A wide one that it takes a half of becomes blanks.
 pub(crate) fn put(cells: &mut [Cell], place: usize, columns: u16, c: char, style: Style, link: u32)
     requires some { 1 ≤ columns }
     requires few { columns ≤ 2 }
     requires within { place + columns ≤ length cells.old }
     ensures { cells.new ≡ change place (place + columns) (λ run. glyph columns c style link) cells.old }
 {
-    if columns == 2 {
-        put_wide(cells, place, c, style, link);
-    } else {
-        put_narrow(cells, place, c, style, link);
-    }
+    cut(cells, place + usize::from(columns));
+    cut(cells, place);
+    put_uncut(cells, place, columns, c, style, link);
 }
 
-/// A character of so many columns on plain blanks, of which none is a half.
-pub(crate) fn put_on_blanks(
+/// The same without a cut: where no wide character is in the way.
+pub(crate) fn put_uncut(
     cells: &mut [Cell],
     place: usize,
     columns: u16,
@@ -212,8 +212,7 @@ pub(crate) fn put_on_blanks(
     requires some { 1 ≤ columns }
     requires few { columns ≤ 2 }
     requires within { place + columns ≤ length cells.old }
-    requires blank { IsBlankFrom place cells.old }
-    ensures { cells.new ≡ change place (place + columns) (λ run. glyph columns c style link) cells.old }
+    ensures { cells.new ≡ within place (place + columns) (λ run. glyph columns c style link) cells.old }
 {
     if columns == 2 {
         cells[place] = Cell::printed(c, style, link, Part::Left);
@@ -221,27 +220,6 @@ pub(crate) fn put_on_blanks(
     } else {
         cells[place] = Cell::printed(c, style, link, Part::Whole);
     }
-}
-
-/// A character of one column.
-fn put_narrow(cells: &mut [Cell], place: usize, c: char, style: Style, link: u32)
-    requires { place < length cells.old }
-    ensures { cells.new ≡ change place (place + 1) (λ run. glyph 1 c style link) cells.old }
-{
-    cut(cells, place + 1);
-    cut(cells, place);
-    cells[place] = Cell::printed(c, style, link, Part::Whole);
-}
-
-/// A character of two columns.
-fn put_wide(cells: &mut [Cell], place: usize, c: char, style: Style, link: u32)
-    requires { place + 1 < length cells.old }
-    ensures { cells.new ≡ change place (place + 2) (λ run. glyph 2 c style link) cells.old }
-{
-    cut(cells, place + 2);
-    cut(cells, place);
-    cells[place] = Cell::printed(c, style, link, Part::Left);
-    cells[place + 1] = Cell::printed(' ', style, link, Part::Right);
 }
 
 /// Printed ASCII, a character in each cell from `place` on: as if each were put by itself. What that leaves of wide
@@ -267,37 +245,32 @@ pub(crate) fn put_run_on_blanks(
 )
     requires some { 0 < length run.now }
     requires within { place + length run.now ≤ length cells.old }
-    requires paired { ArePaired None cells.old }
     requires blank { IsBlankFrom place cells.old }
     ensures { cells.new ≡ with_glyphs place run.now style link cells.old }
 {
     let blanks = &mut cells[place..place + run.len()];
     if link == 0 && style.is_same(&Style::default()) {
-        print_plain(blanks, run);
+        print(blanks, run, style, link, PLAIN);
     } else {
-        print(blanks, run, style, link);
+        print(blanks, run, style, link, STYLED);
     }
 }
 
-/// Plain blanks become these characters.
+/// For `is_plain`: the characters are in the plain style and in no link.
+const PLAIN: bool = true;
+
+/// For `is_plain`: they may be in any style and link.
+const STYLED: bool = false;
+
+/// Plain blanks become these characters. It stands in line where `is_plain` is known, so that no cell asks for it.
 #[inline(always)]
-fn print(blanks: &mut [Cell], run: &[u8], style: Style, link: u32)
-    requires { blanks.old ≡ replicate (length run.now) (blank plain) }
+fn print(blanks: &mut [Cell], run: &[u8], style: Style, link: u32, is_plain: bool)
+    requires blank { blanks.old ≡ replicate (length run.now) (blank plain) }
+    requires plain { is_plain ≡ true → (style ≡ plain) × (link ≡ 0) }
     ensures { blanks.new ≡ glyphs run.now style link }
 {
     for (i, byte) in run.iter().enumerate() {
-        blanks[i].print(char::from(*byte), style, link);
-    }
-}
-
-/// The same in the plain style and in no link.
-#[inline(always)]
-fn print_plain(blanks: &mut [Cell], run: &[u8])
-    requires { blanks.old ≡ replicate (length run.now) (blank plain) }
-    ensures { blanks.new ≡ glyphs run.now plain 0 }
-{
-    for (i, byte) in run.iter().enumerate() {
-        blanks[i].print_plain(char::from(*byte));
+        blanks[i].print(char::from(*byte), style, link, is_plain);
     }
 }
 

@@ -286,5 +286,5 @@ impl<P: PerformText> PerformText for Linking<P> {
         }
     }
 
-    ghost follows = { Takes-follows P.means P.receives P.follows };
+    ghost follows = { Takes-follows P.receives P.means P.follows };
 }

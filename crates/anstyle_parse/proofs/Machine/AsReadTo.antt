@@ -78,6 +78,14 @@ PassBytes-all test bytes rest front left each joined passes = record {
   joined = passes.joined ∙ ap (λ l. passes.passed ++ l) joined ∙ sym (append_assoc passes.passed front left);
 }
 
+-- and one that comes first
+pub PassBytes-begun : (test : ℕ → Bool) (bytes : List ℕ) (b : ℕ) (behind left : List ℕ) → IsTrue (test b) → bytes ≡ b ∷ behind → PassBytes test behind left → PassBytes test bytes left
+PassBytes-begun test bytes b behind left is joined passes = record {
+  passed = b ∷ passes.passed;
+  each = (is, passes.each);
+  joined = joined ∙ ap (λ l. b ∷ l) passes.joined;
+}
+
 pub PassBytes-trans : (test : ℕ → Bool) (bytes rest left : List ℕ) → PassBytes test bytes rest → PassBytes test rest left → PassBytes test bytes left
 PassBytes-trans test bytes rest left passes more = PassBytes-all test bytes rest more.passed left more.each more.joined passes
 

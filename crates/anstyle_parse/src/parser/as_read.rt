@@ -253,10 +253,15 @@ impl Parser<Utf8Parser> {
         ensures within { length result.now ≤ length behind.now }
     {
         self.step_as_read(performer, first);
-        let rest = after_unchanged(behind);
-        let (unchanged, _) = behind.split_at(behind.len() - rest.len());
-        self.take_heeded(performer, unchanged);
-        rest
+        match behind.split_first() {
+            Some((next, further)) if is_unchanged(*next) => {
+                let rest = after_unchanged(further);
+                let (unchanged, _) = behind.split_at(behind.len() - rest.len());
+                self.take_heeded(performer, unchanged);
+                rest
+            }
+            _ => behind,
+        }
     }
 
     /// One byte, as it is read.

@@ -79,12 +79,13 @@ impl Held {
         ensures held { OnTrue result (held_in self.new ≡ held_in self.old ++ text.now) }
         ensures same { OnFalse result (held_in self.new ≡ held_in self.old) }
     {
-        if text.len() > self.room() {
+        let count = text.len();
+        if count > self.room() {
             return false;
         }
         let place = &mut self.bytes[self.len..self.len + BLOCK];
         u8x16::from_array(*text.chunk()).copy_to_slice(place);
-        self.len += text.len();
+        self.len += count;
         true
     }
 

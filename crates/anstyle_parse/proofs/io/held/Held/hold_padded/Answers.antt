@@ -22,7 +22,7 @@ front_of_chunk len k count bytes chunk few long whole room =
 pub returns-clause-held : goal.returns-clause-held
 returns-clause-held c =
     let held = c.args.self.now in
-    let n = c.len-2.result in
-    front_of_chunk held.len _ n held.bytes c.chunk.result.now c.len-2.ensures.within c.chunk.ensures.sixteen (omega arith) (omega arith)
-    ∙ ap (λ k. take held.len held.bytes ++ take k c.chunk.result.now) c.len-2.ensures.value
+    let n = c.len-count.result in
+    front_of_chunk held.len _ n held.bytes c.chunk.result.now c.len-count.ensures.within c.chunk.ensures.sixteen (omega arith) (omega arith)
+    ∙ ap (λ k. take held.len held.bytes ++ take k c.chunk.result.now) c.len-count.ensures.value
     ∙ ap (λ l. take held.len held.bytes ++ l) c.chunk.ensures.text

@@ -82,8 +82,8 @@ impl Scrollable {
     }
 }
 
-/// A screen, and a taker to which each row of the main screen is handed that leaves it: after the call by which it does,
-/// in order, each once. A row that autowrap left is handed on as one that goes on.
+/// A screen, and a taker to which each row of the main screen is handed that leaves it: after the call by which it
+/// does, in order, each once. A row that autowrap left is handed on as one that goes on.
 ///
 /// Such rows leave by LF, VT, FF, IND, NEL, SU and autowrap, where the upper margin is the first row. By ED 2 and RIS,
 /// which take away all of the main screen, its rows leave up to the last in which something was printed. No row leaves

@@ -1,6 +1,6 @@
 -- A piece more leads on.
-use Rattle.std.proofs.Common.{◌≡◌, ℕ, List, [], ◌++◌, refl, sym, ap, ap₂, ◌∙◌}
-use Rattle.std.specs.Prelude.{Option, None, Some}
+use Rattle.std.proofs.Common.{◌≡◌, ℕ, true, List, [], ◌++◌, refl, sym, ap, ap₂, ◌∙◌}
+use Rattle.std.specs.Prelude.{Option, None, Some, is_some}
 use Rattle.anstyle_parse.specs.Stream.Call.{Call}
 use Rattle.anstyle_parse.specs.Stream.Calls.{Continues}
 use Rattle.anstyle_parse.proofs.Division.Only.{AreCalls-only}
@@ -36,6 +36,14 @@ kept-room rows (Some kept) =
 pub room-stays : (made : List Call) (old new : State) → new ≡ after_all made old → nothing_yet new.display.history ≡ nothing_yet old.display.history
 room-stays made old new becomes =
     ap nothing_yet (ap (λ (s : State). s.display.history) becomes ∙ history-after_all made old) ∙ kept-room (all_left made old) old.display.history
+
+-- Where there is the same room, rows are kept as before.
+some-yet : (history : Option Kept) → is_some (nothing_yet history) ≡ is_some history
+some-yet None = refl
+some-yet (Some kept) = refl
+
+pub some-stays : (old new : Option Kept) → nothing_yet new ≡ nothing_yet old → is_some old ≡ true → is_some new ≡ true
+some-stays old new same is = sym (some-yet new) ∙ (ap is_some same ∙ (some-yet old ∙ is))
 
 -- What is kept are the last of all rows that left.
 pub keeps-more : (first screen new : State) (since : Picture) (before more : List ℕ) (made : List Call) → Continues before more made

@@ -173,10 +173,7 @@ impl Terminal {
         ensures kept { result.0 ≡ length (history_of self.now).rows }
         ensures left { result.1 ≡ (history_of self.now).left }
     {
-        match self.history() {
-            None => (0, 0),
-            Some(history) => history.counts(),
-        }
+        self.history().counts()
     }
 
     /// As [`Terminal::put_row`], of a row that left: of those that are kept the oldest is the first, 0.
@@ -202,7 +199,7 @@ impl Terminal {
         ensures within { IfSome result (λ cells. number < length (history_of self.now).rows) }
         ensures cells { IfSome result (λ cells. cells.now ≡ kept_row number (history_of self.now)) }
     {
-        let (cells, _) = self.history()?.row(number)?;
+        let (cells, _) = self.history().row(number)?;
         Some(cells)
     }
 

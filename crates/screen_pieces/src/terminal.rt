@@ -1,6 +1,5 @@
 //! A screen with the parser that leads to it.
-ghost use Rattle.std.specs.Prelude.{◌≡◌, ◌≤◌, [], IfOk};
-ghost use Rattle.std.specs.Option.{option_map};
+ghost use Rattle.std.specs.Prelude.{◌≡◌, ◌≤◌, true, [], Some, is_some, IfOk};
 ghost use Rattle.ansi_screen.specs.After.{new_state};
 
 use crate::watched::Watched;
@@ -17,6 +16,8 @@ use std::alloc::{AllocError, Global};
 pub struct Terminal {
     parser: Parser,
     watched: Watched,
+    // It keeps the last rows that leave it, of as many as it was opened with: maybe of none.
+    ghost keeps: { is_some watched.screen.display.history ≡ true },
 }
 
 impl Terminal {
@@ -103,10 +104,10 @@ impl Terminal {
     }
 
     /// The rows that left the screen, of which it keeps the last.
-    pub fn history(&self) -> Option<&History>
-        ensures { option_map (λ history. history.now) result ≡ (display_of self.now).history }
+    pub fn history(&self) -> &History
+        ensures { Some result.now ≡ (display_of self.now).history }
     {
-        self.screen().history()
+        self.screen().history().unwrap()
     }
 
     /// The links of its cells, of which it keeps the last.

@@ -58,7 +58,7 @@ fn assert_counted(rt: &impl Abort, screen: &Screen, wanted: (usize, usize)) {
 /// One row is kept, of four cells.
 fn assert_one_row(rt: &impl Abort, terminal: Terminal) {
     laws();
-    assert!(rt; terminal.history().is_some());
+    assert_same(rt, &terminal.history().counts(), &(1, 1));
     assert_first(rt, terminal.screen(), 0, ('a', 4));
     assert_first(rt, terminal.screen(), 1, (' ', 0));
     assert_counted(rt, terminal.screen(), (1, 1));

@@ -5,9 +5,14 @@ use Rattle.ansi_screen.specs.Display.{Picture}
 use Rattle.ansi_screen.specs.Laws.{with_shown}
 use Rattle.ansi_screen.specs.Leaving.{unkept}
 use Rattle.screen_pieces.specs.Terminal.{screen_of}
-use Rattle.screen_pieces.proofs.FeedLemmas.{shows-more, keeps-more, room-led, unkept-led, picture-stays}
+use Rattle.screen_pieces.proofs.FeedLemmas.{shows-more, keeps-more, room-led, unkept-led, picture-stays, some-stays}
 use Rattle.screen_pieces.proofs.LinkLemmas.{links-more}
 use Rattle.screen_pieces.proofs.terminal.Terminal.feed.Goals as goal
+
+pub invariant_of-self : goal.invariant_of-self
+invariant_of-self c = record {
+  keeps = some-stays _ _ (room-led _ c.args.self.now.watched c.advance_texts.new.performer c.advance_texts.ensures.calls) c.args.self.now.keeps;
+}
 
 pub returns : goal.returns
 returns c =

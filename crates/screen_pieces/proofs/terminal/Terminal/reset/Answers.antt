@@ -5,8 +5,16 @@ use Rattle.ansi_screen.proofs.LawLemmas.{after-reset}
 use Rattle.ansi_screen.specs.After.{State, new_state}
 use Rattle.ansi_screen.specs.Laws.{reset}
 use Rattle.ansi_screen.specs.Leaving.{unkept, with_room_alone}
-use Rattle.screen_pieces.proofs.FeedLemmas.{with-own, room-stays, cleared-room, cleared-left}
+use Rattle.screen_pieces.proofs.FeedLemmas.{with-own, room-stays, cleared-room, cleared-left, some-stays}
 use Rattle.screen_pieces.proofs.terminal.Terminal.reset.Goals as goal
+
+pub invariant_of-self : goal.invariant_of-self
+invariant_of-self c = record {
+  keeps = some-stays _ _
+      (cleared-room _ c.clear_history.new.self c.clear_history.ensures
+      ∙ room-stays (reset ∷ []) c.args.self.now.watched.screen _ c.esc_dispatch.ensures)
+      c.args.self.now.keeps;
+}
 
 pub returns : goal.returns
 returns c =

@@ -14,10 +14,10 @@ use Rattle.anstyle_parse.specs.Io.Run.{Runs}
 use Rattle.parselog.specs.Run.{Normalises}
 
 pub Normalises-run : (R W T : Type 0) (source : SourceOf R) (sink : SinkOf W)
-    (reader reader_after : R) (writer writer_after : W) (answer : Result T Fault)
-    → Runs source sink canon reader reader_after writer writer_after answer
-    → Normalises source sink reader reader_after writer writer_after answer
-Normalises-run R W T source sink reader reader_after writer writer_after answer ran =
+    (reader reader_after : R) (writer : W) (result : W × Result T Fault)
+    → Runs source sink canon reader reader_after writer result
+    → Normalises source sink reader reader_after writer result
+Normalises-run R W T source sink reader reader_after writer result ran =
     let again : AreCalls (canon ran.calls) ran.calls = replay ran.calls (lawful ran.read ran.calls ran.are_calls) in
     record {
       read = ran.read;

@@ -20,10 +20,10 @@ text_of Canon = canon
 -- What was written makes the calls of what was read, and has at most three times as many
 -- bytes; where a write failed, a proper prefix of that is written.
 pub record Normalises {R W T : Type 0} (source : SourceOf R) (sink : SinkOf W)
-    (reader reader_after : R) (writer writer_after : W) (answer : Result T Fault) : Type 0 where
+    (reader reader_after : R) (writer : W) (result : W × Result T Fault) : Type 0 where
   pub read : List ℕ
   pub text : List ℕ
   pub consumed : Consumes (source.remaining reader) (source.remaining reader_after) read
-  pub written : WritesText answer (sink.contents writer) (sink.contents writer_after) text
+  pub written : WritesText result.1 (sink.contents writer) (sink.contents result.0) text
   pub same_calls : (calls : List Call) → (AreCalls read calls ↔ AreCalls text calls)
   pub bound : length text ≤ 3 * length read

@@ -45,7 +45,7 @@ pub fn run<R: Source, W: Sink>(mode: Mode, reader: &mut R, writer: W) -> (W, Res
 
     // What mode canon writes makes the calls of what was read.
     ensures normalises { mode ≡ Mode.Canon
-        → Normalises R.Source W.Sink reader.old reader.new writer result.0 result.1 }
+        → Normalises R.Source W.Sink reader.old reader.new writer result }
 {
     match mode {
         Mode::Log => write_calls::<LogWriter<W>, R, W>(reader, writer),

@@ -1,5 +1,5 @@
 -- What the parser's functions lead to, as it is read.
-use Rattle.std.proofs.Common.{◌≡◌, ℕ, ◌<◌, ◌≤◌, ◌+◌, ◌-◌, ◌⊎◌, arith, Bool, IsTrue, refl, List, [], ◌∷◌, ◌++◌, length, take, length-append, ⊎_elim, ap, sym, ◌∙◌, subst, append_assoc, append-nil}
+use Rattle.std.proofs.Common.{◌≡◌, ℕ, ◌<◌, ◌≤◌, ◌+◌, ◌-◌, ◌⊎◌, arith, Bool, false, IsTrue, refl, List, [], ◌∷◌, ◌++◌, length, take, length-append, ⊎_elim, ap, sym, ◌∙◌, subst, append_assoc, append-nil}
 use Rattle.std.specs.Prelude.{encode_utf8}
 use Rattle.std.proofs.Math.Seq.{take-append_seam}
 use Rattle.std.specs.Str.{encode_utf8_all}
@@ -7,8 +7,10 @@ use Rattle.std.proofs.lemmas.Bool.{cases_lt, false≢true, or_cases}
 use Rattle.anstyle_parse.specs.declared.utf8.Taken.{Taken}
 use Rattle.anstyle_parse.specs.declared.accumulator.Utf8Parser.{Utf8Parser}
 use Rattle.anstyle_parse.specs.declared.parser.Parser.{Parser}
+use Rattle.anstyle_parse.specs.declared.parser.runs.Run.{Run}
+use Rattle.anstyle_parse.specs.declared.parser.runs.Run.TheVariants.{Printed, OfHookedString, OfIgnoredString, OfIgnoredHeader}
 use Rattle.anstyle_parse.specs.declared.state.definitions.State.{State}
-use Rattle.anstyle_parse.specs.declared.state.definitions.State.TheVariants.{Ground, OscString, Utf8}
+use Rattle.anstyle_parse.specs.declared.state.definitions.State.TheVariants.{CsiEntry, CsiParam, Ground, OscString, Utf8}
 use Rattle.anstyle_parse.specs.declared.utf8.Front.TheVariants.{Empty}
 use Rattle.anstyle_parse.specs.Stream.Bytes.{is_within, is_parameter, is_final}
 use Rattle.anstyle_parse.specs.Stream.Call.{Call, Goes}
@@ -16,14 +18,14 @@ use Rattle.anstyle_parse.specs.Stream.Characters.{is_well_formed, character_of}
 use Rattle.anstyle_parse.specs.Stream.Items.{EachIs}
 use Rattle.anstyle_parse.specs.Stream.Texts.{is_layout, layout_calls, FollowsCalls}
 use Rattle.anstyle_parse.specs.Laws.Lawful.{is_character}
-use Rattle.anstyle_parse.specs.Machine.AsRead.{is_break, read_for, read_from}
+use Rattle.anstyle_parse.specs.Machine.AsRead.{is_at_ground, is_break, is_in_ignored_string, read_for, read_from}
 use Rattle.anstyle_parse.specs.Machine.Step.{Machine, AccumulatorStep, Completes, state_after_answer, after_answer, step, step_calls, machine_after, machine_calls}
 use Rattle.anstyle_parse.specs.Machine.Stands.{counted}
 use Rattle.anstyle_parse.specs.Views.Accumulator.{parser_after}
 use Rattle.anstyle_parse.specs.Views.Parser.{machine_of}
-use Rattle.anstyle_parse.specs.Views.AsRead.{is_unchanged, read_by, read_one, LeadsAsReadTo, PassBytes}
-use Rattle.anstyle_parse.specs.Views.Passing.{BeginWithSequence, LeadsInEffectTo, PassesOver}
-use Rattle.anstyle_parse.specs.Views.Runs.{LeadsQuietlyTo, is_of_command}
+use Rattle.anstyle_parse.specs.Views.AsRead.{read_by, read_one, LeadsAsReadTo, PassBytes}
+use Rattle.anstyle_parse.specs.Views.Passing.{BeginWithSequence, PassesOver}
+use Rattle.anstyle_parse.specs.Views.Runs.{LeadsQuietlyTo, AreMade, KeepsTo, is_of_command, is_of_run, run_calls}
 use Rattle.anstyle_parse.specs.Views.Texts.{is_text_character, TakesText}
 use Rattle.anstyle_parse.specs.Views.Stage.{stage}
 use Rattle.anstyle_parse.proofs.Agreement.Whole.{machine_after-append, machine_calls-append}
@@ -35,7 +37,7 @@ use Rattle.anstyle_parse.proofs.Characters.Whole.{IsWhole-begins}
 use Rattle.anstyle_parse.proofs.Machine.AsRead.{AreReadAsTheyAre, as_they_are-none, as_they_are-byte, as_they_are-more, as_they_are-append, as_they_are-each, as_they_are-plain, read_for-in, read_for-low, read_for-lead, read_for-no_string, read_from-counted}
 use Rattle.anstyle_parse.proofs.Machine.Counted.{same_machine}
 use Rattle.anstyle_parse.proofs.Machine.Passing.{passed-sequence}
-use Rattle.anstyle_parse.proofs.Machine.Runs.{calls-introduced, begun, reading, step-stored, state-storing}
+use Rattle.anstyle_parse.proofs.Machine.Runs.{calls-introduced, begun, reading, step-run, step-stored, state-storing}
 use Rattle.anstyle_parse.proofs.Machine.Steps.{step-at}
 use Rattle.anstyle_parse.proofs.Machine.Texts.{Prints, characters-taken, decoder-Empty, layout_calls-characters, receives-Goes}
 
@@ -62,6 +64,18 @@ command-read m b command is =
       ap (λ (x : Machine Utf8Parser). x.state) stepped.0 ∙ state-storing b m ∙ command,
     )
 
+-- the bytes of a run
+run_within : (run : Run) (b : ℕ) → IsTrue (is_of_run run b) → IsTrue (is_within 0x20 0x7F b)
+run_within Printed b is = is
+run_within OfHookedString b is = let ends = within_parts 0x20 0x7E b is in within 0x20 0x7F b (omega (arith, ends.0)) (omega (arith, ends.1))
+run_within OfIgnoredString b is = is
+run_within OfIgnoredHeader b is = let ends = within_parts 0x20 0x3F b is in within 0x20 0x7F b (omega (arith, ends.0)) (omega (arith, ends.1))
+
+read_one-run : (p : Parser Utf8Parser) (run : Run) (b : ℕ) → IsTrue (is_of_run run b) → read_one p b ≡ b ∷ []
+read_one-run p run b is =
+    let ends = within_parts 0x20 0x7F b (run_within run b is) in
+    read_for-low parser_after p.state p.accumulator b (omega (arith, ends.1)) (λ bell. omega (arith, ends.0, bell))
+
 -- one byte more that passes the test
 pub PassBytes-more : (test : ℕ → Bool) (bytes rest : List ℕ) (b : ℕ) (left : List ℕ) → IsTrue (test b) → rest ≡ b ∷ left → PassBytes test bytes rest → PassBytes test bytes left
 PassBytes-more test bytes rest b left is joined passes = record {
@@ -78,14 +92,6 @@ PassBytes-all test bytes rest front left each joined passes = record {
   joined = passes.joined ∙ ap (λ l. passes.passed ++ l) joined ∙ sym (append_assoc passes.passed front left);
 }
 
--- and one that comes first
-pub PassBytes-begun : (test : ℕ → Bool) (bytes : List ℕ) (b : ℕ) (behind left : List ℕ) → IsTrue (test b) → bytes ≡ b ∷ behind → PassBytes test behind left → PassBytes test bytes left
-PassBytes-begun test bytes b behind left is joined passes = record {
-  passed = b ∷ passes.passed;
-  each = (is, passes.each);
-  joined = joined ∙ ap (λ l. b ∷ l) passes.joined;
-}
-
 pub PassBytes-trans : (test : ℕ → Bool) (bytes rest left : List ℕ) → PassBytes test bytes rest → PassBytes test rest left → PassBytes test bytes left
 PassBytes-trans test bytes rest left passes more = PassBytes-all test bytes rest more.passed left more.each more.joined passes
 
@@ -97,7 +103,7 @@ passed-front test bytes left front passes taken =
     taken ∙ ap (λ n. take n bytes) whole ∙ ap (λ l. take (length passes.passed) l) passes.joined
     ∙ take-append_seam passes.passed left
 
--- what is read for a final byte, and for a byte below A0 in the ground state
+-- what is read for a final byte, and for a byte below A0 in the ground state or in a header
 pub read_one-final : (p : Parser Utf8Parser) (b : ℕ) → IsTrue (is_final b) → read_one p b ≡ b ∷ []
 read_one-final p b is =
     let ends = within_parts 0x1B 0x7E b (final_within b is) in
@@ -106,6 +112,18 @@ read_one-final p b is =
 pub read_one-ground : (p : Parser Utf8Parser) (b : ℕ) → p.state ≡ Ground → b < 0xA0 → read_one p b ≡ b ∷ []
 read_one-ground p b ground low =
     ap (λ s. read_for parser_after s p.accumulator b) ground ∙ read_for-no_string parser_after Ground p.accumulator b low refl
+
+-- and for any in a state that is not the ground state, nor in a character or an ignored string
+pub read_one-in : (p : Parser Utf8Parser) (state : State) (b : ℕ) → p.state ≡ state → is_at_ground parser_after state p.accumulator b ≡ false
+    → is_in_ignored_string state ≡ false → read_one p b ≡ b ∷ []
+read_one-in p state b is outside another = ap (λ s. read_for parser_after s p.accumulator b) is ∙ read_for-in parser_after state p.accumulator b outside another
+
+pub read_one-header : (p : Parser Utf8Parser) (b : ℕ) → (p.state ≡ CsiEntry) ⊎ (p.state ≡ CsiParam) → b < 0xA0 → read_one p b ≡ b ∷ []
+read_one-header p b header low =
+    ⊎_elim
+    (λ entry. ap (λ s. read_for parser_after s p.accumulator b) entry ∙ read_for-no_string parser_after CsiEntry p.accumulator b low refl)
+    (λ param. ap (λ s. read_for parser_after s p.accumulator b) param ∙ read_for-no_string parser_after CsiParam p.accumulator b low refl)
+    header
 
 -- the bytes of a character, in the ground state, where none is begun
 module _ {A : Type 0} (adds : AccumulatorStep A) (m : Machine A) where
@@ -305,15 +323,19 @@ module _ {P : Type 0} (means : P → Call → P → Type 0) (receives : P → Li
       (as_they_are-each parser_after (λ m. m.state ≡ OscString) is_of_command command-read (machine_of p) quiet.passed command quiet.each)
       (ap counted quiet.machine) (subst (λ l. receives a l a) (sym quiet.none) (follows.none a))
 
-  -- bytes that are read as they are in any state, and are taken as others are
-  pub LeadsAsReadTo-unchanged : (p q : Parser Utf8Parser) (a b : P) (xs left : List ℕ) (passes : PassBytes is_unchanged xs left)
-      → LeadsInEffectTo receives (stage p a passes.passed) (stage q b []) → LeadsAsReadTo receives (stage p a xs) (stage q b left)
-  LeadsAsReadTo-unchanged p q a b xs left passes led =
-      LeadsAsReadTo-passed p q a b xs left passes.passed passes.joined
-      (as_they_are-plain parser_after is_unchanged
-      (λ b is. let ends = within_parts 0x08 0x7F b is in (omega (arith, ends.1), (λ bell. omega (arith, ends.0, bell))))
-      (machine_of p) passes.passed passes.each)
-      led.same (subst (λ calls. receives a calls b) (sym (led.joined ∙ append-nil led.made)) led.received)
+  -- bytes of a run
+  pub LeadsAsReadTo-run : (p : Parser Utf8Parser) (run : Run) → KeepsTo run p.state → (a b : P) (bytes left : List ℕ)
+      → EachIs (λ c. is_of_run run c) bytes → AreMade means (λ c. run_calls run c) a bytes b
+      → LeadsAsReadTo receives (stage p a (bytes ++ left)) (stage p b left)
+  LeadsAsReadTo-run p run keeps a b [] left each made =
+      let S : P → Type 0 = λ x. LeadsAsReadTo receives (stage p a left) (stage p x left) in
+      subst S (sym made) (LeadsAsReadTo-none p a left)
+  LeadsAsReadTo-run p run keeps a b (c ∷ bytes) left each made =
+      let stepped = step-run parser_after (machine_of p) c run keeps each.0 in
+      let S : List Call → Type 0 = λ calls. Goes means a calls made.0 in
+      LeadsAsReadTo-trans
+      (LeadsAsReadTo-byte p p a made.0 c (bytes ++ left) (read_one-run p run c each.0) (sym stepped.0) (subst S (sym stepped.1) made.1))
+      (LeadsAsReadTo-run p run keeps made.0 b bytes left each.1 made.2)
 
   -- ESC and [, which make no call
   pub LeadsAsReadTo-introduced : (p q : Parser Utf8Parser) (a : P) (first next : ℕ) (behind left : List ℕ) → behind ≡ next ∷ left → p.state ≡ Ground

@@ -2,7 +2,6 @@
 use Rattle.std.specs.Prelude.{◌≡◌, ℕ, Bool, List, ◌++◌}
 use Rattle.anstyle_parse.specs.declared.accumulator.Utf8Parser.{Utf8Parser}
 use Rattle.anstyle_parse.specs.declared.parser.Parser.{Parser}
-use Rattle.anstyle_parse.specs.Stream.Bytes.{is_within}
 use Rattle.anstyle_parse.specs.Stream.Call.{Call}
 use Rattle.anstyle_parse.specs.Stream.Items.{EachIs}
 use Rattle.anstyle_parse.specs.Machine.AsRead.{read_for, read_from}
@@ -34,10 +33,6 @@ pub record LeadsAsReadTo {P : Type 0} (receives : P → List Call → P → Type
   pub joined : machine_calls parser_after (read_at old) (machine_of old.parser)
       ≡ made ++ machine_calls parser_after (read_at new) (machine_of new.parser)
   pub received : receives old.performer made new.performer
-
--- a byte that is read as it is in any state: ASCII from 08 on, so that BEL is none
-abbrev pub is_unchanged : ℕ → Bool
-is_unchanged b = is_within 0x08 0x7F b
 
 -- the bytes begin with some that pass a test, and these are left
 pub record PassBytes (test : ℕ → Bool) (bytes left : List ℕ) : Type 0 where

@@ -5,29 +5,24 @@ ghost use Rattle.anstyle_parse.specs.Stream.Call.{Goes};
 ghost use Rattle.anstyle_parse.specs.Machine.AsRead.{is_stray, is_break, is_at_ground, is_in_ignored_string};
 ghost use Rattle.anstyle_parse.specs.Machine.Decoder.{decoded};
 ghost use Rattle.anstyle_parse.specs.Views.Accumulator.{front_of, parser_after};
-ghost use Rattle.anstyle_parse.specs.Views.AsRead.{read_by, read_one, is_unchanged, LeadsAsReadTo, PassBytes};
+ghost use Rattle.anstyle_parse.specs.Views.AsRead.{read_by, read_one, LeadsAsReadTo, PassBytes};
 ghost use Rattle.anstyle_parse.specs.Views.Front.{bytes_of};
+ghost use Rattle.anstyle_parse.specs.Views.Runs.{KeepsTo, is_of_run};
 ghost use Rattle.anstyle_parse.specs.Views.Stage.{stage};
 
 use super::Parser;
 use super::header::is_final_byte;
 use super::passing::after_passed;
+use super::runs::Run;
 use crate::accumulator::Utf8Parser;
-use crate::chunks::{CHUNK, outside};
+use crate::chunks::CHUNK;
 use crate::controls::{BELL, CANCEL, ESCAPE, SPACE, STRING_TERMINATOR};
 use crate::perform::{Perform, PerformText};
 use crate::state::{Action, State};
 use crate::utf8::{Front, Taken};
-use std::simd::prelude::*;
 
 /// U+FFFD, in UTF-8.
 const REPLACEMENT: [u8; 3] = [0xEF, 0xBF, 0xBD];
-
-/// The first byte that is read as it is in any state.
-const FIRST_UNCHANGED: u8 = 0x08;
-
-/// How many such bytes there are, one after another.
-const UNCHANGED: u8 = 0x78;
 
 /// A byte that breaks each character, and begins none.
 const BREAK: u8 = 0xFF;
@@ -49,40 +44,31 @@ fn is_break(front: Front, byte: u8) -> bool
     matches!(front.take(byte), Taken::Broken(_))
 }
 
-/// A byte that is read as it is in any state: ASCII from 08 on, so that BEL is none.
+/// What comes after the bytes of a run at the front.
 #[inline(always)]
-#[tactic(auto, unfolding(crate::specs::Stream::Bytes::is_within))]
-fn is_unchanged(byte: u8) -> bool
-    ensures { result ≡ is_unchanged byte }
-{
-    matches!(byte, 0x08..=0x7F)
-}
-
-/// What comes after such bytes at the front.
-#[inline(always)]
-fn after_unchanged(bytes: &[u8]) -> &[u8]
-    ensures { PassBytes is_unchanged bytes.now result.now }
+fn after_run(run: Run, bytes: &[u8]) -> &[u8]
+    ensures { PassBytes (λ b. is_of_run run b) bytes.now result.now }
 {
     let mut rest = bytes;
     'chunks: while let Some((chunk, behind)) = rest.split_first_chunk::<CHUNK>() {
-        let others = outside(u8x16::from_array(*chunk), FIRST_UNCHANGED, UNCHANGED);
+        let others = run.others(chunk);
         if others != 0 {
             let (_, left) = rest.split_at(others.trailing_zeros() as usize);
             return left;
         }
         rest = behind;
     }
-    after_few(rest)
+    after_few(run, rest)
 }
 
 /// The same, byte by byte.
 #[inline(always)]
-fn after_few(bytes: &[u8]) -> &[u8]
-    ensures { PassBytes is_unchanged bytes.now result.now }
+fn after_few(run: Run, bytes: &[u8]) -> &[u8]
+    ensures { PassBytes (λ b. is_of_run run b) bytes.now result.now }
 {
     let mut rest = bytes;
     'bytes: while let Some((first, behind)) = rest.split_first() {
-        if !is_unchanged(*first) {
+        if !run.has(*first) {
             break;
         }
         rest = behind;
@@ -140,7 +126,14 @@ impl Parser<Utf8Parser> {
             rest = match self.state {
                 State::Ground => self.take_text_or_pass(performer, rest),
                 State::CsiEntry | State::CsiParam => self.take_read_header(performer, rest),
-                State::OscString if *first >= SPACE => self.store_text(*first, behind),
+                State::Escape => self.take_read_after_escape(performer, *first, behind),
+                State::OscString => self.take_read_in_command(performer, *first, behind),
+                State::DcsPassthrough => {
+                    self.take_read_in_hooked_string(performer, *first, behind)
+                }
+                State::SosPmApcString | State::DcsIgnore => {
+                    self.take_read_run(performer, Run::OfIgnoredString, *first, behind)
+                }
                 _ => self.take_read(performer, *first, behind),
             };
         }
@@ -210,8 +203,75 @@ impl Parser<Utf8Parser> {
                 self.begin_control_sequence();
                 self.take_read_header(performer, header)
             }
-            _ => self.take_read(performer, first, behind),
+            _ => {
+                self.step_by_answer(performer, State::Escape, Action::Nop, first);
+                behind
+            }
         }
+    }
+
+    /// What begins a string, or ends one, directly after ESC; another byte by the table.
+    #[inline(always)]
+    fn take_read_after_escape<'a, P: PerformText>(
+        &mut self,
+        performer: &mut P,
+        first: u8,
+        behind: &'a [u8],
+    ) -> &'a [u8]
+        requires { self.old.state ≡ State.Escape }
+        ensures leads { LeadsAsReadTo P.receives (stage self.old performer.old (first ∷ behind.now))
+            (stage self.new performer.new result.now) }
+        ensures behind { result.now ≡ behind.now }
+    {
+        match first {
+            b'\\' => self.step_by_answer(performer, State::Ground, Action::EscDispatch, first),
+            b']' => self.step_by_answer(performer, State::OscString, Action::Nop, first),
+            b'P' => self.step_by_answer(performer, State::DcsEntry, Action::Nop, first),
+            _ => return self.take_read(performer, first, behind),
+        }
+        behind
+    }
+
+    /// Text of a command; or a control there, one of its ends or another.
+    #[inline(always)]
+    fn take_read_in_command<'a, P: PerformText>(
+        &mut self,
+        performer: &mut P,
+        first: u8,
+        behind: &'a [u8],
+    ) -> &'a [u8]
+        requires { self.old.state ≡ State.OscString }
+        ensures leads { LeadsAsReadTo P.receives (stage self.old performer.old (first ∷ behind.now))
+            (stage self.new performer.new result.now) }
+        ensures within { length result.now ≤ length behind.now }
+    {
+        match first {
+            SPACE..=0xFF => return self.store_text(first, behind),
+            ESCAPE => self.end_command(performer, State::Escape, first),
+            BELL => self.end_command(performer, State::Ground, first),
+            _ => return self.take_read(performer, first, behind),
+        }
+        behind
+    }
+
+    /// Bytes that are put; or the ESC that ends the string, or another byte.
+    #[inline(always)]
+    fn take_read_in_hooked_string<'a, P: PerformText>(
+        &mut self,
+        performer: &mut P,
+        first: u8,
+        behind: &'a [u8],
+    ) -> &'a [u8]
+        requires { self.old.state ≡ State.DcsPassthrough }
+        ensures leads { LeadsAsReadTo P.receives (stage self.old performer.old (first ∷ behind.now))
+            (stage self.new performer.new result.now) }
+        ensures within { length result.now ≤ length behind.now }
+    {
+        if first == ESCAPE {
+            self.end_hooked_string(performer, first);
+            return behind;
+        }
+        self.take_read_run(performer, Run::OfHookedString, first, behind)
     }
 
     /// Fields and the end of a control sequence, as far as they stand here; or another byte.
@@ -233,14 +293,57 @@ impl Parser<Utf8Parser> {
                     self.step_by_answer(performer, State::Ground, Action::CsiDispatch, *last);
                     return behind;
                 }
-                self.take_read(performer, *last, behind)
+                self.take_other_read_in_header(performer, *last, behind)
             }
             None => rest,
         }
     }
 
-    /// A byte, as it is read, through the table, and with it those after it that are read as they are: these are taken
-    /// as [`advance_heeded`](Parser::advance_heeded) takes them. It is out of line: there it stands once.
+    /// A control that is executed; another byte by the table. It is out of line, so that the loop stays small.
+    #[inline(never)]
+    fn take_other_read_in_header<'a, P: PerformText>(
+        &mut self,
+        performer: &mut P,
+        first: u8,
+        behind: &'a [u8],
+    ) -> &'a [u8]
+        requires { IsAtFields self.old }
+        ensures leads { LeadsAsReadTo P.receives (stage self.old performer.old (first ∷ behind.now))
+            (stage self.new performer.new result.now) }
+        ensures behind { result.now ≡ behind.now }
+    {
+        if first < ESCAPE {
+            self.execute_in_header(performer, first);
+            return behind;
+        }
+        self.take_read(performer, first, behind)
+    }
+
+    /// The first byte and the others of its run; the first alone, if it is of none.
+    #[inline(always)]
+    fn take_read_run<'a, P: PerformText>(
+        &mut self,
+        performer: &mut P,
+        run: Run,
+        first: u8,
+        behind: &'a [u8],
+    ) -> &'a [u8]
+        requires { KeepsTo run self.old.state }
+        ensures leads { LeadsAsReadTo P.receives (stage self.old performer.old (first ∷ behind.now))
+            (stage self.new performer.new result.now) }
+        ensures within { length result.now ≤ length behind.now }
+    {
+        if !run.has(first) {
+            return self.take_read(performer, first, behind);
+        }
+        run.call(performer, first);
+        let rest = after_run(run, behind);
+        let (few, _) = behind.split_at(behind.len() - rest.len());
+        run.call_few(performer, few);
+        rest
+    }
+
+    /// One byte alone, as it is read, through the table. It is out of line: there it stands once.
     #[inline(never)]
     fn take_read<'a, P: PerformText>(
         &mut self,
@@ -250,18 +353,10 @@ impl Parser<Utf8Parser> {
     ) -> &'a [u8]
         ensures leads { LeadsAsReadTo P.receives (stage self.old performer.old (first ∷ behind.now))
             (stage self.new performer.new result.now) }
-        ensures within { length result.now ≤ length behind.now }
+        ensures behind { result.now ≡ behind.now }
     {
         self.step_as_read(performer, first);
-        match behind.split_first() {
-            Some((next, further)) if is_unchanged(*next) => {
-                let rest = after_unchanged(further);
-                let (unchanged, _) = behind.split_at(behind.len() - rest.len());
-                self.take_heeded(performer, unchanged);
-                rest
-            }
-            _ => behind,
-        }
+        behind
     }
 
     /// One byte, as it is read.

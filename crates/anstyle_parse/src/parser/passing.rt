@@ -89,7 +89,7 @@ impl Parser<Utf8Parser> {
     }
 
     /// Bytes, as the machine takes them one after another, in what counts.
-    pub(super) fn take_heeded<P: PerformText>(&mut self, performer: &mut P, bytes: &[u8])
+    fn take_heeded<P: PerformText>(&mut self, performer: &mut P, bytes: &[u8])
         ensures { LeadsInEffectTo P.receives (stage self.old performer.old bytes.now)
             (stage self.new performer.new []) }
     {

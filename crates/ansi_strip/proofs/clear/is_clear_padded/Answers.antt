@@ -1,4 +1,4 @@
-use Rattle.std.proofs.Common.{◌≡◌, ◌∙◌, take, ap, sym, subst}
+use Rattle.std.proofs.Common.{◌≡◌, ◌∙◌, take, ap, subst}
 use Rattle.ansi_strip.specs.Driving.{is_clear}
 use Rattle.anstyle_parse.specs.Stream.Items.{EachIs}
 use Rattle.ansi_strip.proofs.LaneLemmas.{front-clear}

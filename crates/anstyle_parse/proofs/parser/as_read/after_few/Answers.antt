@@ -1,5 +1,5 @@
 use Rattle.std.proofs.Common.{[], refl, sym, ◌∙◌}
-use Rattle.anstyle_parse.specs.Views.AsRead.{is_unchanged}
+use Rattle.anstyle_parse.specs.Views.Runs.{is_of_run}
 use Rattle.anstyle_parse.proofs.Machine.AsReadTo.{PassBytes-more}
 use Rattle.anstyle_parse.proofs.parser.as_read.after_few.Goals as goal
 
@@ -8,5 +8,5 @@ bytes-init c = record { passed = []; each = tt; joined = refl }
 
 pub bytes-preserved : goal.bytes-preserved
 bytes-preserved c =
-    PassBytes-more is_unchanged c.args.bytes.now c.bytes.rest.now c.in-Some.first.now c.in-Some.behind.now
-    (sym c.is_unchanged.ensures ∙ c.if-not-is_unchanged.false) c.in-Some.ensures.cases.0 c.bytes.invariant
+    PassBytes-more (λ b. is_of_run c.args.run b) c.args.bytes.now c.bytes.rest.now c.in-Some.first.now c.in-Some.behind.now
+    (sym c.has.ensures ∙ c.if-not-has.false) c.in-Some.ensures.cases.0 c.bytes.invariant

@@ -1,5 +1,5 @@
 -- What waits, and U+FFFD where a character is begun, fits and is written.
-use Rattle.std.proofs.Common.{◌≡◌, ◌≤◌, Bool, true, false, List, ℕ, [], ◌++◌, length, sym, ap, ap₂, ◌∙◌, arith, lit≤, length-append}
+use Rattle.std.proofs.Common.{◌≡◌, ◌≤◌, Bool, true, false, List, ℕ, ◌++◌, length, sym, ap, ap₂, ◌∙◌, arith, lit≤, length-append}
 use Rattle.std.specs.Str.{encode_utf8_all}
 use Rattle.anstyle_parse.specs.Io.Output.{writer_in, fault_in}
 use Rattle.stream_state.specs.Log.{end_calls}

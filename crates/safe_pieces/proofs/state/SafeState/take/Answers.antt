@@ -16,7 +16,7 @@ use Rattle.stream_state.proofs.LogLemmas.{any_log, ContinuesLog-calls}
 use Rattle.stream_state.proofs.LogQuoted.{quoted-log}
 use Rattle.stream_state.proofs.LentLemmas.{put-start, put-behind, put-length}
 use Rattle.safe_text.specs.Decided.{decided_from, last_from, waiting}
-use Rattle.safe_text.specs.Marks.{Hiding, marked_from, hiding_from}
+use Rattle.safe_text.specs.Marks.{marked_from, hiding_from}
 use Rattle.safe_text.proofs.MarkLemmas.{hiding-same}
 use Rattle.safe_pieces.specs.State.{hiding_in}
 use Rattle.safe_text.specs.MarkingWriter.{hiding_in as writer_hiding}

@@ -27,7 +27,7 @@ returns-else-is_final_byte-clause-leads g c =
     let m = g.met.P.PerformText in
     let fields = LeadsAsReadTo-fields g.P.Perform.means n.receives m.follows c.args.self.now c.take_fields-rest.new.self c.args.performer.now
     c.args.bytes.now c.take_fields-rest.result.now c.take_fields-rest.ensures.leads in
-    LeadsAsReadTo-first g.P.Perform.means n.receives m.follows c.in-Some.ensures.cases.0 fields c.take_read.ensures.leads
+    LeadsAsReadTo-first g.P.Perform.means n.receives m.follows c.in-Some.ensures.cases.0 fields c.take_other_read_in_header.ensures.leads
 
 pub returns-in-None-clause-leads : goal.returns-in-None-clause-leads
 returns-in-None-clause-leads g c =

@@ -97,7 +97,7 @@ fn make_room(order: &mut [u16])
 }
 
 /// From how many numbers on a copy by the library moves them faster than sixteen at once do: on a screen of 1000x1000 a
-/// byte of text takes 22.2 instructions so, and 24.5 by sixteens.
+/// byte of text takes 21.7 instructions so, and 24.5 by sixteens.
 const COPIED_WHOLE: usize = 256;
 
 /// Whether so many numbers move by sixteen at once: fewer do not fill one move, and more are copied as a whole.

@@ -248,21 +248,17 @@ pub(crate) fn put_run_on_blanks(
     requires blank { IsBlankFrom place cells.old }
     ensures { cells.new ≡ with_glyphs place run.now style link cells.old }
 {
-    let blanks = &mut cells[place..place + run.len()];
-    if link == 0 && style.is_same(&Style::default()) {
-        print(blanks, run, style, link, PLAIN);
-    } else {
-        print(blanks, run, style, link, STYLED);
-    }
+    let is_plain = link == 0 && style.is_same(&Style::default());
+    print(
+        &mut cells[place..place + run.len()],
+        run,
+        style,
+        link,
+        is_plain,
+    );
 }
 
-/// For `is_plain`: the characters are in the plain style and in no link.
-const PLAIN: bool = true;
-
-/// For `is_plain`: they may be in any style and link.
-const STYLED: bool = false;
-
-/// Plain blanks become these characters. It stands in line where `is_plain` is known, so that no cell asks for it.
+/// Plain blanks become these characters; where `is_plain` says so, they are in the plain style and in no link.
 #[inline(always)]
 fn print(blanks: &mut [Cell], run: &[u8], style: Style, link: u32, is_plain: bool)
     requires blank { blanks.old ≡ replicate (length run.now) (blank plain) }

@@ -3,13 +3,14 @@ use Rattle.std.specs.Bool.{OnFalse}
 use Rattle.std.proofs.Common.{◌≡◌, Bool, true, false, IsTrue, refl, ◌<◌, ℕ, List, [], ◌∷◌, ◌++◌, ⊎_elim, inl, inr, sym, ap, ◌∙◌, subst, arith, get_or, Option}
 use Rattle.std.proofs.lemmas.List.{get_or_default}
 use Rattle.std.proofs.lemmas.List.Elements.{recursion_from_All}
+use Rattle.anstyle_parse.specs.declared.state.definitions.State.{State}
 use Rattle.anstyle_parse.specs.declared.state.definitions.State.TheVariants.{Utf8}
 use Rattle.anstyle_parse.specs.declared.parser.Parser.{Parser}
 use Rattle.anstyle_parse.specs.Stream.Call.{Call}
 use Rattle.anstyle_parse.specs.Stream.Calls.{Continues}
 use Rattle.anstyle_parse.specs.Machine.Step.{Machine, AccumulatorStep, step, machine_after, machine_calls}
 use Rattle.anstyle_parse.specs.Machine.Stands.{StandsAfter, seen, unseen, Decodes}
-use Rattle.anstyle_parse.specs.Views.Parser.{machine_of, CanTake, CanTakeAll, AreBelow, IsAfter, IsAfterAscii}
+use Rattle.anstyle_parse.specs.Views.Parser.{machine_of, CanTake, CanTakeAll, ReachesAccumulator, AreBelow, IsAfter, IsAfterAscii}
 use Rattle.anstyle_parse.proofs.Agreement.Whole.{StandsAfter-machine, Continues-machine}
 use Rattle.anstyle_parse.proofs.Machine.Seen.{Seen-machine}
 use Rattle.anstyle_parse.proofs.Machine.Unseen.{Unseen-step, Unseen-machine, StandsAfter-outside, reached-outside}
@@ -43,6 +44,13 @@ module _ {C : Type 0} (takes : C → ℕ → Type 0) where
       (λ all. ((λ reaches. all parser.accumulator b small), (λ inside breaks reaches. all (adds parser.accumulator b).0 b small)))
       (λ ascii. reached-outside (λ value. takes value b) adds parser.state parser.accumulator b ascii.1.0 ascii.0)
       can
+
+  -- and where no byte reaches it
+  pub CanTake-in : (adds : AccumulatorStep C) (parser : Parser C) (state : State) (b : ℕ) → parser.state ≡ state → (ReachesAccumulator state b → ⊥) → CanTake takes adds parser b
+  CanTake-in adds parser state b is unreached = (
+    (λ reaches. absurd (unreached (subst (λ s. ReachesAccumulator s b) is reaches))),
+    (λ inside breaks reaches. absurd (unreached (subst (λ s. ReachesAccumulator s b) (sym inside ∙ is) tt))),
+  )
 
   -- and then the others
   pub CanTakeAll-rest : (adds : AccumulatorStep C) (old new : Parser C) (b : ℕ) (bytes : List ℕ) → machine_of new ≡ step adds b (machine_of old)

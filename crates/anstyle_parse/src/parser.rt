@@ -1,10 +1,10 @@
 //! The parser: a state, what a sequence has said so far, and an accumulator of characters.
 //!
-//! Calls go downwards: the public ones here, in `texts`, `passing` and `as_read`, many bytes in `runs`, one byte in
+//! Calls go downwards: the public ones here, in `texts`, `passing` and `log`, many bytes in `runs`, one byte in
 //! `step`, what a sequence has said in `header` and `command`.
-mod as_read;
 mod command;
 mod header;
+mod log;
 mod passing;
 mod runs;
 mod step;

@@ -134,6 +134,7 @@ pub record WritesEach {R W T : Type 0} (source : SourceOf R) (sink : SinkOf W) (
     : Type 0 where
   pub given : List Given
   pub are_read : AreRead source (AreWhole result.1) (LacksMemory result.1) readers readers_after given
-  pub written : WritesJoin result.1 (sink.contents writer) (sink.contents result.0) around.0 (flat_map text given) around.1
+  pub written :
+      WritesJoin result.1 (sink.contents writer) (sink.contents result.0) around.0 (flat_map text given) around.1
       (length given) (length readers)
   pub causes : StopsBy (sink.has_failed writer) (sink.has_failed result.0) result.1

@@ -83,8 +83,8 @@ impl<'a> EventWriter<'a> {
         }
     }
 
-    /// Up to sixteen bytes more. Where there is room for a whole block, one is put: what the room has after the bytes is
-    /// put where it was.
+    /// Up to sixteen bytes more. Where there is room for a whole block, one is put: what the room has after the bytes
+    /// is put where it was.
     #[inline(always)]
     fn put_padded(&mut self, bytes: &Padded<'_>)
         ensures { Puts bytes.now self.old self.new }

@@ -58,8 +58,8 @@ pub fn updated()
 {}
 
 /// A terminal follows a stream: the calls of a drawing, and of an update after each piece, lead every screen of the
-/// size to the one that all pieces lead to, but for the rows that left, which it keeps; and so after each of the pieces,
-/// since these may be any.
+/// size to the one that all pieces lead to, but for the rows that left, which it keeps; and so after each of the
+/// pieces, since these may be any.
 pub fn followed()
     ensures shown { (first old : State) (pieces : List (List ℕ)) (screens : List State)
         → IsScreen first.display → HasContents first.display

@@ -109,8 +109,8 @@ pub fn update<W: Sink>(shown: &Screen, wanted: &Screen, output: &mut Output<W>)
         (update_calls shown.now.display wanted.now.display) }
     ensures lawful { AreLawful (update_calls shown.now.display wanted.now.display) }
 
-    // A terminal that shows the one, as a drawing or an update leaves it, shows by this text the other, but for the rows
-    // that left it, which it keeps.
+    // A terminal that shows the one, as a drawing or an update leaves it, shows by this text the other, but for the
+    // rows that left it, which it keeps.
     ensures updated { (since : Picture) (old new : State) → IsScreen shown.now.display → HasContents shown.now.display
         → IsScreen wanted.now.display → HasContents wanted.now.display
         → (unkept old).display ≡ as_shown since shown.now.display
@@ -145,8 +145,8 @@ pub fn update_noted<W: Sink>(shown: &Screen, wanted: &Screen, output: &mut Outpu
         (update_calls shown.now.display wanted.now.display) }
     ensures lawful { AreLawful (update_calls shown.now.display wanted.now.display) }
 
-    // A terminal that shows the one, as a drawing or an update leaves it, shows by this text the other, but for the rows
-    // that left it, which it keeps.
+    // A terminal that shows the one, as a drawing or an update leaves it, shows by this text the other, but for the
+    // rows that left it, which it keeps.
     ensures updated { (since : Picture) (old new : State) → IsScreen shown.now.display → HasContents shown.now.display
         → IsScreen wanted.now.display → HasContents wanted.now.display
         → (unkept old).display ≡ as_shown since shown.now.display

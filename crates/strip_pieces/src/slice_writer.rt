@@ -66,8 +66,8 @@ impl<'a> SliceWriter<'a> {
         }
     }
 
-    /// Up to sixteen bytes more. Where there is room for a whole chunk, one is put: what the room has after the bytes is
-    /// put where it was.
+    /// Up to sixteen bytes more. Where there is room for a whole chunk, one is put: what the room has after the bytes
+    /// is put where it was.
     #[inline(always)]
     fn put_padded(&mut self, bytes: &Padded<'_>)
         ensures { Puts bytes.now self.old self.new }

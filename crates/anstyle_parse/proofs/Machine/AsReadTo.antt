@@ -103,12 +103,7 @@ passed-front test bytes left front passes taken =
     taken ∙ ap (λ n. take n bytes) whole ∙ ap (λ l. take (length passes.passed) l) passes.joined
     ∙ take-append_seam passes.passed left
 
--- what is read for a final byte, and for a byte below A0 in the ground state or in a header
-pub read_one-final : (p : Parser Utf8Parser) (b : ℕ) → IsTrue (is_final b) → read_one p b ≡ b ∷ []
-read_one-final p b is =
-    let ends = within_parts 0x1B 0x7E b (final_within b is) in
-    read_for-low parser_after p.state p.accumulator b (omega (arith, ends.1)) (λ bell. omega (arith, ends.0, bell))
-
+-- what is read for a byte below A0 in the ground state
 pub read_one-ground : (p : Parser Utf8Parser) (b : ℕ) → p.state ≡ Ground → b < 0xA0 → read_one p b ≡ b ∷ []
 read_one-ground p b ground low =
     ap (λ s. read_for parser_after s p.accumulator b) ground ∙ read_for-no_string parser_after Ground p.accumulator b low refl
@@ -118,12 +113,9 @@ pub read_one-in : (p : Parser Utf8Parser) (state : State) (b : ℕ) → p.state 
     → is_in_ignored_string state ≡ false → read_one p b ≡ b ∷ []
 read_one-in p state b is outside another = ap (λ s. read_for parser_after s p.accumulator b) is ∙ read_for-in parser_after state p.accumulator b outside another
 
-pub read_one-header : (p : Parser Utf8Parser) (b : ℕ) → (p.state ≡ CsiEntry) ⊎ (p.state ≡ CsiParam) → b < 0xA0 → read_one p b ≡ b ∷ []
-read_one-header p b header low =
-    ⊎_elim
-    (λ entry. ap (λ s. read_for parser_after s p.accumulator b) entry ∙ read_for-no_string parser_after CsiEntry p.accumulator b low refl)
-    (λ param. ap (λ s. read_for parser_after s p.accumulator b) param ∙ read_for-no_string parser_after CsiParam p.accumulator b low refl)
-    header
+pub read_one-header : (p : Parser Utf8Parser) (b : ℕ) → (p.state ≡ CsiEntry) ⊎ (p.state ≡ CsiParam) → read_one p b ≡ b ∷ []
+read_one-header p b header =
+    ⊎_elim (λ entry. read_one-in p CsiEntry b entry refl refl) (λ param. read_one-in p CsiParam b param refl refl) header
 
 -- the bytes of a character, in the ground state, where none is begun
 module _ {A : Type 0} (adds : AccumulatorStep A) (m : Machine A) where

@@ -22,7 +22,8 @@ abbrev pub layout_calls : List ℕ → List Call
 layout_calls text = map layout_call (chars text)
 
 -- What lists of calls do to a performer agrees with what each call means to it.
-pub record FollowsCalls {P : Type 0} (means : P → Call → P → Type 0) (receives : P → List Call → P → Type 0) : Type 0 where
+pub record FollowsCalls {P : Type 0} (means : P → Call → P → Type 0) (receives : P → List Call → P → Type 0)
+    : Type 0 where
   -- no call leaves it as it is
   pub none : (performer : P) → receives performer [] performer
   -- one does what it means

@@ -17,7 +17,7 @@ use super::command::is_plain_byte;
 use super::header::{is_final_byte, is_marker, is_parameter};
 use crate::accumulator::CharAccumulator;
 use crate::chunks::{CHUNK, outside};
-use crate::controls::{BELL, CANCEL, ESCAPE, SPACE};
+use crate::controls::{CANCEL, ESCAPE, SPACE};
 use crate::perform::Perform;
 use crate::state::{Action, State};
 use std::simd::prelude::*;
@@ -138,7 +138,10 @@ impl<C: CharAccumulator> Parser<C> {
         let first = *first;
         match self.state {
             State::Ground => self.take_in_ground(performer, bytes),
-            State::Escape => self.take_after_escape(performer, first, behind),
+            State::Escape => {
+                self.step_after_escape(performer, first);
+                behind
+            }
             State::CsiEntry | State::CsiParam => self.take_on_in_header(performer, bytes),
             State::OscString => self.take_in_command(performer, first, behind),
             State::DcsEntry => self.take_device_final(performer, first, behind),
@@ -151,8 +154,8 @@ impl<C: CharAccumulator> Parser<C> {
         }
     }
 
-    /// One byte alone, through the table. It is out of line: there it stands once.
-    #[inline(never)]
+    /// One byte alone, through the table.
+    #[inline(always)]
     fn take_by_table<'a, P: Perform>(
         &mut self,
         performer: &mut P,
@@ -163,7 +166,7 @@ impl<C: CharAccumulator> Parser<C> {
         ensures { Takes C.takes C.taken P.means (stage self.old performer.old (first ∷ behind.now))
             (stage self.new performer.new result.now) }
     {
-        self.step(performer, first);
+        self.step_out_of_line(performer, first);
         behind
     }
 }
@@ -421,54 +424,10 @@ impl<C: CharAccumulator> Parser<C> {
                 self.step_by_answer(performer, State::OscString, Action::Nop, *next);
                 return self.take_command(performer, rest);
             }
-            return self.take_begun(performer, *next, rest);
+            self.step_begun(performer, *next);
+            return rest;
         }
         behind
-    }
-}
-
-/// Directly after ESC.
-impl<C: CharAccumulator> Parser<C> {
-    ghost use Rattle.anstyle_parse.specs.Views.Parser.{CanTakeAll};
-
-    /// What ends a string; another byte by the table.
-    #[inline(always)]
-    fn take_after_escape<'a, P: Perform>(
-        &mut self,
-        performer: &mut P,
-        first: u8,
-        behind: &'a [u8],
-    ) -> &'a [u8]
-        requires escape { self.old.state ≡ State.Escape }
-        requires can { CanTakeAll C.takes self.old (first ∷ behind.now) }
-        ensures { Takes C.takes C.taken P.means (stage self.old performer.old (first ∷ behind.now))
-            (stage self.new performer.new result.now) }
-    {
-        if first == b'\\' {
-            self.step_by_answer(performer, State::Ground, Action::EscDispatch, first);
-            return behind;
-        }
-        self.take_by_table(performer, first, behind)
-    }
-
-    /// What begins a device control string; another byte by the table. It is out of line, so that the loop stays small.
-    #[inline(never)]
-    fn take_begun<'a, P: Perform>(
-        &mut self,
-        performer: &mut P,
-        first: u8,
-        behind: &'a [u8],
-    ) -> &'a [u8]
-        requires escape { self.old.state ≡ State.Escape }
-        requires can { CanTakeAll C.takes self.old (first ∷ behind.now) }
-        ensures { Takes C.takes C.taken P.means (stage self.old performer.old (first ∷ behind.now))
-            (stage self.new performer.new result.now) }
-    {
-        if first == b'P' {
-            self.step_by_answer(performer, State::DcsEntry, Action::Nop, first);
-            return behind;
-        }
-        self.take_by_table(performer, first, behind)
     }
 }
 
@@ -530,30 +489,10 @@ impl<C: CharAccumulator> Parser<C> {
         match self.state {
             State::CsiEntry if is_marker(first) => {
                 self.step_by_answer(performer, State::CsiParam, Action::Collect, first);
-                behind
             }
-            _ => self.take_other_in_header(performer, first, behind),
+            _ => self.step_in_header(performer, first),
         }
-    }
-
-    /// A control that is executed; another byte by the table. It is out of line, so that the loop stays small.
-    #[inline(never)]
-    fn take_other_in_header<'a, P: Perform>(
-        &mut self,
-        performer: &mut P,
-        first: u8,
-        behind: &'a [u8],
-    ) -> &'a [u8]
-        requires header { IsAtFields self.old }
-        requires can { CanTakeAll C.takes self.old (first ∷ behind.now) }
-        ensures { Takes C.takes C.taken P.means (stage self.old performer.old (first ∷ behind.now))
-            (stage self.new performer.new result.now) }
-    {
-        if first < ESCAPE {
-            self.execute_in_header(performer, first);
-            return behind;
-        }
-        self.take_by_table(performer, first, behind)
+        behind
     }
 
     /// The bytes of fields. Often there are none.
@@ -633,15 +572,11 @@ impl<C: CharAccumulator> Parser<C> {
         ensures { Takes C.takes C.taken P.means (stage self.old performer.old (first ∷ behind.now))
             (stage self.new performer.new result.now) }
     {
+        self.step_in_command(performer, first);
         if first == ESCAPE {
-            self.end_command(performer, State::Escape, first);
             return self.take_string_end(performer, behind);
         }
-        if first == BELL {
-            self.end_command(performer, State::Ground, first);
-            return behind;
-        }
-        self.take_by_table(performer, first, behind)
+        behind
     }
 
     /// What mostly follows the ESC that ends a command, a backslash, if it stands here.
@@ -654,7 +589,8 @@ impl<C: CharAccumulator> Parser<C> {
     {
         match bytes.split_first() {
             Some((next, behind)) if *next == b'\\' => {
-                self.take_after_escape(performer, *next, behind)
+                self.step_after_escape(performer, *next);
+                behind
             }
             _ => bytes,
         }
@@ -772,10 +708,10 @@ impl<C: CharAccumulator> Parser<C> {
         ensures { Takes C.takes C.taken P.means (stage self.old performer.old (first ∷ behind.now))
             (stage self.new performer.new result.now) }
     {
+        self.step_after_puts(performer, first);
         if first == ESCAPE {
-            self.end_hooked_string(performer, first);
             return self.take_string_end(performer, behind);
         }
-        self.take_by_table(performer, first, behind)
+        behind
     }
 }

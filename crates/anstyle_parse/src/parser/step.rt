@@ -9,7 +9,7 @@ ghost use Rattle.anstyle_parse.specs.Machine.Step.{exit_action as exit_of, entry
 use super::Parser;
 use super::command::{MAX_OSC_PARTS, set_parts};
 use crate::accumulator::CharAccumulator;
-use crate::controls::{BELL, CANCEL, SUBSTITUTE};
+use crate::controls::{BELL, CANCEL, ESCAPE, SUBSTITUTE};
 use crate::perform::Perform;
 use crate::state::{Action, State, state_change};
 use crate::utf8::Taken;
@@ -142,6 +142,86 @@ impl<C: CharAccumulator> Parser<C> {
         ensures { Steps C.taken P.means byte self.old performer.old self.new performer.new }
     {
         self.change_state(performer, Action::Unhook, State::Escape, Action::Nop, byte);
+    }
+}
+
+/// One byte in a state that is known: what mostly comes there goes by no table.
+impl<C: CharAccumulator> Parser<C> {
+    ghost use Rattle.anstyle_parse.specs.Views.Parser.{CanTake, IsAtFields};
+    ghost use Rattle.anstyle_parse.specs.Views.Steps.{Steps};
+
+    /// Any byte. It is out of line: there it stands once.
+    #[inline(never)]
+    pub(super) fn step_out_of_line<P: Perform>(&mut self, performer: &mut P, byte: u8)
+        requires { CanTake C.takes C.taken self.old byte }
+        ensures { Steps C.taken P.means byte self.old performer.old self.new performer.new }
+    {
+        self.step(performer, byte);
+    }
+
+    /// In a header: a control that is executed, or another byte. It is out of line, so that loops stay small.
+    #[inline(never)]
+    pub(super) fn step_in_header<P: Perform>(&mut self, performer: &mut P, byte: u8)
+        requires { IsAtFields self.old }
+        ensures { Steps C.taken P.means byte self.old performer.old self.new performer.new }
+    {
+        if byte < ESCAPE {
+            self.execute_in_header(performer, byte);
+        } else {
+            self.step_out_of_line(performer, byte);
+        }
+    }
+
+    /// Directly after ESC: what ends a string, or another byte.
+    #[inline(always)]
+    pub(super) fn step_after_escape<P: Perform>(&mut self, performer: &mut P, byte: u8)
+        requires { self.old.state ≡ State.Escape }
+        ensures { Steps C.taken P.means byte self.old performer.old self.new performer.new }
+    {
+        if byte == b'\\' {
+            self.step_by_answer(performer, State::Ground, Action::EscDispatch, byte);
+        } else {
+            self.step_begun(performer, byte);
+        }
+    }
+
+    /// Directly after ESC: what begins a string, or another byte. It is out of line, so that loops stay small.
+    #[inline(never)]
+    pub(super) fn step_begun<P: Perform>(&mut self, performer: &mut P, byte: u8)
+        requires { self.old.state ≡ State.Escape }
+        ensures { Steps C.taken P.means byte self.old performer.old self.new performer.new }
+    {
+        match byte {
+            b']' => self.step_by_answer(performer, State::OscString, Action::Nop, byte),
+            b'P' => self.step_by_answer(performer, State::DcsEntry, Action::Nop, byte),
+            _ => self.step_out_of_line(performer, byte),
+        }
+    }
+
+    /// A control of a command: one of its ends, or another.
+    #[inline(always)]
+    pub(super) fn step_in_command<P: Perform>(&mut self, performer: &mut P, control: u8)
+        requires { self.old.state ≡ State.OscString }
+        ensures { Steps C.taken P.means control self.old performer.old self.new performer.new }
+    {
+        match control {
+            ESCAPE => self.end_command(performer, State::Escape, control),
+            BELL => self.end_command(performer, State::Ground, control),
+            _ => self.step_out_of_line(performer, control),
+        }
+    }
+
+    /// A byte of a hooked string that is not put: the ESC that ends it, or another.
+    #[inline(always)]
+    pub(super) fn step_after_puts<P: Perform>(&mut self, performer: &mut P, byte: u8)
+        requires { self.old.state ≡ State.DcsPassthrough }
+        ensures { Steps C.taken P.means byte self.old performer.old self.new performer.new }
+    {
+        if byte == ESCAPE {
+            self.end_hooked_string(performer, byte);
+        } else {
+            self.step_out_of_line(performer, byte);
+        }
     }
 }
 

@@ -3,39 +3,33 @@ use Rattle.anstyle_parse.specs.declared.state.definitions.State.TheVariants.{Esc
 use Rattle.anstyle_parse.specs.declared.state.definitions.Action.TheVariants.{Nop}
 use Rattle.anstyle_parse.specs.Machine.Step.{Machine}
 use Rattle.anstyle_parse.specs.Views.Parser.{machine_of}
-use Rattle.anstyle_parse.proofs.Machine.Runs.{change_at-command_escape, change_at-command_bell, state-by, LeadsTo-byte, LeadsTo-trans, Takes-byte}
+use Rattle.anstyle_parse.proofs.Machine.Runs.{change_at-command_escape, state-by, LeadsTo-byte, LeadsTo-trans, Takes-byte}
 use Rattle.anstyle_parse.proofs.parser.Parser.take_control_in_command.Goals as goal
-
-pub end_command-requires-clause-known : goal.end_command-requires-clause-known
-end_command-requires-clause-known g c = change_at-command_escape c.args.self.now.state c.args.first c.requires.command c.if-first-eq-ESCAPE.true
-
-pub end_command-requires-then-first-eq-BELL-clause-known : goal.end_command-requires-then-first-eq-BELL-clause-known
-end_command-requires-then-first-eq-BELL-clause-known g c = change_at-command_bell c.args.self.now.state c.args.first c.requires.command c.if-first-eq-BELL.true
 
 pub take_string_end-requires-clause-escape : goal.take_string_end-requires-clause-escape
 take_string_end-requires-clause-escape g c =
     let m = machine_of c.args.self.now in
-    ap (λ (x : Machine g.row.C.Denot). x.state) c.end_command.ensures.machine
+    ap (λ (x : Machine g.row.C.Denot). x.state) c.step_in_command.ensures.machine
     ∙ state-by g.C.CharAccumulator.taken c.args.first m Escape Nop (λ h. absurd (cc (c.requires.command, h))) (λ h. absurd (cc))
     (change_at-command_escape m.state c.args.first c.requires.command c.if-first-eq-ESCAPE.true)
 
 pub take_string_end-requires-clause-can : goal.take_string_end-requires-clause-can
 take_string_end-requires-clause-can g c =
-    (LeadsTo-byte g.C.CharAccumulator.takes g.C.CharAccumulator.taken g.P.Perform.means c.args.self.now c.end_command.new.self c.args.performer.now c.end_command.new.performer
-    c.args.first c.args.behind.now c.requires.can c.end_command.ensures).can
+    (LeadsTo-byte g.C.CharAccumulator.takes g.C.CharAccumulator.taken g.P.Perform.means c.args.self.now c.step_in_command.new.self c.args.performer.now c.step_in_command.new.performer
+    c.args.first c.args.behind.now c.requires.can c.step_in_command.ensures).can
 
 pub returns-then-first-eq-ESCAPE : goal.returns-then-first-eq-ESCAPE
 returns-then-first-eq-ESCAPE g c =
     let n = g.C.CharAccumulator in
     let means = g.P.Perform.means in
-    let ended = LeadsTo-byte n.takes n.taken means c.args.self.now c.end_command.new.self c.args.performer.now c.end_command.new.performer
-    c.args.first c.args.behind.now c.requires.can c.end_command.ensures in
+    let ended = LeadsTo-byte n.takes n.taken means c.args.self.now c.step_in_command.new.self c.args.performer.now c.step_in_command.new.performer
+    c.args.first c.args.behind.now c.requires.can c.step_in_command.ensures in
     record {
       leads = LeadsTo-trans n.takes n.taken means ended c.take_string_end.ensures;
       some = omega (arith, c.take_string_end.ensures.within);
     }
 
-pub returns-then-first-eq-BELL : goal.returns-then-first-eq-BELL
-returns-then-first-eq-BELL g c =
-    Takes-byte g.C.CharAccumulator.takes g.C.CharAccumulator.taken g.P.Perform.means c.args.self.now c.end_command-then-first-eq-BELL.new.self c.args.performer.now c.end_command-then-first-eq-BELL.new.performer
-    c.args.first c.args.behind.now c.requires.can c.end_command-then-first-eq-BELL.ensures
+pub returns : goal.returns
+returns g c =
+    Takes-byte g.C.CharAccumulator.takes g.C.CharAccumulator.taken g.P.Perform.means c.args.self.now c.step_in_command.new.self c.args.performer.now c.step_in_command.new.performer
+    c.args.first c.args.behind.now c.requires.can c.step_in_command.ensures

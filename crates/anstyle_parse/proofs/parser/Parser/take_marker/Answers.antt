@@ -10,3 +10,8 @@ pub returns-in-CsiEntry : goal.returns-in-CsiEntry
 returns-in-CsiEntry g c =
     Takes-byte g.C.CharAccumulator.takes g.C.CharAccumulator.taken g.P.Perform.means c.args.self.now c.step_by_answer.new.self c.args.performer.now c.step_by_answer.new.performer
     c.args.first c.args.behind.now c.requires.can c.step_by_answer.ensures
+
+pub returns-in_default : goal.returns-in_default
+returns-in_default g c =
+    Takes-byte g.C.CharAccumulator.takes g.C.CharAccumulator.taken g.P.Perform.means c.args.self.now c.step_in_header.new.self c.args.performer.now c.step_in_header.new.performer
+    c.args.first c.args.behind.now c.requires.can c.step_in_header.ensures

@@ -1,9 +1,9 @@
-use Rattle.std.proofs.Common.{◌≡◌, arith, ap, ◌∙◌, sym, subst, List, ℕ}
+use Rattle.std.proofs.Common.{◌≡◌, arith, ap, ◌∙◌, sym}
 use Rattle.anstyle_parse.specs.declared.state.definitions.State.TheVariants.{Escape, OscString, Utf8}
 use Rattle.anstyle_parse.specs.declared.state.definitions.Action.TheVariants.{Nop}
 use Rattle.anstyle_parse.specs.Machine.Step.{Machine, exit_action}
-use Rattle.anstyle_parse.specs.Views.Parser.{machine_of, CanTakeAll}
-use Rattle.anstyle_parse.proofs.Machine.Runs.{change_at-escape, change_at-command, state-by, state-escape, LeadsTo-byte, LeadsTo-bytes, LeadsTo-first, LeadsTo-trans, Takes-byte}
+use Rattle.anstyle_parse.specs.Views.Parser.{machine_of}
+use Rattle.anstyle_parse.proofs.Machine.Runs.{change_at-escape, change_at-command, state-by, state-escape, LeadsTo-bytes, LeadsTo-trans, Takes-byte}
 use Rattle.anstyle_parse.proofs.parser.Parser.take_other_escape.Goals as goal
 
 pub step_by_answer-requires-clause-known : goal.step_by_answer-requires-clause-known
@@ -56,28 +56,20 @@ returns-then-next-eq93 g c =
       some = omega (arith, c.in-Some.ensures.cases.1, c.take_command.ensures.within);
     }
 
-pub take_begun-requires-clause-escape : goal.take_begun-requires-clause-escape
-take_begun-requires-clause-escape g c =
-    let escape = state-escape g.C.CharAccumulator.taken c.args.first c.args.self.now c.step_by_answer.new.self c.requires.ground c.requires.escape c.step_by_answer.ensures.machine in
-    escape
-
-pub take_begun-requires-clause-can : goal.take_begun-requires-clause-can
-take_begun-requires-clause-can g c =
-    let n = g.C.CharAccumulator in
-    let means = g.P.Perform.means in
-    let escaped = LeadsTo-byte n.takes n.taken means c.args.self.now c.step_by_answer.new.self c.args.performer.now c.step_by_answer.new.performer
-    c.args.first c.args.behind.now c.requires.can c.step_by_answer.ensures in
-    subst (λ (l : List ℕ). CanTakeAll n.takes c.step_by_answer.new.self l) c.in-Some.ensures.cases.0 escaped.can
+pub step_begun-requires : goal.step_begun-requires
+step_begun-requires g c =
+    state-escape g.C.CharAccumulator.taken c.args.first c.args.self.now c.step_by_answer.new.self c.requires.ground c.requires.escape c.step_by_answer.ensures.machine
 
 pub returns-in-Some : goal.returns-in-Some
 returns-in-Some g c =
     let n = g.C.CharAccumulator in
     let means = g.P.Perform.means in
-    let escaped = LeadsTo-byte n.takes n.taken means c.args.self.now c.step_by_answer.new.self c.args.performer.now c.step_by_answer.new.performer
-    c.args.first c.args.behind.now c.requires.can c.step_by_answer.ensures in
     record {
-      leads = LeadsTo-first n.takes n.taken means c.in-Some.ensures.cases.0 escaped (λ can. c.take_begun.ensures.leads);
-      some = omega (arith, c.in-Some.ensures.cases.1, c.take_begun.ensures.some);
+      leads = LeadsTo-bytes n.takes n.taken means c.args.self.now c.step_by_answer.new.self c.step_begun.new.self
+          c.args.performer.now c.step_by_answer.new.performer c.step_begun.new.performer
+          c.args.first c.in-Some.next.now c.args.behind.now c.in-Some.rest.now c.requires.can c.in-Some.ensures.cases.0
+          c.step_by_answer.ensures c.step_begun.ensures;
+      some = omega (arith, c.in-Some.ensures.cases.1);
     }
 
 pub returns : goal.returns

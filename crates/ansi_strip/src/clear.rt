@@ -1,5 +1,5 @@
 //! Whether a text is clear: of ASCII alone, and with no DEL. That is looked at many bytes at once.
-ghost use Rattle.std.specs.Prelude.{◌≡◌, ◌≤◌, length, IsTrue};
+ghost use Rattle.std.specs.Prelude.{◌≡◌, ◌<◌, ◌≤◌, ◌*◌, length, IsTrue};
 ghost use Rattle.anstyle_parse.specs.Stream.Items.{EachIs};
 ghost use Rattle.ansi_strip.specs.Driving.{is_clear, PassTo};
 
@@ -12,119 +12,41 @@ const LONG: usize = 128;
 /// The bytes of a block of any other.
 const BLOCK: usize = 32;
 
-/// A bit for each place where the first 4 bytes or the last are not clear: where the larger of two is 7F or more.
+/// A bit for each place where the first `N` bytes or the last are not clear: where the larger of two is 7F or more.
 #[inline(always)]
-fn unclear_4(first: u8x4, last: u8x4) -> u64
-    ensures { result ≡ 0 → EachIs is_clear first × EachIs is_clear last }
+fn unclear<const N: usize>(first: Simd<u8, N>, last: Simd<u8, N>) -> u64
+    requires { N ≤ 64 }
+    ensures { result ≡ 0 → EachIs is_clear first.entry × EachIs is_clear last.entry }
 {
-    first.simd_max(last).simd_ge(u8x4::splat(0x7F)).to_bitmask()
+    first.simd_max(last).simd_ge(Simd::splat(0x7F)).to_bitmask()
 }
 
-/// Whether bytes are clear that are 4 to 8.
+/// Whether bytes are clear that are `N` to twice as many.
 #[inline(always)]
-fn are_clear_4(bytes: &[u8]) -> bool
-    ensures { IsTrue result → length bytes.now ≤ 8 → EachIs is_clear bytes.now }
+fn are_clear<const N: usize>(bytes: &[u8]) -> bool
+    requires { N ≤ 64 }
+    ensures { IsTrue result → length bytes.now ≤ 2 * N → EachIs is_clear bytes.now }
 {
-    match (bytes.first_chunk::<4>(), bytes.last_chunk::<4>()) {
+    match (bytes.first_chunk::<N>(), bytes.last_chunk::<N>()) {
         (Some(first), Some(last)) => {
-            unclear_4(u8x4::from_array(*first), u8x4::from_array(*last)) == 0
+            unclear(Simd::from_array(*first), Simd::from_array(*last)) == 0
         }
         _ => false,
     }
 }
 
-/// A bit for each place where the first 8 bytes or the last are not clear: where the larger of two is 7F or more.
+/// What comes after the blocks at the front that are clear, each of `WHOLE` bytes: of two halves of `HALF`.
+/// No const parameter is computed from another, so both are given.
 #[inline(always)]
-fn unclear_8(first: u8x8, last: u8x8) -> u64
-    ensures { result ≡ 0 → EachIs is_clear first × EachIs is_clear last }
-{
-    first.simd_max(last).simd_ge(u8x8::splat(0x7F)).to_bitmask()
-}
-
-/// Whether bytes are clear that are 8 to 16.
-#[inline(always)]
-fn are_clear_8(bytes: &[u8]) -> bool
-    ensures { IsTrue result → length bytes.now ≤ 16 → EachIs is_clear bytes.now }
-{
-    match (bytes.first_chunk::<8>(), bytes.last_chunk::<8>()) {
-        (Some(first), Some(last)) => {
-            unclear_8(u8x8::from_array(*first), u8x8::from_array(*last)) == 0
-        }
-        _ => false,
-    }
-}
-
-/// A bit for each place where the first 16 bytes or the last are not clear: where the larger of two is 7F or more.
-#[inline(always)]
-fn unclear_16(first: u8x16, last: u8x16) -> u64
-    ensures { result ≡ 0 → EachIs is_clear first × EachIs is_clear last }
-{
-    first
-        .simd_max(last)
-        .simd_ge(u8x16::splat(0x7F))
-        .to_bitmask()
-}
-
-/// Whether bytes are clear that are 16 to 32.
-#[inline(always)]
-fn are_clear_16(bytes: &[u8]) -> bool
-    ensures { IsTrue result → length bytes.now ≤ 32 → EachIs is_clear bytes.now }
-{
-    match (bytes.first_chunk::<16>(), bytes.last_chunk::<16>()) {
-        (Some(first), Some(last)) => {
-            unclear_16(u8x16::from_array(*first), u8x16::from_array(*last)) == 0
-        }
-        _ => false,
-    }
-}
-
-/// A bit for each place where the first 64 bytes or the last are not clear: where the larger of two is 7F or more.
-#[inline(always)]
-fn unclear_64(first: u8x64, last: u8x64) -> u64
-    ensures { result ≡ 0 → EachIs is_clear first × EachIs is_clear last }
-{
-    first
-        .simd_max(last)
-        .simd_ge(u8x64::splat(0x7F))
-        .to_bitmask()
-}
-
-/// Whether bytes are clear that are 64 to 128.
-#[inline(always)]
-fn are_clear_64(bytes: &[u8]) -> bool
-    ensures { IsTrue result → length bytes.now ≤ 128 → EachIs is_clear bytes.now }
-{
-    match (bytes.first_chunk::<64>(), bytes.last_chunk::<64>()) {
-        (Some(first), Some(last)) => {
-            unclear_64(u8x64::from_array(*first), u8x64::from_array(*last)) == 0
-        }
-        _ => false,
-    }
-}
-
-/// What comes after the long blocks at the front that are clear.
-#[inline(always)]
-fn after_long(bytes: &[u8]) -> &[u8]
+fn after_blocks<const WHOLE: usize, const HALF: usize>(bytes: &[u8]) -> &[u8]
+    requires some { 0 < WHOLE }
+    requires halves { WHOLE ≤ 2 * HALF }
+    requires few { HALF ≤ 64 }
     ensures { PassTo is_clear bytes.now result.now }
 {
     let mut rest = bytes;
-    'long: while let Some((block, behind)) = rest.split_first_chunk::<LONG>() {
-        if !are_clear_64(block) {
-            break;
-        }
-        rest = behind;
-    }
-    rest
-}
-
-/// What comes after the blocks at the front that are clear.
-#[inline(always)]
-fn after_blocks(bytes: &[u8]) -> &[u8]
-    ensures { PassTo is_clear bytes.now result.now }
-{
-    let mut rest = bytes;
-    'many: while let Some((block, behind)) = rest.split_first_chunk::<BLOCK>() {
-        if !are_clear_16(block) {
+    'many: while let Some((block, behind)) = rest.split_first_chunk::<WHOLE>() {
+        if !are_clear::<HALF>(block) {
             break;
         }
         rest = behind;
@@ -137,8 +59,8 @@ fn after_blocks(bytes: &[u8]) -> &[u8]
 fn is_long_clear(bytes: &[u8]) -> bool
     ensures { IsTrue result → EachIs is_clear bytes.now }
 {
-    let rest = after_long(bytes);
-    let few = after_blocks(rest);
+    let rest = after_blocks::<LONG, 64>(bytes);
+    let few = after_blocks::<BLOCK, 16>(rest);
     is_short_clear(few)
 }
 
@@ -163,9 +85,9 @@ fn is_short_clear(bytes: &[u8]) -> bool
         [first, second, third] => {
             is_clear_byte(*first) && is_clear_byte(*second) && is_clear_byte(*third)
         }
-        _ if bytes.len() <= 8 => are_clear_4(bytes),
-        _ if bytes.len() <= 16 => are_clear_8(bytes),
-        _ if bytes.len() <= BLOCK => are_clear_16(bytes),
+        _ if bytes.len() <= 8 => are_clear::<4>(bytes),
+        _ if bytes.len() <= 16 => are_clear::<8>(bytes),
+        _ if bytes.len() <= BLOCK => are_clear::<16>(bytes),
         _ => false,
     }
 }

@@ -1,5 +1,5 @@
 //! Where a text has characters that terminals take for controls.
-ghost use Rattle.std.specs.Prelude.{◌≡◌, ◌<◌, ◌++◌, length, not, filter, map, IsUtf8};
+ghost use Rattle.std.specs.Prelude.{◌≡◌, ◌<◌, ◌≤◌, ◌++◌, length, not, filter, map, IsUtf8};
 ghost use Rattle.std.specs.Str.{chars};
 ghost use Rattle.std.specs.Simd.Lanes.{mask_l};
 ghost use Rattle.anstyle_parse.specs.Stream.Items.{EachIs};
@@ -42,43 +42,23 @@ fn may_begin_driving(byte: u8) -> bool
 
 /// A bit for each of many bytes: whether such a character may begin with it.
 #[inline(always)]
-fn beginnings_64(bytes: u8x64) -> u64
-    ensures { result ≡ mask_l (map may_begin_driving bytes) }
+fn beginnings<const N: usize>(bytes: Simd<u8, N>) -> u64
+    requires { N ≤ 64 }
+    ensures { result ≡ mask_l (map may_begin_driving bytes.entry) }
 {
-    (bytes.simd_eq(u8x64::splat(DEL)) | bytes.simd_eq(u8x64::splat(LEAD))).to_bitmask()
+    (bytes.simd_eq(Simd::splat(DEL)) | bytes.simd_eq(Simd::splat(LEAD))).to_bitmask()
 }
 
-/// The same of fewer.
+/// What comes after the blocks of `N` bytes at the front in which no such character may begin.
 #[inline(always)]
-fn beginnings_16(bytes: u8x16) -> u64
-    ensures { result ≡ mask_l (map may_begin_driving bytes) }
-{
-    (bytes.simd_eq(u8x16::splat(DEL)) | bytes.simd_eq(u8x16::splat(LEAD))).to_bitmask()
-}
-
-/// What comes after the long blocks at the front in which no such character may begin.
-#[inline(always)]
-fn after_blocks(bytes: &[u8]) -> &[u8]
+fn after_blocks<const N: usize>(bytes: &[u8]) -> &[u8]
+    requires some { 0 < N }
+    requires few { N ≤ 64 }
     ensures { PassTo is_clear bytes.now result.now }
 {
     let mut rest = bytes;
-    'many: while let Some((block, behind)) = rest.split_first_chunk::<BLOCK>() {
-        if beginnings_64(u8x64::from_array(*block)) != 0 {
-            break;
-        }
-        rest = behind;
-    }
-    rest
-}
-
-/// What comes after the chunks at the front in which none may begin.
-#[inline(always)]
-fn after_chunks(bytes: &[u8]) -> &[u8]
-    ensures { PassTo is_clear bytes.now result.now }
-{
-    let mut rest = bytes;
-    'chunks: while let Some((chunk, behind)) = rest.split_first_chunk::<CHUNK>() {
-        if beginnings_16(u8x16::from_array(*chunk)) != 0 {
+    'many: while let Some((block, behind)) = rest.split_first_chunk::<N>() {
+        if beginnings(Simd::from_array(*block)) != 0 {
             break;
         }
         rest = behind;
@@ -106,8 +86,8 @@ fn after_bytes(bytes: &[u8]) -> &[u8]
 fn from_beginning(bytes: &[u8]) -> &[u8]
     ensures { PassTo is_clear bytes.now result.now }
 {
-    let rest = after_blocks(bytes);
-    let few = after_chunks(rest);
+    let rest = after_blocks::<BLOCK>(bytes);
+    let few = after_blocks::<CHUNK>(rest);
     after_bytes(few)
 }
 

@@ -6,4 +6,4 @@ pub returns : goal.returns
 returns c = λ is.
     let bytes = c.args.bytes.now in
     PassTo_all is_clear bytes c.after_blocks-few.result.now
-    (PassTo_then is_clear bytes c.after_long-rest.result.now c.after_blocks-few.result.now c.after_long-rest.ensures c.after_blocks-few.ensures) (c.is_short_clear.ensures is)
+    (PassTo_then is_clear bytes c.after_blocks-rest.result.now c.after_blocks-few.result.now c.after_blocks-rest.ensures c.after_blocks-few.ensures) (c.is_short_clear.ensures is)

@@ -5,13 +5,13 @@ use Rattle.ansi_strip.proofs.PassLemmas.{PassTo_none, PassTo_more, chunk_and_beh
 use Rattle.ansi_strip.proofs.driving.after_blocks.Goals as goal
 
 pub many-init : goal.many-init
-many-init c = PassTo_none is_clear c.args.bytes.now
+many-init g c = PassTo_none is_clear c.args.bytes.now
 
 pub many-preserved : goal.many-preserved
-many-preserved c =
+many-preserved g c =
     let rest = c.many.rest.now in
     let block = c.in-Some.block.now in
     let behind = c.in-Some.behind.now in
     PassTo_more is_clear c.args.bytes.now rest block behind c.many.invariant
-    (chunk_and_behind 64 rest block behind c.in-Some.ensures.cases.0 c.in-Some.ensures.cases.1)
-    (clear-unset block (sym c.beginnings_64.ensures ∙ c.if-beginnings_64-ne0.false))
+    (chunk_and_behind g.row.N rest block behind c.in-Some.ensures.cases.0 c.in-Some.ensures.cases.1)
+    (clear-unset block (sym c.beginnings.ensures ∙ c.if-beginnings-ne0.false))

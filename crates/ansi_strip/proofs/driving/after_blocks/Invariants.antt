@@ -3,7 +3,7 @@ use Rattle.ansi_strip.specs.Driving.{is_clear, PassTo}
 use Rattle.ansi_strip.proofs.driving.after_blocks.Given as goal
 
 abbrev pub invariant-many : goal.invariant-many
-invariant-many l = PassTo is_clear l.bytes l.rest
+invariant-many g l = PassTo is_clear l.bytes l.rest
 
 abbrev pub decreases-many : goal.decreases-many
-decreases-many l = length l.rest
+decreases-many g l = length l.rest

@@ -1,6 +1,0 @@
-use Rattle.std.proofs.Common.{arith}
-use Rattle.ansi_strip.proofs.LaneLemmas.{ends-clear}
-use Rattle.ansi_strip.proofs.clear.unclear_16.Goals as goal
-
-pub returns : goal.returns
-returns c = ends-clear 16 (omega arith) c.args.first c.args.last c.fits-first.0 c.fits-last.0

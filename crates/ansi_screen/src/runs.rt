@@ -249,13 +249,8 @@ pub(crate) fn put_run_on_blanks(
     ensures { cells.new ≡ with_glyphs place run.now style link cells.old }
 {
     let is_plain = link == 0 && style.is_same(&Style::default());
-    print(
-        &mut cells[place..place + run.len()],
-        run,
-        style,
-        link,
-        is_plain,
-    );
+    let blanks = &mut cells[place..place + run.len()];
+    print(blanks, run, style, link, is_plain);
 }
 
 /// Plain blanks become these characters; where `is_plain` says so, they are in the plain style and in no link.

@@ -127,7 +127,7 @@ impl Parser<Utf8Parser> {
                 State::Ground => self.take_text_or_pass(performer, rest),
                 State::CsiEntry | State::CsiParam => self.take_read_header(performer, rest),
                 State::Escape => self.take_read_after_escape(performer, *first, behind),
-                State::OscString => self.take_read_in_command(performer, *first, behind),
+                State::OscString => self.take_read_command(performer, rest),
                 State::DcsPassthrough => {
                     self.take_read_in_hooked_string(performer, *first, behind)
                 }
@@ -184,7 +184,7 @@ impl Parser<Utf8Parser> {
         self.take_read(performer, first, behind)
     }
 
-    /// ESC, and with it a control sequence that it begins, as far as that stands here.
+    /// ESC, and with it a control sequence or a command that it begins, as far as that stands here.
     #[inline(always)]
     fn take_read_escape<'a, P: PerformText>(
         &mut self,
@@ -203,10 +203,31 @@ impl Parser<Utf8Parser> {
                 self.begin_control_sequence();
                 self.take_read_header(performer, header)
             }
-            _ => {
-                self.step_by_answer(performer, State::Escape, Action::Nop, first);
-                behind
+            _ => self.take_other_read_escape(performer, first, behind),
+        }
+    }
+
+    /// ESC that begins no control sequence here.
+    #[inline(always)]
+    fn take_other_read_escape<'a, P: PerformText>(
+        &mut self,
+        performer: &mut P,
+        first: u8,
+        behind: &'a [u8],
+    ) -> &'a [u8]
+        requires ground { self.old.state ≡ State.Ground }
+        requires escape { first ≡ 0x1B }
+        ensures leads { LeadsAsReadTo P.receives (stage self.old performer.old (first ∷ behind.now))
+            (stage self.new performer.new result.now) }
+        ensures within { length result.now ≤ length behind.now }
+    {
+        self.step_by_answer(performer, State::Escape, Action::Nop, first);
+        match behind.split_first() {
+            Some((next, text)) if *next == b']' => {
+                self.step_by_answer(performer, State::OscString, Action::Nop, *next);
+                self.take_read_command(performer, text)
             }
+            _ => behind,
         }
     }
 
@@ -227,24 +248,25 @@ impl Parser<Utf8Parser> {
         behind
     }
 
-    /// Text of a command; or a control there, one of its ends or another.
-    #[inline(always)]
-    fn take_read_in_command<'a, P: PerformText>(
+    /// Text of a command, and the control after it: one of its ends, or another. It is out of line, so that the loop
+    /// stays small.
+    #[inline(never)]
+    fn take_read_command<'a, P: PerformText>(
         &mut self,
         performer: &mut P,
-        first: u8,
-        behind: &'a [u8],
+        bytes: &'a [u8],
     ) -> &'a [u8]
         requires { self.old.state ≡ State.OscString }
-        ensures leads { LeadsAsReadTo P.receives (stage self.old performer.old (first ∷ behind.now))
+        ensures leads { LeadsAsReadTo P.receives (stage self.old performer.old bytes.now)
             (stage self.new performer.new result.now) }
-        ensures within { length result.now ≤ length behind.now }
+        ensures onward { length result.now ≤ length bytes.now - 1 }
     {
-        if first < SPACE {
-            self.step_in_command(performer, first);
-            return behind;
-        }
-        self.store_text(first, behind)
+        let rest = self.store_text(bytes);
+        let Some((control, behind)) = rest.split_first() else {
+            return rest;
+        };
+        self.step_in_command(performer, *control);
+        behind
     }
 
     /// Bytes that are put; or the ESC that ends the string, or another byte.

@@ -143,7 +143,7 @@ impl<C: CharAccumulator> Parser<C> {
                 behind
             }
             State::CsiEntry | State::CsiParam => self.take_on_in_header(performer, bytes),
-            State::OscString => self.take_in_command(performer, first, behind),
+            State::OscString => self.take_in_command(performer, bytes),
             State::DcsEntry => self.take_device_final(performer, first, behind),
             State::DcsPassthrough => self.take_in_hooked_string(performer, first, behind),
             State::SosPmApcString | State::DcsIgnore => {
@@ -424,7 +424,7 @@ impl<C: CharAccumulator> Parser<C> {
                 self.step_by_answer(performer, State::OscString, Action::Nop, *next);
                 return self.take_command(performer, rest);
             }
-            self.step_begun(performer, *next);
+            self.step_after_escape(performer, *next);
             return rest;
         }
         behind
@@ -530,31 +530,21 @@ impl<C: CharAccumulator> Parser<C> {
         ensures { LeadsTo C.takes C.taken P.means (stage self.old performer.old bytes.now)
             (stage self.new performer.new result.now) }
     {
-        match bytes.split_first() {
-            Some((first, behind)) => self.take_in_command(performer, *first, behind),
-            None => bytes,
-        }
+        self.take_in_command(performer, bytes)
     }
 
-    /// A byte of the command, and the text after it, up to a control that goes with it.
+    /// The text of the command, and a control after it that goes with it.
     #[inline(always)]
-    fn take_in_command<'a, P: Perform>(
-        &mut self,
-        performer: &mut P,
-        first: u8,
-        behind: &'a [u8],
-    ) -> &'a [u8]
+    fn take_in_command<'a, P: Perform>(&mut self, performer: &mut P, bytes: &'a [u8]) -> &'a [u8]
         requires command { self.old.state ≡ State.OscString }
-        requires can { CanTakeAll C.takes self.old (first ∷ behind.now) }
-        ensures { Takes C.takes C.taken P.means (stage self.old performer.old (first ∷ behind.now))
+        requires can { CanTakeAll C.takes self.old bytes.now }
+        ensures leads { LeadsTo C.takes C.taken P.means (stage self.old performer.old bytes.now)
             (stage self.new performer.new result.now) }
+        ensures onward { length result.now ≤ length bytes.now - 1 }
     {
-        if first < SPACE {
-            return self.take_control_in_command(performer, first, behind);
-        }
-        let rest = self.store_text(first, behind);
+        let rest = self.store_text(bytes);
         match rest.split_first() {
-            Some((control, further)) => self.take_control_in_command(performer, *control, further),
+            Some((control, behind)) => self.take_control_in_command(performer, *control, behind),
             None => rest,
         }
     }
@@ -596,23 +586,21 @@ impl<C: CharAccumulator> Parser<C> {
         }
     }
 
-    /// Text of the command: a byte of it, and what follows up to a control.
+    /// Text of the command, up to a control.
     #[inline(always)]
-    pub(super) fn store_text<'a>(&mut self, first: u8, behind: &'a [u8]) -> &'a [u8]
+    pub(super) fn store_text<'a>(&mut self, bytes: &'a [u8]) -> &'a [u8]
         requires command { self.old.state ≡ State.OscString }
-        requires text { 0x20 ≤ first }
-        requires can { CanTakeAll C.takes self.old (first ∷ behind.now) }
-        ensures leads { LeadsQuietlyTo C.takes C.taken is_of_command
-            self.old (first ∷ behind.now) self.new result.now }
+        requires can { CanTakeAll C.takes self.old bytes.now }
+        ensures leads { LeadsQuietlyTo C.takes C.taken is_of_command self.old bytes.now self.new result.now }
         ensures command { self.new.state ≡ State.OscString }
-        ensures within { length result.now ≤ length behind.now }
+        ensures within { length result.now ≤ length bytes.now }
     {
-        let mut rest = self.store_byte(first, behind);
-        'text: while let Some((next, further)) = rest.split_first() {
-            if *next < SPACE {
+        let mut rest = bytes;
+        'text: while let Some((first, behind)) = rest.split_first() {
+            if *first < SPACE {
                 break;
             }
-            rest = self.store_byte(*next, further);
+            rest = self.store_byte(*first, behind);
         }
         rest
     }

@@ -172,26 +172,14 @@ impl<C: CharAccumulator> Parser<C> {
         }
     }
 
-    /// Directly after ESC: what ends a string, or another byte.
-    #[inline(always)]
+    /// Directly after ESC: what ends a string or begins one, or another byte. It is out of line, so that loops stay small.
+    #[inline(never)]
     pub(super) fn step_after_escape<P: Perform>(&mut self, performer: &mut P, byte: u8)
         requires { self.old.state ≡ State.Escape }
         ensures { Steps C.taken P.means byte self.old performer.old self.new performer.new }
     {
-        if byte == b'\\' {
-            self.step_by_answer(performer, State::Ground, Action::EscDispatch, byte);
-        } else {
-            self.step_begun(performer, byte);
-        }
-    }
-
-    /// Directly after ESC: what begins a string, or another byte. It is out of line, so that loops stay small.
-    #[inline(never)]
-    pub(super) fn step_begun<P: Perform>(&mut self, performer: &mut P, byte: u8)
-        requires { self.old.state ≡ State.Escape }
-        ensures { Steps C.taken P.means byte self.old performer.old self.new performer.new }
-    {
         match byte {
+            b'\\' => self.step_by_answer(performer, State::Ground, Action::EscDispatch, byte),
             b']' => self.step_by_answer(performer, State::OscString, Action::Nop, byte),
             b'P' => self.step_by_answer(performer, State::DcsEntry, Action::Nop, byte),
             _ => self.step_out_of_line(performer, byte),
@@ -199,7 +187,7 @@ impl<C: CharAccumulator> Parser<C> {
     }
 
     /// A control of a command: one of its ends, or another.
-    #[inline(always)]
+    #[inline(never)]
     pub(super) fn step_in_command<P: Perform>(&mut self, performer: &mut P, control: u8)
         requires { self.old.state ≡ State.OscString }
         ensures { Steps C.taken P.means control self.old performer.old self.new performer.new }

@@ -56,8 +56,8 @@ returns-then-next-eq93 g c =
       some = omega (arith, c.in-Some.ensures.cases.1, c.take_command.ensures.within);
     }
 
-pub step_begun-requires : goal.step_begun-requires
-step_begun-requires g c =
+pub step_after_escape-requires : goal.step_after_escape-requires
+step_after_escape-requires g c =
     state-escape g.C.CharAccumulator.taken c.args.first c.args.self.now c.step_by_answer.new.self c.requires.ground c.requires.escape c.step_by_answer.ensures.machine
 
 pub returns-in-Some : goal.returns-in-Some
@@ -65,10 +65,10 @@ returns-in-Some g c =
     let n = g.C.CharAccumulator in
     let means = g.P.Perform.means in
     record {
-      leads = LeadsTo-bytes n.takes n.taken means c.args.self.now c.step_by_answer.new.self c.step_begun.new.self
-          c.args.performer.now c.step_by_answer.new.performer c.step_begun.new.performer
+      leads = LeadsTo-bytes n.takes n.taken means c.args.self.now c.step_by_answer.new.self c.step_after_escape.new.self
+          c.args.performer.now c.step_by_answer.new.performer c.step_after_escape.new.performer
           c.args.first c.in-Some.next.now c.args.behind.now c.in-Some.rest.now c.requires.can c.in-Some.ensures.cases.0
-          c.step_by_answer.ensures c.step_begun.ensures;
+          c.step_by_answer.ensures c.step_after_escape.ensures;
       some = omega (arith, c.in-Some.ensures.cases.1);
     }
 

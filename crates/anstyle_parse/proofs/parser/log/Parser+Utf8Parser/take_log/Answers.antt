@@ -27,7 +27,7 @@ pub rest-preserved-in-OscString : goal.rest-preserved-in-OscString
 rest-preserved-in-OscString g c =
     let n = g.P.PerformText in
     let m = g.met.P.PerformText in
-    LeadsAsReadTo-first g.P.Perform.means n.receives m.follows c.in-Some.ensures.cases.0 c.rest.invariant c.take_read_in_command-rest.ensures.leads
+    LeadsAsReadTo-trans g.P.Perform.means n.receives m.follows c.rest.invariant c.take_read_command-rest.ensures.leads
 
 pub rest-preserved-in-DcsPassthrough : goal.rest-preserved-in-DcsPassthrough
 rest-preserved-in-DcsPassthrough g c =

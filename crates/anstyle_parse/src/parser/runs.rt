@@ -143,9 +143,9 @@ impl<C: CharAccumulator> Parser<C> {
                 behind
             }
             State::CsiEntry | State::CsiParam => self.take_on_in_header(performer, bytes),
-            State::OscString => self.take_in_command(performer, bytes),
+            State::OscString => self.take_command(performer, bytes),
             State::DcsEntry => self.take_device_final(performer, first, behind),
-            State::DcsPassthrough => self.take_in_hooked_string(performer, first, behind),
+            State::DcsPassthrough => self.take_in_hooked_string(performer, bytes),
             State::SosPmApcString | State::DcsIgnore => {
                 self.take_run(performer, Run::OfIgnoredString, first, behind)
             }
@@ -192,24 +192,6 @@ impl<C: CharAccumulator> Parser<C> {
         if !run.has(first) {
             return self.take_by_table(performer, first, behind);
         }
-        self.take_whole_run(performer, run, first, behind)
-    }
-
-    /// The same of a first byte that is of the run.
-    #[inline(always)]
-    fn take_whole_run<'a, P: Perform>(
-        &self,
-        performer: &mut P,
-        run: Run,
-        first: u8,
-        behind: &'a [u8],
-    ) -> &'a [u8]
-        requires keeps { KeepsTo run self.now.state }
-        requires first { IsTrue (is_of_run run first) }
-        requires can { CanTakeAll C.takes self.now (first ∷ behind.now) }
-        ensures { Takes C.takes C.taken P.means (stage self.now performer.old (first ∷ behind.now))
-            (stage self.now performer.new result.now) }
-    {
         run.call(performer, first);
         self.take_chunks(performer, run, behind)
     }
@@ -522,20 +504,10 @@ impl<C: CharAccumulator> Parser<C> {
 impl<C: CharAccumulator> Parser<C> {
     ghost use Rattle.anstyle_parse.specs.Views.Parser.{CanTakeAll};
 
-    /// What stands here of a command that has begun. It is out of line, so that the loop stays small.
+    /// The text of a command, and the control after it, as far as they stand here. It is out of line, so that the loop
+    /// stays small.
     #[inline(never)]
     fn take_command<'a, P: Perform>(&mut self, performer: &mut P, bytes: &'a [u8]) -> &'a [u8]
-        requires command { self.old.state ≡ State.OscString }
-        requires can { CanTakeAll C.takes self.old bytes.now }
-        ensures { LeadsTo C.takes C.taken P.means (stage self.old performer.old bytes.now)
-            (stage self.new performer.new result.now) }
-    {
-        self.take_in_command(performer, bytes)
-    }
-
-    /// The text of the command, and a control after it that goes with it.
-    #[inline(always)]
-    fn take_in_command<'a, P: Perform>(&mut self, performer: &mut P, bytes: &'a [u8]) -> &'a [u8]
         requires command { self.old.state ≡ State.OscString }
         requires can { CanTakeAll C.takes self.old bytes.now }
         ensures leads { LeadsTo C.takes C.taken P.means (stage self.old performer.old bytes.now)
@@ -543,43 +515,23 @@ impl<C: CharAccumulator> Parser<C> {
         ensures onward { length result.now ≤ length bytes.now - 1 }
     {
         let rest = self.store_text(bytes);
-        match rest.split_first() {
-            Some((control, behind)) => self.take_control_in_command(performer, *control, behind),
-            None => rest,
-        }
+        let Some((control, behind)) = rest.split_first() else {
+            return rest;
+        };
+        self.step_in_command(performer, *control);
+        self.take_string_end(performer, behind)
     }
 
-    /// A control of the command: one of its ends, or another.
-    #[inline(always)]
-    fn take_control_in_command<'a, P: Perform>(
-        &mut self,
-        performer: &mut P,
-        first: u8,
-        behind: &'a [u8],
-    ) -> &'a [u8]
-        requires command { self.old.state ≡ State.OscString }
-        requires can { CanTakeAll C.takes self.old (first ∷ behind.now) }
-        ensures { Takes C.takes C.taken P.means (stage self.old performer.old (first ∷ behind.now))
-            (stage self.new performer.new result.now) }
-    {
-        self.step_in_command(performer, first);
-        if first == ESCAPE {
-            return self.take_string_end(performer, behind);
-        }
-        behind
-    }
-
-    /// What mostly follows the ESC that ends a command, a backslash, if it stands here.
+    /// What mostly follows the ESC that ends a string, a backslash, if it stands here.
     #[inline(always)]
     fn take_string_end<'a, P: Perform>(&mut self, performer: &mut P, bytes: &'a [u8]) -> &'a [u8]
-        requires escape { self.old.state ≡ State.Escape }
-        requires can { CanTakeAll C.takes self.old bytes.now }
+        requires { CanTakeAll C.takes self.old bytes.now }
         ensures { LeadsTo C.takes C.taken P.means (stage self.old performer.old bytes.now)
             (stage self.new performer.new result.now) }
     {
-        match bytes.split_first() {
-            Some((next, behind)) if *next == b'\\' => {
-                self.step_after_escape(performer, *next);
+        match (self.state, bytes.split_first()) {
+            (State::Escape, Some((next, behind))) if *next == b'\\' => {
+                self.step_by_answer(performer, State::Ground, Action::EscDispatch, *next);
                 behind
             }
             _ => bytes,
@@ -660,46 +612,24 @@ impl<C: CharAccumulator> Parser<C> {
         self.take_by_table(performer, first, behind)
     }
 
-    /// Bytes that are put, and the byte after them.
+    /// Bytes that are put, and the byte after them, as far as they stand here.
     #[inline(always)]
     fn take_in_hooked_string<'a, P: Perform>(
         &mut self,
         performer: &mut P,
-        first: u8,
-        behind: &'a [u8],
+        bytes: &'a [u8],
     ) -> &'a [u8]
         requires hooked { self.old.state ≡ State.DcsPassthrough }
-        requires can { CanTakeAll C.takes self.old (first ∷ behind.now) }
-        ensures { Takes C.takes C.taken P.means (stage self.old performer.old (first ∷ behind.now))
+        requires can { CanTakeAll C.takes self.old bytes.now }
+        ensures leads { LeadsTo C.takes C.taken P.means (stage self.old performer.old bytes.now)
             (stage self.new performer.new result.now) }
+        ensures onward { length result.now ≤ length bytes.now - 1 }
     {
-        if !Run::OfHookedString.has(first) {
-            return self.take_after_puts(performer, first, behind);
-        }
-        let rest = self.take_whole_run(performer, Run::OfHookedString, first, behind);
-        match rest.split_first() {
-            Some((next, further)) => self.take_after_puts(performer, *next, further),
-            None => rest,
-        }
-    }
-
-    /// A byte that is not put: the ESC that ends the string, or another.
-    #[inline(always)]
-    fn take_after_puts<'a, P: Perform>(
-        &mut self,
-        performer: &mut P,
-        first: u8,
-        behind: &'a [u8],
-    ) -> &'a [u8]
-        requires hooked { self.old.state ≡ State.DcsPassthrough }
-        requires can { CanTakeAll C.takes self.old (first ∷ behind.now) }
-        ensures { Takes C.takes C.taken P.means (stage self.old performer.old (first ∷ behind.now))
-            (stage self.new performer.new result.now) }
-    {
-        self.step_after_puts(performer, first);
-        if first == ESCAPE {
-            return self.take_string_end(performer, behind);
-        }
-        behind
+        let rest = self.take_chunks(performer, Run::OfHookedString, bytes);
+        let Some((next, behind)) = rest.split_first() else {
+            return rest;
+        };
+        self.step_after_puts(performer, *next);
+        self.take_string_end(performer, behind)
     }
 }

@@ -172,7 +172,8 @@ impl<C: CharAccumulator> Parser<C> {
         }
     }
 
-    /// Directly after ESC: what ends a string or begins one, or another byte. It is out of line, so that loops stay small.
+    /// Directly after ESC: what ends a string or begins one, or another byte. It is out of line, so that loops stay
+    /// small.
     #[inline(never)]
     pub(super) fn step_after_escape<P: Perform>(&mut self, performer: &mut P, byte: u8)
         requires { self.old.state ≡ State.Escape }
@@ -187,7 +188,7 @@ impl<C: CharAccumulator> Parser<C> {
     }
 
     /// A control of a command: one of its ends, or another.
-    #[inline(never)]
+    #[inline(always)]
     pub(super) fn step_in_command<P: Perform>(&mut self, performer: &mut P, control: u8)
         requires { self.old.state ≡ State.OscString }
         ensures { Steps C.taken P.means control self.old performer.old self.new performer.new }

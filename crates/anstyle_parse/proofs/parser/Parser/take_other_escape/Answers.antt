@@ -52,8 +52,8 @@ returns-then-next-eq93 g c =
     c.args.first c.in-Some.next.now c.args.behind.now c.in-Some.rest.now c.requires.can c.in-Some.ensures.cases.0
     c.step_by_answer.ensures c.step_by_answer-then-next-eq93.ensures in
     record {
-      leads = LeadsTo-trans n.takes n.taken means begun c.take_command.ensures;
-      some = omega (arith, c.in-Some.ensures.cases.1, c.take_command.ensures.within);
+      leads = LeadsTo-trans n.takes n.taken means begun c.take_command.ensures.leads;
+      some = omega (arith, c.in-Some.ensures.cases.1, c.take_command.ensures.leads.within);
     }
 
 pub step_after_escape-requires : goal.step_after_escape-requires

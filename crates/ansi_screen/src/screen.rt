@@ -16,7 +16,7 @@ use std::marker::Model;
 /// A terminal's screen: cells in rows, the cursor, margins, tabs and modes, and the alternate
 /// screen.
 ///
-/// Memory is taken by [`Screen::new`] alone.
+/// Memory is taken where a screen is made or copied, and nowhere else.
 #[derive(Drop)]
 pub struct Screen {
     display: Display,

@@ -6,6 +6,8 @@ import re
 
 ROOT = os.path.dirname(os.path.dirname(os.path.realpath(__file__)))
 CRATES = os.path.join(ROOT, "crates")
+# where they stand
+FOLDERS = ("crates/*/must-fail", "mutants/*")
 
 
 def read(path):
@@ -30,6 +32,12 @@ def edit_fails(crate, path):
     return all(texts[it] == read("crates/%s/%s" % (crate, it)) for it in texts) and "it changes nothing"
 
 
+def named_by_design():
+    """The names that follow the words 'wrong bodies'."""
+    lists = re.findall(r"wrong\s+bodies\s+((?:`[^`]+`[,;]?\s*)+)", read("docs/DESIGN.md"))
+    return {name for names in lists for name in re.findall("`([^`]+)`", names)}
+
+
 def cases():
     """Whether each can be put in, how many the gate tries, and where those of mutants/list.txt are."""
     for crate in sorted(os.listdir(CRATES)):
@@ -43,6 +51,10 @@ def cases():
     tried = {crate: len(glob.glob("%s/%s/must-fail/*.edit" % (CRATES, crate))) for crate in os.listdir(CRATES)}
     many = [it for it, count in tried.items() if count > (20 if it == "anstyle_parse" else 10)]
     yield "the gate tries at most 120 wrong bodies, 20 of anstyle_parse, 10 of another", many or sum(tried.values()) > 120 and "it tries more"
+    there = {os.path.basename(it)[: -len(".edit")] for folder in FOLDERS for it in glob.glob(os.path.join(ROOT, folder, "*.edit"))}
+    named = named_by_design()
+    gone = sorted(named - there)
+    yield "the %d wrong bodies that docs/DESIGN.md names are there" % len(named), ", ".join(gone) or not named and "it names none"
     listed = re.findall(r"^(\w+)/(\S+): (must-fail|mutants)(?: as (\S+))?$", read("mutants/list.txt"), re.M)
     places = {"must-fail": "crates/%s/must-fail/%s.edit", "mutants": "mutants/%s/%s.edit"}
     now_at = {(crate, name): now if "/" in now else "%s/%s" % (crate, now or name) for crate, name, _, now in listed}

@@ -77,6 +77,18 @@ def mode_cases(ansi):
     yield "a screen equals no text", "it does" if one == "" or one == 5 or one is None else None
 
 
+# Streams, and what a screen of 4 columns and 3 rows has as text where rows that went on are one line with the next ones: so tmux 3.3a writes
+# it (`capture-pane -J`). A wide character that goes to the next row leaves a blank, which is no part of the line.
+JOINED = [("abcdef", "abcdef\n"), ("ab  cd", "ab  cd\n"), ("abcd\r\nef", "abcd\nef\n"), ("ab\r\n\r\nc", "ab\n\nc\n"), ("", "")]
+JOINED += [("abc\u4e2dd", "abc\u4e2dd\n"), ("a\u4e2d\u4e2dx", "a\u4e2d\u4e2dx\n")]
+
+
+def joined_cases(ansi):
+    for stream, wanted in JOINED:
+        found = fed(ansi, stream).text(joined=True)
+        yield "the lines of %r" % stream, None if found == wanted else "they are %r" % found
+
+
 def change_cases(ansi):
     """What can have changed, by streams one after another."""
     screen = ansi.Screen(*table.CHANGED_SIZE)
@@ -216,6 +228,6 @@ def shared_cases():
 
 
 def cases(ansi):
-    for part in (cell_cases, mode_cases, change_cases, memory_cases, kept_cases, busy_cases, closed_cases):
+    for part in (cell_cases, mode_cases, joined_cases, change_cases, memory_cases, kept_cases, busy_cases, closed_cases):
         yield from part(ansi)
     yield from shared_cases()

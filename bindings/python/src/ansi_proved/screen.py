@@ -68,6 +68,8 @@ class Handle(ctypes.Structure):
 
 
 SIZE = ctypes.sizeof(CellBytes)
+PART, EMPTY = CellBytes.part.offset, b"\0"  # where a cell says how much of a character it has, and that it has none
+GOES_ON = CellBytes.goes_on.offset - SIZE  # where the last cell of a row says so, from its end
 BLANK = bytes(CellBytes(character=0x20))  # a cell of a new screen
 _LEAST_ROOM = 8192  # bytes of room that are tried first
 _WIDTHS = [1, 1, 2, 0]  # of a part: empty, whole, left, right
@@ -132,6 +134,11 @@ def _parts(columns):
 def cells_of(row):
     """The cells of a row, of its bytes."""
     return list(map(_KEPT.__getitem__, _parts(len(row) // SIZE).unpack(row)))
+
+
+def count_printed(row):
+    """How many cells a row has up to the last in which something was printed, of its bytes."""
+    return len(row[PART::SIZE].rstrip(EMPTY))
 
 
 def _number(value, what):
@@ -379,9 +386,11 @@ class Screen:
         return whole if not whole or whole.endswith("\n") else whole + "\n"
 
     def _line(self, row):
-        """The text of a row, and a newline unless the row goes on."""
-        if self.cell(row, self._columns - 1).goes_on:
-            return self.part_text(row, 0, self._columns)
+        """The text of a row, and a newline; of one that goes on, up to what was printed last: a wide character that has no room in the
+        last column leaves it blank."""
+        cells = self._row_by(_row, row)
+        if cells[GOES_ON]:
+            return self.part_text(row, 0, count_printed(cells))
         return self.row_text(row) + "\n"
 
     def cell(self, row, column):

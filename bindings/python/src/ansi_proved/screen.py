@@ -498,7 +498,8 @@ class Screen:
         return self._made_by(bytes, _draw)
 
     def update(self, wanted):
-        """The bytes after which a terminal that shows this screen shows `wanted`, a screen of the same size: what differs."""
+        """The bytes after which a terminal that shows this screen shows `wanted`, a screen of the same size: what differs, but for links
+        and which rows go on."""
         if not isinstance(wanted, Screen):
             raise TypeError("an update leads to a Screen, and not to " + type(wanted).__name__)
         with self._first_of(wanted), self._second_of(wanted):
@@ -516,7 +517,11 @@ class Screen:
         return max(self, other, key=id)._lock
 
     def __eq__(self, other):
-        """Whether both show the same: cells, cursor, the style of what comes next and modes."""
+        """Whether both show the same: cells, cursor, the style of what comes next and modes.
+
+        Cells have links and say which rows go on, which `draw` and `update` leave out: a screen that was fed what these give is not
+        equal to one that has a link or a row that goes on.
+        """
         if not isinstance(other, Screen):
             return NotImplemented
         with self._first_of(other), self._second_of(other):

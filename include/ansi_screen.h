@@ -18,7 +18,7 @@
  *
  * What the caller owes to every function: the screen is one of zero bytes, or what a function made of it. Each pointer
  * is to memory of its own that lives as long as the call; it is not null, also where the size beside it is 0; and no two
- * of the pieces of memory overlap. Nothing is kept of a pointer after the call.
+ * of the pieces of memory overlap, so a call is not given one screen twice. Nothing is kept of a pointer after the call.
  *
  * Not there: changing a screen's size, titles, the bell, the cursor's shape, what a program asks of keys and mouse (as DECCKM,
  * bracketed paste, mouse reports), and answers to the host. ansi_events.h tells of the same bytes what asks for these.

@@ -18,6 +18,9 @@
 //! assert_eq!((screen.history_count(), screen.history_text(0).as_str()), (1, "one"));
 //! ```
 //!
+//! It can't be resized, has no title, bell or shape of the cursor, does not tell what a program asks of keys and mouse, and sends no answers
+//! to the host: [`events`](crate::events) of the same bytes tell what asks for these.
+//!
 //! Its library takes memory by `malloc`: in [`Screen::new`], [`Screen::with_history`] and [`Screen::try_clone`], and in
 //! [`Screen::draw`], [`Screen::update`] and [`Screen::to_html`] while they work.
 

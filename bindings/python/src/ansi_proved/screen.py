@@ -254,7 +254,8 @@ class Screen:
             screen.text()  # "one\ntwo\n"
 
     It takes what a terminal takes: CR LF between lines. A byte that belongs to no character leaves nothing. A with block closes it,
-    as `close` does, and so does its end.
+    as `close` does, and so does its end. It can't be resized, has no title, bell or shape of the cursor, does not tell what a program asks
+    of keys and mouse, and sends no answers to the host: `events` of the same bytes tell what asks for these.
 
     history: how many of the last rows that leave it are kept. Each takes some 40 bytes a column, from the beginning on.
 

@@ -300,7 +300,7 @@ def screen_cases(room):
     yield "examples/screen.c is built", failure(run(command))
     tool = compiler("g++", "c++", "clang++")
     if tool:
-        words = ["-x", "c++", "-std=c++17", *WARNINGS, "-Wno-missing-field-initializers", "-fsyntax-only"]
+        words = ["-x", "c++", "-std=c++17", "-pedantic", *WARNINGS, "-fsyntax-only"]
         yield "as C++ too", failure(run([tool, *words, "%s/examples/screen.c" % ROOT]))
     for words, stream, wanted in [
         ([], b"one\r\n\x1b[1mtwo\x1b[24;80Hx\x1b[24;81Hy", b"one\ntwo\n" + b"\n" * 21 + b" " * 79 + b"y\n"),

@@ -72,6 +72,12 @@ def mode_cases(ansi):
             one, other = (fed(ansi, it) for it in streams)
             found = one == other, other == one, not one != other, not other != one
             yield "%r and %r are %s" % (*streams, "equal" if same else "not equal"), None if set(found) == {same} else "%s" % (found,)
+    for stream in "abcde", "\x1b]8;;https://a\x1b\\a":  # (README: all but links and which rows go on)
+        one = fed(ansi, stream)
+        for name, bytes_ in ("a drawing", one.draw()), ("an update", ansi.Screen(4, 3).update(one)):
+            other = fed(ansi, bytes_)
+            is_so = other.display == one.display and other.cursor == one.cursor and other != one and other.update(one) == b""
+            yield "%s of %r leads to what it shows, and to no equal screen" % (name, stream), None if is_so else "it is %r" % bytes_
     one = ansi.Screen(4, 3)
     yield "screens of two sizes are not equal", "they are" if one == ansi.Screen(3, 3) or one == ansi.Screen(4, 2) else None
     yield "a screen equals no text", "it does" if one == "" or one == 5 or one is None else None

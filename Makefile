@@ -158,6 +158,7 @@ wheel: library $(OF_WHEEL)
 
 # (a script of its own, which builds by this Makefile, installs into a folder and packs that)
 dist:
+	@$(HAS_KIT)
 	VERSION=$(VERSION) packaging/dist
 
 # (what is not proved gets no further than a copy)
@@ -174,6 +175,7 @@ check:
 	$(PYTHON) tests/side_by_side.py 'rt ci' $(TESTS)
 
 mutants:
+	@$(HAS_KIT)
 	$(PYTHON) mutants/try $(if $(KEPT),--kept $(KEPT)) $(CRATE)
 
 # what is installed for no language in particular

@@ -3,11 +3,13 @@
  * Usage: pane COLUMNS ROWS COMMAND [WORD..]
  *
  * What the command writes goes to a screen of the library. Then the rows that look otherwise than before are written anew,
- * and nothing else: the command can't reach past its pane, whatever it writes. What is typed goes to the command.
+ * and nothing else: the command can't reach past its pane, whatever it writes. What is typed goes to the command, and what it asks of
+ * keys, which is nothing that a screen shows, is read from the same bytes as events, and asked of this terminal.
  * A multiplexer has several such panes; here is one. The status is that of the command, 1 where something failed, and 2 where
  * words are wrong. */
 #define _XOPEN_SOURCE 700
 #define _DEFAULT_SOURCE
+#include "ansi_events.h"
 #include "ansi_screen.h"
 
 #include <errno.h>
@@ -22,11 +24,17 @@
 #include <termios.h>
 #include <unistd.h>
 
-/* A screen, and the cells that this terminal shows of it. */
+/* The modes that a command asks of keys: application cursor keys (DECCKM), and marks around what is pasted. */
+static const unsigned key_modes[] = {1, 2004};
+#define KEY_MODES (sizeof key_modes / sizeof *key_modes)
+
+/* A screen, and the cells that this terminal shows of it; the stream as events, and which modes of keys are on. */
 struct pane {
     ansi_screen screen;
     size_t columns, rows;
     ansi_cell *shown, *row;
+    ansi_events events;
+    bool asked[KEY_MODES];
 };
 
 static bool open_pane(struct pane *pane, size_t columns, size_t rows)
@@ -111,6 +119,45 @@ static bool show(struct pane *pane)
     return fflush(stdout) == 0;
 }
 
+/* ------------------------------------------------------------------ what is asked of keys */
+
+/* Asks a mode of this terminal, or no longer. */
+static void ask(struct pane *pane, size_t which, bool is_asked)
+{
+    if (pane->asked[which] != is_asked)
+        printf("\033[?%u%c", key_modes[which], is_asked ? 'h' : 'l');
+    pane->asked[which] = is_asked;
+}
+
+/* Asks what an event asks: DECSET and DECRST, as CSI ? 1 h, and RIS, ESC c, which ends it all. */
+static void ask_by(struct pane *pane, const ansi_event *event, const unsigned char *fields)
+{
+    size_t at, which;
+
+    for (which = 0; which < KEY_MODES; which++) {
+        if (event->kind == ANSI_EVENTS_ESC && event->intermediate_count == 0 && event->byte == 'c')
+            ask(pane, which, false);
+        if (event->kind != ANSI_EVENTS_CSI || event->intermediate_count != 1 || event->intermediates[0] != '?')
+            continue;
+        for (at = 0; at < event->length && (event->byte == 'h' || event->byte == 'l'); at += ANSI_EVENTS_FIELD)
+            if ((unsigned)(fields[at] | fields[at + 1] << 8) == key_modes[which])
+                ask(pane, which, event->byte == 'h');
+    }
+}
+
+static void ask_all(struct pane *pane, const unsigned char *bytes, size_t count)
+{
+    static ansi_event events[1024];
+    static unsigned char room[16384];
+    size_t taken, written, used, at;
+
+    for (; count > 0; bytes += taken, count -= taken) {
+        ansi_events_feed(&pane->events, bytes, count, events, 1024, room, sizeof room, &taken, &written, &used);
+        for (at = 0; at < written; at++)
+            ask_by(pane, &events[at], room + events[at].start);
+    }
+}
+
 /* ------------------------------------------------------------------ the command */
 
 /* Starts the command on a terminal of the pane's size, and answers the other end of that; or -1. */
@@ -164,6 +211,7 @@ static bool follow(struct pane *pane, int end)
             count = read(end, bytes, sizeof bytes);
             if (count <= 0)
                 return true; /* (Linux answers EIO where the command has ended) */
+            ask_all(pane, bytes, (size_t)count);
             if (!ansi_screen_feed(&pane->screen, bytes, (size_t)count) || !show(pane))
                 return false;
         }
@@ -176,6 +224,7 @@ static int run(struct pane *pane, char **words)
     bool is_terminal = tcgetattr(0, &kept) == 0, went_well;
     pid_t child;
     int status, end = start(pane, words, &child);
+    size_t which;
 
     if (end < 0)
         return perror("pane"), 1;
@@ -186,6 +235,8 @@ static int run(struct pane *pane, char **words)
     }
     fputs("\033[2J", stdout);
     went_well = follow(pane, end);
+    for (which = 0; which < KEY_MODES; which++)
+        ask(pane, which, false);
     printf("\033[%zuH\r\n\033[?25h", pane->rows);
     went_well = fflush(stdout) == 0 && went_well;
     if (is_terminal)

@@ -28,7 +28,7 @@ static bool write_text(ansi_screen *screen)
     bool is_written;
 
     ansi_screen_text(screen, (unsigned char *)"", 0, &length); /* (how long it is) */
-    room = malloc(length + 1);
+    room = (unsigned char *)malloc(length + 1); /* (C++ wants the cast) */
     if (!room)
         return false;
     ansi_screen_text(screen, room, length, &written);

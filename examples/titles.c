@@ -9,6 +9,7 @@
 #include <stdio.h>
 #include <string.h>
 
+static ansi_events state; /* of zero bytes, which begins a stream */
 static unsigned char bytes[4096], room[65536];
 static ansi_event events[4096];
 
@@ -27,7 +28,6 @@ static const unsigned char *title_of(const ansi_event *event, size_t *length)
 
 int main(void)
 {
-    ansi_events state = {0};
     size_t count, at, event, length, taken, written, used;
     const unsigned char *title;
 

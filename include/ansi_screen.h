@@ -18,9 +18,10 @@
  *
  * What the caller owes to every function: the screen is one of zero bytes, or what a function made of it. Each pointer
  * is to memory of its own that lives as long as the call; it is not null, also where the size beside it is 0; and no two
- * of the pieces of memory overlap. Nothing is kept of a pointer after the call.
+ * of the pieces of memory overlap, so a call is not given one screen twice. Nothing is kept of a pointer after the call.
  *
- * Not there: changing a screen's size, titles, and answers to the host.
+ * Not there: changing a screen's size, titles, the bell, the cursor's shape, what a program asks of keys and mouse (as DECCKM,
+ * bracketed paste, mouse reports), and answers to the host. ansi_events.h tells of the same bytes what asks for these.
  */
 #ifndef ANSI_SCREEN_H
 #define ANSI_SCREEN_H
@@ -205,7 +206,7 @@ bool ansi_screen_link(ansi_screen *screen, uint32_t number, unsigned char *room,
 bool ansi_screen_draw(ansi_screen *screen, unsigned char *room, size_t size, size_t *written);
 
 /* The bytes after which a terminal that shows the one screen, as a drawing or an update leaves it, shows the other: what
- * differs. Answers false, and `written` is 0, where they have different sizes. */
+ * differs, but for links and which rows go on. Answers false, and `written` is 0, where they have different sizes. */
 bool ansi_screen_update(ansi_screen *shown, ansi_screen *wanted, unsigned char *room, size_t size, size_t *written);
 
 /* What the screen shows as HTML, which a page has after `<pre>` and a newline: each character in the style of its cell, and in
@@ -217,7 +218,8 @@ bool ansi_screen_update(ansi_screen *shown, ansi_screen *wanted, unsigned char *
 bool ansi_screen_html(ansi_screen *screen, unsigned char styling, unsigned char *room, size_t size, size_t *written);
 
 /* Answers whether both screens show the same: as many columns and rows, the same cells, the cursor, with the style of what comes
- * next, and modes. What is not told here does not count, as margins, tabs and rows that left. */
+ * next, and modes. What is not told here does not count, as margins, tabs and rows that left. Links and which rows go on do, by the
+ * cells: so a screen that was fed a drawing or an update, which leave them out, is not equal to one that has some. */
 bool ansi_screen_equal(ansi_screen *one, ansi_screen *other);
 
 /* Rows that leave the screen are those that scroll off at its top, where the upper margin is the first row; and where ED 2 or

@@ -55,6 +55,9 @@ def title_cases(room, cc):
     path = room + "/titles"
     command = [cc, "-std=c99", "-pedantic", "-O2", *WARNINGS, "%s/titles.c" % EXAMPLES, ARCHIVE, "-o", path]
     yield "titles.c is compiled with no warning", failure(run(command))
+    cxx = compiler("c++", "g++", "clang++")
+    words = ["-x", "c++", "-std=c++17", "-pedantic", *WARNINGS, "-fsyntax-only", "%s/titles.c" % EXAMPLES]
+    yield ("and as C++", failure(run([cxx, *words]))) if cxx else left_out("C++: titles.c")
     given = b"a\x1b]0;one;two\x07\x1b[1m\x1b]2;\xe2\x82\xac\x1b\\\x1b]1;no\x07\x1b]20;no\x07\x1b]2;\x07\x1b]0;open"
     done = run([path], given)
     yield "titles.c prints titles", failure(done) or first_difference(done.stdout, b"one;two\n\xe2\x82\xac\n\n")

@@ -22,7 +22,7 @@ from library_shared import ROOT, SANITIZERS, WARNINGS, compiler, failure, left_o
 sys.path.append("%s/tests/screen" % ROOT)
 import twin
 
-ARCHIVE = "%s/crates/ansi_screen_c/out/libansi_screen.a" % ROOT
+ARCHIVES = ["%s/crates/%s" % (ROOT, it) for it in ("ansi_screen_c/out/libansi_screen.a", "ansi/out/libansi.a")]
 COLUMNS, ROWS = 20, 5  # of the pane
 WIDER, HIGHER = 30, 8  # the terminal that it stands in
 PATIENCE, QUIET = 20, 0.2  # seconds: that something takes at most, and without a byte when all is written
@@ -223,6 +223,29 @@ def talk_cases(pane):
     yield "input that is no terminal goes to the command too", None if is_so else "status %d, %r" % (done.returncode, done.stderr[-300:])
 
 
+def key_cases(pane):
+    """What a command asks of keys (xterm's ctlseqs: DECCKM is 1, bracketed paste 2004) is asked of the terminal, once, and nothing else is;
+    and no longer, where the command or its end takes it back."""
+    for name, stream, wanted in [
+        ("application cursor keys", "\x1b[?1h", b"\x1b[?1h"),
+        ("two at once", "\x1b[?2004;1;1h", b"\x1b[?1h\x1b[?2004h"),
+        ("what is taken back", "\x1b[?1h\x1b[?1l", b"\x1b[?1h\x1b[?1l"),
+        ("what a reset takes back", "\x1b[?2004hx\x1bc", b"\x1b[?2004h\x1b[?2004l"),
+        ("nothing", "\x1b[1h\x1b[>1h\x1b[?1$p\x1b[?12h\x1b[?1000h\x1b[?1049h\x1b[?1l\x1b]0;\x1b[?7l", b""),
+    ]:
+        terminal = Terminal([pane, str(COLUMNS), str(ROWS), "sh", "-c", 'stty raw -echo; printf %s "$0"; printf ready; read line', stream])
+        is_ready = terminal.settle(lambda found: "ready" in found.text())
+        before = terminal.written
+        os.write(terminal.master, b"\n")
+        terminal.settle(lambda _: terminal.program.poll() is not None)
+        after = terminal.written[len(before) :]
+        terminal.end()
+        asked, ended = (re.findall(rb"\x1b\[\?(?!25[hl]|7[hl])[0-9;]+[a-z]", it) for it in (before, after))
+        on = {it for it in asked if it.endswith(b"h")} - {it[:-1] + b"h" for it in asked if it.endswith(b"l")}
+        is_so = is_ready and sorted(asked) == sorted(re.findall(rb"\x1b\[\?\d+[hl]", wanted)) and {it[:-1] + b"h" for it in ended} == on
+        yield "a command asks %s of keys" % name, None if is_so else "asked is %s, and at its end %s" % (asked, ended)
+
+
 def quiet_cases(pane):
     """What a pane leaves alone: a command's ends, and the processor while it waits; and how it ends where nobody can see it."""
     script = "for end in 3 4 5 6 7 8 9; do test -e /proc/$$/fd/$end && echo $end is open; done; echo no other"
@@ -248,7 +271,7 @@ def built(name, room):
     tool, program = compiler("gcc", "cc", "clang"), "%s/%s" % (room, name)
     source = "%s/examples/%s.c" % (ROOT, name)
     # (what LLVM and gcc make of memcmp themselves is not looked at)
-    return tool and [tool, "-std=c99", "-O2", "-fno-builtin-memcmp", *SANITIZERS, *WARNINGS, source, ARCHIVE, "-o", program], program
+    return tool and [tool, "-std=c99", "-O2", "-fno-builtin-memcmp", *SANITIZERS, *WARNINGS, source, *ARCHIVES, "-o", program], program
 
 
 def pane_cases(room):
@@ -262,6 +285,7 @@ def pane_cases(room):
     yield from change_cases(pane)
     yield from narrow_cases(pane)
     yield from talk_cases(pane)
+    yield from key_cases(pane)
     yield from quiet_cases(pane)
 
 
@@ -274,6 +298,10 @@ def screen_cases(room):
     if not command:
         return
     yield "examples/screen.c is built", failure(run(command))
+    tool = compiler("g++", "c++", "clang++")
+    if tool:
+        words = ["-x", "c++", "-std=c++17", "-pedantic", *WARNINGS, "-fsyntax-only"]
+        yield "as C++ too", failure(run([tool, *words, "%s/examples/screen.c" % ROOT]))
     for words, stream, wanted in [
         ([], b"one\r\n\x1b[1mtwo\x1b[24;80Hx\x1b[24;81Hy", b"one\ntwo\n" + b"\n" * 21 + b" " * 79 + b"y\n"),
         (["9", "2"], b"a line that is wrapped", b"at is wra\npped\n"),

@@ -72,9 +72,27 @@ def mode_cases(ansi):
             one, other = (fed(ansi, it) for it in streams)
             found = one == other, other == one, not one != other, not other != one
             yield "%r and %r are %s" % (*streams, "equal" if same else "not equal"), None if set(found) == {same} else "%s" % (found,)
+    for stream in "abcde", "\x1b]8;;https://a\x1b\\a":  # (README: all but links and which rows go on)
+        one = fed(ansi, stream)
+        for name, bytes_ in ("a drawing", one.draw()), ("an update", ansi.Screen(4, 3).update(one)):
+            other = fed(ansi, bytes_)
+            is_so = other.display == one.display and other.cursor == one.cursor and other != one and other.update(one) == b""
+            yield "%s of %r leads to what it shows, and to no equal screen" % (name, stream), None if is_so else "it is %r" % bytes_
     one = ansi.Screen(4, 3)
     yield "screens of two sizes are not equal", "they are" if one == ansi.Screen(3, 3) or one == ansi.Screen(4, 2) else None
     yield "a screen equals no text", "it does" if one == "" or one == 5 or one is None else None
+
+
+# Streams, and what a screen of 4 columns and 3 rows has as text where rows that went on are one line with the next ones: so tmux 3.3a writes
+# it (`capture-pane -J`). A wide character that goes to the next row leaves a blank, which is no part of the line.
+JOINED = [("abcdef", "abcdef\n"), ("ab  cd", "ab  cd\n"), ("abcd\r\nef", "abcd\nef\n"), ("ab\r\n\r\nc", "ab\n\nc\n"), ("", "")]
+JOINED += [("abc\u4e2dd", "abc\u4e2dd\n"), ("a\u4e2d\u4e2dx", "a\u4e2d\u4e2dx\n")]
+
+
+def joined_cases(ansi):
+    for stream, wanted in JOINED:
+        found = fed(ansi, stream).text(joined=True)
+        yield "the lines of %r" % stream, None if found == wanted else "they are %r" % found
 
 
 def change_cases(ansi):
@@ -216,6 +234,6 @@ def shared_cases():
 
 
 def cases(ansi):
-    for part in (cell_cases, mode_cases, change_cases, memory_cases, kept_cases, busy_cases, closed_cases):
+    for part in (cell_cases, mode_cases, joined_cases, change_cases, memory_cases, kept_cases, busy_cases, closed_cases):
         yield from part(ansi)
     yield from shared_cases()

@@ -3,7 +3,7 @@ ends in `# wrong` is one that it has to refuse, and any other one that it has to
 
 import io
 import sys
-from typing import Dict, Iterator, List, Sequence, Tuple
+from typing import Dict, Hashable, Iterator, List, Sequence, Tuple
 
 import ansi_proved
 from ansi_proved import STYLINGS, Cell, Color, Csi, Cursor, Esc, Execute, History, Hook, Modes, Osc, Put, Screen, Style, Text, Unhook
@@ -133,6 +133,7 @@ with Screen(120, 40, history=100) as screen:
     screen.link("1")  # wrong
     screen.update(b"a")  # wrong
     screen.columns = 5  # wrong
+    key: Hashable = screen  # wrong
     cell.text = "a"  # wrong
     text = cell.width  # wrong
     text = style.bold  # wrong

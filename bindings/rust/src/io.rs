@@ -10,7 +10,8 @@
 //! ```
 //!
 //! A write takes all its bytes. Where the writer below fails, what it did not take of their text or HTML is lost, and the
-//! stream goes on after them.
+//! stream goes on after them. What comes at the end, as what closes an element of HTML, is written by [`Writer::finish`] alone: not where a
+//! writer is dropped.
 
 use crate::{Converter, SafeStripper, Stripper, Styling};
 use std::io::{Result, Write};

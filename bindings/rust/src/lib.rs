@@ -389,7 +389,7 @@ pub enum Styling {
     Light = 1,
     /// Colours for a dark page.
     Dark = 2,
-    /// Classes, for a stylesheet as `ansi2html --css` writes it.
+    /// Classes, for a stylesheet as `ansi2html --stylesheet` writes it.
     Classes = 3,
 }
 

@@ -18,6 +18,9 @@
 //! assert_eq!((screen.history_count(), screen.history_text(0).as_str()), (1, "one"));
 //! ```
 //!
+//! It can't be resized, has no title, bell or shape of the cursor, does not tell what a program asks of keys and mouse, and sends no answers
+//! to the host: [`events`](crate::events) of the same bytes tell what asks for these.
+//!
 //! Its library takes memory by `malloc`: in [`Screen::new`], [`Screen::with_history`] and [`Screen::try_clone`], and in
 //! [`Screen::draw`], [`Screen::update`] and [`Screen::to_html`] while they work.
 
@@ -266,8 +269,8 @@ pub enum Part {
     Right,
 }
 
-/// What one place of a screen shows.
-#[derive(Clone, Copy, Debug, Default, PartialEq, Eq, Hash)]
+/// What one place of a screen shows. The default is one of a new screen.
+#[derive(Clone, Copy, Debug, PartialEq, Eq, Hash)]
 #[non_exhaustive]
 pub struct Cell {
     /// A space where there is none.
@@ -282,6 +285,19 @@ pub struct Cell {
     pub link: u32,
     /// Autowrap went on from this cell, the last of its row, to the next row: both are one line.
     pub goes_on: bool,
+}
+
+impl Default for Cell {
+    fn default() -> Cell {
+        Cell {
+            character: ' ',
+            marks: [None; 2],
+            style: Style::default(),
+            part: Part::Empty,
+            link: 0,
+            goes_on: false,
+        }
+    }
 }
 
 /// Where the cursor is, counted from 0. Its column is the number of columns where a wrap is pending.
@@ -487,8 +503,8 @@ impl Screen {
         })
     }
 
-    /// The bytes after which a terminal that shows this screen shows `wanted`: what differs. There are none where the sizes
-    /// do.
+    /// The bytes after which a terminal that shows this screen shows `wanted`: what differs, but for links and which rows go on. There are
+    /// none where the sizes differ.
     pub fn update(&self, wanted: &Screen) -> Vec<u8> {
         if ptr::eq(self, wanted) {
             return Vec::new(); // (one handle is given to a call once)
@@ -604,7 +620,8 @@ impl Clone for Screen {
 }
 
 /// Whether both show the same: as many columns and rows, the same cells, the cursor, with the style of what comes next, and
-/// modes.
+/// modes. Cells have links and say which rows go on, which [`Screen::draw`] and [`Screen::update`] leave out: a screen that was fed what
+/// these write is not equal to one that has a link or a row that goes on.
 impl PartialEq for Screen {
     fn eq(&self, other: &Screen) -> bool {
         // (one handle is given to a call once)

@@ -2,7 +2,7 @@
 //! repository.)
 #![cfg(feature = "screen")]
 
-use ansi_proved::screen::{CannotOpen, Color, Part, Place, Screen};
+use ansi_proved::screen::{CannotOpen, Cell, Color, Part, Place, Screen};
 use ansi_proved::{to_html, Styling};
 use std::panic::catch_unwind;
 use std::sync::Mutex;
@@ -37,6 +37,8 @@ fn cells_by_rows_and_columns() {
     assert_eq!((cells[3].part, cells[4].part, cells[5].marks), (Part::Left, Part::Right, [Some('\u{301}'), None]));
     assert!(screen.cell(1, 9).unwrap().goes_on && screen.cell(1, 10).is_none() && screen.cell(3, 0).is_none());
     assert!(screen.row(3).next().is_none());
+    let new = Screen::new(10, 3).unwrap();
+    assert!(new.each_row().flatten().all(|it| it == Cell::default()) && screen.cell(2, 9) == Some(Cell::default()));
 }
 
 #[test]

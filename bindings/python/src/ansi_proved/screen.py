@@ -68,6 +68,8 @@ class Handle(ctypes.Structure):
 
 
 SIZE = ctypes.sizeof(CellBytes)
+PART, EMPTY = CellBytes.part.offset, b"\0"  # where a cell says how much of a character it has, and that it has none
+GOES_ON = CellBytes.goes_on.offset - SIZE  # where the last cell of a row says so, from its end
 BLANK = bytes(CellBytes(character=0x20))  # a cell of a new screen
 _LEAST_ROOM = 8192  # bytes of room that are tried first
 _WIDTHS = [1, 1, 2, 0]  # of a part: empty, whole, left, right
@@ -132,6 +134,11 @@ def _parts(columns):
 def cells_of(row):
     """The cells of a row, of its bytes."""
     return list(map(_KEPT.__getitem__, _parts(len(row) // SIZE).unpack(row)))
+
+
+def count_printed(row):
+    """How many cells a row has up to the last in which something was printed, of its bytes."""
+    return len(row[PART::SIZE].rstrip(EMPTY))
 
 
 def _number(value, what):
@@ -247,7 +254,8 @@ class Screen:
             screen.text()  # "one\ntwo\n"
 
     It takes what a terminal takes: CR LF between lines. A byte that belongs to no character leaves nothing. A with block closes it,
-    as `close` does, and so does its end.
+    as `close` does, and so does its end. It can't be resized, has no title, bell or shape of the cursor, does not tell what a program asks
+    of keys and mouse, and sends no answers to the host: `events` of the same bytes tell what asks for these.
 
     history: how many of the last rows that leave it are kept. Each takes some 40 bytes a column, from the beginning on.
 
@@ -379,9 +387,11 @@ class Screen:
         return whole if not whole or whole.endswith("\n") else whole + "\n"
 
     def _line(self, row):
-        """The text of a row, and a newline unless the row goes on."""
-        if self.cell(row, self._columns - 1).goes_on:
-            return self.part_text(row, 0, self._columns)
+        """The text of a row, and a newline; of one that goes on, up to what was printed last: a wide character that has no room in the
+        last column leaves it blank."""
+        cells = self._row_by(_row, row)
+        if cells[GOES_ON]:
+            return self.part_text(row, 0, count_printed(cells))
         return self.row_text(row) + "\n"
 
     def cell(self, row, column):
@@ -489,7 +499,8 @@ class Screen:
         return self._made_by(bytes, _draw)
 
     def update(self, wanted):
-        """The bytes after which a terminal that shows this screen shows `wanted`, a screen of the same size: what differs."""
+        """The bytes after which a terminal that shows this screen shows `wanted`, a screen of the same size: what differs, but for links
+        and which rows go on."""
         if not isinstance(wanted, Screen):
             raise TypeError("an update leads to a Screen, and not to " + type(wanted).__name__)
         with self._first_of(wanted), self._second_of(wanted):
@@ -507,7 +518,11 @@ class Screen:
         return max(self, other, key=id)._lock
 
     def __eq__(self, other):
-        """Whether both show the same: cells, cursor, the style of what comes next and modes."""
+        """Whether both show the same: cells, cursor, the style of what comes next and modes.
+
+        Cells have links and say which rows go on, which `draw` and `update` leave out: a screen that was fed what these give is not
+        equal to one that has a link or a row that goes on.
+        """
         if not isinstance(other, Screen):
             return NotImplemented
         with self._first_of(other), self._second_of(other):

@@ -1,11 +1,9 @@
 """The text that a terminal shows of a whole, with what scrolled off."""
 
 from .library import whole_of
-from .screen import SIZE, CellBytes, Screen, cells_of, check_size
+from .screen import GOES_ON, Screen, cells_of, check_size, count_printed
 
 CELLS = 1 << 18  # cells of the rows that are kept at once, or nearly so
-PART, EMPTY = CellBytes.part.offset, b"\0"  # where a cell says how much of a character it has, and that it has none
-GOES_ON = CellBytes.goes_on.offset - SIZE  # where the last cell of a row says so, from its end
 
 
 def shown(text, columns=80, rows=24):
@@ -16,7 +14,8 @@ def shown(text, columns=80, rows=24):
 
     A line feed begins a line, as in a log. A row that wrapped and the next one are one line. What is written over is lost, and so is
     what the alternate screen showed, unless it still shows at the end: then the main screen comes first. A byte that belongs to no
-    character leaves nothing, as with `Screen`. Of a str it is a str, of bytes, a bytearray or a memoryview bytes.
+    character leaves nothing, as with `Screen`, as does a character that is only begun at the end. Of a str it is a str, of bytes, a
+    bytearray or a memoryview bytes.
     """
     check_size(columns, rows)
     stream, is_str = whole_of(text)
@@ -44,14 +43,9 @@ def _rows(stream, columns, rows):
 def _printed(screen):
     """The rows of a screen, up to the last in which something was printed."""
     rows = screen._each_row()
-    while rows and not _count(rows[-1]):
+    while rows and not count_printed(rows[-1]):
         rows.pop()
     return rows
-
-
-def _count(row):
-    """How many cells a row has up to the last in which something was printed."""
-    return len(row[PART::SIZE].rstrip(EMPTY))
 
 
 def _lines(rows):
@@ -59,6 +53,6 @@ def _lines(rows):
     goes_on = False
     for row in rows:
         goes_on = row[GOES_ON]
-        yield "".join([cell.text for cell in cells_of(row)[: _count(row)]]) + ("" if goes_on else "\n")
+        yield "".join([cell.text for cell in cells_of(row)[: count_printed(row)]]) + ("" if goes_on else "\n")
     if goes_on:
         yield "\n"

@@ -266,8 +266,8 @@ pub enum Part {
     Right,
 }
 
-/// What one place of a screen shows.
-#[derive(Clone, Copy, Debug, Default, PartialEq, Eq, Hash)]
+/// What one place of a screen shows. By default it is what a new screen shows: a space, where nothing was printed.
+#[derive(Clone, Copy, Debug, PartialEq, Eq, Hash)]
 #[non_exhaustive]
 pub struct Cell {
     /// A space where there is none.
@@ -282,6 +282,19 @@ pub struct Cell {
     pub link: u32,
     /// Autowrap went on from this cell, the last of its row, to the next row: both are one line.
     pub goes_on: bool,
+}
+
+impl Default for Cell {
+    fn default() -> Cell {
+        Cell {
+            character: ' ',
+            marks: [None; 2],
+            style: Style::default(),
+            part: Part::default(),
+            link: 0,
+            goes_on: false,
+        }
+    }
 }
 
 /// Where the cursor is, counted from 0. Its column is the number of columns where a wrap is pending.

@@ -582,12 +582,16 @@ HTML_CUT = (b"\x1b[31mh\x1b[1mi", [b""] * 6 + [RED] * 5 + [RED + BOLD_RED])
 HTML_HOSTILE = STRIP_HOSTILE[:-1]
 
 LINE_LINK = b'<a rel="nofollow noreferrer" href="http://a/" %s="%s">%s</a>'
-LINE_ROWS = line_rows(
-    lambda text: span(themed(BOTH, b"color", b"#cf222e", b"#ff7b72"), text),
-    lambda text: LINE_LINK % (b"style", b"color:inherit;", text),
+LINE_ROWS, LIGHT_LINE_ROWS = (
+    line_rows(
+        lambda text, scheme=scheme: span(themed(scheme, b"color", b"#cf222e", b"#ff7b72"), text),
+        lambda text: LINE_LINK % (b"style", b"color:inherit;", text),
+    )
+    for scheme in (BOTH, LIGHT)
 )
 BLOCK_ROWS = block_rows(lambda text: span(themed(BOTH, b"color", b"#cf222e", b"#ff7b72"), text), lambda number, line: line)
 LINE_BLOCK_ROWS = block_rows(lambda text: span(themed(BOTH, b"color", b"#cf222e", b"#ff7b72"), text), numbered)
+url_line = lambda number: numbered(number, address(b"http://a") + b"\n")
 LINE_CLASS_ROWS = line_rows(lambda text: classed(b"f1", text), lambda text: LINE_LINK % (b"class", b"ansi-link", text))
 
 NO_LANGUAGE = b"ansi2html: a language is a tag of letters, digits and hyphens, as en or pt-BR, 64 at most (see ansi2html --help)"
@@ -700,6 +704,7 @@ PROGRAMS = [
             Mode(words, rows, (b"\x1b[mA<\n", lambda number: numbered(number, b"A&lt;\n")), [], head, tail, has_blocks=head != b"")
             for words, rows, head, tail in (
                 (["--lines", "--fragment"], LINE_ROWS, b"", b""),
+                (["--fragment", "--classes", "--lines"], LINE_CLASS_ROWS, b"", b""),
                 (["--lines", "--lines"], LINE_ROWS, LINED_HEAD, PAGE_TAIL),
                 (["--lines", "--classes", "--css=" + ADDRESS], LINE_CLASS_ROWS, LINKED_HEAD, PAGE_TAIL),
                 (["--light", "--lines", "--page"], LINE_ROWS[:5], LIGHT_LINED_HEAD, PAGE_TAIL),
@@ -709,7 +714,14 @@ PROGRAMS = [
         + [
             Mode(["--urls", "--fragment"], html_rows(BOTH) + URL_ROWS, (b"\x1b[mhttp://a\n", address(b"http://a") + b"\n"), HTML_HOSTILE, cut=URL_CUT),
             Mode(["--urls"], URL_ROWS[:5], (b"\x1b[mhttp://a\n", address(b"http://a") + b"\n"), [], PAGE_HEAD, PAGE_TAIL, has_blocks=True),
-            Mode(["--fragment", "--lines", "--urls"], LINE_ROWS, (b"http://a\n", lambda number: numbered(number, address(b"http://a") + b"\n")), []),
+            *(
+                Mode(words, rows, (b"http://a\n", url_line), [], head, tail, has_blocks=head != b"")
+                for words, rows, head, tail in (
+                    (["--fragment", "--lines", "--urls"], LINE_ROWS, b"", b""),
+                    (["--fragment", "--urls", "--lines", "--light"], LIGHT_LINE_ROWS, b"", b""),
+                    (["--light", "--lines", "--urls"], LIGHT_LINE_ROWS, LIGHT_LINED_HEAD, PAGE_TAIL),
+                )
+            ),
             Mode(["--urls", "--fragment", "--classes"], CLASS_ROWS, (b"A\n", b"A\n"), []),
         ]
         + [

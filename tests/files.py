@@ -7,13 +7,16 @@ other; so no text stands here twice. In a page each of them has a heading and a 
 import errno
 import functools
 import os
+import re
 import resource
 import shutil
 import signal
 import stat
 import subprocess
 import tempfile
+import time
 
+import needs
 from expected_pages import in_blocks
 
 NOBODY = 65534
@@ -110,9 +113,11 @@ def file_cases(name, path, words, alone, run, differs):
         yield from read_cases(rows)
         if rows.takes_many:
             yield from cut_off_cases(rows)
+            yield from piece_cases(rows)
         yield from name_cases(rows)
         yield from growing_cases(rows)
         yield from written_cases(rows)
+        yield from saved_cases(rows)
         yield from kept_cases(rows)
         if name == "ansi2html":
             yield from folder_cases(rows)
@@ -149,6 +154,9 @@ def read_cases(rows):
         said = rows.said((b"missing", errno.ENOENT), (b"folder", errno.EISDIR), (b"missing", errno.ENOENT))
         wanted = rows.of_each(b"", b"", b"", names=("missing", "folder", "missing"))
         yield "faults alone", rows.differs(ended, status=1, err=said, out=wanted)
+        many = ["part0"] * 40
+        ended = rows.ran(*many, before=lambda: resource.setrlimit(resource.RLIMIT_NOFILE, (10, 10)))
+        yield "more files than it may have open at once", rows.differs(ended, out=rows.of_each(*[PARTS[0]] * 40, names=many))
         for name in HEADINGS:
             if name != "-":
                 rows.put(name, PARTS[0])
@@ -268,6 +276,31 @@ def named_cases(path, run, differs):
         shutil.rmtree(room)
 
 
+def moved_by(process, count):
+    """How many bytes a read gives a process, and a write takes, once it has read so many and does neither for a while."""
+    found, before = {}, None
+    for _ in range(600):
+        before = found
+        time.sleep(0.1)
+        with open("/proc/%d/io" % process) as it:
+            found = dict(re.findall(r"(\w+): (\d+)", it.read()))
+        if int(found["rchar"]) >= count and found == before:
+            break
+    return [int(found[moved]) // max(1, int(found[calls])) for moved, calls in (("rchar", "syscr"), ("wchar", "syscw"))]
+
+
+def piece_cases(rows):
+    """A long file, and then standard input, which waits: by then the file is read and written."""
+    rows.put("log", b"a line\n" * 100_000)
+    pipes = {"stdin": subprocess.PIPE, "stdout": subprocess.PIPE, "stderr": subprocess.PIPE}
+    with subprocess.Popen([rows.path, *rows.words, "-o", rows.at("out"), rows.at("log"), "-"], **pipes) as program:
+        found = moved_by(program.pid, os.path.getsize(rows.at("log")))
+        program.communicate()
+    yield "a file is read and written in large pieces", None if min(found) > 2000 else "a call moves %s bytes" % found
+    os.remove(rows.at("log"))
+    os.remove(rows.at("out"))
+
+
 def growing_cases(rows):
     """A file that grows while it is read: what was added before its end was met is read too."""
     rows.put("log", b"a line\n" * 100_000)
@@ -298,9 +331,14 @@ def written_cases(rows):
         os.remove(rows.at("out"))
     for mode in (0o640, 0o444, 0o777):
         rows.put("out", b"old\n", mode)
+        if os.geteuid() == 0:  # (who else may give a file away?)
+            os.chown(rows.at("out"), NOBODY, NOBODY)
+        owners = os.stat(rows.at("out"))[stat.ST_UID : stat.ST_GID + 1]
         why = rows.differs(rows.ran("-o", "out", *rows.two)) or (rows.read("out") != whole and "it has %r" % rows.read("out"))
         found = stat.S_IMODE(os.stat(rows.at("out")).st_mode)
         yield "-o over a file with rights %o" % mode, why or (found != mode and "they are %o" % found)
+        found = os.stat(rows.at("out"))[stat.ST_UID : stat.ST_GID + 1]
+        yield "it has its owner and group", found != owners and "they are %s, and not %s" % (found, owners)
         os.remove(rows.at("out"))
     rows.put("log", PARTS[0])
     why = rows.differs(rows.ran("-o", "log", "log")) or (rows.read("log") != rows.of_each(PARTS[0]) and "it has %r" % rows.read("log"))
@@ -320,6 +358,27 @@ def written_cases(rows):
         yield "%s is standard output" % words, rows.differs(rows.ran(*words, "part0"), out=rows.of_each(PARTS[0]))
     yield "-o /dev/null", rows.differs(rows.ran("-o", "/dev/null", "part0")) or (not stat.S_ISCHR(os.stat("/dev/null").st_mode) and "it is gone")
     yield "no other file is left", rows.left() != before and "there are %s" % rows.left()
+
+
+def saved_cases(rows):
+    """What is called of the C library, in order (tests/callers/saving.c says it): nobody else may open the new file before it has the
+    rights of the old one, and what is in it is on the disk before it takes its place."""
+    if not shutil.which("cc"):
+        yield needs.left_out("the calls by which a file is written", "there is no cc")
+        return
+    source, library = os.path.join(os.path.dirname(os.path.realpath(__file__)), "callers/saving.c"), rows.at("saving.so")
+    subprocess.run(["cc", "-Wall", "-Wextra", "-Werror", "-shared", "-fPIC", source, "-o", library, "-ldl"], check=True)
+    command, known = [rows.path, *rows.words, "-o", rows.at("out"), rows.at("part0")], {**os.environ, "LD_PRELOAD": library}
+    for mode, wanted in (None, "open 666, fsync, rename, "), (0o640, "open 600, fchown 65534 65534, fchmod 640, fsync, rename, "):
+        if mode is not None:
+            rows.put("out", b"old\n", mode)
+            os.chown(rows.at("out"), *[NOBODY if os.geteuid() == 0 else -1] * 2)
+        found = subprocess.run(command, env=known, stderr=subprocess.PIPE).stderr.decode().replace("\n", ", ")
+        if os.geteuid() != 0:  # (the file is its user's before)
+            wanted = wanted.replace("fchown 65534 65534, ", "")
+        yield "-o over %s file, by its calls" % ("no" if mode is None else "a"), found != wanted and "they are %s" % found
+        os.remove(rows.at("out"))
+    os.remove(library)
 
 
 def pages_of(rows, *names, title=None):

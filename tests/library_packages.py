@@ -17,6 +17,7 @@ from library_lines import lines_text
 from library_shared import *
 from log_rows import RETURN_ROWS
 from safe_rows import HIDDEN_ROWS, SAFE_ROWS
+from stand_ins import put_command
 
 # Says which names of the package `import *` lacks.
 LACKING = """
@@ -276,6 +277,26 @@ def typed_cases():
     yield "Python, by mypy: there are wrong ones", None if wanted else done.stderr.decode()
 
 
+def place_cases(room, library):
+    """Which program `python -m ansi_proved` runs: each place here goes before those above it, and the path, where another may be of the
+    same name, comes last."""
+    modules = room + "/own/lib/python3/site-packages"
+    copy_unbuilt("%s/ansi_proved" % PYTHON, modules + "/ansi_proved")
+    yield "Python: an environment", failure(run([sys.executable, "-m", "venv", "--without-pip", room + "/env"]))
+    known = dict(os.environ, PYTHONPATH=modules, ANSI_LIBRARY=library, PYTHONDONTWRITEBYTECODE="1")
+    known.update(PATH=room + "/path", PYTHONUSERBASE=room + "/user")
+    command = [room + "/env/bin/python", "-m", "ansi_proved", "ansi2text", "a b"]
+    done = run(command, env=known)
+    is_so = done.returncode == 1 and done.stderr.startswith(b"there is no ansi2text here: ")
+    yield "Python: where no program is there, that is said", None if is_so else "status %d, %r" % (done.returncode, done.stderr)
+    places = {"the path": "path", "make install": "own/bin", "pip install --target": "own/lib/python3/site-packages/bin"}
+    for name, folder in {**places, "pip install --user": "user/bin", "pip install": "env/bin"}.items():
+        os.makedirs("%s/%s" % (room, folder), exist_ok=True)
+        put_command("%s/%s/ansi2text" % (room, folder), 'echo "$#: $1, %s"' % name)
+        done = run(command, env=known)
+        yield "Python: it runs the program of %s" % name, failure(done) or first_difference(done.stdout, b"1: a b, %s\n" % name.encode())
+
+
 def lookup_cases():
     """Where the package finds the library: beside itself, or where the variable says, and nowhere else."""
     library = os.environ["ANSI_LIBRARY"]
@@ -289,6 +310,7 @@ def lookup_cases():
         os.mkdir(room + "/elsewhere")
         with open(room + "/elsewhere/libansi.so", "w") as wrong:
             wrong.write("no library")
+        yield from place_cases(room, library)
         found = {name: value for name, value in os.environ.items() if name != "ANSI_LIBRARY"}
         found.update(PYTHONDONTWRITEBYTECODE="1")
         command = [sys.executable, "-c", script]

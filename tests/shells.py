@@ -46,10 +46,17 @@ def bash_cases(name, words, listed, valued):
         asks = "%s; . %s; _%s %s %s; echo ${COMPREPLY[@]}" % (stands, path, name, name, line)
         return subprocess.run(["bash", "-c", asks], capture_output=True, text=True).stdout.split()
 
+    # (`complete -p` says what bash does for a name: by this function, and where that knows of nothing, with files and with all else)
+    found = subprocess.run(["bash", "-c", ". %s; complete -p %s" % (path, name)], capture_output=True, text=True).stdout
+    wanted = "complete -o bashdefault -o default -F _%s %s\n" % (name, name)
+    yield "bash asks that of %s, and else for files" % name, found != wanted and "it says %r" % found
     for word in ("--", "--s", "--o", "-", "x", ""):
         wanted = [it for it in [*words, *listed] if it.startswith(word) and (words or word.startswith("-"))]
         found = told("'%s' %s" % (word, name))
         yield "bash completes %s '%s'" % (name, word), found != wanted and "to %s" % found
+    if words:
+        found = told("'%s' %s" % (words[-1][0], words[0]), "COMP_CWORD=2")
+        yield "bash completes %s %s %s to no word" % (name, words[0], words[-1][0]), found and "to %s" % found
     for word in [*valued, *(["-o"] if valued else [])]:
         found = told("--f %s" % word)
         yield "bash completes %s %s --f to no option" % (name, word), found and "to %s" % found

@@ -112,6 +112,8 @@ def share_a_screen():
     in_threads([partial(feed, letter) for letter in "bCdE"] + [partial(read, first) for first in (0, 7, 14, 21)])
     others = [Screen(COLUMNS, ROWS) for _ in range(2)]
     in_threads([partial(cross, others[at % 2], others[1 - at % 2]) for at in range(8)])
+    in_threads([partial(begin_anew, Screen(500, 200))] * 4)
+    follow()
     close_early()
 
 
@@ -123,6 +125,36 @@ def cross(one, other):
         one.feed("\x1b[2J\x1b[Hx" * 50)
         if one.text() != "x\n":
             wrong.append("it shows %r" % one.text())
+
+
+def begin_anew(screen):
+    """What is reset is blank, until it is fed."""
+    for _ in range(2 * ROUNDS):
+        screen.reset()
+        screen.feed(b"\x1b[Hx" * 500)
+        if screen.text() not in ("", "x\n"):
+            wrong.append("it shows %r" % screen.text())
+
+
+def follow():
+    """A thread writes each row once, and another is told of each, whenever it asks."""
+    screen, told, written = Screen(2, 1000), set(), []
+    screen.changes()
+
+    def write():
+        for row in range(1, 1001):
+            screen.feed(b"\x1b[%dHx" % row + b"\x1b[m" * 3000)
+        written.append(True)
+
+    def ask():
+        is_last = False
+        while not is_last:
+            is_last = written == [True]
+            told.update(it.row for it in screen.changes())
+
+    in_threads([write, ask])
+    if len(told) < 1000:
+        wrong.append("of %d rows nothing is told that have changed" % (1000 - len(told)))
 
 
 def close_early():

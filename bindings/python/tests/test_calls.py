@@ -27,6 +27,16 @@ class Color(str, enum.Enum):
     LONG = "\x1b[31mred" + 3000 * "x"
 
 
+class Number:
+    """A number of another type, as numpy has them."""
+
+    def __init__(self, value):
+        self.value = value
+
+    def __index__(self):
+        return self.value
+
+
 def str_of(part):
     return part if isinstance(part, str) else part.decode()
 
@@ -231,6 +241,9 @@ class Calls(unittest.TestCase):
         self.assertEqual(ansi_proved.page(b"\x1b[1mhi", "light", title="<T>", lang="de"), page.encode())
         self.assertIn("<title>Terminal output</title>", ansi_proved.page("hi"))
         self.assertIn("<title>&amp;&lt;&gt;&quot;&#39;&#13;</title>", ansi_proved.page("hi", title="&<>\"'\r"))
+        named = b"caf\xe9.log".decode(errors="surrogateescape")  # (as the name of a file comes)
+        self.assertIn("<title>caf\ufffd.log</title>", ansi_proved.page("hi", title=named))
+        self.assertIn("<title>caf\ufffd.log</title>", ansi_proved.page(b"hi", title=named).decode())
         self.assertIn('<html lang="%s">' % (64 * "a"), ansi_proved.page("hi", lang=64 * "a"))
         self.assertRaises(ValueError, ansi_proved.page, "hi", lang=65 * "a")
         self.assertEqual(len({ansi_proved.page("\x1b[31mhi", it) for it in ansi_proved.STYLINGS}), 4)
@@ -305,6 +318,12 @@ class Calls(unittest.TestCase):
             self.assertIs(type(screen.cell(0, 0)), ansi_proved.Cell)
             self.assertRaisesRegex(TypeError, "^a row is an int, and not str$", screen.cell, "a", 0)
             self.assertRaisesRegex(TypeError, "^a piece is str, bytes, bytearray or memoryview, and not int$", screen.feed, 3)
+            row = Number(1)
+            self.assertEqual((screen.cell(row, Number(5)).text, screen.row_text(row), screen.link(row)), ("x", "two  x", ""))
+        self.assertRaises(ValueError, screen.feed, b"x")
+        with self.assertRaises(KeyError):  # (what goes wrong inside of the block goes on)
+            with ansi_proved.Screen(10, 3) as screen:
+                raise KeyError
         self.assertRaises(ValueError, screen.feed, b"x")
 
     def test_copies_of_a_screen(self):

@@ -2,8 +2,10 @@
 //! repository.)
 #![cfg(feature = "screen")]
 
-use ansi_proved::screen::{CannotOpen, Cell, Color, Part, Place, Screen};
+use ansi_proved::screen::{CannotOpen, Cell, Color, Part, Place, Screen, Style};
 use ansi_proved::{to_html, Styling};
+use std::collections::HashSet;
+use std::error::Error;
 use std::panic::catch_unwind;
 use std::sync::Mutex;
 use std::thread;
@@ -190,6 +192,20 @@ fn all_differ<T: PartialEq + std::fmt::Debug>(names: &[impl std::fmt::Debug], al
         let same: Vec<_> = names.iter().zip(all).filter(|(_, it)| *it == one).map(|(it, _)| it).collect();
         assert_eq!(same.len(), 1, "{name:?} is equal to all of {same:?}");
     }
+}
+
+/// What a program that keeps cells, screens and errors of its own asks of these.
+#[test]
+fn types_go_into_those_of_a_user() {
+    #[derive(PartialEq, Eq)]
+    struct Shown(Screen);
+
+    let screen = shown(4, 2, "a");
+    assert_eq!((screen.cell(1, 0), screen.style()), (Some(Cell::default()), Style::default()));
+    assert_eq!(screen.row(0).chain(screen.row(1)).collect::<HashSet<_>>().len(), 2);
+    assert_eq!(HashSet::from([(screen.cursor(), screen.modes()); 2]).len(), 1);
+    let opened = |columns| -> Result<Shown, Box<dyn Error + Send + Sync>> { Ok(Shown(Screen::new(columns, 2)?)) };
+    assert!(opened(4).unwrap() != Shown(screen) && opened(1).err().unwrap().is::<CannotOpen>());
 }
 
 #[test]

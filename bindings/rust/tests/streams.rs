@@ -2,7 +2,10 @@
 
 use ansi_proved::{events, strip, strip_lf, strip_safe, to_html, Converter, Event, SafeStripper, Sequence, Stripper, Styling};
 use std::borrow::Cow;
+use std::cell::Cell;
 use std::convert::Infallible;
+use std::error::Error;
+use std::hash::Hash;
 
 const STREAM: &[u8] = b"\x1b[31mhi\x1b[0m \xe2\x82\xac<b>\x07\n";
 const LIGHT: &str = "<span style=\"color:#cf222e;\">hi</span> \u{20ac}&lt;b&gt;\n";
@@ -152,6 +155,49 @@ fn stylings_by_their_names() {
         let error = name.parse::<Styling>().unwrap_err();
         assert_eq!(error.to_string(), "a styling is one of both, light, dark and classes");
     }
+}
+
+/// What a program that keeps stylings, events and errors of its own, or hands a stream to a thread, asks of these.
+#[test]
+fn types_go_into_those_of_a_user() {
+    #[derive(Clone, Debug, PartialEq, Eq)]
+    struct Kept(Event, Sequence);
+
+    fn is_a_key<T: Copy + Eq + Hash>() {}
+    fn goes_to_a_thread<T: Clone + std::fmt::Debug + Send + Sync + 'static>() {}
+
+    let named = |name: &str| -> Result<Styling, Box<dyn Error + Send + Sync>> { Ok(name.parse()?) };
+    assert!(named("red").unwrap_err().to_string().starts_with("a styling is one of"));
+    is_a_key::<Styling>();
+    goes_to_a_thread::<(Kept, Stripper, SafeStripper, Converter, ansi_proved::Events<std::vec::IntoIter<Vec<u8>>>)>();
+}
+
+/// A piece that counts how often its bytes are asked for.
+struct Counted<'a>(Vec<u8>, &'a Cell<usize>);
+
+impl AsRef<[u8]> for Counted<'_> {
+    fn as_ref(&self) -> &[u8] {
+        self.1.set(self.1.get() + 1);
+        &self.0
+    }
+}
+
+/// A call takes long for a few bytes: so each takes thousands of bytes, and hundreds of events.
+#[test]
+fn a_large_piece_takes_few_calls() {
+    let (piece, counts) = (vec![b'a'; 1 << 20], Cell::new(0));
+    let count = |_: &[u8]| {
+        counts.set(counts.get() + 1);
+        Ok::<(), Infallible>(())
+    };
+    Stripper::new().strip(&piece, count).unwrap();
+    Stripper::lf().strip(&piece, count).unwrap();
+    SafeStripper::new().strip(&piece, count).unwrap();
+    Converter::new(Styling::Both).convert(&piece, count).unwrap();
+    assert!(counts.get() < 4 * 1024, "{} calls", counts.get());
+    counts.set(0);
+    assert_eq!(events([Counted(b"\x1b[1m".repeat(10_000), &counts)]).count(), 10_000);
+    assert!(counts.get() < 100, "{} calls", counts.get());
 }
 
 #[test]

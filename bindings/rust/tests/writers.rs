@@ -42,6 +42,11 @@ fn text_goes_on() {
     let mut writer = StripWriter::new(Vec::new());
     writer.write_all(b"a\xe2\x82").unwrap();
     assert_eq!(writer.finish().unwrap(), "a\u{fffd}".as_bytes());
+    let mut writer = StripWriter::new(Vec::new());
+    writer.write_all(b"a\x1b[").unwrap();
+    let mut clone = writer.clone();
+    write_each(&mut clone, &[b"1mb"]);
+    assert_eq!((writer.into_inner(), clone.into_inner()), (b"a".to_vec(), b"ab".to_vec()));
     let mut writer = StripWriter::lf(Vec::new());
     write_each(&mut writer, &[b"a\r", b"\nb\r", b"c\r"]);
     assert_eq!(writer.get_ref(), b"a\nb\rc");

@@ -20,6 +20,7 @@ LOOKS = {
 SCHEMES = "both", "light", "dark"
 TAG = re.compile("[A-Za-z0-9-]{1,64}")
 ESCAPED = str.maketrans({"&": "&amp;", "<": "&lt;", ">": "&gt;", '"': "&quot;", "'": "&#39;", "\r": "&#13;"})
+ESCAPED.update(dict.fromkeys(range(0xD800, 0xE000), "\ufffd"))  # (UTF-8 has no surrogates, as a file's name may)
 
 
 @lru_cache(maxsize=None)
@@ -65,7 +66,7 @@ def page(text, styling="both", *, title="Terminal output", lang="en"):
     html = to_html(text, styling)
     if isinstance(html, str):
         return head + html + tail
-    return head.encode("utf-8", "surrogatepass") + html + tail.encode()
+    return head.encode() + html + tail.encode()
 
 
 def stylesheet(scheme="both"):

@@ -18,7 +18,7 @@ use command_line::{
 };
 use each_source::{Stopped, write_each};
 use folder::{Unpaged, first_twice, is_folder, page_names, page_path};
-use form::{Form, STANDARD, Said, write_stylesheet};
+use form::{Form, Said, write_stylesheet};
 use parts::{Frame, one_has_failed, parts, write_parts};
 use screen_html::{BlockRows, HtmlRows};
 use screen_text::{SHOWN, ShownSize, ShownWriter, screen_size};
@@ -26,9 +26,9 @@ use std::fs;
 use std::process::ExitCode;
 use streams::{Blocking, BlockingUrls, Converting, ConvertingUrls, Lining, LiningUrls, Showing};
 use words::{
-    HELP, NO_FILES, NO_LANGUAGE, NOT_OF_A_PAGE, NOT_SHOWN, ONE_FILE, OPTIONS, TWICE, UNNAMED,
-    URLS_NOT_SHOWN, asks_for_lines, asks_for_stylesheet, asks_for_urls, asks_to_scroll, form,
-    language, says_of_a_page, scheme, stylesheet_address, styling, title, title_or,
+    HELP, NO_FILES, NO_LANGUAGE, NO_NAMES, NOT_OF_A_PAGE, NOT_SHOWN, ONE_FILE, OPTIONS, TWICE,
+    UNNAMED, URLS_NOT_SHOWN, asks_for_lines, asks_for_stylesheet, asks_for_urls, asks_to_scroll,
+    form, language, says_of_a_page, scheme, stylesheet_address, styling, title, title_or,
 };
 
 /// The name at the front of what the program says of failures.
@@ -121,7 +121,7 @@ fn pages(
     requires { IfSome how.size CanBeShown }
 {
     if names.is_empty() {
-        return refused(&rt, STANDARD, UNNAMED);
+        return misused(&rt, NO_NAMES);
     }
     let pages = match page_names(rt.alloc(), names) {
         Ok(pages) => pages,
@@ -178,7 +178,7 @@ fn page(rt: HostRuntime, names: &[String], output: Option<&str>, how: How<'_>) -
     let Ok(mut parts) = parts(rt, PROGRAM, names, how.frame) else {
         return failed(&rt, PROGRAM, "out of memory");
     };
-    let (target, output) = match Target::open(rt, PROGRAM, output) {
+    let (target, output) = match Target::open(rt, PROGRAM, output, names) {
         Ok(opened) => opened,
         Err(status) => return status,
     };
@@ -215,7 +215,7 @@ fn fragment(rt: HostRuntime, names: &[String], output: Option<&str>, how: How<'_
     let Ok(mut inputs) = inputs(rt, PROGRAM, names) else {
         return failed(&rt, PROGRAM, "out of memory");
     };
-    let (target, output) = match Target::open(rt, PROGRAM, output) {
+    let (target, output) = match Target::open(rt, PROGRAM, output, names) {
         Ok(opened) => opened,
         Err(status) => return status,
     };
@@ -239,7 +239,7 @@ fn fragment(rt: HostRuntime, names: &[String], output: Option<&str>, how: How<'_
 
 /// Writes the stylesheet.
 fn stylesheet(rt: HostRuntime, options: &[String], scheme: Scheme) -> ExitCode {
-    match Target::open(rt, PROGRAM, value_of(options, OUTPUT)) {
+    match Target::open(rt, PROGRAM, value_of(options, OUTPUT), &[]) {
         Ok((target, output)) => {
             let (output, answer) = write_stylesheet(scheme, buffered(output));
             target.ended(false, (output, answer.map_err(Stopped::AtFault)))

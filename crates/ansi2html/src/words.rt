@@ -44,6 +44,10 @@ const MOST_OF_A_TAG: usize = 64;
 /// What is said of a name that no page can be named after, as of standard input.
 pub const UNNAMED: &str = "no page in a folder can be named after it";
 
+/// What is said where no file is named, of which a folder would have a page.
+pub const NO_NAMES: &str =
+    "ansi2html: a folder takes a page of each file that is named (see ansi2html --help)";
+
 /// What is said of a name that more than one file has.
 pub const TWICE: &str = "two files of this name would be one page in the folder";
 
@@ -59,7 +63,8 @@ pub const NOT_OF_A_PAGE: &str =
 pub const NO_FILES: &str = "ansi2html: --stylesheet reads no file (see ansi2html --help)";
 
 /// What is said where lines are asked for of more than one file, in one page.
-pub const ONE_FILE: &str = "ansi2html: lines are those of one file (see ansi2html --help)";
+pub const ONE_FILE: &str =
+    "ansi2html: lines are those of one file, or of each page of a folder (see ansi2html --help)";
 
 /// What is said where lines are asked for of what a terminal showed.
 pub const NOT_SHOWN: &str =

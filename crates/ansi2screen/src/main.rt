@@ -56,7 +56,8 @@ fn main(rt: HostRuntime) -> ExitCode {
         };
         wanted = Some(other);
     }
-    let (target, output) = match Target::open(rt, PROGRAM, value_of(options, OUTPUT)) {
+    let names = line.files.as_slice();
+    let (target, output) = match Target::open(rt, PROGRAM, value_of(options, OUTPUT), names) {
         Ok(opened) => opened,
         Err(status) => return status,
     };

@@ -32,10 +32,11 @@ fn main(rt: HostRuntime) -> ExitCode {
         return wrong_size(&rt, PROGRAM);
     };
     let safe = asks_for_safe(options);
-    let Ok(mut inputs) = inputs(rt, PROGRAM, line.files.as_slice()) else {
+    let names = line.files.as_slice();
+    let Ok(mut inputs) = inputs(rt, PROGRAM, names) else {
         return failed(&rt, PROGRAM, "out of memory");
     };
-    let (target, output) = match Target::open(rt, PROGRAM, value_of(options, OUTPUT)) {
+    let (target, output) = match Target::open(rt, PROGRAM, value_of(options, OUTPUT), names) {
         Ok(opened) => opened,
         Err(status) => return status,
     };

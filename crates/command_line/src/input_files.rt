@@ -3,6 +3,7 @@ ghost use Rattle.std.specs.Prelude.{◌≡◌, ◌≤◌, None, true, false, len
 ghost use Rattle.std.specs.List.{list_any};
 ghost use Rattle.command_line.specs.Inputs.{input_failed, name_of, names_read};
 
+use crate::standard::STANDARD;
 use anstyle_parse::io::Source;
 use each_source::Stream;
 use std::alloc::AllocError;
@@ -11,9 +12,6 @@ use std::fs::File;
 use std::io::Read;
 use std::rt::{HostRuntime, Stdin};
 use std::{fs, io};
-
-/// The name of standard input, as of standard output.
-pub(crate) const STANDARD: &str = "-";
 
 /// A file that a program is to read, or standard input. It is opened when it is first read, and closed at its
 /// end. Where it can't be opened or read, that is said on standard error, at once and once.
@@ -149,13 +147,8 @@ impl Source for Input<'_> {
 impl Stream for Input<'_> {
     /// Says so on standard error.
     fn ended_in_string(&self, begin: u64) {
-        let name = if self.name == STANDARD {
-            "standard input"
-        } else {
-            self.name
-        };
         let what = format_args!("ends inside a string that begins at byte {begin}");
-        say_of(&self.rt, self.program, name, &what);
+        say_of(&self.rt, self.program, self.name, &what);
     }
 }
 
@@ -171,7 +164,12 @@ pub fn file_failed(rt: &HostRuntime, program: &str, name: &str, error: io::Error
 
 /// Says something of a file on standard error, after the program's name and the file's. Where that can't be written
 /// nothing is done about it. A name that could drive a terminal is written as Rattle writes a text.
-fn say_of(rt: &HostRuntime, program: &str, name: &str, what: &impl Display) {
+pub(crate) fn say_of(rt: &HostRuntime, program: &str, name: &str, what: &impl Display) {
+    let name = if name == STANDARD {
+        "standard input"
+    } else {
+        name
+    };
     let _ = if is_written_quoted(name) {
         eprintln!(rt; "{program}: {name:?}: {what}")
     } else {

@@ -11,6 +11,7 @@ mod input_files;
 mod line;
 mod options;
 mod output_file;
+mod standard;
 
 use anstyle_parse::io::{Buffer, Fault, FromWrite};
 pub use input_files::{Input, file_failed, have_failed, inputs};

@@ -5,7 +5,8 @@ ghost use Rattle.anstyle_parse.specs.Io.Buffer.{writer_behind, held_back};
 ghost use Rattle.anstyle_parse.specs.Io.Devices.{writer_error};
 ghost use Rattle.command_line.specs.Outputs.{is_named, is_replacing, fault_status, EndsAs};
 
-use crate::input_files::{STANDARD, file_failed};
+use crate::input_files::{file_failed, say_of};
+use crate::standard::{STANDARD, fill_closed, read_again};
 use crate::{FAILED, failed, message, output_failed};
 use anstyle_parse::io::{Buffer, Fault, FromWrite};
 use each_source::Stopped;
@@ -13,12 +14,16 @@ use std::fs::{File, Metadata, OpenOptions};
 use std::io::{ErrorKind, IsTerminal, Write};
 use std::os::fd::AsFd;
 use std::os::unix::fs::{MetadataExt, OpenOptionsExt, fchown};
+use std::path::PathBuf;
 use std::process::ExitCode;
 use std::rt::{HostRuntime, Stdout};
 use std::{fs, io};
 
 /// The names that are tried for a new file beside another.
 const MOST_NAMES: u32 = 100;
+
+/// The links that Linux goes through, one after another.
+const MOST_LINKS: u32 = 40;
 
 /// What is written to: standard output, or a file.
 #[derive(Drop)]
@@ -72,27 +77,42 @@ struct Replacing {
 
 impl<'a> Target<'a> {
     /// Opens what is written to: standard output where no file is named, or `-`. Where a file, or none, has the name,
-    /// what is written goes to a new file beside it; else, as of a device, it goes there. `Err` has the status that the
-    /// program then ends with, and why was said on standard error.
+    /// what is written goes to a new file beside it; else, as of a device, it goes there. `read` names the files that
+    /// are read, with no name standard input: none of them may be the file that standard output is, if that is written
+    /// to. `Err` has the status that the program then ends with, and why was said on standard error.
     pub fn open(
         rt: HostRuntime,
         program: &'a str,
         name: Option<&'a str>,
+        read: &[String],
     ) -> Result<(Target<'a>, Destination), ExitCode>
         ensures { IfErr result (λ status. exit_status status ≡ 1) }
     {
         match name {
             Some(name) if name != STANDARD => Target::open_file(rt, program, name),
-            _ => {
-                let target = Target {
-                    rt,
-                    program,
-                    name: None,
-                    replacing: None,
-                };
-                Ok((target, Destination::Standard(rt.stdout())))
-            }
+            _ => Target::open_standard(rt, program, read),
         }
+    }
+
+    /// Opens standard output.
+    fn open_standard(
+        rt: HostRuntime,
+        program: &'a str,
+        read: &[String],
+    ) -> Result<(Target<'a>, Destination), ExitCode>
+        ensures { IfErr result (λ status. exit_status status ≡ 1) }
+    {
+        if let Some(name) = read_again(&rt, read) {
+            say_of(&rt, program, name, &"input file is output file");
+            return Err(ExitCode::from(FAILED));
+        }
+        let target = Target {
+            rt,
+            program,
+            name: None,
+            replacing: None,
+        };
+        Ok((target, Destination::Standard(rt.stdout())))
     }
 
     /// Opens a file.
@@ -103,6 +123,7 @@ impl<'a> Target<'a> {
     ) -> Result<(Target<'a>, Destination), ExitCode>
         ensures { IfErr result (λ status. exit_status status ≡ 1) }
     {
+        fill_closed(&rt);
         match opened(&rt, name) {
             Ok((file, replacing)) => {
                 let target = Target {
@@ -205,26 +226,35 @@ impl<'a> Target<'a> {
 
 /// Opens a file to write to: a new one beside it, where there is a file of this name, or none.
 fn opened(rt: &HostRuntime, name: &str) -> io::Result<(File, Option<Replacing>)> {
-    // (the name may be that of a link: the file behind it is replaced)
-    match fs::canonicalize(rt, name) {
-        Ok(path) => {
-            let old = fs::metadata(rt, path.as_str())?;
-            if old.is_file() {
-                let (file, new) = created(rt, path.as_str(), Some(&old))?;
-                Ok((file, Some(new)))
-            } else {
-                Ok((
-                    OpenOptions::new().write(true).open(rt, path.as_str())?,
-                    None,
-                ))
-            }
+    match fs::metadata(rt, name) {
+        Ok(old) if old.is_file() => {
+            // (the name may be that of a link: the file behind it is replaced)
+            let path = fs::canonicalize(rt, name)?;
+            let (file, new) = created(rt, path.as_str(), Some(&old))?;
+            Ok((file, Some(new)))
         }
+        // (of a pipe, to which /dev/stdout may lead, there is no path but this)
+        Ok(_) => Ok((OpenOptions::new().write(true).open(rt, name)?, None)),
         Err(error) if error.kind() == ErrorKind::NotFound => {
-            let (file, new) = created(rt, name, None)?;
+            let path = behind_links(rt, name)?;
+            let (file, new) = created(rt, path.as_str(), None)?;
             Ok((file, Some(new)))
         }
         Err(error) => Err(error),
     }
+}
+
+/// The path that links of this name lead to, where nothing stands so far; the name, where it is none of a link.
+fn behind_links(rt: &HostRuntime, name: &str) -> io::Result<PathBuf> {
+    let mut path = PathBuf::from_str(rt.alloc(), name)?;
+    for _ in 0..MOST_LINKS {
+        let Ok(target) = fs::read_link(rt, path.as_str()) else {
+            return Ok(path);
+        };
+        let _ = path.pop();
+        path.push(target.as_str())?;
+    }
+    Ok(path)
 }
 
 /// Makes a new file beside one, with the rights of what stands there.

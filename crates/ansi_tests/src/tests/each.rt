@@ -275,7 +275,7 @@ fn sizes_and_names_right_behind(rt: HostRuntime) -> Result<(), Fail> {
 
 /// What programs share to write a file, which no test runs here.
 fn names_of_targets(rt: HostRuntime, readers: &mut [Input<'_>]) -> Result<ExitCode, ExitCode> {
-    let (target, output): (Target<'_>, Destination) = Target::open(rt, "", None)?;
+    let (target, output): (Target<'_>, Destination) = Target::open(rt, "", None, &[])?;
     let writer = Buffer::new(FromWrite::new(output));
     let ran = write_between(&Stripping, b"", readers, writer, b"");
     Ok(target.ended(have_failed(readers), ran))

@@ -663,7 +663,7 @@ PROGRAMS = [
         + [(words, NO_LANGUAGE) for words in (["--lang=\xe9"], ["--page", "--lang", "en_GB"])]
         + [(["--page", word], wrong_size(b"ansi2html")) for word in ("--shown=", "--shown=1x1", "--shown=1001x24")]
         + [(["--stylesheet", "--shown=0x0"], wrong_size(b"ansi2html")), (["--shown", "1001x24", "--page"], wrong_size(b"ansi2html"))]
-        + [(words, b"ansi2html: lines are those of one file (see ansi2html --help)") for words in (["--lines", "a", "b"], ["-", "--lines", "--page", "-"])]
+        + [(words, b"ansi2html: lines are those of one file, or of each page of a folder (see ansi2html --help)") for words in (["--lines", "a", "b"], ["-", "--lines", "--page", "-"])]
         + [
             (words, b"ansi2html: --lines and --shown are not taken together (see ansi2html --help)")
             for words in (["--lines", "--shown"], ["--shown=9x9", "--page", "--lines"])

@@ -118,6 +118,8 @@ def file_cases(name, path, words, alone, run, differs):
         yield from growing_cases(rows)
         yield from written_cases(rows)
         yield from saved_cases(rows)
+        yield from linked_cases(rows)
+        yield from same_file_cases(rows)
         yield from kept_cases(rows)
         if name == "ansi2html":
             yield from folder_cases(rows)
@@ -381,6 +383,43 @@ def saved_cases(rows):
     os.remove(library)
 
 
+def linked_cases(rows):
+    """A link leads to what it names, be that a pipe or nothing so far; and a closed standard error is no file."""
+    whole = rows.of_each(PARTS[0])
+    os.symlink("/proc/self/fd/1", rows.at("link"))
+    why = rows.differs(rows.ran("-o", "link", "part0"), out=whole)
+    yield "-o by a link to standard output, a pipe", why or (not os.path.islink(rows.at("link")) and "the link is gone")
+    os.remove(rows.at("link"))
+    os.symlink("further", rows.at("link"))
+    os.symlink("folder/new", rows.at("further"))
+    why = rows.differs(rows.ran("-o", "link", "part0")) or (rows.read("folder/new") != whole and "it has %r" % rows.read("folder/new"))
+    yield "-o by links that lead to nothing so far", why or (not all(map(os.path.islink, map(rows.at, ("link", "further")))) and "a link is gone")
+    for at in ("link", "further", "folder/new"):
+        os.remove(rows.at(at))
+    rows.put("cut", b"text\n\x1b]0;title")
+    why = rows.differs(rows.ran("-o", "out", "cut", before=lambda: os.close(2)))
+    yield "-o, and standard error is closed", why or (rows.read("out") != rows.of_each(b"text\n") and "it has %r" % rows.read("out"))
+    os.remove(rows.at("cut"))
+    os.remove(rows.at("out"))
+
+
+def same_file_cases(rows):
+    """A file that is also standard output: what is written there would be read again, with no end."""
+    line = b"%s: %%s: input file is output file\n" % rows.name.encode()
+    for at, words, given in (b"log", ["log"], b""), (b"link", rows.two[1:] + ["link"], b""), (b"standard input", [], "log"), (b"standard input", ["-"], "log"):
+        rows.put("log", PARTS[0])
+        os.symlink("log", rows.at("link"))
+        with open(rows.at("log"), "ab") as out, open(rows.at(given or "part0"), "rb") as read:
+            why = rows.differs(rows.ran(*words, given=read, out=out), status=1, err=line % at)
+        yield "%s, to which the output is added" % " ".join(words or ["standard input"]), why or (rows.read("log") != PARTS[0] and "it is longer")
+        os.remove(rows.at("link"))
+    with open(rows.at("log"), "ab") as out:
+        why = rows.differs(rows.ran("-o", "out", "log", out=out)) or (rows.read("out") != rows.of_each(PARTS[0]) and "it has %r" % rows.read("out"))
+    yield "a file that is standard output, which is not written to", why
+    os.remove(rows.at("log"))
+    os.remove(rows.at("out"))
+
+
 def pages_of(rows, *names, title=None):
     """What is written of each of these files alone, by the name of its page; each page has the file's name as its title."""
     found = {}
@@ -442,7 +481,9 @@ def folder_cases(rows):
 def refused_cases(rows):
     """Files that have no pages of their own in a folder, which is not made; and folders that can't be."""
     before = rows.left()
-    for names, shown in [([], "-"), (["-"], "-"), (["part0", "-"], "-"), ([".."], ".."), (["part0", "folder/.."], "folder/.."), ([""], "")]:
+    why = b"%s: a folder takes a page of each file that is named (see %s --help)\n" % (2 * (rows.name.encode(),))
+    yield "-o pages/ and no name is refused", rows.differs(rows.ran("-o", "pages/", given=PARTS[0]), status=2, err=why) or left_differs(rows, before)
+    for names, shown in [(["-"], "-"), (["part0", "-"], "-"), ([".."], ".."), (["part0", "folder/.."], "folder/.."), ([""], "")]:
         why = '%s: "%s": no page in a folder can be named after it (see %s --help)\n' % (rows.name, shown, rows.name)
         why = rows.differs(rows.ran("-o", "pages/", *names, given=PARTS[0]), status=2, err=why.encode())
         yield "-o pages/ %s is refused" % " ".join(names), why or left_differs(rows, before)

@@ -384,23 +384,26 @@ def saved_cases(rows):
 
 
 def linked_cases(rows):
-    """A link leads to what it names, be that a pipe or nothing so far; and a closed standard error is no file."""
+    """A link leads to what it names, be that a pipe or nothing so far; and a closed input or standard error is no file."""
     whole = rows.of_each(PARTS[0])
     os.symlink("/proc/self/fd/1", rows.at("link"))
     why = rows.differs(rows.ran("-o", "link", "part0"), out=whole)
     yield "-o by a link to standard output, a pipe", why or (not os.path.islink(rows.at("link")) and "the link is gone")
     os.remove(rows.at("link"))
-    os.symlink("further", rows.at("link"))
-    os.symlink("folder/new", rows.at("further"))
+    os.symlink("folder/further", rows.at("link"))
+    os.symlink("new", rows.at("folder/further"))  # (beside it)
     why = rows.differs(rows.ran("-o", "link", "part0")) or (rows.read("folder/new") != whole and "it has %r" % rows.read("folder/new"))
-    yield "-o by links that lead to nothing so far", why or (not all(map(os.path.islink, map(rows.at, ("link", "further")))) and "a link is gone")
-    for at in ("link", "further", "folder/new"):
+    yield "-o by links that lead to nothing so far", why or (not all(map(os.path.islink, map(rows.at, ("link", "folder/further")))) and "a link is gone")
+    for at in ("link", "folder/further", "folder/new"):
         os.remove(rows.at(at))
     rows.put("cut", b"text\n\x1b]0;title")
     why = rows.differs(rows.ran("-o", "out", "cut", before=lambda: os.close(2)))
     yield "-o, and standard error is closed", why or (rows.read("out") != rows.of_each(b"text\n") and "it has %r" % rows.read("out"))
     os.remove(rows.at("cut"))
     os.remove(rows.at("out"))
+    why = b"%s: read failed: %s (os error %d)\n" % (rows.name.encode(), os.strerror(errno.EBADF).encode(), errno.EBADF)
+    why = rows.differs(rows.ran("-o", "out", before=lambda: os.close(0)), status=1, err=why)
+    yield "-o, and standard input is closed", why or (os.path.exists(rows.at("out")) and "it is there")
 
 
 def same_file_cases(rows):
@@ -416,6 +419,8 @@ def same_file_cases(rows):
     with open(rows.at("log"), "ab") as out:
         why = rows.differs(rows.ran("-o", "out", "log", out=out)) or (rows.read("out") != rows.of_each(PARTS[0]) and "it has %r" % rows.read("out"))
     yield "a file that is standard output, which is not written to", why
+    with open("/dev/null", "r+b") as it:
+        yield "/dev/null is both", rows.differs(rows.ran(given=it, out=it))
     os.remove(rows.at("log"))
     os.remove(rows.at("out"))
 
@@ -446,7 +451,9 @@ def folder_cases(rows):
         (["-o", "new/and/deep//"], "new/and/deep"),
         (["-o", rows.at("pages/")], "pages"),
     ]:
-        why = rows.differs(rows.ran(*words, "--", *names)) or pages_differ(rows, at, wanted)
+        # (one file is read and one is written at a time)
+        ended = rows.ran(*words, "--", *names, before=lambda: resource.setrlimit(resource.RLIMIT_NOFILE, (7, 7)))
+        why = rows.differs(ended) or pages_differ(rows, at, wanted)
         yield "%s makes a page of each file" % " ".join(words[-2:])[-30:], why or left_differs(rows, before, at, "-dash")
         shutil.rmtree(rows.at(at.split("/")[0]))
     os.mkdir(rows.at("pages"))

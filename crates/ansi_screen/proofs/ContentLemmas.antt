@@ -1,7 +1,7 @@
--- What stands on a screen stays such as printing and erasing leave it: cells, edits and printing.
-use Rattle.std.proofs.Common.{◌≡◌, ℕ, zero, suc, ◌+◌, ◌-◌, ◌*◌, ◌<◌, ◌≤◌, Bool, true, false, List, [], ◌∷◌, ◌++◌, length, take, drop, set, refl, ◌∙◌, arith}
-use Rattle.std.specs.Prelude.{min, nat_lt, nat_eq, ◌==◌, ◌&&◌, replicate, if◌then◌else◌, Option, None, Some}
-use Rattle.std.proofs.lemmas.Bool.{eqb-true}
+-- What any call leaves on a screen is such as printing and erasing leave it.
+use Rattle.std.proofs.Common.{◌≡◌, ℕ, zero, suc, ◌+◌, ◌-◌, ◌*◌, ◌<◌, ◌≤◌, Bool, true, false, List, [], ◌∷◌, ◌++◌, length, take, drop, set, refl, ◌∙◌, arith, inl, inr}
+use Rattle.std.specs.Prelude.{⊤, min, nat_lt, nat_eq, ◌&&◌, replicate, if◌then◌else◌, Option, None, Some, nat_le}
+use Rattle.std.proofs.lemmas.Bool.{eqb-true, and_parts, leb-true}
 use borrow.Author.Tests.{eqb-false, ltb-true, ltb-false}
 use Rattle.anstyle_parse.specs.Stream.Bytes.{is_within}
 use Rattle.anstyle_parse.proofs.Lists.Parts.{AllByRecursion-take}
@@ -12,18 +12,22 @@ use Rattle.ansi_screen.specs.declared.cell.Marks.{Marks}
 use Rattle.ansi_screen.specs.declared.cell.Marks.TheVariants.{Unmarked, One, Two}
 use Rattle.ansi_screen.specs.declared.cell.Part.{Part}
 use Rattle.ansi_screen.specs.declared.cell.Part.TheVariants.{Empty, Whole, Left, Right}
-use Rattle.ansi_screen.specs.declared.function.Edit.{Edit}
-use Rattle.ansi_screen.specs.declared.function.Edit.TheVariants.{InsertCharacters, EraseInDisplay, EraseInLine, InsertLines, DeleteLines, DeleteCharacters, EraseCharacters}
 use Rattle.ansi_screen.specs.Cells.{blank, emptied, with_mark, one_more, is_right, cell_at, marked_before, going_on, cut, within, change, erased, moved_back, moved_on}
-use Rattle.ansi_screen.specs.Display.{Display, here, row_start, row_end}
-use Rattle.ansi_screen.specs.Moves.{to_row, to_column, settled}
-use Rattle.ansi_screen.specs.Edits.{scrolled_up, kept_by_scroll, kept_by_erase, with_cells, space, row_going_on, erased_cells, erased_part, erased_display, erased_line, erased_characters, deleted_characters, inserted_characters, rows_up, rows_down, is_in_margins, inserted_lines, deleted_lines, index, reverse_index, row_above_ended, erases_from_row, erases_first}
+use Rattle.ansi_screen.specs.Display.{Display, here, row_end, fresh}
+use Rattle.ansi_screen.specs.Edits.{with_cells, space}
 use Rattle.ansi_screen.specs.Widths.{is_shown, columns}
-use Rattle.ansi_screen.specs.Print.{glyph, wrapped, with_room, with_glyph, put, marked, shown}
-use Rattle.ansi_screen.specs.After.{edited, count}
-use Rattle.ansi_screen.specs.Reachable.{left_style, right_style, ArePaired, IsWhole, FitsPart, IsMark, AreMarks, HasColors, IsCell, AreCells, HasMargins, HidesNothing}
+use Rattle.ansi_screen.specs.Print.{glyph, line_drawing, drawn}
+use Rattle.ansi_screen.specs.After.{State, after, after_all}
+use Rattle.ansi_screen.specs.Reachable.{left_style, right_style, ArePaired, IsWhole, FitsPart, IsMark, AreMarks, HasColors, IsCell, AreCells, HasMargins, HidesNothing, IsScreen, HasContents}
 use Rattle.ansi_screen.proofs.PairLemmas.{right-not-left, left-none, paired-first}
-use Rattle.ansi_screen.proofs.KeptCalls.{columns-few}
+use Rattle.std.proofs.lemmas.List.{length-replicate}
+use Rattle.anstyle_parse.specs.Stream.Call.{Call}
+use Rattle.ansi_screen.specs.Modes.{softly_reset}
+use Rattle.ansi_screen.proofs.CharacterLemmas.{at-good, drawing-good}
+use Rattle.ansi_screen.proofs.ColorLemmas.{selected-colors}
+use Rattle.ansi_screen.proofs.KeptLemmas.{Step, select, save, restore, erase, join, delete, insert, rows_back, rows_on, write, add_mark, narrow, to_other, back, soften, renew, drawn_if, kept-step}
+use Rattle.ansi_screen.proofs.Walk.{as-it-is, walk}
+use Rattle.ansi_screen.proofs.KeptCalls.{Any, any-call, any-repeat, kept-after}
 
 -- the contents of a display, part by part
 abbrev pub Holds : Display → Type 0
@@ -188,100 +192,57 @@ holds-if false a b first second = second
 pub holds-cells : (cells : List Cell) (d : Display) → AreCells cells → Holds d → Holds (with_cells cells d)
 holds-cells cells d are s = (are, s.1, s.2, s.3, s.4, s.5, s.6)
 
-holds-erased : (start end : ℕ) (d : Display) → Holds d → Holds (erased_cells start end d)
-holds-erased start end d s =
+-- what a character of the line drawing set draws is shown
+drawn-shown : (c : ℕ) (t : Bool) → is_within 0x5F 0x7E c ≡ t → is_shown c ≡ true → is_shown (drawn c) ≡ true
+unfolding drawn is_within
+drawn-shown c true is good =
+    let parts = and_parts (nat_le 0x5F c) (nat_le c 0x7E) is in
+    let from : 0x5F ≤ c = leb-true 0x5F c parts.0 in
+    let to : c ≤ 0x7E = leb-true c 0x7E parts.1 in
+    let both = at-good line_drawing (c - 0x5F) drawing-good (omega arith) in
+    rw is both.1
+drawn-shown c false is good = rw is good
+
+drawn-if : (c : ℕ) (t : Bool) → is_shown c ≡ true → is_shown (if t then drawn c else c) ≡ true
+drawn-if c true good = drawn-shown c _ refl good
+drawn-if c false good = good
+
+-- so many blank cells are all of them
+blank-all : (n : ℕ) → replicate n (blank plain) ≡ replicate (length (replicate n (blank plain))) (blank plain)
+blank-all n = rw (length-replicate n (blank plain)) refl
+
+holds-new : (width height : ℕ) → Holds (fresh width height)
+holds-new width height = (
+  cells-replicate (height * width) (blank plain) (cell-blank plain (tt, tt)),
+  cells-replicate (height * width) (blank plain) (cell-blank plain (tt, tt)),
+  (tt, tt),
+  (tt, tt),
+  (tt, tt),
+  inr (refl, refl),
+  λ main. (blank-all (height * width), refl),
+)
+
+-- whatever step a screen takes
+holds-step : (d e : Display) → Step Any ⊤ d e → IsScreen d → Holds d → Holds e
+unfolding softly_reset
+holds-step d e (select groups) screen s = (s.0, s.1, selected-colors groups d.cursor.style s.2, s.3, s.4, s.5, s.6)
+holds-step d e save screen s = (s.0, s.1, s.2, s.2, s.4, s.5, s.6)
+holds-step d e (restore row within) screen s = (s.0, s.1, s.3, s.3, s.4, s.5, s.6)
+holds-step d e (erase start end within) screen s =
     holds-cells (change start end (erased (space d)) d.cells) d
     (cells-change start end (erased (space d)) d.cells (λ run are. cells-replicate (length run) (space d) (cell-blank d.cursor.style s.2)) s.0) s
-
-holds-above_at : (t : Bool) (d : Display) → Holds d → Holds (with_cells (if t then going_on false (row_start d) d.cells else d.cells) d)
-holds-above_at true d s = holds-cells (going_on false (row_start d) d.cells) d (cells-going_on false (row_start d) d.cells s.0) s
-holds-above_at false d s = s
-
-holds-row_above : (begun : Bool) (d : Display) → Holds d → Holds (row_above_ended begun d)
-holds-row_above begun d s = holds-above_at (begun && nat_lt 0 d.cursor.row) d s
-
-holds-part : (kind start end : ℕ) (d : Display) → Holds d → Holds (erased_part kind start end d)
-unfolding erased_part
-holds-part kind start end d s =
-    holds-if (kind == 0) (erased_cells (here d) end d) (if kind == 1 then erased_cells start (here d + 1) d else erased_cells start end d)
-    (holds-erased (here d) end d s)
-    (holds-if (kind == 1) (erased_cells start (here d + 1) d) (erased_cells start end d) (holds-erased start (here d + 1) d s) (holds-erased start end d s))
-
-pub holds-rows_up : (n first last : ℕ) (d : Display) → Holds d → Holds (rows_up n first last d)
-unfolding rows_up
-holds-rows_up n first last d s =
-    holds-cells (within (first * d.width) (last * d.width) (moved_back (n * d.width) (space d)) d.cells) d
-    (cells-within (first * d.width) (last * d.width) (moved_back (n * d.width) (space d)) d.cells (cells-back (n * d.width) (space d) (cell-blank d.cursor.style s.2)) s.0) s
-
-pub holds-rows_down : (n first last : ℕ) (d : Display) → Holds d → Holds (rows_down n first last d)
-unfolding rows_down
-holds-rows_down n first last d s =
-    holds-cells (within (first * d.width) (last * d.width) (moved_on (n * d.width) (space d)) d.cells) d
-    (cells-within (first * d.width) (last * d.width) (moved_on (n * d.width) (space d)) d.cells (cells-on (n * d.width) (space d) (cell-blank d.cursor.style s.2)) s.0) s
-
-pub holds-index : (d : Display) → Holds d → Holds (index d)
-unfolding index
-holds-index d s = holds-if (d.cursor.row + 1 == d.bottom) (scrolled_up 1 d) (to_row (d.cursor.row + 1) d) (holds-rows_up 1 d.top d.bottom (record d { history = kept_by_scroll 1 d }) s) s
-
-pub holds-reverse : (d : Display) → Holds d → Holds (reverse_index d)
-unfolding reverse_index
-holds-reverse d s = holds-if (d.cursor.row == d.top) (rows_down 1 d.top d.bottom d) (to_row (d.cursor.row - 1) d) (holds-rows_down 1 d.top d.bottom d s) s
-
-holds-going_on : (on : Bool) (d : Display) → Holds d → Holds (row_going_on on d)
-holds-going_on on d s = holds-cells (going_on on (row_end d) d.cells) d (cells-going_on on (row_end d) d.cells s.0) s
-
-holds-inserted : (n : ℕ) (d : Display) → Holds d → Holds (inserted_characters n d)
-unfolding inserted_characters
-holds-inserted n d s =
-    let cells : List Cell = going_on false (row_end d) d.cells in
-    let place : ℕ = row_end d - min n (row_end d - here d) in
-    holds-cells (change (here d) (row_end d) (moved_on n (space d)) (cut place cells)) d
-    (cells-change (here d) (row_end d) (moved_on n (space d)) (cut place cells) (cells-on n (space d) (cell-blank d.cursor.style s.2))
-    (cells-cut place cells (cells-going_on false (row_end d) d.cells s.0))) s
-
-holds-deleted : (n : ℕ) (d : Display) → Holds d → Holds (deleted_characters n d)
-unfolding deleted_characters
-holds-deleted n d s =
-    let cells : List Cell = going_on false (row_end d) d.cells in
-    let place : ℕ = here d + min n (row_end d - here d) in
-    holds-cells (change (here d) (row_end d) (moved_back n (space d)) (cut place cells)) d
-    (cells-change (here d) (row_end d) (moved_back n (space d)) (cut place cells) (cells-back n (space d) (cell-blank d.cursor.style s.2))
-    (cells-cut place cells (cells-going_on false (row_end d) d.cells s.0))) s
-
-pub holds-edited : (edit : Edit) (n : ℕ) (d : Display) → Holds d → Holds (edited edit n d)
-unfolding edited erased_display erased_line erased_characters inserted_lines deleted_lines
-holds-edited InsertCharacters n d s = holds-inserted (count n) d s
-holds-edited EraseInDisplay n d s =
-    let begun : Bool = erases_from_row n d in
-    let left : Display = record d { history = kept_by_erase n d } in
-    holds-part n 0 (length d.cells) (row_above_ended begun left) (holds-row_above begun left s)
-holds-edited EraseInLine n d s =
-    let begun : Bool = erases_first n d in
-    holds-part n (row_start d) (row_end d) (row_above_ended begun d) (holds-row_above begun d s)
-holds-edited InsertLines n d s =
-    holds-if (is_in_margins d) (to_column 0 (rows_down (count n) d.cursor.row d.bottom d)) d (holds-rows_down (count n) d.cursor.row d.bottom d s) s
-holds-edited DeleteLines n d s =
-    holds-if (is_in_margins d) (to_column 0 (rows_up (count n) d.cursor.row d.bottom d)) d (holds-rows_up (count n) d.cursor.row d.bottom d s) s
-holds-edited DeleteCharacters n d s = holds-deleted (count n) d s
-holds-edited EraseCharacters n d s = holds-erased (here d) (min (row_end d) (here d + count n)) d s
-
--- printing
-holds-wrapped : (n : ℕ) (d : Display) → Holds d → Holds (wrapped n d)
-unfolding wrapped
-holds-wrapped n d s =
-    let joined : Display = row_going_on true d in
-    let inner : Display = if d.wraps then index (to_column 0 joined) else settled d in
-    holds-if (nat_lt d.width (d.cursor.column + n)) inner d
-    (holds-if d.wraps (index (to_column 0 joined)) (settled d) (holds-index (to_column 0 joined) (holds-going_on true d s)) s) s
-
-holds-room : (n : ℕ) (d : Display) → Holds d → Holds (with_room n d)
-unfolding with_room
-holds-room n d s = holds-if d.inserts (inserted_characters n d) d (holds-inserted n d s) s
-
-holds-glyph : (n c : ℕ) (d : Display) → is_shown c ≡ true → columns c ≡ n → 1 ≤ n → n ≤ 2 → Holds d → Holds (with_glyph n c d)
-unfolding with_glyph
-holds-glyph n c d good wide some few s = (
-  cells-change (here d) (here d + n) (λ run. glyph n c d.cursor.style d.link) d.cells (λ run are. cells-glyph n c d.cursor.style d.link _ refl good wide some few s.2) s.0,
+holds-step d e (join on end) screen s = holds-cells (going_on on end d.cells) d (cells-going_on on end d.cells s.0) s
+holds-step d e (delete n inside) screen s =
+    holds-cells _ d (cells-change (here d) (row_end d) (moved_back n (space d)) _ (cells-back n (space d) (cell-blank d.cursor.style s.2)) (cells-cut _ d.cells s.0)) s
+holds-step d e (insert n inside) screen s =
+    holds-cells _ d (cells-change (here d) (row_end d) (moved_on n (space d)) _ (cells-on n (space d) (cell-blank d.cursor.style s.2)) (cells-cut _ d.cells s.0)) s
+holds-step d e (rows_back n first last within) screen s =
+    holds-cells _ d (cells-within (first * d.width) (last * d.width) (moved_back (n * d.width) (space d)) d.cells (cells-back (n * d.width) (space d) (cell-blank d.cursor.style s.2)) s.0) s
+holds-step d e (rows_on n first last within) screen s =
+    holds-cells _ d (cells-within (first * d.width) (last * d.width) (moved_on (n * d.width) (space d)) d.cells (cells-on (n * d.width) (space d) (cell-blank d.cursor.style s.2)) s.0) s
+holds-step d e (write n c drawing may is wide some few fits) screen s = (
+  cells-change (here d) (here d + n) (λ run. glyph n (drawn_if drawing c) d.cursor.style d.link) d.cells
+      (λ run are. cells-glyph n (drawn_if drawing c) d.cursor.style d.link _ refl (drawn-if c drawing is) wide some few s.2) s.0,
   s.1,
   s.2,
   s.3,
@@ -289,25 +250,32 @@ holds-glyph n c d good wide some few s = (
   s.5,
   s.6,
 )
+holds-step d e (add_mark c drawing may is none) screen s =
+    holds-cells _ d (cells-marked d.width (drawn_if drawing c) (here d) d.cells (drawn-if c drawing is, none) screen.whole s.0) s
+holds-step d e (narrow top bottom row column order inside within) screen s = (s.0, s.1, s.2, s.3, s.4, inl order, s.6)
+holds-step d e (to_other may) screen s =
+    (cells-replicate (length d.hidden) (space d) (cell-blank d.cursor.style s.2), s.0, s.2, (tt, tt), s.2, s.5, λ main. cc main)
+holds-step d e back screen s =
+    (s.1, cells-replicate (length d.cells) (blank plain) (cell-blank plain (tt, tt)), s.2, s.4, (tt, tt), s.5, λ main. (blank-all (length d.cells), refl))
+holds-step d e soften screen s = (s.0, s.1, (tt, tt), (tt, tt), s.4, inr (refl, refl), s.6)
+holds-step d e renew screen s = holds-new d.width d.height
+holds-step d e step screen s = s
 
-holds-put : (n c : ℕ) (d : Display) → is_shown c ≡ true → columns c ≡ n → 1 ≤ n → n ≤ 2 → Holds d → Holds (put n c d)
-unfolding put
-holds-put n c d good wide some few s =
-    holds-if (nat_lt d.width (d.cursor.column + n)) d (with_glyph n c (with_room n d)) s (holds-glyph n c (with_room n d) good wide some few (holds-room n d s))
+-- part by part, and as the record
+parts-of : (d : Display) → HasContents d → Holds d
+parts-of d s = (s.cells, s.hidden, s.cursor_colored, s.saved_colored, s.hidden_colored, s.margins, s.main)
 
-holds-marked : (c : ℕ) (d : Display) → IsMark c → IsWhole d.width d.cells → Holds d → Holds (marked c d)
-unfolding marked
-holds-marked c d is whole s =
-    holds-if (d.cursor.column == 0) d (with_cells (marked_before c (here d) d.cells) d) s
-    (holds-cells (marked_before c (here d) d.cells) d (cells-marked d.width c (here d) d.cells is whole s.0) s)
+of-parts : (d : Display) → Holds d → HasContents d
+of-parts d s = record { cells = s.0; hidden = s.1; cursor_colored = s.2; saved_colored = s.3; hidden_colored = s.4; margins = s.5; main = s.6 }
 
-shown_at : (c : ℕ) (d : Display) (t : Bool) → nat_eq (columns c) 0 ≡ t → is_shown c ≡ true → IsWhole d.width d.cells → Holds d
-    → Holds (if t then marked c d else put (columns c) c (wrapped (columns c) d))
-shown_at c d true none good whole s = holds-marked c d (good, eqb-true (columns c) 0 none) whole s
-shown_at c d false other good whole s =
-    let some : columns c ≡ 0 → ⊥ = eqb-false (columns c) 0 other in
-    holds-put (columns c) c (wrapped (columns c) d) good refl (omega arith) (columns-few c _ _ refl refl) (holds-wrapped (columns c) d s)
+pub contents-new : (width height : ℕ) → HasContents (fresh width height)
+contents-new width height = of-parts (fresh width height) (holds-new width height)
 
-pub holds-shown : (c : ℕ) (d : Display) → is_shown c ≡ true → IsWhole d.width d.cells → Holds d → Holds (shown c d)
-unfolding shown
-holds-shown c d good whole s = shown_at c d _ refl good whole s
+pub contents-after : (call : Call) (s : State) → IsScreen s.display → HasContents s.display → HasContents (after call s).display
+contents-after call s screen is = of-parts (after call s).display
+    ((walk Any ⊤ (λ d. IsScreen d × Holds d) (λ d e step s. (kept-step Any ⊤ d e step s.0, holds-step d e step s.0 s.1)) s.display.shown (λ history. history) as-it-is
+    call s (any-call call) (any-repeat s.last)).keeps (screen, parts-of s.display is)).1
+
+pub contents-after_all : (calls : List Call) (s : State) → IsScreen s.display → HasContents s.display → HasContents (after_all calls s).display
+contents-after_all [] s screen is = is
+contents-after_all (call ∷ calls) s screen is = contents-after_all calls (after call s) (kept-after call s screen) (contents-after call s screen is)

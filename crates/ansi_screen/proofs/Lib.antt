@@ -10,6 +10,7 @@ pub mod ShiftLemmas
 pub mod PairLemmas
 pub mod WholeLemmas
 pub mod KeptLemmas
+pub mod Walk
 pub mod KeptCalls
 pub mod RangeLemmas
 pub mod TableLemmas
@@ -34,7 +35,6 @@ pub mod SwitchLemmas
 pub mod FollowingLemmas
 pub mod ColorLemmas
 pub mod ContentLemmas
-pub mod ContentCalls
 pub mod HistoryLemmas
 pub mod HandedLemmas
 mod EqualityLemmas

@@ -22,8 +22,8 @@ use Rattle.ansi_screen.specs.Laws.{carriage_return, erase_rest, printing, text_c
 use Rattle.ansi_screen.proofs.PairLemmas.{length-cut, length-run, length-within, length-on, right-on, within-place, clear-cut, clear-cut_other}
 use Rattle.ansi_screen.proofs.WholeLemmas.{length-glyph, right-same, length-marked, length-going_on}
 use Rattle.ansi_screen.proofs.RangeLemmas.{no_column-below, two_columns-below}
-use Rattle.ansi_screen.proofs.KeptLemmas.{kept-above_at, kept-column, kept-going_on, kept-inserted, row_end-inside}
-use Rattle.ansi_screen.proofs.KeptCalls.{columns-few, kept-printed}
+use Rattle.ansi_screen.proofs.KeptLemmas.{kept-above_at, kept-column, kept-going_on, row_end-inside}
+use Rattle.ansi_screen.proofs.KeptCalls.{columns-few, kept-inserted, kept-printed}
 
 -- lists of cells that differ between two places at most
 pub record Same (start end : ℕ) (xs ys : List Cell) : Type 0 where

@@ -22,7 +22,7 @@ use Rattle.ansi_screen.specs.Leaving.{unkept}
 use Rattle.ansi_screen.specs.Reachable.{IsScreen, HasContents}
 use Rattle.ansi_screen.specs.Display.{Picture, picture, forgotten, IsSized}
 use Rattle.ansi_screen.proofs.KeptCalls.{kept-after_all}
-use Rattle.ansi_screen.proofs.ContentCalls.{contents-after_all}
+use Rattle.ansi_screen.proofs.ContentLemmas.{contents-after_all}
 use Rattle.ansi_screen.proofs.PictureLemmas.{same-after_all, unkept-after_all}
 use Rattle.ansi_screen.proofs.SizeLemmas.{HasSize, sized-after_all}
 use Rattle.ansi_screen.proofs.LawLemmas.{after_all-append, Shows-only}

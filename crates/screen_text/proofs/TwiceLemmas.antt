@@ -27,8 +27,7 @@ use Rattle.ansi_screen.specs.Leaving.{rows_left, all_left}
 use Rattle.ansi_screen.proofs.LeavingTable.{leaving, before_escape, before_leaving}
 use Rattle.ansi_screen.proofs.LeftLemmas.{rows_left-is}
 use Rattle.ansi_screen.proofs.CharacterLemmas.{PrintsCharacter, AreGoodMarks, IsGoodCell, AreGood, IsGoodState, good-new, good-after_all, good-left}
-use Rattle.ansi_screen.proofs.ContentLemmas.{cells-take, cells-drop, cells-at}
-use Rattle.ansi_screen.proofs.ContentCalls.{contents-new, contents-after, contents-after_all}
+use Rattle.ansi_screen.proofs.ContentLemmas.{cells-take, cells-drop, cells-at, contents-new, contents-after, contents-after_all}
 use Rattle.ansi_screen.proofs.KeptCalls.{kept-after}
 use Rattle.screen_text.specs.Lines.{row_text, showing}
 use Rattle.screen_text.specs.Shown.{given_all, shown_text}

@@ -2,7 +2,7 @@
 use Rattle.std.proofs.Common.{sym, subst}
 use Rattle.ansi_screen.specs.After.{State}
 use Rattle.ansi_screen.specs.Reachable.{HasContents}
-use Rattle.ansi_screen.proofs.ContentCalls.{contents-new, contents-after, contents-after_all}
+use Rattle.ansi_screen.proofs.ContentLemmas.{contents-new, contents-after, contents-after_all}
 use Rattle.ansi_screen.proofs.laws.contents.Goals as goal
 
 pub returns-clause-new : goal.returns-clause-new

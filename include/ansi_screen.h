@@ -222,9 +222,9 @@ bool ansi_screen_html(ansi_screen *screen, unsigned char styling, unsigned char 
  * cells: so a screen that was fed a drawing or an update, which leave them out, is not equal to one that has some. */
 bool ansi_screen_equal(ansi_screen *one, ansi_screen *other);
 
-/* Rows that leave the screen are those that scroll off at its top, where the upper margin is the first row; and where ED 2 or
- * RIS takes away all of the main screen, its rows up to the last in which something was printed. Not those that are deleted
- * or erased otherwise, nor those of the alternate screen. Of as many as were asked for the last are kept. A reset
+/* Rows that leave the screen are those that scroll off at its top, where the upper margin is the first row; and where ED 2,
+ * ED 0 at its first cell or RIS takes away all of the main screen, its rows up to the last in which something was printed. Not
+ * those that are deleted or erased otherwise, nor those of the alternate screen. Of as many as were asked for the last are kept. A reset
  * (ansi_screen_reset) forgets them. */
 
 /* Writes how many rows are kept, and how many have left since the screen was opened or reset. */

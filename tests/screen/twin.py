@@ -183,7 +183,8 @@ class Display:
         return self.hidden if self.is_alternate else self.cells
 
     def erase_display(self, kind):
-        if kind == 2 and not self.is_alternate:
+        erases_all = kind == 2 or (kind == 0 and self.cursor.row == 0 and self.cursor.column == 0)
+        if erases_all and not self.is_alternate:
             self.left += self.printed(self.cells)
         self.erase(kind, 0, len(self.cells))
 

@@ -1,7 +1,7 @@
 -- Which rows leave by a call, said call by call: how many, and of which display the first ones.
 use Rattle.std.proofs.Common.{◌≡◌, ℕ, zero, suc, ◌+◌, ◌-◌, ◌*◌, ◌≤◌, Bool, true, false, List, [], ◌∷◌, ◌++◌, length, take, drop, refl, ap, sym, ◌∙◌, subst, inl, inr, add-one, append_assoc, append-nil, length-append, arith}
 use Rattle.std.specs.Prelude.{min, nat_lt, nat_le, ◌==◌, ◌&&◌, ◌||◌, not, if◌then◌else◌, Option, None, Some}
-use Rattle.std.proofs.lemmas.Bool.{eqb-true, cases_Bool, leb-true, le-ltb}
+use Rattle.std.proofs.lemmas.Bool.{and_parts, eqb-true, cases_Bool, leb-true, le-ltb}
 use Rattle.anstyle_parse.specs.Stream.Call.{Call, print, execute, hook, put as put_byte, unhook, osc_dispatch, csi_dispatch, esc_dispatch}
 use Rattle.ansi_screen.specs.declared.cell.Cell.{Cell}
 use Rattle.ansi_screen.specs.declared.function.Edit.{Edit}
@@ -12,7 +12,7 @@ use Rattle.ansi_screen.specs.declared.function.Setting.TheVariants.{Rendition, S
 use Rattle.ansi_screen.specs.Display.{Display, row_cells, row_start, row_end}
 use Rattle.ansi_screen.specs.History.{Kept, nothing_kept, keep_last, kept_after, kept_after_all, with_left}
 use Rattle.ansi_screen.specs.Moves.{to_column, settled, tabbed}
-use Rattle.ansi_screen.specs.Edits.{row_going_on, erased_display, erased_line, erased_characters, deleted_characters, inserted_characters, index, swapped, main_screen, kept_by_scroll, kept_by_erase, scrolled_up, scrolled_down, reverse_index, rows_up, row_above_ended, erases_from_row, erases_first}
+use Rattle.ansi_screen.specs.Edits.{row_going_on, erased_display, erased_line, erased_characters, deleted_characters, inserted_characters, index, swapped, main_screen, kept_by_scroll, kept_by_erase, erases_all, scrolled_up, scrolled_down, reverse_index, rows_up, row_above_ended, erases_from_row, erases_first}
 use Rattle.ansi_screen.specs.Text.{is_unprinted, used, used_rows, first_rows, printed_count}
 use Rattle.ansi_screen.specs.Widths.{is_shown, columns}
 use Rattle.ansi_screen.specs.Print.{wrapped, put, marked, shown, drawn, draws, printed, printed_again}
@@ -32,7 +32,7 @@ leaving_up n d = if d.top == 0 && not d.is_alternate then min n d.bottom else 0
 unfoldable pub leaving_by_index : Display → ℕ
 leaving_by_index d = if d.cursor.row + 1 == d.bottom then leaving_up 1 d else 0
 
--- LF, VT, FF; IND, NEL, and RIS; SU, and ED 2
+-- LF, VT, FF; IND, NEL, and RIS; SU, and ED of all
 unfoldable pub leaving_by_control : ℕ → Display → ℕ
 leaving_by_control byte d = if byte == 0x0A || byte == 0x0B || byte == 0x0C then leaving_by_index d else 0
 
@@ -46,7 +46,7 @@ leaving_by_escape (mark ∷ marks) final d = 0
 unfoldable pub leaving_by_function : Function → List (List ℕ) → Display → ℕ
 leaving_by_function (Sets ScrollUp) groups d = leaving_up (count (first_of groups)) d
 leaving_by_function (Edits EraseInDisplay) groups d =
-    if first_of groups == 2 && not d.is_alternate then printed_count d else 0
+    if erases_all (first_of groups) (settled d) && not d.is_alternate then printed_count d else 0
 leaving_by_function function groups d = 0
 
 unfoldable pub leaving_by_sequence : List (List ℕ) → List ℕ → ℕ → Display → ℕ
@@ -249,13 +249,14 @@ designated-keeps (mark ∷ []) final d = none-left d d (with_charset mark final 
 designated-keeps (mark ∷ other ∷ others) final d = sym (with_left-none d.history)
 
 -- control sequences
-erase-at : (t : Bool) (kind : ℕ) (d : Display) → (kind == 2 && not d.is_alternate) ≡ t
-    → kept_by_erase kind d ≡ with_left (first_rows (if kind == 2 && not d.is_alternate then printed_count d else 0) d) d.history
+erase-at : (t : Bool) (kind : ℕ) (d : Display) → (erases_all kind d && not d.is_alternate) ≡ t
+    → kept_by_erase kind d ≡ with_left (first_rows (if erases_all kind d && not d.is_alternate then printed_count d else 0) d) d.history
 unfolding kept_by_erase
 erase-at true kind d is = rw is refl
 erase-at false kind d is = rw is (sym (with_left-none d.history))
 
-erased-keeps : (kind : ℕ) (d : Display) → Keeps (if kind == 2 && not d.is_alternate then printed_count d else 0) d d (erased_display kind d)
+erased-keeps : (kind : ℕ) (d : Display)
+    → Keeps (if erases_all kind d && not d.is_alternate then printed_count d else 0) d d (erased_display kind d)
 unfolding erased_display
 erased-keeps kind d =
     stays-part kind 0 (length d.cells) (row_above_ended (erases_from_row kind d) (record d { history = kept_by_erase kind d }))
@@ -266,17 +267,24 @@ settled-used : (n : ℕ) (d : Display) → used_rows is_unprinted n (settled d) 
 settled-used zero d = refl
 settled-used (suc n) d = ap (λ k. if used is_unprinted (row_cells n d) == 0 then k else suc n) (settled-used n d)
 
-two-known : is_known EraseInDisplay 2 ≡ true
-unfolding is_known
-two-known = refl
+all-known : (kind : ℕ) (d : Display) → erases_all kind d ≡ true → is_known EraseInDisplay kind ≡ true
+unfolding erases_all is_known
+all-known kind d all = elim (cases_Bool (kind == 2)) [
+  | inl is ↦ rw (eqb-true kind 2 is) refl
+  | inr is ↦
+      let first : Bool = d.cursor.row == 0 && d.cursor.column == 0 in
+      let at : (kind == 0 && first) ≡ true = ap (λ b. b || (kind == 0 && first)) (sym is) ∙ all in
+      rw (eqb-true kind 0 (and_parts (kind == 0) first at).0) refl
+]
 
-known-at : (known all : Bool) (kind : ℕ) (d : Display) → is_known EraseInDisplay kind ≡ known → (kind == 2) ≡ all
-    → Keeps (if kind == 2 && not d.is_alternate then printed_count d else 0) d d (if known then erased_display kind (settled d) else d)
+known-at : (known all : Bool) (kind : ℕ) (d : Display) → is_known EraseInDisplay kind ≡ known → erases_all kind (settled d) ≡ all
+    → Keeps (if erases_all kind (settled d) && not d.is_alternate then printed_count d else 0) d d
+    (if known then erased_display kind (settled d) else d)
 known-at true all kind d known is =
     erased-keeps kind (settled d)
-    ∙ ap (λ n. with_left (first_rows (if kind == 2 && not d.is_alternate then n else 0) d) d.history) (settled-used d.height d)
+    ∙ ap (λ n. with_left (first_rows (if erases_all kind (settled d) && not d.is_alternate then n else 0) d) d.history) (settled-used d.height d)
 known-at false false kind d known is = rw is (sym (with_left-none d.history))
-known-at false true kind d known is = cc (ap (is_known EraseInDisplay) (eqb-true kind 2 is), known, two-known)
+known-at false true kind d known is = cc (all-known kind (settled d) is, known)
 
 edit-stays : (edit : Edit) (n : ℕ) (d : Display) → ((edit ≡ EraseInDisplay) → ⊥) → Stays d (edited edit n (settled d))
 unfolding edited erased_line erased_characters inserted_characters deleted_characters
@@ -411,7 +419,7 @@ module _ (most : ℕ) where
   unfolding leaving_by_function
   function-few (Edits InsertCharacters) groups d tall low = omega arith
   function-few (Edits EraseInDisplay) groups d tall low =
-      no-more (first_of groups == 2 && not d.is_alternate) (printed_count d) (printed-few d tall)
+      no-more (erases_all (first_of groups) (settled d) && not d.is_alternate) (printed_count d) (printed-few d tall)
   function-few (Edits EraseInLine) groups d tall low = omega arith
   function-few (Edits InsertLines) groups d tall low = omega arith
   function-few (Edits DeleteLines) groups d tall low = omega arith

@@ -8,7 +8,8 @@ use Rattle.ansi_screen.specs.declared.function.Function.{Function}
 use Rattle.ansi_screen.specs.declared.function.Function.TheVariants.{Edits, Moves, Sets, Nothing}
 use Rattle.ansi_screen.specs.declared.function.Setting.TheVariants.{Rendition, SetModes, ResetModes, Margins, ScrollUp, ScrollDown, ForwardTab, ClearStops, SaveCursor, RestoreCursor}
 use Rattle.ansi_screen.specs.Display.{Display, Picture}
-use Rattle.ansi_screen.specs.Edits.{row_going_on}
+use Rattle.ansi_screen.specs.Edits.{row_going_on, erases_all}
+use Rattle.ansi_screen.specs.Moves.{settled}
 use Rattle.ansi_screen.specs.After.{State, function_of, first_of, after, after_all}
 use Rattle.ansi_screen.specs.Text.{is_unprinted, used_rows, first_rows, printed_count}
 use Rattle.ansi_screen.specs.Edits.{swapped, main_screen}
@@ -47,10 +48,10 @@ module _ (p : Picture) (history : Option Kept) where
 
   function-since : (function : Function) (groups : List (List ℕ)) (d : Display)
       → leaving_by_function function groups (since d) ≡ leaving_by_function function groups d
-  unfolding leaving_by_function leaving_up
+  unfolding leaving_by_function leaving_up erases_all
   function-since (Edits InsertCharacters) groups d = refl
   function-since (Edits EraseInDisplay) groups d =
-      ap (λ n. if first_of groups == 2 && not d.is_alternate then n else 0) (used-since d.height d)
+      ap (λ n. if erases_all (first_of groups) (settled d) && not d.is_alternate then n else 0) (used-since d.height d)
   function-since (Edits EraseInLine) groups d = refl
   function-since (Edits InsertLines) groups d = refl
   function-since (Edits DeleteLines) groups d = refl

@@ -1,18 +1,18 @@
 -- Rows that change places, and parts of a grid's cells that become blank or other ones, row by row.
 use Rattle.std.proofs.Common.{◌≡◌, ◌≢◌, inl, inr, ℕ, zero, suc, ◌+◌, ◌-◌, ◌*◌, ◌<◌, ◌≤◌, Bool, true, false, ◌&&◌, List, [], ◌∷◌, ◌++◌, length, get_or, take, drop, refl, ap, ap₂, sym, ◌∙◌, subst, arith}
-use Rattle.std.specs.Prelude.{Option, ◌==◌, not, min, replicate, map, nat_lt, nat_eq, if◌then◌else◌}
+use Rattle.std.specs.Prelude.{Option, ◌==◌, ◌||◌, not, min, replicate, map, nat_lt, nat_eq, if◌then◌else◌}
 use Rattle.std.specs.List.{AllByRecursion}
 use Rattle.std.proofs.lemmas.List.{places, same_lists, take_at, drop_at, drop-drop, append_assoc, append-nil, length-append, length-take-le, length-drop, length-replicate, replicate-append-replicate, take-append-drop, take_all, drop_all, length-map, map-append, get_or-replicate, take-map, drop-map}
 use Rattle.std.proofs.lemmas.Grind.{flat_map-append}
 use Rattle.std.proofs.Math.Nat.{suc-mul, add-mul, mul-le-mul_right}
-use Rattle.std.proofs.lemmas.Bool.{cases_Bool, and_right, false≢true}
+use Rattle.std.proofs.lemmas.Bool.{and_parts, cases_Bool, and_right, false≢true}
 use borrow.Author.Tests.{eqb-true}
 use Rattle.ansi_style.specs.declared.style.Style.{Style}
 use Rattle.ansi_style.specs.Style.{plain}
 use Rattle.ansi_screen.specs.declared.cell.Cell.{Cell}
 use Rattle.ansi_screen.specs.Cells.{blank, cut, cell_at, is_right, going_on, within, change, erased, moved_back, moved_on}
 use Rattle.ansi_screen.specs.Display.{Display, row_start}
-use Rattle.ansi_screen.specs.Edits.{row_above_ended, with_cells, space, erased_part, erased_display, erases_from_row, kept_by_erase}
+use Rattle.ansi_screen.specs.Edits.{row_above_ended, with_cells, space, erased_cells, erased_part, erased_display, erases_all, erases_from_row, kept_by_erase}
 use Rattle.ansi_screen.specs.Following.{copied}
 use Rattle.ansi_screen.specs.Grid.{Grid, with_list, flat, in_order, AreRows, times, IsOrder}
 use Rattle.ansi_screen.specs.History.{Kept, with_left}
@@ -517,17 +517,47 @@ erased-alike : (space : Cell) (cells others : List Cell) → length others ≡ l
     → change 0 (length others) (erased space) others ≡ change 0 (length cells) (erased space) cells
 erased-alike space cells others same = sym (all-erased space others) ∙ (ap (λ n. replicate n space) same ∙ all-erased space cells)
 
+-- In the first row there is no row above; and from the first cell on all is erased.
+none-above : (b t : Bool) (ended cells : List Cell) → t ≡ false → (if b && t then ended else cells) ≡ cells
+none-above true t ended cells is = rw is refl
+none-above false t ended cells is = refl
+
+from-home : (d : Display) (above : List Cell) → d.cursor.row ≡ 0 → d.cursor.column ≡ 0 → above ≡ d.cells
+    → erased_part 0 0 (length d.cells) (with_cells above d) ≡ erased_cells 0 (length d.cells) d
+unfolding erased_part
+from-home d above row column same =
+    let at : d.cursor.row * d.width + d.cursor.column ≡ 0 = rw (row, column) (omega arith) in
+    ap₂ (λ n l. erased_cells n (length d.cells) (with_cells l d)) at same
+
+-- ED that erases all of the screen does so.
+whole-part : (kind : ℕ) (d : Display) → erases_all kind d ≡ true
+    → erased_part kind 0 (length d.cells) (row_above_ended (erases_from_row kind d) d) ≡ erased_cells 0 (length d.cells) d
+unfolding erases_all erased_part erases_from_row
+whole-part kind d all = elim (cases_Bool (kind == 2)) [
+  | inl is ↦ rw (eqb-true kind 2 is) refl
+  | inr is ↦
+      let first : Bool = d.cursor.row == 0 && d.cursor.column == 0 in
+      let at : (kind == 0 && first) ≡ true = ap (λ b. b || (kind == 0 && first)) (sym is) ∙ all in
+      let parts : ((kind == 0) ≡ true) × (first ≡ true) = and_parts (kind == 0) first at in
+      let home : ((d.cursor.row == 0) ≡ true) × ((d.cursor.column == 0) ≡ true) = and_parts _ _ parts.1 in
+      let row : d.cursor.row ≡ 0 = eqb-true d.cursor.row 0 home.0 in
+      rw (eqb-true kind 0 parts.0)
+      (from-home d _ row (eqb-true d.cursor.column 0 home.1) (none-above _ _ _ d.cells (ap (λ n. nat_lt 0 n) row)))
+]
+
 -- All is erased, whatever stood there.
-pub erased-out : (kind : ℕ) (d e : Display) (history : Option Kept) → kind ≡ 2 → e ≡ record d { cells = e.cells; history = history }
-    → length e.cells ≡ length d.cells
+pub erased-out : (kind : ℕ) (d e : Display) (history : Option Kept) → erases_all kind d ≡ true
+    → e ≡ record d { cells = e.cells; history = history } → length e.cells ≡ length d.cells
     → erased_part kind 0 (length e.cells) (row_above_ended (erases_from_row kind e) e)
     ≡ erased_part kind 0 (length d.cells) (row_above_ended (erases_from_row kind d) (record d { history = history }))
-unfolding erased_part erases_from_row
+unfolding erases_all erases_from_row
 erased-out kind d e history all is same =
-    rw all (ap (λ (f : Display). with_cells (change 0 (length e.cells) (erased (space f)) e.cells) f) is
-    ∙ ap (λ l. with_cells l (record d { history = history })) (erased-alike (space d) d.cells e.cells same))
+    whole-part kind e (ap (λ (f : Display). erases_all kind f) is ∙ all)
+    ∙ (ap (λ (f : Display). with_cells (change 0 (length e.cells) (erased (space f)) e.cells) f) is
+    ∙ (ap (λ l. with_cells l (record d { history = history })) (erased-alike (space d) d.cells e.cells same)
+    ∙ sym (whole-part kind (record d { history = history }) all)))
 
--- ED 2 on the main screen: the rows left before; and any other ED
+-- ED of all of the main screen: the rows left before; and any other ED
 abbrev in-place : ℕ → Display → Display
 in-place kind f = erased_part kind 0 (length f.cells) (row_above_ended (erases_from_row kind f) f)
 
@@ -535,16 +565,16 @@ abbrev taken-away : ℕ → Bool → Display → Display
 taken-away kind b d = erased_part kind 0 (length d.cells)
     (row_above_ended (erases_from_row kind d) (record d { history = if b then with_left (printed_rows d) d.history else d.history }))
 
-pub display-out : (kind : ℕ) (d f e new : Display) → kind ≡ 2 → d.is_alternate ≡ false → f ≡ e
+pub display-out : (kind : ℕ) (d f e new : Display) → erases_all kind d ≡ true → d.is_alternate ≡ false → f ≡ e
     → e ≡ record d { cells = e.cells; history = with_left (printed_rows d) d.history } → length e.cells ≡ length d.cells
     → new ≡ erased_part kind 0 (length f.cells) (row_above_ended (erases_from_row kind f) f) → new ≡ erased_display kind d
 unfolding erased_display kept_by_erase
 display-out kind d f e new all main moved is same put =
-    let here : (kind == 2 && not d.is_alternate) ≡ true = rw (all, main) refl in
+    let here : (erases_all kind d && not d.is_alternate) ≡ true = rw (all, main) refl in
     put ∙ (ap (in-place kind) moved ∙ (erased-out kind d e (with_left (printed_rows d) d.history) all is same
     ∙ ap (λ b. taken-away kind b d) (sym here)))
 
-display-kept : (kind : ℕ) (d f new : Display) → (kind == 2 && not d.is_alternate) ≡ false → f ≡ d
+display-kept : (kind : ℕ) (d f new : Display) → (erases_all kind d && not d.is_alternate) ≡ false → f ≡ d
     → new ≡ erased_part kind 0 (length f.cells) (row_above_ended (erases_from_row kind f) f) → new ≡ erased_display kind d
 unfolding erased_display kept_by_erase
 display-kept kind d f new none same put =
@@ -556,14 +586,11 @@ none-here false alternate is = refl
 
 pub display-hidden : (kind : ℕ) (d f new : Display) → d.is_alternate ≡ true → f ≡ d
     → new ≡ erased_part kind 0 (length f.cells) (row_above_ended (erases_from_row kind f) f) → new ≡ erased_display kind d
-display-hidden kind d f new is same put = display-kept kind d f new (none-here (kind == 2) d.is_alternate is) same put
+display-hidden kind d f new is same put = display-kept kind d f new (none-here (erases_all kind d) d.is_alternate is) same put
 
-pub display-part : (kind : ℕ) (d f new : Display) → kind ≢ 2 → f ≡ d
+pub display-part : (kind : ℕ) (d f new : Display) → erases_all kind d ≡ false → f ≡ d
     → new ≡ erased_part kind 0 (length f.cells) (row_above_ended (erases_from_row kind f) f) → new ≡ erased_display kind d
-display-part kind d f new part same put = elim (cases_Bool (kind == 2)) [
-  | inl is ↦ absurd (part (eqb-true kind 2 is))
-  | inr is ↦ display-kept kind d f new (ap (λ b. b && not d.is_alternate) is) same put
-]
+display-part kind d f new part same put = display-kept kind d f new (ap (λ b. b && not d.is_alternate) part) same put
 
 pub same-long : (g other : Grid) → length g.cells ≡ g.height * g.width → length other.cells ≡ other.height * other.width
     → g.width ≡ other.width → g.height ≡ other.height → length other.cells ≡ length g.cells

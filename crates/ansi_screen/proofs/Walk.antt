@@ -22,7 +22,7 @@ use Rattle.ansi_screen.specs.Display.{Display, Picture, here, row_start, row_end
 use Rattle.ansi_screen.specs.History.{Kept, with_left}
 use Rattle.ansi_screen.specs.Links.{links_after, link_after}
 use Rattle.ansi_screen.specs.Moves.{to_row, to_column, settled, up, down, to_line, line_of, to_position, tabbed, tabbed_back, stop_before, column_of, with_stop, cleared_stops}
-use Rattle.ansi_screen.specs.Edits.{with_cells, space, row_going_on, erased_cells, erased_part, erased_display, erased_line, erased_characters, deleted_characters, inserted_characters, rows_up, rows_down, scrolled_up, scrolled_down, is_in_margins, inserted_lines, deleted_lines, index, reverse_index, renewed, swapped, main_screen, row_above_ended, erases_from_row, erases_first, kept_by_erase, kept_by_scroll}
+use Rattle.ansi_screen.specs.Edits.{with_cells, space, row_going_on, erased_cells, erased_part, erased_display, erased_line, erased_characters, deleted_characters, inserted_characters, rows_up, rows_down, scrolled_up, scrolled_down, is_in_margins, inserted_lines, deleted_lines, index, reverse_index, renewed, swapped, main_screen, row_above_ended, erases_from_row, erases_first, kept_by_erase, erases_all, kept_by_scroll}
 use Rattle.ansi_screen.specs.Text.{first_rows, printed_rows}
 use Rattle.ansi_screen.specs.Widths.{is_shown, columns}
 use Rattle.ansi_screen.specs.Print.{wrapped, with_room, with_glyph, put, marked, shown, draws, printed, printed_again}
@@ -228,15 +228,15 @@ module _ (prints : ℕ → Type 0) (switches : Type 0) (P : Display → Type 0) 
   walk-above begun d = walk-above_at (begun && nat_lt 0 d.cursor.row) d
 
   walk-erased_display : (kind : ℕ) (d : Display) → IsSettled d → Walk (erased_display kind) d
-  unfolding erased_display kept_by_erase erases_from_row
+  unfolding erased_display kept_by_erase erases_all erases_from_row
   walk-erased_display kind d inside =
       let left : Display = record d { history = kept_by_erase kind d } in
       let ended : Display = row_above_ended (erases_from_row kind d) left in
       next (erased_part kind 0 (length d.cells))
       (next (row_above_ended (erases_from_row kind d))
       (walk-left (kept_by_erase kind) d
-      (ap (λ rows. if kind == 2 && not d.is_alternate then with_left rows (other d.history) else other d.history) (same-rows d)
-      ∙ same-kept (kind == 2 && not d.is_alternate) (printed_rows d) d.history))
+      (ap (λ rows. if erases_all kind d && not d.is_alternate then with_left rows (other d.history) else other d.history) (same-rows d)
+      ∙ same-kept (erases_all kind d && not d.is_alternate) (printed_rows d) d.history))
       (walk-above (erases_from_row kind d) left))
       (walk-part kind 0 (length d.cells) ended
       (λ s.

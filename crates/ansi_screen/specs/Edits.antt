@@ -1,13 +1,15 @@
 -- Edits of cells: each is a row of this table, over the one form of `Cells`.
 --
--- Rows leave the main screen where they move up past its first row, and where all of it is taken away (ED 2, RIS), up to
--- the last in which something was printed. None leaves by DL or another ED, nor from the alternate screen.
+-- Rows leave the main screen where they move up past its first row, and where all of it is taken away (ED 2, ED 0 at its
+-- first cell, RIS), up to the last in which something was printed. None leaves by DL or another ED, nor from the alternate
+-- screen.
 --
 -- Sources: xterm's ctlseqs; ECMA-48, 8.3 (ED, EL, ECH, ICH, DCH, IL, DL, SU, SD); for IND, RI, RIS
 -- and DECSTBM the VT510 manual. For rows that leave: xterm(1), "-sl" (lines scrolled off the top of the window are saved);
 -- its ctlseqs, 1049 (nothing of the alternate screen is saved). Before ED 2 and RIS tmux saves the rows up to the last
--- that is used (`grid_view_clear_history`), and before ED 2 VTE does so (`clear_screen`); xterm does not.
-use Rattle.std.specs.Prelude.{ℕ, ◌+◌, ◌-◌, ◌*◌, min, Option, Bool, true, false, ◌&&◌, not, ◌==◌, nat_lt, nat_le, List, length, if◌then◌else◌}
+-- that is used (`grid_view_clear_history`), and before ED 0 at the first cell too (`screen_write_clearendofscreen`), as `clear`
+-- erases where a terminal's description has no ED 2; before ED 2 VTE does so (`clear_screen`); xterm does not.
+use Rattle.std.specs.Prelude.{ℕ, ◌+◌, ◌-◌, ◌*◌, min, Option, Bool, true, false, ◌&&◌, ◌||◌, not, ◌==◌, nat_lt, nat_le, List, length, if◌then◌else◌}
 use Rattle.ansi_screen.specs.declared.cell.Cell.{Cell}
 use Rattle.ansi_screen.specs.Cells.{blank, going_on, within, change, erased, moved_back, moved_on, deleted, inserted}
 use Rattle.ansi_screen.specs.Display.{Display, fresh, here, row_start, row_end}
@@ -46,9 +48,13 @@ erases_from_row kind d = kind == 0 && d.cursor.column == 0
 unfoldable pub erases_first : ℕ → Display → Bool
 erases_first kind d = if kind == 0 then d.cursor.column == 0 else true
 
--- ED 2 takes away all of the screen that shows.
+-- whether ED erases all of the screen: 2, and 0 from its first cell on
+unfoldable pub erases_all : ℕ → Display → Bool
+erases_all kind d = kind == 2 || (kind == 0 && (d.cursor.row == 0 && d.cursor.column == 0))
+
+-- What takes away all of the screen that shows.
 unfoldable pub kept_by_erase : ℕ → Display → Option Kept
-kept_by_erase kind d = if kind == 2 && not d.is_alternate then with_left (printed_rows d) d.history else d.history
+kept_by_erase kind d = if erases_all kind d && not d.is_alternate then with_left (printed_rows d) d.history else d.history
 
 unfoldable pub erased_display : ℕ → Display → Display
 erased_display kind d =

@@ -85,9 +85,9 @@ impl Scrollable {
 /// A screen, and a taker to which each row of the main screen is handed that leaves it: after the call by which it
 /// does, in order, each once. A row that autowrap left is handed on as one that goes on.
 ///
-/// Such rows leave by LF, VT, FF, IND, NEL, SU and autowrap, where the upper margin is the first row. By ED 2 and RIS,
-/// which take away all of the main screen, its rows leave up to the last in which something was printed. No row leaves
-/// by DL or another ED, which take away what they are told to, nor from the alternate screen.
+/// Such rows leave by LF, VT, FF, IND, NEL, SU and autowrap, where the upper margin is the first row. By ED 2, ED 0 at the
+/// first cell, and RIS, which take away all of the main screen, its rows leave up to the last in which something was
+/// printed. No row leaves by DL or another ED, which take away what they are told to, nor from the alternate screen.
 #[derive(Drop)]
 pub struct Scrolling<R> {
     screen: Screen,

@@ -14,7 +14,7 @@ use Rattle.ansi_screen.specs.Display.{Display, fresh, here, row_end, home, lette
 use Rattle.ansi_screen.specs.History.{Kept, with_left}
 use Rattle.ansi_screen.specs.Text.{printed_rows}
 use Rattle.ansi_screen.specs.Moves.{to_position, settled}
-use Rattle.ansi_screen.specs.Edits.{with_cells, erased_cells, erased_characters, erases_from_row, kept_by_erase, erased_display, erased_part}
+use Rattle.ansi_screen.specs.Edits.{with_cells, erased_cells, erased_characters, erases_all, erases_from_row, kept_by_erase, erased_display, erased_part}
 use Rattle.ansi_screen.specs.Widths.{is_shown, columns}
 use Rattle.ansi_screen.specs.Print.{wrapped, with_room, with_glyph, put, marked, shown, draws, printed}
 use Rattle.ansi_screen.specs.Modes.{with_private_mode, with_origin}
@@ -172,7 +172,7 @@ none-kept true rows history none = rw none refl
 none-kept false rows history none = refl
 
 erase-keeps : (d : Display) → d.history ≡ None → kept_by_erase 2 d ≡ d.history
-unfolding kept_by_erase
+unfolding kept_by_erase erases_all
 erase-keeps d none = none-kept (not d.is_alternate) (printed_rows d) d.history none
 
 pub after-clear : (s : State) → s.display.cursor.column < s.display.width → s.display.history ≡ None

@@ -19,7 +19,7 @@ pub use recording::ShownSize;
 pub use rows::{TextRows, WriteRows};
 
 /// Writes what a screen showed of all bytes that the reader gives, in UTF-8: each row of the main screen as it scrolls
-/// off at the top, or is erased with all of it (ED 2, RIS), and at the end the rows that still show; where the
+/// off at the top, or is erased with all of it (ED, RIS), and at the end the rows that still show; where the
 /// alternate screen shows then, those of the main screen first.
 ///
 /// A row that autowrap left and the next one are one line. Cells at a row's end where nothing was printed, or

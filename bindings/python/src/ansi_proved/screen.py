@@ -191,7 +191,7 @@ class _Memory:
 
 
 class History(Sequence):
-    """The last rows that left a screen, at its top or erased with all of it (ED 2, RIS), the oldest first: a sequence of lists of cells.
+    """The last rows that left a screen, at its top or erased with all of it (ED 2, ED 0 at its first cell, RIS), the oldest first: a sequence of lists of cells.
 
     It goes on as the screen does: what left since is at its end, and what another thread feeds moves the numbers of the rows. Rows of
     one moment are those of a slice (`history[:]`), of `display` and of `text()`, or of a copy of the screen.

@@ -5,12 +5,12 @@ ghost use Rattle.ansi_screen.specs.Display.{here, row_start, row_end};
 ghost use Rattle.ansi_screen.specs.Moves.{settled};
 ghost use Rattle.ansi_screen.specs.History.{with_left};
 ghost use Rattle.ansi_screen.specs.Text.{first_rows, printed_rows};
-ghost use Rattle.ansi_screen.specs.Edits.{with_cells, space, erased_cells, row_going_on, row_above_ended, erases_from_row, erases_first, erased_part, erased_display, erased_line, erased_characters, deleted_characters, inserted_characters, rows_up, rows_down, swapped, scrolled_up, scrolled_down, inserted_lines, deleted_lines, index, reverse_index};
+ghost use Rattle.ansi_screen.specs.Edits.{with_cells, space, erased_cells, row_going_on, row_above_ended, erases_all, erases_from_row, erases_first, erased_part, erased_display, erased_line, erased_characters, deleted_characters, inserted_characters, rows_up, rows_down, swapped, scrolled_up, scrolled_down, inserted_lines, deleted_lines, index, reverse_index};
 
 use super::Display;
 use crate::text::LeftOut;
 
-/// The number of ED that erases all of a screen.
+/// The number of ED that erases all of a screen, wherever the cursor is.
 const ALL: u16 = 2;
 
 impl Display {
@@ -32,12 +32,20 @@ impl Display {
         kind == 0 && self.cursor.column == 0
     }
 
+    /// Whether ED erases all of the screen, from its first cell on.
+    #[tactic(auto, unfolding(crate::specs::Edits::erases_all))]
+    fn erases_all(&self, kind: u16) -> bool
+        ensures { result ≡ erases_all kind self.now }
+    {
+        kind == ALL || (kind == 0 && (self.cursor.row == 0 && self.cursor.column == 0))
+    }
+
     /// ED
     pub(super) fn erase_display(&mut self, kind: u16)
         requires { self.old.cursor.column < self.old.width }
         ensures { self.new ≡ erased_display kind self.old }
     {
-        if kind == ALL && !self.is_alternate {
+        if self.erases_all(kind) && !self.is_alternate {
             self.hand_out_printed();
         }
         self.erase_in_place(kind);

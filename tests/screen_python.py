@@ -210,12 +210,13 @@ def closed_cases(ansi):
     for error, said, call in words:
         yield "%s: %s" % (error.__name__, said), unlike(error, said, call)
     screen.close()
-    reads = ["text", "cells", "display", "draw", "to_html", "changed", "changes", "cursor", "style", "modes", "copy", "reset", "__str__"]
+    reads = ["text", "cells", "display", "draw", "to_html", "changed", "changes", "cursor", "style", "modes", "copy", "reset"]
     reads = [(name, lambda name=name: it() if callable(it := getattr(screen, name)) else it) for name in reads]
     reads += [("row", lambda: screen.row(0)), ("cell", lambda: screen.cell(0, 0)), ("link", lambda: screen.link(1)), ("==", lambda: screen == screen)]
     reads += [("update", lambda: screen.update(screen)), ("history", lambda: len(screen.history)), ("joined", lambda: screen.text(joined=True))]
     for name, call in reads:
         yield "a closed screen says so: %s" % name, unlike(ValueError, "the screen is closed", call)
+    yield "a closed screen is printed", None if str(screen) == "<Screen, closed>" else "it is %r" % str(screen)
 
 
 def unlike(error, said, call):

@@ -11,6 +11,7 @@ import subprocess
 import sys
 import tempfile
 import threading
+import typing
 import unittest
 
 import ansi_proved
@@ -190,6 +191,24 @@ class Calls(unittest.TestCase):
             self.assertEqual(found, wanted)
             self.assertEqual([type(it) for it in found], [type(it) for it in wanted])
         self.assertEqual(pickle.loads(pickle.dumps(wanted)), wanted)
+        for size in (1, 3, len(stream)):
+            fed = ansi_proved.Events()
+            parts = [fed.feed(stream[at : at + size]) for at in range(0, len(stream), size)]
+            self.assertEqual([it for part in parts for it in part], wanted)
+            self.assertEqual({type(part) for part in parts}, {list})
+
+    def test_pieces_that_come_one_by_one(self):
+        one, other = ansi_proved.Events(), ansi_proved.Events()
+        self.assertEqual(one.feed("\x1b[3"), [])
+        self.assertEqual(other.feed(b"1m\xe2"), [Text("1m")])
+        self.assertEqual((one.feed("1mA"), one.feed(b"")), ([Csi(((31,),), "", False, "m"), Text("A")], []))
+        self.assertEqual(other.feed(b"\x82\xac"), [Text("\u20ac")])
+        for wrong in (None, 1, ["a"]):
+            with self.assertRaisesRegex(TypeError, "^a piece is str, bytes, bytearray or memoryview, and not "):
+                one.feed(wrong)
+        large = b"\x1b[1mx" * 50_000
+        self.assertEqual(one.feed(large), list(ansi_proved.events(large)))
+        self.assertEqual(typing.get_args(ansi_proved.Event), (Text, Execute, Hook, Put, Unhook, Osc, Csi, Esc))
 
     def test_what_a_piece_leads_to_comes_before_the_next_is_asked_for(self):
         calls = {

@@ -1,7 +1,7 @@
 //! Strips terminal output of its escapes, shows it as HTML, or reads it as events, by the proved library.
 //!
 //! [`strip`], [`strip_lf`], [`strip_safe`] and [`to_html`] take the whole, [`Stripper`], [`SafeStripper`] and [`Converter`] a
-//! stream that comes in pieces; [`events`] takes pieces, and is an iterator.
+//! stream that comes in pieces; [`events`] takes pieces, [`events_of`] a whole, and both are iterators.
 //!
 //! ```
 //! use ansi_proved::{strip, strip_safe, to_html, Event, Styling};
@@ -20,9 +20,10 @@
 //! ```
 //!
 //! With the feature `screen` there is a screen of a terminal too: `screen::Screen`, of a library of its own. With the
-//! feature `std` all are writers: `io::StripWriter`, `io::SafeWriter`, `io::HtmlWriter` and `screen::Screen`.
+//! feature `std`, which is on unless `default-features = false` says otherwise, all are writers: `io::StripWriter`,
+//! `io::SafeWriter`, `io::HtmlWriter` and `screen::Screen`.
 //!
-//! What is not called is not linked. No `std` is needed, but an allocator: `Stripper`, `SafeStripper` and `Converter` take
+//! What is not called is not linked. Without `std` an allocator is needed: `Stripper`, `SafeStripper` and `Converter` take
 //! no memory.
 #![no_std]
 #![warn(missing_docs)]
@@ -612,6 +613,11 @@ pub fn events<I: IntoIterator<Item = impl AsRef<[u8]>>>(pieces: I) -> Events<I::
         room: vec![0; EVENTS_ROOM],
         waiting: 0..0,
     }
+}
+
+/// The events of a whole, such as a `&str` or a `Vec<u8>`: as [`events`] gives those of one piece.
+pub fn events_of<T: AsRef<[u8]>>(whole: T) -> Events<core::iter::Once<T>> {
+    events(core::iter::once(whole))
 }
 
 impl<I: Iterator<Item = impl AsRef<[u8]>>> Events<I> {

@@ -1,6 +1,6 @@
 //! The calls of the package, as a user makes them: of wholes, of streams in pieces, and where a writer fails.
 
-use ansi_proved::{events, strip, strip_lf, strip_safe, to_html, Converter, Event, SafeStripper, Sequence, Stripper, Styling};
+use ansi_proved::{events, events_of, strip, strip_lf, strip_safe, to_html, Converter, Event, SafeStripper, Sequence, Stripper, Styling};
 use std::borrow::Cow;
 use std::cell::Cell;
 use std::convert::Infallible;
@@ -282,6 +282,7 @@ fn events_of_each_kind() {
     ];
     assert_eq!(events([stream]).collect::<Vec<_>>(), wanted);
     assert_eq!(events(stream.chunks(1)).collect::<Vec<_>>(), wanted);
+    assert_eq!(events_of(std::str::from_utf8(stream).unwrap()).collect::<Vec<_>>(), wanted);
     assert_eq!(events([b"\x1b[256;65535m"]).collect::<Vec<_>>(), [csi(&[&[256], &[65535]], b'm')]);
 }
 

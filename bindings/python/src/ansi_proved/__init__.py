@@ -7,7 +7,8 @@ r"""Terminal output as clean text, HTML, events or a screen, by a proved library
     to_html(text)     its HTML, to paste after <pre> and a newline: to_html("\x1b[1mhi") is '<span style="font-weight:bold;">hi</span>'
     page(text)        a whole page of it; stylesheet() the rules of HTML by classes
     text_of(stream), html_of(stream)    the same of a stream in pieces, such as a file, piece by piece
-    events(stream)    its events, as named tuples: Text, Execute, Csi, Esc, Osc, Hook, Put and Unhook
+    events(stream)    its events, as named tuples: Text, Execute, Csi, Esc, Osc, Hook, Put and Unhook; Event is the type of any
+    Events()          a stream whose pieces come one by one: each call of feed(piece) gives its events
     Screen(80, 24)    a terminal's screen, to feed and to look at, cell by cell
 
 A text is a str, and leads to a str; or bytes, a bytearray or a memoryview, and leads to bytes. What is none of these is a
@@ -21,7 +22,7 @@ html_of and events give. `python -m ansi_proved` runs the programs ansi2text, an
 # is an ImportError that says so. libansi_screen.so, or what ANSI_SCREEN_LIBRARY names, is loaded where a name of the screen is first used.
 from importlib import import_module as _import_module
 
-from .event import Csi, Esc, Execute, Hook, Osc, Put, Text, Unhook, events
+from .event import Csi, Esc, Event, Events, Execute, Hook, Osc, Put, Text, Unhook, events
 from .html import STYLINGS, html_of, to_html
 from .page import page, stylesheet
 from .safe import safe
@@ -29,7 +30,7 @@ from .text import strip, text_of
 
 __version__ = "0.1.0"
 __all__ = ["STYLINGS", "html_of", "page", "safe", "strip", "stylesheet", "text_of", "to_html"]
-__all__ += ["events", "Csi", "Esc", "Execute", "Hook", "Osc", "Put", "Text", "Unhook"]
+__all__ += ["events", "Csi", "Esc", "Event", "Events", "Execute", "Hook", "Osc", "Put", "Text", "Unhook"]
 _OF_SCREEN = ["Cell", "Change", "Color", "Cursor", "History", "Modes", "Screen", "Style"]
 _LATER = {**dict.fromkeys(_OF_SCREEN, ".screen"), "shown": ".shown"}
 __all__ += _LATER

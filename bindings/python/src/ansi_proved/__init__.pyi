@@ -1,8 +1,8 @@
 """The types of this package, for type checkers and editors."""
 
-from typing import Dict, Iterable, Iterator, Literal, Protocol, TypeVar, Union, overload
+from typing import Dict, Iterable, Iterator, List, Literal, Protocol, TypeVar, Union, overload
 
-from .event import Csi as Csi, Esc as Esc, Execute as Execute, Hook as Hook, Osc as Osc, Put as Put, Text as Text
+from .event import Csi as Csi, Esc as Esc, Event as Event, Execute as Execute, Hook as Hook, Osc as Osc, Put as Put, Text as Text
 from .event import Unhook as Unhook
 from .screen import Cell as Cell, Change as Change, Color as Color, Cursor as Cursor, History as History, Modes as Modes
 from .screen import Screen as Screen, Style as Style
@@ -47,6 +47,8 @@ def page(text: str, styling: _Styling = "both", *, title: str = "Terminal output
 def page(text: _Bytes, styling: _Styling = "both", *, title: str = "Terminal output", lang: str = "en") -> bytes: ...
 def stylesheet(scheme: Literal["both", "light", "dark"] = "both") -> str: ...
 
-_Event = Union[Text, Execute, Hook, Put, Unhook, Osc, Csi, Esc]
+def events(stream: Union[str, _Bytes, Iterable[Union[str, _Bytes]], _File[str], _File[bytes]]) -> Iterator[Event]: ...
 
-def events(stream: Union[str, _Bytes, Iterable[Union[str, _Bytes]], _File[str], _File[bytes]]) -> Iterator[_Event]: ...
+class Events:
+    def __init__(self) -> None: ...
+    def feed(self, piece: Union[str, _Bytes]) -> List[Event]: ...

@@ -269,15 +269,13 @@ static bool has_room(Reader *reader, size_t most)
     return reader->events != NULL && reader->room != NULL;
 }
 
-/* Takes the next piece. Answers false where there is none, or an error. */
-static bool has_piece(Reader *reader)
+/* Takes a piece, which is given away, to be read next. Answers false where it is no bytes, or memory is wanting. */
+static bool is_taken(Reader *reader, PyObject *piece)
 {
-    PyObject *old = reader->piece, *piece = reader->pieces == NULL ? NULL : PyIter_Next(reader->pieces);
+    PyObject *old = reader->piece;
     Py_ssize_t count;
     char *bytes;
 
-    if (piece == NULL)
-        return false;
     reader->piece = piece;
     Py_XDECREF(old);
     if (PyBytes_AsStringAndSize(piece, &bytes, &count) != 0)
@@ -285,6 +283,14 @@ static bool has_piece(Reader *reader)
     reader->bytes = (const unsigned char *)bytes;
     reader->count = (size_t)count;
     return has_room(reader, smaller(reader->count, MOST));
+}
+
+/* Takes the next piece. Answers false where there is none, or an error. */
+static bool has_piece(Reader *reader)
+{
+    PyObject *piece = reader->pieces == NULL ? NULL : PyIter_Next(reader->pieces);
+
+    return piece != NULL && is_taken(reader, piece);
 }
 
 /* Calls the library with what is left of the piece. */
@@ -384,6 +390,14 @@ static PyObject *ready_event(Reader *reader)
     return event_of_byte(PyTuple_GetItem(reader->made, record->kind), record->byte);
 }
 
+/* Its turn is over. */
+static void end_turn(Reader *reader)
+{
+    reader->is_running = false;
+    if (reader->waiting > 0)
+        PyThread_release_lock(reader->turn);
+}
+
 static PyObject *reader_next(PyObject *self)
 {
     Reader *reader = (Reader *)self;
@@ -395,10 +409,41 @@ static PyObject *reader_next(PyObject *self)
         event = event_of(reader, &reader->events[reader->next++]);
     if (event == NULL)
         finish(reader);
-    reader->is_running = false;
-    if (reader->waiting > 0)
-        PyThread_release_lock(reader->turn);
+    end_turn(reader);
     return event;
+}
+
+/* The events of what was taken, as a list, or NULL. */
+static PyObject *all_events(Reader *reader)
+{
+    PyObject *events = PyList_New(0), *event;
+    bool is_well = events != NULL;
+
+    while (is_well && has_record(reader)) {
+        event = event_of(reader, &reader->events[reader->next++]);
+        is_well = event != NULL && PyList_Append(events, event) == 0;
+        Py_XDECREF(event);
+    }
+    if (PyErr_Occurred())
+        Py_CLEAR(events);
+    return events;
+}
+
+/* The events of the piece that comes next, where pieces are given one by one and the iterator has none. */
+static PyObject *reader_feed(PyObject *self, PyObject *piece)
+{
+    Reader *reader = (Reader *)self;
+    PyObject *events = NULL;
+
+    if (!has_turn(reader))
+        return NULL;
+    Py_INCREF(piece);
+    if (is_taken(reader, piece))
+        events = all_events(reader);
+    if (events == NULL)
+        reader->count = reader->next = reader->written = 0;
+    end_turn(reader);
+    return events;
 }
 
 static int reader_traverse(PyObject *self, visitproc visit, void *arg)
@@ -644,11 +689,13 @@ static PyType_Spec whole_spec = {"ansi_proved._events.Whole", sizeof(Whole), 0, 
 
 /* ------------------------------------------------------------------ the module */
 
+static PyMethodDef reader_methods[] = {{"feed", reader_feed, METH_O, NULL}, {NULL, NULL, 0, NULL}};
+
 static PyType_Slot slots[] = {
     {Py_tp_new, AS_OBJECT(reader_new)},           {Py_tp_dealloc, AS_OBJECT(reader_dealloc)},
     {Py_tp_traverse, AS_OBJECT(reader_traverse)}, {Py_tp_clear, AS_OBJECT(reader_clear)},
     {Py_tp_iter, AS_OBJECT(PyObject_SelfIter)},   {Py_tp_iternext, AS_OBJECT(reader_next)},
-    {0, NULL},
+    {Py_tp_methods, reader_methods},              {0, NULL},
 };
 
 static PyType_Spec reader_spec = {"ansi_proved._events.Reader", sizeof(Reader), 0,

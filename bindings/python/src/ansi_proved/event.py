@@ -5,7 +5,8 @@ import re
 import struct
 import sys
 from itertools import chain
-from typing import NamedTuple, Tuple
+from threading import Lock
+from typing import NamedTuple, Tuple, Union
 
 from .library import FEW, PIECES, TOO_LITTLE, Idle, Shared, address_of, bytes_of, function, pieces_of
 from .text import State
@@ -87,6 +88,7 @@ class Esc(NamedTuple):
     final: str
 
 
+Event = Union[Text, Execute, Hook, Put, Unhook, Osc, Csi, Esc]  # for annotations
 PUTS = tuple(Put(byte) for byte in range(256))
 
 
@@ -279,3 +281,30 @@ def events(stream):
     found = reader.whole(piece)
     READERS.append(reader)
     return iter(found)
+
+
+class Events:
+    r"""A stream whose pieces come one by one, as from a terminal or a socket; what it begins goes on in the next piece.
+
+        stream = ansi_proved.Events()
+        while piece := connection.recv(4096):
+            for event in stream.feed(piece):
+                ..
+
+    Threads may share one: a call waits for that of another.
+    """
+
+    def __init__(self):
+        self._lock = Lock()
+        self._feed = _CompiledReader(iter(()), *_REST).feed if IS_COMPILED else _listed(_Reader())
+
+    def feed(self, piece):
+        """The events of the piece that comes next, a list: a piece is a str, bytes, a bytearray or a memoryview."""
+        piece = bytes_of(piece)
+        with self._lock:
+            return self._feed(piece)
+
+
+def _listed(reader):
+    """What gives the events of the next piece by a reader in Python."""
+    return lambda piece: list(chain.from_iterable(reader.events(piece)))

@@ -543,7 +543,9 @@ class Screen:
             _close(self._at)
 
     def __str__(self):
-        return self.text()
+        """Its text; once it is closed, that it is."""
+        with self._lock:
+            return self.text() if self._handle.held else repr(self)
 
     def __repr__(self):
         with self._lock:

@@ -1,8 +1,12 @@
-# The words of parselog, for bash. It takes one of these, and a file.
+# The words of parselog, for bash. It takes one.
 _parselog() {
-    # (where no word fits, files are completed)
     COMPREPLY=()
+    # (a file comes by <)
+    if [[ $3 == *[\<\>] ]]; then
+        compopt -o default
+        return
+    fi
     [[ $COMP_CWORD -le 1 ]] || return
     mapfile -t COMPREPLY < <(compgen -W 'log canon --help --version' -- "$2")
 }
-complete -o bashdefault -o default -F _parselog parselog
+complete -F _parselog parselog

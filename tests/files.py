@@ -250,30 +250,23 @@ def size_name_cases(rows):
 
 
 def named_cases(path, run, differs):
-    """What parselog reads where a file is named, beside what it writes of the same by standard input."""
+    """What parselog says of words that name files which are there. A file comes by standard input."""
     room = os.path.realpath(tempfile.mkdtemp())
     try:
-        for name in ("a", "log", "canon", "-dash", os.fsdecode(b"caf\xe9")):
+        for name in ("a", "log", "canon", "Log", "-", "-dash", os.fsdecode(b"caf\xe9")):
             with open(os.path.join(room, name), "wb") as file:
                 file.write(PARTS[0] + b"\x1b[?25l")
-        os.mkdir(room + "/folder")
-        ran = lambda *words, given=b"": run([path, *words], given, before=lambda: os.chdir(room))
-        lines, text = (ran(mode, given=PARTS[0] + b"\x1b[?25l").out for mode in ("log", "canon"))
-        for words in (["a"], ["log", "a"], ["log", "log"], ["./log"], ["./-dash"], ["log", "./canon"]):
-            yield "the words %s" % words, differs(ran(*words, given=b"B"), out=lines)
-        for words in (["canon", "a"], ["canon", "canon"], ["canon", "log"]):
-            yield "the words %s" % words, differs(ran(*words, given=b"B"), out=text)
-        for words in (["-"], ["log", "-"], ["log"], []):
-            yield "the words %s: standard input" % words, differs(ran(*words, given=b"B"), out=b"print U+0042\n")
-        faults = [("missing", errno.ENOENT), ("a/b", errno.ENOTDIR), ("", errno.ENOENT), ("Log", errno.ENOENT), ("two\nlines\x1b[m", errno.ENOENT)]
-        for name, why in faults:
-            shown = name.replace("\n", "\\n").replace("\x1b", "\\u{1b}")
-            said = ('parselog: "%s": %s (os error %d)\n' % (shown, os.strerror(why), why)).encode()
-            for words in ([name], ["log", name], ["canon", name]):
-                yield "the words %s" % words, differs(ran(*words, given=b"B"), status=1, err=said)
-        yield "a folder", differs(ran("folder", given=b"B"), status=1, err=b"parselog: read failed\n")
+        ran = lambda *words, given=b"B": run([path, *words], given, before=lambda: os.chdir(room))
+        usage = b"usage: parselog [log|canon]\n"
+        for words in (["a"], ["./log"], ["Log"], ["-"], ["-dash"], ["log", "a"], ["canon", "a"], ["canon", "log"], ["log", "-"], ["--", "a"]):
+            yield "the words %s, where such a file is" % words, differs(ran(*words), status=2, err=usage)
+        for words in ([], ["log"]):
+            yield "the words %s read standard input alone" % words, differs(ran(*words), out=b"print U+0042\n")
+        for words in (["log"], ["canon"]):
+            with open(room + "/a", "rb") as file:
+                yield "a file to %s by <" % words, differs(ran(*words, given=file), out=ran(*words, given=PARTS[0] + b"\x1b[?25l").out)
         for words in ([b"caf\xe9"], ["log", b"caf\xe9"]):
-            yield "the words %s, no UTF-8" % words, differs(ran(*words, given=b"B"), status=1, err=b"parselog: arguments not read\n")
+            yield "the words %s, no UTF-8" % words, differs(ran(*words), status=1, err=b"parselog: arguments not read\n")
     finally:
         shutil.rmtree(room)
 

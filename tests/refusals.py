@@ -1,7 +1,6 @@
 """What the programs say of words that they do not take: rows for tests/expected.py."""
 
-PARSELOG_USAGE = b"""usage: parselog [log|canon] [FILE]
-(log writes a line for each call, canon bytes that make the same calls: see parselog --help)"""
+PARSELOG_USAGE = b"usage: parselog [log|canon]"
 
 
 def unknown(name, words, shown=None):

@@ -21,7 +21,7 @@ TYPED = {
     "ansi2html": [("--frag", "--fragment "), ("--ti", "--title="), ("", "build.log "), ("-o ", "-o build.log "), ("--output=", "--output=build.log "), ("--shown ", "--shown build.log ")],
     "ansi2screen": [("--dr", "--draw "), ("--si", "--size="), ("", "build.log "), ("-o b", "-o build.log ")],
     "ansi2text": [("--sa", "--safe "), ("", "build.log "), ("--lf b", "--lf build.log "), ("-o ", "-o build.log "), ("--shown ", "--shown build.log ")],
-    "parselog": [("can", "canon "), ("canon ", "canon build.log "), ("bu", "build.log ")],
+    "parselog": [("can", "canon "), ("< b", "< build.log "), ("canon < ", "canon < build.log ")],
 }
 
 
@@ -46,10 +46,11 @@ def bash_cases(name, words, listed, valued):
         asks = "%s; . %s; _%s %s %s; echo ${COMPREPLY[@]}" % (stands, path, name, name, line)
         return subprocess.run(["bash", "-c", asks], capture_output=True, text=True).stdout.split()
 
-    # (`complete -p` says what bash does for a name: by this function, and where that knows of nothing, with files and with all else)
+    # (`complete -p` says what bash does for a name: by this function, and where that knows of nothing, with files and with all else;
+    # a program that takes words has files after < alone)
     found = subprocess.run(["bash", "-c", ". %s; complete -p %s" % (path, name)], capture_output=True, text=True).stdout
-    wanted = "complete -o bashdefault -o default -F _%s %s\n" % (name, name)
-    yield "bash asks that of %s, and else for files" % name, found != wanted and "it says %r" % found
+    wanted = "complete %s-F _%s %s\n" % ("" if words else "-o bashdefault -o default ", name, name)
+    yield "bash asks that of %s, and else for %s" % (name, "nothing" if words else "files"), found != wanted and "it says %r" % found
     for word in ("--", "--s", "--o", "-", "x", ""):
         wanted = [it for it in [*words, *listed] if it.startswith(word) and (words or word.startswith("-"))]
         found = told("'%s' %s" % (word, name))
@@ -57,6 +58,11 @@ def bash_cases(name, words, listed, valued):
     if words:
         found = told("'%s' %s" % (words[-1][0], words[0]), "COMP_CWORD=2")
         yield "bash completes %s %s %s to no word" % (name, words[0], words[-1][0]), found and "to %s" % found
+        for before in ("<", ">", ">>"):
+            found = told("'' '%s'" % before, 'compopt() { echo "$@"; }')
+            yield "bash completes %s %s to files" % (name, before), found != ["-o", "default"] and "to %s" % found
+        found = told("'bu' %s" % name, 'compopt() { echo "$@"; }')
+        yield "bash completes %s bu to nothing" % name, found and "to %s" % found
     for word in [*valued, *(["-o"] if valued else [])]:
         found = told("--f %s" % word)
         yield "bash completes %s %s --f to no option" % (name, word), found and "to %s" % found
@@ -93,9 +99,10 @@ def fish_cases(name, words, listed, valued):
         yield "fish completes %s --" % name, found != wanted and "to %s" % found
         for typed, completed in TYPED[name]:
             found, wanted = told("%s %s" % (name, typed)), completed.split()[-1].rstrip("=")
-            if words and not typed.startswith("canon "):  # (its words are offered beside files)
-                found = [it for it in found if it.startswith(typed)]
             yield "fish completes %s '%s'" % (name, typed), found != [wanted] and "to %s" % found
+        if words:
+            found = [*told(name + " bu"), *told("%s %s bu" % (name, words[0]))]
+            yield "fish completes %s bu to nothing" % name, found and "to %s" % found
         for word in valued:
             found, wanted = told("%s %s " % (name, word)), ["build.log"] if word == "--output" else []
             yield "fish completes %s %s" % (name, word), found != wanted and "to %s" % found

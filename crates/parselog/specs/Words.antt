@@ -1,6 +1,5 @@
 -- The words of the program.
-use Rattle.std.specs.Prelude.{ℕ, Bool, true, false, not, ◌||◌, nat_eq, List, [], ◌∷◌, Option, None, Some, codes, bytes_eq, if◌then◌else◌}
-use Rattle.std.specs.List.{starts_with}
+use Rattle.std.specs.Prelude.{ℕ, Bool, true, false, ◌||◌, List, Option, None, Some, codes, bytes_eq, if◌then◌else◌}
 use Rattle.std.specs.declared.io.Error.{Error}
 use Rattle.std.specs.declared.io.ErrorKind.{ErrorKind}
 use Rattle.std.specs.declared.io.ErrorKind.TheVariants.{BrokenPipe}
@@ -18,27 +17,6 @@ mode_of first true = None
 mode_of None false = Some Log
 mode_of (Some word) false =
     if bytes_eq word (codes "log") then Some Log else if bytes_eq word (codes "canon") then Some Canon else None
-
--- a word that names a mode
-abbrev pub is_mode : (word : List ℕ) → Bool
-is_mode word = bytes_eq word (codes "log") || bytes_eq word (codes "canon")
-
--- a word that may name a file: a dash alone, or one that does not begin with a dash
-abbrev pub is_file : (word : List ℕ) → Bool
-is_file word = bytes_eq word (codes "-") || not (starts_with nat_eq word (codes "-"))
-
--- the mode that words name: none, a mode, a file, or a mode and a file
-abbrev pub mode_in : List (List ℕ) → Option Mode
-mode_in [] = Some Log
-mode_in (word ∷ []) = if is_mode word then mode_of (Some word) false else if is_file word then Some Log else None
-mode_in (word ∷ file ∷ []) = if is_file file then mode_of (Some word) false else None
-mode_in (word ∷ file ∷ other ∷ others) = None
-
--- the file that they name: with none, standard input
-abbrev pub file_in : List (List ℕ) → List ℕ
-file_in [] = codes "-"
-file_in (word ∷ []) = if is_mode word then codes "-" else word
-file_in (word ∷ file ∷ others) = file
 
 -- what the first word asks for that names no mode
 abbrev pub asked_of : Option (List ℕ) → Option Request

@@ -1,4 +1,4 @@
-//! Shows which calls a parser of ANSI escape sequences makes of a file, or of standard input.
+//! Shows which calls a parser of ANSI escape sequences makes of standard input.
 #![tactic(auto)]
 
 ghost use Rattle.std.specs.Prelude.{◌≡◌, [], false, OnOk, IfErr};
@@ -15,14 +15,10 @@ mod words;
 
 use anstyle_parse::io::{Buffer, Fault, FromRead, FromWrite};
 use run::{Mode, run};
-use std::fs;
-use std::io::{self, IsTerminal, Read, Write};
+use std::io::{self, IsTerminal, Write};
 use std::process::ExitCode;
 use std::rt::Env;
-use words::{
-    HELP, Request, STANDARD, USAGE, VERSION, asked_of, file_named, is_broken_pipe, message,
-    mode_named,
-};
+use words::{HELP, Request, USAGE, VERSION, asked_of, is_broken_pipe, message, mode};
 
 /// The status of a program that failed.
 const FAILED: u8 = 1;
@@ -34,45 +30,27 @@ const READER_GONE: u8 = 141;
 const MISUSED: u8 = 2;
 
 fn main(rt: HostRuntime) -> ExitCode {
-    let Ok(words) = given_words(&rt) else {
+    let Ok((first, more)) = given_words(&rt) else {
         return said(&rt, "parselog: arguments not read", FAILED);
     };
-    let words = words.as_slice();
-    if let Some(request) = asked_of(words.first().map(|word| word.as_str())) {
+    let first = first.as_ref().map(|word| word.as_str());
+    if let Some(request) = asked_of(first) {
         return answered(&rt, request);
     }
-    let Some(mode) = mode_named(words) else {
+    let Some(mode) = mode(first, more) else {
         return said(&rt, USAGE, MISUSED);
     };
-    let name = file_named(words);
-    if name == STANDARD {
-        return ran(&rt, mode, rt.stdin());
-    }
-    match fs::open(&rt, name) {
-        Ok(file) => ran(&rt, mode, file),
-        Err(error) => not_opened(&rt, name, error),
-    }
+    let mut reader = FromRead::new(rt.stdin());
+    ended(&rt, run(mode, &mut reader, buffered(rt.stdout())))
 }
 
-/// The words that the program was given, without its own name.
-fn given_words(rt: &(impl Env + AllocGlobal)) -> io::Result<Vec<String>> {
-    let words = std::env::args(rt)?.skip(1).collect(rt.alloc())?;
-    Ok(words)
-}
-
-/// Reads all of a reader, and writes what is made of it to standard output.
-fn ran<R: Read + Drop>(rt: &HostRuntime, mode: Mode, reader: R) -> ExitCode {
-    let mut reader = FromRead::new(reader);
-    ended(rt, run(mode, &mut reader, buffered(rt.stdout())))
-}
-
-/// Says on standard error why a file was not opened, by its name as Rattle writes a text, and answers status 1. Where
-/// that can't be written nothing is done about it.
-fn not_opened(rt: &impl Eprint, name: &str, error: io::Error) -> ExitCode
-    ensures { exit_status result ≡ 1 }
-{
-    let _ = eprintln!(rt; "parselog: {name:?}: {error}");
-    ExitCode::from(FAILED)
+/// The first word that the program was given, and whether a second came.
+fn given_words(rt: &(impl Env + AllocGlobal)) -> io::Result<(Option<String>, bool)> {
+    let mut arguments = std::env::args(rt)?;
+    let _program = arguments.next();
+    let first = arguments.next();
+    let more = arguments.next().is_some();
+    Ok((first, more))
 }
 
 /// Says what a word asks for, on standard output.

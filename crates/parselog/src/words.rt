@@ -1,6 +1,6 @@
 //! The words of the program: the modes that its arguments name, what it says of itself, and of faults.
-ghost use Rattle.std.specs.Prelude.{◌≡◌, map, string_bytes, option_copied};
-ghost use Rattle.parselog.specs.Words.{mode_of, mode_in, file_in, is_mode, is_file, asked_of, message_of, is_broken_pipe};
+ghost use Rattle.std.specs.Prelude.{◌≡◌, option_copied};
+ghost use Rattle.parselog.specs.Words.{mode_of, asked_of, message_of, is_broken_pipe};
 
 use crate::run::Mode;
 use anstyle_parse::io::Fault;
@@ -11,29 +11,22 @@ pub const VERSION: &str = "parselog 0.1.0\n";
 
 /// What is said for `--help`.
 pub const HELP: &str = "\
-usage: parselog [log|canon] [FILE]
+usage: parselog [log|canon]
 
-Shows which calls a terminal's parser makes of a file: its characters, controls and
-sequences, which are otherwise not seen. With no FILE, or for -, standard input is read.
+Shows which calls a terminal's parser makes of standard input: its characters, controls
+and sequences, which are otherwise not seen.
 
-  log         write a line for each call; so it does where neither is given
+  log         write a line for each call; so it does with no word
   canon       write the canonical text: bytes that make the same calls
   -h, --help  say this
   --version   say which version it is
 
-A file whose name is log or canon, or begins with a dash, is given as ./log.
-
 Example, what a log of a build hides:
-  parselog build.log | grep -v '^print'
+  parselog < build.log | grep -v '^print'
 ";
 
 /// What is said of words that ask for nothing that the program knows.
-pub const USAGE: &str = "\
-usage: parselog [log|canon] [FILE]
-(log writes a line for each call, canon bytes that make the same calls: see parselog --help)";
-
-/// What stands for standard input in the place of a file's name.
-pub const STANDARD: &str = "-";
+pub const USAGE: &str = "usage: parselog [log|canon]";
 
 /// What a word asks for that names no mode.
 #[derive(Debug, Clone, Copy, PartialEq, Eq)]
@@ -83,45 +76,6 @@ pub fn mode(first: Option<&str>, more: bool) -> Option<Mode>
             }
         }
     }
-}
-
-/// The mode that the words name: the first does, and the second names the file that is read; one that names no mode
-/// names the file. `None`, for other words, means the usage.
-pub fn mode_named(words: &[String]) -> Option<Mode>
-    ensures { result ≡ mode_in (map string_bytes words.now) }
-{
-    match words {
-        [] => Some(Mode::Log),
-        [word] if is_mode(word.as_str()) => mode(Some(word.as_str()), false),
-        [word] if is_file(word.as_str()) => Some(Mode::Log),
-        [word, file] if is_file(file.as_str()) => mode(Some(word.as_str()), false),
-        _ => None,
-    }
-}
-
-/// The name of the file that is read, or `-`, where the words name a mode.
-pub fn file_named(words: &[String]) -> &str
-    ensures { result.now ≡ file_in (map string_bytes words.now) }
-{
-    match words {
-        [word] if !is_mode(word.as_str()) => word.as_str(),
-        [_, file, ..] => file.as_str(),
-        _ => STANDARD,
-    }
-}
-
-/// Whether a word names a mode.
-fn is_mode(word: &str) -> bool
-    ensures { result ≡ is_mode word.now }
-{
-    word == "log" || word == "canon"
-}
-
-/// Whether a word may name a file: a dash alone, or it does not begin with one.
-fn is_file(word: &str) -> bool
-    ensures { result ≡ is_file word.now }
-{
-    word == STANDARD || !word.starts_with("-")
 }
 
 /// What the program says of a fault, as a whole line without its line feed.

@@ -96,10 +96,10 @@ fn second_read_fails(rt: HostRuntime) {
 }
 
 /// A flush that fails, of whatever kind its error is, or that goes well. The writer has room for all
-/// of the text, one byte a time.
+/// of the text, one byte a time, and would then fail.
 fn is_flushed(written: Written, flush_error: Option<ErrorKind>) -> bool {
     let Written { mode, text, .. } = written;
-    let mut paper = Paper::narrow(text, text.len(), None);
+    let mut paper = Paper::narrow(text, text.len(), Some(ErrorKind::Other));
     paper.flush_error = flush_error;
     let answer = match flush_error {
         Some(_) => Err(Fault::Flush),

@@ -11,3 +11,4 @@ pub mod CallLemmas
 pub mod MarkedLemmas
 pub mod PieceLemmas
 pub mod HiddenLemmas
+pub mod ToldLemmas

@@ -5,6 +5,7 @@ use Rattle.std.specs.List.{AllByRecursion}
 use Rattle.std.specs.Str.{encode_utf8_all}
 use Rattle.std.specs.Prelude.{◌≡◌, ℕ, Bool, true, false, ◌||◌, ◌==◌, List, [], ◌∷◌, ◌++◌, if◌then◌else◌}
 use Rattle.anstyle_parse.specs.Stream.Call.{Call, print, execute}
+use Rattle.ansi_style.specs.declared.style.Style.{Style}
 use Rattle.ansi_style.specs.Style.{plain}
 use Rattle.ansi_style.specs.Rendition.{style_after}
 use Rattle.safe_text.specs.Safe.{hides, shows, characters_of, safe_from}
@@ -80,6 +81,14 @@ is_mark c = c == hides || c == shows
 abbrev pub without_marks : List ℕ → List ℕ
 without_marks [] = []
 without_marks (c ∷ cs) = if is_mark c then without_marks cs else c ∷ without_marks cs
+
+-- What a stream itself says of its characters, whatever the marks: one that is printed is hidden where the style is that
+-- is selected there, and a control is not.
+abbrev pub told_by : Style → List Call → List (ℕ × Bool)
+told_by style [] = []
+told_by style (print c ∷ calls) = (c, style.hidden) ∷ told_by style calls
+told_by style (execute byte ∷ calls) = (byte, false) ∷ told_by style calls
+told_by style (call ∷ calls) = told_by (style_after call style) calls
 
 -- no call begins to hide text
 abbrev pub NeverHides : List Call → Type 0

@@ -1,5 +1,5 @@
 -- Reading safe text: which characters it names.
-use Rattle.std.specs.Prelude.{ℕ, ◌+◌, ◌-◌, ◌*◌, Bool, true, false, ◌&&◌, ◌==◌, nat_lt, not, List, [], ◌∷◌, ◌++◌, if◌then◌else◌}
+use Rattle.std.specs.Prelude.{ℕ, ◌+◌, ◌-◌, ◌*◌, Bool, true, false, ◌&&◌, ◌==◌, nat_lt, not, List, [], ◌∷◌, ◌++◌, map, if◌then◌else◌}
 use Rattle.safe_text.specs.Safe.{hides, shows, next_of, begins_mark, rest_of, is_line_end, is_of_line_end}
 
 -- the value of a digit of base 16
@@ -37,3 +37,22 @@ ended_as false false c = c ∷ []
 abbrev pub with_line_feeds : List ℕ → List ℕ
 with_line_feeds [] = []
 with_line_feeds (c ∷ cs) = ended_as (is_line_end c) (is_of_line_end c cs) c ++ with_line_feeds cs
+
+-- Each character that is read, and whether it stands in hidden text: after the mark where such text begins, and before
+-- the one where it ends.
+abbrev pub told_from : (hidden : Bool) → List ℕ → List (ℕ × Bool)
+told_from hidden [] = []
+told_from hidden (c ∷ cs) =
+    if c == hides then told_from true cs
+    else if c == shows then told_from false cs
+    else (c, hidden) ∷ told_from hidden cs
+
+abbrev pub told : List ℕ → List (ℕ × Bool)
+told cs = told_from false cs
+
+-- these with each end of a line as one line feed
+abbrev pub told_with_line_feeds : List (ℕ × Bool) → List (ℕ × Bool)
+told_with_line_feeds [] = []
+told_with_line_feeds (it ∷ more) =
+    map (λ c. (c, it.1)) (ended_as (is_line_end it.0) (is_of_line_end it.0 (map (λ next. next.0) more)) it.0)
+    ++ told_with_line_feeds more

@@ -7,9 +7,10 @@ ghost use Rattle.anstyle_parse.specs.Stream.Calls.{AreCalls};
 ghost use Rattle.ansi_strip.specs.Strip.{IsClean};
 ghost use Rattle.safe_text.specs.Classes.{is_of_safe_text};
 ghost use Rattle.safe_text.specs.Safe.{characters, safe, IsSafe};
-ghost use Rattle.safe_text.specs.Reading.{read_back, with_line_feeds};
+ghost use Rattle.safe_text.specs.Reading.{read_back, with_line_feeds, told, told_with_line_feeds};
 ghost use Rattle.safe_text.specs.Decided.{decided, undecided};
-ghost use Rattle.safe_text.specs.Marks.{hidden_after, marked, safe_marked, decided_marked, undecided_marked, without_marks, NeverHides};
+ghost use Rattle.safe_text.specs.Marks.{hidden_after, marked, safe_marked, decided_marked, undecided_marked, without_marks, told_by, NeverHides};
+ghost use Rattle.ansi_style.specs.Style.{plain};
 ghost use Rattle.ansi_style.specs.Rendition.{style_after};
 
 use ansi_strip::laws::{clean_text, stripped_twice};
@@ -61,8 +62,13 @@ pub fn read_back()
     calls_are_lawful();
 }
 
-/// Without its marks, what is marked are the characters of the calls; and where no call hides text, there are no marks.
+/// Hidden text stands between its marks, and nothing else does. Without the marks, what is marked are the characters of
+/// the calls; and where no call hides text, there are no marks.
 pub fn marks()
+    // Read back, each character stands between the marks if it is printed where a hidden style is selected, and only
+    // then: so a text that is not marked, all that is, and a mark that comes late are not safe text.
+    ensures hidden { (bytes : List ℕ) (calls : List Call) → AreCalls bytes calls
+        → told (read_back (chars (safe_marked calls))) ≡ told_with_line_feeds (told_by plain calls) }
     ensures characters { (bytes : List ℕ) (calls : List Call) → AreCalls bytes calls
         → without_marks (marked calls) ≡ characters calls }
     ensures none { (calls : List Call) → NeverHides calls → marked calls ≡ characters calls }

@@ -6,22 +6,17 @@ use Rattle.anstyle_parse.specs.Stream.Call.{Call}
 use Rattle.std.specs.Prelude.{List}
 use Rattle.safe_text.specs.Safe.{characters, safe}
 use Rattle.safe_text.specs.Reading.{read_back as read, with_line_feeds}
-use Rattle.safe_text.specs.Marks.{marked, safe_marked}
+use Rattle.safe_text.specs.Marks.{safe_marked}
 use Rattle.safe_text.proofs.CallLemmas.{scalars-lawful, all-below}
-use Rattle.safe_text.proofs.MarkedLemmas.{marked-items, items-below}
+use Rattle.safe_text.proofs.ToldLemmas.{read-marked}
 use Rattle.safe_text.proofs.ReadLemmas.{read-safe}
-use Rattle.safe_text.proofs.WholeLemmas.{safe-chars, items-chars}
+use Rattle.safe_text.proofs.WholeLemmas.{safe-chars}
 use Rattle.safe_text.proofs.laws.read_back.Goals as goal
 
 read-lawful : (calls : List Call) → AreLawful calls → read (chars (safe calls)) ≡ with_line_feeds (characters calls)
 read-lawful calls lawful =
     let scalars = scalars-lawful false calls lawful in
     ap read (safe-chars 0 (characters calls) scalars) ∙ read-safe 0 (characters calls) (all-below (characters calls) scalars)
-
-read-marked : (calls : List Call) → AreLawful calls → read (chars (safe_marked calls)) ≡ with_line_feeds (marked calls)
-read-marked calls lawful =
-    let items = marked-items calls lawful in
-    ap read (items-chars 0 (marked calls) items) ∙ read-safe 0 (marked calls) (items-below (marked calls) items)
 
 pub returns-clause-names : goal.returns-clause-names
 returns-clause-names c = λ bytes calls are. read-lawful calls (c.calls_are_lawful.ensures bytes calls are)

@@ -118,16 +118,19 @@ def told_cases(ansi):
     for number, words in [*((HELD[name], it) for name, it in red.items()), (4, red["ANY_STYLING"]), (255, red["ANY_STYLING"])]:
         found = screen._text_by(calls._html, number)
         yield "the styling %d" % number, None if words in found else "it is %r" % found
-    before = memory_of_this()
-    screen = ansi.Screen(1000, 2, history=1000)
-    each = (memory_of_this() - before) / 1e6
-    yield "bytes that a cell of a row that left takes", None if 0.9 < each / HELD["CELL"] < 1.1 else "they are %.1f" % each
+    done = run([sys.executable, "-c", CELL_TAKES], env=dict(os.environ, PYTHONPATH=PYTHON, PYTHONDONTWRITEBYTECODE="1"))
+    is_so = not done.returncode and 0.9 < float(done.stdout) / HELD["CELL"] < 1.1
+    yield "bytes that a cell of a row that left takes", None if is_so else "they are %r" % (done.stdout + done.stderr)
 
 
-def memory_of_this():
-    """The bytes that this process has for data."""
-    with open("/proc/self/statm", encoding="ascii") as file:
-        return int(file.read().split()[5]) * resource.getpagesize()
+# The bytes of data that a million cells of rows that may leave take, in a process of their own.
+CELL_TAKES = """
+import ansi_proved, resource
+taken = lambda: int(open("/proc/self/statm").read().split()[5]) * resource.getpagesize()
+small, before = ansi_proved.Screen(1000, 2), taken()
+screen = ansi_proved.Screen(1000, 2, history=1000)
+print((taken() - before) / 1e6)
+"""
 
 
 # Streams, and what a screen of 4 columns and 3 rows has as text where rows that went on are one line with the next ones: so tmux 3.3a writes

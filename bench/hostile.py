@@ -8,7 +8,8 @@ Usage: bench/hostile.py [--bytes N] [--search ROUNDS] [--seed N] COMMAND ..
     --search ROUNDS first tries the patterns below, and then ROUNDS streams more for each command: those that cost
                     most so far, with a part changed, left out, doubled or put in
 
-A command of `ansi2screen`, or one with `--shown`, gets the patterns and parts for screens too.
+A command of `ansi2screen`, or one with `--shown`, gets the patterns and parts for screens too, and one with `--lines` or `--urls` those for
+lines and addresses.
 
 Instructions are those of `valgrind --tool=callgrind`, less those of an empty input, as bench/measure.py counts them. A line is a
 stream: its instructions and its bytes of output for each byte, and what it is; the last ones are the dearest of each.
@@ -58,7 +59,25 @@ PATTERNS = {
     "device control strings": (b"", b"\x1bPq\x1b\\"),
     "escape sequences": (b"", b"\x1b(B\x1b7"),
 }
-# The same for screens.
+# The same for --lines and --urls.
+LONG_LINK = b"\x1b]8;;https://" + b'"' * 992 + b"\x07"
+LINE_PATTERNS = {
+    "line feeds": (b"", b"\n"),
+    "letters, each in a line": (b"", b"x\n"),
+    "a long link over line feeds": (LONG_LINK, b"\n"),
+    "a long link over letters, each in a line": (LONG_LINK, b"x\n"),
+    "a long style over letters, each in a line": (LONG, b"x\n"),
+    "addresses": (b"", b"http://a "),
+    "an address in each line": (b"", b"http://a\n"),
+    "addresses that begin in one another": (b"", b"mailto:"),
+    "an address with no end": (b"http://", b"a"),
+    "addresses that are too long": (b"", b"http://" + b"a" * 1100 + b" "),
+    "brackets in an address": (b"http://a", b"()"),
+    "brackets that close none": (b"", b"http://a" + b")" * 1000 + b" "),
+    "marks at the end of an address": (b"", b"http://a" + b"." * 1000 + b" "),
+    "colours in addresses": (b"", b"http://a\x1b[31mb\x1b[m"),
+}
+# And for screens.
 SCREEN_PATTERNS = {
     "a character repeated over its row": (b"", b"\rx\x1b[65535b"),
     "a wide character repeated": (b"", "\r漢\x1b[65535b".encode()),
@@ -83,6 +102,10 @@ SCREEN_PATTERNS = {
     "long links in a screen": (b"", b"\x1b]8;;https://" + b'"' * 1000 + b"\x07x\n"),
     "long links on a line feed each": (b"\x1b]8;;https://" + b'"' * 1000 + b"\x07", b"x\n"),
     "moves to the corners": (b"", b"\x1b[1;1Hx\x1b[999;999Hy"),
+    "a quote repeated over each row": (b"", b'"\x1b[999b\n'),
+    "a character of four bytes repeated over each row": (b"", "\U00010000\x1b[999b\n".encode()),
+    "a soft hyphen repeated over each row": (b"", "\xad\x1b[999b\n".encode()),
+    "a letter at the end of each row": (b"", b"\x1b[999Gx\n"),
 }
 # What the search puts in.
 PARTS = [
@@ -90,8 +113,10 @@ PARTS = [
     b"\x1b[m", b"\x1b[7m", b"\x1b[27m", b"\x1b[1;4:3;9;53m", b"\x1b[2;38;2;1;2;3m", b"\x1b[48;5;200m", b"\x1b[31m", b"\x1b]8;;\x07",
     b"\x1b]8\x07", b"\x1b]8;;mailto:&\x07", b"\x1b]8;;https://" + b'"' * 100 + b"\x07", b"\x1b]0;a\x07", b"\x1bPq", b"\x1b\\", b"\x1b(B", LONG,
 ]
+LINE_PARTS = [b"http://", b"https://a.b/", b"mailto:", b"x\n", b" ", b"(", b")", b".", b"+", LONG_LINK]
 # And for screens.
 SCREEN_PARTS = [
+    b"\x1b[999b", b"\x1b[999G", b"\x1b[1K", b"\x1b[J", "\U00010000".encode(), "\xad".encode(),
     b"\r\n", b"\x1b[65535b", b"\x1b[65535I", b"\x1b[65535Z", b"\x1b[4h", b"\x1b[65535@", b"\x1b[65535P", b"\x1b[65535L", b"\x1b[65535M",
     b"\x1b[65535S", b"\x1b[65535T", b"\x1bM", b"\x1b[H", b"\x1b[9;9H", b"\x1b[2J", b"\x1b[K", b"\x1b[3g", b"\x1bH", b"\x1b#8", b"\x1bc",
     b"\x1b[?1049h", b"\x1b[?1049l", b"\x1b[2;9r", b"\x1b[?6h", b"\x1b7", b"\x1b8", "漢".encode(), "\u0301".encode(), "😀".encode(),
@@ -100,6 +125,10 @@ SCREEN_PARTS = [
 
 def is_of_a_screen(command):
     return "ansi2screen" in command[0] or any(word.startswith("--shown") for word in command)
+
+
+def is_of_lines(command):
+    return not {"--lines", "--urls"}.isdisjoint(command)
 
 
 def stream(pattern, size):
@@ -140,7 +169,11 @@ def searched(command, rounds, size, pick):
     """Each pattern with what it costs: those above, and those that the search makes of the dearest ones."""
     empty = measure.instructions(command, os.devnull)
     found = []
-    patterns, parts = (PATTERNS | SCREEN_PATTERNS, PARTS + SCREEN_PARTS) if is_of_a_screen(command) else (PATTERNS, PARTS)
+    patterns, parts = PATTERNS, PARTS
+    if is_of_lines(command):
+        patterns, parts = patterns | LINE_PATTERNS, parts + LINE_PARTS
+    if is_of_a_screen(command):
+        patterns, parts = patterns | SCREEN_PATTERNS, parts + SCREEN_PARTS
     for name, pattern in patterns.items():
         found.append((*cost(command, stream(pattern, size), empty), name, pattern))
         yield found[-1]
@@ -167,7 +200,7 @@ def main():
         print(said)
         pick = random.Random(words.seed)
         for work, output, name, (begin, unit) in searched(shlex.split(said), words.search, words.bytes, pick):
-            is_named = name in PATTERNS or name in SCREEN_PATTERNS
+            is_named = any(name in it for it in (PATTERNS, LINE_PATTERNS, SCREEN_PATTERNS))
             print("%9.1f %8.2f  %s" % (work, output, name if is_named else "%s: %r, %r" % (name, begin[-60:], unit[:120])), flush=True)
 
 

@@ -57,15 +57,15 @@ class Rows:
         with open(self.at(name), "rb") as file:
             return file.read()
 
-    def ran(self, *words, given=b"", before=None, **how):
-        """Runs the program in the folder of the files."""
+    def ran(self, *words, given=b"", before=None, by=(), **how):
+        """Runs the program in the folder of the files; `by` are words of a command that runs it."""
 
         def begin():
             os.chdir(self.room)
             if before:
                 before()
 
-        return self.run([self.path, *self.words, *words], given, before=begin, **how)
+        return self.run([*by, self.path, *self.words, *words], given, before=begin, **how)
 
     def of_each(self, *parts, names=()):
         """What is written of these texts, one after another. In a page each of several has its file's name as a heading."""
@@ -91,6 +91,12 @@ class Rows:
 
     def left(self):
         return sorted(os.listdir(self.room))
+
+    def clear_out(self):
+        """Removes what is written, and what is left of it, so that the next row begins anew."""
+        for name in self.left():
+            if name == "out" or re.fullmatch(r"out\.\d+\.new", name):
+                os.remove(self.at(name))
 
 
 def drop_rights():
@@ -121,6 +127,8 @@ def file_cases(name, path, words, alone, run, differs):
         yield from linked_cases(rows)
         yield from same_file_cases(rows)
         yield from kept_cases(rows)
+        yield from taken_cases(rows)
+        yield from memory_cases(rows)
         if name == "ansi2html":
             yield from folder_cases(rows)
     finally:
@@ -363,17 +371,38 @@ def saved_cases(rows):
         return
     source, library = os.path.join(os.path.dirname(os.path.realpath(__file__)), "callers/saving.c"), rows.at("saving.so")
     subprocess.run(["cc", "-Wall", "-Wextra", "-Werror", "-shared", "-fPIC", source, "-o", library, "-ldl"], check=True)
-    command, known = [rows.path, *rows.words, "-o", rows.at("out"), rows.at("part0")], {**os.environ, "LD_PRELOAD": library}
+    beneath = lambda *known: ["env", "LD_PRELOAD=" + library, *known]
     for mode, wanted in (None, "open 666, fsync, rename, "), (0o640, "open 600, fchown 65534 65534, fchmod 640, fsync, rename, "):
         if mode is not None:
             rows.put("out", b"old\n", mode)
             os.chown(rows.at("out"), *[NOBODY if os.geteuid() == 0 else -1] * 2)
-        found = subprocess.run(command, env=known, stderr=subprocess.PIPE).stderr.decode().replace("\n", ", ")
+        found = rows.ran("-o", "out", "part0", by=beneath()).err.decode().replace("\n", ", ")
         if os.geteuid() != 0:  # (the file is its user's before)
             wanted = wanted.replace("fchown 65534 65534, ", "")
         yield "-o over %s file, by its calls" % ("no" if mode is None else "a"), found != wanted and "they are %s" % found
         os.remove(rows.at("out"))
+    yield "-o /dev/null, by its calls: it is made by none, and cut by none", rows.differs(rows.ran("-o", "/dev/null", "part0", by=beneath()))
+    for call in ("fchmod", "fsync", "rename"):
+        rows.put("out", b"old\n", 0o640)
+        before = rows.left()
+        why = rows.differs(rows.ran("-o", "out", "part0", by=beneath("REFUSED=" + call)), status=1, err=rows.said((b"out", errno.EPERM)))
+        why = why or (rows.read("out") != b"old\n" and "it has %r" % rows.read("out")) or left_differs(rows, before)
+        yield "-o, where %s is refused: the old file stays, and the new one goes" % call, why
+        rows.clear_out()
+    yield from device_cases(rows, beneath("OTHER_DEVICES=1"))
     os.remove(library)
+
+
+def device_cases(rows, by):
+    """Files of one number on devices of their own are not the same file: as many as there are disks have it."""
+    for words, given in (["log"], b""), ([], "log"), (["-"], "log"):
+        rows.put("log", PARTS[0])
+        with open(rows.at("out"), "ab") as out, open(rows.at(given or "part0"), "rb") as read:
+            why = rows.differs(rows.ran(*words, given=read, out=out, by=by))
+        why = why or (rows.read("out") != rows.of_each(PARTS[0]) and "it has %r" % rows.read("out"))
+        yield "%s, with the number of standard output on another device" % " ".join(words or ["standard input"]), why
+        rows.clear_out()
+    os.remove(rows.at("log"))
 
 
 def linked_cases(rows):
@@ -390,10 +419,12 @@ def linked_cases(rows):
     for at in ("link", "folder/further", "folder/new"):
         os.remove(rows.at(at))
     rows.put("cut", b"text\n\x1b]0;title")
-    why = rows.differs(rows.ran("-o", "out", "cut", before=lambda: os.close(2)))
-    yield "-o, and standard error is closed", why or (rows.read("out") != rows.of_each(b"text\n") and "it has %r" % rows.read("out"))
+    for closed in [2], [0, 2], [1, 2], [0, 1, 2]:
+        why = rows.differs(rows.ran("-o", "out", "cut", before=lambda: [os.close(it) for it in closed]))
+        why = why or (rows.read("out") != rows.of_each(b"text\n") and "it has %r" % rows.read("out"))
+        yield "-o, and of the standard streams %s are closed" % closed, why
+        rows.clear_out()
     os.remove(rows.at("cut"))
-    os.remove(rows.at("out"))
     why = b"%s: read failed: %s (os error %d)\n" % (rows.name.encode(), os.strerror(errno.EBADF).encode(), errno.EBADF)
     why = rows.differs(rows.ran("-o", "out", before=lambda: os.close(0)), status=1, err=why)
     yield "-o, and standard input is closed", why or (os.path.exists(rows.at("out")) and "it is there")
@@ -556,3 +587,38 @@ def kept_cases(rows):
         yield "-o on a disk with room for all", why
         os.remove(rows.at("out"))
     os.remove(rows.at("much"))
+
+
+def taken_cases(rows):
+    """The new file has another name than what stands there: of a hundred that are tried one has to be free."""
+    taken = ["out.%d.new" % number for number in range(100)]
+    for name in taken:
+        rows.put(name, b"of another\n")
+    why = rows.differs(rows.ran("-o", "out", "part0"), status=1, err=b"%s: out: entity already exists\n" % rows.name.encode())
+    yield "-o beside a hundred files out.N.new", why or (os.path.exists(rows.at("out")) and "it is there")
+    os.remove(rows.at(taken.pop()))
+    why = rows.differs(rows.ran("-o", "out", "part0")) or (rows.read("out") != rows.of_each(PARTS[0]) and "it has %r" % rows.read("out"))
+    yield "-o beside all of them but the last", why
+    yield "what stood there stays", [it for it in taken if rows.read(it) != b"of another\n"] and "it is another"
+    rows.clear_out()
+
+
+def memory_cases(rows):
+    """A screen of 10 MB, in more and more memory: what is written is there whole, or it is said that memory is wanting, and no file is left."""
+    if rows.name != "ansi2screen" and rows.words[-1:] != ["--shown"]:
+        return
+    size = ["--size=500x500"] if rows.name == "ansi2screen" else ["--shown=500x500"]
+    wanting = {"status": 1, "err": b"%s: out of memory\n" % rows.name.encode()}
+    before = rows.left()
+    for form in [[], ["--draw"], ["--updates"]] if rows.name == "ansi2screen" else [[]]:
+        whole, words, told, faults = rows.ran(*size, *form, "part0").out, [*size, *form, "-o", "out", "part0"], set(), []
+        for room in range(4, 100, 4):
+            limited = functools.partial(resource.setrlimit, resource.RLIMIT_DATA, (room << 20, room << 20))
+            ended = rows.ran(*words, before=limited)
+            is_there = os.path.exists(rows.at("out"))
+            told.add(is_there)
+            why = rows.differs(ended, **({} if is_there else wanting)) or (is_there and rows.read("out") != whole and "it has %r" % rows.read("out"))
+            why = why or left_differs(rows, before, "out")
+            faults += ["in %d MB: %s" % (room, why)] if why else []
+            rows.clear_out()
+        yield "%s, in little memory" % " ".join(words), faults and faults[0] or (told != {False, True} and "it is there: %s" % told)

@@ -1,13 +1,16 @@
 """The events of the library, from C and Python: cases of tests/library and of tests/library_python."""
 
+import ctypes
 import importlib.machinery
 import itertools
 import re
 import resource
 import shutil
+import struct
 import subprocess
 
 from library_shared import *
+from numbers_told import HELD
 import needs
 
 EVENT_SIZES = [(1, 2, 6258), (2, 3, 6300), (3, 4096, 65536), (7, 5, 6264), (4096, 4096, 65536)]  # piece, events, room
@@ -273,3 +276,29 @@ def kept_cases(ansi):
 def events_differ(path, sizes, stream, wanted):
     done = run([path, *map(str, sizes)], stream)
     return failure(done) or first_difference(done.stdout, wanted)
+
+
+# What include/ansi_events.h tells of flags and fields: a stream of one event, its flag, and what stands in the room.
+TOLD = [
+    ("BEL ends a command", b"\x1b]0;t\x07", HELD["BELL"], b"0;t"),
+    ("ST ends it", b"\x1b]0;t\x1b\\", 0, b"0;t"),
+    ("CAN ends it", b"\x1b]0;t\x18", 0, b"0;t"),
+    ("fields of one group, and another", b"\x1b[1:258;3m", 0, bytes([1, 0, HELD["GROUP"], 2, 1, 0, 3, 0, 0])),
+    ("as many fields as are shown", b"\x1b[" + b";" * 31 + b"m", 0, bytes(96)),
+    ("one more", b"\x1b[" + b";" * 32 + b"m", HELD["IGNORED"], bytes(96)),
+    ("two intermediates", b"\x1b !p", 0, b""),
+    ("three", b"\x1b !!p", HELD["IGNORED"], b""),
+]
+
+
+def told_cases():
+    from ansi_proved.event import _feed
+    from ansi_proved.text import State
+
+    for name, stream, flag, data in TOLD:
+        state, records, room, counts = State(), ctypes.create_string_buffer(24 * 64), ctypes.create_string_buffer(8192), (ctypes.c_size_t * 3)()
+        at = ctypes.addressof(counts)
+        _feed(ctypes.addressof(state), stream, len(stream), ctypes.addressof(records), 64, ctypes.addressof(room), 8192, at, at + 8, at + 16)
+        start, length, _, _, found = struct.unpack_from("@NNBBB", records)
+        is_so = (found, room.raw[start : start + length]) == (flag, data)
+        yield "events: %s, and the flag is %d" % (name, flag), None if is_so else "it is %d, with %s" % (found, room.raw[start : start + length])

@@ -1,6 +1,7 @@
 """What the Python package says of a screen: each cell of one that is worked by hand (tests/screen_cells.py), modes and equality; and that it
 gives its memory back, and leaves the interpreter to other threads. Cases of tests/screen_library."""
 
+import ctypes
 import gc
 import os
 import resource
@@ -8,6 +9,7 @@ import sys
 import tracemalloc
 
 import screen_cells as table
+from numbers_told import HELD
 from library_shared import PYTHON, ROOT, failure, run, ticks_during
 
 WIDTHS = {"empty": 1, "whole": 1, "left": 2, "right": 0}  # a blank is told as it looks
@@ -81,6 +83,54 @@ def mode_cases(ansi):
     one = ansi.Screen(4, 3)
     yield "screens of two sizes are not equal", "they are" if one == ansi.Screen(3, 3) or one == ansi.Screen(4, 2) else None
     yield "a screen equals no text", "it does" if one == "" or one == 5 or one is None else None
+
+
+def told_cases(ansi):
+    """The numbers that include/ansi_screen.h and ansi_screen(3) tell, of the bytes that calls write and of what they take."""
+    from ansi_proved import screen as calls
+
+    def cell_of(stream, row, column):
+        screen, found = fed(ansi, stream), calls.CellBytes()
+        calls._cell(screen._at, row, column, ctypes.addressof(found))
+        return found
+
+    first, modes, style = HELD["FIRST"], calls.ModeBytes(), calls.StyleBytes()
+    screen = ansi.Screen(4, 3, history=2)
+    yield "the cursor begins where is counted from", None if screen.cursor[:2] == (first, first) else "it is %s" % (screen.cursor,)
+    screen.feed("\x1b[1;1Ha" + "\r\n" * 3 + "\x1b[1;2Hb\x1b[3;1H\r\n" + "\x1b[1m\x1b[?6h")
+    yield "so does the oldest row", None if screen.history.row_text(first) == "a" else "it is %r" % screen.history.row_text(first)
+    yield "and rows and columns", None if cell_of("xy", first, first).character == ord("x") else "it is another cell"
+    calls._modes(screen._at, ctypes.addressof(modes)), calls._style(screen._at, ctypes.addressof(style))
+    found = modes.origin, modes.insert, style.bold, style.dim
+    yield "what is on, and what is not", None if found == 2 * (HELD["ON"], HELD["OFF"]) else "it is %s" % (found,)
+    found = cell_of("abcd", 0, 3).goes_on, cell_of("abcde", 0, 3).goes_on, cell_of("a", 0, 0).link, cell_of("e\u0301\u0302\u0323", 0, 0).mark_count
+    wanted = 0, HELD["GOES_ON"], HELD["NO_LINK"], HELD["MOST_MARKS"]
+    yield "where a row goes on, no link, and marks", None if found == wanted else "they are %s" % (found,)
+    for byte in (0x20, 0x21, 0x7E, 0x7F):
+        found = fed(ansi, b"\x1b]8;;https://%c\x07a" % byte).link(1)
+        wanted = "https://%c" % byte if int(HELD["LOWEST"], 16) <= byte <= int(HELD["HIGHEST"], 16) else ""
+        yield "a link with the byte %02x" % byte, None if found == wanted else "it is %r" % found
+    screen.feed("".join("\x1b]8;;https://%d\x07a" % number for number in range(HELD["LINKS"] + 1)))
+    found = [screen.link(number) for number in (1, 2, HELD["LINKS"] + 1)]
+    yield "so many links are kept", None if found == ["", "https://1", "https://%d" % HELD["LINKS"]] else "they are %s" % found
+    red = {"ANY_STYLING": "light-dark(#cf222e,#ff7b72)", "LIGHT": '"color:#cf222e;"', "DARK": '"color:#ff7b72;"', "CLASSES": 'class="'}
+    screen = fed(ansi, "\x1b[31ma")
+    for number, words in [*((HELD[name], it) for name, it in red.items()), (4, red["ANY_STYLING"]), (255, red["ANY_STYLING"])]:
+        found = screen._text_by(calls._html, number)
+        yield "the styling %d" % number, None if words in found else "it is %r" % found
+    done = run([sys.executable, "-c", CELL_TAKES], env=dict(os.environ, PYTHONPATH=PYTHON, PYTHONDONTWRITEBYTECODE="1"))
+    is_so = not done.returncode and 0.9 < float(done.stdout) / HELD["CELL"] < 1.1
+    yield "bytes that a cell of a row that left takes", None if is_so else "they are %r" % (done.stdout + done.stderr)
+
+
+# The bytes of data that a million cells of rows that may leave take, in a process of their own.
+CELL_TAKES = """
+import ansi_proved, resource
+taken = lambda: int(open("/proc/self/statm").read().split()[5]) * resource.getpagesize()
+small, before = ansi_proved.Screen(1000, 2), taken()
+screen = ansi_proved.Screen(1000, 2, history=1000)
+print((taken() - before) / 1e6)
+"""
 
 
 # Streams, and what a screen of 4 columns and 3 rows has as text where rows that went on are one line with the next ones: so tmux 3.3a writes
@@ -235,6 +285,6 @@ def shared_cases():
 
 
 def cases(ansi):
-    for part in (cell_cases, mode_cases, joined_cases, change_cases, memory_cases, kept_cases, busy_cases, closed_cases):
+    for part in (told_cases, cell_cases, mode_cases, joined_cases, change_cases, memory_cases, kept_cases, busy_cases, closed_cases):
         yield from part(ansi)
     yield from shared_cases()

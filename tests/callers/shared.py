@@ -114,6 +114,7 @@ def share_a_screen():
     in_threads([partial(cross, others[at % 2], others[1 - at % 2]) for at in range(8)])
     in_threads([partial(begin_anew, Screen(500, 200))] * 4)
     follow()
+    between_steps()
     close_early()
 
 
@@ -155,6 +156,51 @@ def follow():
     in_threads([write, ask])
     if len(told) < 1000:
         wrong.append("of %d rows nothing is told that have changed" % (1000 - len(told)))
+
+
+class Stopped(Screen):
+    """A screen that tells another thread of its steps: what that does in the midst of a call has to wait until the call is at its end."""
+
+    def _each_row(self):
+        found = super()._each_row()
+        self.told()
+        return found
+
+    def _counts(self):
+        found = super()._counts()
+        self.told()
+        return found
+
+
+def between_steps():
+    """What is fed in the midst of a call is told by the next one, and a row that is asked for is there, whoever resets the screen meanwhile."""
+    screen, found = Stopped(COLUMNS, ROWS, history=12), []
+    screen.told = lambda: None
+    screen.feed(piece_of("a"))
+    screen.changed()
+
+    def told_while(action):
+        """In the midst of the next call another thread does this, once, and has a second for it."""
+        other = threading.Thread(target=action, daemon=True)
+
+        def told():
+            screen.told = lambda: None
+            other.start()
+            other.join(1)
+
+        screen.told = told
+        return other
+
+    other = told_while(lambda: (screen.feed("\x1b[Hx"), found.append(screen.changed())))
+    found.append(screen.changed())
+    other.join()
+    if found != [[], [0]] or screen.changed() != []:
+        wrong.append("what is fed while it is asked what changed is told by %s" % found)
+    other = told_while(screen.reset)
+    text = screen.history.row_text(-1)
+    other.join()
+    if text != COLUMNS * "a" or len(screen.history):
+        wrong.append("a row that left is %r" % text)
 
 
 def close_early():

@@ -3,6 +3,7 @@
 pub mod Lawful
 pub mod TextLength
 pub mod Lighter
+pub mod LogItems
 pub mod Checkpoint
 pub mod DebugText
 pub mod TextLaw

@@ -16,6 +16,7 @@ ghost use Rattle.anstyle_parse.specs.Stream.Characters.{is_proper_front, IsPrope
 ghost use Rattle.anstyle_parse.specs.Stream.Items.{Item, IsDivision};
 ghost use Rattle.anstyle_parse.specs.Laws.Lawful.{AreLawful, AreMade};
 ghost use Rattle.anstyle_parse.specs.Laws.Lighter.{AreEnough};
+ghost use Rattle.anstyle_parse.specs.Laws.LogItems.{IsLogDivision, read_items, read_items_whole};
 ghost use Rattle.anstyle_parse.specs.Laws.TextLength.{text_length};
 ghost use Rattle.anstyle_parse.specs.Io.Output.{Adds};
 ghost use Rattle.anstyle_parse.specs.Machine.AsRead.{as_read, as_read_whole};
@@ -174,6 +175,16 @@ pub fn read_logs()
         → as_read (before ++ escape_byte ∷ bytes) ≡ as_read before ++ as_read (escape_byte ∷ bytes) }
     ensures parts_end { (before bytes : List ℕ)
         → as_read_whole (before ++ escape_byte ∷ bytes) ≡ as_read before ++ as_read_whole (escape_byte ∷ bytes) }
+{}
+
+/// A log has one division into items, and no second one; and what is read of it is what is read of these, also at its end.
+pub fn items_of_logs()
+    ensures some { (log : List ℕ) → (items : List Item) × IsLogDivision items log }
+    ensures only { (log : List ℕ) (items others : List Item) → IsLogDivision items log → IsLogDivision others log
+        → others ≡ items }
+    ensures read { (log : List ℕ) (items : List Item) → IsLogDivision items log → as_read log ≡ read_items items }
+    ensures read_end { (log : List ℕ) (items : List Item) → IsLogDivision items log
+        → as_read_whole log ≡ read_items_whole items }
 {}
 
 /// Bounds of logs: what is read of a log, also with its end, makes at most as many calls as the log has bytes, and leads

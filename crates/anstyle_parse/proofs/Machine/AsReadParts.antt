@@ -1,6 +1,6 @@
 -- A log is read in parts: each begins with ESC.
 use Rattle.std.proofs.Common.{◌≡◌, ℕ, arith, refl, List, [], ◌∷◌, ◌++◌, ap, sym, ◌∙◌, append_assoc}
-use Rattle.anstyle_parse.specs.Machine.AsRead.{read_for, read_from, as_read, as_read_whole, break_in}
+use Rattle.anstyle_parse.specs.Machine.AsRead.{read_from, as_read, as_read_whole, break_in}
 use Rattle.anstyle_parse.specs.Machine.Decoder.{decoded}
 use Rattle.anstyle_parse.specs.Machine.Stands.{counted}
 use Rattle.anstyle_parse.specs.Machine.Step.{Machine, new_machine, step, machine_after}

@@ -9,7 +9,7 @@ use Rattle.anstyle_parse.specs.declared.state.definitions.State.TheVariants.{Gro
 use Rattle.anstyle_parse.specs.Stream.Bytes.{is_within}
 use Rattle.anstyle_parse.specs.Stream.Call.{Call, print}
 use Rattle.anstyle_parse.specs.Stream.Characters.{is_lead, is_well_formed, is_proper_front, character_of, replacement}
-use Rattle.anstyle_parse.specs.Stream.Items.{EachIs, character}
+use Rattle.anstyle_parse.specs.Stream.Items.{EachIs, single, character}
 use Rattle.anstyle_parse.specs.Machine.AsRead.{is_stray, is_break, is_at_ground, replacement_text, as_read, as_read_whole, break_in}
 use Rattle.anstyle_parse.specs.Machine.Decoder.{decoded}
 use Rattle.anstyle_parse.specs.Machine.Step.{Machine, new_machine, state_after_answer, step, step_calls, machine_after, machine_calls}
@@ -26,7 +26,7 @@ use Rattle.anstyle_parse.proofs.Division.Grow.{Open, nothing, front, inside, Gro
 use Rattle.anstyle_parse.proofs.Machine.Counted.{answer_calls_at, step_at, step_calls_at, step-class, step_calls-class, counted_in-state, counted-machine}
 
 -- a byte that begins neither a sequence nor a character
-begins_none : Class → Bool
+pub begins_none : Class → Bool
 begins_none esc_byte = false
 begins_none lead_byte = false
 begins_none c = true
@@ -37,6 +37,12 @@ begins_none-start b esc_byte e = absurd (false≢true e)
 begins_none-start b lead_byte e = absurd (false≢true e)
 begins_none-start b c e = refl
 
+pub single-start : (b : ℕ) (c : Class) → begins_none c ≡ true → start b c ≡ done (single b)
+unfolding begins_none
+single-start b esc_byte e = absurd (false≢true e)
+single-start b lead_byte e = absurd (false≢true e)
+single-start b c e = refl
+
 stray-below : (b : ℕ) → is_stray b ≡ true → b < 256
 unfolding is_stray
 stray-below b stray =
@@ -46,7 +52,7 @@ stray-below b stray =
     (or_cases (is_within 0xA0 0xC1 b) (is_within 0xF5 0xFF b) stray)
 
 -- no stray byte does
-stray-begins_none : (b : ℕ) → is_stray b ≡ true → begins_none (class_of b) ≡ true
+pub stray-begins_none : (b : ℕ) → is_stray b ≡ true → begins_none (class_of b) ≡ true
 unfolding begins_none is_stray is_within class_below class_of
 stray-begins_none b stray =
     let below = stray-below b stray in
@@ -56,7 +62,7 @@ stray-begins_none b stray =
     ∙ (and_parts (is_stray b) (begins_none (class_below b)) (both ∙ stray)).1
 
 -- inside a sequence no byte is handled in the ground state
-inside-elsewhere : (state : State) (value : List ℕ) (b : ℕ) → is_inside state ≡ true → is_at_ground decoded state value b ≡ false
+pub inside-elsewhere : (state : State) (value : List ℕ) (b : ℕ) → is_inside state ≡ true → is_at_ground decoded state value b ≡ false
 unfolding is_inside
 inside-elsewhere Ground value b is = absurd (false≢true is)
 inside-elsewhere Utf8 value b is = absurd (false≢true is)
@@ -190,7 +196,7 @@ bell-kept m ignored =
     ap counted (step-class decoded 7 m) ∙ subst Q (sym ignored) refl
 
 -- the end of a log: a character that is begun is broken off
-break_in-inside : (state : State) → is_inside state ≡ true → break_in state ≡ []
+pub break_in-inside : (state : State) → is_inside state ≡ true → break_in state ≡ []
 unfolding is_inside
 break_in-inside Ground is = absurd (false≢true is)
 break_in-inside Utf8 is = absurd (false≢true is)
